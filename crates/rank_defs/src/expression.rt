@@ -1,0 +1,43 @@
+//! Expressions over exact integers and truth values.
+
+/// A variable of a transaction. `Keep` and `Each` are numbered in the order of their declarations.
+#[derive(Clone, Copy, PartialEq, Eq, Debug)]
+pub enum Var {
+    Len,
+    Now,
+    Prio,
+    Weight,
+    Slack,
+    Rank,
+    Keep(u32),
+    Each(u32),
+}
+
+/// An operation on two values.
+#[derive(Clone, Copy, PartialEq, Eq, Debug)]
+pub enum Op {
+    Add,
+    Sub,
+    Mul,
+    Div,
+    Less,
+    LessEq,
+    Equal,
+    NotEqual,
+    MoreEq,
+    More,
+    Min,
+    Max,
+    And,
+    Or,
+}
+
+/// An expression.
+#[derive(Debug, Drop)]
+pub enum Expr {
+    Number(u64),
+    Var(Var),
+    Two(Op, Box<Expr>, Box<Expr>),
+    Not(Box<Expr>),
+    If(Box<Expr>, Box<Expr>, Box<Expr>),
+}
