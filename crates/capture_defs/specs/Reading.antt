@@ -1,21 +1,17 @@
 -- The one reading of a file as a capture, as a function of its bytes.
-use Rattle.std.specs.Prelude.{◌≡◌, ◌↔◌, ◌+◌, ◌%◌, ◌^◌, ◌<◌, ◌≤◌, ◌==◌, ℕ, zero, suc, nat_lt, Bool, true, false, if◌then◌else◌, Option, Some, None, Result, Ok, Err, List, [], ◌∷◌, length, take, drop}
+use Rattle.std.specs.Prelude.{◌≡◌, ◌↔◌, ◌+◌, ◌-◌, ◌%◌, ◌^◌, ◌<◌, ◌≤◌, ◌==◌, ℕ, zero, suc, nat_lt, Bool, true, false, if◌then◌else◌, Option, Some, None, Result, Ok, Err, List, [], ◌∷◌, length, take, drop}
 use Rattle.std.specs.Str.{bytes_eq}
 use Rattle.capture_defs.specs.declared.head.Head.{Head}
 use Rattle.capture_defs.specs.Number.{long_at, short_at}
 use Rattle.capture_defs.specs.Fault.{Fault, header_cut, bad_magic, pcap_ng, version, record_cut, data_cut, record_long, too_many}
 use Rattle.capture_defs.specs.Header.{header_len, magic_bytes, pcap_ng_bytes, major_version, IsHeaderFault}
-use Rattle.capture_defs.specs.Record.{Record, record_len, most_captured, most_records, captured_len, HasNoRecord, IsRecordFault}
+use Rattle.capture_defs.specs.Record.{Record, record_len, most_captured, most_records, captured_len, moment, HasNoRecord, IsRecordFault}
 use Rattle.capture_defs.specs.Capture.{IsCapture}
 
 -- a file without an accepted header, or the records of one, up to its fault if it has one
 pub data Capture : Type 0 where
   refused : Fault → Capture
   packets : Head → List Record → Option Fault → Capture
-
--- the file begins with these four bytes
-abbrev pub begins_with : List ℕ → List ℕ → Bool
-begins_with word file = bytes_eq (take 4 file) word
 
 -- the header in this byte order and time unit
 abbrev pub head_with : Bool → Bool → List ℕ → Result Head Fault
@@ -24,16 +20,19 @@ head_with big nano file =
     then Ok (record { link = long_at big 20 file % 2 ^ 16; nano = nano; big = big })
     else Err version
 
+-- what the header of a file that begins with these four bytes says, or its fault
+abbrev pub head_by : List ℕ → List ℕ → Result Head Fault
+head_by word file =
+    if bytes_eq word pcap_ng_bytes then Err pcap_ng
+    else if bytes_eq word (magic_bytes false false) then head_with false false file
+    else if bytes_eq word (magic_bytes false true) then head_with false true file
+    else if bytes_eq word (magic_bytes true false) then head_with true false file
+    else if bytes_eq word (magic_bytes true true) then head_with true true file
+    else Err bad_magic
+
 -- what the header of a file says, or its fault
 unfoldable pub head_of : List ℕ → Result Head Fault
-head_of file =
-    if nat_lt (length file) header_len then Err header_cut
-    else if begins_with pcap_ng_bytes file then Err pcap_ng
-    else if begins_with (magic_bytes false false) file then head_with false false file
-    else if begins_with (magic_bytes false true) file then head_with false true file
-    else if begins_with (magic_bytes true false) file then head_with true false file
-    else if begins_with (magic_bytes true true) file then head_with true true file
-    else Err bad_magic
+head_of file = if nat_lt (length file) header_len then Err header_cut else head_by (take 4 file) file
 
 -- what stands at the front of what is left: nothing, a fault, or a record and what is left behind it
 pub data Front : Type 0 where
@@ -96,3 +95,7 @@ abbrev pub HasFaultOrRecord : Type 0
 HasFaultOrRecord =
     (big : Bool) (n : ℕ) (rest : List ℕ) → n ≤ most_records →
     ((fault : Fault) × IsRecordFault big n rest fault) ↔ ((0 < length rest) × ((n < most_records) → HasNoRecord big rest))
+
+-- where seconds and fraction have 32 bits each, the moment has 62
+abbrev pub MomentsAreSmall : Type 0
+MomentsAreSmall = (nano : Bool) (r : Record) → r.seconds < 2 ^ 32 → r.fraction < 2 ^ 32 → moment nano r ≤ 2 ^ 62 - 1

@@ -2,5 +2,7 @@
 #![tactic(auto)]
 
 mod head;
+mod laws;
 
 pub use head::Head;
+pub use laws::{a_file_has_one_reading, a_moment_has_62_bits, a_rest_has_a_record_or_a_fault};
