@@ -1,0 +1,5 @@
+pub mod Options
+pub mod WellFormed
+pub mod Shapes
+pub mod Packets
+pub mod Topologies

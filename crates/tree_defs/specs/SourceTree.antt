@@ -1,7 +1,7 @@
 -- Trees of push-in first-out queues (OOPSLA 2023): packet numbers at the leaves, children's indices at the inner nodes.
 use Rattle.std.specs.Prelude.{ℕ, zero, suc, ◌+◌, ◌≡◌, refl, List, [], ◌∷◌, length, Option, Some, None, option_map, nat_eq, slice_index, drop, if◌then◌else◌}
 use Rattle.queue_defs.specs.Queue.{Queue, put, take_least, Taking}
-use Rattle.tree_defs.specs.Tree.{Tree, leaf, inner, Trees, none, more, HasChild}
+use Rattle.tree_defs.specs.Tree.{Tree, leaf, inner, Trees, none, more, HasChild, Popping, option_bind}
 use Rattle.tree_defs.specs.Topology.{Topology}
 
 abbrev pub SourceTree : Type 0
@@ -29,13 +29,6 @@ abbrev mutual
   push_child (more t ts) zero digits ranks item = more (push t digits ranks item) ts
   push_child (more t ts) (suc i) digits ranks item = more t (push_child ts i digits ranks item)
 
--- what a pop gives: the value, the children's indices and the ranks from the root down, and what is left
-pub record Popping (L : Type 0) : Type 0 where
-  pub value : ℕ
-  pub digits : List ℕ
-  pub ranks : List ℕ
-  pub left : L
-
 abbrev pub of_leaf : Taking → Popping (Tree Queue)
 of_leaf e = record { value = e.value; digits = []; ranks = e.rank ∷ []; left = leaf e.rest }
 
@@ -47,10 +40,6 @@ of_first ts p = record { value = p.value; digits = p.digits; ranks = p.ranks; le
 
 abbrev pub of_later : Tree Queue → Popping (Trees Queue) → Popping (Trees Queue)
 of_later t p = record { value = p.value; digits = p.digits; ranks = p.ranks; left = more t p.left }
-
-abbrev pub option_bind : {A B : Type 0} → Option A → (A → Option B) → Option B
-option_bind None f = None
-option_bind (Some x) f = f x
 
 -- takes at the root, then below the child that the taken value names, down to a leaf
 abbrev mutual

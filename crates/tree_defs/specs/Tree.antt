@@ -101,3 +101,14 @@ abbrev mutual
   pub depth_below : {Q : Type 0} → Trees Q → ℕ
   depth_below none = 0
   depth_below (more t ts) = max (depth t + 1) (depth_below ts)
+
+-- what a pop gives: the value, the children's indices and the ranks from the root down, and what is left
+pub record Popping (L : Type 0) : Type 0 where
+  pub value : ℕ
+  pub digits : List ℕ
+  pub ranks : List ℕ
+  pub left : L
+
+abbrev pub option_bind : {A B : Type 0} → Option A → (A → Option B) → Option B
+option_bind None f = None
+option_bind (Some x) f = f x

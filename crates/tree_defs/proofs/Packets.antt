@@ -1,0 +1,1 @@
+-- The packets that a push and a pop change.
