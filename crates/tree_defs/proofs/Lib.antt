@@ -1,5 +1,7 @@
 pub mod Options
-pub mod WellFormed
+pub mod WellFormedLaws
+pub mod Everywhere
 pub mod Shapes
-pub mod Packets
-pub mod Topologies
+pub mod PacketLaws
+pub mod TopologyLaws
+pub mod Laws

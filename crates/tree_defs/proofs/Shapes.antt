@@ -1,11 +1,12 @@
 -- The topology of a tree, which a push and a pop keep.
-use Rattle.std.proofs.Common.{◌≡◌, ℕ, zero, suc, ◌+◌, ◌↔◌, List, [], ◌∷◌, length, Option, None, Some, refl, sym, ap, ◌∙◌, subst, arith}
-use Rattle.std.specs.Prelude.{slice_index, drop}
+use Rattle.std.proofs.Common.{◌≡◌, ℕ, zero, suc, ◌+◌, List, [], ◌∷◌, length, Some, refl, ap, ◌∙◌, subst, arith}
+use Rattle.std.specs.Prelude.{drop}
 use Rattle.std.specs.Option.{option_map}
 use Rattle.queue_defs.specs.Queue.{Queue, Taking, take_least}
-use Rattle.tree_defs.specs.Tree.{Tree, leaf, inner, Trees, none, more, Address, subtree, subtree_in, Popping, LeadsToLeaf, LeadsBelow, SameShape, SameShapes, depth, depth_below, nodes, nodes_below}
+use Rattle.tree_defs.specs.Tree.{Tree, leaf, inner, Trees, none, more, Address, Popping, LeadsToLeaf, LeadsBelow, SameShape, SameShapes, depth, depth_below, nodes, nodes_below}
 use Rattle.tree_defs.specs.Topology.{Topology, topology_of, topologies_of}
 use Rattle.tree_defs.specs.SourceTree.{empty_tree, empty_trees, push, push_child, pop, pop_child, of_leaf, of_inner, of_first, of_later}
+use Rattle.tree_defs.specs.Laws.{LedToALeaf}
 use Rattle.tree_defs.proofs.Options.{option_map-some, option_bind-some}
 
 mutual
@@ -77,35 +78,31 @@ mutual
       subst (λ (z : Popping (Trees Queue)). topologies_of z.left ≡ topologies_of (more t ts)) v.2 (ap (more (topology_of t)) (topologies_of-pop ts i v.0 v.1))
 
 -- what is popped stood at a leaf, and a rank was taken at each node on the way
-pub record AlongAPath (t : Tree Queue) (r : Popping (Tree Queue)) : Type 0 where
-  pub leaf_address : LeadsToLeaf t r.digits
-  pub ranks : length r.ranks ≡ length r.digits + 1
-
-record AlongAPathBelow (ts : Trees Queue) (i : ℕ) (r : Popping (Trees Queue)) : Type 0 where
+record LedBelow (ts : Trees Queue) (i : ℕ) (r : Popping (Trees Queue)) : Type 0 where
   leaf_address : LeadsBelow ts i r.digits
   ranks : length r.ranks ≡ length r.digits + 1
 
 mutual
-  pub pop-path : (t : Tree Queue) (r : Popping (Tree Queue)) → pop t ≡ Some r → AlongAPath t r
+  pub pop-path : (t : Tree Queue) (r : Popping (Tree Queue)) → pop t ≡ Some r → LedToALeaf t r
   pop-path (leaf q) r p =
       let w : (x : Taking) × (take_least q ≡ Some x) × (of_leaf x ≡ r) = option_map-some of_leaf (take_least q) r p in
-      subst (AlongAPath (leaf q)) w.2 (record { leaf_address = tt; ranks = refl })
+      subst (LedToALeaf (leaf q)) w.2 (record { leaf_address = tt; ranks = refl })
   pop-path (inner q ts) r p =
       let w : (x : Taking) × (take_least q ≡ Some x) × (option_map (of_inner x) (pop_child ts x.value) ≡ Some r) = option_bind-some _ (take_least q) r p in
       let v : (y : Popping (Trees Queue)) × (pop_child ts w.0.value ≡ Some y) × (of_inner w.0 y ≡ r) = option_map-some (of_inner w.0) (pop_child ts w.0.value) r w.2 in
-      let below : AlongAPathBelow ts w.0.value v.0 = pop_child-path ts w.0.value v.0 v.1 in
-      subst (AlongAPath (inner q ts)) v.2 (record { leaf_address = below.leaf_address; ranks = omega (arith, below.ranks) })
+      let below : LedBelow ts w.0.value v.0 = pop_child-path ts w.0.value v.0 v.1 in
+      subst (LedToALeaf (inner q ts)) v.2 (record { leaf_address = below.leaf_address; ranks = omega (arith, below.ranks) })
 
-  pop_child-path : (ts : Trees Queue) (i : ℕ) (r : Popping (Trees Queue)) → pop_child ts i ≡ Some r → AlongAPathBelow ts i r
+  pop_child-path : (ts : Trees Queue) (i : ℕ) (r : Popping (Trees Queue)) → pop_child ts i ≡ Some r → LedBelow ts i r
   pop_child-path none i r p = cc
   pop_child-path (more t ts) zero r p =
       let v : (y : Popping (Tree Queue)) × (pop t ≡ Some y) × (of_first ts y ≡ r) = option_map-some (of_first ts) (pop t) r p in
-      let here : AlongAPath t v.0 = pop-path t v.0 v.1 in
-      subst (AlongAPathBelow (more t ts) zero) v.2 (record { leaf_address = here.leaf_address; ranks = here.ranks })
+      let here : LedToALeaf t v.0 = pop-path t v.0 v.1 in
+      subst (LedBelow (more t ts) zero) v.2 (record { leaf_address = here.leaf_address; ranks = here.ranks })
   pop_child-path (more t ts) (suc i) r p =
       let v : (y : Popping (Trees Queue)) × (pop_child ts i ≡ Some y) × (of_later t y ≡ r) = option_map-some (of_later t) (pop_child ts i) r p in
-      let later : AlongAPathBelow ts i v.0 = pop_child-path ts i v.0 v.1 in
-      subst (AlongAPathBelow (more t ts) (suc i)) v.2 (record { leaf_address = later.leaf_address; ranks = later.ranks })
+      let later : LedBelow ts i v.0 = pop_child-path ts i v.0 v.1 in
+      subst (LedBelow (more t ts) (suc i)) v.2 (record { leaf_address = later.leaf_address; ranks = later.ranks })
 
 -- leaf addresses and depth are read from the topology
 mutual

@@ -3,6 +3,8 @@ use Rattle.std.specs.Prelude.{◌≡◌}
 use Rattle.std.specs.Coded.{Coded}
 use Rattle.std.proofs.Common.{ap, refl}
 use base.Stored.{Gv, gnil, gnum, gcons}
+use Rattle.queue_defs.specs.Queue.{Queue}
+use Rattle.queue_defs.specs.Codes.{queue_code}
 use Rattle.tree_defs.specs.Tree.{Tree, leaf, inner, Trees, none, more}
 
 module _ {Q : Type 0} (c : Coded Q) where
@@ -40,3 +42,6 @@ module _ {Q : Type 0} (c : Coded Q) where
 
   abbrev pub tree_code : Coded (Tree Q)
   tree_code = record { code = code_of; inj = same_tree }
+
+abbrev pub source_tree_code : Coded (Tree Queue)
+source_tree_code = tree_code queue_code

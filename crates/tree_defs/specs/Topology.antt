@@ -1,6 +1,6 @@
 -- The shape of a tree of queues (OOPSLA 2023), and complete trees.
 use Rattle.std.specs.Prelude.{◌≡◌, refl, ℕ, zero, suc, ◌<◌, List, [], ◌∷◌, Option, Some, None, nat_eq, replicate, if◌then◌else◌}
-use Rattle.tree_defs.specs.Tree.{Tree, leaf, inner, Trees, none, more, Address, subtree, LeadsToLeaf, depth, nodes}
+use Rattle.tree_defs.specs.Tree.{Tree, leaf, inner, Trees, none, more, Address, subtree, depth, nodes}
 
 abbrev pub Topology : Type 0
 Topology = Tree (Unit {0})

@@ -1,5 +1,6 @@
 -- Leaf addresses, prefixes, and the addresses of complete trees.
-use Rattle.std.proofs.Common.{◌≡◌, ℕ, zero, suc, ◌<◌, ◌+◌, ◌↔◌, List, [], ◌∷◌, ◌++◌, length, Option, None, Some, refl, sym, ap, ◌∙◌, subst, arith, eq-eqb}
+use Rattle.std.proofs.Common.{◌≡◌, ℕ, zero, suc, ◌<◌, List, [], ◌∷◌, ◌++◌, length, None, Some, refl, sym, ap, ◌∙◌, subst, arith, inl, inr, eqb, eq-eqb}
+use Rattle.std.proofs.lemmas.Bool.{eqb-true, cases_Bool}
 use Rattle.tree_defs.specs.Tree.{Tree, leaf, inner, Trees, none, more, Address, subtree, subtree_in, IsAddressOf, LeadsToLeaf, LeadsBelow}
 use Rattle.tree_defs.specs.Topology.{Topology, after, copies, complete, IsWithin}
 
@@ -32,6 +33,15 @@ mutual
 pub after-append : (a c : Address) → after a (a ++ c) ≡ Some c
 after-append [] c = refl
 after-append (x ∷ a) c = rw (eq-eqb x x refl) (after-append a c)
+
+pub after-is : (a b c : Address) → after a b ≡ Some c → b ≡ a ++ c
+after-is [] b c p = cc
+after-is (x ∷ a) [] c p = cc
+after-is (x ∷ a) (y ∷ b) c p =
+    elim (cases_Bool (eqb x y)) [
+      | inl t ↦ ap (λ (z : ℕ). z ∷ b) (sym (eqb-true x y t)) ∙ ap (λ (z : Address). x ∷ z) (after-is a b c (rw t at p))
+      | inr t ↦ let no : None ≡ Some c = rw t at p in cc
+    ]
 
 -- a copy stands at each index below their number
 pub copy_at : (n i : ℕ) (t : Topology) (a : Address) → i < n → subtree_in (copies n t) i a ≡ subtree t a

@@ -1,1 +1,0 @@
--- The packets that a push and a pop change.
