@@ -7,3 +7,5 @@ pub mod Shapes
 pub mod Ranges
 pub mod Checks
 pub mod Tame
+pub mod Builtins
+pub mod Rows
