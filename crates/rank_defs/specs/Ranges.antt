@@ -125,3 +125,13 @@ parts_divide ranges (two op a b) =
 parts_divide ranges (negation a) = parts_divide ranges a
 parts_divide ranges (choice c a b) =
     parts_divide ranges c && (parts_divide ranges a && parts_divide ranges b)
+
+-- narrow, and from the lesser to the greater end
+pub record IsProper (r : Range) : Type 0 where
+  pub low : neg_ℤ (pos (2 ^ 100)) ≤ℤ r.low
+  pub high : r.high ≤ℤ pos (2 ^ 100)
+  pub ordered : r.low ≤ℤ r.high
+
+-- each variable's interval goes from the lesser to the greater end
+abbrev pub AreOrdered : (Name → Range) → Type 0
+AreOrdered ranges = (v : Name) → (ranges v).low ≤ℤ (ranges v).high
