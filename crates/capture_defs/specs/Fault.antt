@@ -1,0 +1,31 @@
+-- What can be wrong with a capture.
+use Rattle.std.specs.Prelude.{ℕ}
+
+-- a fault of the header, or of a record, with the record's number from 1
+pub data Fault : Type 0 where
+  header_cut : Fault
+  bad_magic : Fault
+  pcap_ng : Fault
+  version : Fault
+  record_cut : ℕ → Fault
+  data_cut : ℕ → Fault
+  record_long : ℕ → Fault
+  too_many : Fault
+
+-- the fault's number in a report
+abbrev pub code : Fault → ℕ
+code header_cut = 1
+code bad_magic = 2
+code pcap_ng = 3
+code version = 4
+code (record_cut n) = 5
+code (data_cut n) = 6
+code (record_long n) = 7
+code too_many = 8
+
+-- the record at fault, and 0 where it is none
+abbrev pub place : Fault → ℕ
+place (record_cut n) = n
+place (data_cut n) = n
+place (record_long n) = n
+place _ = 0

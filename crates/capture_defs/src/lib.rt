@@ -1,0 +1,8 @@
+//! What a capture of packets is: the classic file format of libpcap, version 2.4.
+#![tactic(auto)]
+
+mod head;
+mod laws;
+
+pub use head::Head;
+pub use laws::{a_file_has_one_reading, a_moment_has_62_bits, a_rest_has_a_record_or_a_fault};
