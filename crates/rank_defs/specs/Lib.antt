@@ -1,0 +1,11 @@
+pub mod Formulas
+pub mod Programs
+pub mod Values
+pub mod States
+pub mod Steps
+pub mod Shapes
+pub mod Ranges
+pub mod Checks
+pub mod Tame
+pub mod Builtins
+pub mod Rows

@@ -3,8 +3,10 @@
 
 mod environment;
 mod expression;
+mod range;
 mod transaction;
 
 pub use environment::{Env, FlowKey, Who};
 pub use expression::{Expr, Op, Var};
+pub use range::Range;
 pub use transaction::{Aim, Assign, Span, Transaction};

@@ -1,0 +1,107 @@
+-- A complete tree of queues as a family: one queue for each address.
+use Rattle.std.specs.Prelude.{◌≡◌, refl, ℕ, zero, suc, ◌<◌, ◌≤◌, ◌*◌, List, [], ◌∷◌, length, Option, Some, option_map, nat_eq, slice_index, drop, if◌then◌else◌}
+use Rattle.std.specs.List.{AllByRecursion}
+use Rattle.queue_defs.specs.Queue.{Queue, put, take_least, Taking}
+use Rattle.tree_defs.specs.Tree.{Popping, option_bind}
+
+-- the digits from the root down
+abbrev pub Address : Type 0
+Address = List ℕ
+
+abbrev pub Family : Type 0
+Family = Address → Queue
+
+-- the queues of the subtree at a digit
+abbrev pub below : Family → ℕ → Family
+below F x b = F (x ∷ b)
+
+-- a push along an address: a rank and the next digit at each proper prefix, the last rank and the item at its end
+abbrev pub push_along : Address → List ℕ → ℕ → Family → Family
+push_along [] ranks item F [] = put (F []) (slice_index ranks 0) item
+push_along [] ranks item F (y ∷ b) = F (y ∷ b)
+push_along (x ∷ a) ranks item F [] = put (F []) (slice_index ranks 0) x
+push_along (x ∷ a) ranks item F (y ∷ b) = if nat_eq x y then push_along a (drop 1 ranks) item (below F x) b else F (y ∷ b)
+
+-- the family with another queue at its root
+abbrev pub with_root : Family → Queue → Family
+with_root F q [] = q
+with_root F q (y ∷ b) = F (y ∷ b)
+
+-- the family with another queue at its root, and other queues below a digit
+abbrev pub with_branch : Family → Queue → ℕ → Family → Family
+with_branch F q x G [] = q
+with_branch F q x G (y ∷ b) = if nat_eq x y then G b else F (y ∷ b)
+
+abbrev pub popped_last : Family → Taking → Popping Family
+popped_last F e = record { value = e.value; digits = []; ranks = e.rank ∷ []; left = with_root F e.rest }
+
+abbrev pub popped_digit : Family → Taking → Popping Family → Popping Family
+popped_digit F e p = record { value = p.value; digits = e.value ∷ p.digits; ranks = e.rank ∷ p.ranks; left = with_branch F e.rest e.value p.left }
+
+-- a pop of a complete tree of this height: each taken value is the next digit, down to a leaf
+abbrev pub pop_along : ℕ → Family → Option (Popping Family)
+pop_along zero F = option_map (popped_last F) (take_least (F []))
+pop_along (suc h) F = option_bind (take_least (F [])) (λ e. option_map (popped_digit F e) (pop_along h (below F e.value)))
+
+-- all queues are empty
+abbrev pub IsEmpty : Family → Type 0
+IsEmpty F = (b : Address) → F b ≡ []
+
+-- two families of the same queues
+abbrev pub SameQueues : Family → Family → Type 0
+SameQueues F G = (b : Address) → F b ≡ G b
+
+-- A pop gives v along these digits and ranks, and leaves G.
+pub record Pops (height : ℕ) (F : Family) (v : ℕ) (digits ranks : List ℕ) (G : Family) : Type 0 where
+  pub taken : Popping Family
+  pub popped : pop_along height F ≡ Some taken
+  pub value : taken.value ≡ v
+  pub digits_are : taken.digits ≡ digits
+  pub ranks_are : taken.ranks ≡ ranks
+  pub left : SameQueues G taken.left
+
+-- the address of a leaf of the complete tree of these arities: as many digits, each below its level's arity
+abbrev pub IsLeafAddress : List ℕ → Address → Type 0
+IsLeafAddress [] [] = Unit {0}
+IsLeafAddress [] (x ∷ a) = ⊥
+IsLeafAddress (d ∷ arities) [] = ⊥
+IsLeafAddress (d ∷ arities) (x ∷ a) = (x < d) × IsLeafAddress arities a
+
+-- the number of leaves of the complete tree of these arities
+abbrev pub leaves : List ℕ → ℕ
+leaves [] = 1
+leaves (d ∷ arities) = d * leaves arities
+
+-- arities that a target may have: at most 16 levels, each of 2 to 64 children, and at most 65,536 leaves in all
+pub record IsTarget (arities : List ℕ) : Type 0 where
+  pub levels : length arities ≤ 16
+  pub narrow : AllByRecursion (λ d. (2 ≤ d) × (d ≤ 64)) arities
+  pub few : leaves arities ≤ 65536
+
+-- a free place at each node on the way to an address
+abbrev pub HasRoomAlong : (Address → ℕ) → Address → Type 0
+HasRoomAlong room [] = 0 < room []
+HasRoomAlong room (x ∷ a) = (0 < room []) × HasRoomAlong (λ b. room (x ∷ b)) a
+
+-- each rank is at most the greatest
+abbrev pub AreRanks : List ℕ → Type 0
+AreRanks ranks = AllByRecursion (λ r. r ≤ 4611686018427387903) ranks
+
+-- packet 7 goes down digit 1 with rank 5, and leaves again
+abbrev pub two_levels : Family
+two_levels = push_along (1 ∷ []) (5 ∷ 2 ∷ []) 7 (λ _. [])
+
+pub push_along-root : two_levels [] ≡ (5, 1) ∷ []
+push_along-root = refl
+
+pub push_along-leaf : two_levels (1 ∷ []) ≡ (2, 7) ∷ []
+push_along-leaf = refl
+
+pub push_along-beside : two_levels (0 ∷ []) ≡ []
+push_along-beside = refl
+
+abbrev pub shown : Popping Family → Popping Queue
+shown p = record { value = p.value; digits = p.digits; ranks = p.ranks; left = p.left (1 ∷ []) }
+
+pub pop_along-two_levels : option_map shown (pop_along 1 two_levels) ≡ Some (record { value = 7; digits = 1 ∷ []; ranks = 5 ∷ 2 ∷ []; left = [] })
+pop_along-two_levels = refl

@@ -1,0 +1,2 @@
+//! A complete tree of queues, read by address: pushes, pops and room.
+#![tactic(auto)]

@@ -1,0 +1,32 @@
+-- The pairs that stand in a queue, read from what it holds.
+use Rattle.std.specs.Prelude.{◌≡◌, ◌<◌, ◌⊎◌, ℕ, List, [], ◌∷◌, map, if◌then◌else◌, nat_lt}
+use Rattle.std.specs.List.{AllByRecursion}
+use Rattle.queue_defs.specs.Queue.{Queue}
+use Rattle.pifo_core.specs.declared.held.Held.{Held}
+
+-- an entry among others in the order of their arrival
+abbrev pub placed : Held → List Held → List Held
+placed x [] = x ∷ []
+placed x (e ∷ others) = if nat_lt e.arrival x.arrival then e ∷ placed x others else x ∷ e ∷ others
+
+abbrev pub in_arrival_order : List Held → List Held
+in_arrival_order [] = []
+in_arrival_order (e ∷ others) = placed e (in_arrival_order others)
+
+abbrev pub pair : Held → ℕ × ℕ
+pair e = (e.rank, e.value)
+
+unfoldable pub queue_of : List Held → Queue
+queue_of held = map pair (in_arrival_order held)
+
+-- it leaves before the other: it has the lower rank, or the same and came earlier
+abbrev pub Leaves : Held → Held → Type 0
+Leaves x y = (x.rank < y.rank) ⊎ ((x.rank ≡ y.rank) × (x.arrival < y.arrival))
+
+-- in the order of leaving
+abbrev pub InLeavingOrder : List Held → Type 0
+InLeavingOrder [] = Unit {0}
+InLeavingOrder (x ∷ others) = AllByRecursion (Leaves x) others × InLeavingOrder others
+
+abbrev pub ArrivedBefore : ℕ → List Held → Type 0
+ArrivedBefore arrival held = AllByRecursion (λ e. e.arrival < arrival) held

@@ -1,0 +1,15 @@
+-- What a queue kept in the order of leaving keeps.
+use Rattle.std.specs.Prelude.{ℕ, List}
+use Rattle.queue_defs.specs.Queue.{Queue}
+use Rattle.pifo_core.specs.declared.held.Held.{Held}
+use Rattle.pifo_core.specs.Held.{InLeavingOrder, ArrivedBefore}
+
+-- what contracts see of a queue
+pub record Contents : Type 0 where
+  pub entries : Queue
+  pub pushes : ℕ
+  pub spare : ℕ
+
+pub record IsKept (held : List Held) (pushed : ℕ) : Type 0 where
+  pub in_order : InLeavingOrder held
+  pub earlier : ArrivedBefore pushed held

@@ -1,0 +1,54 @@
+-- An accepted policy: a tree of nodes, each with a transaction, and classes of packets, each with a leaf.
+use Rattle.std.specs.Prelude.{ℕ, zero, suc, List, [], ◌∷◌, Option, Some, None, codes, slice_get}
+use Rattle.tree_defs.specs.Tree.{Tree, leaf, inner, Trees, none, more, Address}
+use Rattle.rank_defs.specs.Programs.{Program}
+use Rattle.rank_defs.specs.Builtins.{fifo}
+
+-- the priority, the weight and the slack in nanoseconds of a node or a class
+pub record Marks : Type 0 where
+  pub prio : ℕ
+  pub weight : ℕ
+  pub slack : ℕ
+
+-- the marks where none are written
+abbrev pub no_marks : Marks
+no_marks = record { prio = 0; weight = 1; slack = 0 }
+
+-- what the policy says of a node or a leaf
+pub record Node : Type 0 where
+  pub name : List ℕ
+  pub program : Program
+  pub marks : Marks
+
+-- a class of packets: its marks, and the address of the leaf that holds its packets
+pub record Class : Type 0 where
+  pub marks : Marks
+  pub leaf : Address
+
+pub record Policy : Type 0 where
+  pub tree : Tree Node
+  pub classes : List Class
+
+-- the node or leaf at an address
+abbrev mutual
+  pub node_at : Tree Node → Address → Option Node
+  node_at (leaf n) [] = Some n
+  node_at (leaf n) (i ∷ a) = None
+  node_at (inner n ts) [] = Some n
+  node_at (inner n ts) (i ∷ a) = node_below ts i a
+
+  pub node_below : Trees Node → ℕ → Address → Option Node
+  node_below none i a = None
+  node_below (more t ts) zero a = node_at t a
+  node_below (more t ts) (suc i) a = node_below ts i a
+
+-- the class of a number
+abbrev pub class_at : Policy → ℕ → Option Class
+class_at policy n = slice_get policy.classes n
+
+-- one leaf, `root`, served first in first out, for all packets
+abbrev pub one_leaf : Policy
+one_leaf = record {
+  tree = leaf (record { name = codes "root"; program = fifo; marks = no_marks });
+  classes = record { marks = no_marks; leaf = [] } ∷ [];
+}

@@ -1,0 +1,2 @@
+//! What an accepted policy is.
+#![tactic(auto)]

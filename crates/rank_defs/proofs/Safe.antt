@@ -1,0 +1,78 @@
+-- Steps of checked transactions are tame and leave the variables in their ranges.
+use Rattle.std.proofs.Common.{ℕ, ◌≤◌, List, [], ◌∷◌, true, false, cond, arith}
+use Rattle.std.specs.List.{AllByRecursion}
+use Rattle.rank_defs.specs.declared.environment.Env.{Env}
+use Rattle.rank_defs.specs.declared.environment.Who.{Who}
+use Rattle.rank_defs.specs.declared.transaction.Aim.{Aim}
+use Rattle.rank_defs.specs.declared.transaction.Aim.TheVariants.{Rank, Keep, Each}
+use Rattle.rank_defs.specs.Programs.{Assignment, Program, target, max_rank}
+use Rattle.rank_defs.specs.Values.{value_of}
+use Rattle.rank_defs.specs.States.{State, Memory, memory_for, put_back, same_who, variable_in, first_state}
+use Rattle.rank_defs.specs.Steps.{write, written, assigned, run, push_step, pop_step}
+use Rattle.rank_defs.specs.Shapes.{IsShaped, AreWithin, IsStateInRange, IsMemoryInRange, IsEnvInRange}
+use Rattle.rank_defs.specs.Ranges.{declared}
+use Rattle.rank_defs.specs.Checks.{IsCheckedAssignment, IsChecked}
+use Rattle.rank_defs.specs.Tame.{ArePartsInside, IsTame, IsSafePush, IsSafePop}
+use Rattle.rank_defs.proofs.Sound.{parts_in}
+use Rattle.rank_defs.proofs.Spans.{within-set, within-firsts, clamped-within, target-proper, variables-inside}
+
+-- what is written lies in its span
+pub written-within : (p : Program) → IsShaped p → (env : Env) (m : Memory) (a : Assignment) → ((target p a.aim).low ≤ written p env m a) × (written p env m a ≤ (target p a.aim).high)
+written-within p shaped env m a =
+    let proper = target-proper p shaped a.aim
+    in clamped-within (target p a.aim) (value_of (variable_in env m) a.formula) proper.ordered
+
+-- a number of its span may be written
+pub write-in_range : (p : Program) (a : Aim) (v : ℕ) (m : Memory) → IsMemoryInRange p m → (target p a).low ≤ v → v ≤ (target p a).high → IsMemoryInRange p (write a v m)
+write-in_range p Rank v m h l k = record { rank = k; keeps = h.keeps; eaches = h.eaches }
+write-in_range p (Keep i) v m h l k =
+    record { rank = h.rank; keeps = within-set p.keeps m.keeps i v h.keeps l k; eaches = h.eaches }
+write-in_range p (Each i) v m h l k =
+    record { rank = h.rank; keeps = h.keeps; eaches = within-set p.eaches m.eaches i v h.eaches l k }
+
+-- an assignment leaves the variables in their ranges, whatever its value
+pub assigned-in_range : (p : Program) → IsShaped p → (env : Env) (m : Memory) (a : Assignment) → IsMemoryInRange p m → IsMemoryInRange p (assigned p env m a)
+assigned-in_range p shaped env m a h =
+    let w = written-within p shaped env m a
+    in write-in_range p a.aim (written p env m a) m h w.0 w.1
+
+pub run-in_range : (p : Program) → IsShaped p → (env : Env) (rest : List Assignment) (m : Memory) → IsMemoryInRange p m → IsMemoryInRange p (run p env rest m)
+run-in_range p shaped env [] m h = h
+run-in_range p shaped env (a ∷ rest) m h =
+    run-in_range p shaped env rest (assigned p env m a) (assigned-in_range p shaped env m a h)
+
+-- the parts of a checked assignment have their values inside their intervals
+pub checked-parts : (p : Program) (env : Env) (m : Memory) (a : Assignment) → IsEnvInRange env → IsMemoryInRange p m → IsCheckedAssignment p a → ArePartsInside (declared p) (variable_in env m) a.formula
+checked-parts p env m a e h c =
+    parts_in (declared p) (variable_in env m) (variables-inside p env m e h) a.formula c.divides
+
+pub run-tame : (p : Program) → IsShaped p → (env : Env) → IsEnvInRange env → (rest : List Assignment) → AllByRecursion (IsCheckedAssignment p) rest → (m : Memory) → IsMemoryInRange p m → IsTame p env rest m
+run-tame p shaped env e [] c m h = tt
+run-tame p shaped env e (a ∷ rest) c m h =
+    (checked-parts p env m a e h c.0, run-tame p shaped env e rest c.1 (assigned p env m a) (assigned-in_range p shaped env m a h))
+
+-- a step begins in range
+pub memory-in_range : (p : Program) (who : Who) (r : ℕ) (s : State) → IsStateInRange p s → r ≤ max_rank → IsMemoryInRange p (memory_for who r s)
+memory-in_range p who r s h k = record { rank = k; keeps = h.keeps; eaches = h.eaches who }
+
+-- and what it leaves is in range
+pub put_back-in_range : (p : Program) (who : Who) (m : Memory) (s : State) → IsMemoryInRange p m → IsStateInRange p s → IsStateInRange p (put_back who m s)
+put_back-in_range p who m s h k =
+    record { keeps = h.keeps; eaches = λ w. elim (same_who w who) as (λ b. AreWithin p.eaches (cond b m.eaches (s.eaches w))) [ true ↦ h.eaches | false ↦ k.eaches w ] }
+
+-- the state at the start is in range
+pub first_state-in_range : (p : Program) → IsShaped p → IsStateInRange p (first_state p)
+first_state-in_range p shaped =
+    record { keeps = within-firsts p.keeps shaped.keeps; eaches = λ who. within-firsts p.eaches shaped.eaches }
+
+pub safe_push : (p : Program) → IsShaped p → IsChecked p → (s : State) → IsStateInRange p s → (env : Env) → IsEnvInRange env → (who : Who) → IsSafePush p who env s
+safe_push p shaped checked s h env e who =
+    let begin = memory-in_range p who 0 s h (omega arith)
+    in let end = run-in_range p shaped env p.push (memory_for who 0 s) begin
+    in record { tame = run-tame p shaped env e p.push checked.push (memory_for who 0 s) begin; rank = end.rank; after = put_back-in_range p who (push_step p who env s) s end h }
+
+pub safe_pop : (p : Program) → IsShaped p → IsChecked p → (s : State) → IsStateInRange p s → (env : Env) → IsEnvInRange env → (who : Who) → (taken : ℕ) → taken ≤ max_rank → IsSafePop p who env taken s
+safe_pop p shaped checked s h env e who taken k =
+    let begin = memory-in_range p who taken s h k
+    in let end = run-in_range p shaped env p.pop (memory_for who taken s) begin
+    in record { tame = run-tame p shaped env e p.pop checked.pop (memory_for who taken s) begin; after = put_back-in_range p who (pop_step p who env taken s) s end h }

@@ -1,0 +1,72 @@
+-- Transactions whose types agree and whose arithmetic is safe.
+use Rattle.std.specs.Prelude.{◌≡◌, ◌≢◌, ◌≤◌, ◌⊎◌, ℕ, true, false, List, [], ◌∷◌, ◌++◌, map}
+use Rattle.std.specs.List.{AllByRecursion}
+use Rattle.rank_defs.specs.Programs.{Assignment, Program, assignments}
+use Rattle.rank_defs.specs.Ranges.{counts, sort_of, declared, ArePartsNarrow, parts_divide}
+
+-- the value is a number whose types agree, each part's interval is narrow, and no divisor's holds 0
+pub record IsCheckedAssignment (p : Program) (a : Assignment) : Type 0 where
+  pub typed : sort_of a.formula ≡ counts
+  pub narrow : ArePartsNarrow (declared p) a.formula
+  pub divides : parts_divide (declared p) a.formula ≡ true
+
+pub record IsChecked (p : Program) : Type 0 where
+  pub push : AllByRecursion (IsCheckedAssignment p) p.push
+  pub pop : AllByRecursion (IsCheckedAssignment p) p.pop
+
+abbrev pub AreChecked : List Program → Type 0
+AreChecked = AllByRecursion IsChecked
+
+-- an assignment, with the transaction to which it belongs
+pub record Entry : Type 0 where
+  pub program : Program
+  pub assignment : Assignment
+
+abbrev pub entry : Program → Assignment → Entry
+entry p a = record { program = p; assignment = a }
+
+-- all assignments of some transactions
+abbrev pub entries : List Program → List Entry
+entries [] = []
+entries (p ∷ rest) = map (entry p) (assignments p) ++ entries rest
+
+-- types don't agree in the assignment, or its value isn't a number
+abbrev pub Clashes : Entry → Type 0
+Clashes e = sort_of e.assignment.formula ≢ counts
+
+-- some part that is a number has too wide an interval
+abbrev pub IsWide : Entry → Type 0
+IsWide e = ArePartsNarrow (declared e.program) e.assignment.formula → ⊥
+
+-- some divisor's interval holds 0
+abbrev pub MayDivideByZero : Entry → Type 0
+MayDivideByZero e = parts_divide (declared e.program) e.assignment.formula ≡ false
+
+-- some assignment on this line is at fault
+abbrev pub SomeAt : (Entry → Type 0) → List Entry → ℕ → Type 0
+SomeAt Fault [] line = ⊥
+SomeAt Fault (e ∷ rest) line = ((e.assignment.line ≡ line) × Fault e) ⊎ SomeAt Fault rest line
+
+-- it is the least line with an assignment at fault
+pub record IsLeastAt (Fault : Entry → Type 0) (es : List Entry) (line : ℕ) : Type 0 where
+  pub here : SomeAt Fault es line
+  pub least : (other : ℕ) → SomeAt Fault es other → line ≤ other
+
+-- no assignment is at fault
+abbrev pub NoneAt : (Entry → Type 0) → List Entry → Type 0
+NoneAt Fault es = (line : ℕ) → SomeAt Fault es line → ⊥
+
+-- the least line on which types clash
+abbrev pub ClashesFirstAt : List Program → ℕ → Type 0
+ClashesFirstAt ps line = IsLeastAt Clashes (entries ps) line
+
+-- types agree, and it is the least line with too wide an interval
+pub record IsWideFirstAt (ps : List Program) (line : ℕ) : Type 0 where
+  pub typed : NoneAt Clashes (entries ps)
+  pub wide : IsLeastAt IsWide (entries ps) line
+
+-- types agree, intervals are narrow, and it is the least line with a divisor that may be 0
+pub record DividesByZeroFirstAt (ps : List Program) (line : ℕ) : Type 0 where
+  pub typed : NoneAt Clashes (entries ps)
+  pub narrow : NoneAt IsWide (entries ps)
+  pub zero : IsLeastAt MayDivideByZero (entries ps) line

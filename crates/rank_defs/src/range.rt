@@ -1,0 +1,8 @@
+//! Intervals.
+
+/// An interval of whole numbers, both ends included.
+#[derive(Clone, Copy, PartialEq, Eq, Debug)]
+pub struct Range {
+    pub low: i128,
+    pub high: i128,
+}

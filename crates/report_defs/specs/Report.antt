@@ -1,0 +1,65 @@
+-- The lines of a report. Its words are separated by one space, and each line ends with a line feed.
+use Rattle.std.specs.Prelude.{◌≡◌, refl, ℕ, ◌+◌, Option, None, Some, List, [], ◌∷◌, ◌++◌, map, decimal, codes}
+use Rattle.std.specs.List.{join_with_byte}
+use Rattle.std.specs.Fmt.{digits}
+
+-- words as a line
+abbrev pub line_of : List (List ℕ) → List ℕ
+line_of words = join_with_byte 32 words ++ 10 ∷ []
+
+-- ranks from the root to the leaf, joined by `/`
+abbrev pub ranks_text : List ℕ → List ℕ
+ranks_text ranks = join_with_byte 47 (map decimal ranks)
+
+-- a packet arrived at a leaf, with the ranks pushed
+abbrev pub arrival_line : ℕ → ℕ → List ℕ → List ℕ → List ℕ
+arrival_line event packet leaf ranks =
+    line_of (codes "a" ∷ decimal event ∷ decimal packet ∷ leaf ∷ ranks_text ranks ∷ [])
+
+-- the moment at which a departure starts, in nanoseconds, where one is shown
+abbrev pub start_words : Option ℕ → List (List ℕ)
+start_words None = []
+start_words (Some start) = decimal start ∷ []
+
+-- a packet left from a leaf, with the ranks taken
+abbrev pub departure_line : ℕ → ℕ → List ℕ → List ℕ → Option ℕ → List ℕ
+departure_line event packet leaf ranks start =
+    line_of (codes "d" ∷ decimal event ∷ decimal packet ∷ leaf ∷ ranks_text ranks ∷ start_words start)
+
+-- a departure found nothing to send
+abbrev pub empty_line : ℕ → List ℕ
+empty_line event = line_of (codes "e" ∷ decimal event ∷ [])
+
+-- a run ended: how many packets were pushed, popped, found missing, are held and weren't sent
+abbrev pub end_line : ℕ → ℕ → ℕ → ℕ → ℕ → List ℕ
+end_line pushed popped empty held unsent =
+    line_of (codes "end" ∷ codes "pushed" ∷ decimal pushed ∷ codes "popped" ∷ decimal popped ∷ codes "empty" ∷ decimal empty
+    ∷ codes "held" ∷ decimal held ∷ codes "unsent" ∷ decimal unsent ∷ [])
+
+-- an input was refused: its kind, the code of the fault and its place
+abbrev pub fault_line : List ℕ → ℕ → ℕ → List ℕ
+fault_line kind code place = line_of (codes "fault" ∷ kind ∷ decimal code ∷ decimal place ∷ [])
+
+pub arrival_line-first : arrival_line 1 1 (codes "root") (0 ∷ []) ≡ codes "a 1 1 root 0\n"
+unfolding digits
+arrival_line-first = refl
+
+pub departure_line-first : departure_line 15 4 (codes "web") (1 ∷ 375000 ∷ 0 ∷ []) None ≡ codes "d 15 4 web 1/375000/0\n"
+unfolding digits
+departure_line-first = refl
+
+pub departure_line-paced : departure_line 2 1 (codes "root") (0 ∷ []) (Some 1000000000) ≡ codes "d 2 1 root 0 1000000000\n"
+unfolding digits
+departure_line-paced = refl
+
+pub empty_line-fifth : empty_line 5 ≡ codes "e 5\n"
+unfolding digits
+empty_line-fifth = refl
+
+pub end_line-two_packets : end_line 2 2 1 0 0 ≡ codes "end pushed 2 popped 2 empty 1 held 0 unsent 0\n"
+unfolding digits
+end_line-two_packets = refl
+
+pub fault_line-words : fault_line (codes "words") 0 0 ≡ codes "fault words 0 0\n"
+unfolding digits
+fault_line-words = refl

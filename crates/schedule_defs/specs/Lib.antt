@@ -1,0 +1,7 @@
+pub mod Visits
+pub mod SourceState
+pub mod Sound
+pub mod Events
+pub mod Script
+pub mod Report
+pub mod Rows

@@ -1,0 +1,7 @@
+pub mod Options
+pub mod WellFormedLaws
+pub mod Everywhere
+pub mod Shapes
+pub mod PacketLaws
+pub mod TopologyLaws
+pub mod Laws

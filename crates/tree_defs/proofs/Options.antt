@@ -1,0 +1,13 @@
+-- What an `Option` with a value came from.
+use Rattle.std.proofs.Common.{◌≡◌, Option, None, Some, refl}
+use Rattle.std.specs.Prelude.{option_map}
+use Rattle.tree_defs.specs.Tree.{option_bind}
+
+module _ {A B : Type 0} where
+  pub option_map-some : (f : A → B) (o : Option A) (r : B) → option_map f o ≡ Some r → (x : A) × (o ≡ Some x) × (f x ≡ r)
+  option_map-some f None r p = cc
+  option_map-some f (Some x) r p = (x, refl, cc)
+
+  pub option_bind-some : (f : A → Option B) (o : Option A) (r : B) → option_bind o f ≡ Some r → (x : A) × (o ≡ Some x) × (f x ≡ Some r)
+  option_bind-some f None r p = cc
+  option_bind-some f (Some x) r p = (x, refl, p)

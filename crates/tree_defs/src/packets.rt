@@ -1,0 +1,42 @@
+//! Laws of the packets that stand in a tree.
+ghost use Rattle.tree_defs.specs.Laws.{EmptyTreesHoldNothing, PushesAddOne, PopsTakeOne, PopsLeadToLeaves, PushesAddThePacket, PopsTakeThePacket, PushesPutAtTheLeaf, PopsTakeAtTheLeaf};
+
+/// A tree of empty queues has its topology and no packets.
+pub fn empty_trees_hold_nothing()
+    ensures { EmptyTreesHoldNothing }
+{}
+
+/// A push to a leaf raises the size by one.
+pub fn pushes_add_one()
+    ensures { PushesAddOne }
+{}
+
+/// A pop lowers the size by one.
+pub fn pops_take_one()
+    ensures { PopsTakeOne }
+{}
+
+/// A pop goes down to a leaf, with a rank at each node on the way.
+pub fn pops_lead_to_leaves()
+    ensures { PopsLeadToLeaves }
+{}
+
+/// A push adds exactly its packet, at its leaf.
+pub fn pushes_add_the_packet()
+    ensures { PushesAddThePacket }
+{}
+
+/// A pop takes exactly its packet, once, from its leaf.
+pub fn pops_take_the_packet()
+    ensures { PopsTakeThePacket }
+{}
+
+/// A push changes the queue of its leaf alone among the leaves' queues.
+pub fn pushes_put_at_the_leaf()
+    ensures { PushesPutAtTheLeaf }
+{}
+
+/// A pop takes what leaves the queue of its leaf, and changes no other leaf's queue.
+pub fn pops_take_at_the_leaf()
+    ensures { PopsTakeAtTheLeaf }
+{}
