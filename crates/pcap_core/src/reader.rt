@@ -1,12 +1,3 @@
-use crate::fault::CaptureFault;
-use crate::frame::Frame;
-use crate::header::{HEADER_LEN, head_in};
-use crate::preface::{RECORD_LEN, preface_in};
-use crate::window::Window;
-use capture_defs::Head;
-use outside_core::Shelf;
-use std::alloc::Global;
-
 ghost use Rattle.std.specs.Prelude.{◌≡◌, ◌≤◌, ◌<◌, ◌+◌, ◌^◌, ◌↔◌, ℕ, List, Option, Some, None, [], length, vec_len, IfOk, IfErr, OnOk, OnErr, IfSome, IfNone, OnSome, IsErrOf, IsErr, IsTrue, IsFalse};
 ghost use Rattle.outside_core.specs.Faults.{Rose};
 ghost use Rattle.outside_core.specs.Files.{KeepsFiles};
@@ -17,6 +8,15 @@ ghost use Rattle.pcap_core.specs.Faults.{fault_in};
 ghost use Rattle.pcap_core.specs.Frames.{IsFrameOf};
 ghost use Rattle.pcap_core.specs.Held.{held};
 ghost use Rattle.pcap_core.specs.Rest.{rest_of, TakesHeader, TakesRecord, IsWhole, Serves};
+
+use crate::fault::CaptureFault;
+use crate::frame::Frame;
+use crate::header::{HEADER_LEN, head_in};
+use crate::preface::{RECORD_LEN, preface_in};
+use crate::window::Window;
+use capture_defs::Head;
+use outside_core::Shelf;
+use std::alloc::Global;
 
 /// Reads the file header.
 fn read_head<S: Shelf>(
