@@ -189,7 +189,7 @@ records_left-record big n r first others few spelled =
     let split : first ++ others ≡ (first ++ f.body) ++ f.rest = ap (λ xs. first ++ xs) f.bytes_are ∙ sym (append_assoc first f.body f.rest) in
     ap (records_from (length (first ++ others)) big n) split
     ∙ records_from-spelled (r ∷ run.0) (length (first ++ others)) big n (first ++ f.body) f.rest run.1
-        (first, f.body, refl, spelled, f.body_is) (omega (arith, f.few)) (subst (λ m. EndsWith big m f.rest run.1) count f.ends) (omega (arith, ap length split))
+    (first, f.body, refl, spelled, f.body_is) (omega (arith, f.few)) (subst (λ m. EndsWith big m f.rest run.1) count f.ends) (omega (arith, ap length split))
 
 -- a file that begins with a header
 pub capture_of-header : (head : Head) (header after : List ℕ) → IsHeader head header

@@ -1,5 +1,5 @@
 -- What a packet has to meet to be of a class, and its class.
-use Rattle.std.specs.Prelude.{ℕ, ◌-◌, ◌/◌, ◌^◌, ◌==◌, nat_le, Bool, false, ◌&&◌, Option, Some, None, List, position}
+use Rattle.std.specs.Prelude.{ℕ, ◌-◌, ◌/◌, ◌^◌, ◌==◌, nat_le, Bool, false, ◌&&◌, Option, Some, List, position}
 use Rattle.std.specs.Option.{option_map_or}
 use Rattle.std.specs.List.{list_all}
 use Rattle.packet_defs.specs.declared.fields.Fields.{Fields}

@@ -1,8 +1,8 @@
 -- What is left stays the same while bytes go from the file into a window, and out of it.
-use Rattle.std.proofs.Common.{◌≡◌, ◌<◌, ◌≤◌, ◌+◌, ◌-◌, ℕ, Option, Some, None, List, [], ◌∷◌, ◌++◌, length, take, drop, min, refl, sym, ap, ◌∙◌, subst, arith, append_assoc, length-append, length-drop}
-use Rattle.std.proofs.lemmas.List.{take-append-drop, length-take, drop-drop, drop-take, take-take, nil_from_length}
-use Rattle.outside_core.specs.Files.{Takes, EndsWhereEmpty}
-use Rattle.pcap_core.specs.Rest.{rest_of, TakesFront, IsWhole}
+use Rattle.std.proofs.Common.{◌≡◌, ◌≤◌, ◌+◌, ◌-◌, ℕ, Option, Some, None, List, [], ◌++◌, length, take, drop, sym, ap, ◌∙◌, arith, append_assoc}
+use Rattle.std.proofs.lemmas.List.{take-append-drop, length-take, drop-drop, drop-take, take-take}
+use Rattle.outside_core.specs.Files.{EndsWhereEmpty}
+use Rattle.pcap_core.specs.Rest.{rest_of, IsWhole}
 
 -- none are held after a read only where nothing was left
 pub fill-end : (left new : Option (List ℕ)) (held buf : List ℕ) (n : ℕ) → EndsWhereEmpty left n → n ≤ length buf → held ≡ [] → take (n - 0) buf ≡ [] → IsWhole (rest_of held left)

@@ -2,9 +2,8 @@
 use Rattle.std.specs.Prelude.{◌≡◌, ◌<◌, ◌≤◌, ℕ, Bool, Option, Some, None, List, [], ◌++◌, length, IfSome, IsTrue, ⊤}
 use Rattle.outside_core.specs.Files.{KeepsFiles}
 use Rattle.capture_defs.specs.declared.head.Head.{Head}
-use Rattle.capture_defs.specs.Fault.{Fault}
-use Rattle.capture_defs.specs.Header.{IsHeader, IsHeaderFault}
-use Rattle.capture_defs.specs.Record.{Record, IsSpelling, IsRecordFault}
+use Rattle.capture_defs.specs.Header.{IsHeader}
+use Rattle.capture_defs.specs.Record.{Record, IsSpelling}
 
 -- where the shelf tells what is left of the file
 abbrev pub rest_of : List ℕ → Option (List ℕ) → Option (List ℕ)

@@ -1,4 +1,4 @@
-use Rattle.std.proofs.Common.{◌≡◌, ◌≤◌, ◌+◌, length, sym, ◌∙◌, arith}
+use Rattle.std.proofs.Common.{arith}
 use Rattle.pcap_core.proofs.Records.{data-broken, frame-taken}
 use Rattle.pcap_core.proofs.reader.read_record.Goals as goal
 
