@@ -8,7 +8,7 @@ use Rattle.rank_defs.specs.declared.expression.Op.TheVariants.{Add, Sub, Mul, Di
 use Rattle.rank_defs.specs.declared.expression.Var.{Var as Name}
 use Rattle.rank_defs.specs.declared.range.Range.{Range}
 use Rattle.rank_defs.specs.Formulas.{Formula, number, variable, two, negation, choice, group}
-use Rattle.rank_defs.specs.Values.{Value, num, truth, nothing, value_of, apply, quotient, negated, chosen}
+use Rattle.rank_defs.specs.Values.{Value, num, truth, nothing, value_of, apply, quotient, negated, chosen, FitsWide}
 use Rattle.rank_defs.specs.Ranges.{Sort, counts, tells, clash, sort_of, sort_of_two, sort_of_negation, sort_of_choice, range, range_of, range_of_two, joined_range, holds_zero, may_divide, parts_divide, IsNarrow, ArePartsNarrow}
 use Rattle.rank_defs.specs.Tame.{IsInside, AreInside, HasValueInside, ArePartsInside}
 use Rattle.rank_defs.proofs.Corners.{Between-mul_left, Between-mul_right, Between-div_left, Between-div_right, within_corners}
@@ -19,11 +19,6 @@ Agrees counts r (num x) = IsInside r x
 Agrees tells r (truth t) = Unit {0}
 Agrees clash r w = Unit {0}
 Agrees s r w = ⊥
-
--- a number that 128 bits hold
-abbrev pub FitsWide : Value → Type 0
-FitsWide (num x) = FitsSigned w128 x
-FitsWide w = ⊥
 
 -- a divisor that isn't 0 has a quotient
 quotient-is : (x y : ℤ) → y ≢ pos 0 → quotient x y ≡ num (int_div x y)

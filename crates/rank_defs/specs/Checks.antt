@@ -1,8 +1,16 @@
 -- Transactions whose types agree and whose arithmetic is safe.
 use Rattle.std.specs.Prelude.{◌≡◌, ◌≢◌, ◌≤◌, ◌⊎◌, ℕ, true, false, List, [], ◌∷◌, ◌++◌, map}
 use Rattle.std.specs.List.{AllByRecursion}
+use Rattle.rank_defs.specs.declared.expression.Var.{Var as Name}
+use Rattle.rank_defs.specs.declared.range.Range.{Range}
+use Rattle.rank_defs.specs.Formulas.{Formula}
 use Rattle.rank_defs.specs.Programs.{Assignment, Program, assignments}
 use Rattle.rank_defs.specs.Ranges.{counts, sort_of, declared, ArePartsNarrow, parts_divide}
+
+-- the interval of each part that is a number is narrow, and no divisor's holds 0
+pub record IsSafe (ranges : Name → Range) (f : Formula) : Type 0 where
+  pub narrow : ArePartsNarrow ranges f
+  pub divides : parts_divide ranges f ≡ true
 
 -- the value is a number whose types agree, each part's interval is narrow, and no divisor's holds 0
 pub record IsCheckedAssignment (p : Program) (a : Assignment) : Type 0 where

@@ -9,9 +9,8 @@ use Rattle.rank_defs.specs.Programs.{Assignment, Program, max_rank}
 use Rattle.rank_defs.specs.Values.{num, value_of}
 use Rattle.rank_defs.specs.States.{State, Memory, memory_for, variable_in}
 use Rattle.rank_defs.specs.Steps.{assigned, push_rank, after_push, after_pop}
-use Rattle.rank_defs.specs.Shapes.{IsShaped, IsStateInRange, IsEnvInRange}
+use Rattle.rank_defs.specs.Shapes.{IsStateInRange}
 use Rattle.rank_defs.specs.Ranges.{counts, sort_of, range_of, declared}
-use Rattle.rank_defs.specs.Checks.{IsChecked}
 
 -- a number inside an interval
 abbrev pub IsInside : Range → ℤ → Type 0
@@ -52,12 +51,3 @@ pub record IsSafePush (p : Program) (who : Who) (env : Env) (s : State) : Type 0
 pub record IsSafePop (p : Program) (who : Who) (env : Env) (taken : ℕ) (s : State) : Type 0 where
   pub tame : IsTame p env p.pop (memory_for who taken s)
   pub after : IsStateInRange p (after_pop p who env taken s)
-
--- every step of a checked transaction is safe, from every state in range and every environment in range
-abbrev pub PushesAreSafe : Type 0
-PushesAreSafe =
-    (p : Program) → IsShaped p → IsChecked p → (s : State) → IsStateInRange p s → (env : Env) → IsEnvInRange env → (who : Who) → IsSafePush p who env s
-
-abbrev pub PopsAreSafe : Type 0
-PopsAreSafe =
-    (p : Program) → IsShaped p → IsChecked p → (s : State) → IsStateInRange p s → (env : Env) → IsEnvInRange env → (who : Who) → (taken : ℕ) → taken ≤ max_rank → IsSafePop p who env taken s

@@ -1,6 +1,6 @@
 -- The value of an expression, over exact integers.
-use Rattle.std.specs.Prelude.{ℕ, zero, suc, ℤ, pos, negsuc, ◌+ℤ◌, ◌-ℤ◌, ◌*ℤ◌, int_div, int_lt, int_le, Bool, not, ◌&&◌, ◌||◌, if◌then◌else◌}
-use Rattle.std.specs.Int.{int_min, int_max}
+use Rattle.std.specs.Prelude.{ℕ, zero, suc, ℤ, pos, negsuc, ◌+ℤ◌, ◌-ℤ◌, ◌*ℤ◌, int_div, int_lt, int_le, FitsSigned, Bool, not, ◌&&◌, ◌||◌, if◌then◌else◌}
+use Rattle.std.specs.Int.{int_min, int_max, w128}
 use Rattle.rank_defs.specs.declared.expression.Op.{Op}
 use Rattle.rank_defs.specs.declared.expression.Op.TheVariants.{Add, Sub, Mul, Div, Less, LessEq, Equal, NotEqual, MoreEq, More, Min, Max, And, Or}
 use Rattle.rank_defs.specs.declared.expression.Var.{Var as Name}
@@ -63,3 +63,8 @@ value_of variables (two op a b) = apply op (value_of variables a) (value_of vari
 value_of variables (negation a) = negated (value_of variables a)
 value_of variables (choice c a b) =
     chosen (value_of variables c) (value_of variables a) (value_of variables b)
+
+-- a number that 128 bits hold
+abbrev pub FitsWide : Value → Type 0
+FitsWide (num x) = FitsSigned w128 x
+FitsWide w = ⊥
