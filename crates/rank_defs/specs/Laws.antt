@@ -11,21 +11,30 @@ use Rattle.rank_defs.specs.Values.{value_of, FitsWide}
 use Rattle.rank_defs.specs.States.{State, Memory, first_state, put_back}
 use Rattle.rank_defs.specs.Steps.{pop_step}
 use Rattle.rank_defs.specs.Shapes.{IsShaped, IsStateInRange, IsEnvInRange}
-use Rattle.rank_defs.specs.Ranges.{counts, sort_of}
+use Rattle.rank_defs.specs.Ranges.{counts, sort_of, range_of, widest}
 use Rattle.rank_defs.specs.Checks.{IsSafe, IsChecked, AreChecked, Clashes, IsWide, MayDivideByZero, entries, NoneAt, ClashesFirstAt, IsWideFirstAt, DividesByZeroFirstAt}
-use Rattle.rank_defs.specs.Tame.{AreInside, ArePartsInside, IsSafePush, IsSafePop}
+use Rattle.rank_defs.specs.Tame.{AreInside, ArePartsIn, IsAlwaysTame, IsSafePush, IsSafePop}
 use Rattle.rank_defs.specs.Builtins.{builtins}
 
 -- where no divisor's interval holds 0, each part that is a number has a value inside its interval, for all values of the
 -- variables in theirs
 abbrev pub SafePartsAreInside : Type 0
 SafePartsAreInside =
-    (ranges : Name → Range) (values : Name → ℕ) → AreInside ranges values → (f : Formula) → IsSafe ranges f → ArePartsInside ranges values f
+    (ranges : Name → Range) (values : Name → ℕ) → AreInside ranges values → (f : Formula) → IsSafe ranges f → ArePartsIn (range_of ranges) values f
 
--- and where its parts' intervals are narrow, 128 bits hold its value
+-- and where its parts' intervals are narrow, each value is from -2^100 to 2^100
+abbrev pub SafePartsAreNarrow : Type 0
+SafePartsAreNarrow =
+    (ranges : Name → Range) (values : Name → ℕ) → AreInside ranges values → (f : Formula) → IsSafe ranges f → ArePartsIn (λ part. widest) values f
+
+-- 128 bits hold the value of the whole
 abbrev pub SafeValuesFit : Type 0
 SafeValuesFit =
     (ranges : Name → Range) (values : Name → ℕ) → AreInside ranges values → (f : Formula) → IsSafe ranges f → sort_of f ≡ counts → FitsWide (value_of values f)
+
+-- a checked transaction is tame from every state in range and in every environment in range
+abbrev pub CheckedAreTame : Type 0
+CheckedAreTame = (p : Program) → IsChecked p → IsAlwaysTame p
 
 -- every push step of a checked transaction is safe, from every state in range and every environment in range
 abbrev pub CheckedPushesAreSafe : Type 0

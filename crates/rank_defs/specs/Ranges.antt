@@ -96,6 +96,10 @@ declared p Rank = range (pos 0) (pos max_rank)
 declared p (Keep i) = range_of_span (span_at p.keeps i)
 declared p (Each i) = range_of_span (span_at p.eaches i)
 
+-- the widest interval of a part
+abbrev pub widest : Range
+widest = range (neg_ℤ (pos (2 ^ 100))) (pos (2 ^ 100))
+
 -- the interval lies within -2^100 to 2^100, ends included
 pub record IsNarrow (r : Range) : Type 0 where
   pub low : neg_ℤ (pos (2 ^ 100)) ≤ℤ r.low

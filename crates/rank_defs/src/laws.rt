@@ -1,16 +1,18 @@
 //! Laws of transactions. Each is the contract of a function that does nothing.
 
-ghost use Rattle.rank_defs.specs.Laws.{SafePartsAreInside, SafeValuesFit, CheckedPushesAreSafe, CheckedPopsAreSafe, FirstStatesAreInRange, PopsKeepRanks, StepsChangeOne, StepsLeaveOthers, ChecksFindAllFaults, RefusalsNameOneLine, BuiltinsAreChecked};
+ghost use Rattle.rank_defs.specs.Laws.{SafePartsAreInside, SafePartsAreNarrow, SafeValuesFit, CheckedAreTame, CheckedPushesAreSafe, CheckedPopsAreSafe, FirstStatesAreInRange, PopsKeepRanks, StepsChangeOne, StepsLeaveOthers, ChecksFindAllFaults, RefusalsNameOneLine, BuiltinsAreChecked};
 
 /// Checks from the declared ranges alone hold for all values in those ranges.
 pub fn safe_parts_are_inside()
     ensures inside { SafePartsAreInside }
+    ensures narrow { SafePartsAreNarrow }
     ensures fits { SafeValuesFit }
 {
 }
 
 /// A checked transaction can be run from every state in range, and keeps it in range.
 pub fn checked_steps_are_safe()
+    ensures tame { CheckedAreTame }
     ensures pushes { CheckedPushesAreSafe }
     ensures pops { CheckedPopsAreSafe }
     ensures start { FirstStatesAreInRange }
