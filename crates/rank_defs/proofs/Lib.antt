@@ -8,3 +8,5 @@ pub mod Runs
 pub mod Faults
 pub mod Table
 pub mod Evaluation
+pub mod Least
+pub mod Same

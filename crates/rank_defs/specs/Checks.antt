@@ -1,5 +1,5 @@
 -- Transactions whose types agree and whose arithmetic is safe.
-use Rattle.std.specs.Prelude.{◌≡◌, ◌≢◌, ◌≤◌, ◌⊎◌, ℕ, true, false, List, [], ◌∷◌, ◌++◌, map}
+use Rattle.std.specs.Prelude.{◌≡◌, ◌≢◌, ◌≤◌, ◌⊎◌, ℕ, true, false, List, [], ◌∷◌, ◌++◌, map, min, Option, Some, None}
 use Rattle.std.specs.List.{AllByRecursion}
 use Rattle.rank_defs.specs.declared.expression.Var.{Var as Name}
 use Rattle.rank_defs.specs.declared.range.Range.{Range}
@@ -63,6 +63,17 @@ pub record IsLeastAt (Fault : Entry → Type 0) (es : List Entry) (line : ℕ) :
 -- no assignment is at fault
 abbrev pub NoneAt : (Entry → Type 0) → List Entry → Type 0
 NoneAt Fault es = (line : ℕ) → SomeAt Fault es line → ⊥
+
+-- the least line with an assignment at fault, if there is one
+abbrev pub IsLeastLine : (Entry → Type 0) → List Entry → Option ℕ → Type 0
+IsLeastLine Fault es None = NoneAt Fault es
+IsLeastLine Fault es (Some line) = IsLeastAt Fault es line
+
+-- the lesser of two lines, if there are any
+abbrev pub lesser_line : Option ℕ → Option ℕ → Option ℕ
+lesser_line None b = b
+lesser_line (Some m) None = Some m
+lesser_line (Some m) (Some n) = Some (min m n)
 
 -- the least line on which types clash
 abbrev pub ClashesFirstAt : List Program → ℕ → Type 0
