@@ -18,9 +18,9 @@ least-clear Fault e n line (inr h) = h
 pub least-fault : (Fault : Entry → Type 0) (e : Entry) → Fault e → IsLeastLine Fault (e ∷ []) (Some e.assignment.line)
 least-fault Fault e f = record { here = inl (refl, f); least = least-only Fault e }
   where
-  least-only : (Fault : Entry → Type 0) (e : Entry) (other : ℕ) → SomeAt Fault (e ∷ []) other → e.assignment.line ≤ other
-  least-only Fault e other (inl h) = let same : e.assignment.line ≡ other = h.0 in omega (arith, same)
-  least-only Fault e other (inr h) = absurd h
+    least-only : (Fault : Entry → Type 0) (e : Entry) (other : ℕ) → SomeAt Fault (e ∷ []) other → e.assignment.line ≤ other
+    least-only Fault e other (inl h) = let same : e.assignment.line ≡ other = h.0 in omega (arith, same)
+    least-only Fault e other (inr h) = absurd h
 
 lesser-here : (Fault : Entry → Type 0) (xs ys : List Entry) (m n : ℕ) → SomeAt Fault xs m → SomeAt Fault ys n → SomeAt Fault (xs ++ ys) (min m n)
 lesser-here Fault xs ys m n h k =
@@ -44,6 +44,6 @@ pub least-program : (Fault : Entry → Type 0) (p : Program) (a b : Option ℕ) 
 least-program Fault p a b h k =
     subst (λ (es : List Entry). IsLeastLine Fault es (lesser_line a b)) (map-entries p p.push p.pop) (least-append Fault (map (entry p) p.push) (map (entry p) p.pop) a b h k)
   where
-  map-entries : (p : Program) (xs ys : List Assignment) → map (entry p) xs ++ map (entry p) ys ≡ map (entry p) (xs ++ ys)
-  map-entries p [] ys = refl
-  map-entries p (x ∷ xs) ys = rw (map-entries p xs ys) refl
+    map-entries : (p : Program) (xs ys : List Assignment) → map (entry p) xs ++ map (entry p) ys ≡ map (entry p) (xs ++ ys)
+    map-entries p [] ys = refl
+    map-entries p (x ∷ xs) ys = rw (map-entries p xs ys) refl

@@ -10,3 +10,4 @@ pub mod Table
 pub mod Evaluation
 pub mod Least
 pub mod Same
+pub mod Refusals

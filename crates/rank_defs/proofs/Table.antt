@@ -14,7 +14,7 @@ counter-span : IsSpan counter
 counter-span = record { low = omega arith; high = omega arith; most = omega arith }
 
 -- an interval of natural numbers up to 2^100
-narrow_to : (a b : ℕ) → b ≤ 2 ^ 100 → IsNarrow (range (pos a) (pos b))
+pub narrow_to : (a b : ℕ) → b ≤ 2 ^ 100 → IsNarrow (range (pos a) (pos b))
 narrow_to a b h = record { low = omega (arith, ints); high = omega (arith, ints) }
 
 to_max : IsNarrow (range (pos 0) (pos max_rank))

@@ -8,8 +8,8 @@ use Rattle.rank_defs.specs.declared.range.Range.{Range}
 use Rattle.rank_defs.specs.Formulas.{Formula}
 use Rattle.rank_defs.specs.Programs.{Program, max_rank}
 use Rattle.rank_defs.specs.Values.{value_of, FitsWide}
-use Rattle.rank_defs.specs.States.{State, Memory, first_state, put_back}
-use Rattle.rank_defs.specs.Steps.{pop_step}
+use Rattle.rank_defs.specs.States.{State, SameState, Memory, first_state, put_back}
+use Rattle.rank_defs.specs.Steps.{push_step, pop_step, after_push, after_pop}
 use Rattle.rank_defs.specs.Shapes.{IsShaped, IsStateInRange, IsEnvInRange}
 use Rattle.rank_defs.specs.Ranges.{counts, sort_of, range_of, widest}
 use Rattle.rank_defs.specs.Checks.{IsSafe, IsChecked, AreChecked, Clashes, IsWide, MayDivideByZero, entries, NoneAt, ClashesFirstAt, IsWideFirstAt, DividesByZeroFirstAt}
@@ -63,6 +63,13 @@ StepsChangeOne = (who : Who) (m : Memory) (s : State) → (put_back who m s).eac
 abbrev pub StepsLeaveOthers : Type 0
 StepsLeaveOthers =
     (who other : Who) (m : Memory) (s : State) → other ≢ who → (put_back who m s).eaches other ≡ s.eaches other
+
+-- steps from states that are the same give the same rank, and states that are the same
+pub record StepsRespectStates : Type 0 where
+  pub push : (p : Program) (who : Who) (env : Env) (s t : State) → SameState s t → push_step p who env s ≡ push_step p who env t
+  pub pop : (p : Program) (who : Who) (env : Env) (taken : ℕ) (s t : State) → SameState s t → pop_step p who env taken s ≡ pop_step p who env taken t
+  pub after_push : (p : Program) (who : Who) (env : Env) (s t : State) → SameState s t → SameState (after_push p who env s) (after_push p who env t)
+  pub after_pop : (p : Program) (who : Who) (env : Env) (taken : ℕ) (s t : State) → SameState s t → SameState (after_pop p who env taken s) (after_pop p who env taken t)
 
 -- no assignment is at fault
 pub record IsFaultless (ps : List Program) : Type 0 where
