@@ -1,5 +1,5 @@
 -- What an evaluator needs where Rust doesn't read a side that the definition reads.
-use Rattle.std.proofs.Common.{◌≡◌, ℕ, Bool, true, false, refl, subst, sym, ◌∙◌}
+use Rattle.std.proofs.Common.{◌≡◌, ℕ, Bool, true, false, refl, ap, subst, sym, ◌∙◌}
 use Rattle.std.specs.Prelude.{ℤ}
 use Rattle.rank_defs.specs.declared.expression.Op.{Op}
 use Rattle.rank_defs.specs.declared.expression.Op.TheVariants.{And, Or}
@@ -20,10 +20,10 @@ value-inside ranges values f v inside safe s is =
     in subst (λ (k : ℤ). IsInside (range_of ranges f) k) same n.2
 
 -- what an operation gives fits
-pub operation-fits : (ranges : Name → Range) (values : Name → ℕ) (op : Op) (a b : Formula) (x y : ℤ) → AreInside ranges values → IsSafe ranges (two op a b) → sort_of (two op a b) ≡ counts → value_of values a ≡ num x → value_of values b ≡ num y → FitsWide (apply op (num x) (num y))
-operation-fits ranges values op a b x y inside safe s f g =
-    let is : value_of values (two op a b) ≡ apply op (num x) (num y) = rw (f, g) refl
-    in subst (λ (w : Value). FitsWide w) is (value_fits ranges values inside (two op a b) safe.narrow safe.divides s)
+pub operation-fits : (ranges : Name → Range) (values : Name → ℕ) (e : Formula) (op : Op) (a b : Formula) (x y : ℤ) → e ≡ two op a b → AreInside ranges values → IsSafe ranges e → sort_of e ≡ counts → value_of values a ≡ num x → value_of values b ≡ num y → FitsWide (apply op (num x) (num y))
+operation-fits ranges values e op a b x y is inside safe s f g =
+    let here : value_of values e ≡ apply op (num x) (num y) = ap (value_of values) is ∙ rw (f, g) refl
+    in subst (λ (w : Value). FitsWide w) here (value_fits ranges values inside e safe.narrow safe.divides s)
 
 chosen-true : (y : Value) (v w : ℤ) → chosen (truth true) (num v) y ≡ num w → chosen (truth true) (num v) y ≡ num v
 chosen-true (num y) v w h = refl
@@ -36,16 +36,16 @@ chosen-false (truth x) v w h = cc
 chosen-false nothing v w h = cc
 
 -- the branch that a test picks gives the value, since the other has one too
-pub choice-true : (ranges : Name → Range) (values : Name → ℕ) (c a b : Formula) (v : ℤ) → AreInside ranges values → IsSafe ranges (choice c a b) → sort_of (choice c a b) ≡ counts → value_of values c ≡ truth true → value_of values a ≡ num v → value_of values (choice c a b) ≡ num v
-choice-true ranges values c a b v inside safe s f g =
-    let n = number_in ranges values inside (choice c a b) safe.divides s
-    in let here : value_of values (choice c a b) ≡ chosen (truth true) (num v) (value_of values b) = rw (f, g) refl
+pub choice-true : (ranges : Name → Range) (values : Name → ℕ) (e c a b : Formula) (v : ℤ) → e ≡ choice c a b → AreInside ranges values → IsSafe ranges e → sort_of e ≡ counts → value_of values c ≡ truth true → value_of values a ≡ num v → value_of values e ≡ num v
+choice-true ranges values e c a b v is inside safe s f g =
+    let n = number_in ranges values inside e safe.divides s
+    in let here : value_of values e ≡ chosen (truth true) (num v) (value_of values b) = ap (value_of values) is ∙ rw (f, g) refl
     in here ∙ chosen-true (value_of values b) v n.0 (sym here ∙ n.1)
 
-pub choice-false : (ranges : Name → Range) (values : Name → ℕ) (c a b : Formula) (v : ℤ) → AreInside ranges values → IsSafe ranges (choice c a b) → sort_of (choice c a b) ≡ counts → value_of values c ≡ truth false → value_of values b ≡ num v → value_of values (choice c a b) ≡ num v
-choice-false ranges values c a b v inside safe s f g =
-    let n = number_in ranges values inside (choice c a b) safe.divides s
-    in let here : value_of values (choice c a b) ≡ chosen (truth false) (value_of values a) (num v) = rw (f, g) refl
+pub choice-false : (ranges : Name → Range) (values : Name → ℕ) (e c a b : Formula) (v : ℤ) → e ≡ choice c a b → AreInside ranges values → IsSafe ranges e → sort_of e ≡ counts → value_of values c ≡ truth false → value_of values b ≡ num v → value_of values e ≡ num v
+choice-false ranges values e c a b v is inside safe s f g =
+    let n = number_in ranges values inside e safe.divides s
+    in let here : value_of values e ≡ chosen (truth false) (value_of values a) (num v) = ap (value_of values) is ∙ rw (f, g) refl
     in here ∙ chosen-false (value_of values a) v n.0 (sym here ∙ n.1)
 
 and-is : (y : Value) (t : Bool) → apply And (truth false) y ≡ truth t → apply And (truth false) y ≡ truth false
@@ -59,15 +59,15 @@ or-is (num y) t h = cc
 or-is nothing t h = cc
 
 -- the second side of `and` isn't looked at where the first is false
-pub and-false : (ranges : Name → Range) (values : Name → ℕ) (a b : Formula) → AreInside ranges values → IsSafe ranges (two And a b) → sort_of (two And a b) ≡ tells → value_of values a ≡ truth false → value_of values (two And a b) ≡ truth false
-and-false ranges values a b inside safe s f =
-    let n = truth_in ranges values inside (two And a b) safe.divides s
-    in let here : value_of values (two And a b) ≡ apply And (truth false) (value_of values b) = rw f refl
+pub and-false : (ranges : Name → Range) (values : Name → ℕ) (e a b : Formula) → e ≡ two And a b → AreInside ranges values → IsSafe ranges e → sort_of e ≡ tells → value_of values a ≡ truth false → value_of values e ≡ truth false
+and-false ranges values e a b is inside safe s f =
+    let n = truth_in ranges values inside e safe.divides s
+    in let here : value_of values e ≡ apply And (truth false) (value_of values b) = ap (value_of values) is ∙ rw f refl
     in here ∙ and-is (value_of values b) n.0 (sym here ∙ n.1)
 
 -- nor that of `or` where the first is true
-pub or-true : (ranges : Name → Range) (values : Name → ℕ) (a b : Formula) → AreInside ranges values → IsSafe ranges (two Or a b) → sort_of (two Or a b) ≡ tells → value_of values a ≡ truth true → value_of values (two Or a b) ≡ truth true
-or-true ranges values a b inside safe s f =
-    let n = truth_in ranges values inside (two Or a b) safe.divides s
-    in let here : value_of values (two Or a b) ≡ apply Or (truth true) (value_of values b) = rw f refl
+pub or-true : (ranges : Name → Range) (values : Name → ℕ) (e a b : Formula) → e ≡ two Or a b → AreInside ranges values → IsSafe ranges e → sort_of e ≡ tells → value_of values a ≡ truth true → value_of values e ≡ truth true
+or-true ranges values e a b is inside safe s f =
+    let n = truth_in ranges values inside e safe.divides s
+    in let here : value_of values e ≡ apply Or (truth true) (value_of values b) = ap (value_of values) is ∙ rw f refl
     in here ∙ or-is (value_of values b) n.0 (sym here ∙ n.1)
