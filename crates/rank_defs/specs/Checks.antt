@@ -18,10 +18,12 @@ pub record IsCheckedAssignment (p : Program) (a : Assignment) : Type 0 where
   pub narrow : ArePartsNarrow (declared p) a.formula
   pub divides : parts_divide (declared p) a.formula ≡ true
 
+-- each assignment of the transaction is checked
 pub record IsChecked (p : Program) : Type 0 where
   pub push : AllByRecursion (IsCheckedAssignment p) p.push
   pub pop : AllByRecursion (IsCheckedAssignment p) p.pop
 
+-- each transaction is checked
 abbrev pub AreChecked : List Program → Type 0
 AreChecked = AllByRecursion IsChecked
 
@@ -30,6 +32,7 @@ pub record Entry : Type 0 where
   pub program : Program
   pub assignment : Assignment
 
+-- an entry of its two parts
 abbrev pub entry : Program → Assignment → Entry
 entry p a = record { program = p; assignment = a }
 

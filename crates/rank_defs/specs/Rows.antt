@@ -7,8 +7,12 @@ use Rattle.rank_defs.specs.declared.environment.Who.TheVariants.{Child, Flow}
 use Rattle.rank_defs.specs.declared.expression.Op.TheVariants.{Add, Sub, Mul, Div, Less, Min}
 use Rattle.rank_defs.specs.declared.expression.Var.TheVariants.{Len, Now, Prio, Weight, Keep}
 use Rattle.rank_defs.specs.declared.transaction.Aim.TheVariants.{Rank as AimRank, Keep as AimKeep}
+use Rattle.rank_defs.specs.declared.environment.TheConstants.{MAX_PRIO, MAX_WEIGHT, MAX_SLACK}
+use Rattle.rank_defs.specs.declared.expression.TheConstants.{MAX_DEPTH}
+use Rattle.rank_defs.specs.declared.transaction.TheConstants.{MAX_RANK}
+use Rattle.rank_defs.specs.Shapes.{max_depth, max_prio, max_weight, max_slack}
 use Rattle.rank_defs.specs.Formulas.{number, variable, two, choice, depth_of}
-use Rattle.rank_defs.specs.Programs.{Program, span}
+use Rattle.rank_defs.specs.Programs.{Program, span, max_rank}
 use Rattle.rank_defs.specs.Values.{num, nothing, quotient}
 use Rattle.rank_defs.specs.States.{State, first_state}
 use Rattle.rank_defs.specs.Steps.{clamped, push_rank, after_push, after_pop}
@@ -128,3 +132,19 @@ test_is_no_number = refl
 
 pub number_of_a_test : sort_of (two Add (two Less (variable Len) (number 3)) (number 1)) ≡ clash
 number_of_a_test = refl
+
+-- the limits that the program names
+pub rank_limit : MAX_RANK ≡ max_rank
+rank_limit = refl
+
+pub depth_limit : MAX_DEPTH ≡ max_depth
+depth_limit = refl
+
+pub prio_limit : MAX_PRIO ≡ max_prio
+prio_limit = refl
+
+pub weight_limit : MAX_WEIGHT ≡ max_weight
+weight_limit = refl
+
+pub slack_limit : MAX_SLACK ≡ max_slack
+slack_limit = refl

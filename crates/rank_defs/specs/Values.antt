@@ -12,10 +12,12 @@ pub data Value : Type 0 where
   truth : Bool → Value
   nothing : Value
 
+-- of two numbers; nothing where one isn't a number
 abbrev pub on_numbers : (ℤ → ℤ → Value) → Value → Value → Value
 on_numbers f (num x) (num y) = f x y
 on_numbers f x y = nothing
 
+-- of two truth values; nothing where one isn't a truth value
 abbrev pub on_truths : (Bool → Bool → Bool) → Value → Value → Value
 on_truths f (truth x) (truth y) = truth (f x y)
 on_truths f x y = nothing
@@ -26,6 +28,7 @@ quotient x (pos zero) = nothing
 quotient x (pos (suc n)) = num (int_div x (pos (suc n)))
 quotient x (negsuc n) = num (int_div x (negsuc n))
 
+-- whether two numbers are equal
 abbrev pub int_equal : ℤ → ℤ → Bool
 int_equal x y = int_le x y && int_le y x
 
@@ -46,6 +49,7 @@ apply Max = on_numbers (λ x y. num (int_max x y))
 apply And = on_truths (λ x y. x && y)
 apply Or = on_truths (λ x y. x || y)
 
+-- the other truth value
 abbrev pub negated : Value → Value
 negated (truth x) = truth (not x)
 negated x = nothing
