@@ -1,0 +1,5 @@
+pub mod Decimals
+pub mod Glyphs
+pub mod Lines
+pub mod Says
+pub mod Tokens
