@@ -1,10 +1,10 @@
 -- What the tokens of a line say, apart from where they lie in memory.
 use Rattle.std.specs.Prelude.{ℕ, List, map}
-use Rattle.text_core.specs.declared.item.Mark.{Mark}
+use Rattle.text_core.specs.declared.mark.Mark.{Mark}
 use Rattle.text_core.specs.declared.item.Item.{Item}
 use Rattle.text_core.specs.declared.item.Item.TheVariants as item
 
--- a word's bytes, a number's value, or a mark
+-- a word by its bytes, a number by its value, a mark
 pub data Glyph : Type 0 where
   text : List ℕ → Glyph
   figure : ℕ → Glyph

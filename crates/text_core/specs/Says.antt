@@ -1,36 +1,13 @@
 -- What the bytes of a line say as tokens.
-use Rattle.std.specs.Prelude.{◌≡◌, ℕ, ◌-◌, if◌then◌else◌, List, [], ◌∷◌, take, drop, Option, Some, None, option_map, codes}
+use Rattle.std.specs.Prelude.{◌≡◌, ℕ, ◌-◌, List, [], ◌∷◌, take, drop, Option, Some, option_map}
 use Rattle.std.specs.List.{prefix_len}
-use Rattle.std.specs.Str.{bytes_eq}
 use Rattle.text_core.specs.declared.token.TokenKind.{TokenKind}
 use Rattle.text_core.specs.declared.token.TokenKind.TheVariants as k
 use Rattle.text_core.specs.declared.token.Token.{Token}
-use Rattle.text_core.specs.declared.item.Mark.{Mark}
-use Rattle.text_core.specs.declared.item.Mark.TheVariants as m
 use Rattle.text_core.specs.Decimals.{number_of}
+use Rattle.text_core.specs.Marks.{mark_of}
 use Rattle.text_core.specs.Tokens.{is_blank, token_at, begun}
 use Rattle.text_core.specs.Glyphs.{Glyph, text, figure, sign}
-
--- the mark that is written so
-abbrev pub mark_of : List ℕ → Option Mark
-mark_of w =
-    if bytes_eq w (codes "..") then Some m.DotDot
-    else (if bytes_eq w (codes ".") then Some m.Dot
-    else (if bytes_eq w (codes "/") then Some m.Slash
-    else (if bytes_eq w (codes "+") then Some m.Plus
-    else (if bytes_eq w (codes "-") then Some m.Minus
-    else (if bytes_eq w (codes "*") then Some m.Star
-    else (if bytes_eq w (codes "(") then Some m.Open
-    else (if bytes_eq w (codes ")") then Some m.Close
-    else (if bytes_eq w (codes ",") then Some m.Comma
-    else (if bytes_eq w (codes "=") then Some m.Is
-    else (if bytes_eq w (codes "==") then Some m.Equal
-    else (if bytes_eq w (codes "!=") then Some m.NotEqual
-    else (if bytes_eq w (codes "<") then Some m.Less
-    else (if bytes_eq w (codes "<=") then Some m.LessEq
-    else (if bytes_eq w (codes ">") then Some m.More
-    else (if bytes_eq w (codes ">=") then Some m.MoreEq
-    else None)))))))))))))))
 
 -- what a token says, if anything: a number above `max` says nothing
 abbrev pub said : TokenKind → List ℕ → Option Glyph

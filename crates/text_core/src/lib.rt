@@ -3,10 +3,12 @@
 
 mod item;
 mod line;
+mod mark;
 mod number;
 mod token;
 
-pub use item::{Item, Mark};
+pub use item::Item;
 pub use line::{Line, lines};
+pub use mark::Mark;
 pub use number::{MAX, decimal, put_decimal};
 pub use token::{Token, TokenFault, TokenKind, tokens};
