@@ -34,6 +34,7 @@ pub fn put_decimal(into: &mut Vec<u8>, value: u128) -> Result<(), AllocError>
     ensures ok { OnOk result (into.new.items ≡ into.old.items ++ decimal value) }
     ensures err { OnErr result (into.new.items ≡ into.old.items) }
     ensures room { OnErr result (vec_capacity into.old < vec_len into.old + 39) }
+    ensures capacity { vec_capacity into.old ≤ vec_capacity into.new }
 {
     let mut digits = Buffer::new();
     into.extend_from_slice(digits.format(value).as_bytes())
