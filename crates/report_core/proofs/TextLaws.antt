@@ -49,9 +49,9 @@ pub AppendedPrefix-from_cut : (before written : Option (List ℕ)) (text : List 
 AppendedPrefix-from_cut before None text p q = record { front = []; back = text; whole = refl; grew = tt }
 AppendedPrefix-from_cut None (Some written) text p q = absurd p
 AppendedPrefix-from_cut (Some before) (Some written) text p q = record {
-    front = p.rest;
-    back = q.rest;
-    whole = append_cancel_left before (p.rest ++ q.rest) text
+  front = p.rest;
+  back = q.rest;
+  whole = append_cancel_left before (p.rest ++ q.rest) text
       (sym (append_assoc before p.rest q.rest) ∙ ap (λ s. s ++ q.rest) (sym p.joined) ∙ sym q.joined ∙ ap (λ s. s ++ text) (append-nil before));
-    grew = p.joined;
-  }
+  grew = p.joined;
+}
