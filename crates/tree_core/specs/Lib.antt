@@ -1,0 +1,4 @@
+pub mod Paths
+pub mod Shape
+pub mod TreeContents
+pub mod Shrinking
