@@ -7,7 +7,8 @@ use Rattle.tree_defs.specs.SourceTree.{push, push_child, IsWellFormed}
 use Rattle.tree_defs.proofs.WellFormedLaws.{IsWellFormed-push}
 use Rattle.pifo_core.specs.Sorted.{Contents}
 use Rattle.tree_core.specs.Paths.{digits_of, ranks_of}
-use Rattle.tree_core.specs.TreeContents.{TreeContents, branch, forest, spares, grown, IsSound, EachPushed, EachBelow, HasDigits, HasRoom, HasRoomBelow}
+use Rattle.tree_core.specs.TreeContents.{TreeContents, branch, forest, spares, grown, IsSound, EachPushed, EachBelow, HasDigits}
+use Rattle.tree_core.specs.Places.{HasRoom, HasRoomBelow}
 
 -- the steps after the first, as a slice pattern cuts them out
 abbrev pub later : List (ℕ × ℕ) → List (ℕ × ℕ)

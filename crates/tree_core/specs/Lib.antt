@@ -2,3 +2,4 @@ pub mod Paths
 pub mod Shape
 pub mod TreeContents
 pub mod Shrinking
+pub mod Places

@@ -1,5 +1,5 @@
 -- What contracts see of a source tree.
-use Rattle.std.specs.Prelude.{ℕ, zero, suc, ◌<◌, ◌≤◌, ◌≡◌, ◌^◌, Some, List, [], ◌∷◌, ◌++◌, refl}
+use Rattle.std.specs.Prelude.{ℕ, ◌<◌, ◌≤◌, ◌≡◌, ◌^◌, Some, List, [], ◌∷◌, ◌++◌, refl}
 use Rattle.std.specs.Coded.{Coded, code_by, coded×, coded_ℕ}
 use Rattle.queue_defs.specs.Queue.{Queue}
 use Rattle.tree_defs.specs.Tree.{Tree, leaf, inner, Trees, none, more, nodes, Popping}
@@ -64,15 +64,3 @@ pub record PopsOnto (t : Tree Queue) (before after : Way) (v : ℕ) (rest : Tree
   pub left : result.left ≡ rest
   pub digits : after.digits ≡ before.digits ++ result.digits
   pub ranks : after.ranks ≡ before.ranks ++ result.ranks
-
--- a free place at each node on the way
-abbrev mutual
-  pub HasRoom : Tree ℕ → List ℕ → Type 0
-  HasRoom (leaf n) digits = 0 < n
-  HasRoom (inner n ts) [] = 0 < n
-  HasRoom (inner n ts) (i ∷ digits) = (0 < n) × HasRoomBelow ts i digits
-
-  pub HasRoomBelow : Trees ℕ → ℕ → List ℕ → Type 0
-  HasRoomBelow none i digits = ⊥
-  HasRoomBelow (more t ts) zero digits = HasRoom t digits
-  HasRoomBelow (more t ts) (suc i) digits = HasRoomBelow ts i digits

@@ -5,7 +5,8 @@ ghost use Rattle.tree_defs.specs.Topology.{IsBranched};
 ghost use Rattle.tree_defs.specs.SourceTree.{push, pop, IsWellFormed, size, empty_tree};
 ghost use Rattle.tree_core.specs.Paths.{digits, ranks, digits_of, ranks_of};
 ghost use Rattle.tree_core.specs.Shape.{topology};
-ghost use Rattle.tree_core.specs.TreeContents.{HasRoom, PopsOnto};
+ghost use Rattle.tree_core.specs.Places.{HasRoom, HasNoFewer, without_places};
+ghost use Rattle.tree_core.specs.TreeContents.{PopsOnto};
 
 use crate::path::Path;
 use crate::taken::Taken;
@@ -71,6 +72,7 @@ impl SourceTree {
         ensures tree { self.new.tree ≡ self.old.tree }
         ensures pushes { self.new.pushes ≡ self.old.pushes }
         ensures room { OnOk result (HasRoom self.new.spare digits.now) }
+        ensures kept { HasNoFewer self.old.spare self.new.spare }
     {
         self.queue.reserve(1)?;
         match digits {
@@ -86,6 +88,7 @@ impl SourceTree {
         requires few { self.old.pushes < 2 ^ 62 }
         ensures tree { self.new.tree ≡ push self.old.tree (digits path.now) (ranks path.now) value }
         ensures pushes { self.new.pushes ≡ self.old.pushes + 1 }
+        ensures spare { self.new.spare ≡ without_places self.old.spare (digits path.now) }
     {
         self.push_along(path.steps.as_slice(), path.last, value);
     }
@@ -98,6 +101,7 @@ impl SourceTree {
         ensures untouched { IfNone result (taken.new ≡ taken.old) }
         ensures popped { IfSome result (λ v. pop self.old.tree ≡ Some (record { value = v; digits = taken.new.digits; ranks = taken.new.ranks; left = self.new.tree })) }
         ensures pushes { self.new.pushes ≡ self.old.pushes }
+        ensures spare { HasNoFewer self.old.spare self.new.spare }
         ensures room { taken.new.room ≡ taken.old.room }
     {
         if self.size() == 0 {
@@ -121,6 +125,7 @@ impl SourceTree {
         requires few { self.old.pushes < 2 ^ 62 }
         ensures tree { self.new.tree ≡ push self.old.tree (digits_of steps.now) (ranks_of steps.now last) value }
         ensures pushes { self.new.pushes ≡ self.old.pushes + 1 }
+        ensures spare { self.new.spare ≡ without_places self.old.spare (digits_of steps.now) }
     {
         match steps {
             [] => self.queue.push(last, value),
@@ -137,6 +142,7 @@ impl SourceTree {
         requires even { length taken.old.ranks ≡ length taken.old.digits }
         ensures popped { PopsOnto self.old.tree taken.old taken.new result self.new.tree }
         ensures pushes { self.new.pushes ≡ self.old.pushes }
+        ensures spare { HasNoFewer self.old.spare self.new.spare }
         ensures room { taken.new.room ≡ taken.old.room }
     {
         let Some((rank, value)) = self.queue.pop() else {

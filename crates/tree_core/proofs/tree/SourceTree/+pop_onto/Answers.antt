@@ -3,6 +3,7 @@ use Rattle.std.proofs.lemmas.List.{length_push}
 use Rattle.tree_defs.specs.Tree.{nodes, depth}
 use Rattle.queue_defs.specs.Queue.{take_least}
 use Rattle.tree_core.proofs.Down.{node_held, leaf_popped, digit_within, child_held, child_shallower, child_smaller, node_popped, node_sound}
+use Rattle.tree_core.proofs.PlaceLaws.{no_fewer_below}
 use Rattle.tree_core.proofs.tree.SourceTree.+pop_onto.Goals as goal
 
 pub unreachable-requires : goal.unreachable-requires
@@ -52,3 +53,7 @@ returns-clause-popped t c =
     let n : length c.self.inside.children.items ≡ 0 → ⊥ = λ (e : length c.self.inside.children.items ≡ 0). search rules in
     let d : (c.in-Some.value < length c.self.inside.children.items) × (c.in-Some.value < 2 ^ 32) = digit_within c.self.inside.queue c.self.inside.children.items c.args.self.now c.self.view_is c.self.invariant _ p n in
     node_popped c.self.inside.queue c.self.inside.children.items c.args.self.now c.self.view_is c.self.invariant _ p c.index_mut.result.now c.index_mut.ensures.value d.0 c.pop_onto.new.self c.args.taken.now c.step.new.self c.pop_onto.new.taken c.pop_onto.result c.pop_onto.ensures.popped c.step.ensures.digits c.step.ensures.ranks
+
+pub returns-clause-spare : goal.returns-clause-spare
+returns-clause-spare t c =
+    no_fewer_below c.self.inside.queue c.pop.new.self c.self.inside.children.items c.args.self.now c.self.view_is c.pop.ensures.spare c.in-Some.value c.index_mut.result.now c.pop_onto.new.self c.index_mut.ensures.value c.pop_onto.ensures.spare

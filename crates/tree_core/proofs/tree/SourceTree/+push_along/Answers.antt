@@ -4,6 +4,7 @@ use Rattle.tree_defs.specs.SourceTree.{push}
 use Rattle.tree_core.specs.Paths.{digits_of, ranks_of}
 use Rattle.tree_core.specs.TreeContents.{TreeContents}
 use Rattle.tree_core.proofs.Along.{leads_here, index_within, pushed_here, sound_here, sound_leaf, child_needs}
+use Rattle.tree_core.proofs.PlaceLaws.{used_here}
 use Rattle.tree_core.proofs.tree.SourceTree.+push_along.Goals as goal
 
 pub invariant_of-self : goal.invariant_of-self
@@ -33,3 +34,8 @@ returns-in-len1-up-clause-tree t c =
     (leads_here c.self.inside.queue c.self.inside.children.items c.args.self.now c.self.view_is (digits_of c.args.steps.now) c.requires.leaf)
     (record { nonempty = omega arith; child = c.index_mut.ensures.value; entries = entries; tree = c.push_along.ensures.tree })
     ∙ ap (λ (g : TreeContents). push g.tree (digits_of c.args.steps.now) (ranks_of c.args.steps.now c.args.last) c.args.value) c.self.view_is
+
+pub returns-in-len1-up-clause-spare : goal.returns-in-len1-up-clause-spare
+returns-in-len1-up-clause-spare t c =
+    used_here c.self.inside.queue c.push-in-len1-up.new.self c.self.inside.children.items c.args.self.now c.self.view_is c.args.steps.now c.requires.leaf c.push-in-len1-up.ensures.spare
+    c.index_mut.result.now c.push_along.new.self (omega arith) c.index_mut.ensures.value c.push_along.ensures.spare
