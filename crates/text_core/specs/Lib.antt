@@ -1,5 +1,6 @@
 pub mod Decimals
 pub mod Glyphs
+pub mod Laws
 pub mod Lines
 pub mod Marks
 pub mod Says

@@ -75,6 +75,10 @@ abbrev pub Stand : List ℕ → ℕ → List Token → ℕ → Type 0
 Stand line from [] to = to ≡ after_blanks line from
 Stand line from (t ∷ ts) to = (t.start ≡ after_blanks line from) × (t.start < t.end) × (t.end ≤ length line) × (token_at (drop t.start line) ≡ Some (begun t.kind (t.end - t.start))) × Stand line t.end ts to
 
+-- the token's span has a byte or more, and lies in the line
+abbrev pub StandsIn : List ℕ → Token → Type 0
+StandsIn line t = (t.start < t.end) × (t.end ≤ length line)
+
 -- no token begins at this place, where the line isn't over
 pub record IsBadAt (line : List ℕ) (place : ℕ) : Type 0 where
   pub inside : place < length line

@@ -1,6 +1,6 @@
-ghost use Rattle.std.specs.Prelude.{◌≡◌, ◌+◌, ◌<◌, ◌≤◌, ℕ, length, List, [], take_while, drop, IfOk, IfSome, OnSome, option_map};
-ghost use Rattle.std.specs.List.{prefix_len};
-ghost use Rattle.text_core.specs.Tokens.{is_blank, is_digit, is_word_byte, is_word_start, token_at, mark_length, Stand, IsBadAt, IsFaultOf, kind_and_length};
+ghost use Rattle.std.specs.Prelude.{◌≡◌, ◌⊎◌, ◌+◌, ◌<◌, ◌≤◌, ℕ, length, List, [], take_while, drop, IfOk, IfSome, OnSome, option_map};
+ghost use Rattle.std.specs.List.{prefix_len, All};
+ghost use Rattle.text_core.specs.Tokens.{is_blank, is_digit, is_word_byte, is_word_start, token_at, mark_length, Stand, IsBadAt, IsFaultOf, StandsIn, kind_and_length};
 
 use list_core::List;
 use std::alloc::{AllocError, AllocFailed, Global};
@@ -133,7 +133,9 @@ fn token_at(bytes: &[u8]) -> Option<(TokenKind, usize)>
 /// The tokens of a line.
 pub fn tokens(alloc: Global, line: &[u8]) -> Result<List<Token>, TokenFault>
     ensures ok { IfOk result (λ ts. Stand line.now 0 ts (length line.now)) }
+    ensures within { IfOk result (λ ts. All (StandsIn line.now) ts) }
     ensures bad { (p : ℕ) → result ≡ Err (TokenFault.Bad p) → IsFaultOf line.now p }
+    ensures fault { (p : ℕ) → IsFaultOf line.now p → (result ≡ Err (TokenFault.Bad p)) ⊎ (result ≡ Err TokenFault.NoMemory) }
 {
     let mut found = List::from_vec(Vec::new(alloc));
     let mut at = blanks(line);
