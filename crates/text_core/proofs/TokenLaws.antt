@@ -1,11 +1,14 @@
 -- A line has one list of tokens or one fault, and only what they say is said.
-use Rattle.std.proofs.Common.{◌≡◌, ℕ, zero, suc, ◌+◌, ◌-◌, ◌≤◌, ◌⊎◌, inl, inr, List, [], ◌∷◌, length, take, drop, Some, None, sym, ap, ◌∙◌, subst, arith, length-drop}
+use Rattle.std.proofs.Common.{◌<◌, refl, ◌≡◌, ℕ, zero, suc, ◌+◌, ◌-◌, ◌≤◌, ◌⊎◌, inl, inr, List, [], ◌∷◌, ◌++◌, get_or, length, take, drop, Some, None, sym, ap, ◌∙◌, subst, arith, length-drop}
 use Rattle.std.specs.List.{All}
 use Rattle.text_core.specs.declared.token.Token.{Token}
 use Rattle.text_core.specs.Tokens.{token_at, begun, Begun, Stand, IsBadAt, IsFaultOf, StandsIn}
+use Rattle.text_core.specs.declared.token.TokenFault.{TokenFault}
+use Rattle.text_core.specs.declared.token.TokenFault.TheVariants as fault
+use Rattle.text_core.specs.declared.refusal.Refusal.TheVariants as refusal
 use Rattle.text_core.specs.Laws.{TokensSayTheLine}
 use Rattle.text_core.specs.Glyphs.{Glyph}
-use Rattle.text_core.specs.Says.{skipped, said, SaysFrom, Says, AreSaid}
+use Rattle.text_core.specs.Says.{skipped, said, SaysFrom, Says, AreSaid, refusal_of, token_text}
 use Rattle.text_core.proofs.LineLaws.{drop-drop, drop-over}
 use Rattle.text_core.proofs.SaysLaws.{pick, skipped-at, Stand-Says}
 
@@ -109,3 +112,22 @@ Fault-whole line p ts fault stand =
     let same = Stand-one line 0 fault.before ts p (length line) fault.stand (inr fault.bad) stand (inl (omega arith)) in
     let inside = fault.bad.inside in
     omega arith
+
+-- a refusal for a bad token is right
+pub Bad-silent : (line : List ℕ) (f : TokenFault) → ((p : ℕ) → f ≡ fault.Bad p → IsFaultOf line p) → refusal_of f ≡ refusal.NoForm → (gs : List Glyph) → Says line gs → ⊥
+Bad-silent line (fault.Bad p) bad none gs say = let found = bad p refl in Fault-silent line 0 found.before p gs found.stand found.bad say
+Bad-silent line fault.NoMemory bad none gs say = cc
+
+-- one token more that says its glyph
+pub AreSaid-push : (line : List ℕ) (ts : List Token) (gs : List Glyph) (t : Token) (g : Glyph) → AreSaid line ts gs → said t.kind (token_text line t) ≡ Some g → AreSaid line (ts ++ t ∷ []) (gs ++ g ∷ [])
+AreSaid-push line [] [] t g say is = (is, tt)
+AreSaid-push line [] (h ∷ gs) t g say is = absurd say
+AreSaid-push line (u ∷ ts) [] t g say is = absurd say
+AreSaid-push line (u ∷ ts) (h ∷ gs) t g say is = (say.0, AreSaid-push line ts gs t g say.1 is)
+
+-- a token that says nothing leaves the line unsaid
+pub AreSaid-each : (line : List ℕ) (ts : List Token) (gs : List Glyph) (i : ℕ) (d : Token) → AreSaid line ts gs → i < length ts → said (get_or ts i d).kind (token_text line (get_or ts i d)) ≡ None → ⊥
+AreSaid-each line [] gs i d say inside none = absurd (omega arith)
+AreSaid-each line (t ∷ ts) [] i d say inside none = say
+AreSaid-each line (t ∷ ts) (g ∷ gs) zero d say inside none = let wrong : Some g ≡ None = sym say.0 ∙ none in cc
+AreSaid-each line (t ∷ ts) (g ∷ gs) (suc i) d say inside none = AreSaid-each line ts gs i d say.1 (omega arith) none

@@ -4,6 +4,10 @@ use Rattle.std.specs.List.{prefix_len}
 use Rattle.text_core.specs.declared.token.TokenKind.{TokenKind}
 use Rattle.text_core.specs.declared.token.TokenKind.TheVariants as k
 use Rattle.text_core.specs.declared.token.Token.{Token}
+use Rattle.text_core.specs.declared.token.TokenFault.{TokenFault}
+use Rattle.text_core.specs.declared.token.TokenFault.TheVariants as fault
+use Rattle.text_core.specs.declared.refusal.Refusal.{Refusal}
+use Rattle.text_core.specs.declared.refusal.Refusal.TheVariants as refusal
 use Rattle.text_core.specs.declared.mark.Mark.TheVariants as m
 use Rattle.text_core.specs.Decimals.{number_of}
 use Rattle.text_core.specs.Marks.{mark_of}
@@ -15,6 +19,11 @@ abbrev pub said : TokenKind → List ℕ → Option Glyph
 said k.Word bytes = Some (text bytes)
 said k.Number bytes = option_map figure (number_of bytes)
 said k.Mark bytes = option_map sign (mark_of bytes)
+
+-- a bad token leaves a line in no form
+abbrev pub refusal_of : TokenFault → Refusal
+refusal_of (fault.Bad place) = refusal.NoForm
+refusal_of fault.NoMemory = refusal.NoMemory
 
 -- the bytes behind the blanks with which they begin
 abbrev pub skipped : List ℕ → List ℕ
@@ -29,10 +38,14 @@ SaysFrom bytes (g ∷ gs) = (kind : TokenKind) × (n : ℕ) × (token_at bytes �
 abbrev pub Says : List ℕ → List Glyph → Type 0
 Says bytes gs = SaysFrom (skipped bytes) gs
 
+-- the bytes of a token's span
+abbrev pub token_text : List ℕ → Token → List ℕ
+token_text line t = take (t.end - t.start) (drop t.start line)
+
 -- each token of the line says its glyph
 abbrev pub AreSaid : List ℕ → List Token → List Glyph → Type 0
 AreSaid line [] [] = Unit {0}
-AreSaid line (t ∷ ts) (g ∷ gs) = (said t.kind (take (t.end - t.start) (drop t.start line)) ≡ Some g) × AreSaid line ts gs
+AreSaid line (t ∷ ts) (g ∷ gs) = (said t.kind (token_text line t) ≡ Some g) × AreSaid line ts gs
 AreSaid line _ _ = ⊥
 
 -- no byte of a word stands first: a word or a number may end before these bytes
