@@ -8,7 +8,8 @@ use Rattle.text_core.specs.declared.token.TokenFault.TheVariants as fault
 use Rattle.text_core.specs.declared.refusal.Refusal.TheVariants as refusal
 use Rattle.text_core.specs.Laws.{TokensSayTheLine}
 use Rattle.text_core.specs.Glyphs.{Glyph}
-use Rattle.text_core.specs.Says.{skipped, said, SaysFrom, Says, AreSaid, refusal_of, token_text}
+use Rattle.text_core.specs.Says.{skipped, said, SaysFrom, Says, AreSaid, token_text}
+use Rattle.text_core.specs.Refusals.{refusal_of}
 use Rattle.text_core.proofs.LineLaws.{drop-drop, drop-over}
 use Rattle.text_core.proofs.SaysLaws.{pick, skipped-at, Stand-Says}
 

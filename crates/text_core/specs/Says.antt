@@ -4,10 +4,6 @@ use Rattle.std.specs.List.{prefix_len}
 use Rattle.text_core.specs.declared.token.TokenKind.{TokenKind}
 use Rattle.text_core.specs.declared.token.TokenKind.TheVariants as k
 use Rattle.text_core.specs.declared.token.Token.{Token}
-use Rattle.text_core.specs.declared.token.TokenFault.{TokenFault}
-use Rattle.text_core.specs.declared.token.TokenFault.TheVariants as fault
-use Rattle.text_core.specs.declared.refusal.Refusal.{Refusal}
-use Rattle.text_core.specs.declared.refusal.Refusal.TheVariants as refusal
 use Rattle.text_core.specs.declared.mark.Mark.TheVariants as m
 use Rattle.text_core.specs.Decimals.{number_of}
 use Rattle.text_core.specs.Marks.{mark_of}
@@ -19,11 +15,6 @@ abbrev pub said : TokenKind → List ℕ → Option Glyph
 said k.Word bytes = Some (text bytes)
 said k.Number bytes = option_map figure (number_of bytes)
 said k.Mark bytes = option_map sign (mark_of bytes)
-
--- a bad token leaves a line in no form
-abbrev pub refusal_of : TokenFault → Refusal
-refusal_of (fault.Bad place) = refusal.NoForm
-refusal_of fault.NoMemory = refusal.NoMemory
 
 -- the bytes behind the blanks with which they begin
 abbrev pub skipped : List ℕ → List ℕ

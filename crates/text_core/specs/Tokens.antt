@@ -1,5 +1,5 @@
 -- What the tokens of a line are.
-use Rattle.std.specs.Prelude.{◌≡◌, ℕ, ◌+◌, ◌-◌, ◌<◌, ◌≤◌, ◌==◌, Bool, false, ◌&&◌, ◌||◌, if◌then◌else◌, List, [], ◌∷◌, length, drop, Option, Some, None, option_map}
+use Rattle.std.specs.Prelude.{◌≡◌, ℕ, ◌+◌, ◌-◌, ◌<◌, ◌≤◌, ◌==◌, Bool, false, ◌&&◌, ◌||◌, if◌then◌else◌, List, [], ◌∷◌, length, drop, Option, Some, None, option_map, codes, refl}
 use Rattle.std.specs.List.{prefix_len}
 use Rattle.std.specs.Char.{is_ascii_digit, is_ascii_alphabetic}
 use Rattle.text_core.specs.declared.token.TokenKind.{TokenKind}
@@ -24,10 +24,6 @@ abbrev pub begins_word : List ℕ → Bool
 begins_word [] = false
 begins_word (b ∷ bs) = is_word_start b
 
-abbrev pub begins_with : ℕ → List ℕ → Bool
-begins_with c [] = false
-begins_with c (b ∷ bs) = b == c
-
 -- `. / + - * ( ) , = < >`
 abbrev pub is_mark : ℕ → Bool
 is_mark b = b == 46 || b == 47 || b == 43 || b == 45 || b == 42 || b == 40 || b == 41 || b == 44 || b == 61 || b == 60 || b == 62
@@ -50,9 +46,6 @@ Begun = TokenKind × ℕ
 
 abbrev pub begun : TokenKind → ℕ → Begun
 begun kind n = (kind, n)
-
-abbrev pub kind_and_length : Begun → Begun
-kind_and_length p = p
 
 -- a number ends before whatever isn't a digit, but no letter may stand there
 abbrev pub number_at : List ℕ → ℕ → Option Begun
@@ -89,3 +82,18 @@ pub record IsFaultOf (line : List ℕ) (place : ℕ) : Type 0 where
   pub before : List Token
   pub stand : Stand line 0 before place
   pub bad : IsBadAt line place
+
+a_word_takes_digits : token_at (codes "w1_ b") ≡ Some (begun Word 3)
+a_word_takes_digits = refl
+
+two_dots_are_one_mark : token_at (codes "..7") ≡ Some (begun Mark 2)
+two_dots_are_one_mark = refl
+
+at_most_is_one_mark : token_at (codes "<=3") ≡ Some (begun Mark 2)
+at_most_is_one_mark = refl
+
+no_letter_follows_a_number : token_at (codes "1a") ≡ None
+no_letter_follows_a_number = refl
+
+an_exclamation_alone_is_none : token_at (codes "!") ≡ None
+an_exclamation_alone_is_none = refl

@@ -33,7 +33,7 @@ impl<T: Drop> From<AllocFailed<T>> for Refusal {
 
 impl From<TokenFault> for Refusal {
     ghost use Rattle.std.specs.Prelude.{◌≡◌};
-    ghost use Rattle.text_core.specs.Says.{refusal_of};
+    ghost use Rattle.text_core.specs.Refusals.{refusal_of};
 
     ghost from_gives = { λ fault e. e ≡ refusal_of fault };
 

@@ -1,6 +1,6 @@
 ghost use Rattle.std.specs.Prelude.{◌≡◌, ◌⊎◌, ◌+◌, ◌<◌, ◌≤◌, ℕ, length, List, [], take_while, drop, IfOk, IfSome, OnSome, option_map};
 ghost use Rattle.std.specs.List.{prefix_len, All};
-ghost use Rattle.text_core.specs.Tokens.{is_blank, is_digit, is_word_byte, is_word_start, token_at, mark_length, Stand, IsBadAt, IsFaultOf, StandsIn, kind_and_length};
+ghost use Rattle.text_core.specs.Tokens.{is_blank, is_digit, is_word_byte, is_word_start, token_at, mark_length, Stand, IsBadAt, IsFaultOf, StandsIn};
 
 use list_core::List;
 use std::alloc::{AllocError, AllocFailed, Global};
@@ -113,7 +113,7 @@ fn mark_length(bytes: &[u8]) -> Option<usize>
 
 /// The longest token with which the bytes begin.
 fn token_at(bytes: &[u8]) -> Option<(TokenKind, usize)>
-    ensures token { option_map kind_and_length result ≡ token_at bytes.now }
+    ensures token { result ≡ token_at bytes.now }
     ensures fits { IfSome result (λ r. (0 < r.1) × (r.1 ≤ length bytes.now)) }
 {
     let first = *bytes.first()?;
