@@ -1,5 +1,6 @@
 -- The free places at the nodes of a tree.
-use Rattle.std.specs.Prelude.{ℕ, zero, suc, ◌-◌, ◌<◌, ◌≤◌, List, [], ◌∷◌}
+use Rattle.std.proofs.Common.{lit<}
+use Rattle.std.specs.Prelude.{◌≡◌, refl, ℕ, zero, suc, ◌-◌, ◌<◌, ◌≤◌, List, [], ◌∷◌}
 use Rattle.tree_defs.specs.Tree.{Tree, leaf, inner, Trees, none, more}
 
 -- a free place at each node on the way
@@ -39,3 +40,9 @@ abbrev mutual
   HaveNoFewer none (more u us) = ⊥
   HaveNoFewer (more t ts) none = ⊥
   HaveNoFewer (more t ts) (more u us) = HasNoFewer t u × HaveNoFewer ts us
+
+pub HasRoom-on_the_way_alone : HasRoom (inner 1 (more (leaf 0) (more (leaf 2) none))) (1 ∷ [])
+HasRoom-on_the_way_alone = (lit< tt, lit< tt)
+
+pub without_places-on_the_way_alone : without_places (inner 1 (more (leaf 0) (more (leaf 2) none))) (1 ∷ []) ≡ inner 0 (more (leaf 0) (more (leaf 1) none))
+without_places-on_the_way_alone = refl

@@ -25,7 +25,7 @@ impl Topo {
     }
 }
 
-/// How many levels lie below the root.
+/// How many levels lie below the root: at most 64, since each level is a call within a call.
 pub fn depth(topo: &Topo) -> u32
     requires levels { levels (topology topo.now) ≤ 64 }
     ensures levels { result ≡ levels (topology topo.now) }
