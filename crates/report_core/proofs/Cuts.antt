@@ -1,7 +1,7 @@
 -- What a failed write leaves.
-use Rattle.std.proofs.Common.{◌≡◌, ℕ, Option, None, Some, List, [], ◌++◌, take, drop, sym, ap, ◌∙◌, append_assoc, append-nil}
+use Rattle.std.proofs.Common.{ℕ, Option, None, Some, List, [], ◌++◌, take, drop, sym, ap, ◌∙◌, append_assoc, append-nil}
 use Rattle.std.proofs.lemmas.List.{take-append-drop}
-use Rattle.report_defs.specs.Text.{appended, IsFront, Begins, IsCut}
+use Rattle.report_defs.specs.Text.{appended, IsCut}
 
 -- what was cut in a first part was cut in the whole
 pub front_cut : (before written : Option (List ℕ)) (k : ℕ) (bytes : List ℕ) → IsCut (appended before (take k bytes)) [] written → IsCut (appended before bytes) [] written

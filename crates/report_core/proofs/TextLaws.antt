@@ -1,8 +1,8 @@
 -- How growths and cuts of a text follow one another.
-use Rattle.std.proofs.Common.{◌≡◌, ℕ, Option, None, Some, List, [], ◌++◌, refl, sym, ap, ◌∙◌, append_assoc, append-nil}
+use Rattle.std.proofs.Common.{ℕ, Option, None, Some, List, [], ◌++◌, refl, sym, ap, ◌∙◌, append_assoc, append-nil}
 use Rattle.std.proofs.lemmas.List.{append_cancel_left}
 use Rattle.outside_core.specs.Written.{Appended, AppendedPrefix}
-use Rattle.report_defs.specs.Text.{appended, IsFront, Begins, IsCut}
+use Rattle.report_defs.specs.Text.{appended, Begins, IsCut}
 
 -- what is told begins with itself
 pub Begins-same : (a : Option (List ℕ)) → Begins a a

@@ -1,4 +1,4 @@
-use Rattle.std.proofs.Common.{◌≡◌, ◌+◌, ◌*◌, ◌≤◌, [], ◌∷◌, ◌++◌, length, sym, ap, ◌∙◌, append_assoc, arith, get_or, decimal, take}
+use Rattle.std.proofs.Common.{[], ◌∷◌, ◌++◌, length, sym, ap, ◌∙◌, append_assoc, arith, get_or, decimal, take}
 use Rattle.std.proofs.lemmas.List.{length-append}
 use Rattle.report_defs.specs.Report.{ranks_text}
 use Rattle.report_core.proofs.Lines.{ranks_step}
