@@ -3,10 +3,10 @@ use Rattle.std.proofs.Common.{◌≡◌, ◌<◌, ◌≤◌, ◌+◌, ℕ, zero,
 use Rattle.std.proofs.lemmas.List.{take-append-drop, drop_at, nil_from_length}
 use Rattle.capture_defs.specs.declared.head.Head.{Head}
 use Rattle.capture_defs.specs.Fault.{Fault, header_cut, bad_magic, pcap_ng, version, record_cut, data_cut, record_long, too_many}
-use Rattle.capture_defs.specs.Header.{header_len, IsHeaderFault}
-use Rattle.capture_defs.specs.Record.{Record, AreSpellings, IsRecordFault, HasNoRecord, most_records}
+use Rattle.capture_defs.specs.Header.{header_len, IsHeader, IsHeaderFault}
+use Rattle.capture_defs.specs.Record.{Record, IsSpelling, AreSpellings, IsRecordFault, HasNoRecord, most_records}
 use Rattle.capture_defs.specs.Capture.{EndsWith, IsCapture}
-use Rattle.capture_defs.specs.Reading.{Capture, refused, packets, Front, nothing, broken, found, front_of, at_front, with_first, records_from, capture_with, capture_of, head_of, ReadsCaptures, ReadsRefusals, HasFaultOrRecord, MomentsAreSmall}
+use Rattle.capture_defs.specs.Reading.{Capture, refused, packets, Front, nothing, broken, found, front_of, at_front, with_first, records_from, records_left, capture_with, capture_of, head_of, ReadsCaptures, ReadsRefusals, HasFaultOrRecord, MomentsAreSmall}
 use Rattle.capture_defs.proofs.Fronts.{Says, front_of-fault, front_of-spelled, front_of-says}
 use Rattle.capture_defs.proofs.Headers.{HeadSays, head_of-fault, head_of-header, head_of-says}
 
@@ -138,7 +138,7 @@ pub reads_captures : ReadsCaptures
 reads_captures head records fault file =
     (λ h. capture_of-records head records fault file h, λ e. subst (CaptureSays file) e (capture_of-says file))
 
-capture_of-fault : (fault : Fault) (file : List ℕ) → IsHeaderFault file fault → capture_of file ≡ refused fault
+pub capture_of-fault : (fault : Fault) (file : List ℕ) → IsHeaderFault file fault → capture_of file ≡ refused fault
 unfolding capture_of
 capture_of-fault fault file h = ap (capture_with (drop header_len file)) (head_of-fault file fault h)
 
@@ -162,6 +162,42 @@ has_fault_or_record big n rest few = (
   λ f. (fault-some big n rest f.0 f.1, no_record big n rest f.0 f.1),
   λ h. fault_in big n rest (front_of big n rest) (front_of-says big n rest few) h.0 h.1,
 )
+
+-- more steps than bytes find no more records
+records_from-enough : (more : ℕ) (big : Bool) (n : ℕ) (rest : List ℕ) → n ≤ most_records → length rest ≤ more → records_from more big n rest ≡ records_left big n rest
+records_from-enough more big n rest few size =
+    let f = records_from-says (length rest) big n rest few (omega arith) in
+    let len : length (f.body ++ f.rest) ≡ length rest = ap length (sym f.bytes_are) in
+    ap (records_from more big n) f.bytes_are
+    ∙ records_from-spelled (records_left big n rest).0 more big n f.body f.rest (records_left big n rest).1 f.body_is f.few f.ends (omega (arith, len, size))
+
+-- nothing is left
+pub records_left-nothing : (big : Bool) (n : ℕ) → records_left big n [] ≡ ([], None)
+records_left-nothing big n = records_from-ended 0 big n [] None refl (omega arith)
+
+-- what is left has a fault
+pub records_left-fault : (big : Bool) (n : ℕ) (rest : List ℕ) (fault : Fault) → IsRecordFault big n rest fault → records_left big n rest ≡ ([], Some fault)
+records_left-fault big n rest fault h = records_from-ended (length rest) big n rest (Some fault) h (omega arith)
+
+-- what is left begins with a record
+pub records_left-record : (big : Bool) (n : ℕ) (r : Record) (first others : List ℕ) → n < most_records → IsSpelling big r first
+    → records_left big n (first ++ others) ≡ with_first r (records_left big (n + 1) others)
+records_left-record big n r first others few spelled =
+    let f = records_from-says (length others) big (n + 1) others (omega (arith, few)) (omega arith) in
+    let run = records_left big (n + 1) others in
+    let count : n + 1 + length (records_left big (n + 1) others).0 ≡ n + suc (length (records_left big (n + 1) others).0) = omega arith in
+    let split : first ++ others ≡ (first ++ f.body) ++ f.rest = ap (λ xs. first ++ xs) f.bytes_are ∙ sym (append_assoc first f.body f.rest) in
+    ap (records_from (length (first ++ others)) big n) split
+    ∙ records_from-spelled (r ∷ run.0) (length (first ++ others)) big n (first ++ f.body) f.rest run.1
+        (first, f.body, refl, spelled, f.body_is) (omega (arith, f.few)) (subst (λ m. EndsWith big m f.rest run.1) count f.ends) (omega (arith, ap length split))
+
+-- a file that begins with a header
+pub capture_of-header : (head : Head) (header after : List ℕ) → IsHeader head header
+    → capture_of (header ++ after) ≡ packets head (records_left head.big 0 after).0 (records_left head.big 0 after).1
+unfolding capture_of
+capture_of-header head header after h =
+    ap (λ xs. capture_with xs (head_of (header ++ after))) (drop_at header after header_len h.whole)
+    ∙ ap (capture_with after) (head_of-header head header after h)
 
 pub moments_are_small : MomentsAreSmall
 moments_are_small true r seconds fraction = omega arith

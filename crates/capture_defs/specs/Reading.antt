@@ -70,11 +70,14 @@ unfoldable pub records_from : ℕ → Bool → ℕ → List ℕ → List Record 
 records_from zero big n rest = ([], None)
 records_from (suc more) big n rest = at_front (λ others. records_from more big (n + 1) others) (front_of big n rest)
 
--- the capture that a header and what is behind it make; there are no more records than bytes
+-- the records in all that is left behind n records, and the fault behind them; there are no more records than bytes
+abbrev pub records_left : Bool → ℕ → List ℕ → List Record × Option Fault
+records_left big n rest = records_from (length rest) big n rest
+
+-- the capture that a header and what is behind it make
 abbrev pub capture_with : List ℕ → Result Head Fault → Capture
 capture_with after (Err fault) = refused fault
-capture_with after (Ok head) =
-    packets head (records_from (length after) head.big 0 after).0 (records_from (length after) head.big 0 after).1
+capture_with after (Ok head) = packets head (records_left head.big 0 after).0 (records_left head.big 0 after).1
 
 -- what a file is, read as a capture
 unfoldable pub capture_of : List ℕ → Capture

@@ -32,15 +32,19 @@ pub record-taken : (big : Bool) (front captured : List ℕ) (old mid new : Optio
     → TakesRecord big (record { seconds = long_at big 0 front; fraction = long_at big 4 front; original = long_at big 12 front; captured = captured }) old new
 record-taken big front captured old mid new first second size counted short =
     let at : (at : ℕ) → at + 4 ≤ record_len → long_at big at (front ++ captured) ≡ long_at big at front =
-        λ at h. number_at-append big 4 at front captured (omega (arith, size, h)) in
-    (front ++ captured,
-     record {
-       seconds = at 0 (omega arith); fraction = at 4 (omega arith); counted = at 8 (omega arith) ∙ counted; original = at 12 (omega arith);
-       captured = drop_at front captured record_len size;
-       whole = length-append front captured ∙ ap (λ m. m + length captured) size;
-       short = short;
-     },
-     two-fronts old mid new front captured first second)
+    λ at h. number_at-append big 4 at front captured (omega (arith, size, h)) in (
+      front ++ captured,
+      record {
+        seconds = at 0 (omega arith);
+        fraction = at 4 (omega arith);
+        counted = at 8 (omega arith) ∙ counted;
+        original = at 12 (omega arith);
+        captured = drop_at front captured record_len size;
+        whole = length-append front captured ∙ ap (λ m. m + length captured) size;
+        short = short;
+      },
+      two-fronts old mid new front captured first second,
+    )
 
 front-fault : (big : Bool) (n : ℕ) (front rest left : List ℕ) (fault : Fault) → left ≡ front ++ rest → (length front < record_len → left ≡ front)
     → IsFrontFault big n front fault → IsRecordFault big n left fault
@@ -82,14 +86,15 @@ pub frame-taken : (big nano : Bool) (number moment most len : ℕ) (front bytes 
     → length bytes ≡ record_len → most ≡ captured_len big bytes → most ≤ most_captured → most ≡ length captured
     → moment ≡ moment_at nano (long_at big 0 bytes) (long_at big 4 bytes) → len ≡ long_at big 12 bytes
     → (r : Record) × IsFrameOf nano r (record { number = number; moment = moment; captured = most; len = len }) captured × TakesRecord big r old new
-frame-taken big nano number moment most len front bytes captured old mid new first second same size said long counted moment_is len_is =
-    (record { seconds = long_at big 0 front; fraction = long_at big 4 front; original = long_at big 12 front; captured = captured },
-     record {
-       moment_is = ap (λ xs. moment_at nano (long_at big 0 xs) (long_at big 4 xs)) (sym same) ∙ sym moment_is;
-       original = ap (long_at big 12) (sym same) ∙ sym len_is;
-       captured = refl;
-     },
-     record-taken big front captured old mid new first second (ap length (sym same) ∙ size) (ap (captured_len big) (sym same) ∙ sym said ∙ counted) (omega (arith, counted, long)))
+frame-taken big nano number moment most len front bytes captured old mid new first second same size said long counted moment_is len_is = (
+  record { seconds = long_at big 0 front; fraction = long_at big 4 front; original = long_at big 12 front; captured = captured },
+  record {
+    moment_is = ap (λ xs. moment_at nano (long_at big 0 xs) (long_at big 4 xs)) (sym same) ∙ sym moment_is;
+    original = ap (long_at big 12) (sym same) ∙ sym len_is;
+    captured = refl;
+  },
+  record-taken big front captured old mid new first second (ap length (sym same) ∙ size) (ap (captured_len big) (sym same) ∙ sym said ∙ counted) (omega (arith, counted, long)),
+)
 
 -- a file that begins with an accepted header has no fault of the header
 header-clean : (head : Head) (header rest file : List ℕ) → file ≡ header ++ rest → IsHeader head header → (fault : Fault) → IsHeaderFault file fault → false ≡ true

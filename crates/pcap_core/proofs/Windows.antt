@@ -19,10 +19,10 @@ copy-moved xs ys into new at end n e copied h within =
     let some : at + n - at ≡ n = omega arith in
     let zs = drop at xs in
     let halves : take n (drop at xs) ++ take (end - (at + n)) (drop n (drop at xs)) ≡ take (end - at) (drop at xs) =
-        ap (λ zs. take n (drop at xs) ++ zs) (sym (drop-take n (end - (at + n)) zs))
-        ∙ ap (λ zs. zs ++ drop n (take (n + (end - (at + n))) (drop at xs))) (sym (take-take n (n + (end - (at + n))) zs (omega arith)))
-        ∙ take-append-drop n (take (n + (end - (at + n))) zs)
-        ∙ ap (λ m. take m (drop at xs)) more in
+    ap (λ zs. take n (drop at xs) ++ zs) (sym (drop-take n (end - (at + n)) zs))
+    ∙ ap (λ zs. zs ++ drop n (take (n + (end - (at + n))) (drop at xs))) (sym (take-take n (n + (end - (at + n))) zs (omega arith)))
+    ∙ take-append-drop n (take (n + (end - (at + n))) zs)
+    ∙ ap (λ m. take m (drop at xs)) more in
     ap (λ zs. zs ++ take (end - (at + n)) (drop (at + n) xs)) (copied ∙ ap (λ zs. into ++ take (at + n - at) (drop at zs)) e)
     ∙ append_assoc into (take (at + n - at) (drop at xs)) (take (end - (at + n)) (drop (at + n) xs))
     ∙ ap (λ m. into ++ (take m (drop at xs) ++ take (end - (at + n)) (drop (at + n) xs))) some

@@ -13,3 +13,6 @@ pub use capture_defs::Head;
 pub use fault::CaptureFault;
 pub use frame::Frame;
 pub use reader::Reader;
+
+#[cfg(test)]
+mod tests;

@@ -1,12 +1,3 @@
-use crate::fault::CaptureFault;
-use crate::frame::Frame;
-use crate::header::{HEADER_LEN, head_in};
-use crate::preface::{RECORD_LEN, preface_in};
-use crate::window::Window;
-use capture_defs::Head;
-use outside_core::Shelf;
-use std::alloc::Global;
-
 ghost use Rattle.std.specs.Prelude.{◌≡◌, ◌≤◌, ◌<◌, ◌+◌, ◌^◌, ◌↔◌, ℕ, List, Option, Some, None, [], length, vec_len, IfOk, IfErr, OnOk, OnErr, IfSome, IfNone, OnSome, IsErrOf, IsErr, IsTrue, IsFalse};
 ghost use Rattle.outside_core.specs.Faults.{Rose};
 ghost use Rattle.outside_core.specs.Files.{KeepsFiles};
@@ -17,6 +8,15 @@ ghost use Rattle.pcap_core.specs.Faults.{fault_in};
 ghost use Rattle.pcap_core.specs.Frames.{IsFrameOf};
 ghost use Rattle.pcap_core.specs.Held.{held};
 ghost use Rattle.pcap_core.specs.Rest.{rest_of, TakesHeader, TakesRecord, IsWhole, Serves};
+
+use crate::fault::CaptureFault;
+use crate::frame::Frame;
+use crate::header::{HEADER_LEN, head_in};
+use crate::preface::{RECORD_LEN, preface_in};
+use crate::window::Window;
+use capture_defs::Head;
+use outside_core::Shelf;
+use std::alloc::Global;
 
 /// Reads the file header.
 fn read_head<S: Shelf>(
@@ -159,6 +159,7 @@ impl Reader {
         // What was left is the spelling of a record, and what is left now.
         ensures found { IfOk result (λ o. IfSome o (λ frame. (r : Record) × IsFrameOf (is_nano self.old) r frame into.new.items × TakesRecord (is_big self.old) r (rest_left self.old (S.left shelf.old)) (rest_left self.new (S.left shelf.new)))) }
         ensures number { IfOk result (λ o. IfSome o (λ frame. frame.number ≡ records_given self.old + 1)) }
+        ensures few { IfOk result (λ o. IfSome o (λ frame. frame.number ≤ 4294967295)) }
         ensures captured { IfOk result (λ o. IfSome o (λ frame. frame.captured ≡ length into.new.items)) }
         ensures short { IfOk result (λ o. IfSome o (λ frame. frame.captured ≤ 262144)) }
         ensures moment { IfOk result (λ o. IfSome o (λ frame. frame.moment < 2 ^ 62)) }

@@ -1,0 +1,74 @@
+//! The header of an Ethernet II frame and its VLAN tags (IEEE 802.1Q).
+ghost use Rattle.std.specs.Prelude.{◌≡◌, ◌≤◌, ◌<◌, ◌+◌, ◌^◌};
+ghost use Rattle.packet_defs.specs.Ethernet.{is_tag_type, tag_at, type_place, ether_type, carried_fields, ethernet_fields};
+
+use crate::bytes::{is_captured, read_u16};
+use crate::internet::{no_fields, read_ipv4, read_ipv6};
+use packet_defs::Fields;
+
+/// The place behind the two addresses.
+const TYPE_PLACE: usize = 12;
+
+/// The bytes of a VLAN tag.
+const TAG_LEN: usize = 4;
+
+/// The types of a customer's and of a service provider's tag.
+const CUSTOMER_TAG: u16 = 0x8100;
+
+const SERVICE_TAG: u16 = 0x88A8;
+
+const IPV4: u16 = 0x0800;
+
+const IPV6: u16 = 0x86DD;
+
+/// The VLAN id of the tag at a place, where it and the type behind it are captured.
+fn tag(bytes: &[u8], at: usize) -> Option<u16>
+    ensures { result ≡ tag_at at bytes.now }
+{
+    if !is_captured(bytes, 6, at) {
+        return None;
+    }
+    match read_u16(bytes, at) {
+        CUSTOMER_TAG | SERVICE_TAG => Some(read_u16(bytes, at + 2) & 0xFFF),
+        _ => None,
+    }
+}
+
+/// The place of the type, behind at most two tags.
+fn type_place(bytes: &[u8]) -> usize
+    ensures value { result ≡ type_place bytes.now }
+    ensures bound { result ≤ 20 }
+{
+    if tag(bytes, TYPE_PLACE).is_none() {
+        TYPE_PLACE
+    } else if tag(bytes, TYPE_PLACE + TAG_LEN).is_none() {
+        TYPE_PLACE + TAG_LEN
+    } else {
+        TYPE_PLACE + 2 * TAG_LEN
+    }
+}
+
+/// The fields of what a frame carries behind its type.
+fn read_carried(bytes: &[u8]) -> Fields
+    ensures { result ≡ carried_fields (ether_type bytes.now) (type_place bytes.now + 2) bytes.now }
+{
+    let place = type_place(bytes);
+    if !is_captured(bytes, 2, place) {
+        return no_fields();
+    }
+    match read_u16(bytes, place) {
+        IPV4 => read_ipv4(bytes, place + 2),
+        IPV6 => read_ipv6(bytes, place + 2),
+        _ => no_fields(),
+    }
+}
+
+/// The fields of a frame.
+pub fn read_ethernet(bytes: &[u8]) -> Fields
+    ensures { result ≡ ethernet_fields bytes.now }
+{
+    Fields {
+        vlan: tag(bytes, TYPE_PLACE),
+        ..read_carried(bytes)
+    }
+}

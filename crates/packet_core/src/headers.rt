@@ -1,0 +1,33 @@
+ghost use Rattle.std.specs.Prelude.{◌≡◌};
+ghost use Rattle.packet_defs.specs.Headers.{fields_of, raw_fields};
+
+use crate::ethernet::read_ethernet;
+use crate::internet::{is_ipv4, no_fields, read_ipv4, read_ipv6};
+use packet_defs::Fields;
+
+/// The link types of Ethernet and of raw IP (pcap-linktype).
+const ETHERNET: u16 = 1;
+
+const RAW: u16 = 101;
+
+/// The fields of a packet that begins with an IP header.
+fn read_raw(bytes: &[u8]) -> Fields
+    ensures { result ≡ raw_fields bytes.now }
+{
+    if is_ipv4(bytes, 0) {
+        read_ipv4(bytes, 0)
+    } else {
+        read_ipv6(bytes, 0)
+    }
+}
+
+/// The header fields of captured bytes. Packets of other link types than Ethernet and raw IP have none.
+pub fn read_fields(link: u16, bytes: &[u8]) -> Fields
+    ensures { result ≡ fields_of link bytes.now }
+{
+    match link {
+        ETHERNET => read_ethernet(bytes),
+        RAW => read_raw(bytes),
+        _ => no_fields(),
+    }
+}

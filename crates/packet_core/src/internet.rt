@@ -1,0 +1,128 @@
+//! The headers of the Internet Protocol, and the ports behind them.
+ghost use Rattle.std.specs.Prelude.{◌≡◌, ◌≤◌, ◌<◌, ◌+◌, ◌*◌, ◌^◌, length, IsTrue};
+ghost use Rattle.packet_defs.specs.Bytes.{number_at};
+ghost use Rattle.packet_defs.specs.Internet.{no_fields, version_at, has_ports, port_at, is_ipv4, behind_ipv4, is_first_fragment, has_ipv4_ports, ipv4_at, is_ipv6, traffic_class, has_ipv6_ports, ipv6_at};
+
+use crate::bytes::{is_captured, read_u8, read_u16, read_u32, read_u128};
+use packet_defs::Fields;
+
+/// The bytes of an IPv4 header without options (RFC 791 3.1).
+const IPV4_LEN: usize = 20;
+
+/// The bytes of an IPv6 header (RFC 8200 3).
+const IPV6_LEN: usize = 40;
+
+const TCP: u8 = 6;
+
+const UDP: u8 = 17;
+
+/// The fields of a packet that has none.
+pub fn no_fields() -> Fields
+    ensures { result ≡ Rattle.packet_defs.specs.Internet.no_fields }
+{
+    Fields {
+        vlan: None,
+        version: None,
+        dscp: None,
+        proto: None,
+        source: None,
+        target: None,
+        sport: None,
+        dport: None,
+    }
+}
+
+/// Whether a header of this protocol begins at a place with two ports that are captured.
+fn has_ports(proto: u8, bytes: &[u8], at: usize) -> bool
+    ensures { result ≡ has_ports proto at bytes.now }
+{
+    (proto == TCP || proto == UDP) && is_captured(bytes, 4, at)
+}
+
+/// The port at a place, where one is there.
+fn port(there: bool, bytes: &[u8], at: usize) -> Option<u16>
+    requires { IsTrue there → at + 2 ≤ length bytes.now }
+    ensures { result ≡ port_at there at bytes.now }
+{
+    if there {
+        Some(read_u16(bytes, at))
+    } else {
+        None
+    }
+}
+
+/// Whether an IPv4 header begins at a place.
+pub fn is_ipv4(bytes: &[u8], at: usize) -> bool
+    ensures { result ≡ is_ipv4 at bytes.now }
+{
+    is_captured(bytes, IPV4_LEN, at)
+        && read_u8(bytes, at) >> 4 == 4
+        && read_u8(bytes, at) & 0xF >= 5
+}
+
+/// Whether an IPv6 header begins at a place.
+fn is_ipv6(bytes: &[u8], at: usize) -> bool
+    ensures { result ≡ is_ipv6 at bytes.now }
+{
+    is_captured(bytes, IPV6_LEN, at) && read_u8(bytes, at) >> 4 == 6
+}
+
+/// The place behind an IPv4 header.
+fn behind_ipv4(bytes: &[u8], at: usize) -> usize
+    requires { at + 1 ≤ length bytes.now }
+    ensures { result ≡ behind_ipv4 at bytes.now }
+{
+    at + 4 * usize::from(read_u8(bytes, at) & 0xF)
+}
+
+/// Whether two ports follow an IPv4 header, and are captured.
+fn has_ipv4_ports(bytes: &[u8], at: usize) -> bool
+    requires { at + 20 ≤ length bytes.now }
+    ensures { result ≡ has_ipv4_ports at bytes.now }
+{
+    let first = read_u16(bytes, at + 6) & 0x1FFF == 0;
+    first && has_ports(read_u8(bytes, at + 9), bytes, behind_ipv4(bytes, at))
+}
+
+/// The fields where an IPv4 header is looked for at a place.
+pub fn read_ipv4(bytes: &[u8], at: usize) -> Fields
+    ensures { result ≡ ipv4_at at bytes.now }
+{
+    if !is_ipv4(bytes, at) {
+        return no_fields();
+    }
+    let behind = behind_ipv4(bytes, at);
+    let there = has_ipv4_ports(bytes, at);
+    Fields {
+        vlan: None,
+        version: Some(4),
+        dscp: Some(read_u8(bytes, at + 1) >> 2),
+        proto: Some(read_u8(bytes, at + 9)),
+        source: Some(u128::from(read_u32(bytes, at + 12))),
+        target: Some(u128::from(read_u32(bytes, at + 16))),
+        sport: port(there, bytes, behind),
+        dport: port(there, bytes, behind + 2),
+    }
+}
+
+/// The fields where an IPv6 header is looked for at a place.
+pub fn read_ipv6(bytes: &[u8], at: usize) -> Fields
+    ensures { result ≡ ipv6_at at bytes.now }
+{
+    if !is_ipv6(bytes, at) {
+        return no_fields();
+    }
+    let proto = read_u8(bytes, at + 6);
+    let traffic_class = (read_u16(bytes, at) >> 4 & 0xFF) as u8;
+    let there = has_ports(proto, bytes, at + IPV6_LEN);
+    Fields {
+        vlan: None,
+        version: Some(6),
+        dscp: Some(traffic_class >> 2),
+        proto: Some(proto),
+        source: Some(read_u128(bytes, at + 8)),
+        target: Some(read_u128(bytes, at + 24)),
+        sport: port(there, bytes, at + IPV6_LEN),
+        dport: port(there, bytes, at + IPV6_LEN + 2),
+    }
+}

@@ -1,0 +1,15 @@
+//! The header fields and the flow of a captured packet.
+#![tactic(auto)]
+
+mod bytes;
+mod ethernet;
+mod flows;
+mod headers;
+mod internet;
+
+pub use flows::flow;
+pub use headers::read_fields;
+pub use packet_defs::{Departed, Fields, Packet};
+
+#[cfg(test)]
+mod tests;

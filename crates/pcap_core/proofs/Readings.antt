@@ -1,0 +1,50 @@
+-- What a reader's answers say of the one reading of the file, for the crates above.
+use Rattle.std.proofs.Common.{◌≡◌, ◌<◌, ◌+◌, ℕ, Bool, Option, Some, None, List, [], ◌∷◌, ◌++◌, refl, ap, ◌∙◌}
+use Rattle.std.specs.Prelude.{IfSome}
+use Rattle.capture_defs.specs.declared.head.Head.{Head}
+use Rattle.capture_defs.specs.Fault.{Fault}
+use Rattle.capture_defs.specs.Header.{IsHeaderFault}
+use Rattle.capture_defs.specs.Record.{Record, IsRecordFault, most_records}
+use Rattle.capture_defs.specs.Reading.{Capture, packets, refused, records_left, with_first, capture_of}
+use Rattle.capture_defs.proofs.ReadingLaws.{records_left-nothing, records_left-fault, records_left-record, capture_of-header, capture_of-fault}
+use Rattle.pcap_core.specs.Rest.{TakesHeader, TakesRecord, IsWhole}
+
+-- where a header was read, the capture has it, and the records that are left
+pub capture-header : (head : Head) (old new : Option (List ℕ)) (file : List ℕ) → TakesHeader head old new → old ≡ Some file
+    → (now : List ℕ) × (new ≡ Some now) × (capture_of file ≡ packets head (records_left head.big 0 now).0 (records_left head.big 0 now).1)
+capture-header head None new file taken e = absurd (cc)
+capture-header head (Some old) None file taken e = absurd taken.2
+capture-header head (Some old) (Some now) file taken e =
+    let same : file ≡ taken.0 ++ now = cc in
+    (now, refl, ap capture_of same ∙ capture_of-header head taken.0 now taken.1)
+
+-- where a fault of the header was answered, the file is refused for it
+pub capture-refused : (fault : Fault) (old : Option (List ℕ)) (file : List ℕ) → IfSome old (λ bytes. IsHeaderFault bytes fault) → old ≡ Some file → capture_of file ≡ refused fault
+capture-refused fault None file h e = absurd (cc)
+capture-refused fault (Some old) file h e =
+    let same : file ≡ old = cc in
+    ap capture_of same ∙ capture_of-fault fault old h
+
+-- where a record was read, it is the first of those that were left
+pub left-record : (big : Bool) (n : ℕ) (r : Record) (old new : Option (List ℕ)) (left : List ℕ) → n < most_records → TakesRecord big r old new → old ≡ Some left
+    → (now : List ℕ) × (new ≡ Some now) × (records_left big n left ≡ with_first r (records_left big (n + 1) now))
+left-record big n r None new left few taken e = absurd (cc)
+left-record big n r (Some old) None left few taken e = absurd taken.2
+left-record big n r (Some old) (Some now) left few taken e =
+    let same : left ≡ taken.0 ++ now = cc in
+    (now, refl, ap (records_left big n) same ∙ records_left-record big n r taken.0 now few taken.1)
+
+-- where there was none, none were left
+pub left-nothing : (big : Bool) (n : ℕ) (old : Option (List ℕ)) (left : List ℕ) → IsWhole old → old ≡ Some left → records_left big n left ≡ ([], None)
+left-nothing big n None left whole e = absurd (cc)
+left-nothing big n (Some old) left whole e =
+    let same : left ≡ [] = cc in
+    ap (records_left big n) same ∙ records_left-nothing big n
+
+-- where a fault of a record was answered, no record was left, and the fault
+pub left-fault : (big : Bool) (n : ℕ) (fault : Fault) (old : Option (List ℕ)) (left : List ℕ) → IfSome old (λ bytes. IsRecordFault big n bytes fault) → old ≡ Some left
+    → records_left big n left ≡ ([], Some fault)
+left-fault big n fault None left h e = absurd (cc)
+left-fault big n fault (Some old) left h e =
+    let same : left ≡ old = cc in
+    ap (records_left big n) same ∙ records_left-fault big n old fault h
