@@ -6,6 +6,8 @@ mod line;
 mod parse;
 mod script;
 mod step;
+#[cfg(test)]
+mod tests;
 
 pub use fault::ScriptFault;
 pub use parse::{MOST_BYTES, MOST_COUNT, parse_events};
