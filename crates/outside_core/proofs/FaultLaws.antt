@@ -1,5 +1,5 @@
 use Rattle.std.proofs.Common.{◌≡◌, ◌<◌, ◌≤◌, ◌-◌, ◌^◌, ◌↔◌, ℕ, ◌⊎◌, inl, inr, arith}
-use Rattle.outside_core.specs.Faults.{one_more, Rose}
+use Rattle.outside_core.specs.Faults.{Rose}
 
 -- a count that rose before later calls rose over all of them
 pub rose_then : (a b c : ℕ) → Rose a b → b ≤ c → Rose a c

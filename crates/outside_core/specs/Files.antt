@@ -1,5 +1,5 @@
 -- What the calls of a shelf do to its files and to the one that is read.
-use Rattle.std.specs.Prelude.{◌≡◌, refl, ◌<◌, ◌↔◌, ℕ, Bool, Option, None, Some, List, [], ◌∷◌, ◌++◌, length, take, drop, ⊤}
+use Rattle.std.specs.Prelude.{◌≡◌, refl, ◌↔◌, ℕ, Bool, Option, None, Some, List, [], ◌∷◌, ◌++◌, length, take, drop, ⊤}
 
 -- the same names are lent, with the same contents
 pub record KeepsFiles {S : Type 0} (lends : S → List ℕ → Bool) (content : S → List ℕ → Option (List ℕ)) (old new : S) : Type 0 where

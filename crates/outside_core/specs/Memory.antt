@@ -1,7 +1,7 @@
 -- What files and a sink in memory stand for, of which calls fail as they are told to.
-use Rattle.std.specs.Prelude.{◌≡◌, ◌+◌, ◌-◌, ◌==◌, ◌||◌, ℕ, Bool, Option, List, length, is_some, is_none, vec_len}
+use Rattle.std.specs.Prelude.{◌≡◌, ◌-◌, ℕ, Bool, List, length, is_some}
 use Rattle.outside_core.specs.Faults.{one_more, is_to_fail}
-use Rattle.outside_core.specs.Stored.{File, files_of, first_content}
+use Rattle.outside_core.specs.Stored.{File, files_of}
 use Rattle.outside_core.specs.Reading.{left_at}
 use Rattle.outside_core.specs.declared.memory.MemShelf.{MemShelf}
 use Rattle.outside_core.specs.declared.memory.MemSink.{MemSink}

@@ -1,5 +1,5 @@
 -- Files in memory, as pairs of a name and a content, and the one that is read.
-use Rattle.std.specs.Prelude.{◌≡◌, refl, ℕ, Bool, true, false, Option, None, Some, List, [], ◌∷◌, map, find, drop, unwrap_or, Vec, String, string_bytes}
+use Rattle.std.specs.Prelude.{◌≡◌, refl, ℕ, Option, None, Some, List, [], ◌∷◌, map, find, unwrap_or, Vec, String, string_bytes}
 use Rattle.std.specs.Option.{option_map}
 use Rattle.std.specs.Str.{bytes_eq}
 use Rattle.std.specs.declared.alloc.Global.{Global}

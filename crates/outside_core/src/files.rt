@@ -1,4 +1,4 @@
-ghost use Rattle.std.specs.Prelude.{◌≡◌, ◌≤◌, Some, None, IfSome, IfNone, length, min, take, drop, position, string_bytes};
+ghost use Rattle.std.specs.Prelude.{◌≡◌, Some, None, IfSome, IfNone, length, min, take, drop, position, string_bytes};
 ghost use Rattle.std.specs.Str.{bytes_eq};
 ghost use Rattle.outside_core.specs.Reading.{content_at};
 ghost use Rattle.outside_core.specs.Stored.{files_of, first_content, content_or_empty};

@@ -1,4 +1,4 @@
-ghost use Rattle.std.specs.Prelude.{◌≡◌, ◌≤◌, Option, List, ℕ, vec_len, vec_capacity};
+ghost use Rattle.std.specs.Prelude.{◌≤◌, vec_len, vec_capacity};
 
 use crate::faults::{Calls, raise};
 use crate::files::{Cursor, content_from, copy_front, place_of};
@@ -45,9 +45,9 @@ impl MemShelf {
 }
 
 impl Shelf for MemShelf {
-    ghost use Rattle.std.specs.Prelude.{◌≡◌, ◌+◌, ◌<◌, ◌≤◌, ◌↔◌, Option, Some, List, ℕ, [], length, min, true, IsSome, IsTrue, IsFalse, IsOk, IsErrOf, IfOk, OnOk, OnErr, MatchResult};
-    ghost use Rattle.outside_core.specs.Faults.{one_more, Rose};
-    ghost use Rattle.outside_core.specs.Files.{KeepsFiles, Takes, EndsWhereEmpty};
+    ghost use Rattle.std.specs.Prelude.{◌≡◌, ◌+◌, ◌<◌, ◌≤◌, ◌↔◌, Some, length, min, true, IsSome, IsTrue, IsFalse, IsOk, IsErrOf, IfOk, OnOk, OnErr, MatchResult};
+    ghost use Rattle.outside_core.specs.Faults.{one_more};
+    ghost use Rattle.outside_core.specs.Files.{Takes};
     ghost use Rattle.outside_core.specs.Stored.{first_content};
     ghost use Rattle.outside_core.specs.Memory.{held_files, is_begun, bytes_left, greatest_read, calls_made, faults_met, fails_next, KeepsSetting};
 
@@ -172,9 +172,8 @@ impl MemSink {
 }
 
 impl Sink for MemSink {
-    ghost use Rattle.std.specs.Prelude.{◌≡◌, ◌+◌, ◌<◌, ◌≤◌, ◌↔◌, ◌++◌, ℕ, Some, List, Option, length, take, min, [], IsFalse, IsOk, IsErrOf, IfOk, OnErr, MatchResult};
-    ghost use Rattle.outside_core.specs.Faults.{one_more, Rose};
-    ghost use Rattle.outside_core.specs.Written.{Appended};
+    ghost use Rattle.std.specs.Prelude.{◌≡◌, ◌+◌, ◌<◌, ◌≤◌, ◌↔◌, ◌++◌, Some, length, take, min, IsFalse, IsOk, IfOk, OnErr, MatchResult};
+    ghost use Rattle.outside_core.specs.Faults.{one_more};
     ghost use Rattle.outside_core.specs.Memory.{sink_bytes, room_left, greatest_write, writes_made, write_faults, write_fails_next, KeepsSinkSetting};
 
     ghost written = { λ s. Some (sink_bytes s) };

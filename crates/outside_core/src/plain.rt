@@ -1,4 +1,4 @@
-ghost use Rattle.std.specs.Prelude.{◌≡◌, ◌≤◌, Option, List, ℕ, vec_len, vec_capacity};
+ghost use Rattle.std.specs.Prelude.{◌≤◌, vec_len, vec_capacity};
 
 use crate::files::{Cursor, content_from, copy_front, place_or_end};
 use crate::shelves::{Shelf, ShelfError};
@@ -29,9 +29,8 @@ impl PlainShelf {
 }
 
 impl Shelf for PlainShelf {
-    ghost use Rattle.std.specs.Prelude.{◌≡◌, ◌<◌, ◌≤◌, ◌↔◌, Option, Some, List, ℕ, [], Ok, length, min, true, IsTrue, IsFalse, IsOk, IsErrOf, IfOk, OnOk, OnErr};
-    ghost use Rattle.outside_core.specs.Faults.{Rose};
-    ghost use Rattle.outside_core.specs.Files.{KeepsFiles, Takes, EndsWhereEmpty};
+    ghost use Rattle.std.specs.Prelude.{◌≡◌, ◌<◌, Some, Ok, length, min, true, IsTrue, IsOk, IfOk};
+    ghost use Rattle.outside_core.specs.Files.{Takes};
     ghost use Rattle.outside_core.specs.Stored.{content_or_empty};
     ghost use Rattle.outside_core.specs.Plain.{held_files, is_begun, bytes_left};
 
@@ -84,7 +83,7 @@ pub struct PlainSink {
 }
 
 impl PlainSink {
-    ghost use Rattle.std.specs.Prelude.{◌≡◌, [], Some, IsTrue, IfOk};
+    ghost use Rattle.std.specs.Prelude.{◌≡◌, [], IsTrue, IfOk};
     ghost use Rattle.outside_core.specs.Plain.{kept_bytes, sink_room, is_whole};
 
     pub fn new(alloc: Global, room: usize) -> Result<PlainSink, AllocError>
@@ -109,9 +108,7 @@ impl PlainSink {
 }
 
 impl Sink for PlainSink {
-    ghost use Rattle.std.specs.Prelude.{◌≡◌, ◌<◌, ◌≤◌, ◌+◌, ◌↔◌, ◌++◌, ℕ, List, Option, Ok, IsTrue, IsErrOf, take, IfOk, OnErr, [], length};
-    ghost use Rattle.outside_core.specs.Faults.{Rose};
-    ghost use Rattle.outside_core.specs.Written.{Appended};
+    ghost use Rattle.std.specs.Prelude.{◌≡◌, ◌<◌, ◌≤◌, ◌+◌, ◌↔◌, ◌++◌, Ok, IsTrue, take, length};
     ghost use Rattle.outside_core.specs.Plain.{kept_bytes, sink_room, is_whole, told_bytes};
 
     ghost written = { told_bytes };

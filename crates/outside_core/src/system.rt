@@ -32,9 +32,8 @@ impl<R: Files + Drop> FileShelf<R> {
 }
 
 impl<R: Files + Drop> Shelf for FileShelf<R> {
-    ghost use Rattle.std.specs.Prelude.{◌≡◌, ◌≤◌, ◌<◌, ℕ, List, Option, None, true, length, IsTrue, IsFalse, IsErrOf, IfOk, OnOk, OnErr, MatchResult};
-    ghost use Rattle.outside_core.specs.Faults.{one_more, Rose};
-    ghost use Rattle.outside_core.specs.Files.{KeepsFiles, Takes, EndsWhereEmpty};
+    ghost use Rattle.std.specs.Prelude.{◌≡◌, ◌≤◌, ◌<◌, None, true, length, IsTrue, IsFalse, IsErrOf, IfOk, OnOk, OnErr, MatchResult};
+    ghost use Rattle.outside_core.specs.Faults.{one_more};
     ghost use Rattle.outside_core.specs.System.{is_begun, shelf_faults};
 
     ghost lends = { λ _ _. true };
@@ -107,9 +106,8 @@ impl<R: Print + Drop> StdSink<R> {
 }
 
 impl<R: Print + Drop> Sink for StdSink<R> {
-    ghost use Rattle.std.specs.Prelude.{◌≡◌, ◌≤◌, ◌<◌, ℕ, List, Option, None, [], take, length, IsErrOf, IfOk, OnErr, MatchResult};
-    ghost use Rattle.outside_core.specs.Faults.{one_more, Rose};
-    ghost use Rattle.outside_core.specs.Written.{Appended};
+    ghost use Rattle.std.specs.Prelude.{◌≡◌, ◌≤◌, ◌<◌, None, length, IfOk, MatchResult};
+    ghost use Rattle.outside_core.specs.Faults.{one_more};
     ghost use Rattle.outside_core.specs.System.{sink_faults};
 
     ghost written = { λ _. None };

@@ -1,5 +1,6 @@
-/// A pair of a queue, with its sequence number: how many pushes there were before its own.
-#[derive(Clone, Copy, Debug)]
+/// A pair of a queue, with its sequence number: how many pushes there were before its own. The order of leaving is that of the
+/// fields.
+#[derive(Clone, Copy, Debug, PartialEq, Eq, PartialOrd, Ord)]
 pub struct Held {
     pub rank: u64,
     pub arrival: u64,

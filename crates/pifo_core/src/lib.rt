@@ -1,9 +1,14 @@
 //! Push-in first-out queues that are pushed and popped in place, and the trait that they meet.
 #![tactic(auto)]
 
+mod heap;
 mod held;
 mod pifo;
 mod sorted;
 
+pub use heap::HeapPifo;
 pub use pifo::Pifo;
 pub use sorted::SortedPifo;
+
+#[cfg(test)]
+mod tests;

@@ -1,5 +1,5 @@
 -- The lines of a report. Its words are separated by one space, and each line ends with a line feed.
-use Rattle.std.specs.Prelude.{◌≡◌, refl, ℕ, ◌+◌, Option, None, Some, List, [], ◌∷◌, ◌++◌, map, decimal, codes}
+use Rattle.std.specs.Prelude.{◌≡◌, refl, ℕ, Option, None, Some, List, [], ◌∷◌, ◌++◌, map, decimal, codes}
 use Rattle.std.specs.List.{join_with_byte}
 use Rattle.std.specs.Fmt.{digits}
 

@@ -5,3 +5,4 @@ pub mod Shapes
 pub mod PacketLaws
 pub mod TopologyLaws
 pub mod Laws
+pub mod OneMoreLaws

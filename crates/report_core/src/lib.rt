@@ -1,0 +1,12 @@
+//! The lines of a report, gathered in pieces and written to a sink.
+#![tactic(auto)]
+
+mod buffer;
+mod fault;
+mod line;
+mod report;
+#[cfg(test)]
+mod tests;
+
+pub use fault::{FaultKind, WriteFault};
+pub use report::Report;

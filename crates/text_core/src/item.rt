@@ -1,0 +1,51 @@
+ghost use Rattle.std.specs.Prelude.{◌≡◌, List, IfOk};
+ghost use Rattle.text_core.specs.Glyphs.{Glyph, glyphs_of};
+ghost use Rattle.text_core.specs.Says.{Says};
+
+use crate::mark::Mark;
+use crate::number::decimal;
+use crate::refusal::Refusal;
+use crate::token::{TokenKind, tokens};
+use list_core::List;
+use std::alloc::Global;
+
+/// What a token says.
+#[derive(Clone, Copy, Debug)]
+pub enum Item<'a> {
+    Word(&'a [u8]),
+    Number(u64),
+    Mark(Mark),
+}
+
+impl<'a> Item<'a> {
+    ghost use Rattle.std.specs.Prelude.{◌≡◌, option_map};
+    ghost use Rattle.text_core.specs.Glyphs.{glyph_of};
+    ghost use Rattle.text_core.specs.Says.{said};
+
+    /// What a token of this kind with these bytes says; nothing where its number is too large.
+    pub fn of(kind: TokenKind, bytes: &'a [u8]) -> Option<Item<'a>>
+        ensures { option_map glyph_of result ≡ said kind bytes.now }
+    {
+        Some(match kind {
+            TokenKind::Word => Item::Word(bytes),
+            TokenKind::Number => Item::Number(decimal(bytes)?),
+            TokenKind::Mark => Item::Mark(Mark::of(bytes)?),
+        })
+    }
+}
+
+/// What the tokens of a line say. A line with a bad token, or with a number above `MAX`, is in no form.
+pub fn items<'a>(alloc: Global, line: &'a [u8]) -> Result<List<Item<'a>>, Refusal>
+    ensures said { IfOk result (λ is. Says line.now (glyphs_of is)) }
+    ensures silent { result ≡ Err Refusal.NoForm → (gs : List Glyph) → Says line.now gs → ⊥ }
+{
+    let tokens = tokens(alloc, line)?;
+    let mut found = List::from_vec(Vec::new(alloc));
+    for token in tokens.as_slice() {
+        let Some(item) = Item::of(token.kind, &line[token.start..token.end]) else {
+            return Err(Refusal::NoForm);
+        };
+        found.push(item)?;
+    }
+    Ok(found)
+}
