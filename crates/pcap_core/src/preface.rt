@@ -41,7 +41,8 @@ pub fn preface_in(head: Head, count: u32, bytes: &[u8]) -> Result<Preface, Captu
     requires bound { length bytes.now ≤ 16 }
     ensures whole { IfOk result (λ p. length bytes.now ≡ 16) }
     ensures few { IfOk result (λ p. count < 4294967295) }
-    ensures moment { IfOk result (λ p. p.moment ≡ moment_at head.nano (long_at head.big 0 bytes.now) (long_at head.big 4 bytes.now)) }
+    ensures moment { IfOk result (λ p.
+        p.moment ≡ moment_at head.nano (long_at head.big 0 bytes.now) (long_at head.big 4 bytes.now)) }
     ensures moment_bound { IfOk result (λ p. p.moment < 2 ^ 62) }
     ensures captured { IfOk result (λ p. p.captured ≡ captured_len head.big bytes.now) }
     ensures short { IfOk result (λ p. p.captured ≤ 262144) }

@@ -25,8 +25,11 @@ fn read_head<S: Shelf>(
     shelf: &mut S,
 ) -> Result<Head, CaptureFault>
     requires begun { IsTrue (S.begun shelf.old) }
-    ensures header { IfOk result (λ head. TakesHeader head (rest_of (held window.old) (S.left shelf.old)) (rest_of (held window.new) (S.left shelf.new))) }
-    ensures fault { IfErr result (λ e. IfSome (fault_in e) (λ fault. IfSome (rest_of (held window.old) (S.left shelf.old)) (λ file. IsHeaderFault file fault))) }
+    ensures header { IfOk result (λ head.
+        TakesHeader head (rest_of (held window.old) (S.left shelf.old))
+        (rest_of (held window.new) (S.left shelf.new))) }
+    ensures fault { IfErr result (λ e. IfSome (fault_in e) (λ fault.
+        IfSome (rest_of (held window.old) (S.left shelf.old)) (λ file. IsHeaderFault file fault))) }
     ensures shelf { Serves S.lends S.content S.begun S.faults shelf.old shelf.new }
     ensures cause { IsErrOf result CaptureFault.ReadFault → Rose (S.faults shelf.old) (S.faults shelf.new) }
 {
@@ -44,14 +47,20 @@ fn read_record<S: Shelf>(
     into: &mut Vec<u8>,
 ) -> Result<Option<Frame>, CaptureFault>
     requires begun { IsTrue (S.begun shelf.old) }
-    ensures found { IfOk result (λ o. IfSome o (λ frame. (r : Record) × IsFrameOf head.nano r frame into.new.items × TakesRecord head.big r (rest_of (held window.old) (S.left shelf.old)) (rest_of (held window.new) (S.left shelf.new)))) }
+    ensures found { IfOk result (λ o. IfSome o (λ frame.
+        (r : Record) × IsFrameOf head.nano r frame into.new.items
+        × TakesRecord head.big r (rest_of (held window.old) (S.left shelf.old))
+        (rest_of (held window.new) (S.left shelf.new)))) }
     ensures number { IfOk result (λ o. IfSome o (λ frame. frame.number ≡ count + 1)) }
     ensures few { IfOk result (λ o. IfSome o (λ frame. count < 4294967295)) }
     ensures moment { IfOk result (λ o. IfSome o (λ frame. frame.moment < 2 ^ 62)) }
     ensures captured { IfOk result (λ o. IfSome o (λ frame. frame.captured ≡ length into.new.items)) }
     ensures short { IfOk result (λ o. IfSome o (λ frame. frame.captured ≤ 262144)) }
-    ensures ended { IfOk result (λ o. IfNone o (IsWhole (rest_of (held window.old) (S.left shelf.old)))) }
-    ensures fault { IfErr result (λ e. IfSome (fault_in e) (λ fault. IfSome (rest_of (held window.old) (S.left shelf.old)) (λ left. IsRecordFault head.big count left fault))) }
+    ensures ended { IfOk result (λ o.
+        IfNone o (IsWhole (rest_of (held window.old) (S.left shelf.old)))) }
+    ensures fault { IfErr result (λ e. IfSome (fault_in e) (λ fault.
+        IfSome (rest_of (held window.old) (S.left shelf.old)) (λ left.
+        IsRecordFault head.big count left fault))) }
     ensures shelf { Serves S.lends S.content S.begun S.faults shelf.old shelf.new }
     ensures cause { IsErrOf result CaptureFault.ReadFault → Rose (S.faults shelf.old) (S.faults shelf.new) }
 {
@@ -119,14 +128,17 @@ impl Reader {
         requires fresh { IsNew self.old }
         requires begun { IsTrue (S.begun shelf.old) }
 
-        ensures header { IfOk result (λ head. TakesHeader head (S.left shelf.old) (rest_left self.new (S.left shelf.new))) }
+        ensures header { IfOk result (λ head.
+            TakesHeader head (S.left shelf.old) (rest_left self.new (S.left shelf.new))) }
         ensures head { IfOk result (λ head. head_of self.new ≡ Some head) }
         ensures none_given { records_given self.new ≡ 0 }
         ensures bounded { length (bytes_held self.new) ≤ 65536 }
 
         // A fault of the file is answered exactly where the header has it.
-        ensures fault { IfErr result (λ e. IfSome (fault_in e) (λ fault. IfSome (S.left shelf.old) (λ file. IsHeaderFault file fault))) }
-        ensures refused { IfSome (S.left shelf.old) (λ file. (fault : Fault) → IsHeaderFault file fault → IsErr result) }
+        ensures fault { IfErr result (λ e. IfSome (fault_in e) (λ fault.
+            IfSome (S.left shelf.old) (λ file. IsHeaderFault file fault))) }
+        ensures refused { IfSome (S.left shelf.old) (λ file.
+            (fault : Fault) → IsHeaderFault file fault → IsErr result) }
         ensures live { IsTrue (is_live self.new) ↔ IsOk result }
 
         ensures begun { IsTrue (S.begun shelf.new) }
@@ -157,7 +169,10 @@ impl Reader {
         requires begun { IsTrue (S.begun shelf.old) }
 
         // What was left is the spelling of a record, and what is left now.
-        ensures found { IfOk result (λ o. IfSome o (λ frame. (r : Record) × IsFrameOf (is_nano self.old) r frame into.new.items × TakesRecord (is_big self.old) r (rest_left self.old (S.left shelf.old)) (rest_left self.new (S.left shelf.new)))) }
+        ensures found { IfOk result (λ o. IfSome o (λ frame.
+            (r : Record) × IsFrameOf (is_nano self.old) r frame into.new.items
+            × TakesRecord (is_big self.old) r (rest_left self.old (S.left shelf.old))
+            (rest_left self.new (S.left shelf.new)))) }
         ensures number { IfOk result (λ o. IfSome o (λ frame. frame.number ≡ records_given self.old + 1)) }
         ensures few { IfOk result (λ o. IfSome o (λ frame. frame.number ≤ 4294967295)) }
         ensures captured { IfOk result (λ o. IfSome o (λ frame. frame.captured ≡ length into.new.items)) }
@@ -165,16 +180,22 @@ impl Reader {
         ensures moment { IfOk result (λ o. IfSome o (λ frame. frame.moment < 2 ^ 62)) }
 
         // There is no record exactly where nothing is left.
-        ensures ended { IfOk result (λ o. IfNone o (IsWhole (rest_left self.old (S.left shelf.old)))) }
-        ensures ends { IfSome (rest_left self.old (S.left shelf.old)) (λ left. left ≡ [] → MatchResult result (λ o. o ≡ None) (λ e. fault_in e ≡ None)) }
+        ensures ended { IfOk result (λ o.
+            IfNone o (IsWhole (rest_left self.old (S.left shelf.old)))) }
+        ensures ends { IfSome (rest_left self.old (S.left shelf.old)) (λ left.
+            left ≡ [] → MatchResult result (λ o. o ≡ None) (λ e. fault_in e ≡ None)) }
 
         // A fault of the file is answered exactly where what is left has it.
-        ensures fault { IfErr result (λ e. IfSome (fault_in e) (λ fault. IfSome (rest_left self.old (S.left shelf.old)) (λ left. IsRecordFault (is_big self.old) (records_given self.old) left fault))) }
-        ensures refused { IfSome (rest_left self.old (S.left shelf.old)) (λ left. (fault : Fault) → IsRecordFault (is_big self.old) (records_given self.old) left fault → IsErr result) }
+        ensures fault { IfErr result (λ e. IfSome (fault_in e) (λ fault.
+            IfSome (rest_left self.old (S.left shelf.old)) (λ left.
+            IsRecordFault (is_big self.old) (records_given self.old) left fault))) }
+        ensures refused { IfSome (rest_left self.old (S.left shelf.old)) (λ left.
+            (fault : Fault) → IsRecordFault (is_big self.old) (records_given self.old) left fault → IsErr result) }
         ensures live { IsTrue (is_live self.new) ↔ IsOk result }
 
         ensures head { head_of self.new ≡ head_of self.old }
-        ensures given { IfOk result (λ o. records_given self.new ≡ records_given self.old + (if is_some o then 1 else 0)) }
+        ensures given { IfOk result (λ o.
+            records_given self.new ≡ records_given self.old + (if is_some o then 1 else 0)) }
         ensures bounded { length (bytes_held self.new) ≤ 65536 }
         ensures begun { IsTrue (S.begun shelf.new) }
         ensures files { KeepsFiles S.lends S.content shelf.old shelf.new }

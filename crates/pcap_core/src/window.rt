@@ -57,8 +57,10 @@ impl Window {
     fn fill<S: Shelf>(&mut self, shelf: &mut S) -> Result<(), CaptureFault>
         requires empty { held self.old ≡ [] }
         requires begun { IsTrue (S.begun shelf.old) }
-        ensures same { TakesFront (rest_of (held self.old) (S.left shelf.old)) (rest_of (held self.new) (S.left shelf.new)) [] }
-        ensures end { OnOk result (held self.new ≡ [] → IsWhole (rest_of (held self.old) (S.left shelf.old))) }
+        ensures same { TakesFront (rest_of (held self.old) (S.left shelf.old))
+            (rest_of (held self.new) (S.left shelf.new)) [] }
+        ensures end { OnOk result (held self.new ≡ [] →
+            IsWhole (rest_of (held self.old) (S.left shelf.old))) }
         ensures blameless { IfErr result (λ e. fault_in e ≡ None) }
         ensures shelf { Serves S.lends S.content S.begun S.faults shelf.old shelf.new }
         ensures cause { IsErrOf result CaptureFault.ReadFault → Rose (S.faults shelf.old) (S.faults shelf.new) }
@@ -74,7 +76,8 @@ impl Window {
     fn copy(&mut self, into: &mut Vec<u8>, most: usize) -> Result<(), AllocError>
         requires { vec_len into.old ≤ most }
         ensures moved { OnOk result (into.new.items ++ held self.new ≡ into.old.items ++ held self.old) }
-        ensures count { OnOk result (length into.new.items ≡ min most (length into.old.items + length (held self.old))) }
+        ensures count { OnOk result (length into.new.items
+            ≡ min most (length into.old.items + length (held self.old))) }
         ensures err { OnErr result (into.new.items ++ held self.new ≡ into.old.items ++ held self.old) }
     {
         let count = (self.end - self.at).min(most - into.len());
@@ -92,10 +95,12 @@ impl Window {
     ) -> Result<(), CaptureFault>
         requires room { vec_len into.old < most }
         requires begun { IsTrue (S.begun shelf.old) }
-        ensures taken { OnOk result (TakesFront (rest_of (into.old.items ++ held self.old) (S.left shelf.old)) (rest_of (into.new.items ++ held self.new) (S.left shelf.new)) []) }
+        ensures taken { OnOk result (TakesFront (rest_of (into.old.items ++ held self.old) (S.left shelf.old))
+            (rest_of (into.new.items ++ held self.new) (S.left shelf.new)) []) }
         ensures bound { OnOk result (vec_len into.new ≤ most) }
         ensures grows { OnOk result (vec_len into.old ≤ vec_len into.new) }
-        ensures end { OnOk result (vec_len into.new ≡ vec_len into.old → IsWhole (rest_of (held self.old) (S.left shelf.old))) }
+        ensures end { OnOk result (vec_len into.new ≡ vec_len into.old →
+            IsWhole (rest_of (held self.old) (S.left shelf.old))) }
         ensures blameless { IfErr result (λ e. fault_in e ≡ None) }
         ensures shelf { Serves S.lends S.content S.begun S.faults shelf.old shelf.new }
         ensures cause { IsErrOf result CaptureFault.ReadFault → Rose (S.faults shelf.old) (S.faults shelf.new) }
@@ -115,7 +120,8 @@ impl Window {
         most: usize,
     ) -> Result<(), CaptureFault>
         requires begun { IsTrue (S.begun shelf.old) }
-        ensures taken { OnOk result (TakesFront (rest_of (held self.old) (S.left shelf.old)) (rest_of (held self.new) (S.left shelf.new)) into.new.items) }
+        ensures taken { OnOk result (TakesFront (rest_of (held self.old) (S.left shelf.old))
+            (rest_of (held self.new) (S.left shelf.new)) into.new.items) }
         ensures bound { OnOk result (vec_len into.new ≤ most) }
         ensures short { OnOk result (IsShort (rest_of (held self.old) (S.left shelf.old)) into.new.items most) }
         ensures blameless { IfErr result (λ e. fault_in e ≡ None) }
