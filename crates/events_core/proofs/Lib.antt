@@ -1,1 +1,2 @@
+pub mod PaceLaws
 pub mod ScriptLaws

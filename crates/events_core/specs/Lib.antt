@@ -1,3 +1,4 @@
+pub mod Pace
 pub mod Rows
 pub mod Script
 pub mod Steps

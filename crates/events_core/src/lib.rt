@@ -1,8 +1,9 @@
-//! Scripts of events: their steps, or the line that is at fault.
+//! Scripts of events, with their steps or the line at fault, and the clock of a link.
 #![tactic(auto)]
 
 mod fault;
 mod line;
+mod link;
 mod parse;
 mod script;
 mod step;
@@ -10,6 +11,7 @@ mod step;
 mod tests;
 
 pub use fault::ScriptFault;
+pub use link::{Link, send_time, send_time_is_least};
 pub use parse::{MOST_BYTES, MOST_COUNT, parse_events};
 pub use script::Script;
 pub use step::Step;

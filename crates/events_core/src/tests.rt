@@ -59,3 +59,17 @@ fn long_texts(rt: HostRuntime) -> Result<(), Fail> {
     assert_eq!(rt; reading(&rt, &text)?.as_str(), "fault 4 0");
     Ok(())
 }
+
+#[test]
+fn a_link_at_a_gigabit(rt: HostRuntime) {
+    let rate = 125_000_000;
+    let mut link = Link::new();
+    link.idle(5_000);
+    assert_eq!(rt; link.send(1_500, rate), 5_000);
+    assert!(rt; link.due(17_001));
+    assert!(rt; !link.due(17_000));
+    link.idle(16_000);
+    assert_eq!(rt; link.send(64, rate), 17_000);
+    assert_eq!(rt; send_time(1, 3), 333_333_334);
+    assert_eq!(rt; send_time(0, 1), 0);
+}

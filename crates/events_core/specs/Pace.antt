@@ -1,0 +1,22 @@
+-- How long a link takes to send a packet.
+use Rattle.std.specs.Prelude.{◌≡◌, refl, ℕ, ◌*◌, ◌≤◌}
+use Rattle.std.specs.Int.{div_ceil}
+
+-- a rate in bytes per second
+abbrev pub IsRate : ℕ → Type 0
+IsRate rate = (1 ≤ rate) × (rate ≤ 1000000000000)
+
+-- nanoseconds for so many bytes, rounded up
+abbrev pub send_time : ℕ → ℕ → ℕ
+send_time len rate = div_ceil (len * 1000000000) rate
+
+-- the least number of nanoseconds in which so many bytes can go
+pub record IsLeastTime (len rate time : ℕ) : Type 0 where
+  pub enough : len * 1000000000 ≤ time * rate
+  pub least : (other : ℕ) → len * 1000000000 ≤ other * rate → time ≤ other
+
+abbrev pub SendTimeIsLeast : Type 0
+SendTimeIsLeast = (len rate : ℕ) → IsRate rate → IsLeastTime len rate (send_time len rate)
+
+a_byte_at_three_a_second : send_time 1 3 ≡ 333333334
+a_byte_at_three_a_second = refl

@@ -1,0 +1,68 @@
+ghost use Rattle.std.specs.Prelude.{◌≡◌, ◌+◌, ◌<◌, ◌≤◌, ◌^◌, ◌↔◌, IsTrue, max};
+ghost use Rattle.events_core.specs.Pace.{send_time, IsRate, SendTimeIsLeast};
+
+use std::marker::Model;
+
+/// Nanoseconds of a second.
+const SECOND: u64 = 1_000_000_000;
+
+/// The nanoseconds that a packet of so many bytes takes at a rate in bytes per second, rounded up.
+pub fn send_time(len: u32, rate: u64) -> u64
+    requires { IsRate rate }
+    ensures { result ≡ send_time len rate }
+{
+    (len as u64 * SECOND).div_ceil(rate)
+}
+
+/// A link that sends one packet after another, which contracts see as the moment in nanoseconds from which it is free.
+#[derive(Drop)]
+pub struct Link {
+    free: u128,
+}
+
+impl Model for Link {
+    ghost use Rattle.std.specs.Prelude.{ℕ};
+
+    ghost Value = { ℕ };
+
+    ghost view = { λ l. l.free };
+}
+
+impl Link {
+    pub fn new() -> Link
+        ensures { result ≡ 0 }
+    {
+        Link { free: 0 }
+    }
+
+    /// Whether the link is free before a moment.
+    pub fn due(&self, moment: u64) -> bool
+        ensures { IsTrue result ↔ (self.now < moment) }
+    {
+        self.free < moment as u128
+    }
+
+    /// Lets the link stand idle up to a moment.
+    pub fn idle(&mut self, moment: u64)
+        ensures { self.new ≡ max self.old moment }
+    {
+        self.free = self.free.max(moment as u128);
+    }
+
+    /// Sends a packet of so many bytes, and answers when it starts.
+    pub fn send(&mut self, len: u32, rate: u64) -> u128
+        requires early { self.old < 2 ^ 126 }
+        requires rate { IsRate rate }
+        ensures start { result ≡ self.old }
+        ensures free { self.new ≡ self.old + send_time len rate }
+    {
+        let start = self.free;
+        self.free += send_time(len, rate) as u128;
+        start
+    }
+}
+
+/// The send time is the least whole number of nanoseconds in which the bytes can go.
+pub fn send_time_is_least()
+    ensures { SendTimeIsLeast }
+{}
