@@ -1,0 +1,3 @@
+mod StoredLemmas
+pub mod WrittenLaws
+pub mod FaultLaws

@@ -1,0 +1,30 @@
+-- Counts of 64 bits that never fall, and the calls that are to fail.
+use Rattle.std.specs.Prelude.{◌≡◌, refl, ◌≤◌, ◌+◌, ◌-◌, ◌^◌, ◌==◌, ℕ, Bool, true, false, List, [], ◌∷◌, min}
+use Rattle.std.specs.List.{list_any}
+
+-- one more, and the last number of 64 bits after itself
+abbrev pub one_more : ℕ → ℕ
+one_more count = min (count + 1) (2 ^ 64 - 1)
+
+-- the count rose: it is greater, or stands at its last value
+abbrev pub Rose : ℕ → ℕ → Type 0
+Rose before now = one_more before ≤ now
+
+-- whether the call of this number is among those that are to fail
+abbrev pub is_to_fail : List ℕ → ℕ → Bool
+is_to_fail fail call = list_any (λ number. number == call) fail
+
+one_more-first : one_more 0 ≡ 1
+one_more-first = refl
+
+one_more-before_last : one_more (2 ^ 64 - 2) ≡ 2 ^ 64 - 1
+one_more-before_last = refl
+
+one_more-last : one_more (2 ^ 64 - 1) ≡ 2 ^ 64 - 1
+one_more-last = refl
+
+is_to_fail-second : is_to_fail (2 ∷ 5 ∷ []) 5 ≡ true
+is_to_fail-second = refl
+
+is_to_fail-other : is_to_fail (2 ∷ 5 ∷ []) 3 ≡ false
+is_to_fail-other = refl

@@ -1,0 +1,18 @@
+//! Named files that are read, a sink that is written, and the faults of both counted.
+#![tactic(auto)]
+
+mod faults;
+mod files;
+mod loading;
+mod memory;
+mod plain;
+mod shelves;
+mod sinks;
+mod system;
+
+pub use loading::{LoadError, load};
+pub use memory::{MemShelf, MemSink};
+pub use plain::{PlainShelf, PlainSink};
+pub use shelves::{Shelf, ShelfError};
+pub use sinks::{Sink, SinkError, write_all};
+pub use system::{FileShelf, StdSink};

@@ -1,0 +1,56 @@
+ghost use Rattle.std.specs.Prelude.{◌≡◌, ◌<◌, ◌≤◌, ℕ, List, Bool, Option, length, IfOk, OnOk, OnErr, IsTrue, IsFalse, IsErrOf};
+ghost use Rattle.outside_core.specs.Faults.{Rose};
+ghost use Rattle.outside_core.specs.Files.{KeepsFiles, Takes, EndsWhereEmpty};
+
+#[derive(Clone, Copy, Debug, PartialEq, Eq)]
+pub enum ShelfError {
+    /// A fault was met, and counted.
+    Failed,
+    /// There was no memory for the call.
+    NoMemory,
+}
+
+/// A set of named files, of which one at a time is read.
+pub trait Shelf {
+    /// Whether a name is lent.
+    ghost lends: { Self → List ℕ → Bool };
+
+    /// The content of a name, where told.
+    ghost content: { Self → List ℕ → Option (List ℕ) };
+
+    /// Whether a file is begun.
+    ghost begun: { Self → Bool };
+
+    /// The bytes left of the begun file, where told.
+    ghost left: { Self → Option (List ℕ) };
+
+    /// How many faults there were, in 64 bits; the last value stands.
+    ghost faults: { Self → ℕ };
+
+    /// Begins a file, and closes the one before.
+    fn begin(&mut self, name: &str) -> Result<(), ShelfError>
+        requires lent { IsTrue (lends self.old name.now) }
+
+        ensures begun { OnOk result (IsTrue (begun self.new)) }
+        ensures whole { OnOk result (left self.new ≡ content self.old name.now) }
+        ensures refused { OnErr result (IsFalse (begun self.new)) }
+
+        ensures files { KeepsFiles lends content self.old self.new }
+        ensures later { faults self.old ≤ faults self.new }
+        ensures cause { IsErrOf result ShelfError.Failed → Rose (faults self.old) (faults self.new) };
+
+    /// Reads the next bytes of the begun file into the front of the buffer.
+    fn read(&mut self, buf: &mut [u8]) -> Result<usize, ShelfError>
+        requires started { IsTrue (begun self.old) }
+
+        ensures bound { IfOk result (λ n. n ≤ length buf.old) }
+        ensures taken { IfOk result (λ n. Takes (left self.old) (left self.new) buf.new n) }
+        ensures end { IfOk result (λ n. 0 < length buf.old → EndsWhereEmpty (left self.old) n) }
+        ensures refused { OnErr result (left self.new ≡ left self.old) }
+        ensures no_memory_never { IsErrOf result ShelfError.NoMemory → ⊥ }
+
+        ensures begun { IsTrue (begun self.new) }
+        ensures files { KeepsFiles lends content self.old self.new }
+        ensures later { faults self.old ≤ faults self.new }
+        ensures cause { IsErrOf result ShelfError.Failed → Rose (faults self.old) (faults self.new) };
+}
