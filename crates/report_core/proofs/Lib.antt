@@ -1,0 +1,3 @@
+mod Lines
+mod Cuts
+pub mod TextLaws

@@ -1,0 +1,39 @@
+-- How growths and cuts of a text follow one another.
+use Rattle.std.proofs.Common.{◌≡◌, ℕ, Option, None, Some, List, [], ◌++◌, refl, sym, ap, ◌∙◌, append_assoc, append-nil}
+use Rattle.outside_core.proofs.WrittenLaws.{Appended-append, Appended-nothing}
+use Rattle.outside_core.specs.Written.{Appended, AppendedPrefix}
+use Rattle.report_defs.specs.Text.{appended, IsFront, Begins, IsCut}
+
+-- what is told begins with itself
+pub Begins-same : (a : Option (List ℕ)) → Begins a a
+Begins-same None = tt
+Begins-same (Some now) = record { rest = []; joined = sym (append-nil now) }
+
+-- and with what its beginning begins with
+pub Begins-trans : (a b c : Option (List ℕ)) → Begins a b → Begins b c → Begins a c
+Begins-trans a b None p q = tt
+Begins-trans a None (Some now) p q = absurd q
+Begins-trans None (Some mid) (Some now) p q = absurd p
+Begins-trans (Some before) (Some mid) (Some now) p q = record {
+  rest = p.rest ++ q.rest;
+  joined = q.joined ∙ ap (λ s. s ++ q.rest) p.joined ∙ append_assoc before p.rest q.rest;
+}
+
+-- a cut behind a growth is a cut of both
+pub IsCut-append : (a b written : Option (List ℕ)) (first second : List ℕ) → Appended a b first → IsCut b second written → IsCut a (first ++ second) written
+IsCut-append a b None first second p q = tt
+IsCut-append a None (Some written) first second p q = absurd q
+IsCut-append None (Some mid) (Some written) first second p q = absurd p
+IsCut-append (Some before) (Some mid) (Some written) first second p q = record {
+  rest = q.rest;
+  joined = sym (append_assoc before first second) ∙ ap (λ s. s ++ second) (sym p) ∙ q.joined;
+}
+
+-- a cut of a first part is a cut of the whole
+pub IsCut-longer : (a written : Option (List ℕ)) (first second : List ℕ) → IsCut a first written → IsCut a (first ++ second) written
+IsCut-longer a None first second p = tt
+IsCut-longer None (Some written) first second p = absurd p
+IsCut-longer (Some before) (Some written) first second p = record {
+  rest = p.rest ++ second;
+  joined = sym (append_assoc before first second) ∙ ap (λ s. s ++ second) p.joined ∙ append_assoc written p.rest second;
+}

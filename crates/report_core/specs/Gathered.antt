@@ -1,0 +1,24 @@
+-- What contracts see of a report.
+use Rattle.std.specs.Prelude.{ℕ, Bool, Option, List}
+use Rattle.report_defs.specs.Text.{appended}
+
+-- the bytes that it holds and hasn't written, and whether each write so far was taken
+pub record Gathered : Type 0 where
+  pub unwritten : List ℕ
+  pub live : Bool
+
+-- the text of a report with its sink: what is written, and then what the report holds
+abbrev pub text_of : Option (List ℕ) → Gathered → Option (List ℕ)
+text_of written report = appended written report.unwritten
+
+-- how many bytes it holds at most between two calls
+abbrev pub limit : ℕ
+limit = 65536
+
+-- how many bytes a line has at most, each number taken at 39 digits
+abbrev pub longest : ℕ
+longest = 4096
+
+-- what its memory has room for: the limit, and the line that is put behind it
+abbrev pub room : ℕ
+room = 69632

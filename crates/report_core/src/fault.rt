@@ -1,0 +1,41 @@
+ghost use Rattle.std.specs.Prelude.{◌≡◌};
+ghost use Rattle.report_core.specs.Faults.{word_of};
+
+use outside_core::SinkError;
+
+/// The input that was refused.
+#[derive(Clone, Copy, Debug, PartialEq, Eq)]
+pub enum FaultKind {
+    Words,
+    Policy,
+    Target,
+    Size,
+    Script,
+    Capture,
+}
+
+impl FaultKind {
+    /// The word that a report shows.
+    pub fn word(self) -> &'static str
+        ensures { result.now ≡ word_of self }
+    {
+        match self {
+            FaultKind::Words => "words",
+            FaultKind::Policy => "policy",
+            FaultKind::Target => "target",
+            FaultKind::Size => "size",
+            FaultKind::Script => "script",
+            FaultKind::Capture => "capture",
+        }
+    }
+}
+
+/// A write to the sink failed.
+#[derive(Clone, Copy, Debug, PartialEq, Eq)]
+pub struct WriteFault;
+
+impl From<SinkError> for WriteFault {
+    fn from(_error: SinkError) -> WriteFault {
+        WriteFault
+    }
+}

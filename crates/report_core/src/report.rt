@@ -1,0 +1,220 @@
+ghost use Rattle.std.specs.Prelude.{◌≡◌, ◌≤◌, [], ◌++◌, length, IsTrue, IsFalse, IfOk, OnOk, OnErr};
+ghost use Rattle.outside_core.specs.Faults.{Rose};
+ghost use Rattle.outside_core.specs.Written.{Appended};
+ghost use Rattle.report_defs.specs.Report.{arrival_line, departure_line, empty_line, end_line, fault_line};
+ghost use Rattle.report_defs.specs.Text.{Begins, IsCut};
+ghost use Rattle.report_core.specs.Faults.{word_of};
+ghost use Rattle.report_core.specs.Gathered.{limit, text_of};
+
+use crate::buffer::Buffer;
+use crate::fault::{FaultKind, WriteFault};
+use outside_core::Sink;
+use std::alloc::{AllocError, Global};
+use std::marker::Model;
+
+/// Lines for a sink. They gather in memory that is taken once, and go on to the sink when the next
+/// one doesn't fit and at `finish`. It is live until a write fails.
+#[derive(Drop)]
+pub struct Report {
+    buffer: Buffer,
+    live: bool,
+}
+
+impl Model for Report {
+    ghost use Rattle.std.specs.Prelude.{◌≤◌, length};
+    ghost use Rattle.report_core.specs.Gathered.{Gathered, limit};
+
+    ghost Value = { Gathered };
+
+    ghost view = { λ r. record { unwritten = r.buffer; live = r.live } };
+
+    ghost invariant = { λ r. length r.buffer ≤ limit };
+}
+
+impl Report {
+    pub fn new(alloc: Global) -> Result<Report, AllocError>
+        ensures empty { IfOk result (λ report. report.unwritten ≡ []) }
+        ensures live { IfOk result (λ report. IsTrue report.live) }
+    {
+        Ok(Report {
+            buffer: Buffer::new(alloc)?,
+            live: true,
+        })
+    }
+
+    pub fn live(&self) -> bool
+        ensures { result ≡ self.now.live }
+    {
+        self.live
+    }
+
+    /// A packet came to a leaf, with the ranks pushed from the root down.
+    pub fn arrived<K: Sink>(
+        &mut self,
+        sink: &mut K,
+        event: u64,
+        packet: u64,
+        leaf: &str,
+        ranks: &[u64],
+    ) -> Result<(), WriteFault>
+        requires live { IsTrue self.old.live }
+        requires leaf { length leaf.now ≤ 64 }
+        requires few { length ranks.now ≤ 65 }
+
+        ensures ok { OnOk result (Appended (text_of (K.written sink.old) self.old) (text_of (K.written sink.new) self.new) (arrival_line event packet leaf.now ranks.now)) }
+        ensures cut { OnErr result (IsCut (text_of (K.written sink.old) self.old) (arrival_line event packet leaf.now ranks.now) (K.written sink.new)) }
+        ensures begins { Begins (K.written sink.old) (K.written sink.new) }
+        ensures cause { OnErr result (Rose (K.faults sink.old) (K.faults sink.new)) }
+        ensures later { K.faults sink.old ≤ K.faults sink.new }
+        ensures live { OnOk result (IsTrue self.new.live) }
+        ensures dead { OnErr result (IsFalse self.new.live) }
+        ensures bounded { length self.new.unwritten ≤ limit }
+    {
+        let before = self.buffer.len();
+        self.buffer.put_arrival(event, packet, leaf, ranks);
+        let sent = self.buffer.settle(sink, before);
+        self.live = sent.is_ok();
+        sent
+    }
+
+    /// A packet left a leaf, with the ranks taken from the root down. The start is in nanoseconds.
+    pub fn departed<K: Sink>(
+        &mut self,
+        sink: &mut K,
+        event: u64,
+        packet: u64,
+        leaf: &str,
+        ranks: &[u64],
+        start: Option<u128>,
+    ) -> Result<(), WriteFault>
+        requires live { IsTrue self.old.live }
+        requires leaf { length leaf.now ≤ 64 }
+        requires few { length ranks.now ≤ 65 }
+
+        ensures ok { OnOk result (Appended (text_of (K.written sink.old) self.old) (text_of (K.written sink.new) self.new) (departure_line event packet leaf.now ranks.now start)) }
+        ensures cut { OnErr result (IsCut (text_of (K.written sink.old) self.old) (departure_line event packet leaf.now ranks.now start) (K.written sink.new)) }
+        ensures begins { Begins (K.written sink.old) (K.written sink.new) }
+        ensures cause { OnErr result (Rose (K.faults sink.old) (K.faults sink.new)) }
+        ensures later { K.faults sink.old ≤ K.faults sink.new }
+        ensures live { OnOk result (IsTrue self.new.live) }
+        ensures dead { OnErr result (IsFalse self.new.live) }
+        ensures bounded { length self.new.unwritten ≤ limit }
+    {
+        let before = self.buffer.len();
+        self.buffer.put_departure(event, packet, leaf, ranks, start);
+        let sent = self.buffer.settle(sink, before);
+        self.live = sent.is_ok();
+        sent
+    }
+
+    /// A departure found nothing to send.
+    pub fn empty<K: Sink>(&mut self, sink: &mut K, event: u64) -> Result<(), WriteFault>
+        requires live { IsTrue self.old.live }
+
+        ensures ok { OnOk result (Appended (text_of (K.written sink.old) self.old) (text_of (K.written sink.new) self.new) (empty_line event)) }
+        ensures cut { OnErr result (IsCut (text_of (K.written sink.old) self.old) (empty_line event) (K.written sink.new)) }
+        ensures begins { Begins (K.written sink.old) (K.written sink.new) }
+        ensures cause { OnErr result (Rose (K.faults sink.old) (K.faults sink.new)) }
+        ensures later { K.faults sink.old ≤ K.faults sink.new }
+        ensures live { OnOk result (IsTrue self.new.live) }
+        ensures dead { OnErr result (IsFalse self.new.live) }
+        ensures bounded { length self.new.unwritten ≤ limit }
+    {
+        let before = self.buffer.len();
+        self.buffer.put_empty(event);
+        let sent = self.buffer.settle(sink, before);
+        self.live = sent.is_ok();
+        sent
+    }
+
+    /// The run ended: how many packets were pushed, popped, found missing, are held and weren't sent.
+    pub fn end<K: Sink>(
+        &mut self,
+        sink: &mut K,
+        pushed: u64,
+        popped: u64,
+        empty: u64,
+        held: u64,
+        unsent: u64,
+    ) -> Result<(), WriteFault>
+        requires live { IsTrue self.old.live }
+
+        ensures ok { OnOk result (Appended (text_of (K.written sink.old) self.old) (text_of (K.written sink.new) self.new) (end_line pushed popped empty held unsent)) }
+        ensures cut { OnErr result (IsCut (text_of (K.written sink.old) self.old) (end_line pushed popped empty held unsent) (K.written sink.new)) }
+        ensures begins { Begins (K.written sink.old) (K.written sink.new) }
+        ensures cause { OnErr result (Rose (K.faults sink.old) (K.faults sink.new)) }
+        ensures later { K.faults sink.old ≤ K.faults sink.new }
+        ensures live { OnOk result (IsTrue self.new.live) }
+        ensures dead { OnErr result (IsFalse self.new.live) }
+        ensures bounded { length self.new.unwritten ≤ limit }
+    {
+        let before = self.buffer.len();
+        self.buffer.put_end(pushed, popped, empty, held, unsent);
+        let sent = self.buffer.settle(sink, before);
+        self.live = sent.is_ok();
+        sent
+    }
+
+    /// An input was refused. Its place is a line, a record or an event, and 0 where there is none.
+    pub fn fault<K: Sink>(
+        &mut self,
+        sink: &mut K,
+        kind: FaultKind,
+        code: u32,
+        place: u64,
+    ) -> Result<(), WriteFault>
+        requires live { IsTrue self.old.live }
+
+        ensures ok { OnOk result (Appended (text_of (K.written sink.old) self.old) (text_of (K.written sink.new) self.new) (fault_line (word_of kind) code place)) }
+        ensures cut { OnErr result (IsCut (text_of (K.written sink.old) self.old) (fault_line (word_of kind) code place) (K.written sink.new)) }
+        ensures begins { Begins (K.written sink.old) (K.written sink.new) }
+        ensures cause { OnErr result (Rose (K.faults sink.old) (K.faults sink.new)) }
+        ensures later { K.faults sink.old ≤ K.faults sink.new }
+        ensures live { OnOk result (IsTrue self.new.live) }
+        ensures dead { OnErr result (IsFalse self.new.live) }
+        ensures bounded { length self.new.unwritten ≤ limit }
+    {
+        let before = self.buffer.len();
+        self.buffer.put_fault(kind, code, place);
+        let sent = self.buffer.settle(sink, before);
+        self.live = sent.is_ok();
+        sent
+    }
+
+    /// Bytes of any number, as they are.
+    pub fn piece<K: Sink>(&mut self, sink: &mut K, bytes: &[u8]) -> Result<(), WriteFault>
+        requires live { IsTrue self.old.live }
+
+        ensures ok { OnOk result (Appended (text_of (K.written sink.old) self.old) (text_of (K.written sink.new) self.new) bytes.now) }
+        ensures cut { OnErr result (IsCut (text_of (K.written sink.old) self.old) bytes.now (K.written sink.new)) }
+        ensures begins { Begins (K.written sink.old) (K.written sink.new) }
+        ensures cause { OnErr result (Rose (K.faults sink.old) (K.faults sink.new)) }
+        ensures later { K.faults sink.old ≤ K.faults sink.new }
+        ensures live { OnOk result (IsTrue self.new.live) }
+        ensures dead { OnErr result (IsFalse self.new.live) }
+        ensures bounded { length self.new.unwritten ≤ limit }
+    {
+        let sent = self.buffer.put_or_send(sink, bytes);
+        self.live = sent.is_ok();
+        sent
+    }
+
+    /// Writes what is held. The sink then has the whole text.
+    pub fn finish<K: Sink>(&mut self, sink: &mut K) -> Result<(), WriteFault>
+        requires live { IsTrue self.old.live }
+
+        ensures ok { OnOk result (Appended (text_of (K.written sink.old) self.old) (text_of (K.written sink.new) self.new) []) }
+        ensures cut { OnErr result (IsCut (text_of (K.written sink.old) self.old) [] (K.written sink.new)) }
+        ensures begins { Begins (K.written sink.old) (K.written sink.new) }
+        ensures cause { OnErr result (Rose (K.faults sink.old) (K.faults sink.new)) }
+        ensures later { K.faults sink.old ≤ K.faults sink.new }
+        ensures live { OnOk result (IsTrue self.new.live) }
+        ensures dead { OnErr result (IsFalse self.new.live) }
+        ensures whole { OnOk result (Appended (text_of (K.written sink.old) self.old) (K.written sink.new) []) }
+        ensures none_left { OnOk result (self.new.unwritten ≡ []) }
+    {
+        let sent = self.buffer.flush(sink);
+        self.live = sent.is_ok();
+        sent
+    }
+}

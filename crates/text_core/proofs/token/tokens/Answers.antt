@@ -1,0 +1,24 @@
+use Rattle.std.proofs.Common.{◌≡◌, ◌+◌, ◌≤◌, List, length, drop, Some, sym, ◌∙◌, ap, arith, subst, length-drop}
+use Rattle.std.specs.List.{prefix_len}
+use Rattle.text_core.specs.Tokens.{is_blank, Stand, token_at, begun, after_blanks}
+use Rattle.text_core.proofs.TokenLemmas.{Stand-push, rest-from}
+use Rattle.text_core.proofs.token.tokens.Goals as goal
+
+pub loop-at-init : goal.loop-at-init
+loop-at-init c =
+    let start : c.blanks-at.result ≡ after_blanks c.args.line.now 0 = omega (arith, c.blanks-at.ensures.count) in
+    record { stand = subst (λ ts. Stand c.args.line.now 0 ts c.blanks-at.result) (sym (c.from_vec-found.ensures ∙ c.new.ensures.items)) start; inside = omega arith }
+
+pub loop-at-preserved : goal.loop-at-preserved
+loop-at-preserved c =
+    let line = c.args.line.now in
+    let at = c.loop-at.at in
+    let n = c.in-Some.length in
+    let token : token_at (drop at line) ≡ Some (begun c.in-Some.kind n) = sym (c.in-Some.ensures.token ∙ ap token_at (rest-from at line)) in
+    let fits = c.in-Some.ensures.fits in
+    let length_is = ap length (rest-from at line) ∙ length-drop at line in
+    let inside : at + n ≤ length line = omega arith in
+    let count : at + n + c.blanks.result ≡ after_blanks line (at + n) = ap (λ m. at + n + m) (c.blanks.ensures.count ∙ ap (prefix_len is_blank) (rest-from (at + n) line)) in
+    let within = c.blanks.ensures.within in
+    let rest_is = ap length (rest-from (at + n) line) ∙ length-drop (at + n) line in
+    record { stand = let P : List _ → Type 0 = λ ts. Stand line 0 ts (at + n + c.blanks.result) in subst P (sym c.in_ok-push.ensures.ok) (subst (Stand line 0 _) (sym count) (Stand-push line 0 _ _ at n c.loop-at.invariant.stand token (fits.0) inside)); inside = omega arith }

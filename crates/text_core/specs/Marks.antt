@@ -1,0 +1,48 @@
+-- The marks of the language and their bytes.
+use Rattle.std.specs.Prelude.{ℕ, Bool, List, Option, Some, None, if◌then◌else◌, codes}
+use Rattle.std.specs.Str.{bytes_eq}
+use Rattle.text_core.specs.declared.mark.Mark.{Mark}
+use Rattle.text_core.specs.declared.mark.Mark.TheVariants as m
+
+-- how a mark is written
+abbrev pub mark_text : Mark → List ℕ
+mark_text m.DotDot = codes ".."
+mark_text m.Dot = codes "."
+mark_text m.Slash = codes "/"
+mark_text m.Plus = codes "+"
+mark_text m.Minus = codes "-"
+mark_text m.Star = codes "*"
+mark_text m.Open = codes "("
+mark_text m.Close = codes ")"
+mark_text m.Comma = codes ","
+mark_text m.Is = codes "="
+mark_text m.Equal = codes "=="
+mark_text m.NotEqual = codes "!="
+mark_text m.Less = codes "<"
+mark_text m.LessEq = codes "<="
+mark_text m.More = codes ">"
+mark_text m.MoreEq = codes ">="
+
+abbrev pub is_mark_text : List ℕ → Mark → Bool
+is_mark_text w m = bytes_eq w (mark_text m)
+
+-- the mark that is written so, if any
+abbrev pub mark_of : List ℕ → Option Mark
+mark_of w =
+    if is_mark_text w m.DotDot then Some m.DotDot
+    else (if is_mark_text w m.Dot then Some m.Dot
+    else (if is_mark_text w m.Slash then Some m.Slash
+    else (if is_mark_text w m.Plus then Some m.Plus
+    else (if is_mark_text w m.Minus then Some m.Minus
+    else (if is_mark_text w m.Star then Some m.Star
+    else (if is_mark_text w m.Open then Some m.Open
+    else (if is_mark_text w m.Close then Some m.Close
+    else (if is_mark_text w m.Comma then Some m.Comma
+    else (if is_mark_text w m.Is then Some m.Is
+    else (if is_mark_text w m.Equal then Some m.Equal
+    else (if is_mark_text w m.NotEqual then Some m.NotEqual
+    else (if is_mark_text w m.Less then Some m.Less
+    else (if is_mark_text w m.LessEq then Some m.LessEq
+    else (if is_mark_text w m.More then Some m.More
+    else (if is_mark_text w m.MoreEq then Some m.MoreEq
+    else None)))))))))))))))

@@ -1,0 +1,87 @@
+-- What the tokens of a line are.
+use Rattle.std.specs.Prelude.{◌≡◌, ℕ, ◌+◌, ◌-◌, ◌<◌, ◌≤◌, ◌==◌, Bool, false, ◌&&◌, ◌||◌, if◌then◌else◌, List, [], ◌∷◌, length, drop, Option, Some, None, option_map}
+use Rattle.std.specs.List.{prefix_len}
+use Rattle.std.specs.Char.{is_ascii_digit, is_ascii_alphabetic}
+use Rattle.text_core.specs.declared.token.TokenKind.{TokenKind}
+use Rattle.text_core.specs.declared.token.TokenKind.TheVariants.{Word, Number, Mark}
+use Rattle.text_core.specs.declared.token.Token.{Token}
+
+abbrev pub is_blank : ℕ → Bool
+is_blank b = b == 32 || b == 9
+
+abbrev pub is_digit : ℕ → Bool
+is_digit b = is_ascii_digit b
+
+-- a letter or `_`
+abbrev pub is_word_start : ℕ → Bool
+is_word_start b = is_ascii_alphabetic b || b == 95
+
+abbrev pub is_word_byte : ℕ → Bool
+is_word_byte b = is_word_start b || is_digit b
+
+-- what begins with a letter or `_`
+abbrev pub begins_word : List ℕ → Bool
+begins_word [] = false
+begins_word (b ∷ bs) = is_word_start b
+
+abbrev pub begins_with : ℕ → List ℕ → Bool
+begins_with c [] = false
+begins_with c (b ∷ bs) = b == c
+
+-- `. / + - * ( ) , = < >`
+abbrev pub is_mark : ℕ → Bool
+is_mark b = b == 46 || b == 47 || b == 43 || b == 45 || b == 42 || b == 40 || b == 41 || b == 44 || b == 61 || b == 60 || b == 62
+
+-- `..`, or one of `= ! < >` before `=`
+abbrev pub is_double_mark : ℕ → ℕ → Bool
+is_double_mark b c = (b == 46 && c == 46) || ((b == 61 || b == 33 || b == 60 || b == 62) && c == 61)
+
+abbrev pub single_mark : ℕ → Option ℕ
+single_mark b = if is_mark b then Some 1 else None
+
+-- how long the longest mark is with which the bytes begin
+abbrev pub mark_length : List ℕ → Option ℕ
+mark_length [] = None
+mark_length (b ∷ []) = single_mark b
+mark_length (b ∷ c ∷ bs) = if is_double_mark b c then Some 2 else single_mark b
+
+abbrev pub Begun : Type 0
+Begun = TokenKind × ℕ
+
+abbrev pub begun : TokenKind → ℕ → Begun
+begun kind n = (kind, n)
+
+abbrev pub kind_and_length : Begun → Begun
+kind_and_length p = p
+
+-- a number ends before whatever isn't a digit, but no letter may stand there
+abbrev pub number_at : List ℕ → ℕ → Option Begun
+number_at bs n = if begins_word (drop n bs) then None else Some (begun Number n)
+
+-- the kind and the length of the longest token with which the bytes begin
+abbrev pub token_at : List ℕ → Option Begun
+token_at [] = None
+token_at (b ∷ bs) =
+    if is_word_start b then Some (begun Word (prefix_len is_word_byte (b ∷ bs)))
+    else (if is_digit b then number_at (b ∷ bs) (prefix_len is_digit (b ∷ bs))
+    else option_map (begun Mark) (mark_length (b ∷ bs)))
+
+-- the place after the blanks that stand from a place on
+abbrev pub after_blanks : List ℕ → ℕ → ℕ
+after_blanks line from = from + prefix_len is_blank (drop from line)
+
+-- the tokens stand in the line one after another from a place on, each the longest, with blanks alone before and between them, up to a place before which blanks stand
+abbrev pub Stand : List ℕ → ℕ → List Token → ℕ → Type 0
+Stand line from [] to = to ≡ after_blanks line from
+Stand line from (t ∷ ts) to = (t.start ≡ after_blanks line from) × (t.start < t.end) × (t.end ≤ length line) × (token_at (drop t.start line) ≡ Some (begun t.kind (t.end - t.start))) × Stand line t.end ts to
+
+-- no token begins at this place, where the line isn't over
+pub record IsBadAt (line : List ℕ) (place : ℕ) : Type 0 where
+  pub inside : place < length line
+  pub none : token_at (drop place line) ≡ None
+
+-- it is the first such place: tokens stand up to it
+pub record IsFaultOf (line : List ℕ) (place : ℕ) : Type 0 where
+  pub before : List Token
+  pub stand : Stand line 0 before place
+  pub bad : IsBadAt line place

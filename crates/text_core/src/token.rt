@@ -1,0 +1,153 @@
+ghost use Rattle.std.specs.Prelude.{◌≡◌, ◌+◌, ◌<◌, ◌≤◌, ℕ, length, List, [], take_while, drop, IfOk, IfSome, OnSome, option_map};
+ghost use Rattle.std.specs.List.{prefix_len};
+ghost use Rattle.text_core.specs.Tokens.{is_blank, is_digit, is_word_byte, is_word_start, token_at, mark_length, Stand, IsBadAt, IsFaultOf, kind_and_length};
+
+use list_core::List;
+use std::alloc::{AllocError, AllocFailed, Global};
+
+/// What a token is.
+#[derive(Clone, Copy, Debug, PartialEq, Eq)]
+pub enum TokenKind {
+    Word,
+    Number,
+    Mark,
+}
+
+/// The span of a token in its line.
+#[derive(Clone, Copy, Debug, PartialEq, Eq)]
+pub struct Token {
+    pub kind: TokenKind,
+    pub start: usize,
+    pub end: usize,
+}
+
+/// Why a line has no tokens.
+#[derive(Debug, Drop)]
+pub enum TokenFault {
+    /// No token begins at this place.
+    Bad(usize),
+    NoMemory,
+}
+
+impl From<AllocError> for TokenFault {
+    ghost use Rattle.std.specs.Prelude.{◌≡◌};
+    ghost use Rattle.text_core.specs.declared.token.TokenFault.TheVariants.{NoMemory};
+
+    ghost from_gives = { λ _ e. e ≡ NoMemory };
+
+    fn from(_: AllocError) -> Self {
+        TokenFault::NoMemory
+    }
+}
+
+impl<T: Drop> From<AllocFailed<T>> for TokenFault {
+    ghost use Rattle.std.specs.Prelude.{◌≡◌};
+    ghost use Rattle.text_core.specs.declared.token.TokenFault.TheVariants.{NoMemory};
+
+    ghost from_gives = { λ _ e. e ≡ NoMemory };
+
+    fn from(_: AllocFailed<T>) -> Self {
+        TokenFault::NoMemory
+    }
+}
+
+fn is_blank(byte: u8) -> bool
+    ensures { result ≡ is_blank byte }
+{
+    matches!(byte, b' ' | b'\t')
+}
+
+fn is_word_start(byte: u8) -> bool
+    ensures { result ≡ is_word_start byte }
+{
+    byte.is_ascii_alphabetic() || byte == b'_'
+}
+
+fn is_digit(byte: u8) -> bool
+    ensures { result ≡ is_digit byte }
+{
+    byte.is_ascii_digit()
+}
+
+fn is_word_byte(byte: u8) -> bool
+    ensures { result ≡ is_word_byte byte }
+{
+    is_word_start(byte) || is_digit(byte)
+}
+
+/// How many blanks the bytes begin with.
+fn blanks(bytes: &[u8]) -> usize
+    ensures count { result ≡ prefix_len is_blank bytes.now }
+    ensures within { result ≤ length bytes.now }
+{
+    bytes.iter().take_while(|byte| is_blank(**byte)).count()
+}
+
+/// How many bytes of a word the bytes begin with.
+fn word_bytes(bytes: &[u8]) -> usize
+    ensures { result ≡ prefix_len is_word_byte bytes.now }
+{
+    bytes.iter().take_while(|byte| is_word_byte(**byte)).count()
+}
+
+/// How many digits the bytes begin with.
+fn digits(bytes: &[u8]) -> usize
+    ensures { result ≡ prefix_len is_digit bytes.now }
+{
+    bytes.iter().take_while(|byte| is_digit(**byte)).count()
+}
+
+/// How long the longest mark is with which the bytes begin.
+fn mark_length(bytes: &[u8]) -> Option<usize>
+    ensures { result ≡ mark_length bytes.now }
+{
+    match bytes {
+        [b'.', b'.', ..] | [b'=' | b'!' | b'<' | b'>', b'=', ..] => Some(2),
+        [
+            b'.' | b'/' | b'+' | b'-' | b'*' | b'(' | b')' | b',' | b'=' | b'<' | b'>',
+            ..
+        ] => Some(1),
+        _ => None,
+    }
+}
+
+/// The longest token with which the bytes begin.
+fn token_at(bytes: &[u8]) -> Option<(TokenKind, usize)>
+    ensures token { option_map kind_and_length result ≡ token_at bytes.now }
+    ensures fits { IfSome result (λ r. (0 < r.1) × (r.1 ≤ length bytes.now)) }
+{
+    let first = *bytes.first()?;
+    if is_word_start(first) {
+        return Some((TokenKind::Word, word_bytes(bytes)));
+    }
+    if !is_digit(first) {
+        return mark_length(bytes).map(|length| (TokenKind::Mark, length));
+    }
+    let length = digits(bytes);
+    if length < bytes.len() && is_word_start(bytes[length]) {
+        return None;
+    }
+    Some((TokenKind::Number, length))
+}
+
+/// The tokens of a line.
+pub fn tokens(alloc: Global, line: &[u8]) -> Result<List<Token>, TokenFault>
+    ensures ok { IfOk result (λ ts. Stand line.now 0 ts (length line.now)) }
+    ensures bad { (p : ℕ) → result ≡ Err (TokenFault.Bad p) → IsFaultOf line.now p }
+{
+    let mut found = List::from_vec(Vec::new(alloc));
+    let mut at = blanks(line);
+    while at < line.len() {
+        let Some((kind, length)) = token_at(&line[at..]) else {
+            return Err(TokenFault::Bad(at));
+        };
+        let end = at + length;
+        found.push(Token {
+            kind,
+            start: at,
+            end,
+        })?;
+        at = end + blanks(&line[end..]);
+    }
+    Ok(found)
+}
