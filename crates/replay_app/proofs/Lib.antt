@@ -1,0 +1,4 @@
+pub mod LeafQueues
+pub mod LeafRuns
+pub mod TurnLaws
+pub mod TurnRuns
