@@ -21,9 +21,13 @@ most_captured = 262144
 abbrev pub most_records : ℕ
 most_records = 4294967295
 
--- the moment of a record in nanoseconds, where the fraction counts those or microseconds
+-- the moment in nanoseconds of so many seconds and this fraction, which counts nanoseconds or microseconds
+abbrev pub moment_at : Bool → ℕ → ℕ → ℕ
+moment_at nano seconds fraction = seconds * 10 ^ 9 + (if nano then fraction else fraction * 1000)
+
+-- the moment of a record
 abbrev pub moment : Bool → Record → ℕ
-moment nano r = r.seconds * 10 ^ 9 + (if nano then r.fraction else r.fraction * 1000)
+moment nano r = moment_at nano r.seconds r.fraction
 
 -- how many captured bytes the record at the front of these bytes says that it has
 abbrev pub captured_len : Bool → List ℕ → ℕ

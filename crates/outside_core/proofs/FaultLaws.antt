@@ -1,10 +1,14 @@
-use Rattle.std.proofs.Common.{◌≡◌, ◌<◌, ◌≤◌, ◌-◌, ◌^◌, ℕ, ◌⊎◌, inl, inr, arith}
+use Rattle.std.proofs.Common.{◌≡◌, ◌<◌, ◌≤◌, ◌-◌, ◌^◌, ◌↔◌, ℕ, ◌⊎◌, inl, inr, arith}
 use Rattle.outside_core.specs.Faults.{one_more, Rose}
 
 -- a count that rose before later calls rose over all of them
-pub Rose-then : (a b c : ℕ) → Rose a b → b ≤ c → Rose a c
-Rose-then a b c rose later = omega (arith, rose, later)
+pub rose_then : (a b c : ℕ) → Rose a b → b ≤ c → Rose a c
+rose_then a b c rose later = omega (arith, rose, later)
 
 -- a count that rose in a later call rose over all of them
-pub Rose-after : (a b c : ℕ) → a ≤ b → Rose b c → Rose a c
-Rose-after a b c later rose = omega (arith, rose, later)
+pub rose_after : (a b c : ℕ) → a ≤ b → Rose b c → Rose a c
+rose_after a b c later rose = omega (arith, rose, later)
+
+-- a count of 64 bits rose exactly where it is greater, or stands at its last value
+pub rose_greater_or_last : (before now : ℕ) → now < 2 ^ 64 → Rose before now ↔ ((before < now) ⊎ (now ≡ 2 ^ 64 - 1))
+rose_greater_or_last before now bound = (λ rose. grind (arith, rose, bound), λ either. elim either [ inl more ↦ omega (arith, more, bound) | inr last ↦ omega (arith, last) ])

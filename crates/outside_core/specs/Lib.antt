@@ -6,3 +6,4 @@ pub mod Stored
 pub mod Memory
 pub mod Plain
 pub mod Reading
+pub mod System

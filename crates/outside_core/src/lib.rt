@@ -9,6 +9,8 @@ mod plain;
 mod shelves;
 mod sinks;
 mod system;
+#[cfg(test)]
+mod tests;
 
 pub use loading::{LoadError, load};
 pub use memory::{MemShelf, MemSink};

@@ -76,16 +76,16 @@ impl Shelf for MemShelf {
         ensures setting { KeepsSetting self.old self.new }
     {
         self.reading = None;
-        if self.calls.fails_next() {
-            raise(&mut self.faults);
-            return Err(ShelfError::Failed);
+        match (self.calls.fails_next(), place_of(&self.files, name)) {
+            (false, Some(place)) => {
+                self.reading = Some(Cursor { place, at: 0 });
+                Ok(())
+            }
+            _ => {
+                raise(&mut self.faults);
+                Err(ShelfError::Failed)
+            }
         }
-        let Some(place) = place_of(&self.files, name) else {
-            raise(&mut self.faults);
-            return Err(ShelfError::Failed);
-        };
-        self.reading = Some(Cursor { place, at: 0 });
-        Ok(())
     }
 
     fn read(&mut self, buf: &mut [u8]) -> Result<usize, ShelfError>
@@ -196,9 +196,8 @@ impl Sink for MemSink {
         ensures calls { writes_made self.new ≡ one_more (writes_made self.old) }
         ensures setting { KeepsSinkSetting self.old self.new }
     {
-        let fails = self.calls.fails_next();
         let left = self.room - self.bytes.len();
-        if fails || left == 0 {
+        if self.calls.fails_next() || left == 0 {
             raise(&mut self.faults);
             return Err(SinkError::Failed);
         }

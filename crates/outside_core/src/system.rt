@@ -1,4 +1,4 @@
-ghost use Rattle.std.specs.Prelude.{◌≡◌, ◌≤◌, Option, List, ℕ, None, true, is_some, length, IfOk};
+ghost use Rattle.std.specs.Prelude.{◌≤◌, length, IfOk};
 
 use crate::faults::raise;
 use crate::shelves::{Shelf, ShelfError};
@@ -16,7 +16,13 @@ pub struct FileShelf<R: Files + Drop> {
 }
 
 impl<R: Files + Drop> FileShelf<R> {
-    pub fn new(rt: R) -> FileShelf<R> {
+    ghost use Rattle.std.specs.Prelude.{◌≡◌, IsFalse};
+    ghost use Rattle.outside_core.specs.System.{is_begun, shelf_faults};
+
+    pub fn new(rt: R) -> FileShelf<R>
+        ensures begun { IsFalse (is_begun result) }
+        ensures faults { shelf_faults result ≡ 0 }
+    {
         FileShelf {
             rt,
             reading: None,
@@ -26,17 +32,27 @@ impl<R: Files + Drop> FileShelf<R> {
 }
 
 impl<R: Files + Drop> Shelf for FileShelf<R> {
+    ghost use Rattle.std.specs.Prelude.{◌≡◌, ◌≤◌, ◌<◌, ℕ, List, Option, None, true, length, IsTrue, IsFalse, IsErrOf, IfOk, OnOk, OnErr, MatchResult};
+    ghost use Rattle.outside_core.specs.Faults.{one_more, Rose};
+    ghost use Rattle.outside_core.specs.Files.{KeepsFiles, Takes, EndsWhereEmpty};
+    ghost use Rattle.outside_core.specs.System.{is_begun, shelf_faults};
+
     ghost lends = { λ _ _. true };
 
     ghost content = { λ _ _. None };
 
-    ghost begun = { λ s. is_some s.reading };
+    ghost begun = { is_begun };
 
     ghost left = { λ _. None };
 
-    ghost faults = { λ s. s.faults };
+    ghost faults = { shelf_faults };
 
-    fn begin(&mut self, name: &str) -> Result<(), ShelfError> {
+    fn begin(&mut self, name: &str) -> Result<(), ShelfError>
+        ensures begun { OnOk result (IsTrue (is_begun self.new)) }
+        ensures refused { OnErr result (IsFalse (is_begun self.new)) }
+        ensures later { shelf_faults self.old ≤ shelf_faults self.new }
+        ensures faults { MatchResult result (λ _. shelf_faults self.new ≡ shelf_faults self.old) (λ _. shelf_faults self.new ≡ one_more (shelf_faults self.old)) }
+    {
         self.reading = None;
         match fs::open(&self.rt, name) {
             Ok(file) => {
@@ -50,7 +66,15 @@ impl<R: Files + Drop> Shelf for FileShelf<R> {
         }
     }
 
-    fn read(&mut self, buf: &mut [u8]) -> Result<usize, ShelfError> {
+    fn read(&mut self, buf: &mut [u8]) -> Result<usize, ShelfError>
+        requires started { IsTrue (is_begun self.old) }
+
+        ensures bound { IfOk result (λ n. n ≤ length buf.old) }
+        ensures begun { IsTrue (is_begun self.new) }
+        ensures no_memory_never { IsErrOf result ShelfError.NoMemory → ⊥ }
+        ensures later { shelf_faults self.old ≤ shelf_faults self.new }
+        ensures faults { MatchResult result (λ _. shelf_faults self.new ≡ shelf_faults self.old) (λ _. shelf_faults self.new ≡ one_more (shelf_faults self.old)) }
+    {
         let Some(file) = &mut self.reading else {
             unreachable!()
         };
@@ -72,17 +96,34 @@ pub struct StdSink<R: Print + Drop> {
 }
 
 impl<R: Print + Drop> StdSink<R> {
-    pub fn new(rt: R) -> StdSink<R> {
+    ghost use Rattle.std.specs.Prelude.{◌≡◌};
+    ghost use Rattle.outside_core.specs.System.{sink_faults};
+
+    pub fn new(rt: R) -> StdSink<R>
+        ensures faults { sink_faults result ≡ 0 }
+    {
         StdSink { rt, faults: 0 }
     }
 }
 
 impl<R: Print + Drop> Sink for StdSink<R> {
+    ghost use Rattle.std.specs.Prelude.{◌≡◌, ◌≤◌, ◌<◌, ℕ, List, Option, None, [], take, length, IsErrOf, IfOk, OnErr, MatchResult};
+    ghost use Rattle.outside_core.specs.Faults.{one_more, Rose};
+    ghost use Rattle.outside_core.specs.Written.{Appended};
+    ghost use Rattle.outside_core.specs.System.{sink_faults};
+
     ghost written = { λ _. None };
 
-    ghost faults = { λ s. s.faults };
+    ghost faults = { sink_faults };
 
-    fn write(&mut self, piece: &[u8]) -> Result<usize, SinkError> {
+    fn write(&mut self, piece: &[u8]) -> Result<usize, SinkError>
+        requires some { 0 < length piece.now }
+
+        ensures least { IfOk result (λ n. 0 < n) }
+        ensures bound { IfOk result (λ n. n ≤ length piece.now) }
+        ensures later { sink_faults self.old ≤ sink_faults self.new }
+        ensures faults { MatchResult result (λ _. sink_faults self.new ≡ sink_faults self.old) (λ _. sink_faults self.new ≡ one_more (sink_faults self.old)) }
+    {
         match write_flushed(io::writer(&self.rt), piece) {
             Ok(count) if 0 < count => Ok(count),
             _ => {

@@ -1,6 +1,8 @@
-//! Packets as the layers above the capture see them.
+//! Packets as the layers above the capture see them: their header fields, flows and classes.
 #![tactic(auto)]
 
+mod fields;
 mod packet;
 
+pub use fields::Fields;
 pub use packet::{Departed, Packet};

@@ -91,3 +91,26 @@ fn place_for(held: &[Held], rank: u64) -> usize
 {
     held.partition_point(|e| e.rank <= rank)
 }
+
+#[cfg(test)]
+mod tests {
+    use super::*;
+    use std::test::Fail;
+
+    #[test]
+    fn ties_leave_in_order_of_arrival(rt: HostRuntime) -> Result<(), Fail> {
+        let mut queue = SortedPifo::new(rt.alloc());
+        queue.reserve(3)?;
+        assert_eq!(rt; queue.pop(), None);
+        queue.push(5, 1);
+        queue.push(3, 2);
+        queue.push(3, 7);
+        assert_eq!(rt; queue.len(), 3);
+        assert_eq!(rt; queue.pop(), Some((3, 2)));
+        assert_eq!(rt; queue.pop(), Some((3, 7)));
+        assert_eq!(rt; queue.pop(), Some((5, 1)));
+        assert_eq!(rt; queue.pop(), None);
+        assert_eq!(rt; queue.pushed(), 3);
+        Ok(())
+    }
+}

@@ -1,5 +1,5 @@
 -- Steps of checked transactions are tame and leave the variables in their ranges.
-use Rattle.std.proofs.Common.{ℕ, ◌≤◌, List, [], ◌∷◌, true, false, cond, arith}
+use Rattle.std.proofs.Common.{ℕ, ◌≤◌, List, [], ◌∷◌, ◌++◌, true, false, cond, arith}
 use Rattle.std.specs.List.{AllByRecursion}
 use Rattle.rank_defs.specs.declared.environment.Env.{Env}
 use Rattle.rank_defs.specs.declared.environment.Who.{Who}
@@ -12,8 +12,8 @@ use Rattle.rank_defs.specs.Steps.{write, written, assigned, run, push_step, pop_
 use Rattle.rank_defs.specs.Shapes.{IsShaped, AreWithin, IsStateInRange, IsMemoryInRange, IsEnvInRange}
 use Rattle.rank_defs.specs.Ranges.{declared}
 use Rattle.rank_defs.specs.Checks.{IsCheckedAssignment, IsChecked}
-use Rattle.rank_defs.specs.Tame.{ArePartsInside, IsTame, IsSafePush, IsSafePop}
-use Rattle.rank_defs.proofs.Sound.{parts_in}
+use Rattle.rank_defs.specs.Tame.{IsTameAssignment, IsTame, IsAlwaysTame, IsSafePush, IsSafePop}
+use Rattle.rank_defs.proofs.Sound.{parts_in, parts_narrow}
 use Rattle.rank_defs.proofs.Spans.{within-set, within-firsts, clamped-within, target-proper, variables-inside}
 
 -- what is written lies in its span
@@ -41,15 +41,25 @@ run-in_range p shaped env [] m h = h
 run-in_range p shaped env (a ∷ rest) m h =
     run-in_range p shaped env rest (assigned p env m a) (assigned-in_range p shaped env m a h)
 
--- the parts of a checked assignment have their values inside their intervals
-pub checked-parts : (p : Program) (env : Env) (m : Memory) (a : Assignment) → IsEnvInRange env → IsMemoryInRange p m → IsCheckedAssignment p a → ArePartsInside (declared p) (variable_in env m) a.formula
-checked-parts p env m a e h c =
-    parts_in (declared p) (variable_in env m) (variables-inside p env m e h) a.formula c.divides
+-- a checked assignment is tame from all values of the variables in their ranges
+pub checked-tame : (p : Program) (env : Env) (m : Memory) (a : Assignment) → IsEnvInRange env → IsMemoryInRange p m → IsCheckedAssignment p a → IsTameAssignment p env m a
+checked-tame p env m a e h c =
+    let parts = parts_in (declared p) (variable_in env m) (variables-inside p env m e h) a.formula c.divides
+    in record { typed = c.typed; inside = parts; narrow = parts_narrow (declared p) (variable_in env m) a.formula c.narrow parts }
+
+all-tame : (p : Program) (env : Env) (m : Memory) → IsEnvInRange env → IsMemoryInRange p m → (xs ys : List Assignment) → AllByRecursion (IsCheckedAssignment p) xs → AllByRecursion (IsCheckedAssignment p) ys → AllByRecursion (IsTameAssignment p env m) (xs ++ ys)
+all-tame p env m e h [] [] c d = tt
+all-tame p env m e h [] (y ∷ ys) c d = (checked-tame p env m y e h d.0, all-tame p env m e h [] ys c d.1)
+all-tame p env m e h (x ∷ xs) ys c d = (checked-tame p env m x e h c.0, all-tame p env m e h xs ys c.1 d)
+
+-- and so is a checked transaction
+pub always-tame : (p : Program) → IsChecked p → IsAlwaysTame p
+always-tame p c env e m h = all-tame p env m e h p.push p.pop c.push c.pop
 
 pub run-tame : (p : Program) → IsShaped p → (env : Env) → IsEnvInRange env → (rest : List Assignment) → AllByRecursion (IsCheckedAssignment p) rest → (m : Memory) → IsMemoryInRange p m → IsTame p env rest m
 run-tame p shaped env e [] c m h = tt
 run-tame p shaped env e (a ∷ rest) c m h =
-    (checked-parts p env m a e h c.0, run-tame p shaped env e rest c.1 (assigned p env m a) (assigned-in_range p shaped env m a h))
+    (checked-tame p env m a e h c.0, run-tame p shaped env e rest c.1 (assigned p env m a) (assigned-in_range p shaped env m a h))
 
 -- a step begins in range
 pub memory-in_range : (p : Program) (who : Who) (r : ℕ) (s : State) → IsStateInRange p s → r ≤ max_rank → IsMemoryInRange p (memory_for who r s)

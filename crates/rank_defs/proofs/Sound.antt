@@ -8,9 +8,9 @@ use Rattle.rank_defs.specs.declared.expression.Op.TheVariants.{Add, Sub, Mul, Di
 use Rattle.rank_defs.specs.declared.expression.Var.{Var as Name}
 use Rattle.rank_defs.specs.declared.range.Range.{Range}
 use Rattle.rank_defs.specs.Formulas.{Formula, number, variable, two, negation, choice, group}
-use Rattle.rank_defs.specs.Values.{Value, num, truth, nothing, value_of, apply, quotient, negated, chosen}
-use Rattle.rank_defs.specs.Ranges.{Sort, counts, tells, clash, sort_of, sort_of_two, sort_of_negation, sort_of_choice, range, range_of, range_of_two, joined_range, holds_zero, may_divide, parts_divide, IsNarrow, ArePartsNarrow}
-use Rattle.rank_defs.specs.Tame.{IsInside, AreInside, HasValueInside, ArePartsInside}
+use Rattle.rank_defs.specs.Values.{Value, num, truth, nothing, value_of, apply, quotient, negated, chosen, FitsWide}
+use Rattle.rank_defs.specs.Ranges.{Sort, counts, tells, clash, sort_of, sort_of_two, sort_of_negation, sort_of_choice, range, range_of, range_of_two, joined_range, holds_zero, may_divide, parts_divide, widest, IsNarrow, ArePartsNarrow}
+use Rattle.rank_defs.specs.Tame.{IsInside, AreInside, HasValueIn, ArePartsIn}
 use Rattle.rank_defs.proofs.Corners.{Between-mul_left, Between-mul_right, Between-div_left, Between-div_right, within_corners}
 
 -- a value of this sort, inside the interval where it is a number
@@ -19,11 +19,6 @@ Agrees counts r (num x) = IsInside r x
 Agrees tells r (truth t) = Unit {0}
 Agrees clash r w = Unit {0}
 Agrees s r w = ⊥
-
--- a number that 128 bits hold
-abbrev pub FitsWide : Value → Type 0
-FitsWide (num x) = FitsSigned w128 x
-FitsWide w = ⊥
 
 -- a divisor that isn't 0 has a quotient
 quotient-is : (x y : ℤ) → y ≢ pos 0 → quotient x y ≡ num (int_div x y)
@@ -96,7 +91,7 @@ truth_from r (num v) h = absurd h
 truth_from r nothing h = absurd h
 
 -- an expression that is a number has a value, inside its interval
-pub number_in : (ranges : Name → Range) (values : Name → ℕ) → AreInside ranges values → (f : Formula) → parts_divide ranges f ≡ true → HasValueInside ranges values f
+pub number_in : (ranges : Name → Range) (values : Name → ℕ) → AreInside ranges values → (f : Formula) → parts_divide ranges f ≡ true → HasValueIn (range_of ranges f) values f
 number_in ranges values inside f d s =
     number_from (range_of ranges f) (value_of values f) (subst (λ (k : Sort). Agrees k (range_of ranges f) (value_of values f)) s (sound ranges values inside f d))
 
@@ -106,7 +101,7 @@ truth_in ranges values inside f d s =
     truth_from (range_of ranges f) (value_of values f) (subst (λ (k : Sort). Agrees k (range_of ranges f) (value_of values f)) s (sound ranges values inside f d))
 
 -- each part that is a number has a value, inside its interval
-pub parts_in : (ranges : Name → Range) (values : Name → ℕ) → AreInside ranges values → (f : Formula) → parts_divide ranges f ≡ true → ArePartsInside ranges values f
+pub parts_in : (ranges : Name → Range) (values : Name → ℕ) → AreInside ranges values → (f : Formula) → parts_divide ranges f ≡ true → ArePartsIn (range_of ranges) values f
 parts_in ranges values inside (number n) d = number_in ranges values inside (number n) d
 parts_in ranges values inside (variable v) d = number_in ranges values inside (variable v) d
 parts_in ranges values inside (two op a b) d =
@@ -145,3 +140,18 @@ pub value_fits : (ranges : Name → Range) (values : Name → ℕ) → AreInside
 value_fits ranges values inside f n d s =
     let v = number_in ranges values inside f d s
     in rw v.1 (inside_fits (range_of ranges f) v.0 (narrow_whole ranges f n s) v.2)
+
+widened : (r : Range) (values : Name → ℕ) (f : Formula) → IsNarrow r → HasValueIn r values f → HasValueIn widest values f
+widened r values f n h s =
+    let v = h s
+    in (v.0, v.1, let l = v.2.0 in let k = v.2.1 in (omega (arith, ints, n.low), omega (arith, ints, n.high)))
+
+-- where the parts' intervals are narrow, so are the values
+pub parts_narrow : (ranges : Name → Range) (values : Name → ℕ) (f : Formula) → ArePartsNarrow ranges f → ArePartsIn (range_of ranges) values f → ArePartsIn (λ part. widest) values f
+parts_narrow ranges values (number n) h k = widened (range_of ranges (number n)) values (number n) h k
+parts_narrow ranges values (variable v) h k = widened (range_of ranges (variable v)) values (variable v) h k
+parts_narrow ranges values (two op a b) h k =
+    (parts_narrow ranges values a h.0 k.0, parts_narrow ranges values b h.1 k.1, widened (range_of ranges (two op a b)) values (two op a b) h.2 k.2)
+parts_narrow ranges values (negation a) h k = parts_narrow ranges values a h k
+parts_narrow ranges values (choice c a b) h k =
+    (parts_narrow ranges values c h.0 k.0, parts_narrow ranges values a h.1 k.1, parts_narrow ranges values b h.2 k.2, widened (range_of ranges (choice c a b)) values (choice c a b) h.3 k.3)

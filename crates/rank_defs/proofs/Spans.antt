@@ -1,5 +1,5 @@
 -- Numbers inside the spans of a transaction.
-use Rattle.std.proofs.Common.{ℕ, zero, suc, ◌≤◌, List, [], ◌∷◌, arith}
+use Rattle.std.proofs.Common.{◌≡◌, ℕ, zero, suc, ◌≤◌, List, [], ◌∷◌, length, refl, ap, arith}
 use Rattle.std.specs.Prelude.{ℤ, pos, negsuc, ◌≤ℤ◌, unsigned_abs, slice_set, slice_index}
 use Rattle.std.specs.Int.{int_min, int_max}
 use Rattle.std.specs.List.{AllByRecursion}
@@ -42,6 +42,13 @@ within-set (s ∷ spans) (x ∷ values) zero v h l k = (l, k, h.2)
 within-set (s ∷ spans) (x ∷ values) (suc i) v h l k = (h.0, h.1, within-set spans values i v h.2 l k)
 within-set [] (x ∷ values) i v h l k = absurd h
 within-set (s ∷ spans) [] i v h l k = absurd h
+
+-- there are as many numbers as spans
+pub length-within : (spans : List Span) (values : List ℕ) → AreWithin spans values → length values ≡ length spans
+length-within [] [] h = refl
+length-within (s ∷ spans) (v ∷ values) h = ap suc (length-within spans values h.2)
+length-within [] (v ∷ values) h = absurd h
+length-within (s ∷ spans) [] h = absurd h
 
 -- the first values lie in their spans
 pub within-firsts : (spans : List Span) → AllByRecursion IsSpan spans → AreWithin spans (firsts spans)

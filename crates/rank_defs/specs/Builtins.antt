@@ -27,15 +27,19 @@ counter = span 0 max_rank 0
 abbrev pub ranked_by : Formula → Program
 ranked_by f = record { keeps = []; eaches = []; push = set AimRank f ∷ []; pop = [] }
 
+-- first in first out: every rank is 0
 abbrev pub fifo : Program
 fifo = record { keeps = []; eaches = []; push = []; pop = [] }
 
+-- strict priority
 abbrev pub strict : Program
 strict = ranked_by (variable Prio)
 
+-- shortest packet first
 abbrev pub shortest : Program
 shortest = ranked_by (variable Len)
 
+-- least slack time first
 abbrev pub lstf : Program
 lstf = ranked_by (two Add (variable Now) (variable Slack))
 
@@ -49,6 +53,7 @@ abbrev pub stfq : Program
 stfq =
     record { keeps = counter ∷ []; eaches = counter ∷ []; push = set AimRank (two Max (variable (Keep 0)) (variable (Each 0))) ∷ set (AimEach 0) (two Add (variable Rank) (two Div (two Mul (variable Len) (number 1000)) (variable Weight))) ∷ []; pop = set (AimKeep 0) (variable Rank) ∷ [] }
 
+-- a row of the table
 abbrev pub named : List ℕ → Program → Builtin
 named n p = record { name = n; program = p }
 
@@ -57,6 +62,7 @@ abbrev pub builtins : List Builtin
 builtins =
     named (codes "fifo") fifo ∷ named (codes "strict") strict ∷ named (codes "shortest") shortest ∷ named (codes "lstf") lstf ∷ named (codes "rr") rr ∷ named (codes "stfq") stfq ∷ []
 
+-- whether two names are the same bytes
 abbrev pub same_name : List ℕ → List ℕ → Bool
 same_name [] [] = true
 same_name (a ∷ xs) (b ∷ ys) = a == b && same_name xs ys

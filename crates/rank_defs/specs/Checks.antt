@@ -1,8 +1,16 @@
 -- Transactions whose types agree and whose arithmetic is safe.
-use Rattle.std.specs.Prelude.{◌≡◌, ◌≢◌, ◌≤◌, ◌⊎◌, ℕ, true, false, List, [], ◌∷◌, ◌++◌, map}
+use Rattle.std.specs.Prelude.{◌≡◌, ◌≢◌, ◌≤◌, ◌⊎◌, ℕ, true, false, List, [], ◌∷◌, ◌++◌, map, min, Option, Some, None}
 use Rattle.std.specs.List.{AllByRecursion}
+use Rattle.rank_defs.specs.declared.expression.Var.{Var as Name}
+use Rattle.rank_defs.specs.declared.range.Range.{Range}
+use Rattle.rank_defs.specs.Formulas.{Formula}
 use Rattle.rank_defs.specs.Programs.{Assignment, Program, assignments}
 use Rattle.rank_defs.specs.Ranges.{counts, sort_of, declared, ArePartsNarrow, parts_divide}
+
+-- the interval of each part that is a number is narrow, and no divisor's holds 0
+pub record IsSafe (ranges : Name → Range) (f : Formula) : Type 0 where
+  pub narrow : ArePartsNarrow ranges f
+  pub divides : parts_divide ranges f ≡ true
 
 -- the value is a number whose types agree, each part's interval is narrow, and no divisor's holds 0
 pub record IsCheckedAssignment (p : Program) (a : Assignment) : Type 0 where
@@ -10,10 +18,12 @@ pub record IsCheckedAssignment (p : Program) (a : Assignment) : Type 0 where
   pub narrow : ArePartsNarrow (declared p) a.formula
   pub divides : parts_divide (declared p) a.formula ≡ true
 
+-- each assignment of the transaction is checked
 pub record IsChecked (p : Program) : Type 0 where
   pub push : AllByRecursion (IsCheckedAssignment p) p.push
   pub pop : AllByRecursion (IsCheckedAssignment p) p.pop
 
+-- each transaction is checked
 abbrev pub AreChecked : List Program → Type 0
 AreChecked = AllByRecursion IsChecked
 
@@ -22,6 +32,7 @@ pub record Entry : Type 0 where
   pub program : Program
   pub assignment : Assignment
 
+-- an entry of its two parts
 abbrev pub entry : Program → Assignment → Entry
 entry p a = record { program = p; assignment = a }
 
@@ -55,6 +66,17 @@ pub record IsLeastAt (Fault : Entry → Type 0) (es : List Entry) (line : ℕ) :
 -- no assignment is at fault
 abbrev pub NoneAt : (Entry → Type 0) → List Entry → Type 0
 NoneAt Fault es = (line : ℕ) → SomeAt Fault es line → ⊥
+
+-- the least line with an assignment at fault, if there is one
+abbrev pub IsLeastLine : (Entry → Type 0) → List Entry → Option ℕ → Type 0
+IsLeastLine Fault es None = NoneAt Fault es
+IsLeastLine Fault es (Some line) = IsLeastAt Fault es line
+
+-- the lesser of two lines, if there are any
+abbrev pub lesser_line : Option ℕ → Option ℕ → Option ℕ
+lesser_line None b = b
+lesser_line (Some m) None = Some m
+lesser_line (Some m) (Some n) = Some (min m n)
 
 -- the least line on which types clash
 abbrev pub ClashesFirstAt : List Program → ℕ → Type 0

@@ -8,4 +8,5 @@ pub mod Ranges
 pub mod Checks
 pub mod Tame
 pub mod Builtins
+pub mod Laws
 pub mod Rows

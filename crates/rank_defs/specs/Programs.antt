@@ -20,6 +20,7 @@ pub record Program : Type 0 where
   pub push : List Assignment
   pub pop : List Assignment
 
+-- what an assignment of the program says
 abbrev pub assignment_of : Assign → Assignment
 assignment_of a = record { line = a.line; aim = a.aim; formula = formula_of a.value }
 
@@ -32,6 +33,7 @@ program_of t =
 abbrev pub assignments : Program → List Assignment
 assignments p = p.push ++ p.pop
 
+-- a span of its ends and its first value
 abbrev pub span : ℕ → ℕ → ℕ → Span
 span l h f = record { low = l; high = h; first = f }
 

@@ -17,16 +17,19 @@ pub data Sort : Type 0 where
   tells : Sort
   clash : Sort
 
+-- an operation on two values
 abbrev pub sort_of_two : Sort → Sort → Group → Sort
 sort_of_two counts counts computes = counts
 sort_of_two counts counts compares = tells
 sort_of_two tells tells joins = tells
 sort_of_two s t g = clash
 
+-- `not` of a truth value
 abbrev pub sort_of_negation : Sort → Sort
 sort_of_negation tells = tells
 sort_of_negation s = clash
 
+-- a truth value and two numbers
 abbrev pub sort_of_choice : Sort → Sort → Sort → Sort
 sort_of_choice tells counts counts = counts
 sort_of_choice c s t = clash
@@ -39,6 +42,7 @@ sort_of (two op a b) = sort_of_two (sort_of a) (sort_of b) (group op)
 sort_of (negation a) = sort_of_negation (sort_of a)
 sort_of (choice c a b) = sort_of_choice (sort_of c) (sort_of a) (sort_of b)
 
+-- an interval of its ends
 abbrev pub range : ℤ → ℤ → Range
 range l h = record { low = l; high = h }
 
@@ -50,6 +54,7 @@ hull_of a b c d = range (int_min (int_min a b) (int_min c d)) (int_max (int_max 
 abbrev pub corners : (ℤ → ℤ → ℤ) → Range → Range → Range
 corners f r s = hull_of (f r.low s.low) (f r.low s.high) (f r.high s.low) (f r.high s.high)
 
+-- whether 0 lies in an interval
 abbrev pub holds_zero : Range → Bool
 holds_zero r = int_le r.low (pos 0) && int_le (pos 0) r.high
 
@@ -57,6 +62,7 @@ holds_zero r = int_le r.low (pos 0) && int_le (pos 0) r.high
 abbrev pub reach : Range → ℤ
 reach r = pos (max (unsigned_abs r.low) (unsigned_abs r.high))
 
+-- the interval of a quotient: where the divisor may be 0, all up to the greatest absolute value of the dividend
 abbrev pub quotient_range : Range → Range → Range
 quotient_range r s = if holds_zero s then range (neg_ℤ (reach r)) (reach r) else corners int_div r s
 
@@ -82,6 +88,7 @@ range_of ranges (two op a b) = range_of_two op (range_of ranges a) (range_of ran
 range_of ranges (negation a) = range (pos 0) (pos 0)
 range_of ranges (choice c a b) = joined_range (range_of ranges a) (range_of ranges b)
 
+-- the interval of a variable with this span
 abbrev pub range_of_span : Span → Range
 range_of_span s = range (pos s.low) (pos s.high)
 
@@ -95,6 +102,10 @@ declared p Slack = range (pos 0) (pos max_slack)
 declared p Rank = range (pos 0) (pos max_rank)
 declared p (Keep i) = range_of_span (span_at p.keeps i)
 declared p (Each i) = range_of_span (span_at p.eaches i)
+
+-- the widest interval of a part
+abbrev pub widest : Range
+widest = range (neg_ℤ (pos (2 ^ 100))) (pos (2 ^ 100))
 
 -- the interval lies within -2^100 to 2^100, ends included
 pub record IsNarrow (r : Range) : Type 0 where

@@ -1,17 +1,22 @@
 -- Worked rows, each computed from the definitions.
-use Rattle.std.specs.Prelude.{◌≡◌, ℕ, refl, List, [], ◌∷◌, true, false, Some, None, codes, pos, negsuc}
+use Rattle.std.specs.Prelude.{◌≡◌, ℕ, suc, ◌^◌, refl, List, [], ◌∷◌, true, false, Some, None, codes, pos, negsuc}
+use Rattle.std.specs.Int.Signed.{le_z_yes, lt_z_yes, clash_ℤ}
 use Rattle.rank_defs.specs.declared.environment.Env.{Env}
 use Rattle.rank_defs.specs.declared.environment.Who.{Who}
 use Rattle.rank_defs.specs.declared.environment.Who.TheVariants.{Child, Flow}
-use Rattle.rank_defs.specs.declared.expression.Op.TheVariants.{Add, Sub, Mul, Div, Less}
+use Rattle.rank_defs.specs.declared.expression.Op.TheVariants.{Add, Sub, Mul, Div, Less, Min}
 use Rattle.rank_defs.specs.declared.expression.Var.TheVariants.{Len, Now, Prio, Weight, Keep}
 use Rattle.rank_defs.specs.declared.transaction.Aim.TheVariants.{Rank as AimRank, Keep as AimKeep}
-use Rattle.rank_defs.specs.Formulas.{number, variable, two}
-use Rattle.rank_defs.specs.Programs.{Program, span}
+use Rattle.rank_defs.specs.declared.environment.TheConstants.{MAX_PRIO, MAX_WEIGHT, MAX_SLACK}
+use Rattle.rank_defs.specs.declared.expression.TheConstants.{MAX_DEPTH}
+use Rattle.rank_defs.specs.declared.transaction.TheConstants.{MAX_RANK}
+use Rattle.rank_defs.specs.Shapes.{max_depth, max_prio, max_weight, max_slack}
+use Rattle.rank_defs.specs.Formulas.{number, variable, two, choice, depth_of}
+use Rattle.rank_defs.specs.Programs.{Program, span, max_rank}
 use Rattle.rank_defs.specs.Values.{num, nothing, quotient}
 use Rattle.rank_defs.specs.States.{State, first_state}
 use Rattle.rank_defs.specs.Steps.{clamped, push_rank, after_push, after_pop}
-use Rattle.rank_defs.specs.Ranges.{tells, clash, sort_of, range, range_of, declared, parts_divide}
+use Rattle.rank_defs.specs.Ranges.{tells, clash, sort_of, range, range_of, declared, parts_divide, widest, IsNarrow}
 use Rattle.rank_defs.specs.Builtins.{set, ranked_by, fifo, rr, stfq, builtin}
 
 -- an environment with a length and a weight
@@ -98,8 +103,48 @@ square_of_now = refl
 pub quotient_between : range_of (declared fifo) (two Div (two Sub (variable Len) (number 1500)) (variable Weight)) ≡ range (negsuc 1499) (pos 4294965795)
 quotient_between = refl
 
+-- a dividend from 0 to 4294967295 by what may be 0
+pub quotient_by_what_may_be_zero : range_of (declared fifo) (two Div (variable Len) (variable Prio)) ≡ range (negsuc 4294967294) (pos 4294967295)
+quotient_by_what_may_be_zero = refl
+
+-- a product of -1500..4294965795 and -10..10
+pub product_between : range_of (declared fifo) (two Mul (two Sub (variable Len) (number 1500)) (two Sub (two Min (variable Prio) (number 20)) (number 10))) ≡ range (negsuc 42949657949) (pos 42949657950)
+product_between = refl
+
+pub choice_between : range_of (declared fifo) (choice (two Less (variable Len) (number 3)) (number 7) (two Sub (number 0) (variable Prio))) ≡ range (negsuc 65534) (pos 7)
+choice_between = refl
+
+pub choice_of_the_first : push_rank (ranked_by (choice (two Less (variable Len) (number 101)) (number 7) (number 8))) (Child 0) (env_of 100 1) (first_state fifo) ≡ 7
+choice_of_the_first = refl
+
+-- -2^100 to 2^100 is narrow, ends included, and one more isn't
+pub widest_is_narrow : IsNarrow widest
+widest_is_narrow = record { low = le_z_yes tt; high = le_z_yes tt }
+
+pub wider_is_not_narrow : IsNarrow (range (pos 0) (pos (suc (2 ^ 100)))) → ⊥
+wider_is_not_narrow n = clash_ℤ (lt_z_yes tt) n.high
+
+pub depth_of_a_sum_of_a_product : depth_of (two Add (variable Len) (two Mul (variable Len) (number 2))) ≡ 3
+depth_of_a_sum_of_a_product = refl
+
 pub test_is_no_number : sort_of (two Less (variable Len) (number 3)) ≡ tells
 test_is_no_number = refl
 
 pub number_of_a_test : sort_of (two Add (two Less (variable Len) (number 3)) (number 1)) ≡ clash
 number_of_a_test = refl
+
+-- the limits that the program names
+pub rank_limit : MAX_RANK ≡ max_rank
+rank_limit = refl
+
+pub depth_limit : MAX_DEPTH ≡ max_depth
+depth_limit = refl
+
+pub prio_limit : MAX_PRIO ≡ max_prio
+prio_limit = refl
+
+pub weight_limit : MAX_WEIGHT ≡ max_weight
+weight_limit = refl
+
+pub slack_limit : MAX_SLACK ≡ max_slack
+slack_limit = refl

@@ -42,6 +42,7 @@ IsAim p (AimEach i) = i < length p.eaches
 abbrev pub max_depth : ℕ
 max_depth = 64
 
+-- it writes and reads declared variables alone, and isn't too deep
 pub record IsShapedAssignment (p : Program) (a : Assignment) : Type 0 where
   pub aim : IsAim p a.aim
   pub variables : AreDeclared p a.formula
@@ -72,19 +73,23 @@ pub record IsMemoryInRange (p : Program) (m : Memory) : Type 0 where
   pub keeps : AreWithin p.keeps m.keeps
   pub eaches : AreWithin p.eaches m.eaches
 
--- the greatest values of `len`, `prio`, `weight` and `slack`
+-- the greatest value of `len`, in bytes
 abbrev pub max_len : ℕ
 max_len = 4294967295
 
+-- of `prio`
 abbrev pub max_prio : ℕ
 max_prio = 65535
 
+-- of `weight`, which is at least 1
 abbrev pub max_weight : ℕ
 max_weight = 65535
 
+-- of `slack`, in nanoseconds
 abbrev pub max_slack : ℕ
 max_slack = 1000000000000
 
+-- each number that a step is told lies in its range
 pub record IsEnvInRange (env : Env) : Type 0 where
   pub len : env.len ≤ max_len
   pub now : env.now ≤ max_rank

@@ -27,10 +27,12 @@ firsts = map (λ s. s.first)
 abbrev pub first_state : Program → State
 first_state p = record { keeps = firsts p.keeps; eaches = λ who. firsts p.eaches }
 
+-- whether two flow keys are equal
 abbrev pub same_flow : FlowKey → FlowKey → Bool
 same_flow f g =
     f.version == g.version && f.source == g.source && f.target == g.target && f.proto == g.proto && f.sport == g.sport && f.dport == g.dport
 
+-- whether two are the same child, or the same flow
 abbrev pub same_who : Who → Who → Bool
 same_who (Child i) (Child j) = i == j
 same_who (Flow f) (Flow g) = same_flow f g

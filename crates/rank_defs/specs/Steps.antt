@@ -15,6 +15,7 @@ abbrev pub clamped : Span → Value → ℕ
 clamped s (num v) = unsigned_abs (int_max (pos s.low) (int_min v (pos s.high)))
 clamped s v = s.low
 
+-- a number written to its aim
 abbrev pub write : Aim → ℕ → Memory → Memory
 write Rank v m = record m { rank = v }
 write (Keep i) v m = record m { keeps = slice_set m.keeps i v }

@@ -1,17 +1,17 @@
 -- Steps in which every number that is computed lies in its interval.
 use Rattle.std.specs.Prelude.{◌≡◌, ◌≤◌, ◌≤ℤ◌, ℕ, ℤ, pos, List, [], ◌∷◌}
+use Rattle.std.specs.List.{AllByRecursion}
 use Rattle.rank_defs.specs.declared.environment.Env.{Env}
 use Rattle.rank_defs.specs.declared.environment.Who.{Who}
 use Rattle.rank_defs.specs.declared.expression.Var.{Var as Name}
 use Rattle.rank_defs.specs.declared.range.Range.{Range}
 use Rattle.rank_defs.specs.Formulas.{Formula, number, variable, two, negation, choice}
-use Rattle.rank_defs.specs.Programs.{Assignment, Program, max_rank}
+use Rattle.rank_defs.specs.Programs.{Assignment, Program, assignments, max_rank}
 use Rattle.rank_defs.specs.Values.{num, value_of}
 use Rattle.rank_defs.specs.States.{State, Memory, memory_for, variable_in}
 use Rattle.rank_defs.specs.Steps.{assigned, push_rank, after_push, after_pop}
-use Rattle.rank_defs.specs.Shapes.{IsShaped, IsStateInRange, IsEnvInRange}
-use Rattle.rank_defs.specs.Ranges.{counts, sort_of, range_of, declared}
-use Rattle.rank_defs.specs.Checks.{IsChecked}
+use Rattle.rank_defs.specs.Shapes.{IsStateInRange, IsMemoryInRange, IsEnvInRange}
+use Rattle.rank_defs.specs.Ranges.{counts, sort_of, range_of, declared, widest}
 
 -- a number inside an interval
 abbrev pub IsInside : Range → ℤ → Type 0
@@ -21,26 +21,35 @@ IsInside r v = (r.low ≤ℤ v) × (v ≤ℤ r.high)
 abbrev pub AreInside : (Name → Range) → (Name → ℕ) → Type 0
 AreInside ranges variables = (v : Name) → IsInside (ranges v) (pos (variables v))
 
--- where it is a number, it has a value, inside its interval
-abbrev pub HasValueInside : (Name → Range) → (Name → ℕ) → Formula → Type 0
-HasValueInside ranges variables f =
-    sort_of f ≡ counts → (v : ℤ) × (value_of variables f ≡ num v) × IsInside (range_of ranges f) v
+-- where it is a number, it has a value, inside the interval
+abbrev pub HasValueIn : Range → (Name → ℕ) → Formula → Type 0
+HasValueIn r values f = sort_of f ≡ counts → (v : ℤ) × (value_of values f ≡ num v) × IsInside r v
 
--- each part that is a number has a value inside its interval, those in an untaken branch too
-abbrev pub ArePartsInside : (Name → Range) → (Name → ℕ) → Formula → Type 0
-ArePartsInside ranges variables (number n) = HasValueInside ranges variables (number n)
-ArePartsInside ranges variables (variable v) = HasValueInside ranges variables (variable v)
-ArePartsInside ranges variables (two op a b) =
-    ArePartsInside ranges variables a × ArePartsInside ranges variables b × HasValueInside ranges variables (two op a b)
-ArePartsInside ranges variables (negation a) = ArePartsInside ranges variables a
-ArePartsInside ranges variables (choice c a b) =
-    ArePartsInside ranges variables c × ArePartsInside ranges variables a × ArePartsInside ranges variables b × HasValueInside ranges variables (choice c a b)
+-- each part that is a number has a value inside the interval given for it, those in a branch not taken too
+abbrev pub ArePartsIn : (Formula → Range) → (Name → ℕ) → Formula → Type 0
+ArePartsIn bound values (number n) = HasValueIn (bound (number n)) values (number n)
+ArePartsIn bound values (variable v) = HasValueIn (bound (variable v)) values (variable v)
+ArePartsIn bound values (two op a b) =
+    ArePartsIn bound values a × ArePartsIn bound values b × HasValueIn (bound (two op a b)) values (two op a b)
+ArePartsIn bound values (negation a) = ArePartsIn bound values a
+ArePartsIn bound values (choice c a b) =
+    ArePartsIn bound values c × ArePartsIn bound values a × ArePartsIn bound values b × HasValueIn (bound (choice c a b)) values (choice c a b)
 
--- as some assignments run one after another, each part of each that is a number has a value inside its interval
+-- types agree, and each part that is a number has a value, inside its interval and from -2^100 to 2^100
+pub record IsTameAssignment (p : Program) (env : Env) (m : Memory) (a : Assignment) : Type 0 where
+  pub typed : sort_of a.formula ≡ counts
+  pub inside : ArePartsIn (range_of (declared p)) (variable_in env m) a.formula
+  pub narrow : ArePartsIn (λ f. widest) (variable_in env m) a.formula
+
+-- each assignment is tame as they run one after another
 abbrev pub IsTame : Program → Env → List Assignment → Memory → Type 0
 IsTame p env [] m = Unit {0}
-IsTame p env (a ∷ rest) m =
-    ArePartsInside (declared p) (variable_in env m) a.formula × IsTame p env rest (assigned p env m a)
+IsTame p env (a ∷ rest) m = IsTameAssignment p env m a × IsTame p env rest (assigned p env m a)
+
+-- each assignment is tame from all values of the variables in their ranges
+abbrev pub IsAlwaysTame : Program → Type 0
+IsAlwaysTame p =
+    (env : Env) → IsEnvInRange env → (m : Memory) → IsMemoryInRange p m → AllByRecursion (IsTameAssignment p env m) (assignments p)
 
 -- a push step that is tame, whose rank is one, and that leaves each variable in its range
 pub record IsSafePush (p : Program) (who : Who) (env : Env) (s : State) : Type 0 where
@@ -52,12 +61,3 @@ pub record IsSafePush (p : Program) (who : Who) (env : Env) (s : State) : Type 0
 pub record IsSafePop (p : Program) (who : Who) (env : Env) (taken : ℕ) (s : State) : Type 0 where
   pub tame : IsTame p env p.pop (memory_for who taken s)
   pub after : IsStateInRange p (after_pop p who env taken s)
-
--- every step of a checked transaction is safe, from every state in range and every environment in range
-abbrev pub PushesAreSafe : Type 0
-PushesAreSafe =
-    (p : Program) → IsShaped p → IsChecked p → (s : State) → IsStateInRange p s → (env : Env) → IsEnvInRange env → (who : Who) → IsSafePush p who env s
-
-abbrev pub PopsAreSafe : Type 0
-PopsAreSafe =
-    (p : Program) → IsShaped p → IsChecked p → (s : State) → IsStateInRange p s → (env : Env) → IsEnvInRange env → (who : Who) → (taken : ℕ) → taken ≤ max_rank → IsSafePop p who env taken s

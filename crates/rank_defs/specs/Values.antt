@@ -1,6 +1,6 @@
 -- The value of an expression, over exact integers.
-use Rattle.std.specs.Prelude.{ℕ, zero, suc, ℤ, pos, negsuc, ◌+ℤ◌, ◌-ℤ◌, ◌*ℤ◌, int_div, int_lt, int_le, Bool, not, ◌&&◌, ◌||◌, if◌then◌else◌}
-use Rattle.std.specs.Int.{int_min, int_max}
+use Rattle.std.specs.Prelude.{ℕ, zero, suc, ℤ, pos, negsuc, ◌+ℤ◌, ◌-ℤ◌, ◌*ℤ◌, int_div, int_lt, int_le, FitsSigned, Bool, not, ◌&&◌, ◌||◌, if◌then◌else◌}
+use Rattle.std.specs.Int.{int_min, int_max, w128}
 use Rattle.rank_defs.specs.declared.expression.Op.{Op}
 use Rattle.rank_defs.specs.declared.expression.Op.TheVariants.{Add, Sub, Mul, Div, Less, LessEq, Equal, NotEqual, MoreEq, More, Min, Max, And, Or}
 use Rattle.rank_defs.specs.declared.expression.Var.{Var as Name}
@@ -12,10 +12,12 @@ pub data Value : Type 0 where
   truth : Bool → Value
   nothing : Value
 
+-- of two numbers; nothing where one isn't a number
 abbrev pub on_numbers : (ℤ → ℤ → Value) → Value → Value → Value
 on_numbers f (num x) (num y) = f x y
 on_numbers f x y = nothing
 
+-- of two truth values; nothing where one isn't a truth value
 abbrev pub on_truths : (Bool → Bool → Bool) → Value → Value → Value
 on_truths f (truth x) (truth y) = truth (f x y)
 on_truths f x y = nothing
@@ -26,6 +28,7 @@ quotient x (pos zero) = nothing
 quotient x (pos (suc n)) = num (int_div x (pos (suc n)))
 quotient x (negsuc n) = num (int_div x (negsuc n))
 
+-- whether two numbers are equal
 abbrev pub int_equal : ℤ → ℤ → Bool
 int_equal x y = int_le x y && int_le y x
 
@@ -46,6 +49,7 @@ apply Max = on_numbers (λ x y. num (int_max x y))
 apply And = on_truths (λ x y. x && y)
 apply Or = on_truths (λ x y. x || y)
 
+-- the other truth value
 abbrev pub negated : Value → Value
 negated (truth x) = truth (not x)
 negated x = nothing
@@ -63,3 +67,8 @@ value_of variables (two op a b) = apply op (value_of variables a) (value_of vari
 value_of variables (negation a) = negated (value_of variables a)
 value_of variables (choice c a b) =
     chosen (value_of variables c) (value_of variables a) (value_of variables b)
+
+-- a number that 128 bits hold
+abbrev pub FitsWide : Value → Type 0
+FitsWide (num x) = FitsSigned w128 x
+FitsWide w = ⊥

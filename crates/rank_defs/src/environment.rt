@@ -1,5 +1,14 @@
 //! What a step of a transaction is told.
 
+/// The greatest `prio`.
+pub const MAX_PRIO: u32 = 65_535;
+
+/// The greatest `weight`. The least is 1.
+pub const MAX_WEIGHT: u32 = 65_535;
+
+/// The greatest `slack`, in nanoseconds.
+pub const MAX_SLACK: u64 = 1_000_000_000_000;
+
 /// The flow of a packet. Absent header fields are 0, so all packets without an IP header are one flow.
 #[derive(Clone, Copy, PartialEq, Eq, Hash, Debug)]
 pub struct FlowKey {

@@ -1,5 +1,8 @@
 //! Expressions over exact integers and truth values.
 
+/// The greatest depth of an expression. A number or a variable has depth 1.
+pub const MAX_DEPTH: u32 = 64;
+
 /// A variable of a transaction. `Keep` and `Each` are numbered in the order of their declarations.
 #[derive(Clone, Copy, PartialEq, Eq, Debug)]
 pub enum Var {

@@ -3,6 +3,9 @@
 use crate::expression::Expr;
 use list_core::List;
 
+/// The greatest rank, moment and value of a variable.
+pub const MAX_RANK: u64 = 4_611_686_018_427_387_903;
+
 /// The range of a variable, and its first value.
 #[derive(Clone, Copy, PartialEq, Eq, Debug)]
 pub struct Span {

@@ -1,6 +1,6 @@
 -- How growths and cuts of a text follow one another.
 use Rattle.std.proofs.Common.{◌≡◌, ℕ, Option, None, Some, List, [], ◌++◌, refl, sym, ap, ◌∙◌, append_assoc, append-nil}
-use Rattle.outside_core.proofs.WrittenLaws.{Appended-append, Appended-nothing}
+use Rattle.std.proofs.lemmas.List.{append_cancel_left}
 use Rattle.outside_core.specs.Written.{Appended, AppendedPrefix}
 use Rattle.report_defs.specs.Text.{appended, IsFront, Begins, IsCut}
 
@@ -36,4 +36,22 @@ IsCut-longer None (Some written) first second p = absurd p
 IsCut-longer (Some before) (Some written) first second p = record {
   rest = p.rest ++ second;
   joined = sym (append_assoc before first second) ∙ ap (λ s. s ++ second) p.joined ∙ append_assoc written p.rest second;
+}
+
+-- where nothing was held at first, a growth of the text that is all written is one of what is written
+pub Appended-from_start : (before written : Option (List ℕ)) (text : List ℕ) → Appended (appended before []) written text → Appended before written text
+Appended-from_start before None text p = tt
+Appended-from_start None (Some written) text p = absurd p
+Appended-from_start (Some before) (Some written) text p = p ∙ ap (λ s. s ++ text) (append-nil before)
+
+-- and a cut of the text is a prefix that is written
+pub AppendedPrefix-from_cut : (before written : Option (List ℕ)) (text : List ℕ) → Begins before written → IsCut (appended before []) text written → AppendedPrefix before written text
+AppendedPrefix-from_cut before None text p q = record { front = []; back = text; whole = refl; grew = tt }
+AppendedPrefix-from_cut None (Some written) text p q = absurd p
+AppendedPrefix-from_cut (Some before) (Some written) text p q = record {
+  front = p.rest;
+  back = q.rest;
+  whole = append_cancel_left before (p.rest ++ q.rest) text
+      (sym (append_assoc before p.rest q.rest) ∙ ap (λ s. s ++ q.rest) (sym p.joined) ∙ sym q.joined ∙ ap (λ s. s ++ text) (append-nil before));
+  grew = p.joined;
 }

@@ -42,10 +42,8 @@ pub fn send<K: Sink>(sink: &mut K, bytes: &[u8]) -> Result<(), WriteFault>
     ensures later { K.faults sink.old ≤ K.faults sink.new }
     ensures cause { OnErr result (Rose (K.faults sink.old) (K.faults sink.new)) }
 {
-    match write_all(sink, bytes) {
-        Ok(()) => Ok(()),
-        Err(error) => Err(WriteFault::from(error)),
-    }
+    write_all(sink, bytes)?;
+    Ok(())
 }
 
 impl Buffer {

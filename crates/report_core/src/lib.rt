@@ -5,7 +5,8 @@ mod buffer;
 mod fault;
 mod line;
 mod report;
+#[cfg(test)]
+mod tests;
 
-pub use buffer::LIMIT;
 pub use fault::{FaultKind, WriteFault};
 pub use report::Report;

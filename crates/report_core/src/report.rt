@@ -1,4 +1,4 @@
-ghost use Rattle.std.specs.Prelude.{◌≡◌, ◌≤◌, [], ◌++◌, length, IsTrue, IsFalse, IfOk, OnOk, OnErr};
+ghost use Rattle.std.specs.Prelude.{◌≡◌, ◌≤◌, [], ◌++◌, length, IsTrue, IsFalse, is_ok, IfOk, OnOk, OnErr};
 ghost use Rattle.outside_core.specs.Faults.{Rose};
 ghost use Rattle.outside_core.specs.Written.{Appended};
 ghost use Rattle.report_defs.specs.Report.{arrival_line, departure_line, empty_line, end_line, fault_line};
@@ -48,6 +48,16 @@ impl Report {
         self.live
     }
 
+    /// Notes whether the bytes were taken.
+    fn noted(&mut self, sent: Result<(), WriteFault>) -> Result<(), WriteFault>
+        ensures same { result ≡ sent }
+        ensures live { self.new.live ≡ is_ok sent }
+        ensures unwritten { self.new.unwritten ≡ self.old.unwritten }
+    {
+        self.live = sent.is_ok();
+        sent
+    }
+
     /// A packet came to a leaf, with the ranks pushed from the root down.
     pub fn arrived<K: Sink>(
         &mut self,
@@ -73,8 +83,7 @@ impl Report {
         let before = self.buffer.len();
         self.buffer.put_arrival(event, packet, leaf, ranks);
         let sent = self.buffer.settle(sink, before);
-        self.live = sent.is_ok();
-        sent
+        self.noted(sent)
     }
 
     /// A packet left a leaf, with the ranks taken from the root down. The start is in nanoseconds.
@@ -103,8 +112,7 @@ impl Report {
         let before = self.buffer.len();
         self.buffer.put_departure(event, packet, leaf, ranks, start);
         let sent = self.buffer.settle(sink, before);
-        self.live = sent.is_ok();
-        sent
+        self.noted(sent)
     }
 
     /// A departure found nothing to send.
@@ -123,8 +131,7 @@ impl Report {
         let before = self.buffer.len();
         self.buffer.put_empty(event);
         let sent = self.buffer.settle(sink, before);
-        self.live = sent.is_ok();
-        sent
+        self.noted(sent)
     }
 
     /// The run ended: how many packets were pushed, popped, found missing, are held and weren't sent.
@@ -151,8 +158,7 @@ impl Report {
         let before = self.buffer.len();
         self.buffer.put_end(pushed, popped, empty, held, unsent);
         let sent = self.buffer.settle(sink, before);
-        self.live = sent.is_ok();
-        sent
+        self.noted(sent)
     }
 
     /// An input was refused. Its place is a line, a record or an event, and 0 where there is none.
@@ -177,8 +183,7 @@ impl Report {
         let before = self.buffer.len();
         self.buffer.put_fault(kind, code, place);
         let sent = self.buffer.settle(sink, before);
-        self.live = sent.is_ok();
-        sent
+        self.noted(sent)
     }
 
     /// Bytes of any number, as they are.
@@ -195,8 +200,7 @@ impl Report {
         ensures bounded { length self.new.unwritten ≤ limit }
     {
         let sent = self.buffer.put_or_send(sink, bytes);
-        self.live = sent.is_ok();
-        sent
+        self.noted(sent)
     }
 
     /// Writes what is held. The sink then has the whole text.
@@ -214,7 +218,6 @@ impl Report {
         ensures none_left { OnOk result (self.new.unwritten ≡ []) }
     {
         let sent = self.buffer.flush(sink);
-        self.live = sent.is_ok();
-        sent
+        self.noted(sent)
     }
 }

@@ -5,8 +5,9 @@ use Rattle.report_core.proofs.report.Report.end.Goals as goal
 
 pub returns-clause-cut : goal.returns-clause-cut
 returns-clause-cut g c =
-    let k = g.K.Sink in
-    let a = c.args in
-    let line = end_line a.pushed a.popped a.empty a.held a.unsent in
-    let cut = rw c.put_end.ensures.text at c.settle-sent.ensures.cut in
-    on_err_weaker c.settle-sent.result (line_cut (k.written a.sink.now) (k.written c.settle-sent.new.sink) a.self.now.unwritten line) (rw (← c.self.view_is) cut)
+  let k = g.K.Sink in
+  let a = c.args in
+  let line = end_line a.pushed a.popped a.empty a.held a.unsent in
+  let cut = rw c.put_end.ensures.text at c.settle-sent.ensures.cut in
+  let whole = line_cut (k.written a.sink.now) (k.written c.settle-sent.new.sink) a.self.now.unwritten line in
+  rw c.noted.ensures.same (on_err_weaker c.settle-sent.result whole (rw (← c.self.view_is) cut))

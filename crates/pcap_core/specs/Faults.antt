@@ -1,0 +1,33 @@
+-- What a reader's refusals say of the file.
+use Rattle.std.specs.Prelude.{ℕ, Option, Some, None}
+use Rattle.std.specs.Option.{option_map_or}
+use Rattle.outside_core.specs.declared.shelves.ShelfError.{ShelfError}
+use Rattle.outside_core.specs.declared.shelves.ShelfError.TheVariants as shelf
+use Rattle.capture_defs.specs.Fault.{Fault, header_cut, bad_magic, pcap_ng, version, record_cut, data_cut, record_long, too_many, code, place}
+use Rattle.pcap_core.specs.declared.fault.CaptureFault.{CaptureFault}
+use Rattle.pcap_core.specs.declared.fault.CaptureFault.TheVariants.{HeaderCut, BadMagic, PcapNg, Version, RecordCut, DataCut, RecordLong, TooMany, ReadFault, NoMemory}
+
+-- the fault of the file that a refusal names, if it names one
+abbrev pub fault_in : CaptureFault → Option Fault
+fault_in HeaderCut = Some header_cut
+fault_in BadMagic = Some bad_magic
+fault_in PcapNg = Some pcap_ng
+fault_in Version = Some version
+fault_in (RecordCut n) = Some (record_cut n)
+fault_in (DataCut n) = Some (data_cut n)
+fault_in (RecordLong n) = Some (record_long n)
+fault_in TooMany = Some too_many
+fault_in ReadFault = None
+fault_in NoMemory = None
+
+-- the number of that fault, and the record at fault; 0 where there is none
+abbrev pub code_in : CaptureFault → ℕ
+code_in refusal = option_map_or code (fault_in refusal) 0
+
+abbrev pub place_in : CaptureFault → ℕ
+place_in refusal = option_map_or place (fault_in refusal) 0
+
+-- what a shelf's refusal becomes
+abbrev pub read_fault : ShelfError → CaptureFault
+read_fault shelf.Failed = ReadFault
+read_fault shelf.NoMemory = NoMemory

@@ -1,0 +1,5 @@
+pub mod Faults
+pub mod Rest
+pub mod Frames
+pub mod Held
+pub mod Readers

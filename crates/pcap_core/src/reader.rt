@@ -1,0 +1,198 @@
+use crate::fault::CaptureFault;
+use crate::frame::Frame;
+use crate::header::{HEADER_LEN, head_in};
+use crate::preface::{RECORD_LEN, preface_in};
+use crate::window::Window;
+use capture_defs::Head;
+use outside_core::Shelf;
+use std::alloc::Global;
+
+ghost use Rattle.std.specs.Prelude.{◌≡◌, ◌≤◌, ◌<◌, ◌+◌, ◌^◌, ◌↔◌, ℕ, List, Option, Some, None, [], length, vec_len, IfOk, IfErr, OnOk, OnErr, IfSome, IfNone, OnSome, IsErrOf, IsErr, IsTrue, IsFalse};
+ghost use Rattle.outside_core.specs.Faults.{Rose};
+ghost use Rattle.outside_core.specs.Files.{KeepsFiles};
+ghost use Rattle.capture_defs.specs.Fault.{Fault};
+ghost use Rattle.capture_defs.specs.Header.{IsHeaderFault};
+ghost use Rattle.capture_defs.specs.Record.{Record, IsRecordFault};
+ghost use Rattle.pcap_core.specs.Faults.{fault_in};
+ghost use Rattle.pcap_core.specs.Frames.{IsFrameOf};
+ghost use Rattle.pcap_core.specs.Held.{held};
+ghost use Rattle.pcap_core.specs.Rest.{rest_of, TakesHeader, TakesRecord, IsWhole, Serves};
+
+/// Reads the file header.
+fn read_head<S: Shelf>(
+    alloc: Global,
+    window: &mut Window,
+    shelf: &mut S,
+) -> Result<Head, CaptureFault>
+    requires begun { IsTrue (S.begun shelf.old) }
+    ensures header { IfOk result (λ head. TakesHeader head (rest_of (held window.old) (S.left shelf.old)) (rest_of (held window.new) (S.left shelf.new))) }
+    ensures fault { IfErr result (λ e. IfSome (fault_in e) (λ fault. IfSome (rest_of (held window.old) (S.left shelf.old)) (λ file. IsHeaderFault file fault))) }
+    ensures shelf { Serves S.lends S.content S.begun S.faults shelf.old shelf.new }
+    ensures cause { IsErrOf result CaptureFault.ReadFault → Rose (S.faults shelf.old) (S.faults shelf.new) }
+{
+    let mut bytes = Vec::new(alloc);
+    window.take(shelf, &mut bytes, HEADER_LEN)?;
+    head_in(&bytes)
+}
+
+/// Reads the next record, behind so many.
+fn read_record<S: Shelf>(
+    head: Head,
+    count: u32,
+    window: &mut Window,
+    shelf: &mut S,
+    into: &mut Vec<u8>,
+) -> Result<Option<Frame>, CaptureFault>
+    requires begun { IsTrue (S.begun shelf.old) }
+    ensures found { IfOk result (λ o. IfSome o (λ frame. (r : Record) × IsFrameOf head.nano r frame into.new.items × TakesRecord head.big r (rest_of (held window.old) (S.left shelf.old)) (rest_of (held window.new) (S.left shelf.new)))) }
+    ensures number { IfOk result (λ o. IfSome o (λ frame. frame.number ≡ count + 1)) }
+    ensures few { IfOk result (λ o. IfSome o (λ frame. count < 4294967295)) }
+    ensures moment { IfOk result (λ o. IfSome o (λ frame. frame.moment < 2 ^ 62)) }
+    ensures captured { IfOk result (λ o. IfSome o (λ frame. frame.captured ≡ length into.new.items)) }
+    ensures short { IfOk result (λ o. IfSome o (λ frame. frame.captured ≤ 262144)) }
+    ensures ended { IfOk result (λ o. IfNone o (IsWhole (rest_of (held window.old) (S.left shelf.old)))) }
+    ensures fault { IfErr result (λ e. IfSome (fault_in e) (λ fault. IfSome (rest_of (held window.old) (S.left shelf.old)) (λ left. IsRecordFault head.big count left fault))) }
+    ensures shelf { Serves S.lends S.content S.begun S.faults shelf.old shelf.new }
+    ensures cause { IsErrOf result CaptureFault.ReadFault → Rose (S.faults shelf.old) (S.faults shelf.new) }
+{
+    window.take(shelf, into, RECORD_LEN)?;
+    if into.is_empty() {
+        return Ok(None);
+    }
+    let preface = preface_in(head, count, into)?;
+    window.take(shelf, into, preface.captured as usize)?;
+    let number = u64::from(count) + 1;
+    if into.len() < preface.captured as usize {
+        return Err(CaptureFault::DataCut(number));
+    }
+    Ok(Some(Frame {
+        number,
+        moment: preface.moment,
+        captured: preface.captured,
+        len: preface.len,
+    }))
+}
+
+/// Reads a capture record by record. It holds at most 65,536 bytes that aren't used up.
+#[derive(Drop)]
+pub struct Reader {
+    alloc: Global,
+    window: Window,
+    head: Option<Head>,
+    records: u32,
+    live: bool,
+}
+
+impl Reader {
+    ghost use Rattle.std.specs.Prelude.{◌≡◌, ◌≤◌, ◌<◌, ◌+◌, ◌^◌, ◌↔◌, ℕ, List, Option, Some, None, [], length, vec_len, IfOk, IfErr, OnOk, OnErr, IfSome, IfNone, OnSome, IsErrOf, IsErr, IsOk, IsSome, IsTrue, IsFalse, MatchResult, is_some, if◌then◌else◌};
+    ghost use Rattle.outside_core.specs.Faults.{Rose};
+    ghost use Rattle.outside_core.specs.Files.{KeepsFiles};
+    ghost use Rattle.capture_defs.specs.Fault.{Fault};
+    ghost use Rattle.capture_defs.specs.Header.{IsHeaderFault};
+    ghost use Rattle.capture_defs.specs.Record.{Record, IsRecordFault};
+    ghost use Rattle.pcap_core.specs.Faults.{fault_in};
+    ghost use Rattle.pcap_core.specs.Frames.{IsFrameOf};
+    ghost use Rattle.pcap_core.specs.Rest.{rest_of, TakesHeader, TakesRecord, IsWhole};
+    ghost use Rattle.pcap_core.specs.Readers.{head_of, is_big, is_nano, records_given, bytes_held, is_live, IsNew, rest_left};
+
+    pub fn new(alloc: Global) -> Reader
+        ensures { IsNew result }
+    {
+        Reader {
+            alloc,
+            window: Window::new(alloc),
+            head: None,
+            records: 0,
+            live: true,
+        }
+    }
+
+    /// Whether no call was refused.
+    pub fn live(&self) -> bool
+        ensures { result ≡ is_live self.now }
+    {
+        self.live
+    }
+
+    /// Reads the file header of the begun file.
+    pub fn start<S: Shelf>(&mut self, shelf: &mut S) -> Result<Head, CaptureFault>
+        requires fresh { IsNew self.old }
+        requires begun { IsTrue (S.begun shelf.old) }
+
+        ensures header { IfOk result (λ head. TakesHeader head (S.left shelf.old) (rest_left self.new (S.left shelf.new))) }
+        ensures head { IfOk result (λ head. head_of self.new ≡ Some head) }
+        ensures none_given { records_given self.new ≡ 0 }
+        ensures bounded { length (bytes_held self.new) ≤ 65536 }
+
+        // A fault of the file is answered exactly where the header has it.
+        ensures fault { IfErr result (λ e. IfSome (fault_in e) (λ fault. IfSome (S.left shelf.old) (λ file. IsHeaderFault file fault))) }
+        ensures refused { IfSome (S.left shelf.old) (λ file. (fault : Fault) → IsHeaderFault file fault → IsErr result) }
+        ensures live { IsTrue (is_live self.new) ↔ IsOk result }
+
+        ensures begun { IsTrue (S.begun shelf.new) }
+        ensures files { KeepsFiles S.lends S.content shelf.old shelf.new }
+        ensures later { S.faults shelf.old ≤ S.faults shelf.new }
+        ensures cause { IsErrOf result CaptureFault.ReadFault → Rose (S.faults shelf.old) (S.faults shelf.new) }
+    {
+        match read_head(self.alloc, &mut self.window, shelf) {
+            Ok(head) => {
+                self.head = Some(head);
+                Ok(head)
+            }
+            Err(fault) => {
+                self.live = false;
+                Err(fault)
+            }
+        }
+    }
+
+    /// Reads the next record, and puts its captured bytes into `into`, in place of what it held.
+    pub fn next<S: Shelf>(
+        &mut self,
+        shelf: &mut S,
+        into: &mut Vec<u8>,
+    ) -> Result<Option<Frame>, CaptureFault>
+        requires started { IsSome (head_of self.old) }
+        requires live { IsTrue (is_live self.old) }
+        requires begun { IsTrue (S.begun shelf.old) }
+
+        // What was left is the spelling of a record, and what is left now.
+        ensures found { IfOk result (λ o. IfSome o (λ frame. (r : Record) × IsFrameOf (is_nano self.old) r frame into.new.items × TakesRecord (is_big self.old) r (rest_left self.old (S.left shelf.old)) (rest_left self.new (S.left shelf.new)))) }
+        ensures number { IfOk result (λ o. IfSome o (λ frame. frame.number ≡ records_given self.old + 1)) }
+        ensures captured { IfOk result (λ o. IfSome o (λ frame. frame.captured ≡ length into.new.items)) }
+        ensures short { IfOk result (λ o. IfSome o (λ frame. frame.captured ≤ 262144)) }
+        ensures moment { IfOk result (λ o. IfSome o (λ frame. frame.moment < 2 ^ 62)) }
+
+        // There is no record exactly where nothing is left.
+        ensures ended { IfOk result (λ o. IfNone o (IsWhole (rest_left self.old (S.left shelf.old)))) }
+        ensures ends { IfSome (rest_left self.old (S.left shelf.old)) (λ left. left ≡ [] → MatchResult result (λ o. o ≡ None) (λ e. fault_in e ≡ None)) }
+
+        // A fault of the file is answered exactly where what is left has it.
+        ensures fault { IfErr result (λ e. IfSome (fault_in e) (λ fault. IfSome (rest_left self.old (S.left shelf.old)) (λ left. IsRecordFault (is_big self.old) (records_given self.old) left fault))) }
+        ensures refused { IfSome (rest_left self.old (S.left shelf.old)) (λ left. (fault : Fault) → IsRecordFault (is_big self.old) (records_given self.old) left fault → IsErr result) }
+        ensures live { IsTrue (is_live self.new) ↔ IsOk result }
+
+        ensures head { head_of self.new ≡ head_of self.old }
+        ensures given { IfOk result (λ o. records_given self.new ≡ records_given self.old + (if is_some o then 1 else 0)) }
+        ensures bounded { length (bytes_held self.new) ≤ 65536 }
+        ensures begun { IsTrue (S.begun shelf.new) }
+        ensures files { KeepsFiles S.lends S.content shelf.old shelf.new }
+        ensures later { S.faults shelf.old ≤ S.faults shelf.new }
+        ensures cause { IsErrOf result CaptureFault.ReadFault → Rose (S.faults shelf.old) (S.faults shelf.new) }
+    {
+        let Some(head) = self.head else {
+            unreachable!()
+        };
+        match read_record(head, self.records, &mut self.window, shelf, into) {
+            Ok(Some(frame)) => {
+                self.records += 1;
+                Ok(Some(frame))
+            }
+            Ok(None) => Ok(None),
+            Err(fault) => {
+                self.live = false;
+                Err(fault)
+            }
+        }
+    }
+}

@@ -1,0 +1,5 @@
+pub mod Paths
+pub mod Shape
+pub mod TreeContents
+pub mod Shrinking
+pub mod Places

@@ -1,0 +1,15 @@
+//! Trees of push-in first-out queues that are pushed and popped in place.
+#![tactic(auto)]
+
+mod path;
+mod taken;
+mod topo;
+mod tree;
+
+pub use path::Path;
+pub use taken::Taken;
+pub use topo::{Topo, depth};
+pub use tree::SourceTree;
+
+#[cfg(test)]
+mod tests;

@@ -1,0 +1,95 @@
+//! The digits and ranks that a pop takes, root first.
+ghost use Rattle.std.specs.Prelude.{◌≡◌, ◌+◌, ◌<◌, [], ◌∷◌, ◌++◌, length, IfOk};
+
+use std::alloc::{AllocError, Global};
+use std::marker::Model;
+
+/// The children's indices and the ranks that a pop took on its way down, with room for a number of levels.
+#[derive(Drop)]
+pub struct Taken {
+    digits: Vec<u32>,
+    ranks: Vec<u64>,
+    room: u32,
+}
+
+impl Model for Taken {
+    ghost use Rattle.std.specs.Prelude.{◌≤◌, ◌<◌, vec_capacity, vec_len};
+    ghost use Rattle.tree_core.specs.Paths.{Way, way_code};
+
+    ghost Value = { Way };
+
+    ghost coded = { way_code };
+
+    ghost view = { λ a. record { digits = a.digits.items; ranks = a.ranks.items; room = a.room } };
+
+    ghost invariant = { λ a. (vec_len a.digits ≤ a.room) × (a.room ≤ vec_capacity a.digits) × (a.room < vec_capacity a.ranks) };
+}
+
+impl Taken {
+    /// Two empty lists, with room for `depth` digits and one rank more. The error is want of memory.
+    pub fn new(alloc: Global, depth: u32) -> Result<Taken, AllocError>
+        ensures digits { IfOk result (λ t. t.digits ≡ []) }
+        ensures ranks { IfOk result (λ t. t.ranks ≡ []) }
+        ensures room { IfOk result (λ t. t.room ≡ depth) }
+    {
+        let levels = depth as usize;
+        Ok(Taken {
+            digits: Vec::with_capacity(alloc, levels)?,
+            ranks: Vec::with_capacity(alloc, levels + 1)?,
+            room: depth,
+        })
+    }
+
+    pub fn digits(&self) -> &[u32]
+        ensures digits { result.now ≡ self.now.digits }
+    {
+        self.digits.as_slice()
+    }
+
+    pub fn ranks(&self) -> &[u64]
+        ensures ranks { result.now ≡ self.now.ranks }
+    {
+        self.ranks.as_slice()
+    }
+
+    /// For how many levels below the root there is room.
+    pub fn room(&self) -> u32
+        ensures room { result ≡ self.now.room }
+    {
+        self.room
+    }
+
+    pub fn clear(&mut self)
+        ensures digits { self.new.digits ≡ [] }
+        ensures ranks { self.new.ranks ≡ [] }
+        ensures room { self.new.room ≡ self.old.room }
+    {
+        self.digits.truncate(0);
+        self.ranks.truncate(0);
+    }
+
+    /// Puts a child's index and the rank that was taken at its parent last.
+    pub fn step(&mut self, digit: u32, rank: u64)
+        requires room { length self.old.digits < self.old.room }
+        requires even { length self.old.ranks ≡ length self.old.digits }
+        ensures digits { self.new.digits ≡ self.old.digits ++ digit ∷ [] }
+        ensures ranks { self.new.ranks ≡ self.old.ranks ++ rank ∷ [] }
+        ensures room { self.new.room ≡ self.old.room }
+    {
+        let (Ok(()), Ok(())) = (self.digits.push(digit), self.ranks.push(rank)) else {
+            unreachable!()
+        };
+    }
+
+    /// Puts the rank that was taken at the leaf last.
+    pub fn last(&mut self, rank: u64)
+        requires even { length self.old.ranks ≡ length self.old.digits }
+        ensures digits { self.new.digits ≡ self.old.digits }
+        ensures ranks { self.new.ranks ≡ self.old.ranks ++ rank ∷ [] }
+        ensures room { self.new.room ≡ self.old.room }
+    {
+        let Ok(()) = self.ranks.push(rank) else {
+            unreachable!()
+        };
+    }
+}

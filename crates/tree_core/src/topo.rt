@@ -1,0 +1,43 @@
+//! The shape of a tree.
+ghost use Rattle.std.specs.Prelude.{◌≡◌, ◌≤◌, map};
+ghost use Rattle.tree_defs.specs.Tree.{leaf, inner, trees_of, depth as levels};
+ghost use Rattle.tree_core.specs.Shape.{topology};
+
+/// A leaf, or an inner node with its children in order.
+#[derive(Drop)]
+pub enum Topo {
+    Leaf,
+    Inner(Vec<Topo>),
+}
+
+impl Topo {
+    pub fn leaf() -> Topo
+        ensures topology { topology result ≡ leaf tt }
+    {
+        Topo::Leaf
+    }
+
+    /// An inner node with these children in order.
+    pub fn inner(children: Vec<Topo>) -> Topo
+        ensures topology { topology result ≡ inner tt (trees_of (map topology children.items)) }
+    {
+        Topo::Inner(children)
+    }
+}
+
+/// How many levels lie below the root.
+pub fn depth(topo: &Topo) -> u32
+    requires levels { levels (topology topo.now) ≤ 64 }
+    ensures levels { result ≡ levels (topology topo.now) }
+{
+    match topo {
+        Topo::Leaf => 0,
+        Topo::Inner(children) => {
+            let mut most = 0;
+            for child in children {
+                most = most.max(depth(child) + 1);
+            }
+            most
+        }
+    }
+}

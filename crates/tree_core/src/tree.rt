@@ -1,0 +1,158 @@
+//! A source tree: a queue at each node, and children.
+ghost use Rattle.std.specs.Prelude.{◌≡◌, ◌+◌, ◌^◌, ◌<◌, ◌≤◌, ◌↔◌, length, OnOk, IsNone, IfNone, IfSome, IfOk};
+ghost use Rattle.tree_defs.specs.Tree.{LeadsToLeaf, depth};
+ghost use Rattle.tree_defs.specs.Topology.{IsBranched};
+ghost use Rattle.tree_defs.specs.SourceTree.{push, pop, IsWellFormed, size, empty_tree};
+ghost use Rattle.tree_core.specs.Paths.{digits, ranks, digits_of, ranks_of};
+ghost use Rattle.tree_core.specs.Shape.{topology};
+ghost use Rattle.tree_core.specs.Places.{HasRoom, HasNoFewer, without_places};
+ghost use Rattle.tree_core.specs.TreeContents.{PopsOnto};
+
+use crate::path::Path;
+use crate::taken::Taken;
+use crate::topo::Topo;
+use pifo_core::{Pifo, SortedPifo};
+use std::alloc::{AllocError, Global};
+use std::marker::Model;
+
+/// A tree of push-in first-out queues (OOPSLA 2023): packet numbers at the leaves, children's indices at the inner nodes. It is
+/// always well formed.
+#[derive(Drop)]
+pub struct SourceTree {
+    queue: SortedPifo,
+    children: Vec<SourceTree>,
+}
+
+impl Model for SourceTree {
+    ghost use Rattle.std.proofs.Common.{arith};
+    ghost use Rattle.tree_core.specs.TreeContents.{TreeContents, contents_code, grown, size_of, IsSound};
+    ghost use Rattle.tree_core.specs.Shrinking.{most_le-nodes};
+
+    ghost Value = { TreeContents };
+
+    ghost coded = { contents_code };
+
+    ghost view = { λ a. grown a.queue a.children.items };
+
+    ghost invariant = { λ a. IsSound a.queue a.children.items };
+
+    ghost size = { size_of };
+
+    ghost size_decreases = { λ a h. omega (arith, most_le-nodes a.queue a.children.items) };
+}
+
+impl SourceTree {
+    /// The tree of a topology, with all queues empty. The error is want of memory.
+    pub fn new(alloc: Global, topo: &Topo) -> Result<SourceTree, AllocError>
+        requires branched { IsBranched (topology topo.now) }
+        ensures tree { IfOk result (λ t. t.tree ≡ empty_tree (topology topo.now)) }
+        ensures pushes { IfOk result (λ t. t.pushes ≡ 0) }
+    {
+        match topo {
+            Topo::Leaf => Ok(SourceTree {
+                queue: SortedPifo::new(alloc),
+                children: Vec::new(alloc),
+            }),
+            Topo::Inner(inner) => {
+                let mut children = Vec::new(alloc);
+                for child in inner {
+                    children.push(SourceTree::new(alloc, child)?)?;
+                }
+                Ok(SourceTree {
+                    queue: SortedPifo::new(alloc),
+                    children,
+                })
+            }
+        }
+    }
+
+    /// Makes a free place at each node on the way to a leaf. The error is want of memory.
+    pub fn reserve(&mut self, digits: &[u32]) -> Result<(), AllocError>
+        requires leaf { LeadsToLeaf self.old.tree digits.now }
+        ensures tree { self.new.tree ≡ self.old.tree }
+        ensures pushes { self.new.pushes ≡ self.old.pushes }
+        ensures room { OnOk result (HasRoom self.new.spare digits.now) }
+        ensures kept { HasNoFewer self.old.spare self.new.spare }
+    {
+        self.queue.reserve(1)?;
+        match digits {
+            [] => Ok(()),
+            [child, deeper @ ..] => self.children[*child as usize].reserve(deeper),
+        }
+    }
+
+    /// Pushes a packet's number along a path to a leaf. Takes no memory.
+    pub fn push(&mut self, path: &Path, value: u64)
+        requires leaf { LeadsToLeaf self.old.tree (digits path.now) }
+        requires room { HasRoom self.old.spare (digits path.now) }
+        requires few { self.old.pushes < 2 ^ 62 }
+        ensures tree { self.new.tree ≡ push self.old.tree (digits path.now) (ranks path.now) value }
+        ensures pushes { self.new.pushes ≡ self.old.pushes + 1 }
+        ensures spare { self.new.spare ≡ without_places self.old.spare (digits path.now) }
+    {
+        self.push_along(path.steps.as_slice(), path.last, value);
+    }
+
+    /// Takes a packet's number, and sets `taken` to the digits and the ranks taken on the way to it. Takes no memory.
+    pub fn pop(&mut self, taken: &mut Taken) -> Option<u64>
+        requires room { depth self.old.tree ≤ taken.old.room }
+        ensures empty { IsNone result ↔ (size self.old.tree ≡ 0) }
+        ensures unchanged { IfNone result (self.new ≡ self.old) }
+        ensures untouched { IfNone result (taken.new ≡ taken.old) }
+        ensures popped { IfSome result (λ v. pop self.old.tree ≡ Some (record { value = v; digits = taken.new.digits; ranks = taken.new.ranks; left = self.new.tree })) }
+        ensures pushes { self.new.pushes ≡ self.old.pushes }
+        ensures spare { HasNoFewer self.old.spare self.new.spare }
+        ensures room { taken.new.room ≡ taken.old.room }
+    {
+        if self.size() == 0 {
+            return None;
+        }
+        taken.clear();
+        Some(self.pop_onto(taken))
+    }
+
+    /// The number of packets.
+    pub fn size(&self) -> u64
+        ensures size { result ≡ size self.now.tree }
+        ensures well_formed { IsWellFormed self.now.tree }
+    {
+        self.queue.len() as u64
+    }
+
+    fn push_along(&mut self, steps: &[(u32, u64)], last: u64, value: u64)
+        requires leaf { LeadsToLeaf self.old.tree (digits_of steps.now) }
+        requires room { HasRoom self.old.spare (digits_of steps.now) }
+        requires few { self.old.pushes < 2 ^ 62 }
+        ensures tree { self.new.tree ≡ push self.old.tree (digits_of steps.now) (ranks_of steps.now last) value }
+        ensures pushes { self.new.pushes ≡ self.old.pushes + 1 }
+        ensures spare { self.new.spare ≡ without_places self.old.spare (digits_of steps.now) }
+    {
+        match steps {
+            [] => self.queue.push(last, value),
+            [(child, rank), deeper @ ..] => {
+                self.queue.push(*rank, u64::from(*child));
+                self.children[*child as usize].push_along(deeper, last, value);
+            }
+        }
+    }
+
+    fn pop_onto(&mut self, taken: &mut Taken) -> u64
+        requires held { 0 < size self.old.tree }
+        requires room { length taken.old.digits + depth self.old.tree ≤ taken.old.room }
+        requires even { length taken.old.ranks ≡ length taken.old.digits }
+        ensures popped { PopsOnto self.old.tree taken.old taken.new result self.new.tree }
+        ensures pushes { self.new.pushes ≡ self.old.pushes }
+        ensures spare { HasNoFewer self.old.spare self.new.spare }
+        ensures room { taken.new.room ≡ taken.old.room }
+    {
+        let Some((rank, value)) = self.queue.pop() else {
+            unreachable!()
+        };
+        if self.children.is_empty() {
+            taken.last(rank);
+            return value;
+        }
+        taken.step(value as u32, rank);
+        self.children[value as usize].pop_onto(taken)
+    }
+}
