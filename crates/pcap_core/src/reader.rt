@@ -159,6 +159,7 @@ impl Reader {
         // What was left is the spelling of a record, and what is left now.
         ensures found { IfOk result (λ o. IfSome o (λ frame. (r : Record) × IsFrameOf (is_nano self.old) r frame into.new.items × TakesRecord (is_big self.old) r (rest_left self.old (S.left shelf.old)) (rest_left self.new (S.left shelf.new)))) }
         ensures number { IfOk result (λ o. IfSome o (λ frame. frame.number ≡ records_given self.old + 1)) }
+        ensures few { IfOk result (λ o. IfSome o (λ frame. frame.number ≤ 4294967295)) }
         ensures captured { IfOk result (λ o. IfSome o (λ frame. frame.captured ≡ length into.new.items)) }
         ensures short { IfOk result (λ o. IfSome o (λ frame. frame.captured ≤ 262144)) }
         ensures moment { IfOk result (λ o. IfSome o (λ frame. frame.moment < 2 ^ 62)) }

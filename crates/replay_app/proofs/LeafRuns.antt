@@ -134,7 +134,7 @@ pub record Follows (turns : List Turn) (t : Totals) (s : SourceState) (c : Cours
   pub arrivals : t.pushed + arrivals_in c.events ≡ (turned_all turns t).pushed
   pub departures : t.popped + t.empty + departures_in c.events ≡ (turned_all turns t).popped + (turned_all turns t).empty
 
-length-packets_from : (head : Head) (n : ℕ) (records : List Record) → length (packets_from head n records) ≡ length records
+pub length-packets_from : (head : Head) (n : ℕ) (records : List Record) → length (packets_from head n records) ≡ length records
 length-packets_from head n [] = refl
 length-packets_from head n (r ∷ records) = ap suc (length-packets_from head (n + 1) records)
 

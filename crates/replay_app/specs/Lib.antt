@@ -5,3 +5,4 @@ pub mod Output
 pub mod Fabrics
 pub mod Turns
 pub mod Stops
+pub mod Counted

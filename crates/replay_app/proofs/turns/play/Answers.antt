@@ -1,7 +1,7 @@
 use Rattle.std.proofs.lemmas.Result.{err_from_is_err_and}
 use Rattle.std.proofs.Common.{get_or, ℕ, ◌<◌, length, arith, subst, List, take, rules}
 use Rattle.outside_core.specs.Written.{Appended}
-use Rattle.outside_core.proofs.WrittenLaws.{Appended-append}
+use Rattle.outside_core.proofs.WrittenLaws.{appended_in_turn}
 use Rattle.report_core.specs.Gathered.{text_of}
 use Rattle.report_core.proofs.TextLaws.{Begins-trans}
 use Rattle.replay_app.proofs.TurnRuns.{turned_all-turn, turn_lines-turn, cut-turn, room-turn, counts-turn}
@@ -21,7 +21,7 @@ loop-turn-preserved g c =
       counts = counts-turn g.F.Fabric.pushed g.F.Fabric.popped _ _ _ _ _ _ i.counts e.counts;
       text = subst (λ (w : List ℕ). Appended (text_of (g.K.Sink.written c.args.sink.now) c.args.report.now) (text_of (g.K.Sink.written c.play_turn.new.sink) c.play_turn.new.report) w)
           (turn_lines-turn c.args.turns.now c.loop-turn.turn-index _ _ _ c.loop-turn-test.true i.totals)
-          (Appended-append _ _ _ _ _ i.text e.text);
+          (appended_in_turn _ _ _ _ _ i.text e.text);
       begins = Begins-trans _ _ _ i.begins e.begins;
       live = e.live;
       later = search rules;
