@@ -4,3 +4,4 @@ pub mod TurnLaws
 pub mod TurnRuns
 pub mod Counting
 pub mod Scripts
+pub mod Reports

@@ -1,13 +1,15 @@
 -- What is said of turns in a row.
-use Rattle.std.proofs.Common.{◌≡◌, ◌<◌, ◌≤◌, ◌+◌, ◌-◌, ℕ, zero, suc, Option, Some, None, List, [], ◌∷◌, ◌++◌, length, take, drop, get_or, refl, ap, sym, subst, ◌∙◌, arith, append_assoc, append-nil, add-one}
+use Rattle.std.proofs.Common.{◌≡◌, ◌<◌, ◌≤◌, ◌+◌, ◌-◌, ℕ, zero, suc, Option, Some, None, List, [], ◌∷◌, ◌++◌, length, map, take, drop, get_or, refl, ap, sym, subst, ◌∙◌, arith, append_assoc, append-nil, add-one}
 use Rattle.std.proofs.Math.Seq.{take-suc}
-use Rattle.std.proofs.lemmas.List.{length-take-le, take-append-drop}
+use Rattle.std.proofs.lemmas.List.{length-take-le, take-append-drop, map-append}
 use Rattle.outside_core.specs.Written.{Appended}
 use Rattle.report_defs.specs.Text.{IsCut}
 use Rattle.report_core.proofs.TextLaws.{IsCut-append, IsCut-longer}
 use Rattle.policy_defs.specs.Policy.{one_leaf}
 use Rattle.schedule_defs.specs.Report.{lines_from}
-use Rattle.replay_app.specs.OneLeaf.{turned, turned_all, told_all, events_in}
+use Rattle.schedule_defs.specs.Script.{Step, Arrivals, Departures, Rest, Drain}
+use Rattle.replay_app.specs.FirstPath.{arrivals_of}
+use Rattle.replay_app.specs.OneLeaf.{turned, turned_all, told_all, events_in, step_for}
 use Rattle.replay_app.specs.Turns.{HasRoom, CountsAlike, turn_line, turn_lines}
 use Rattle.replay_app.specs.declared.turn.Turn.{Turn}
 use Rattle.replay_app.specs.declared.turn.Turn.TheVariants as turn
@@ -105,3 +107,24 @@ pub counts-turn : {F : Type 0} (pushed popped : F → ℕ) (old mid new : F) (t 
 counts-turn pushed popped old mid new t u v first second =
     let a = first.pushes in let b = first.pops in let c = second.pushes in let d = second.pops in
     record { pushes = omega arith; pops = omega arith }
+
+arrivals_of-append : (xs ys : List Step) → arrivals_of (xs ++ ys) ≡ arrivals_of xs + arrivals_of ys
+arrivals_of-append [] ys = omega arith
+arrivals_of-append (Arrivals n ∷ xs) ys = let h = arrivals_of-append xs ys in omega arith
+arrivals_of-append (Departures n ∷ xs) ys = arrivals_of-append xs ys
+arrivals_of-append (Rest ∷ xs) ys = arrivals_of-append xs ys
+arrivals_of-append (Drain ∷ xs) ys = arrivals_of-append xs ys
+
+-- what the first turns ask for, and one more
+pub asked-turn : (turns : List Turn) (i : ℕ) (d : Turn) (count more : ℕ) → i < length turns → count ≡ arrivals_of (map step_for (take i turns)) → more ≡ arrivals_of (step_for (get_or turns i d) ∷ [])
+    → count + more ≡ arrivals_of (map step_for (take (i + 1) turns))
+asked-turn turns i d count more lt before now =
+    let sum : count + more ≡ arrivals_of (map step_for (take i turns)) + arrivals_of (step_for (get_or turns i d) ∷ []) = omega arith in
+    sum ∙ sym (arrivals_of-append (map step_for (take i turns)) (step_for (get_or turns i d) ∷ []))
+    ∙ ap arrivals_of (sym (map-append step_for (take i turns) (get_or turns i d ∷ [])) ∙ ap (map step_for) (sym (take-turn turns i d lt)))
+
+-- the packets that turns push are those that they ask for
+pub pushed-all : (turns : List Turn) (t : Totals) → (turned_all turns t).pushed ≡ t.pushed + arrivals_of (map step_for turns)
+pushed-all [] t = omega arith
+pushed-all (turn.Arrive ∷ turns) t = let h = pushed-all turns (turned turn.Arrive t) in omega arith
+pushed-all (turn.Depart ∷ turns) t = let h = pushed-all turns (turned turn.Depart t) in let p = pushed-turned t in omega arith

@@ -6,3 +6,5 @@ pub mod Fabrics
 pub mod Turns
 pub mod Stops
 pub mod Counted
+pub mod PlainRuns
+pub mod Named

@@ -1,12 +1,15 @@
 //! The commands: words and files come in, and a report goes out.
 #![tactic(auto)]
 
+mod files;
 mod inputs;
+mod plain;
+mod replay;
 mod stop;
 mod turn;
 mod turns;
+mod words;
 
-pub use inputs::{count_packets, is_content, read_turns};
+pub use plain::Plain;
 pub use stop::Stop;
 pub use turn::{Totals, Turn};
-pub use turns::play;
