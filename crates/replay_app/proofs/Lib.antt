@@ -5,3 +5,5 @@ pub mod TurnRuns
 pub mod Counting
 pub mod Scripts
 pub mod Reports
+pub mod PlainCourses
+pub mod Commands

@@ -8,3 +8,5 @@ pub mod Stops
 pub mod Counted
 pub mod PlainRuns
 pub mod Named
+pub mod Played
+pub mod Endings

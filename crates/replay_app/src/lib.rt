@@ -1,6 +1,8 @@
 //! The commands: words and files come in, and a report goes out.
 #![tactic(auto)]
 
+mod command;
+mod ending;
 mod files;
 mod inputs;
 mod plain;
@@ -10,6 +12,8 @@ mod turn;
 mod turns;
 mod words;
 
+pub use command::run;
+pub use ending::Ending;
 pub use plain::Plain;
 pub use stop::Stop;
 pub use turn::{Totals, Turn};
