@@ -1,0 +1,12 @@
+pub mod Words
+pub mod FirstPath
+pub mod OneLeaf
+pub mod Output
+pub mod Fabrics
+pub mod Turns
+pub mod Stops
+pub mod Counted
+pub mod PlainRuns
+pub mod Named
+pub mod Played
+pub mod Endings

@@ -1,0 +1,38 @@
+-- The words behind the program's name, and the forms that they may have.
+use Rattle.std.specs.Prelude.{◌≡◌, refl, ℕ, Bool, IsTrue, if◌then◌else◌, Option, Some, List, [], ◌∷◌, map, codes, String, string_bytes}
+use Rattle.std.specs.List.{AllByRecursion}
+use Rattle.std.specs.Str.{bytes_eq}
+use Rattle.std.specs.declared.alloc.Global.{Global}
+
+-- the bytes of each word
+abbrev pub texts : List (String Global) → List (List ℕ)
+texts words = map string_bytes words
+
+-- a command with the names of its files
+pub data Form : Type 0 where
+  -- a policy, a target, a capture and a script
+  replay : List ℕ → List ℕ → List ℕ → List ℕ → Form
+  no_form : Form
+
+abbrev pub form_of : List (List ℕ) → Form
+form_of (w ∷ p ∷ t ∷ c ∷ e ∷ []) = if bytes_eq w (codes "replay") then replay p t c e else no_form
+form_of words = no_form
+
+-- the words that name files
+abbrev pub file_words : Form → List (List ℕ)
+file_words (replay p t c e) = p ∷ t ∷ c ∷ e ∷ []
+file_words no_form = []
+
+-- each of the names is lent
+abbrev pub AreLent : (List ℕ → Bool) → List (List ℕ) → Type 0
+AreLent lends names = AllByRecursion (λ name. IsTrue (lends name)) names
+
+-- each of the names has its content told
+abbrev pub AreTold : (List ℕ → Option (List ℕ)) → (List ℕ → List ℕ) → List (List ℕ) → Type 0
+AreTold content contents names = AllByRecursion (λ name. content name ≡ Some (contents name)) names
+
+pub form_of-replay : form_of (codes "replay" ∷ codes "p" ∷ codes "t" ∷ codes "c" ∷ codes "e" ∷ []) ≡ replay (codes "p") (codes "t") (codes "c") (codes "e")
+form_of-replay = refl
+
+pub form_of-replay_alone : form_of (codes "replay" ∷ []) ≡ no_form
+form_of-replay_alone = refl

@@ -1,0 +1,19 @@
+//! The commands: words and files come in, and a report goes out.
+#![tactic(auto)]
+
+mod command;
+mod ending;
+mod files;
+mod inputs;
+mod plain;
+mod replay;
+mod stop;
+mod turn;
+mod turns;
+mod words;
+
+pub use command::run;
+pub use ending::Ending;
+pub use plain::Plain;
+pub use stop::Stop;
+pub use turn::{Totals, Turn};

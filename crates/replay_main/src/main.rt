@@ -1,0 +1,47 @@
+//! The program: it does what its words say on real files and standard output.
+#![tactic(auto)]
+
+use fabric_core::FlatFabric;
+use outside_core::{FileShelf, StdSink};
+use replay_app::run;
+use std::alloc::AllocError;
+use std::env;
+use std::io;
+use std::process::ExitCode;
+
+/// There was no memory for the words or for what `run` works on.
+const NO_MEMORY: u8 = 10;
+
+/// The system didn't give the words.
+const NO_WORDS: u8 = 16;
+
+/// The words behind the program's name.
+fn words_of(rt: &HostRuntime) -> io::Result<Vec<String>> {
+    let mut words = Vec::new(rt.alloc());
+    for word in env::args(rt)?.skip(1) {
+        words.push(word)?;
+    }
+    Ok(words)
+}
+
+/// Does what the words say.
+fn answer(rt: &HostRuntime, words: &[String]) -> Result<u8, AllocError> {
+    let mut shelf = FileShelf::new(rt.clone()?);
+    let mut sink = StdSink::new(rt.clone()?);
+    let mut fabric = FlatFabric::new(rt.alloc())?;
+    Ok(run(rt.alloc(), words, &mut shelf, &mut sink, &mut fabric))
+}
+
+fn main(rt: HostRuntime) -> ExitCode {
+    let words = match words_of(&rt) {
+        Ok(words) => words,
+        Err(error) if error.kind() == io::ErrorKind::OutOfMemory => {
+            return ExitCode::from(NO_MEMORY);
+        }
+        Err(_) => return ExitCode::from(NO_WORDS),
+    };
+    match answer(&rt, &words) {
+        Ok(status) => ExitCode::from(status),
+        Err(_) => ExitCode::from(NO_MEMORY),
+    }
+}
