@@ -1,1 +1,3 @@
 pub mod Loop
+pub mod Flows
+pub mod Lists

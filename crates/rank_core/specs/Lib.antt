@@ -1,1 +1,2 @@
 pub mod Scope
+pub mod Node

@@ -1,0 +1,36 @@
+-- Lists with one item replaced, and of one item throughout.
+use Rattle.std.proofs.Common.{arith, ◌≡◌, ◌≢◌, ◌∙◌, sym, drop, ◌<◌, ℕ, zero, suc, List, [], ◌∷◌, length, refl, ap, Some, None}
+use Rattle.std.specs.Prelude.{◌++◌, slice_get, slice_set, Vec, option_map}
+use Rattle.std.specs.List.{AllByRecursion}
+use Rattle.std.specs.declared.alloc.Global.{Global}
+use Rattle.rank_core.specs.Node.{kept_or, items_of}
+use Rattle.std.specs.Vec.{with_items}
+use Rattle.std.proofs.Math.Seq.{take-append_seam}
+
+pub get_set_same : {X : Type 0} (xs : List X) (i : ℕ) (x : X) → i < length xs → slice_get (slice_set xs i x) i ≡ Some x
+get_set_same [] i x h = absurd (omega (arith, h))
+get_set_same (y ∷ xs) zero x h = refl
+get_set_same (y ∷ xs) (suc i) x h = get_set_same xs i x (omega (arith, h))
+
+pub get_set_other : {X : Type 0} (xs : List X) (i j : ℕ) (x : X) → j ≢ i → slice_get (slice_set xs i x) j ≡ slice_get xs j
+get_set_other [] i j x n = refl
+get_set_other (y ∷ xs) zero zero x n = absurd (n refl)
+get_set_other (y ∷ xs) zero (suc j) x n = refl
+get_set_other (y ∷ xs) (suc i) zero x n = refl
+get_set_other (y ∷ xs) (suc i) (suc j) x n = get_set_other xs i j x (λ e. n (ap suc e))
+
+-- a vector with as many other items has them
+pub refilled : {X Z : Type 0} (v : Vec X Z) (ws : List X) → length ws ≡ length v.items → (with_items v ws).items ≡ ws
+refilled v ws h =
+    let len : v.len ≡ length ws = v.ok.0 ∙ sym h
+    in rw len (take-append_seam ws (drop (length ws) v.items))
+
+pub all_and_last : {X : Type 0} (P : X → Type 0) (xs : List X) (x : X) → AllByRecursion P xs → P x → AllByRecursion P (xs ++ x ∷ [])
+all_and_last P [] x h p = (p, tt)
+all_and_last P (y ∷ xs) x h p = (h.0, all_and_last P xs x h.1 p)
+
+-- where all vectors have the same items, a look-up finds them
+pub found_first : (first : List ℕ) (xs : List (Vec ℕ Global)) (i : ℕ) → AllByRecursion (λ v. v.items ≡ first) xs → kept_or first (option_map items_of (slice_get xs i)) ≡ first
+found_first first [] i h = refl
+found_first first (v ∷ xs) zero h = h.0
+found_first first (v ∷ xs) (suc i) h = found_first first xs i h.1
