@@ -1,3 +1,4 @@
 pub mod Loop
 pub mod Flows
 pub mod Lists
+pub mod Table

@@ -1,2 +1,3 @@
 pub mod Scope
 pub mod Node
+pub mod Table

@@ -1,0 +1,42 @@
+-- Looking up a name in the program's table.
+use Rattle.std.proofs.Common.{rules, arith, ◌≡◌, ◌<◌, ◌+◌, ◌∙◌, ℕ, List, [], ◌∷◌, Bool, true, false, map, drop, get_or, length, Some, None, refl, sym, subst}
+use Rattle.std.proofs.lemmas.List.{drop_more}
+use Rattle.std.specs.Str.{bytes_eq}
+use Rattle.std.specs.Prelude.{find, option_map}
+use Rattle.std.specs.List.{AllByRecursion}
+use Rattle.rank_defs.specs.Programs.{Program}
+use Rattle.rank_defs.specs.Shapes.{IsShaped}
+use Rattle.rank_defs.specs.Checks.{IsChecked}
+use Rattle.rank_defs.specs.Builtins.{Builtin, builtin, builtins, same_name}
+use Rattle.rank_defs.proofs.Table.{builtins-checked}
+use Rattle.rank_core.specs.declared.builtins.Row.{Row}
+use Rattle.rank_core.specs.Table.{program, row, program_named}
+
+-- `==` of names
+agree : (a b : List ℕ) → bytes_eq a b ≡ same_name b a
+agree [] [] = refl
+agree [] (b ∷ bs) = refl
+agree (a ∷ xs) [] = refl
+agree (a ∷ xs) (b ∷ ys) = grind (arith, rules, agree xs ys)
+
+-- the row at a place has the name
+pub here : (name : List ℕ) (rows : List Row) (i : ℕ) (d : Row) → i < length rows → true ≡ bytes_eq (get_or rows i d).name.now name → Some (program (get_or rows i d)) ≡ program_named name (map row (drop i rows))
+here name rows i d within same =
+    let is : same_name name (get_or rows i d).name.now ≡ true = sym (same ∙ agree (get_or rows i d).name.now name)
+    in rw (drop_more rows i d within, is) refl
+
+-- or it has another
+pub further : (name : List ℕ) (rows : List Row) (i : ℕ) (d : Row) → i < length rows → false ≡ bytes_eq (get_or rows i d).name.now name → program_named name (map row (drop (i + 1) rows)) ≡ program_named name (map row (drop i rows))
+further name rows i d within other =
+    let not : same_name name (get_or rows i d).name.now ≡ false = sym (other ∙ agree (get_or rows i d).name.now name)
+    in rw (drop_more rows i d within, not) refl
+
+checked_among : (bs : List Builtin) → AllByRecursion (λ b. IsShaped b.program × IsChecked b.program) bs → (name : List ℕ) (p : Program) → Some p ≡ program_named name bs → IsShaped p × IsChecked p
+checked_among [] h name p found = absurd (let k : (Some p ≡ None) = found in cc)
+checked_among (b ∷ bs) h name p found =
+    let by : (t : Bool) → same_name name b.name ≡ t → IsShaped p × IsChecked p = λ t. elim t as (λ t. same_name name b.name ≡ t → IsShaped p × IsChecked p) [ true ↦ λ e. (let k : Some p ≡ Some b.program = rw e at found in let same : p ≡ b.program = cc in subst (λ q. IsShaped q × IsChecked q) (sym same) h.0) | false ↦ λ e. checked_among bs h.1 name p (rw e at found) ]
+    in by (same_name name b.name) refl
+
+-- what is found is shaped and checked
+pub builtin-checked : (name : List ℕ) (p : Program) → Some p ≡ builtin name → IsShaped p × IsChecked p
+builtin-checked = checked_among builtins builtins-checked
