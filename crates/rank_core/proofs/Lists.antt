@@ -24,13 +24,3 @@ pub refilled : {X Z : Type 0} (v : Vec X Z) (ws : List X) → length ws ≡ leng
 refilled v ws h =
     let len : v.len ≡ length ws = v.ok.0 ∙ sym h
     in rw len (take-append_seam ws (drop (length ws) v.items))
-
-pub all_and_last : {X : Type 0} (P : X → Type 0) (xs : List X) (x : X) → AllByRecursion P xs → P x → AllByRecursion P (xs ++ x ∷ [])
-all_and_last P [] x h p = (p, tt)
-all_and_last P (y ∷ xs) x h p = (h.0, all_and_last P xs x h.1 p)
-
--- where all vectors have the same items, a look-up finds them
-pub found_first : (first : List ℕ) (xs : List (Vec ℕ Global)) (i : ℕ) → AllByRecursion (λ v. v.items ≡ first) xs → kept_or first (option_map items_of (slice_get xs i)) ≡ first
-found_first first [] i h = refl
-found_first first (v ∷ xs) zero h = h.0
-found_first first (v ∷ xs) (suc i) h = found_first first xs i h.1

@@ -30,13 +30,3 @@ pub further : (name : List ℕ) (rows : List Row) (i : ℕ) (d : Row) → i < le
 further name rows i d within other =
     let not : same_name name (get_or rows i d).name.now ≡ false = sym (other ∙ agree (get_or rows i d).name.now name)
     in rw (drop_more rows i d within, not) refl
-
-checked_among : (bs : List Builtin) → AllByRecursion (λ b. IsShaped b.program × IsChecked b.program) bs → (name : List ℕ) (p : Program) → Some p ≡ program_named name bs → IsShaped p × IsChecked p
-checked_among [] h name p found = absurd (let k : (Some p ≡ None) = found in cc)
-checked_among (b ∷ bs) h name p found =
-    let by : (t : Bool) → same_name name b.name ≡ t → IsShaped p × IsChecked p = λ t. elim t as (λ t. same_name name b.name ≡ t → IsShaped p × IsChecked p) [ true ↦ λ e. (let k : Some p ≡ Some b.program = rw e at found in let same : p ≡ b.program = cc in subst (λ q. IsShaped q × IsChecked q) (sym same) h.0) | false ↦ λ e. checked_among bs h.1 name p (rw e at found) ]
-    in by (same_name name b.name) refl
-
--- what is found is shaped and checked
-pub builtin-checked : (name : List ℕ) (p : Program) → Some p ≡ builtin name → IsShaped p × IsChecked p
-builtin-checked = checked_among builtins builtins-checked

@@ -26,6 +26,7 @@ pub(crate) enum Eaches {
 /// First values for so many children.
 pub(crate) fn of_children(alloc: Global, first: &[u64], count: u32) -> Result<Eaches, AllocError>
     ensures children { IfOk result (λ e. children e ≡ Some count) }
+    ensures room { IfOk result (λ e. (i : ℕ) → i < count → IsSome (kept e (Who.Child i))) }
     ensures firsts { IfOk result (λ e. (who : Who) → kept_or first.now (kept e who) ≡ first.now) }
 {
     let mut values = Vec::with_capacity(alloc, count as usize)?;

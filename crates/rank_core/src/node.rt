@@ -1,6 +1,6 @@
 //! The variables of a node, and its steps.
 
-ghost use Rattle.std.specs.Prelude.{◌≡◌, ◌≢◌, ◌≤◌, ◌↔◌, ℕ, List, map, Some, None, IfOk, OnOk, OnErr};
+ghost use Rattle.std.specs.Prelude.{◌≡◌, ◌≢◌, ◌<◌, ◌≤◌, ◌↔◌, ℕ, List, map, Some, None, IfOk, OnOk, OnErr};
 ghost use Rattle.std.specs.List.{AllByRecursion};
 ghost use Rattle.rank_defs.specs.declared.transaction.Span.{Span as SpanOf};
 ghost use Rattle.rank_defs.specs.States.{State, SameState, first_state, firsts, memory_for, put_back};
@@ -43,6 +43,7 @@ impl NodeState {
         ensures first { IfOk result (λ n. SameState (state_of n) (first_state (program_of transaction.now))) }
         ensures in_range { IfOk result (λ n. IsStateInRange (program_of transaction.now) (state_of n)) }
         ensures children { IfOk result (λ n. children_of n ≡ Some children) }
+        ensures room { IfOk result (λ n. (i : ℕ) → i < children → HasRoom n (Who.Child i)) }
     {
         let firsts = first_values(alloc, transaction.eaches.as_slice())?;
         let keeps = first_values(alloc, transaction.keeps.as_slice())?;
@@ -76,9 +77,9 @@ impl NodeState {
         requires belongs { BelongsTo (children_of self.old) who.now }
         ensures room { OnOk result (HasRoom self.new who.now) }
         ensures same { SameState (state_of self.new) (state_of self.old) }
-        ensures stays { HasRoom self.old who.now → HasRoom self.new who.now }
-        ensures others { (other : Who) → other ≢ who.now → (HasRoom self.new other ↔ HasRoom self.old other) }
-        ensures err { OnErr result (HasRoom self.new who.now ↔ HasRoom self.old who.now) }
+        ensures kept { (other : Who) → HasRoom self.old other → HasRoom self.new other }
+        ensures others { (other : Who) → other ≢ who.now → HasRoom self.new other → HasRoom self.old other }
+        ensures err { OnErr result ((other : Who) → HasRoom self.new other → HasRoom self.old other) }
         ensures children { children_of self.new ≡ children_of self.old }
     {
         reserve(&mut self.eaches, who, self.firsts.as_slice())
