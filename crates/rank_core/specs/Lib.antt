@@ -1,3 +1,4 @@
 pub mod Scope
 pub mod Node
 pub mod Table
+pub mod Samples

@@ -162,7 +162,14 @@ fn run_for_flow(
     ensures others { (f : FlowKey) → f ≢ flow → get same_flow flows.new f ≡ get same_flow flows.old f }
 {
     match flows.get_mut(&flow) {
-        Some(values) => run(transaction, assigns, env, rank, keeps, values.as_mut_slice()),
+        Some(values) => run(
+            transaction,
+            assigns,
+            env,
+            rank,
+            keeps,
+            values.as_mut_slice(),
+        ),
         None => unreachable!(),
     }
 }

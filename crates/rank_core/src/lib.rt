@@ -6,6 +6,8 @@ mod eaches;
 mod evaluate;
 mod node;
 mod step;
+#[cfg(test)]
+mod tests;
 
 pub use builtins::builtin;
 pub use node::{NodeState, run_pop, run_push};

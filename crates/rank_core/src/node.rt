@@ -107,7 +107,15 @@ fn run_at(
     ensures children { children_of state.new ≡ children_of state.old }
 {
     let keeps = state.keeps.as_mut_slice();
-    run_for(&mut state.eaches, who, transaction, assigns, env, rank, keeps)
+    run_for(
+        &mut state.eaches,
+        who,
+        transaction,
+        assigns,
+        env,
+        rank,
+        keeps,
+    )
 }
 
 /// The push step of a node for a packet of a child or a flow. The answer is the packet's rank at the node.
@@ -140,5 +148,12 @@ pub fn run_pop(transaction: &Transaction, state: &mut NodeState, who: &Who, rank
     ensures room { (w : Who) → HasRoom state.new w ↔ HasRoom state.old w }
     ensures children { children_of state.new ≡ children_of state.old }
 {
-    run_at(state, who, transaction, transaction.pop.as_slice(), env, rank);
+    run_at(
+        state,
+        who,
+        transaction,
+        transaction.pop.as_slice(),
+        env,
+        rank,
+    );
 }

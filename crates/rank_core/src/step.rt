@@ -65,8 +65,14 @@ fn perform(
     let value = number(&assign.value, transaction, &scope);
     match assign.aim {
         Aim::Rank => return clamped(value, RANKS),
-        Aim::Keep(k) => keeps[k as usize] = clamped(value, transaction.keeps.as_slice()[k as usize]),
-        Aim::Each(k) => eaches[k as usize] = clamped(value, transaction.eaches.as_slice()[k as usize]),
+        Aim::Keep(k) => keeps[k as usize] = clamped(
+            value,
+            transaction.keeps.as_slice()[k as usize],
+        ),
+        Aim::Each(k) => eaches[k as usize] = clamped(
+            value,
+            transaction.eaches.as_slice()[k as usize],
+        ),
     }
     rank
 }
