@@ -1,5 +1,5 @@
 -- Flow keys are told apart as contracts say, and so are the entries of a map by flow.
-use Rattle.std.proofs.Common.{rules, arith, ◌≡◌, ◌≢◌, ◌∙◌, List, [], ◌∷◌, refl, ap, sym, false, Some, IsSome, subst, Option}
+use Rattle.std.proofs.Common.{rules, arith, ◌≡◌, ◌≢◌, ◌∙◌, List, [], ◌∷◌, refl, sym, false, Some, IsSome, subst, Option}
 use Rattle.std.specs.Map.{lookup}
 use Rattle.std.specs.HashMap.{HashMap, get, get_by, UpdatesBy, WritesThrough}
 use Rattle.rank_defs.specs.declared.environment.FlowKey.{FlowKey}

@@ -1,9 +1,6 @@
 -- Lists with one item replaced, and of one item throughout.
-use Rattle.std.proofs.Common.{arith, ◌≡◌, ◌≢◌, ◌∙◌, sym, drop, ◌<◌, ℕ, zero, suc, List, [], ◌∷◌, length, refl, ap, Some, None}
-use Rattle.std.specs.Prelude.{◌++◌, slice_get, slice_set, Vec, option_map}
-use Rattle.std.specs.List.{AllByRecursion}
-use Rattle.std.specs.declared.alloc.Global.{Global}
-use Rattle.rank_core.specs.Node.{kept_or, items_of}
+use Rattle.std.proofs.Common.{arith, ◌≡◌, ◌≢◌, ◌∙◌, sym, drop, ◌<◌, ℕ, zero, suc, List, [], ◌∷◌, length, refl, ap, Some}
+use Rattle.std.specs.Prelude.{slice_get, slice_set, Vec}
 use Rattle.std.specs.Vec.{with_items}
 use Rattle.std.proofs.Math.Seq.{take-append_seam}
 

@@ -1,5 +1,5 @@
 -- The transactions of the tests are shaped and checked.
-use Rattle.std.proofs.Common.{◌≡◌, ◌≤◌, ℕ, ◌^◌, true, refl, arith, lit≤, subst, sym}
+use Rattle.std.proofs.Common.{◌≡◌, ◌≤◌, ◌^◌, true, refl, arith, lit≤, subst, sym}
 use Rattle.std.specs.Prelude.{pos, negsuc, ◌≤ℤ◌, ℤ, neg_ℤ}
 use Rattle.std.specs.Int.Signed.{le_z_yes}
 use Rattle.rank_defs.specs.declared.transaction.Transaction.{Transaction}

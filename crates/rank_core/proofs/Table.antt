@@ -1,14 +1,8 @@
 -- Looking up a name in the program's table.
-use Rattle.std.proofs.Common.{rules, arith, ◌≡◌, ◌<◌, ◌+◌, ◌∙◌, ℕ, List, [], ◌∷◌, Bool, true, false, map, drop, get_or, length, Some, None, refl, sym, subst}
+use Rattle.std.proofs.Common.{rules, arith, ◌≡◌, ◌<◌, ◌+◌, ◌∙◌, ℕ, List, [], ◌∷◌, true, false, map, drop, get_or, length, Some, refl, sym}
 use Rattle.std.proofs.lemmas.List.{drop_more}
 use Rattle.std.specs.Str.{bytes_eq}
-use Rattle.std.specs.Prelude.{find, option_map}
-use Rattle.std.specs.List.{AllByRecursion}
-use Rattle.rank_defs.specs.Programs.{Program}
-use Rattle.rank_defs.specs.Shapes.{IsShaped}
-use Rattle.rank_defs.specs.Checks.{IsChecked}
-use Rattle.rank_defs.specs.Builtins.{Builtin, builtin, builtins, same_name}
-use Rattle.rank_defs.proofs.Table.{builtins-checked}
+use Rattle.rank_defs.specs.Builtins.{same_name}
 use Rattle.rank_core.specs.declared.builtins.Row.{Row}
 use Rattle.rank_core.specs.Table.{program, row, program_named}
 

@@ -1,10 +1,10 @@
 -- The variables of a node, and for whom it has room.
-use Rattle.std.specs.Prelude.{◌≡◌, ◌<◌, ◌↔◌, ℕ, List, length, slice_get, Vec, Option, Some, None, IsSome, option_map, if◌then◌else◌}
+use Rattle.std.specs.Prelude.{◌<◌, ℕ, List, length, slice_get, Vec, Option, Some, None, IsSome, option_map}
 use Rattle.std.specs.declared.alloc.Global.{Global}
 use Rattle.indexmap.specs.IndexMap.{get}
 use Rattle.rank_defs.specs.declared.environment.Who.{Who}
 use Rattle.rank_defs.specs.declared.environment.Who.TheVariants.{Child, Flow}
-use Rattle.rank_defs.specs.States.{State, same_flow, same_who}
+use Rattle.rank_defs.specs.States.{State, same_flow}
 use Rattle.rank_core.specs.declared.eaches.Eaches.{Eaches}
 use Rattle.rank_core.specs.declared.eaches.Eaches.TheVariants.{Children, Flows}
 use Rattle.rank_core.specs.declared.node.NodeState.{NodeState}

@@ -148,12 +148,6 @@ pub fn run_pop(transaction: &Transaction, state: &mut NodeState, who: &Who, rank
     ensures room { (w : Who) → HasRoom state.new w ↔ HasRoom state.old w }
     ensures children { children_of state.new ≡ children_of state.old }
 {
-    run_at(
-        state,
-        who,
-        transaction,
-        transaction.pop.as_slice(),
-        env,
-        rank,
-    );
+    let assigns = transaction.pop.as_slice();
+    run_at(state, who, transaction, assigns, env, rank);
 }

@@ -1,4 +1,3 @@
-use Rattle.std.proofs.Common.{rules, ◌≡◌, ◌≢◌, Some}
 use Rattle.rank_core.proofs.Flows.{write_others}
 use Rattle.rank_core.proofs.eaches.run_for_flow.Goals as goal
 

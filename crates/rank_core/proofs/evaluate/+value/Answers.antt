@@ -1,8 +1,5 @@
-use Rattle.std.proofs.Common.{rules, ◌≡◌, true, false, refl, ap, rules, to_z, of_z, FitsSigned}
-use Rattle.std.specs.Int.{w128}
-use Rattle.std.proofs.lemmas.Int.{ints, to_z-of_z}
-use Rattle.rank_defs.specs.Formulas.{Formula, formula_of, two, choice}
-use Rattle.rank_defs.specs.Values.{num, truth, value_of, apply, FitsWide}
+use Rattle.std.proofs.Common.{rules, ap, rules}
+use Rattle.rank_defs.specs.Formulas.{formula_of}
 use Rattle.rank_defs.specs.States.{variable_in}
 use Rattle.rank_defs.specs.Ranges.{declared}
 use Rattle.rank_defs.specs.Programs.{program_of}

@@ -1,4 +1,4 @@
-use Rattle.std.proofs.Common.{rules, ◌≡◌}
+use Rattle.std.proofs.Common.{rules}
 use Rattle.rank_defs.specs.Programs.{program_of}
 use Rattle.rank_defs.specs.States.{SameState}
 use Rattle.rank_defs.specs.Steps.{after_pop}

@@ -1,6 +1,5 @@
-use Rattle.std.proofs.Common.{rules, arith, ◌≡◌, sym, subst, ◌<◌, length}
+use Rattle.std.proofs.Common.{arith, ◌≡◌, ◌<◌, length}
 use Rattle.rank_defs.specs.Programs.{program_of}
-use Rattle.rank_defs.specs.Shapes.{IsAim}
 use Rattle.rank_defs.proofs.Spans.{length-within, variables-inside}
 use Rattle.rank_core.specs.Scope.{memory}
 use Rattle.rank_core.proofs.step.perform.Goals as goal
