@@ -1,0 +1,5 @@
+pub mod Loop
+pub mod Flows
+pub mod Lists
+pub mod Table
+pub mod Samples

@@ -1,0 +1,6 @@
+use Rattle.std.proofs.Common.{◌≡◌, drop, map}
+use Rattle.rank_core.specs.Table.{row, program_named}
+use Rattle.rank_core.proofs.builtins.row_named.Given as goal
+
+abbrev pub invariant-loop-row : goal.invariant-loop-row
+invariant-loop-row l = program_named l.name (map row (drop l.row-index l.rows)) ≡ program_named l.name (map row l.rows)

@@ -1,0 +1,6 @@
+use Rattle.std.proofs.Common.{◌≡◌, take}
+use Rattle.rank_defs.specs.States.{firsts}
+use Rattle.rank_core.proofs.node.first_values.Given as goal
+
+abbrev pub invariant-loop-span : goal.invariant-loop-span
+invariant-loop-span l = l.values.items ≡ firsts (take l.span-index l.spans)

@@ -1,0 +1,18 @@
+use Rattle.std.proofs.Common.{rules, ◌≡◌, ◌≤◌, sym, subst}
+use Rattle.rank_defs.specs.Programs.{program_of, max_rank}
+use Rattle.rank_defs.specs.States.{SameState}
+use Rattle.rank_defs.specs.Steps.{push_rank, after_push}
+use Rattle.rank_defs.proofs.Same.{in_range-same, same-sym}
+use Rattle.rank_defs.proofs.Safe.{safe_push}
+use Rattle.rank_core.specs.Node.{state_of}
+use Rattle.rank_core.proofs.node.run_push.Goals as goal
+
+pub returns-clause-rank_limit : goal.returns-clause-rank_limit
+returns-clause-rank_limit c =
+    let is : c.run_at.result ≡ push_rank (program_of c.args.transaction.now) c.args.who.now c.args.env.now (state_of c.args.state.now) = search rules
+    in subst (λ r. r ≤ max_rank) (sym is) (safe_push (program_of c.args.transaction.now) c.requires.shaped c.requires.checked (state_of c.args.state.now) c.requires.in_range c.args.env.now c.requires.told c.args.who.now).rank
+
+pub returns-clause-in_range : goal.returns-clause-in_range
+returns-clause-in_range c =
+    let after : SameState (state_of c.run_at.new.state) (after_push (program_of c.args.transaction.now) c.args.who.now c.args.env.now (state_of c.args.state.now)) = search rules
+    in in_range-same (program_of c.args.transaction.now) _ _ (same-sym _ _ after) (safe_push (program_of c.args.transaction.now) c.requires.shaped c.requires.checked (state_of c.args.state.now) c.requires.in_range c.args.env.now c.requires.told c.args.who.now).after

@@ -1,0 +1,27 @@
+use Rattle.std.proofs.Common.{arith, ◌≡◌, ◌<◌, length}
+use Rattle.rank_defs.specs.Programs.{program_of}
+use Rattle.rank_defs.proofs.Spans.{length-within, variables-inside}
+use Rattle.rank_core.specs.Scope.{memory}
+use Rattle.rank_core.proofs.step.perform.Goals as goal
+
+pub number-value-requires-clause-inside : goal.number-value-requires-clause-inside
+number-value-requires-clause-inside c =
+    variables-inside (program_of c.args.transaction.now) c.args.env.now (memory c.args.rank c.args.keeps.now c.args.eaches.now) c.requires.told c.requires.range
+
+pub number-value-requires-clause-keeps : goal.number-value-requires-clause-keeps
+number-value-requires-clause-keeps c = length-within c.args.transaction.now.keeps c.args.keeps.now c.requires.range.keeps
+
+pub number-value-requires-clause-eaches : goal.number-value-requires-clause-eaches
+number-value-requires-clause-eaches c = length-within c.args.transaction.now.eaches c.args.eaches.now c.requires.range.eaches
+
+pub bounds-keeps-k : goal.bounds-keeps-k
+bounds-keeps-k c =
+    let same : length c.args.keeps.now ≡ length c.args.transaction.now.keeps = length-within c.args.transaction.now.keeps c.args.keeps.now c.requires.range.keeps
+    in let there : c.in-Keep.k < length c.args.transaction.now.keeps = rw c.in-Keep.is at c.requires.fits.aim
+    in omega (arith, same, there)
+
+pub bounds-eaches-k : goal.bounds-eaches-k
+bounds-eaches-k c =
+    let same : length c.args.eaches.now ≡ length c.args.transaction.now.eaches = length-within c.args.transaction.now.eaches c.args.eaches.now c.requires.range.eaches
+    in let there : c.in-Each.k < length c.args.transaction.now.eaches = rw c.in-Each.is at c.requires.fits.aim
+    in omega (arith, same, there)

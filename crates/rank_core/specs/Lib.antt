@@ -1,0 +1,4 @@
+pub mod Scope
+pub mod Node
+pub mod Table
+pub mod Samples

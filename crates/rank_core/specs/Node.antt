@@ -1,0 +1,48 @@
+-- The variables of a node, and for whom it has room.
+use Rattle.std.specs.Prelude.{◌<◌, ℕ, List, length, slice_get, Vec, Option, Some, None, IsSome, option_map}
+use Rattle.std.specs.declared.alloc.Global.{Global}
+use Rattle.indexmap.specs.IndexMap.{get}
+use Rattle.rank_defs.specs.declared.environment.Who.{Who}
+use Rattle.rank_defs.specs.declared.environment.Who.TheVariants.{Child, Flow}
+use Rattle.rank_defs.specs.States.{State, same_flow}
+use Rattle.rank_core.specs.declared.eaches.Eaches.{Eaches}
+use Rattle.rank_core.specs.declared.eaches.Eaches.TheVariants.{Children, Flows}
+use Rattle.rank_core.specs.declared.node.NodeState.{NodeState}
+
+-- the numbers of a vector
+abbrev pub items_of : Vec ℕ Global → List ℕ
+items_of v = v.items
+
+-- the numbers kept for a child or a flow
+abbrev pub kept : Eaches → Who → Option (List ℕ)
+kept (Children values) (Child i) = option_map items_of (slice_get values.items i)
+kept (Flows values) (Flow f) = option_map items_of (get same_flow values f)
+kept values who = None
+
+-- of an inner node, how many children it has; none of a leaf
+abbrev pub children : Eaches → Option ℕ
+children (Children values) = Some (length values.items)
+children (Flows values) = None
+
+-- the children of a node, as `children`
+abbrev pub children_of : NodeState → Option ℕ
+children_of n = children n.eaches
+
+-- a child of an inner node with so many, or a flow at a leaf
+abbrev pub BelongsTo : Option ℕ → Who → Type 0
+BelongsTo (Some n) (Child i) = i < n
+BelongsTo None (Flow f) = Unit {0}
+BelongsTo n who = ⊥
+
+-- a node has room for a child or a flow whose numbers it keeps
+abbrev pub HasRoom : NodeState → Who → Type 0
+HasRoom n who = IsSome (kept n.eaches who)
+
+-- the numbers kept, or the first ones
+abbrev pub kept_or : List ℕ → Option (List ℕ) → List ℕ
+kept_or first None = first
+kept_or first (Some values) = values
+
+-- the variables of a node. Those of a child or a flow for which there is no room hold their first values
+abbrev pub state_of : NodeState → State
+state_of n = record { keeps = n.keeps.items; eaches = λ who. kept_or n.firsts.items (kept n.eaches who) }

@@ -1,0 +1,175 @@
+//! The variables of each child or flow.
+
+ghost use Rattle.std.specs.Prelude.{◌≡◌, ◌≢◌, ◌<◌, ◌↔◌, ℕ, List, length, map, slice_get, [], IfOk, OnOk, OnErr, IsSome, Some, None, if◌then◌else◌, nat_lt};
+ghost use Rattle.std.specs.List.{AllByRecursion};
+ghost use Rattle.indexmap.specs.IndexMap.{get};
+ghost use Rattle.rank_defs.specs.States.{State, same_who, same_flow};
+ghost use Rattle.rank_defs.specs.Steps.{run};
+ghost use Rattle.rank_defs.specs.Shapes.{IsEnvInRange, IsMemoryInRange, IsShaped, IsShapedAssignment};
+ghost use Rattle.rank_defs.specs.Programs.{program_of, assignment_of};
+ghost use Rattle.rank_defs.specs.Checks.{IsCheckedAssignment};
+ghost use Rattle.rank_core.specs.Node.{kept, kept_or, children, items_of, BelongsTo};
+ghost use Rattle.rank_core.specs.Scope.{memory};
+
+use crate::step::run;
+use indexmap::IndexMap;
+use rank_defs::{Assign, Env, FlowKey, Transaction, Who};
+use std::alloc::{AllocError, Global};
+
+/// The numbers of all children of an inner node, or of the flows that have room at a leaf.
+#[derive(Drop)]
+pub(crate) enum Eaches {
+    Children(Vec<Vec<u64>>),
+    Flows(IndexMap<FlowKey, Vec<u64>>),
+}
+
+/// First values for so many children.
+pub(crate) fn of_children(alloc: Global, first: &[u64], count: u32) -> Result<Eaches, AllocError>
+    ensures children { IfOk result (λ e. children e ≡ Some count) }
+    ensures room { IfOk result (λ e. (i : ℕ) → i < count → IsSome (kept e (Who.Child i))) }
+    ensures firsts { IfOk result (λ e. (who : Who) → kept_or first.now (kept e who) ≡ first.now) }
+{
+    let mut values = Vec::with_capacity(alloc, count as usize)?;
+    for _ in 0..count {
+        values.push(Vec::from_slice(alloc, first)?)?;
+    }
+    Ok(Eaches::Children(values))
+}
+
+/// A leaf with no flow yet.
+pub(crate) fn of_flows(alloc: Global) -> Eaches
+    ensures children { children result ≡ None }
+    ensures firsts { (who : Who) → kept result who ≡ None }
+{
+    Eaches::Flows(IndexMap::new(alloc))
+}
+
+/// Makes room for a child or a flow. New numbers are the first ones.
+pub(crate) fn reserve(eaches: &mut Eaches, who: &Who, first: &[u64]) -> Result<(), AllocError>
+    requires { BelongsTo (children eaches.old) who.now }
+    ensures room { OnOk result (IsSome (kept eaches.new who.now)) }
+    ensures same { (w : Who) → kept_or first.now (kept eaches.new w) ≡ kept_or first.now (kept eaches.old w) }
+    ensures stays { IsSome (kept eaches.old who.now) → IsSome (kept eaches.new who.now) }
+    ensures others { (w : Who) → w ≢ who.now → kept eaches.new w ≡ kept eaches.old w }
+    ensures err { OnErr result ((w : Who) → kept eaches.new w ≡ kept eaches.old w) }
+    ensures children { children eaches.new ≡ children eaches.old }
+{
+    match eaches {
+        Eaches::Children(_) => Ok(()),
+        Eaches::Flows(flows) => match who {
+            Who::Flow(flow) => add_flow(flows, *flow, first),
+            Who::Child(_) => unreachable!(),
+        },
+    }
+}
+
+#[tactic(auto, using(crate::proofs::Flows::get_same))]
+fn add_flow(
+    flows: &mut IndexMap<FlowKey, Vec<u64>>,
+    flow: FlowKey,
+    first: &[u64],
+) -> Result<(), AllocError>
+    ensures room { OnOk result (IsSome (get same_flow flows.new flow)) }
+    ensures same { (f : FlowKey) → kept_or first.now (kept (Eaches.Flows flows.new) (Who.Flow f)) ≡ kept_or first.now (kept (Eaches.Flows flows.old) (Who.Flow f)) }
+    ensures stays { IsSome (get same_flow flows.old flow) → IsSome (get same_flow flows.new flow) }
+    ensures others { (f : FlowKey) → f ≢ flow → get same_flow flows.new f ≡ get same_flow flows.old f }
+    ensures err { OnErr result ((f : FlowKey) → get same_flow flows.new f ≡ get same_flow flows.old f) }
+{
+    if !flows.contains_key(&flow) {
+        let values = Vec::from_slice(*flows.allocator(), first)?;
+        flows.insert(flow, values)?;
+    }
+    Ok(())
+}
+
+/// Runs assignments on the variables of a node and on those of one child or flow that has room.
+pub(crate) fn run_for(
+    eaches: &mut Eaches,
+    who: &Who,
+    transaction: &Transaction,
+    assigns: &[Assign],
+    env: &Env,
+    rank: u64,
+    keeps: &mut [u64],
+) -> u64
+    requires shaped { IsShaped (program_of transaction.now) }
+    requires told { IsEnvInRange env.now }
+    requires checked { AllByRecursion (IsCheckedAssignment (program_of transaction.now)) (map assignment_of assigns.now) }
+    requires fits { AllByRecursion (IsShapedAssignment (program_of transaction.now)) (map assignment_of assigns.now) }
+    requires room { IsSome (kept eaches.old who.now) }
+    requires range { IsMemoryInRange (program_of transaction.now) (memory rank keeps.old (kept_or [] (kept eaches.old who.now))) }
+    ensures ran { memory result keeps.new (kept_or [] (kept eaches.new who.now)) ≡ run (program_of transaction.now) env.entry.now (map assignment_of assigns.now) (memory rank keeps.old (kept_or [] (kept eaches.old who.now))) }
+    ensures room { IsSome (kept eaches.new who.now) }
+    ensures others { (w : Who) → w ≢ who.now → kept eaches.new w ≡ kept eaches.old w }
+    ensures children { children eaches.new ≡ children eaches.old }
+{
+    match eaches {
+        Eaches::Children(values) => match who {
+            Who::Child(child) => {
+                run_for_child(values, *child, transaction, assigns, env, rank, keeps)
+            }
+            Who::Flow(_) => unreachable!(),
+        },
+        Eaches::Flows(flows) => match who {
+            Who::Flow(flow) => run_for_flow(flows, *flow, transaction, assigns, env, rank, keeps),
+            Who::Child(_) => unreachable!(),
+        },
+    }
+}
+
+#[tactic(auto, using(crate::proofs::Lists::get_set_same, crate::proofs::Lists::get_set_other))]
+fn run_for_child(
+    values: &mut Vec<Vec<u64>>,
+    child: u32,
+    transaction: &Transaction,
+    assigns: &[Assign],
+    env: &Env,
+    rank: u64,
+    keeps: &mut [u64],
+) -> u64
+    requires shaped { IsShaped (program_of transaction.now) }
+    requires told { IsEnvInRange env.now }
+    requires checked { AllByRecursion (IsCheckedAssignment (program_of transaction.now)) (map assignment_of assigns.now) }
+    requires fits { AllByRecursion (IsShapedAssignment (program_of transaction.now)) (map assignment_of assigns.now) }
+    requires there { child < length values.old.items }
+    requires range { IsMemoryInRange (program_of transaction.now) (memory rank keeps.old (kept_or [] (kept (Eaches.Children values.old) (Who.Child child)))) }
+    ensures ran { memory result keeps.new (kept_or [] (kept (Eaches.Children values.new) (Who.Child child))) ≡ run (program_of transaction.now) env.entry.now (map assignment_of assigns.now) (memory rank keeps.old (kept_or [] (kept (Eaches.Children values.old) (Who.Child child)))) }
+    ensures others { (i : ℕ) → i ≢ child → slice_get values.new.items i ≡ slice_get values.old.items i }
+    ensures count { length values.new.items ≡ length values.old.items }
+{
+    let values = values[child as usize].as_mut_slice();
+    run(transaction, assigns, env, rank, keeps, values)
+}
+
+#[tactic(auto, using(crate::proofs::Flows::get_same))]
+fn run_for_flow(
+    flows: &mut IndexMap<FlowKey, Vec<u64>>,
+    flow: FlowKey,
+    transaction: &Transaction,
+    assigns: &[Assign],
+    env: &Env,
+    rank: u64,
+    keeps: &mut [u64],
+) -> u64
+    requires shaped { IsShaped (program_of transaction.now) }
+    requires told { IsEnvInRange env.now }
+    requires checked { AllByRecursion (IsCheckedAssignment (program_of transaction.now)) (map assignment_of assigns.now) }
+    requires fits { AllByRecursion (IsShapedAssignment (program_of transaction.now)) (map assignment_of assigns.now) }
+    requires room { IsSome (get same_flow flows.old flow) }
+    requires range { IsMemoryInRange (program_of transaction.now) (memory rank keeps.old (kept_or [] (kept (Eaches.Flows flows.old) (Who.Flow flow)))) }
+    ensures ran { memory result keeps.new (kept_or [] (kept (Eaches.Flows flows.new) (Who.Flow flow))) ≡ run (program_of transaction.now) env.entry.now (map assignment_of assigns.now) (memory rank keeps.old (kept_or [] (kept (Eaches.Flows flows.old) (Who.Flow flow)))) }
+    ensures room { IsSome (get same_flow flows.new flow) }
+    ensures others { (f : FlowKey) → f ≢ flow → get same_flow flows.new f ≡ get same_flow flows.old f }
+{
+    match flows.get_mut(&flow) {
+        Some(values) => run(
+            transaction,
+            assigns,
+            env,
+            rank,
+            keeps,
+            values.as_mut_slice(),
+        ),
+        None => unreachable!(),
+    }
+}

@@ -1,0 +1,17 @@
+//! Transactions run step by step, the variables of a node, and the built-in transactions.
+#![tactic(auto)]
+
+mod builtins;
+mod eaches;
+mod evaluate;
+mod node;
+mod step;
+#[cfg(test)]
+mod tests;
+
+pub use builtins::builtin;
+pub use node::{NodeState, run_pop, run_push};
+pub use rank_defs::{
+    Aim, Assign, Env, Expr, FlowKey, MAX_DEPTH, MAX_PRIO, MAX_RANK, MAX_SLACK, MAX_WEIGHT, Op,
+    Span, Transaction, Var, Who,
+};

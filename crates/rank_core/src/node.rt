@@ -1,0 +1,153 @@
+//! The variables of a node, and its steps.
+
+ghost use Rattle.std.specs.Prelude.{◌≡◌, ◌≢◌, ◌<◌, ◌≤◌, ◌↔◌, ℕ, List, map, Some, None, IfOk, OnOk, OnErr};
+ghost use Rattle.std.specs.List.{AllByRecursion};
+ghost use Rattle.rank_defs.specs.declared.transaction.Span.{Span as SpanOf};
+ghost use Rattle.rank_defs.specs.States.{State, SameState, first_state, firsts, memory_for, put_back};
+ghost use Rattle.rank_defs.specs.Steps.{run, push_rank, after_push, after_pop};
+ghost use Rattle.rank_defs.specs.Shapes.{IsEnvInRange, IsStateInRange, IsShaped, IsShapedAssignment};
+ghost use Rattle.rank_defs.specs.Programs.{program_of, assignment_of, max_rank};
+ghost use Rattle.rank_defs.specs.Checks.{IsChecked, IsCheckedAssignment};
+ghost use Rattle.rank_core.specs.Node.{state_of, children_of, BelongsTo, HasRoom};
+
+use crate::eaches::{Eaches, of_children, of_flows, reserve, run_for};
+use rank_defs::{Assign, Env, Span, Transaction, Who};
+use std::alloc::{AllocError, Global};
+
+/// The variables of a node: its own, and those of each child or flow.
+#[derive(Drop)]
+pub struct NodeState {
+    firsts: Vec<u64>,
+    keeps: Vec<u64>,
+    eaches: Eaches,
+}
+
+fn first_values(alloc: Global, spans: &[Span]) -> Result<Vec<u64>, AllocError>
+    ensures { IfOk result (λ v. v.items ≡ firsts spans.now) }
+{
+    let mut values = Vec::with_capacity(alloc, spans.len())?;
+    for span in spans {
+        values.push(span.first)?;
+    }
+    Ok(values)
+}
+
+impl NodeState {
+    /// The variables of an inner node at the start. It has room for each of its children.
+    pub fn inner(
+        alloc: Global,
+        transaction: &Transaction,
+        children: u32,
+    ) -> Result<NodeState, AllocError>
+        requires { IsShaped (program_of transaction.now) }
+        ensures first { IfOk result (λ n. SameState (state_of n) (first_state (program_of transaction.now))) }
+        ensures in_range { IfOk result (λ n. IsStateInRange (program_of transaction.now) (state_of n)) }
+        ensures children { IfOk result (λ n. children_of n ≡ Some children) }
+        ensures room { IfOk result (λ n. (i : ℕ) → i < children → HasRoom n (Who.Child i)) }
+    {
+        let firsts = first_values(alloc, transaction.eaches.as_slice())?;
+        let keeps = first_values(alloc, transaction.keeps.as_slice())?;
+        let eaches = of_children(alloc, firsts.as_slice(), children)?;
+        Ok(NodeState {
+            firsts,
+            keeps,
+            eaches,
+        })
+    }
+
+    /// The variables of a leaf at the start.
+    pub fn leaf(alloc: Global, transaction: &Transaction) -> Result<NodeState, AllocError>
+        requires { IsShaped (program_of transaction.now) }
+        ensures first { IfOk result (λ n. SameState (state_of n) (first_state (program_of transaction.now))) }
+        ensures in_range { IfOk result (λ n. IsStateInRange (program_of transaction.now) (state_of n)) }
+        ensures leaf { IfOk result (λ n. children_of n ≡ None) }
+    {
+        let firsts = first_values(alloc, transaction.eaches.as_slice())?;
+        let keeps = first_values(alloc, transaction.keeps.as_slice())?;
+        let eaches = of_flows(alloc);
+        Ok(NodeState {
+            firsts,
+            keeps,
+            eaches,
+        })
+    }
+
+    /// Makes room for a child or a flow. Its steps take no memory from then on.
+    pub fn reserve(&mut self, who: &Who) -> Result<(), AllocError>
+        requires belongs { BelongsTo (children_of self.old) who.now }
+        ensures room { OnOk result (HasRoom self.new who.now) }
+        ensures same { SameState (state_of self.new) (state_of self.old) }
+        ensures kept { (other : Who) → HasRoom self.old other → HasRoom self.new other }
+        ensures others { (other : Who) → other ≢ who.now → HasRoom self.new other → HasRoom self.old other }
+        ensures err { OnErr result ((other : Who) → HasRoom self.new other → HasRoom self.old other) }
+        ensures children { children_of self.new ≡ children_of self.old }
+    {
+        reserve(&mut self.eaches, who, self.firsts.as_slice())
+    }
+}
+
+fn run_at(
+    state: &mut NodeState,
+    who: &Who,
+    transaction: &Transaction,
+    assigns: &[Assign],
+    env: &Env,
+    rank: u64,
+) -> u64
+    requires shaped { IsShaped (program_of transaction.now) }
+    requires checked { AllByRecursion (IsCheckedAssignment (program_of transaction.now)) (map assignment_of assigns.now) }
+    requires fits { AllByRecursion (IsShapedAssignment (program_of transaction.now)) (map assignment_of assigns.now) }
+    requires in_range { IsStateInRange (program_of transaction.now) (state_of state.old) }
+    requires room { HasRoom state.old who.now }
+    requires told { IsEnvInRange env.now }
+    requires rank { rank ≤ max_rank }
+    ensures rank { result ≡ (run (program_of transaction.now) env.entry.now (map assignment_of assigns.now) (memory_for who.now rank (state_of state.old))).rank }
+    ensures after { SameState (state_of state.new) (put_back who.now (run (program_of transaction.now) env.entry.now (map assignment_of assigns.now) (memory_for who.now rank (state_of state.old))) (state_of state.old)) }
+    ensures room { (w : Who) → HasRoom state.new w ↔ HasRoom state.old w }
+    ensures children { children_of state.new ≡ children_of state.old }
+{
+    let keeps = state.keeps.as_mut_slice();
+    run_for(
+        &mut state.eaches,
+        who,
+        transaction,
+        assigns,
+        env,
+        rank,
+        keeps,
+    )
+}
+
+/// The push step of a node for a packet of a child or a flow. The answer is the packet's rank at the node.
+pub fn run_push(transaction: &Transaction, state: &mut NodeState, who: &Who, env: &Env) -> u64
+    requires shaped { IsShaped (program_of transaction.now) }
+    requires checked { IsChecked (program_of transaction.now) }
+    requires in_range { IsStateInRange (program_of transaction.now) (state_of state.old) }
+    requires room { HasRoom state.old who.now }
+    requires told { IsEnvInRange env.now }
+    ensures rank { result ≡ push_rank (program_of transaction.now) who.now env.entry.now (state_of state.old) }
+    ensures rank_limit { result ≤ max_rank }
+    ensures after { SameState (state_of state.new) (after_push (program_of transaction.now) who.now env.entry.now (state_of state.old)) }
+    ensures in_range { IsStateInRange (program_of transaction.now) (state_of state.new) }
+    ensures room { (w : Who) → HasRoom state.new w ↔ HasRoom state.old w }
+    ensures children { children_of state.new ≡ children_of state.old }
+{
+    run_at(state, who, transaction, transaction.push.as_slice(), env, 0)
+}
+
+/// The pop step of a node from which a packet of a child or a flow was taken, with the packet's rank there.
+pub fn run_pop(transaction: &Transaction, state: &mut NodeState, who: &Who, rank: u64, env: &Env)
+    requires shaped { IsShaped (program_of transaction.now) }
+    requires checked { IsChecked (program_of transaction.now) }
+    requires in_range { IsStateInRange (program_of transaction.now) (state_of state.old) }
+    requires room { HasRoom state.old who.now }
+    requires told { IsEnvInRange env.now }
+    requires rank { rank ≤ max_rank }
+    ensures after { SameState (state_of state.new) (after_pop (program_of transaction.now) who.now env.entry.now rank (state_of state.old)) }
+    ensures in_range { IsStateInRange (program_of transaction.now) (state_of state.new) }
+    ensures room { (w : Who) → HasRoom state.new w ↔ HasRoom state.old w }
+    ensures children { children_of state.new ≡ children_of state.old }
+{
+    let assigns = transaction.pop.as_slice();
+    run_at(state, who, transaction, assigns, env, rank);
+}

@@ -1,0 +1,78 @@
+//! Assignments, one after another.
+
+ghost use Rattle.std.specs.Prelude.{◌≡◌, map};
+ghost use Rattle.std.specs.List.{AllByRecursion};
+ghost use Rattle.rank_defs.specs.Steps.{assigned, run};
+ghost use Rattle.rank_defs.specs.Shapes.{IsEnvInRange, IsMemoryInRange, IsShaped, IsShapedAssignment};
+ghost use Rattle.rank_defs.specs.Programs.{program_of, assignment_of};
+ghost use Rattle.rank_defs.specs.Checks.{IsCheckedAssignment};
+ghost use Rattle.rank_core.specs.Scope.{memory};
+
+use crate::evaluate::{Scope, clamped, number};
+use rank_defs::{Aim, Assign, Env, MAX_RANK, Span, Transaction};
+
+/// The range of a rank.
+const RANKS: Span = Span {
+    low: 0,
+    high: MAX_RANK,
+    first: 0,
+};
+
+/// Runs some assignments of a transaction. Each reads what those before it wrote. The answer is the rank at the end.
+pub(crate) fn run(
+    transaction: &Transaction,
+    assigns: &[Assign],
+    env: &Env,
+    rank: u64,
+    keeps: &mut [u64],
+    eaches: &mut [u64],
+) -> u64
+    requires shaped { IsShaped (program_of transaction.now) }
+    requires told { IsEnvInRange env.now }
+    requires checked { AllByRecursion (IsCheckedAssignment (program_of transaction.now)) (map assignment_of assigns.now) }
+    requires fits { AllByRecursion (IsShapedAssignment (program_of transaction.now)) (map assignment_of assigns.now) }
+    requires range { IsMemoryInRange (program_of transaction.now) (memory rank keeps.old eaches.old) }
+    ensures { memory result keeps.new eaches.new ≡ run (program_of transaction.now) env.entry.now (map assignment_of assigns.now) (memory rank keeps.old eaches.old) }
+{
+    let mut current = rank;
+    for assign in assigns {
+        current = perform(transaction, assign, env, current, keeps, eaches);
+    }
+    current
+}
+
+fn perform(
+    transaction: &Transaction,
+    assign: &Assign,
+    env: &Env,
+    rank: u64,
+    keeps: &mut [u64],
+    eaches: &mut [u64],
+) -> u64
+    requires shaped { IsShaped (program_of transaction.now) }
+    requires told { IsEnvInRange env.now }
+    requires checked { IsCheckedAssignment (program_of transaction.now) (assignment_of assign.now) }
+    requires fits { IsShapedAssignment (program_of transaction.now) (assignment_of assign.now) }
+    requires range { IsMemoryInRange (program_of transaction.now) (memory rank keeps.old eaches.old) }
+    ensures { memory result keeps.new eaches.new ≡ assigned (program_of transaction.now) env.entry.now (memory rank keeps.old eaches.old) (assignment_of assign.now) }
+{
+    let scope = Scope {
+        env,
+        rank,
+        keeps,
+        eaches,
+    };
+    let value = number(&assign.value, transaction, &scope);
+    match assign.aim {
+        Aim::Rank => return clamped(value, RANKS),
+        Aim::Keep(k) => keeps[k as usize] = clamped(
+            value,
+            transaction.keeps.as_slice()[k as usize],
+        ),
+        Aim::Each(k) => eaches[k as usize] = clamped(
+            value,
+            transaction.eaches.as_slice()[k as usize],
+        ),
+    }
+    rank
+}
