@@ -79,8 +79,7 @@ pub fn bounds_of(transaction: &Transaction, e: &Expr) -> Option<Bounds>
             let left = bounds_of(transaction, a)?;
             let right = bounds_of(transaction, b)?;
             let range = combined(*op, left.range, right.range)?;
-            let divides =
-                left.divides && right.divides && never_divides_by_zero(*op, right.range);
+            let divides = left.divides && right.divides && never_divides_by_zero(*op, right.range);
             Some(Bounds { range, divides })
         }
         Expr::Not(a) => {

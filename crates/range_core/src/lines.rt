@@ -71,7 +71,11 @@ fn lines_of(transaction: &Transaction, assign: &Assign) -> Lines
     let clash = clash_at(assign);
     match bounds_of(transaction, &assign.value) {
         Some(bounds) => {
-            let zero = if bounds.divides { None } else { Some(assign.line) };
+            let zero = if bounds.divides {
+                None
+            } else {
+                Some(assign.line)
+            };
             Lines {
                 clash,
                 wide: None,
