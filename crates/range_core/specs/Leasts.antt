@@ -1,9 +1,7 @@
 -- The least lines at fault.
-use Rattle.std.specs.Prelude.{List, Some, None, Result, Ok, Err}
+use Rattle.std.specs.Prelude.{List}
 use Rattle.rank_defs.specs.Checks.{Entry, Clashes, IsWide, MayDivideByZero, NoneAt, IsLeastLine}
 use Rattle.range_core.specs.declared.lines.Lines.{Lines}
-use Rattle.range_core.specs.declared.fault.RangeFault.{RangeFault}
-use Rattle.range_core.specs.declared.fault.RangeFault.TheVariants.{TypeClash, Wide, DivZero}
 
 -- the least line with each fault; that of a divisor which may be 0 is told only where all intervals are narrow
 pub record AreLeast (es : List Entry) (lines : Lines) : Type 0 where

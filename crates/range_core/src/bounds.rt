@@ -1,10 +1,10 @@
 //! What is known of an expression's values.
-ghost use Rattle.std.specs.Prelude.{◌≡◌};
+ghost use Rattle.std.specs.Prelude.{◌≡◌, pos};
 ghost use Rattle.std.specs.Option.{SomeIff};
 ghost use Rattle.rank_defs.specs.Formulas.{formula_of};
 ghost use Rattle.rank_defs.specs.Programs.{program_of, span_at};
 ghost use Rattle.rank_defs.specs.Shapes.{IsShaped};
-ghost use Rattle.rank_defs.specs.Ranges.{declared as declared_of, range_of_span, ArePartsNarrow};
+ghost use Rattle.rank_defs.specs.Ranges.{declared as declared_of, range as range_from, range_of_span, ArePartsNarrow};
 ghost use Rattle.range_core.specs.Bounds.{bounds_of};
 
 use crate::interval::{combined, joined, narrow, never_divides_by_zero};
@@ -20,7 +20,7 @@ pub struct Bounds {
 const ZERO: Range = Range { low: 0, high: 0 };
 
 fn range(low: u64, high: u64) -> Range
-    ensures { result ≡ range_of_span (record { low = low; high = high; first = low }) }
+    ensures { result ≡ range_from (pos low) (pos high) }
 {
     Range {
         low: i128::from(low),
@@ -44,11 +44,10 @@ fn declared(transaction: &Transaction, var: Var) -> Range
 {
     match var {
         Var::Len => range(0, u64::from(u32::MAX)),
-        Var::Now => range(0, MAX_RANK),
+        Var::Now | Var::Rank => range(0, MAX_RANK),
         Var::Prio => range(0, u64::from(MAX_PRIO)),
         Var::Weight => range(1, u64::from(MAX_WEIGHT)),
         Var::Slack => range(0, MAX_SLACK),
-        Var::Rank => range(0, MAX_RANK),
         Var::Keep(i) => declared_at(transaction.keeps.as_slice(), i),
         Var::Each(i) => declared_at(transaction.eaches.as_slice(), i),
     }
@@ -68,8 +67,8 @@ pub fn bounds_of(transaction: &Transaction, e: &Expr) -> Option<Bounds>
             })
         }
         Expr::Var(var) => {
-            let range = declared(transaction, *var);
-            let range = narrow(range.low, range.high)?;
+            let Range { low, high } = declared(transaction, *var);
+            let range = narrow(low, high)?;
             Some(Bounds {
                 range,
                 divides: true,

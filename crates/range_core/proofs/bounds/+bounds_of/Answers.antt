@@ -1,4 +1,3 @@
-use Rattle.std.proofs.Common.{rules}
 use Rattle.rank_defs.specs.Formulas.{formula_of}
 use Rattle.rank_defs.specs.Programs.{program_of}
 use Rattle.rank_defs.specs.Ranges.{declared}

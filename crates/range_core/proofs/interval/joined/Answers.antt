@@ -1,5 +1,5 @@
-use Rattle.std.proofs.Common.{rules, arith, FitsSigned, ◌≡◌}
-use Rattle.std.specs.Int.{w128, int_min, int_max}
+use Rattle.std.proofs.Common.{rules, arith, ◌≡◌}
+use Rattle.std.specs.Int.{int_min, int_max}
 use Rattle.std.proofs.lemmas.Int.{ints, clamps}
 use Rattle.rank_defs.proofs.Narrow.{at_numbers}
 use Rattle.range_core.proofs.interval.joined.Goals as goal

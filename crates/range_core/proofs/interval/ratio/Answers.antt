@@ -1,4 +1,4 @@
-use Rattle.std.proofs.Common.{rules, arith, FitsSigned, ◌≡◌, false}
+use Rattle.std.proofs.Common.{rules, FitsSigned, ◌≡◌, false}
 use Rattle.std.specs.Int.{w128}
 use Rattle.std.proofs.lemmas.Int.{to_z-of_z}
 use Rattle.rank_defs.specs.Ranges.{holds_zero}

@@ -1,4 +1,4 @@
-use Rattle.std.proofs.Common.{List, map, subst, sym, ap}
+use Rattle.std.proofs.Common.{List, map, subst, sym}
 use Rattle.std.proofs.lemmas.List.{map-append}
 use Rattle.rank_defs.specs.declared.transaction.Assign.{Assign}
 use Rattle.rank_defs.specs.Programs.{program_of, assignment_of}

@@ -1,6 +1,6 @@
-use Rattle.std.proofs.Common.{List, map, take, ◌∷◌, [], subst, sym, ap, ◌∙◌, add-one}
+use Rattle.std.proofs.Common.{List, map, take, ◌∷◌, [], subst, sym, add-one}
 use Rattle.std.proofs.lemmas.List.{map-append}
-use Rattle.rank_defs.specs.Programs.{Assignment, program_of, assignment_of}
+use Rattle.rank_defs.specs.Programs.{program_of, assignment_of}
 use Rattle.rank_defs.specs.Checks.{Entry, entry}
 use Rattle.range_core.specs.Leasts.{AreLeast}
 use Rattle.range_core.proofs.Leasts.{map-next}

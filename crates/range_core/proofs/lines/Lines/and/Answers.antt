@@ -1,4 +1,3 @@
-use Rattle.std.proofs.Common.{rules}
 use Rattle.range_core.proofs.Leasts.{AreLeast-append}
 use Rattle.range_core.proofs.lines.Lines.and.Goals as goal
 
