@@ -1,0 +1,6 @@
+use Rattle.rank_defs.specs.Programs.{program_of}
+use Rattle.rank_defs.proofs.Safe.{always-tame}
+use Rattle.range_core.proofs.checked.Checked.transaction.Goals as goal
+
+pub returns-clause-tame : goal.returns-clause-tame
+returns-clause-tame c = always-tame (program_of c.self.inside.transaction) c.self.invariant.1

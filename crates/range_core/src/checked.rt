@@ -1,0 +1,87 @@
+//! Transactions that pass the checks.
+ghost use Rattle.std.specs.Prelude.{◌≡◌, ◌↔◌, ℕ, map, Err, OnOk, IfOk};
+ghost use Rattle.std.specs.List.{AllByRecursion};
+ghost use Rattle.rank_defs.specs.Programs.{program_of};
+ghost use Rattle.rank_defs.specs.Shapes.{IsShaped};
+ghost use Rattle.rank_defs.specs.Checks.{IsChecked, AreChecked, ClashesFirstAt, IsWideFirstAt, DividesByZeroFirstAt};
+ghost use Rattle.rank_defs.specs.Tame.{IsAlwaysTame};
+
+use crate::fault::RangeFault;
+use crate::lines::first_fault;
+use list_core::List;
+use rank_defs::Transaction;
+use std::alloc::AllocError;
+use std::marker::Model;
+
+/// A transaction whose types agree and whose arithmetic is safe.
+#[derive(Drop)]
+pub struct Checked {
+    transaction: Transaction,
+}
+
+impl Model for Checked {
+    ghost use Rattle.rank_defs.specs.Programs.{Program, program_of};
+    ghost use Rattle.rank_defs.specs.Shapes.{IsShaped};
+    ghost use Rattle.rank_defs.specs.Checks.{IsChecked};
+    ghost use Rattle.range_core.specs.Codes.{program_code};
+
+    ghost Value = { Program };
+
+    ghost coded = { program_code };
+
+    ghost view = { λ c. program_of c.transaction };
+
+    ghost invariant = { λ c. IsShaped (program_of c.transaction) × IsChecked (program_of c.transaction) };
+}
+
+impl Checked {
+    fn new(transaction: Transaction) -> Checked
+        requires shaped { IsShaped (program_of transaction) }
+        requires checked { IsChecked (program_of transaction) }
+        ensures { result ≡ program_of transaction }
+    {
+        Checked { transaction }
+    }
+
+    pub fn transaction(&self) -> &Transaction
+        ensures same { program_of result.now ≡ self.now }
+        ensures shaped { IsShaped (program_of result.now) }
+        ensures checked { IsChecked (program_of result.now) }
+        ensures tame { IsAlwaysTame (program_of result.now) }
+    {
+        &self.transaction
+    }
+}
+
+/// Holds transactions that passed.
+fn hold(transactions: List<Transaction>) -> Result<List<Checked>, AllocError>
+    requires shaped { AllByRecursion IsShaped (map program_of transactions) }
+    requires checked { AreChecked (map program_of transactions) }
+    ensures { IfOk result (λ checked. checked ≡ map program_of transactions) }
+{
+    let transactions = transactions.into_vec();
+    let alloc = *transactions.allocator();
+    let mut checked = List::from_vec(Vec::with_capacity(alloc, transactions.len())?);
+    for transaction in transactions {
+        checked.push(Checked::new(transaction))?;
+    }
+    Ok(checked)
+}
+
+/// Checks transactions from the declared ranges alone. Each refusal names the least line with that
+/// fault. On refusal the list is given up.
+pub fn check(transactions: List<Transaction>) -> Result<List<Checked>, RangeFault>
+    requires shaped { AllByRecursion IsShaped (map program_of transactions) }
+    ensures clash { (line : ℕ) → (result ≡ Err (RangeFault.TypeClash line)) ↔ ClashesFirstAt (map program_of transactions) line }
+    ensures wide { (line : ℕ) → (result ≡ Err (RangeFault.Wide line)) ↔ IsWideFirstAt (map program_of transactions) line }
+    ensures zero { (line : ℕ) → (result ≡ Err (RangeFault.DivZero line)) ↔ DividesByZeroFirstAt (map program_of transactions) line }
+    ensures memory { result ≡ Err RangeFault.NoMemory → AreChecked (map program_of transactions) }
+    ensures checked { OnOk result (AreChecked (map program_of transactions)) }
+    ensures tame { OnOk result (AllByRecursion IsAlwaysTame (map program_of transactions)) }
+    ensures same { IfOk result (λ checked. checked ≡ map program_of transactions) }
+{
+    if let Some(fault) = first_fault(transactions.as_slice()) {
+        return Err(fault);
+    }
+    Ok(hold(transactions)?)
+}
