@@ -1,0 +1,7 @@
+pub mod Grammar
+pub mod Phrase
+pub mod Ranges
+pub mod Sense
+pub mod Statements
+pub mod Text
+pub mod Words

@@ -1,0 +1,18 @@
+//! The language of policy texts: the types of its statements, its grammar, and which statements a text has.
+#![tactic(auto)]
+
+mod attribute;
+mod condition;
+mod function;
+mod keyword;
+mod statement;
+mod term;
+mod word;
+
+pub use attribute::{Attribute, Attrs};
+pub use condition::{Condition, FieldName};
+pub use function::Function;
+pub use keyword::Keyword;
+pub use statement::Statement;
+pub use term::Term;
+pub use word::{is_name, is_variable};
