@@ -1,3 +1,4 @@
 pub mod DecimalLemmas
+pub mod LineLaws
 pub mod LineLemmas
 pub mod TokenLemmas

@@ -1,5 +1,5 @@
 -- What the lines of a text are.
-use Rattle.std.specs.Prelude.{◌≡◌, ℕ, ◌+◌, ◌-◌, ◌<◌, ◌≤◌, ◌==◌, Bool, not, ◌&&◌, ◌||◌, nat_le, if◌then◌else◌, List, [], ◌∷◌, length, drop, take, slice_index}
+use Rattle.std.specs.Prelude.{◌≡◌, ℕ, ◌+◌, ◌-◌, ◌<◌, ◌≤◌, ◌==◌, Bool, not, ◌&&◌, ◌||◌, nat_le, if◌then◌else◌, List, [], ◌∷◌, length, drop, take, slice_index, map, codes, refl}
 use Rattle.std.specs.List.{prefix_len, list_all}
 use Rattle.text_core.specs.declared.line.Line.{Line}
 
@@ -23,6 +23,38 @@ statement_length line =
     let before = prefix_len no_comment line in
     if before == length line && ends_with_return line then before - 1 else before
 
+-- the statement bytes of a line
+abbrev pub statement_of : List ℕ → List ℕ
+statement_of line = take (statement_length line) line
+
+-- each byte of a statement is allowed
+abbrev pub is_clean_text : List ℕ → Bool
+is_clean_text statement = list_all is_clean statement
+
+abbrev pub onto_first : ℕ → List (List ℕ) → List (List ℕ)
+onto_first b [] = (b ∷ []) ∷ []
+onto_first b (l ∷ ls) = (b ∷ l) ∷ ls
+
+-- the lines of a text without the bytes that end them; the last line may end with the text
+abbrev pub lines_of : List ℕ → List (List ℕ)
+lines_of [] = []
+lines_of (b ∷ bs) = if is_text b then onto_first b (lines_of bs) else ([] ∷ lines_of bs)
+
+-- the statement bytes of each line of a text
+abbrev pub statements_of : List ℕ → List (List ℕ)
+statements_of text = map statement_of (lines_of text)
+
+-- the bytes of a line's span
+abbrev pub line_text : List ℕ → Line → List ℕ
+line_text text l = take (l.end - l.start) (drop l.start text)
+
+abbrev pub clean_of : Line → Bool
+clean_of l = l.clean
+
+-- the line's span lies in the text
+abbrev pub LiesIn : List ℕ → Line → Type 0
+LiesIn text l = (l.start ≤ l.end) × (l.end ≤ length text)
+
 -- the bytes of the line that begins at a place
 abbrev pub line_at : List ℕ → ℕ → List ℕ
 line_at text from = take (prefix_len is_text (drop from text)) (drop from text)
@@ -38,3 +70,18 @@ pub record AreLines (text : List ℕ) (ls : List Line) : Type 0 where
   pub end : ℕ
   pub follow : Follow text 0 ls end
   pub over : length text ≤ end
+
+empty_text_has_no_line : lines_of (codes "") ≡ []
+empty_text_has_no_line = refl
+
+last_line_without_end : statements_of (codes "a\nb") ≡ codes "a" ∷ codes "b" ∷ []
+last_line_without_end = refl
+
+no_line_behind_the_last_end : statements_of (codes "a\n\n") ≡ codes "a" ∷ [] ∷ []
+no_line_behind_the_last_end = refl
+
+one_return_is_dropped : statements_of (codes "a\r\r\n\r") ≡ codes "a\r" ∷ [] ∷ []
+one_return_is_dropped = refl
+
+a_return_before_a_comment_stays : statements_of (codes "a\r#b\r\n") ≡ codes "a\r" ∷ []
+a_return_before_a_comment_stays = refl

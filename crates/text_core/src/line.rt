@@ -1,6 +1,6 @@
-ghost use Rattle.std.specs.Prelude.{◌≡◌, ◌<◌, ◌≤◌, length, IfOk, IsTrue};
-ghost use Rattle.std.specs.List.{prefix_len, list_all};
-ghost use Rattle.text_core.specs.Lines.{is_text, is_clean, no_comment, ends_with_return, statement_length, AreLines};
+ghost use Rattle.std.specs.Prelude.{◌≡◌, ◌<◌, ◌≤◌, length, map, IfOk, IsTrue};
+ghost use Rattle.std.specs.List.{prefix_len, list_all, All};
+ghost use Rattle.text_core.specs.Lines.{is_text, is_clean, no_comment, ends_with_return, statement_length, AreLines, line_text, statements_of, clean_of, is_clean_text, LiesIn};
 
 use list_core::List;
 use std::alloc::{AllocError, Global};
@@ -62,7 +62,11 @@ fn statement_length(line: &[u8]) -> usize
 
 /// The lines of a text.
 pub fn lines(alloc: Global, text: &[u8]) -> Result<List<Line>, AllocError>
-    ensures { IfOk result (λ ls. AreLines text.now ls) }
+    ensures spans { IfOk result (λ ls. AreLines text.now ls) }
+    ensures texts { IfOk result (λ ls. map (line_text text.now) ls ≡ statements_of text.now) }
+    ensures clean { IfOk result (λ ls. map clean_of ls ≡ map is_clean_text (statements_of text.now)) }
+    ensures within { IfOk result (λ ls. All (LiesIn text.now) ls) }
+    ensures count { IfOk result (λ ls. length ls ≤ length text.now) }
 {
     let mut found = List::from_vec(Vec::new(alloc));
     let mut at = 0;

@@ -1,4 +1,5 @@
 use Rattle.std.proofs.Common.{◌≡◌, ◌+◌, ◌-◌, List, take, drop, sym, ◌∙◌, refl, ap, arith, subst}
+use Rattle.text_core.proofs.LineLaws.{Hold, Follow-Hold, Hold-All}
 use Rattle.std.specs.List.{prefix_len, list_all}
 use Rattle.text_core.specs.Lines.{is_text, is_clean, statement_length, line_at, Follow}
 use Rattle.text_core.proofs.LineLemmas.{Follow-push}
@@ -19,3 +20,15 @@ loop-at-preserved c =
     let following : at + (n + 1) ≡ at + prefix_len is_text (drop at text) + 1 = omega (arith, count) in
     let P : List _ → Type 0 = λ ls. Follow text 0 ls (at + (n + 1)) in
     subst P (sym c.in_ok-push.ensures.ok) (subst (Follow text 0 _) (sym following) (Follow-push text 0 _ at _ c.loop-at.invariant c.loop-at-test.true refl (ap (λ m. at + m) statement) clean))
+
+pub returns-clause-texts : goal.returns-clause-texts
+returns-clause-texts c = (Follow-Hold c.args.text.now 0 c.loop-at.found c.loop-at.at c.loop-at.invariant (omega arith)).texts
+
+pub returns-clause-clean : goal.returns-clause-clean
+returns-clause-clean c = (Follow-Hold c.args.text.now 0 c.loop-at.found c.loop-at.at c.loop-at.invariant (omega arith)).clean
+
+pub returns-clause-within : goal.returns-clause-within
+returns-clause-within c = Hold-All _ _ (Follow-Hold c.args.text.now 0 c.loop-at.found c.loop-at.at c.loop-at.invariant (omega arith))
+
+pub returns-clause-count : goal.returns-clause-count
+returns-clause-count c = (Follow-Hold c.args.text.now 0 c.loop-at.found c.loop-at.at c.loop-at.invariant (omega arith)).count

@@ -1,0 +1,117 @@
+-- The spans of the lines hold the statements of the text.
+use Rattle.std.proofs.Common.{◌≡◌, ℕ, zero, suc, ◌+◌, ◌-◌, ◌<◌, ◌≤◌, Bool, true, false, cond, ◌&&◌, List, [], ◌∷◌, length, take, drop, map, sym, refl, ap, ◌∙◌, subst, arith, length-drop}
+use Rattle.std.specs.List.{prefix_len, list_all, All, AllByRecursion}
+use Rattle.std.proofs.lemmas.List.Sums.{prefix_len-le-length}
+use Rattle.text_core.specs.declared.line.Line.{Line}
+use Rattle.text_core.specs.Lines.{is_text, is_clean, is_clean_text, no_comment, ends_with_return, statement_length, statement_of, onto_first, lines_of, statements_of, line_text, clean_of, LiesIn, line_at, Follow, AreLines}
+
+abbrev nothing : List ℕ
+nothing = []
+
+pub drop-none : (n : ℕ) → drop n nothing ≡ nothing
+drop-none zero = refl
+drop-none (suc n) = refl
+
+pub drop-drop : (i j : ℕ) (xs : List ℕ) → drop j (drop i xs) ≡ drop (i + j) xs
+drop-drop zero j xs = let same : 0 + j ≡ j = omega arith in ap (λ n. drop n xs) (sym same)
+drop-drop (suc i) j [] = drop-none j ∙ sym (drop-none (suc i + j))
+drop-drop (suc i) j (x ∷ xs) = let same : suc i + j ≡ suc (i + j) = omega arith in drop-drop i j xs ∙ ap (λ n. drop n (x ∷ xs)) (sym same)
+
+-- nothing is left from the end on
+pub drop-over : (n : ℕ) (xs : List ℕ) → length xs ≤ n → drop n xs ≡ nothing
+drop-over n [] over = drop-none n
+drop-over zero (x ∷ xs) over = absurd (omega arith)
+drop-over (suc n) (x ∷ xs) over = drop-over n xs (omega arith)
+
+pub take-take : (i j : ℕ) (xs : List ℕ) → i ≤ j → take i (take j xs) ≡ take i xs
+take-take zero j xs le = refl
+take-take (suc i) zero xs le = absurd (omega arith)
+take-take (suc i) (suc j) [] le = refl
+take-take (suc i) (suc j) (x ∷ xs) le = ap (λ l. x ∷ l) (take-take i j xs (omega arith))
+
+pub length-take-le : (n : ℕ) (xs : List ℕ) → n ≤ length xs → length (take n xs) ≡ n
+length-take-le zero xs le = refl
+length-take-le (suc n) [] le = absurd (omega arith)
+length-take-le (suc n) (x ∷ xs) le = ap suc (length-take-le n xs (omega arith))
+
+less-one : (v : Bool) (m n : ℕ) → m ≤ n → cond v (m - 1) m ≤ n
+less-one true m n le = omega arith
+less-one false m n le = le
+
+pub statement_length-within : (line : List ℕ) → statement_length line ≤ length line
+statement_length-within line = less-one _ _ _ (prefix_len-le-length no_comment line)
+
+-- the first line, and those behind the byte that ends it
+abbrev Begins : List ℕ → Type 0
+Begins bs = lines_of bs ≡ take (prefix_len is_text bs) bs ∷ lines_of (drop (prefix_len is_text bs + 1) bs)
+
+behind : (b : ℕ) (bs : List ℕ) → (0 < length bs → Begins bs) → onto_first b (lines_of bs) ≡ (b ∷ take (prefix_len is_text bs) bs) ∷ lines_of (drop (prefix_len is_text bs + 1) bs)
+behind b [] rest = refl
+behind b (c ∷ cs) rest = ap (onto_first b) (rest (omega arith))
+
+one_more : (b : ℕ) (bs : List ℕ) (n : ℕ) → (b ∷ take n bs) ∷ lines_of (drop (n + 1) bs) ≡ take (1 + n) (b ∷ bs) ∷ lines_of (drop (1 + n + 1) (b ∷ bs))
+one_more b bs n =
+    let one : suc n ≡ 1 + n = omega arith in
+    let two : suc (n + 1) ≡ 1 + n + 1 = omega arith in
+    ap (λ m. take m (b ∷ bs) ∷ lines_of (drop (n + 1) bs)) one ∙ ap (λ m. take (1 + n) (b ∷ bs) ∷ lines_of (drop m (b ∷ bs))) two
+
+by_test : (b : ℕ) (bs : List ℕ) → (0 < length bs → Begins bs) → (v : Bool) → is_text b ≡ v → Begins (b ∷ bs)
+by_test b bs rest true e = rw e (behind b bs rest ∙ one_more b bs (prefix_len is_text bs))
+by_test b bs rest false e = rw e refl
+
+pub lines_of-step : (bs : List ℕ) → 0 < length bs → Begins bs
+lines_of-step [] some = absurd (omega arith)
+lines_of-step (b ∷ bs) some = by_test b bs (λ more. lines_of-step bs more) (is_text b) refl
+
+-- the span of a line that stands at a place has the statement of the line there
+text_at : (text : List ℕ) (from : ℕ) (l : Line) → l.start ≡ from → l.end ≡ from + statement_length (line_at text from) → line_text text l ≡ statement_of (line_at text from)
+text_at text from l start end =
+    let n = prefix_len is_text (drop from text) in
+    let inside = prefix_len-le-length is_text (drop from text) in
+    let size = length-take-le n (drop from text) inside in
+    let within = statement_length-within (line_at text from) in
+    let count : l.end - l.start ≡ statement_length (line_at text from) = omega arith in
+    ap (λ m. take m (drop l.start text)) count ∙ ap (λ m. take (statement_length (line_at text from)) (drop m text)) start
+    ∙ sym (take-take (statement_length (line_at text from)) n (drop from text) (omega arith))
+
+-- what the spans hold, line by line
+pub record Hold (text : List ℕ) (from : ℕ) (ls : List Line) : Type 0 where
+  pub texts : map (line_text text) ls ≡ map statement_of (lines_of (drop from text))
+  pub clean : map clean_of ls ≡ map is_clean_text (map statement_of (lines_of (drop from text)))
+  pub within : AllByRecursion (LiesIn text) ls
+  pub count : length ls ≤ length (drop from text)
+
+pub Follow-Hold : (text : List ℕ) (from : ℕ) (ls : List Line) (to : ℕ) → Follow text from ls to → length text ≤ to → Hold text from ls
+Follow-Hold text from [] to follow over =
+    let none : drop from text ≡ nothing = drop-over from text (omega arith) in
+    record { texts = ap (λ bs. map statement_of (lines_of bs)) (sym none); clean = ap (λ bs. map is_clean_text (map statement_of (lines_of bs))) (sym none); within = tt; count = omega arith }
+Follow-Hold text from (l ∷ ls) to follow over =
+    let n = prefix_len is_text (drop from text) in
+    let line = line_at text from in
+    let inside = prefix_len-le-length is_text (drop from text) in
+    let left = length-drop from text in
+    let begins = follow.0 in
+    let start = follow.1 in
+    let end = follow.2 in
+    let next = from + n + 1 in
+    let behind_is : drop (n + 1) (drop from text) ≡ drop next text = let sum : from + (n + 1) ≡ from + n + 1 = omega arith in drop-drop from (n + 1) text ∙ ap (λ m. drop m text) sum in
+    let whole : lines_of (drop from text) ≡ line ∷ lines_of (drop next text) = lines_of-step (drop from text) (omega arith) ∙ ap (λ r. line ∷ lines_of r) behind_is in
+    let later = Follow-Hold text next ls to follow.4 over in
+    let size = length-take-le n (drop from text) inside in
+    let statement = statement_length-within line in
+    let fewer = later.count in
+    let behind_left = length-drop next text in
+    record {
+      texts = ap (λ x. x ∷ map (line_text text) ls) (text_at text from l start end) ∙ ap (λ r. statement_of line ∷ r) later.texts ∙ sym (ap (map statement_of) whole);
+      clean = ap (λ v. v ∷ map clean_of ls) follow.3 ∙ ap (λ r. is_clean_text (statement_of line) ∷ r) later.clean ∙ sym (ap (λ r. map is_clean_text (map statement_of r)) whole);
+      within = ((omega arith, omega arith), later.within);
+      count = omega arith;
+    }
+
+all-at : (P : Line → Type 0) (ls : List Line) → AllByRecursion P ls → All P ls
+all-at P [] holds k d inside = absurd (omega arith)
+all-at P (l ∷ ls) holds zero d inside = holds.0
+all-at P (l ∷ ls) holds (suc k) d inside = all-at P ls holds.1 k d (omega arith)
+
+pub Hold-All : (text : List ℕ) (ls : List Line) → Hold text 0 ls → All (LiesIn text) ls
+Hold-All text ls hold = all-at (LiesIn text) ls hold.within
