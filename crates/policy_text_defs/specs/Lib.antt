@@ -1,3 +1,4 @@
+pub mod Canonical
 pub mod Grammar
 pub mod Phrase
 pub mod Ranges

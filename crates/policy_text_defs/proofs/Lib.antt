@@ -1,0 +1,10 @@
+pub mod CanonicalLaws
+pub mod Lexed
+pub mod Pieces
+pub mod Printable
+pub mod StatementForms
+pub mod StatementPieces
+pub mod StatementTokens
+pub mod TermForms
+pub mod TermPieces
+pub mod TermTokens

@@ -1,0 +1,149 @@
+-- What holds of a statement that some line has.
+use Rattle.std.proofs.Common.{◌≡◌, ℕ, zero, suc, ◌+◌, ◌*◌, ◌<◌, ◌≤◌, List, [], ◌∷◌, ◌++◌, length, map, Option, Some, None, Bool, true, false, cond, sym, refl, subst, arith}
+use Rattle.std.specs.Prelude.{codes}
+use Rattle.std.specs.Str.{bytes_eq}
+use Rattle.std.specs.List.{AllByRecursion}
+use Rattle.rank_defs.specs.declared.expression.Op.{Op}
+use Rattle.text_core.specs.Glyphs.{Glyph, text, figure, sign}
+use Rattle.policy_text_defs.specs.declared.attribute.Attrs.{Attrs}
+use Rattle.policy_text_defs.specs.declared.attribute.Attribute.{Attribute}
+use Rattle.policy_text_defs.specs.declared.attribute.Attribute.TheVariants as attribute
+use Rattle.policy_text_defs.specs.declared.condition.Condition.{Condition}
+use Rattle.policy_text_defs.specs.declared.condition.Condition.TheVariants as condition
+use Rattle.policy_text_defs.specs.Words.{protocol_of}
+use Rattle.policy_text_defs.specs.Phrase.{Phrase, number, word, two, negation, choice, most_open}
+use Rattle.policy_text_defs.specs.Grammar.{Form, GoesOn, ends, more, Grouped, grouped, Compared, alone, compared, Product, Sum, Expression, AtomOver, number_atom, word_atom, parens_atom, call_atom, not_atom, if_atom, NoForm, Atom, Spells}
+use Rattle.policy_text_defs.specs.Sense.{Sense}
+use Rattle.policy_text_defs.specs.Statements.{IsName, unset, with_attribute, AttributesFrom, no_more, set, Attributes, Range, single, between, Octets, Address, whole, prefix, IsCondition, field, protocol, source, dest, ipv4, ipv6, Conditions, last, also, Guard, unguarded, guarded, AreNames, IsForm, version_form, transaction_form, keep_form, each_form, push_form, pop_form, class_form, leaf_form, node_form}
+use Rattle.policy_text_defs.specs.Text.{Carries, IsWritten}
+use Rattle.policy_text_defs.proofs.TermTokens.{HasNames}
+use Rattle.policy_text_defs.proofs.StatementTokens.{IsNamed, IsPrintablePhrase, IsInRange, AreAttributes, IsPrintableAddress, IsPrintableRange, IsPrintableCondition, IsPrintable}
+use Rattle.policy_text_defs.proofs.Lexed.{IsLexed, Says-lexed}
+
+abbrev AreLexed : List Glyph → Type 0
+AreLexed gs = AllByRecursion IsLexed gs
+
+front : (gs hs : List Glyph) → AreLexed (gs ++ hs) → AreLexed gs
+front [] hs all = tt
+front (g ∷ gs) hs all = (all.0, front gs hs all.1)
+
+back : (gs hs : List Glyph) → AreLexed (gs ++ hs) → AreLexed hs
+back [] hs all = all
+back (g ∷ gs) hs all = back gs hs all.1
+
+-- ---- expressions
+
+-- what is spelled by tokens of a line has names
+abbrev Sound : Form → Type 0
+Sound Part = (ts : List Glyph) (a : Phrase) → AreLexed ts → Part ts a → HasNames a
+
+goes_on_names : {op : Glyph → Option Op} {Part : Form} → Sound Part → (a : Phrase) (us : List Glyph) (c : Phrase) → HasNames a → AreLexed us → GoesOn op Part a us c → HasNames c
+goes_on_names sound a us c names all (ends _) = names
+goes_on_names sound a gs d names all (more o g ts us _ b c is part later) = goes_on_names sound (two o a b) us c (names, sound ts b (front ts us all.1) part) (back ts us all.1) later
+
+grouped_names : {op : Glyph → Option Op} {Part : Form} → Sound Part → Sound (Grouped op Part)
+grouped_names sound gs d all (grouped ts us a c part on) = goes_on_names sound a us c (sound ts a (front ts us all) part) (back ts us all) on
+
+compared_names : {Part : Form} → Sound Part → Sound (Compared Part)
+compared_names sound gs c all (alone ts a part) = sound ts a all part
+compared_names sound gs c all (compared o g ts us a b is left right) = (sound ts a (front ts (g ∷ us) all) left, sound us b (back ts (g ∷ us) all).1 right)
+
+expression_names : {Atom : Form} → Sound Atom → Sound (Expression Atom)
+expression_names sound = compared_names (grouped_names (grouped_names sound))
+
+atom_names : {Inside : Form} → Sound Inside → Sound (AtomOver Inside)
+atom_names sound gs c all (number_atom n) = all.0
+atom_names sound gs c all (word_atom w is) = (all.0, is)
+atom_names sound gs c all (parens_atom ts a part) = sound ts a (front ts _ all.1) part
+atom_names sound gs c all (call_atom o w ts us a b is left right) = (sound ts a (front ts _ all.1.1) left, sound us b (front us _ (back ts _ all.1.1).1) right)
+atom_names sound gs c all (not_atom ts a part) = sound ts a (front ts _ all.1.1) part
+atom_names sound gs c all (if_atom ts us vs a b d test then other) =
+    let behind = (back ts _ all.1.1).1 in
+    (sound ts a (front ts _ all.1.1) test, sound us b (front us _ behind) then, sound vs d (front vs _ (back us _ behind).1) other)
+
+none_names : Sound NoForm
+none_names ts a all part = absurd part
+
+room_names : (room : ℕ) → Sound (Atom room)
+room_names zero = atom_names none_names
+room_names (suc room) = atom_names (expression_names (room_names room))
+
+phrase_printable : (ts : List Glyph) (a : Phrase) → AreLexed ts → Spells ts a → IsPrintablePhrase a
+phrase_printable ts a all spells = record { names = expression_names (room_names most_open) ts a all spells.form; low = spells.low }
+
+-- ---- attributes
+
+with_printable : (k : Attribute) (n : ℕ) (a : Attrs) → IsInRange k n → AreAttributes a → AreAttributes (with_attribute k n a)
+with_printable attribute.Prio n a is are = record { prio = is; weight = are.weight; slack = are.slack }
+with_printable attribute.Weight n a is are = record { prio = are.prio; weight = is; slack = are.slack }
+with_printable attribute.Slack n a is are = record { prio = are.prio; weight = are.weight; slack = is }
+
+attributes_from : (a : Attrs) (ts : List Glyph) (b : Attrs) → AttributesFrom a ts b → AreAttributes a → AreAttributes b
+attributes_from a ts b (no_more _) are = are
+attributes_from a gs b (set k n ts _ _ may later) are = attributes_from (with_attribute k n a) ts b later (with_printable k n a (record { above = may.above; below = may.below }) are)
+
+attributes_printable : (ts : List Glyph) (a : Attrs) → Attributes ts a → AreAttributes a
+attributes_printable ts a is = attributes_from unset ts a is (record { prio = tt; weight = tt; slack = tt })
+
+-- ---- conditions
+
+range_ordered : (ts : List Glyph) (low high : ℕ) → Range ts low high → low ≤ high
+range_ordered ts low high (single n) = omega arith
+range_ordered ts low high (between _ _ ordered) = ordered
+
+protocol_case : (u v w : Bool) (n : ℕ) → cond u (Some 6) (cond v (Some 17) (cond w (Some 1) None)) ≡ Some n → n ≤ 255
+protocol_case true v w n e = let same : 6 ≡ n = cc in omega arith
+protocol_case false true w n e = let same : 17 ≡ n = cc in omega arith
+protocol_case false false true n e = let same : 1 ≡ n = cc in omega arith
+protocol_case false false false n e = absurd cc
+
+address_printable : (ts : List Glyph) (a l : ℕ) → Address ts a l → IsPrintableAddress a l
+address_printable ts a l (whole o are) =
+    let first = are.first in
+    let second = are.second in
+    let third = are.third in
+    let fourth = are.fourth in
+    record { address = omega arith; prefix = omega arith }
+address_printable ts a l (prefix o _ are low) =
+    let first = are.first in
+    let second = are.second in
+    let third = are.third in
+    let fourth = are.fourth in
+    record { address = omega arith; prefix = low }
+
+condition_printable : (ts : List Glyph) (c : Condition) → IsCondition ts c → IsPrintableCondition c
+condition_printable gs c (field f ts low high range below) = record { ordered = range_ordered ts low high range; below = below }
+condition_printable gs c (protocol w n is) = record { ordered = omega arith; below = protocol_case (bytes_eq w (codes "tcp")) (bytes_eq w (codes "udp")) (bytes_eq w (codes "icmp")) n is }
+condition_printable gs c (source ts a l address) = address_printable ts a l address
+condition_printable gs c (dest ts a l address) = address_printable ts a l address
+condition_printable gs c ipv4 = tt
+condition_printable gs c ipv6 = tt
+
+conditions_printable : (ts : List Glyph) (cs : List Condition) → Conditions ts cs → AllByRecursion IsPrintableCondition cs
+conditions_printable gs cs (last ts c is) = (condition_printable ts c is, tt)
+conditions_printable gs cs (also ts us c ds is later) = (condition_printable ts c is, conditions_printable us ds later)
+
+guard_printable : (ts : List Glyph) (cs : List Condition) → Guard ts cs → AllByRecursion IsPrintableCondition cs
+guard_printable gs cs unguarded = tt
+guard_printable gs cs (guarded ts _ are) = conditions_printable ts cs are
+
+-- ---- statements
+
+names_printable : (ns : List (List ℕ)) → AreLexed (map text ns) → AllByRecursion IsName ns → AllByRecursion IsNamed ns
+names_printable [] all names = tt
+names_printable (n ∷ ns) all names = (record { word = all.0; name = names.0 }, names_printable ns all.1 names.1)
+
+form_printable : (gs : List Glyph) (s : Sense) → AreLexed gs → IsForm gs s → IsPrintable s
+form_printable gs s all version_form = refl
+form_printable gs s all (transaction_form n name) = record { word = all.1.0; name = name }
+form_printable gs s all (keep_form n span name ordered) = (record { word = all.1.0; name = name }, record { ordered = ordered; low = all.1.1.0; high = all.1.1.1.1.0; first = all.1.1.1.1.1.1.0 })
+form_printable gs s all (each_form n span name ordered) = (record { word = all.1.0; name = name }, record { ordered = ordered; low = all.1.1.0; high = all.1.1.1.1.0; first = all.1.1.1.1.1.1.0 })
+form_printable gs s all (push_form n ts a target spells) = (all.1.0, target, phrase_printable ts a all.1.1.1 spells)
+form_printable gs s all (pop_form n ts a name spells) = (record { word = all.1.0; name = name }, phrase_printable ts a all.1.1.1 spells)
+form_printable gs s all (class_form n ts us a cs name attributes guard) = (record { word = all.1.0; name = name }, attributes_printable ts a attributes, guard_printable us cs guard)
+form_printable gs s all (leaf_form n u ts a ns name used attributes names) = (record { word = all.1.0; name = name }, record { word = all.1.1.1.0; name = used }, attributes_printable ts a attributes, names_printable ns (back ts _ all.1.1.1.1).1 names.each, names.some)
+form_printable gs s all (node_form n u ts a ns name used attributes names) = (record { word = all.1.0; name = name }, record { word = all.1.1.1.0; name = used }, attributes_printable ts a attributes, names_printable ns (back ts _ all.1.1.1.1).1 names.each, names.some)
+
+-- a statement that some line has
+pub IsWritten-printable : (s : Sense) → IsWritten s → IsPrintable s
+IsWritten-printable s written = form_printable written.carries.tokens s (Says-lexed written.line written.carries.tokens written.carries.says) written.carries.form

@@ -1,0 +1,113 @@
+-- The tokens of a statement's canonical line, and what holds of a statement that has one.
+use Rattle.std.specs.Prelude.{◌≡◌, ℕ, ◌<◌, ◌≤◌, ◌==◌, if◌then◌else◌, List, [], ◌∷◌, ◌++◌, length, map, Option, Some, None, codes}
+use Rattle.std.specs.List.{AllByRecursion}
+use Rattle.rank_defs.specs.declared.transaction.Span.{Span}
+use Rattle.text_core.specs.declared.mark.Mark.TheVariants as m
+use Rattle.text_core.specs.Glyphs.{Glyph, text, figure, sign}
+use Rattle.text_core.specs.Decimals.{max}
+use Rattle.policy_text_defs.specs.declared.attribute.Attrs.{Attrs}
+use Rattle.policy_text_defs.specs.declared.attribute.Attribute.{Attribute}
+use Rattle.policy_text_defs.specs.declared.attribute.Attribute.TheVariants as attribute
+use Rattle.policy_text_defs.specs.declared.condition.Condition.{Condition}
+use Rattle.policy_text_defs.specs.declared.condition.Condition.TheVariants as condition
+use Rattle.policy_text_defs.specs.Words.{attribute_word, field_word}
+use Rattle.policy_text_defs.specs.Ranges.{attribute_least, attribute_most, field_most, most_prefix}
+use Rattle.policy_text_defs.specs.Phrase.{Phrase, depth, most_depth}
+use Rattle.policy_text_defs.specs.Sense.{Sense, version, transaction, keep, each, push, pop, class, leaf, node}
+use Rattle.policy_text_defs.specs.Statements.{IsName, IsTarget, IsSpan, span_tokens, octet_tokens}
+use Rattle.policy_text_defs.specs.Canonical.{octets_of}
+use Rattle.policy_text_defs.proofs.TermTokens.{IsWord, HasNames, tokens_of}
+
+abbrev pub attribute_tokens : Attribute → Option ℕ → List Glyph
+attribute_tokens k None = []
+attribute_tokens k (Some n) = text (attribute_word k) ∷ figure n ∷ []
+
+abbrev pub attributes_tokens : Attrs → List Glyph
+attributes_tokens a = attribute_tokens attribute.Prio a.prio ++ (attribute_tokens attribute.Weight a.weight ++ attribute_tokens attribute.Slack a.slack)
+
+abbrev pub range_tokens : ℕ → ℕ → List Glyph
+range_tokens low high = if low == high then figure low ∷ [] else (figure low ∷ sign m.DotDot ∷ figure high ∷ [])
+
+abbrev pub address_tokens : ℕ → ℕ → List Glyph
+address_tokens a l = octet_tokens (octets_of a) ++ sign m.Slash ∷ figure l ∷ []
+
+abbrev pub condition_tokens : Condition → List Glyph
+condition_tokens (condition.Field f low high) = text (field_word f) ∷ range_tokens low high
+condition_tokens (condition.Source a l) = text (codes "src") ∷ address_tokens a l
+condition_tokens (condition.Dest a l) = text (codes "dst") ∷ address_tokens a l
+condition_tokens condition.Ipv4 = text (codes "ipv4") ∷ []
+condition_tokens condition.Ipv6 = text (codes "ipv6") ∷ []
+
+abbrev pub more_conditions_tokens : List Condition → List Glyph
+more_conditions_tokens [] = []
+more_conditions_tokens (c ∷ cs) = text (codes "and") ∷ condition_tokens c ++ more_conditions_tokens cs
+
+abbrev pub guard_tokens : List Condition → List Glyph
+guard_tokens [] = []
+guard_tokens (c ∷ cs) = text (codes "when") ∷ condition_tokens c ++ more_conditions_tokens cs
+
+abbrev pub statement_tokens : Sense → List Glyph
+statement_tokens (version v) = text (codes "policy") ∷ figure v ∷ []
+statement_tokens (transaction n) = text (codes "transaction") ∷ text n ∷ []
+statement_tokens (keep n s) = text (codes "keep") ∷ text n ∷ span_tokens s
+statement_tokens (each n s) = text (codes "each") ∷ text n ∷ span_tokens s
+statement_tokens (push n a) = text (codes "push") ∷ text n ∷ sign m.Is ∷ tokens_of a
+statement_tokens (pop n a) = text (codes "pop") ∷ text n ∷ sign m.Is ∷ tokens_of a
+statement_tokens (class n a cs) = text (codes "class") ∷ text n ∷ attributes_tokens a ++ guard_tokens cs
+statement_tokens (leaf n u a ns) = text (codes "leaf") ∷ text n ∷ text (codes "using") ∷ text u ∷ attributes_tokens a ++ text (codes "classes") ∷ map text ns
+statement_tokens (node n u a ns) = text (codes "node") ∷ text n ∷ text (codes "using") ∷ text u ∷ attributes_tokens a ++ text (codes "children") ∷ map text ns
+
+-- ---- what is printed is in range
+
+pub record IsNamed (w : List ℕ) : Type 0 where
+  pub word : IsWord w
+  pub name : IsName w
+
+pub record IsPrintableSpan (s : Span) : Type 0 where
+  pub ordered : IsSpan s
+  pub low : s.low ≤ max
+  pub high : s.high ≤ max
+  pub first : s.first ≤ max
+
+pub record IsPrintablePhrase (a : Phrase) : Type 0 where
+  pub names : HasNames a
+  pub low : depth a ≤ most_depth
+
+pub record IsInRange (k : Attribute) (n : ℕ) : Type 0 where
+  pub above : attribute_least k ≤ n
+  pub below : n ≤ attribute_most k
+
+abbrev pub IsAttribute : Attribute → Option ℕ → Type 0
+IsAttribute k None = Unit {0}
+IsAttribute k (Some n) = IsInRange k n
+
+pub record AreAttributes (a : Attrs) : Type 0 where
+  pub prio : IsAttribute attribute.Prio a.prio
+  pub weight : IsAttribute attribute.Weight a.weight
+  pub slack : IsAttribute attribute.Slack a.slack
+
+pub record IsPrintableAddress (a l : ℕ) : Type 0 where
+  pub address : a < 4294967296
+  pub prefix : l ≤ most_prefix
+
+pub record IsPrintableRange (low high most : ℕ) : Type 0 where
+  pub ordered : low ≤ high
+  pub below : high ≤ most
+
+abbrev pub IsPrintableCondition : Condition → Type 0
+IsPrintableCondition (condition.Field f low high) = IsPrintableRange low high (field_most f)
+IsPrintableCondition (condition.Source a l) = IsPrintableAddress a l
+IsPrintableCondition (condition.Dest a l) = IsPrintableAddress a l
+IsPrintableCondition condition.Ipv4 = Unit {0}
+IsPrintableCondition condition.Ipv6 = Unit {0}
+
+abbrev pub IsPrintable : Sense → Type 0
+IsPrintable (version v) = v ≡ 1
+IsPrintable (transaction n) = IsNamed n
+IsPrintable (keep n s) = IsNamed n × IsPrintableSpan s
+IsPrintable (each n s) = IsNamed n × IsPrintableSpan s
+IsPrintable (push n a) = IsWord n × IsTarget n × IsPrintablePhrase a
+IsPrintable (pop n a) = IsNamed n × IsPrintablePhrase a
+IsPrintable (class n a cs) = IsNamed n × AreAttributes a × AllByRecursion IsPrintableCondition cs
+IsPrintable (leaf n u a ns) = IsNamed n × IsNamed u × AreAttributes a × AllByRecursion IsNamed ns × (0 < length ns)
+IsPrintable (node n u a ns) = IsNamed n × IsNamed u × AreAttributes a × AllByRecursion IsNamed ns × (0 < length ns)

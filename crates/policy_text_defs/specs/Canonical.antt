@@ -1,0 +1,147 @@
+-- The canonical text of statements: one line each, one space between tokens, none around `..`, none inside an address,
+-- none between a function's name and `(`, none after `(`, none before `)` and `,`.
+use Rattle.std.specs.Prelude.{ℕ, suc, ◌==◌, ◌/◌, ◌%◌, if◌then◌else◌, Bool, true, false, List, [], ◌∷◌, ◌++◌, map, Option, Some, None, codes}
+use Rattle.std.specs.Fmt.{decimal}
+use Rattle.rank_defs.specs.declared.expression.Op.{Op}
+use Rattle.rank_defs.specs.declared.expression.Op.TheVariants.{Add, Sub, Mul, Div, Less, LessEq, Equal, NotEqual, MoreEq, More, Min, Max, And, Or}
+use Rattle.rank_defs.specs.declared.transaction.Span.{Span}
+use Rattle.policy_text_defs.specs.declared.attribute.Attrs.{Attrs}
+use Rattle.policy_text_defs.specs.declared.attribute.Attribute.{Attribute}
+use Rattle.policy_text_defs.specs.declared.attribute.Attribute.TheVariants as attribute
+use Rattle.policy_text_defs.specs.declared.condition.Condition.{Condition}
+use Rattle.policy_text_defs.specs.declared.condition.Condition.TheVariants as condition
+use Rattle.policy_text_defs.specs.Words.{attribute_word, field_word}
+use Rattle.policy_text_defs.specs.Phrase.{Phrase, number, word, two, negation, choice}
+use Rattle.policy_text_defs.specs.Statements.{Octets}
+use Rattle.policy_text_defs.specs.Sense.{Sense, version, transaction, keep, each, push, pop, class, leaf, node, Entry, entry}
+
+-- how an operation is written
+abbrev pub op_text : Op → List ℕ
+op_text Add = codes "+"
+op_text Sub = codes "-"
+op_text Mul = codes "*"
+op_text Div = codes "/"
+op_text Less = codes "<"
+op_text LessEq = codes "<="
+op_text Equal = codes "=="
+op_text NotEqual = codes "!="
+op_text MoreEq = codes ">="
+op_text More = codes ">"
+op_text Min = codes "min"
+op_text Max = codes "max"
+op_text And = codes "and"
+op_text Or = codes "or"
+
+-- whether it stands between its operands
+abbrev pub is_infix_op : Op → Bool
+is_infix_op Min = false
+is_infix_op Max = false
+is_infix_op And = false
+is_infix_op Or = false
+is_infix_op _ = true
+
+-- `+ - * /` and comparisons
+abbrev pub is_infix : Phrase → Bool
+is_infix (number n) = false
+is_infix (word w) = false
+is_infix (negation a) = false
+is_infix (choice a b c) = false
+is_infix (two op a b) = is_infix_op op
+
+-- in parentheses, or as it is
+abbrev pub wrapped : Bool → List ℕ → List ℕ
+wrapped true bytes = codes "(" ++ (bytes ++ codes ")")
+wrapped false bytes = bytes
+
+-- with spaces around the operator
+abbrev pub infix_text : Op → List ℕ → List ℕ → List ℕ
+infix_text op left right = left ++ (codes " " ++ (op_text op ++ (codes " " ++ right)))
+
+-- `min(a, b)`
+abbrev pub call_text : Op → List ℕ → List ℕ → List ℕ
+call_text op left right = op_text op ++ (codes "(" ++ (left ++ (codes ", " ++ (right ++ codes ")"))))
+
+-- an operand of `+ - * /` or of a comparison is in parentheses exactly where it is itself such an expression
+abbrev pub canonical_term : Phrase → List ℕ
+canonical_term (number n) = decimal n
+canonical_term (word w) = w
+canonical_term (negation a) = codes "not(" ++ (canonical_term a ++ codes ")")
+canonical_term (choice a b c) = codes "if(" ++ (canonical_term a ++ (codes ", " ++ (canonical_term b ++ (codes ", " ++ (canonical_term c ++ codes ")")))))
+canonical_term (two op a b) =
+    if is_infix_op op then infix_text op (wrapped (is_infix a) (canonical_term a)) (wrapped (is_infix b) (canonical_term b))
+    else call_text op (canonical_term a) (canonical_term b)
+
+-- `LOW..HIGH`
+abbrev pub between_text : ℕ → ℕ → List ℕ
+between_text low high = decimal low ++ (codes ".." ++ decimal high)
+
+-- `LOW..HIGH = FIRST`
+abbrev pub span_text : Span → List ℕ
+span_text s = between_text s.low s.high ++ (codes " = " ++ decimal s.first)
+
+-- `N` where both ends are equal, else `LOW..HIGH`
+abbrev pub range_text : ℕ → ℕ → List ℕ
+range_text low high = if low == high then decimal low else between_text low high
+
+-- the four numbers of an address
+abbrev pub octets_of : ℕ → Octets
+octets_of a = record { first = a / 16777216; second = a / 65536 % 256; third = a / 256 % 256; fourth = a % 256 }
+
+-- `N.N.N.N/L`
+abbrev pub address_text : ℕ → ℕ → List ℕ
+address_text a l =
+    let o = octets_of a in
+    decimal o.first ++ (codes "." ++ (decimal o.second ++ (codes "." ++ (decimal o.third ++ (codes "." ++ (decimal o.fourth ++ (codes "/" ++ decimal l)))))))
+
+abbrev pub condition_text : Condition → List ℕ
+condition_text (condition.Field f low high) = field_word f ++ (codes " " ++ range_text low high)
+condition_text (condition.Source a l) = codes "src " ++ address_text a l
+condition_text (condition.Dest a l) = codes "dst " ++ address_text a l
+condition_text condition.Ipv4 = codes "ipv4"
+condition_text condition.Ipv6 = codes "ipv6"
+
+-- ` and COND`, each
+abbrev pub more_conditions_text : List Condition → List ℕ
+more_conditions_text [] = []
+more_conditions_text (c ∷ cs) = codes " and " ++ (condition_text c ++ more_conditions_text cs)
+
+-- ` when COND {and COND}`, or nothing
+abbrev pub guard_text : List Condition → List ℕ
+guard_text [] = []
+guard_text (c ∷ cs) = codes " when " ++ (condition_text c ++ more_conditions_text cs)
+
+-- an attribute that was written, with the space before it
+abbrev pub attribute_text : Attribute → Option ℕ → List ℕ
+attribute_text k None = []
+attribute_text k (Some n) = codes " " ++ (attribute_word k ++ (codes " " ++ decimal n))
+
+-- the attributes that were written, in the order prio, weight, slack
+abbrev pub attributes_text : Attrs → List ℕ
+attributes_text a = attribute_text attribute.Prio a.prio ++ (attribute_text attribute.Weight a.weight ++ attribute_text attribute.Slack a.slack)
+
+-- names, each with the space before it
+abbrev pub names_text : List (List ℕ) → List ℕ
+names_text [] = []
+names_text (n ∷ ns) = codes " " ++ (n ++ names_text ns)
+
+-- the line of a statement, without its end
+abbrev pub statement_text : Sense → List ℕ
+statement_text (version v) = codes "policy " ++ decimal v
+statement_text (transaction n) = codes "transaction " ++ n
+statement_text (keep n s) = codes "keep " ++ (n ++ (codes " " ++ span_text s))
+statement_text (each n s) = codes "each " ++ (n ++ (codes " " ++ span_text s))
+statement_text (push n a) = codes "push " ++ (n ++ (codes " = " ++ canonical_term a))
+statement_text (pop n a) = codes "pop " ++ (n ++ (codes " = " ++ canonical_term a))
+statement_text (class n a cs) = codes "class " ++ (n ++ (attributes_text a ++ guard_text cs))
+statement_text (leaf n u a ns) = codes "leaf " ++ (n ++ (codes " using " ++ (u ++ (attributes_text a ++ (codes " classes" ++ names_text ns)))))
+statement_text (node n u a ns) = codes "node " ++ (n ++ (codes " using " ++ (u ++ (attributes_text a ++ (codes " children" ++ names_text ns)))))
+
+-- the lines of statements in order, each ended by a line feed
+abbrev pub canonical_text : List Sense → List ℕ
+canonical_text [] = []
+canonical_text (s ∷ ss) = statement_text s ++ (codes "\n" ++ canonical_text ss)
+
+-- statements with the numbers of lines that follow one another from this number on
+abbrev pub numbered_from : ℕ → List Sense → List Entry
+numbered_from n [] = []
+numbered_from n (s ∷ ss) = entry n s ∷ numbered_from (suc n) ss
