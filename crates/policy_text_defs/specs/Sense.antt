@@ -1,5 +1,5 @@
 -- A statement apart from where it lies in memory.
-use Rattle.std.specs.Prelude.{ℕ, List}
+use Rattle.std.specs.Prelude.{ℕ, suc, List, [], ◌∷◌}
 use Rattle.rank_defs.specs.declared.transaction.Span.{Span}
 use Rattle.policy_text_defs.specs.declared.attribute.Attrs.{Attrs}
 use Rattle.policy_text_defs.specs.declared.condition.Condition.{Condition}
@@ -35,3 +35,8 @@ Entry = ℕ × Sense
 
 abbrev pub entry : ℕ → Sense → Entry
 entry n s = (n, s)
+
+-- statements with the numbers of lines that follow one another, the first being this one
+abbrev pub numbered : ℕ → List Sense → List Entry
+numbered n [] = []
+numbered n (s ∷ ss) = entry n s ∷ numbered (suc n) ss

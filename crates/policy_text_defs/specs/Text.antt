@@ -25,10 +25,14 @@ pub record Carries (line : List ℕ) (s : Sense) : Type 0 where
   pub says : Says line tokens
   pub form : IsForm tokens s
 
--- some line has this statement
-pub record IsWritten (s : Sense) : Type 0 where
+-- a line that has this statement
+pub record LineOf (s : Sense) : Type 0 where
   pub line : List ℕ
   pub carries : Carries line s
+
+-- some line has this statement
+abbrev pub IsWritten : Sense → Type 0
+IsWritten s = ∥ LineOf s ∥₁
 
 -- the statements of lines, numbered from this number on; lines of blanks alone have none
 pub data Entries : ℕ → List (List ℕ) → List Entry → Type 0 where

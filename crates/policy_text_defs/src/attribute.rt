@@ -2,6 +2,8 @@ ghost use Rattle.std.specs.Prelude.{◌≡◌};
 ghost use Rattle.policy_text_defs.specs.Words.{attribute_of};
 ghost use Rattle.policy_text_defs.specs.Ranges.{attribute_least, attribute_most};
 
+use crate::word::is;
+
 /// The attributes that were written for a class, leaf or node.
 #[derive(Clone, Copy, PartialEq, Eq, Debug)]
 pub struct Attrs {
@@ -24,12 +26,15 @@ impl Attribute {
     pub fn of(word: &[u8]) -> Option<Attribute>
         ensures { result ≡ attribute_of word.now }
     {
-        Some(match word {
-            b"prio" => Attribute::Prio,
-            b"weight" => Attribute::Weight,
-            b"slack" => Attribute::Slack,
-            _ => return None,
-        })
+        if is(word, "prio") {
+            Some(Attribute::Prio)
+        } else if is(word, "weight") {
+            Some(Attribute::Weight)
+        } else if is(word, "slack") {
+            Some(Attribute::Slack)
+        } else {
+            None
+        }
     }
 
     /// The least number that may be written.

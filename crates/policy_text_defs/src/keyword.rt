@@ -1,6 +1,8 @@
 ghost use Rattle.std.specs.Prelude.{◌≡◌};
 ghost use Rattle.policy_text_defs.specs.Words.{keyword_of};
 
+use crate::word::is;
+
 /// A word that begins a statement.
 #[derive(Clone, Copy, PartialEq, Eq, Debug)]
 pub enum Keyword {
@@ -20,17 +22,26 @@ impl Keyword {
     pub fn of(word: &[u8]) -> Option<Keyword>
         ensures { result ≡ keyword_of word.now }
     {
-        Some(match word {
-            b"policy" => Keyword::Policy,
-            b"transaction" => Keyword::Transaction,
-            b"keep" => Keyword::Keep,
-            b"each" => Keyword::Each,
-            b"push" => Keyword::Push,
-            b"pop" => Keyword::Pop,
-            b"class" => Keyword::Class,
-            b"leaf" => Keyword::Leaf,
-            b"node" => Keyword::Node,
-            _ => return None,
-        })
+        if is(word, "policy") {
+            Some(Keyword::Policy)
+        } else if is(word, "transaction") {
+            Some(Keyword::Transaction)
+        } else if is(word, "keep") {
+            Some(Keyword::Keep)
+        } else if is(word, "each") {
+            Some(Keyword::Each)
+        } else if is(word, "push") {
+            Some(Keyword::Push)
+        } else if is(word, "pop") {
+            Some(Keyword::Pop)
+        } else if is(word, "class") {
+            Some(Keyword::Class)
+        } else if is(word, "leaf") {
+            Some(Keyword::Leaf)
+        } else if is(word, "node") {
+            Some(Keyword::Node)
+        } else {
+            None
+        }
     }
 }

@@ -52,6 +52,13 @@ const RESERVED: [&str; 39] = [
 /// The reserved words that are numbers in expressions.
 const VARIABLES: [&str; 6] = ["len", "now", "prio", "weight", "slack", "rank"];
 
+/// Whether a word is written so.
+pub fn is(word: &[u8], text: &str) -> bool
+    ensures { result ≡ bytes_eq word.now text.now }
+{
+    word == text.as_bytes()
+}
+
 /// Whether a word is one of the words.
 fn is_among(word: &[u8], words: &[&str]) -> bool
     ensures { result ≡ list_any (λ w. bytes_eq word.now w.now) words.now }

@@ -1,0 +1,7 @@
+//! Policy texts: reading their statements, and printing statements as canonical text.
+#![tactic(auto)]
+
+mod lines;
+
+pub use lines::Lines;
+pub use policy_text_defs::{Attrs, Condition, FieldName, Statement, Term};
