@@ -1,16 +1,17 @@
 -- The canonical text of statements that lines have is in form and has them.
-use Rattle.std.proofs.Common.{◌≡◌, ℕ, zero, suc, ◌-◌, ◌≤◌, ◌&&◌, ◌==◌, List, [], ◌∷◌, ◌++◌, length, map, take, Bool, true, false, cond, sym, refl, ap, ◌∙◌, subst, arith}
+use Rattle.std.proofs.Common.{◌≡◌, ℕ, zero, suc, ◌-◌, ◌≤◌, ◌&&◌, ◌==◌, List, [], ◌∷◌, ◌++◌, length, map, take, ◌<◌, Bool, true, false, cond, sym, refl, ap, ◌∙◌, subst, arith}
 use Rattle.std.specs.Prelude.{codes, slice_index}
-use Rattle.std.specs.List.{prefix_len, list_all, AllByRecursion}
+use Rattle.std.specs.List.{prefix_len, list_all, All, AllByRecursion}
+use Rattle.std.proofs.lemmas.List.Elements.{All-tail}
 use Rattle.std.proofs.lemmas.List.{append-nil, take_all}
 use Rattle.std.proofs.lemmas.Bool.Decides.{nat_tests}
 use Rattle.text_core.specs.Glyphs.{Glyph}
 use Rattle.text_core.specs.Says.{Says}
 use Rattle.text_core.specs.Lines.{is_text, is_clean, is_clean_text, no_comment, ends_with_return, statement_length, statement_of, onto_first, lines_of, statements_of}
 use Rattle.policy_text_defs.specs.Ranges.{most_text}
-use Rattle.policy_text_defs.specs.Sense.{Sense, version, transaction, keep, each, push, pop, class, leaf, node}
+use Rattle.policy_text_defs.specs.Sense.{Sense, version, transaction, keep, each, push, pop, class, leaf, node, numbered}
 use Rattle.policy_text_defs.specs.Text.{is_shaping, Carries, IsWritten, Entries, over, carried, HasEntries}
-use Rattle.policy_text_defs.specs.Canonical.{statement_text, canonical_text, numbered_from}
+use Rattle.policy_text_defs.specs.Canonical.{statement_text, canonical_text}
 use Rattle.policy_text_defs.proofs.Pieces.{is_plain}
 use Rattle.policy_text_defs.proofs.StatementTokens.{statement_tokens, IsPrintable}
 use Rattle.policy_text_defs.proofs.StatementForms.{statement_form}
@@ -113,20 +114,25 @@ statement_carried s is = record {
 
 -- ---- texts
 
-canonical_lines : (ss : List Sense) → AllByRecursion IsWritten ss → statements_of (canonical_text ss) ≡ map statement_text ss
+canonical_lines : (ss : List Sense) → AllByRecursion IsPrintable ss → statements_of (canonical_text ss) ≡ map statement_text ss
 canonical_lines [] all = refl
 canonical_lines (s ∷ ss) all =
-    let plain = statement_plain s (IsWritten-printable s all.0) in
+    let plain = statement_plain s all.0 in
     ap (map statement_of) (line_first (statement_text s) (canonical_text ss) plain)
     ∙ ap (λ l. l ∷ statements_of (canonical_text ss)) (plain_statement (statement_text s) plain)
     ∙ ap (λ ls. statement_text s ∷ ls) (canonical_lines ss all.1)
 
-canonical_entries : (n : ℕ) (ss : List Sense) → AllByRecursion IsWritten ss → Entries n (map statement_text ss) (numbered_from n ss)
+canonical_entries : (n : ℕ) (ss : List Sense) → AllByRecursion IsPrintable ss → Entries n (map statement_text ss) (numbered n ss)
 canonical_entries n [] all = over n
-canonical_entries n (s ∷ ss) all = carried n (statement_text s) (map statement_text ss) s (numbered_from (suc n) ss) (statement_carried s (IsWritten-printable s all.0)) (canonical_entries (suc n) ss all.1)
+canonical_entries n (s ∷ ss) all = carried n (statement_text s) (map statement_text ss) s (numbered (suc n) ss) (statement_carried s all.0) (canonical_entries (suc n) ss all.1)
 
--- the canonical text of statements has them, numbered from 1
-pub canonical_text-HasEntries : (ss : List Sense) → AllByRecursion IsWritten ss → length (canonical_text ss) ≤ most_text → HasEntries (canonical_text ss) (numbered_from 1 ss)
+all_printable : (ss : List Sense) → All IsWritten ss → AllByRecursion IsPrintable ss
+all_printable [] all = tt
+all_printable (s ∷ ss) all = (IsWritten-printable s (all 0 s (omega arith)), all_printable ss (All-tail IsWritten s ss all))
+
+-- the canonical text of statements that lines have is in form and has them, numbered from 1
+pub canonical_text-HasEntries : (ss : List Sense) → All IsWritten ss → length (canonical_text ss) ≤ most_text → HasEntries (canonical_text ss) (numbered 1 ss)
 canonical_text-HasEntries ss all short =
-    let P : List (List ℕ) → Type 0 = λ ls. Entries 1 ls (numbered_from 1 ss) in
-    record { short = short; entries = subst P (sym (canonical_lines ss all)) (canonical_entries 1 ss all) }
+    let printable = all_printable ss all in
+    let P : List (List ℕ) → Type 0 = λ ls. Entries 1 ls (numbered 1 ss) in
+    record { short = short; entries = subst P (sym (canonical_lines ss printable)) (canonical_entries 1 ss printable) }

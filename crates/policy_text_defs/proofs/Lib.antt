@@ -2,6 +2,7 @@ pub mod CanonicalLaws
 pub mod Lexed
 pub mod Pieces
 pub mod Printable
+pub mod PrintableProps
 pub mod StatementForms
 pub mod StatementPieces
 pub mod StatementTokens

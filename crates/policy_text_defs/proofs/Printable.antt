@@ -10,14 +10,17 @@ use Rattle.policy_text_defs.specs.declared.attribute.Attribute.{Attribute}
 use Rattle.policy_text_defs.specs.declared.attribute.Attribute.TheVariants as attribute
 use Rattle.policy_text_defs.specs.declared.condition.Condition.{Condition}
 use Rattle.policy_text_defs.specs.declared.condition.Condition.TheVariants as condition
-use Rattle.policy_text_defs.specs.Words.{protocol_of}
+use Rattle.policy_text_defs.specs.Words.{is_name, protocol_of}
+use Rattle.std.proofs.Math.Bool.{or-true}
+use Rattle.std.proofs.Math.Logic.{∥∥₁_elim}
+use Rattle.policy_text_defs.proofs.PrintableProps.{IsPrintable-prop}
 use Rattle.policy_text_defs.specs.Phrase.{Phrase, number, word, two, negation, choice, most_open}
-use Rattle.policy_text_defs.specs.Grammar.{Form, GoesOn, ends, more, Grouped, grouped, Compared, alone, compared, Product, Sum, Expression, AtomOver, number_atom, word_atom, parens_atom, call_atom, not_atom, if_atom, NoForm, Atom, Spells}
+use Rattle.policy_text_defs.specs.Grammar.{Form, GoesOn, ends, more, Grouped, grouped, Compared, alone, compared, Product, Sum, Expression, IsOperand, named, variable, AtomOver, number_atom, word_atom, parens_atom, call_atom, not_atom, if_atom, NoForm, Atom, Spells}
 use Rattle.policy_text_defs.specs.Sense.{Sense}
-use Rattle.policy_text_defs.specs.Statements.{IsName, unset, with_attribute, AttributesFrom, no_more, set, Attributes, Range, single, between, Octets, Address, whole, prefix, IsCondition, field, protocol, source, dest, ipv4, ipv6, Conditions, last, also, Guard, unguarded, guarded, AreNames, IsForm, version_form, transaction_form, keep_form, each_form, push_form, pop_form, class_form, leaf_form, node_form}
-use Rattle.policy_text_defs.specs.Text.{Carries, IsWritten}
-use Rattle.policy_text_defs.proofs.TermTokens.{HasNames}
-use Rattle.policy_text_defs.proofs.StatementTokens.{IsNamed, IsPrintablePhrase, IsInRange, AreAttributes, IsPrintableAddress, IsPrintableRange, IsPrintableCondition, IsPrintable}
+use Rattle.policy_text_defs.specs.Statements.{IsName, IsTarget, variable_target, rank_target, unset, with_attribute, AttributesFrom, no_more, set, Attributes, Range, single, between, Octets, Address, whole, prefix, IsCondition, field, protocol, source, dest, ipv4, ipv6, Conditions, last, also, Guard, unguarded, guarded, AreNames, IsForm, version_form, transaction_form, keep_form, each_form, push_form, pop_form, class_form, leaf_form, node_form}
+use Rattle.policy_text_defs.specs.Text.{LineOf, IsWritten}
+use Rattle.policy_text_defs.proofs.TermTokens.{is_operand, HasNames}
+use Rattle.policy_text_defs.proofs.StatementTokens.{is_target, IsNamed, IsPrintablePhrase, IsInRange, AreAttributes, IsPrintableAddress, IsPrintableRange, IsPrintableCondition, IsPrintable}
 use Rattle.policy_text_defs.proofs.Lexed.{IsLexed, Says-lexed}
 
 abbrev AreLexed : List Glyph → Type 0
@@ -51,9 +54,13 @@ compared_names sound gs c all (compared o g ts us a b is left right) = (sound ts
 expression_names : {Atom : Form} → Sound Atom → Sound (Expression Atom)
 expression_names sound = compared_names (grouped_names (grouped_names sound))
 
+operand_is : (w : List ℕ) → IsOperand w → is_operand w ≡ true
+operand_is w (named is) = rw is refl
+operand_is w (variable is) = rw (is, or-true (is_name w)) refl
+
 atom_names : {Inside : Form} → Sound Inside → Sound (AtomOver Inside)
 atom_names sound gs c all (number_atom n) = all.0
-atom_names sound gs c all (word_atom w is) = (all.0, is)
+atom_names sound gs c all (word_atom w is) = (all.0, operand_is w is)
 atom_names sound gs c all (parens_atom ts a part) = sound ts a (front ts _ all.1) part
 atom_names sound gs c all (call_atom o w ts us a b is left right) = (sound ts a (front ts _ all.1.1) left, sound us b (front us _ (back ts _ all.1.1).1) right)
 atom_names sound gs c all (not_atom ts a part) = sound ts a (front ts _ all.1.1) part
@@ -133,17 +140,24 @@ names_printable : (ns : List (List ℕ)) → AreLexed (map text ns) → AllByRec
 names_printable [] all names = tt
 names_printable (n ∷ ns) all names = (record { word = all.0; name = names.0 }, names_printable ns all.1 names.1)
 
+target_is : (w : List ℕ) → IsTarget w → is_target w ≡ true
+target_is w (variable_target _ is) = rw is refl
+target_is w rank_target = refl
+
 form_printable : (gs : List Glyph) (s : Sense) → AreLexed gs → IsForm gs s → IsPrintable s
 form_printable gs s all version_form = refl
 form_printable gs s all (transaction_form n name) = record { word = all.1.0; name = name }
 form_printable gs s all (keep_form n span name ordered) = (record { word = all.1.0; name = name }, record { ordered = ordered; low = all.1.1.0; high = all.1.1.1.1.0; first = all.1.1.1.1.1.1.0 })
 form_printable gs s all (each_form n span name ordered) = (record { word = all.1.0; name = name }, record { ordered = ordered; low = all.1.1.0; high = all.1.1.1.1.0; first = all.1.1.1.1.1.1.0 })
-form_printable gs s all (push_form n ts a target spells) = (all.1.0, target, phrase_printable ts a all.1.1.1 spells)
+form_printable gs s all (push_form n ts a target spells) = (all.1.0, target_is n target, phrase_printable ts a all.1.1.1 spells)
 form_printable gs s all (pop_form n ts a name spells) = (record { word = all.1.0; name = name }, phrase_printable ts a all.1.1.1 spells)
 form_printable gs s all (class_form n ts us a cs name attributes guard) = (record { word = all.1.0; name = name }, attributes_printable ts a attributes, guard_printable us cs guard)
 form_printable gs s all (leaf_form n u ts a ns name used attributes names) = (record { word = all.1.0; name = name }, record { word = all.1.1.1.0; name = used }, attributes_printable ts a attributes, names_printable ns (back ts _ all.1.1.1.1).1 names.each, names.some)
 form_printable gs s all (node_form n u ts a ns name used attributes names) = (record { word = all.1.0; name = name }, record { word = all.1.1.1.0; name = used }, attributes_printable ts a attributes, names_printable ns (back ts _ all.1.1.1.1).1 names.each, names.some)
 
+line_printable : (s : Sense) → LineOf s → IsPrintable s
+line_printable s line = form_printable line.carries.tokens s (Says-lexed line.line line.carries.tokens line.carries.says) line.carries.form
+
 -- a statement that some line has
 pub IsWritten-printable : (s : Sense) → IsWritten s → IsPrintable s
-IsWritten-printable s written = form_printable written.carries.tokens s (Says-lexed written.line written.carries.tokens written.carries.says) written.carries.form
+IsWritten-printable s written = ∥∥₁_elim written (IsPrintable-prop s) (line_printable s)

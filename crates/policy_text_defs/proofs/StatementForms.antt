@@ -1,6 +1,9 @@
 -- The tokens of a canonical line are a form of its statement.
 use Rattle.std.proofs.Common.{◌≡◌, ℕ, ◌+◌, ◌*◌, ◌/◌, ◌%◌, ◌<◌, ◌≤◌, ◌==◌, eqb, cond, Bool, true, false, List, [], ◌∷◌, ◌++◌, length, map, Option, Some, None, sym, refl, subst, ap, arith}
-use Rattle.std.specs.Prelude.{codes}
+use Rattle.std.specs.Prelude.{codes, ◌||◌}
+use Rattle.std.specs.Str.{bytes_eq}
+use Rattle.std.proofs.lemmas.Slice.Eq.{bytes_eq-Decides}
+use Rattle.policy_text_defs.specs.Words.{is_name}
 use Rattle.std.specs.List.{AllByRecursion}
 use Rattle.std.proofs.lemmas.List.{append-nil}
 use Rattle.std.proofs.lemmas.Bool.{eqb-true}
@@ -12,10 +15,10 @@ use Rattle.policy_text_defs.specs.declared.attribute.Attribute.TheVariants as at
 use Rattle.policy_text_defs.specs.declared.condition.Condition.{Condition}
 use Rattle.policy_text_defs.specs.declared.condition.Condition.TheVariants as condition
 use Rattle.policy_text_defs.specs.Sense.{Sense, version, transaction, keep, each, push, pop, class, leaf, node}
-use Rattle.policy_text_defs.specs.Statements.{IsName, unset, attribute_value, with_attribute, MaySet, AttributesFrom, no_more, set, Attributes, Range, single, between, AreOctets, address_of, Address, prefix, IsCondition, field, source, dest, ipv4, ipv6, Conditions, last, also, Guard, unguarded, guarded, AreNames, IsForm, version_form, transaction_form, keep_form, each_form, push_form, pop_form, class_form, leaf_form, node_form}
+use Rattle.policy_text_defs.specs.Statements.{IsName, IsTarget, variable_target, rank_target, unset, attribute_value, with_attribute, MaySet, AttributesFrom, no_more, set, Attributes, Range, single, between, AreOctets, address_of, Address, prefix, IsCondition, field, source, dest, ipv4, ipv6, Conditions, last, also, Guard, unguarded, guarded, AreNames, IsForm, version_form, transaction_form, keep_form, each_form, push_form, pop_form, class_form, leaf_form, node_form}
 use Rattle.policy_text_defs.specs.Canonical.{octets_of}
 use Rattle.policy_text_defs.proofs.TermForms.{tokens_of-Spells}
-use Rattle.policy_text_defs.proofs.StatementTokens.{attribute_tokens, attributes_tokens, range_tokens, address_tokens, condition_tokens, more_conditions_tokens, guard_tokens, statement_tokens, IsNamed, IsInRange, IsAttribute, AreAttributes, IsPrintableAddress, IsPrintableRange, IsPrintableCondition, IsPrintable}
+use Rattle.policy_text_defs.proofs.StatementTokens.{attribute_tokens, attributes_tokens, range_tokens, address_tokens, condition_tokens, more_conditions_tokens, guard_tokens, statement_tokens, IsNamed, is_target, IsInRange, IsAttribute, AreAttributes, IsPrintableAddress, IsPrintableRange, IsPrintableCondition, IsPrintable}
 
 -- ---- attributes
 
@@ -91,6 +94,14 @@ names_form : (ns : List (List ℕ)) → AllByRecursion IsNamed ns → AllByRecur
 names_form [] all = tt
 names_form (n ∷ ns) all = (all.0.name, names_form ns all.1)
 
+target_case : (w : List ℕ) (u v : Bool) → is_name w ≡ u → bytes_eq w (codes "rank") ≡ v → u || v ≡ true → IsTarget w
+target_case w true v p q is = variable_target w p
+target_case w false true p q is = subst IsTarget (sym ((bytes_eq-Decides w (codes "rank")).0 q)) rank_target
+target_case w false false p q is = absurd cc
+
+IsTarget-from : (w : List ℕ) → is_target w ≡ true → IsTarget w
+IsTarget-from w is = target_case w (is_name w) (bytes_eq w (codes "rank")) refl refl is
+
 -- the tokens of a statement's canonical line are a form of it
 pub statement_form : (s : Sense) → IsPrintable s → IsForm (statement_tokens s) s
 statement_form (version v) is =
@@ -99,7 +110,7 @@ statement_form (version v) is =
 statement_form (transaction n) is = transaction_form n is.name
 statement_form (keep n s) is = keep_form n s is.0.name is.1.ordered
 statement_form (each n s) is = each_form n s is.0.name is.1.ordered
-statement_form (push n a) is = push_form n _ a is.1 (tokens_of-Spells a is.2.names is.2.low)
+statement_form (push n a) is = push_form n _ a (IsTarget-from n is.1) (tokens_of-Spells a is.2.names is.2.low)
 statement_form (pop n a) is = pop_form n _ a is.0.name (tokens_of-Spells a is.1.names is.1.low)
 statement_form (class n a cs) is = class_form n (attributes_tokens a) (guard_tokens cs) a cs is.0.name (attributes_form a is.1) (guard_form cs is.2)
 statement_form (leaf n u a ns) is = leaf_form n u (attributes_tokens a) a ns is.0.name is.1.name (attributes_form a is.2) (record { some = is.4; each = names_form ns is.3 })

@@ -1,6 +1,7 @@
 -- The tokens of a statement's canonical line, and what holds of a statement that has one.
-use Rattle.std.specs.Prelude.{◌≡◌, ℕ, ◌<◌, ◌≤◌, ◌==◌, if◌then◌else◌, List, [], ◌∷◌, ◌++◌, length, map, Option, Some, None, codes}
+use Rattle.std.specs.Prelude.{◌≡◌, ℕ, ◌<◌, ◌≤◌, ◌==◌, if◌then◌else◌, ◌||◌, Bool, true, List, [], ◌∷◌, ◌++◌, length, map, Option, Some, None, codes}
 use Rattle.std.specs.List.{AllByRecursion}
+use Rattle.std.specs.Str.{bytes_eq}
 use Rattle.rank_defs.specs.declared.transaction.Span.{Span}
 use Rattle.text_core.specs.declared.mark.Mark.TheVariants as m
 use Rattle.text_core.specs.Glyphs.{Glyph, text, figure, sign}
@@ -10,11 +11,11 @@ use Rattle.policy_text_defs.specs.declared.attribute.Attribute.{Attribute}
 use Rattle.policy_text_defs.specs.declared.attribute.Attribute.TheVariants as attribute
 use Rattle.policy_text_defs.specs.declared.condition.Condition.{Condition}
 use Rattle.policy_text_defs.specs.declared.condition.Condition.TheVariants as condition
-use Rattle.policy_text_defs.specs.Words.{attribute_word, field_word}
+use Rattle.policy_text_defs.specs.Words.{is_name, attribute_word, field_word}
 use Rattle.policy_text_defs.specs.Ranges.{attribute_least, attribute_most, field_most, most_prefix}
 use Rattle.policy_text_defs.specs.Phrase.{Phrase, depth, most_depth}
 use Rattle.policy_text_defs.specs.Sense.{Sense, version, transaction, keep, each, push, pop, class, leaf, node}
-use Rattle.policy_text_defs.specs.Statements.{IsName, IsTarget, IsSpan, span_tokens, octet_tokens}
+use Rattle.policy_text_defs.specs.Statements.{IsName, IsSpan, span_tokens, octet_tokens}
 use Rattle.policy_text_defs.specs.Canonical.{octets_of}
 use Rattle.policy_text_defs.proofs.TermTokens.{IsWord, HasNames, tokens_of}
 
@@ -63,6 +64,10 @@ pub record IsNamed (w : List ℕ) : Type 0 where
   pub word : IsWord w
   pub name : IsName w
 
+-- a name or `rank`
+abbrev pub is_target : List ℕ → Bool
+is_target w = is_name w || bytes_eq w (codes "rank")
+
 pub record IsPrintableSpan (s : Span) : Type 0 where
   pub ordered : IsSpan s
   pub low : s.low ≤ max
@@ -106,7 +111,7 @@ IsPrintable (version v) = v ≡ 1
 IsPrintable (transaction n) = IsNamed n
 IsPrintable (keep n s) = IsNamed n × IsPrintableSpan s
 IsPrintable (each n s) = IsNamed n × IsPrintableSpan s
-IsPrintable (push n a) = IsWord n × IsTarget n × IsPrintablePhrase a
+IsPrintable (push n a) = IsWord n × (is_target n ≡ true) × IsPrintablePhrase a
 IsPrintable (pop n a) = IsNamed n × IsPrintablePhrase a
 IsPrintable (class n a cs) = IsNamed n × AreAttributes a × AllByRecursion IsPrintableCondition cs
 IsPrintable (leaf n u a ns) = IsNamed n × IsNamed u × AreAttributes a × AllByRecursion IsNamed ns × (0 < length ns)

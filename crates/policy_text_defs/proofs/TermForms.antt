@@ -1,16 +1,17 @@
 -- The tokens of the canonical text of a term spell the term.
 use Rattle.std.proofs.Common.{◌≡◌, ℕ, zero, suc, ◌<◌, ◌≤◌, max, List, [], ◌∷◌, ◌++◌, None, Some, Bool, true, false, cond, refl, subst, arith}
 use Rattle.std.proofs.lemmas.List.{append-nil}
-use Rattle.std.specs.Prelude.{codes}
+use Rattle.std.specs.Prelude.{codes, ◌||◌}
 use Rattle.text_core.specs.declared.mark.Mark.{Mark}
 use Rattle.text_core.specs.declared.mark.Mark.TheVariants as m
 use Rattle.rank_defs.specs.declared.expression.Op.{Op}
 use Rattle.rank_defs.specs.declared.expression.Op.TheVariants.{Add, Sub, Mul, Div, Less, LessEq, Equal, NotEqual, MoreEq, More, Min, Max, And, Or}
+use Rattle.policy_text_defs.specs.Words.{is_name, is_variable}
 use Rattle.policy_text_defs.specs.Phrase.{Phrase, number, word, two, negation, choice, depth, most_depth, most_open}
 use Rattle.text_core.specs.Glyphs.{Glyph, text, figure, sign}
-use Rattle.policy_text_defs.specs.Grammar.{product_op, sum_op, relation, Form, GoesOn, ends, more, grouped, alone, compared, Product, Sum, Expression, Call, min_call, max_call, and_call, or_call, IsOperand, number_atom, word_atom, parens_atom, call_atom, not_atom, if_atom, Atom, Spells}
+use Rattle.policy_text_defs.specs.Grammar.{product_op, sum_op, relation, Form, GoesOn, ends, more, grouped, alone, compared, Product, Sum, Expression, Call, min_call, max_call, and_call, or_call, IsOperand, named, variable, number_atom, word_atom, parens_atom, call_atom, not_atom, if_atom, Atom, Spells}
 use Rattle.policy_text_defs.specs.Canonical.{is_infix, is_infix_op, op_text}
-use Rattle.policy_text_defs.proofs.TermTokens.{op_mark, wrapped_tokens, infix_tokens, call_tokens, tokens_of, HasNames}
+use Rattle.policy_text_defs.proofs.TermTokens.{op_mark, wrapped_tokens, infix_tokens, call_tokens, tokens_of, is_operand, HasNames}
 
 -- at each number of parentheses that is large enough, as a whole, and as an atom where it isn't infix
 pub record IsSpelled (a : Phrase) : Type 0 where
@@ -76,6 +77,14 @@ number_bare : (n room : ℕ) → Atom room (figure n ∷ []) (number n)
 number_bare n zero = number_atom n
 number_bare n (suc room) = number_atom n
 
+operand_word : (w : List ℕ) (u v : Bool) → is_name w ≡ u → is_variable w ≡ v → u || v ≡ true → IsOperand w
+operand_word w true v p q is = named p
+operand_word w false true p q is = variable q
+operand_word w false false p q is = absurd cc
+
+pub IsOperand-from : (w : List ℕ) → is_operand w ≡ true → IsOperand w
+IsOperand-from w is = operand_word w (is_name w) (is_variable w) refl refl is
+
 name_bare : (w : List ℕ) (room : ℕ) → IsOperand w → Atom room (text w ∷ []) (word w)
 name_bare w zero free = word_atom w free
 name_bare w (suc room) free = word_atom w free
@@ -118,7 +127,7 @@ two_bare op a b s t false is bare room low = call_bare op a b s t is room low
 
 pub is_spelled : (a : Phrase) → HasNames a → IsSpelled a
 is_spelled (number n) names = record { whole = λ room low. whole_alone _ _ (number_bare n room); bare = λ e room low. number_bare n room }
-is_spelled (word w) names = record { whole = λ room low. whole_alone _ _ (name_bare w room names.1); bare = λ e room low. name_bare w room names.1 }
+is_spelled (word w) names = record { whole = λ room low. whole_alone _ _ (name_bare w room (IsOperand-from w names.1)); bare = λ e room low. name_bare w room (IsOperand-from w names.1) }
 is_spelled (negation a) names =
     let s = is_spelled a names in
     record { whole = λ room low. whole_alone _ _ (not_bare a s room low); bare = λ e room low. not_bare a s room low }

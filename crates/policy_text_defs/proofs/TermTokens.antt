@@ -1,5 +1,5 @@
 -- The tokens of the canonical text of a term.
-use Rattle.std.specs.Prelude.{◌≡◌, ℕ, ◌≤◌, if◌then◌else◌, Bool, true, false, List, [], ◌∷◌, ◌++◌, length, None, codes}
+use Rattle.std.specs.Prelude.{◌≡◌, ℕ, ◌≤◌, if◌then◌else◌, Bool, true, false, List, [], ◌∷◌, ◌++◌, length, ◌||◌, codes}
 use Rattle.std.specs.List.{prefix_len}
 use Rattle.text_core.specs.Tokens.{is_word_byte, begins_word}
 use Rattle.text_core.specs.declared.mark.Mark.{Mark}
@@ -7,7 +7,7 @@ use Rattle.text_core.specs.declared.mark.Mark.TheVariants as m
 use Rattle.rank_defs.specs.declared.expression.Op.{Op}
 use Rattle.rank_defs.specs.declared.expression.Op.TheVariants.{Add, Sub, Mul, Div, Less, LessEq, Equal, NotEqual, MoreEq, More, Min, Max, And, Or}
 use Rattle.text_core.specs.Decimals.{max}
-use Rattle.policy_text_defs.specs.Grammar.{IsOperand}
+use Rattle.policy_text_defs.specs.Words.{is_name, is_variable}
 use Rattle.policy_text_defs.specs.Phrase.{Phrase, number, word, two, negation, choice}
 use Rattle.text_core.specs.Glyphs.{Glyph, text, figure, sign}
 use Rattle.policy_text_defs.specs.Canonical.{is_infix, is_infix_op, op_text}
@@ -49,10 +49,14 @@ pub record IsWord (w : List ℕ) : Type 0 where
   pub begins : begins_word w ≡ true
   pub all : prefix_len is_word_byte w ≡ length w
 
+-- a name, or one of the words `len`, `now`, `prio`, `weight`, `slack` and `rank`
+abbrev pub is_operand : List ℕ → Bool
+is_operand w = is_name w || is_variable w
+
 -- operands are words and numbers in range
 abbrev pub HasNames : Phrase → Type 0
 HasNames (number n) = n ≤ max
-HasNames (word w) = IsWord w × IsOperand w
+HasNames (word w) = IsWord w × (is_operand w ≡ true)
 HasNames (negation a) = HasNames a
 HasNames (choice a b c) = HasNames a × HasNames b × HasNames c
 HasNames (two op a b) = HasNames a × HasNames b

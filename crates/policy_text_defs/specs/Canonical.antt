@@ -1,6 +1,6 @@
 -- The canonical text of statements: one line each, one space between tokens, none around `..`, none inside an address,
 -- none between a function's name and `(`, none after `(`, none before `)` and `,`.
-use Rattle.std.specs.Prelude.{ℕ, suc, ◌==◌, ◌/◌, ◌%◌, if◌then◌else◌, Bool, true, false, List, [], ◌∷◌, ◌++◌, map, Option, Some, None, codes}
+use Rattle.std.specs.Prelude.{ℕ, ◌==◌, ◌/◌, ◌%◌, if◌then◌else◌, Bool, true, false, List, [], ◌∷◌, ◌++◌, map, Option, Some, None, codes}
 use Rattle.std.specs.Fmt.{decimal}
 use Rattle.rank_defs.specs.declared.expression.Op.{Op}
 use Rattle.rank_defs.specs.declared.expression.Op.TheVariants.{Add, Sub, Mul, Div, Less, LessEq, Equal, NotEqual, MoreEq, More, Min, Max, And, Or}
@@ -13,7 +13,7 @@ use Rattle.policy_text_defs.specs.declared.condition.Condition.TheVariants as co
 use Rattle.policy_text_defs.specs.Words.{attribute_word, field_word}
 use Rattle.policy_text_defs.specs.Phrase.{Phrase, number, word, two, negation, choice}
 use Rattle.policy_text_defs.specs.Statements.{Octets}
-use Rattle.policy_text_defs.specs.Sense.{Sense, version, transaction, keep, each, push, pop, class, leaf, node, Entry, entry}
+use Rattle.policy_text_defs.specs.Sense.{Sense, version, transaction, keep, each, push, pop, class, leaf, node}
 
 -- how an operation is written
 abbrev pub op_text : Op → List ℕ
@@ -140,8 +140,3 @@ statement_text (node n u a ns) = codes "node " ++ (n ++ (codes " using " ++ (u +
 abbrev pub canonical_text : List Sense → List ℕ
 canonical_text [] = []
 canonical_text (s ∷ ss) = statement_text s ++ (codes "\n" ++ canonical_text ss)
-
--- statements with the numbers of lines that follow one another from this number on
-abbrev pub numbered_from : ℕ → List Sense → List Entry
-numbered_from n [] = []
-numbered_from n (s ∷ ss) = entry n s ∷ numbered_from (suc n) ss
