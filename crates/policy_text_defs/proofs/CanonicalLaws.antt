@@ -112,6 +112,10 @@ statement_carried s is = record {
   form = statement_form s is;
 }
 
+-- the canonical line of a statement that some line has carries it
+pub statement_text_carries : (s : Sense) → IsWritten s → Carries (statement_text s) s
+statement_text_carries s written = statement_carried s (IsWritten-printable s written)
+
 -- ---- texts
 
 canonical_lines : (ss : List Sense) → AllByRecursion IsPrintable ss → statements_of (canonical_text ss) ≡ map statement_text ss
@@ -131,8 +135,8 @@ all_printable [] all = tt
 all_printable (s ∷ ss) all = (IsWritten-printable s (all 0 s (omega arith)), all_printable ss (All-tail IsWritten s ss all))
 
 -- the canonical text of statements that lines have is in form and has them, numbered from 1
-pub canonical_text-HasEntries : (ss : List Sense) → All IsWritten ss → length (canonical_text ss) ≤ most_text → HasEntries (canonical_text ss) (numbered 1 ss)
-canonical_text-HasEntries ss all short =
+pub canonical_text_HasEntries : (ss : List Sense) → All IsWritten ss → length (canonical_text ss) ≤ most_text → HasEntries (canonical_text ss) (numbered 1 ss)
+canonical_text_HasEntries ss all short =
     let printable = all_printable ss all in
     let P : List (List ℕ) → Type 0 = λ ls. Entries 1 ls (numbered 1 ss) in
     record { short = short; entries = subst P (sym (canonical_lines ss printable)) (canonical_entries 1 ss printable) }

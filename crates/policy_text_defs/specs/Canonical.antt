@@ -1,7 +1,7 @@
 -- The canonical text of statements: one line each, one space between tokens, none around `..`, none inside an address,
 -- none between a function's name and `(`, none after `(`, none before `)` and `,`.
-use Rattle.std.specs.Prelude.{ℕ, ◌==◌, ◌/◌, ◌%◌, if◌then◌else◌, Bool, true, false, List, [], ◌∷◌, ◌++◌, map, Option, Some, None, codes}
-use Rattle.std.specs.Fmt.{decimal}
+use Rattle.std.specs.Prelude.{◌≡◌, refl, ℕ, ◌==◌, ◌/◌, ◌%◌, if◌then◌else◌, Bool, true, false, List, [], ◌∷◌, ◌++◌, map, Option, Some, None, codes}
+use Rattle.std.specs.Fmt.{decimal, digits}
 use Rattle.rank_defs.specs.declared.expression.Op.{Op}
 use Rattle.rank_defs.specs.declared.expression.Op.TheVariants.{Add, Sub, Mul, Div, Less, LessEq, Equal, NotEqual, MoreEq, More, Min, Max, And, Or}
 use Rattle.rank_defs.specs.declared.transaction.Span.{Span}
@@ -10,6 +10,7 @@ use Rattle.policy_text_defs.specs.declared.attribute.Attribute.{Attribute}
 use Rattle.policy_text_defs.specs.declared.attribute.Attribute.TheVariants as attribute
 use Rattle.policy_text_defs.specs.declared.condition.Condition.{Condition}
 use Rattle.policy_text_defs.specs.declared.condition.Condition.TheVariants as condition
+use Rattle.policy_text_defs.specs.declared.condition.FieldName.TheVariants as field
 use Rattle.policy_text_defs.specs.Words.{attribute_word, field_word}
 use Rattle.policy_text_defs.specs.Phrase.{Phrase, number, word, two, negation, choice}
 use Rattle.policy_text_defs.specs.Statements.{Octets}
@@ -140,3 +141,23 @@ statement_text (node n u a ns) = codes "node " ++ (n ++ (codes " using " ++ (u +
 abbrev pub canonical_text : List Sense → List ℕ
 canonical_text [] = []
 canonical_text (s ∷ ss) = statement_text s ++ (codes "\n" ++ canonical_text ss)
+
+nested_operands_have_parentheses : statement_text (push (codes "last") (two Add (word (codes "rank")) (two Div (two Mul (word (codes "len")) (number 1000)) (word (codes "weight"))))) ≡ codes "push last = rank + ((len * 1000) / weight)"
+unfolding digits
+nested_operands_have_parentheses = refl
+
+arguments_have_no_parentheses : canonical_term (two Mul (two Min (word (codes "len")) (two Add (word (codes "prio")) (number 1))) (number 2)) ≡ codes "min(len, prio + 1) * 2"
+unfolding digits
+arguments_have_no_parentheses = refl
+
+equal_ends_are_one_number : statement_text (class (codes "web") (record { prio = Some 1; weight = None; slack = Some 0 }) (condition.Field field.Proto 6 6 ∷ condition.Field field.Dport 80 81 ∷ [])) ≡ codes "class web prio 1 slack 0 when proto 6 and dport 80..81"
+unfolding digits
+equal_ends_are_one_number = refl
+
+addresses_have_a_length : statement_text (class (codes "backup") (record { prio = None; weight = None; slack = None }) (condition.Dest 168361984 16 ∷ [])) ≡ codes "class backup when dst 10.9.0.0/16"
+unfolding digits
+addresses_have_a_length = refl
+
+lines_have_ends : canonical_text (version 1 ∷ keep (codes "vt") (record { low = 0; high = 7; first = 0 }) ∷ leaf (codes "root") (codes "fifo") (record { prio = None; weight = Some 4; slack = None }) (codes "a" ∷ codes "b" ∷ []) ∷ []) ≡ codes "policy 1\nkeep vt 0..7 = 0\nleaf root using fifo weight 4 classes a b\n"
+unfolding digits
+lines_have_ends = refl

@@ -2,6 +2,7 @@
 #![tactic(auto)]
 
 mod attribute;
+mod canonical;
 mod condition;
 mod function;
 mod keyword;
@@ -10,6 +11,7 @@ mod term;
 mod word;
 
 pub use attribute::{Attribute, Attrs};
+pub use canonical::canonical_text_reads_back;
 pub use condition::{Condition, FieldName};
 pub use function::Function;
 pub use keyword::Keyword;
