@@ -2,6 +2,8 @@
 #![tactic(auto)]
 
 mod lines;
+mod printing;
 
 pub use lines::Lines;
+pub use printing::print;
 pub use policy_text_defs::{Attrs, Condition, FieldName, Statement, Term};

@@ -20,7 +20,7 @@ use Rattle.policy_text_defs.specs.Ranges.{attribute_most, field_most}
 use Rattle.policy_text_defs.specs.Phrase.{Phrase}
 use Rattle.policy_text_defs.specs.Sense.{Sense, version, transaction, keep, each, push, pop, class, leaf, node}
 use Rattle.policy_text_defs.specs.Statements.{Octets, span_tokens, AreOctets}
-use Rattle.policy_text_defs.specs.Canonical.{canonical_term, between_text, span_text, range_text, octets_of, address_text, condition_text, more_conditions_text, guard_text, attribute_text, attributes_text, names_text, statement_text}
+use Rattle.policy_text_defs.specs.Canonical.{term_text, between_text, span_text, range_text, octets_of, address_text, condition_text, more_conditions_text, guard_text, attribute_text, attributes_text, names_text, statement_text}
 use Rattle.policy_text_defs.proofs.TermTokens.{IsWord, tokens_of}
 use Rattle.policy_text_defs.proofs.Pieces.{Anything, IsPiece, boundary-append, join, after, before, text_blank, text_slash, text_dots, text_dot, text_is, text_word, text_number}
 use Rattle.policy_text_defs.proofs.TermPieces.{text_term}

@@ -9,7 +9,7 @@ use Rattle.text_core.specs.declared.mark.Mark.TheVariants as m
 use Rattle.text_core.specs.Says.{Says, IsBoundary}
 use Rattle.text_core.proofs.TextLaws.{says_mark}
 use Rattle.policy_text_defs.specs.Phrase.{Phrase, number, word, two, negation, choice}
-use Rattle.policy_text_defs.specs.Canonical.{wrapped, infix_text, call_text, op_text, canonical_term, is_infix, is_infix_op}
+use Rattle.policy_text_defs.specs.Canonical.{wrapped, infix_text, call_text, op_text, term_text, is_infix, is_infix_op}
 use Rattle.policy_text_defs.proofs.TermTokens.{op_mark, wrapped_tokens, infix_tokens, call_tokens, tokens_of, HasNames}
 use Rattle.policy_text_defs.proofs.Pieces.{is_plain, IsSpaced, IsPiece, join, after, before, ends_early, text_blank, text_open, text_close, text_comma, text_word, text_number}
 
@@ -81,12 +81,12 @@ text_function Or is = text_word (op_text Or) (record { begins = refl; all = refl
 text_call : (op : Op) {bs cs : List ℕ} {ts us : List Glyph} → is_infix_op op ≡ false → IsPiece IsBoundary bs ts → IsPiece IsBoundary cs us → IsPiece IsBoundary (call_text op bs cs) (call_tokens op ts us)
 text_call op is t u = before (text_function op is) refl (after text_open (before t refl (after text_comma (before u refl (ends_early text_close)))))
 
-text_two : (op : Op) (v : Bool) → is_infix_op op ≡ v → (a b : Phrase) → IsPiece IsBoundary (canonical_term a) (tokens_of a) → IsPiece IsBoundary (canonical_term b) (tokens_of b) → IsPiece IsBoundary (cond v (infix_text op (wrapped (is_infix a) (canonical_term a)) (wrapped (is_infix b) (canonical_term b))) (call_text op (canonical_term a) (canonical_term b))) (cond v (infix_tokens op (wrapped_tokens (is_infix a) (tokens_of a)) (wrapped_tokens (is_infix b) (tokens_of b))) (call_tokens op (tokens_of a) (tokens_of b)))
+text_two : (op : Op) (v : Bool) → is_infix_op op ≡ v → (a b : Phrase) → IsPiece IsBoundary (term_text a) (tokens_of a) → IsPiece IsBoundary (term_text b) (tokens_of b) → IsPiece IsBoundary (cond v (infix_text op (wrapped (is_infix a) (term_text a)) (wrapped (is_infix b) (term_text b))) (call_text op (term_text a) (term_text b))) (cond v (infix_tokens op (wrapped_tokens (is_infix a) (tokens_of a)) (wrapped_tokens (is_infix b) (tokens_of b))) (call_tokens op (tokens_of a) (tokens_of b)))
 text_two op true is a b t u = text_infix op is (text_wrapped (is_infix a) t) (text_wrapped (is_infix b) u)
 text_two op false is a b t u = text_call op is t u
 
 -- the canonical text of a term says the term's tokens
-pub text_term : (a : Phrase) → HasNames a → IsPiece IsBoundary (canonical_term a) (tokens_of a)
+pub text_term : (a : Phrase) → HasNames a → IsPiece IsBoundary (term_text a) (tokens_of a)
 text_term (number n) low = text_number n low
 text_term (word w) name = text_word w name.0
 text_term (negation a) names = before (text_word (codes "not") (record { begins = refl; all = refl })) refl (after text_open (before (text_term a names) refl (ends_early text_close)))

@@ -63,14 +63,14 @@ abbrev pub call_text : Op → List ℕ → List ℕ → List ℕ
 call_text op left right = op_text op ++ (codes "(" ++ (left ++ (codes ", " ++ (right ++ codes ")"))))
 
 -- an operand of `+ - * /` or of a comparison is in parentheses exactly where it is itself such an expression
-abbrev pub canonical_term : Phrase → List ℕ
-canonical_term (number n) = decimal n
-canonical_term (word w) = w
-canonical_term (negation a) = codes "not(" ++ (canonical_term a ++ codes ")")
-canonical_term (choice a b c) = codes "if(" ++ (canonical_term a ++ (codes ", " ++ (canonical_term b ++ (codes ", " ++ (canonical_term c ++ codes ")")))))
-canonical_term (two op a b) =
-    if is_infix_op op then infix_text op (wrapped (is_infix a) (canonical_term a)) (wrapped (is_infix b) (canonical_term b))
-    else call_text op (canonical_term a) (canonical_term b)
+abbrev pub term_text : Phrase → List ℕ
+term_text (number n) = decimal n
+term_text (word w) = w
+term_text (negation a) = codes "not(" ++ (term_text a ++ codes ")")
+term_text (choice a b c) = codes "if(" ++ (term_text a ++ (codes ", " ++ (term_text b ++ (codes ", " ++ (term_text c ++ codes ")")))))
+term_text (two op a b) =
+    if is_infix_op op then infix_text op (wrapped (is_infix a) (term_text a)) (wrapped (is_infix b) (term_text b))
+    else call_text op (term_text a) (term_text b)
 
 -- `LOW..HIGH`
 abbrev pub between_text : ℕ → ℕ → List ℕ
@@ -131,8 +131,8 @@ statement_text (version v) = codes "policy " ++ decimal v
 statement_text (transaction n) = codes "transaction " ++ n
 statement_text (keep n s) = codes "keep " ++ (n ++ (codes " " ++ span_text s))
 statement_text (each n s) = codes "each " ++ (n ++ (codes " " ++ span_text s))
-statement_text (push n a) = codes "push " ++ (n ++ (codes " = " ++ canonical_term a))
-statement_text (pop n a) = codes "pop " ++ (n ++ (codes " = " ++ canonical_term a))
+statement_text (push n a) = codes "push " ++ (n ++ (codes " = " ++ term_text a))
+statement_text (pop n a) = codes "pop " ++ (n ++ (codes " = " ++ term_text a))
 statement_text (class n a cs) = codes "class " ++ (n ++ (attributes_text a ++ guard_text cs))
 statement_text (leaf n u a ns) = codes "leaf " ++ (n ++ (codes " using " ++ (u ++ (attributes_text a ++ (codes " classes" ++ names_text ns)))))
 statement_text (node n u a ns) = codes "node " ++ (n ++ (codes " using " ++ (u ++ (attributes_text a ++ (codes " children" ++ names_text ns)))))
@@ -146,7 +146,7 @@ nested_operands_have_parentheses : statement_text (push (codes "last") (two Add 
 unfolding digits
 nested_operands_have_parentheses = refl
 
-arguments_have_no_parentheses : canonical_term (two Mul (two Min (word (codes "len")) (two Add (word (codes "prio")) (number 1))) (number 2)) ≡ codes "min(len, prio + 1) * 2"
+arguments_have_no_parentheses : term_text (two Mul (two Min (word (codes "len")) (two Add (word (codes "prio")) (number 1))) (number 2)) ≡ codes "min(len, prio + 1) * 2"
 unfolding digits
 arguments_have_no_parentheses = refl
 
