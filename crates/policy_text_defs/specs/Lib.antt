@@ -1,7 +1,9 @@
 pub mod Grammar
 pub mod Phrase
 pub mod Ranges
+pub mod Reading
 pub mod Sense
+pub mod StatementReading
 pub mod Statements
 pub mod Text
 pub mod Words

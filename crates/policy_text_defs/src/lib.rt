@@ -10,7 +10,7 @@ mod term;
 mod word;
 
 pub use attribute::{Attribute, Attrs};
-pub use condition::{Condition, FieldName};
+pub use condition::{Condition, FieldName, Subject, protocol_of};
 pub use function::Function;
 pub use keyword::Keyword;
 pub use statement::Statement;
