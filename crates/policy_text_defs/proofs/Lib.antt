@@ -1,0 +1,4 @@
+pub mod AtomLaws
+pub mod ChainLemmas
+pub mod GrammarLaws
+pub mod StepLaws
