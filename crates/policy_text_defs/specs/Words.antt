@@ -11,6 +11,8 @@ use Rattle.policy_text_defs.specs.declared.attribute.Attribute.{Attribute}
 use Rattle.policy_text_defs.specs.declared.attribute.Attribute.TheVariants as attribute
 use Rattle.policy_text_defs.specs.declared.condition.FieldName.{FieldName}
 use Rattle.policy_text_defs.specs.declared.condition.FieldName.TheVariants as field
+use Rattle.policy_text_defs.specs.declared.condition.Subject.{Subject}
+use Rattle.policy_text_defs.specs.declared.condition.Subject.TheVariants as subject
 
 -- the most bytes of a name
 abbrev pub most_name : ℕ
@@ -86,15 +88,20 @@ field_word field.Sport = codes "sport"
 field_word field.Dport = codes "dport"
 field_word field.Len = codes "len"
 
-abbrev pub field_of : List ℕ → Option FieldName
-field_of w =
-    if bytes_eq w (codes "vlan") then Some field.Vlan
-    else (if bytes_eq w (codes "dscp") then Some field.Dscp
-    else (if bytes_eq w (codes "proto") then Some field.Proto
-    else (if bytes_eq w (codes "sport") then Some field.Sport
-    else (if bytes_eq w (codes "dport") then Some field.Dport
-    else (if bytes_eq w (codes "len") then Some field.Len
-    else None)))))
+-- what the word that begins a condition names
+abbrev pub subject_of : List ℕ → Option Subject
+subject_of w =
+    if bytes_eq w (codes "vlan") then Some (subject.Field field.Vlan)
+    else (if bytes_eq w (codes "dscp") then Some (subject.Field field.Dscp)
+    else (if bytes_eq w (codes "proto") then Some (subject.Field field.Proto)
+    else (if bytes_eq w (codes "sport") then Some (subject.Field field.Sport)
+    else (if bytes_eq w (codes "dport") then Some (subject.Field field.Dport)
+    else (if bytes_eq w (codes "len") then Some (subject.Field field.Len)
+    else (if bytes_eq w (codes "src") then Some subject.Source
+    else (if bytes_eq w (codes "dst") then Some subject.Dest
+    else (if bytes_eq w (codes "ipv4") then Some subject.Ipv4
+    else (if bytes_eq w (codes "ipv6") then Some subject.Ipv6
+    else None)))))))))
 
 -- the protocol that a word names (IANA protocol numbers)
 abbrev pub protocol_of : List ℕ → Option ℕ

@@ -1,5 +1,5 @@
 ghost use Rattle.std.specs.Prelude.{◌≡◌};
-ghost use Rattle.policy_text_defs.specs.Words.{field_of};
+ghost use Rattle.policy_text_defs.specs.Words.{subject_of, protocol_of};
 ghost use Rattle.policy_text_defs.specs.Ranges.{field_most};
 
 /// A header field that a condition bounds.
@@ -15,21 +15,6 @@ pub enum FieldName {
 }
 
 impl FieldName {
-    /// The field that a word names.
-    pub fn of(word: &[u8]) -> Option<FieldName>
-        ensures { result ≡ field_of word.now }
-    {
-        Some(match word {
-            b"vlan" => FieldName::Vlan,
-            b"dscp" => FieldName::Dscp,
-            b"proto" => FieldName::Proto,
-            b"sport" => FieldName::Sport,
-            b"dport" => FieldName::Dport,
-            b"len" => FieldName::Len,
-            _ => return None,
-        })
-    }
-
     /// The greatest number that the field can hold.
     pub fn most(self) -> u32
         ensures { result ≡ field_most self }
@@ -55,4 +40,47 @@ pub enum Condition {
     Dest(u32, u32),
     Ipv4,
     Ipv6,
+}
+
+/// What a condition is about.
+#[derive(Clone, Copy, PartialEq, Eq, Debug)]
+pub enum Subject {
+    Field(FieldName),
+    Source,
+    Dest,
+    Ipv4,
+    Ipv6,
+}
+
+impl Subject {
+    /// What the word that begins a condition names.
+    pub fn of(word: &[u8]) -> Option<Subject>
+        ensures { result ≡ subject_of word.now }
+    {
+        Some(match word {
+            b"vlan" => Subject::Field(FieldName::Vlan),
+            b"dscp" => Subject::Field(FieldName::Dscp),
+            b"proto" => Subject::Field(FieldName::Proto),
+            b"sport" => Subject::Field(FieldName::Sport),
+            b"dport" => Subject::Field(FieldName::Dport),
+            b"len" => Subject::Field(FieldName::Len),
+            b"src" => Subject::Source,
+            b"dst" => Subject::Dest,
+            b"ipv4" => Subject::Ipv4,
+            b"ipv6" => Subject::Ipv6,
+            _ => return None,
+        })
+    }
+}
+
+/// The number of the protocol that a word names (IANA protocol numbers).
+pub fn protocol_of(word: &[u8]) -> Option<u32>
+    ensures { result ≡ protocol_of word.now }
+{
+    Some(match word {
+        b"tcp" => 6,
+        b"udp" => 17,
+        b"icmp" => 1,
+        _ => return None,
+    })
 }

@@ -12,7 +12,7 @@ mod word;
 
 pub use attribute::{Attribute, Attrs};
 pub use canonical::canonical_text_reads_back;
-pub use condition::{Condition, FieldName};
+pub use condition::{Condition, FieldName, Subject, protocol_of};
 pub use function::Function;
 pub use keyword::Keyword;
 pub use statement::Statement;
