@@ -29,7 +29,7 @@ SaysFrom-one bytes (g ∷ gs) (h ∷ hs) a b =
 pub Says-one : (bytes : List ℕ) (gs hs : List Glyph) → Says bytes gs → Says bytes hs → gs ≡ hs
 Says-one bytes gs hs a b = SaysFrom-one (skipped bytes) gs hs a b
 
-skipped-at : (line : List ℕ) (from : ℕ) → skipped (drop from line) ≡ drop (after_blanks line from) line
+pub skipped-at : (line : List ℕ) (from : ℕ) → skipped (drop from line) ≡ drop (after_blanks line from) line
 skipped-at line from = drop-drop from (prefix_len is_blank (drop from line)) line
 
 -- the tokens that stand in a line, with their spans, say what its bytes say

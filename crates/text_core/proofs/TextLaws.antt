@@ -18,11 +18,11 @@ use Rattle.text_core.specs.Glyphs.{Glyph, text, figure, sign}
 use Rattle.text_core.specs.Says.{skipped, said, Says, SaysFrom, IsBoundary, ends_mark}
 use Rattle.text_core.proofs.DecimalLemmas.{digit_range, decimal-numeral, number_of-decimal}
 
-both_left : (u v : Bool) → u && v ≡ true → u ≡ true
+pub both_left : (u v : Bool) → u && v ≡ true → u ≡ true
 both_left true v e = refl
 both_left false v e = absurd cc
 
-both_right : (u v : Bool) → u && v ≡ true → v ≡ true
+pub both_right : (u v : Bool) → u && v ≡ true → v ≡ true
 both_right true v e = e
 both_right false v e = absurd cc
 
@@ -102,7 +102,7 @@ says_word w rest gs begins all end later = says_token k.Word w (text w) rest gs 
 
 -- ---- numbers
 
-digit_apart : (b : ℕ) → is_digit b ≡ true → (is_word_start b ≡ false) × (is_blank b ≡ false)
+pub digit_apart : (b : ℕ) → is_digit b ≡ true → (is_word_start b ≡ false) × (is_blank b ≡ false)
 digit_apart b digit =
     let range = digit_range b digit in
     let v : is_word_start b ≡ false = grind (arith, nat_tests) in

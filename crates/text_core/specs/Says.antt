@@ -29,10 +29,14 @@ SaysFrom bytes (g ∷ gs) = (kind : TokenKind) × (n : ℕ) × (token_at bytes �
 abbrev pub Says : List ℕ → List Glyph → Type 0
 Says bytes gs = SaysFrom (skipped bytes) gs
 
+-- the bytes of a token's span
+abbrev pub token_text : List ℕ → Token → List ℕ
+token_text line t = take (t.end - t.start) (drop t.start line)
+
 -- each token of the line says its glyph
 abbrev pub AreSaid : List ℕ → List Token → List Glyph → Type 0
 AreSaid line [] [] = Unit {0}
-AreSaid line (t ∷ ts) (g ∷ gs) = (said t.kind (take (t.end - t.start) (drop t.start line)) ≡ Some g) × AreSaid line ts gs
+AreSaid line (t ∷ ts) (g ∷ gs) = (said t.kind (token_text line t) ≡ Some g) × AreSaid line ts gs
 AreSaid line _ _ = ⊥
 
 -- no byte of a word stands first: a word or a number may end before these bytes
