@@ -5,5 +5,5 @@ mod lines;
 mod printing;
 
 pub use lines::Lines;
-pub use printing::print;
 pub use policy_text_defs::{Attrs, Condition, FieldName, Statement, Term};
+pub use printing::print;

@@ -3,6 +3,8 @@
 mod condition;
 mod expression;
 mod statement;
+#[cfg(test)]
+mod tests;
 
 ghost use Rattle.std.specs.Prelude.{◌≡◌, ◌≤◌, ◌++◌, map, length, IfOk, OnOk, codes};
 ghost use Rattle.policy_text_defs.specs.Ranges.{most_text};

@@ -79,7 +79,12 @@ fn put_names(into: &mut Vec<u8>, names: &[Name]) -> Result<(), AllocError>
 }
 
 /// Appends the declaration of a variable.
-fn put_declaration(into: &mut Vec<u8>, keyword: &[u8], name: &Name, span: &Span) -> Result<(), AllocError>
+fn put_declaration(
+    into: &mut Vec<u8>,
+    keyword: &[u8],
+    name: &Name,
+    span: &Span,
+) -> Result<(), AllocError>
     ensures { OnOk result (into.new.items ≡ into.old.items ++ (keyword.now ++ (name.now ++ (codes " " ++ span_text span.now)))) }
 {
     into.extend_from_slice(keyword)?;
@@ -88,7 +93,12 @@ fn put_declaration(into: &mut Vec<u8>, keyword: &[u8], name: &Name, span: &Span)
     put_span(into, span)
 }
 
-fn put_assignment(into: &mut Vec<u8>, keyword: &[u8], name: &Name, value: &Term) -> Result<(), AllocError>
+fn put_assignment(
+    into: &mut Vec<u8>,
+    keyword: &[u8],
+    name: &Name,
+    value: &Term,
+) -> Result<(), AllocError>
     ensures { OnOk result (into.new.items ≡ into.old.items ++ (keyword.now ++ (name.now ++ (codes " = " ++ term_text (phrase_of value.now))))) }
 {
     into.extend_from_slice(keyword)?;
@@ -98,7 +108,13 @@ fn put_assignment(into: &mut Vec<u8>, keyword: &[u8], name: &Name, value: &Term)
 }
 
 /// Appends the front of a leaf or node: its name, its transaction and its attributes.
-fn put_vertex(into: &mut Vec<u8>, keyword: &[u8], name: &Name, used: &Name, attrs: &Attrs) -> Result<(), AllocError>
+fn put_vertex(
+    into: &mut Vec<u8>,
+    keyword: &[u8],
+    name: &Name,
+    used: &Name,
+    attrs: &Attrs,
+) -> Result<(), AllocError>
     ensures { OnOk result (into.new.items ≡ into.old.items ++ (keyword.now ++ (name.now ++ (codes " using " ++ (used.now ++ attributes_text attrs.now))))) }
 {
     into.extend_from_slice(keyword)?;
