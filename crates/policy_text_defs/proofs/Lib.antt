@@ -1,6 +1,7 @@
 pub mod AtomLaws
 pub mod AttributeLaws
 pub mod ChainLemmas
+pub mod ConditionLaws
 pub mod ExpressionLaws
 pub mod GrammarLaws
 pub mod RepeatLaws
