@@ -4,6 +4,8 @@ pub mod ChainLemmas
 pub mod ConditionLaws
 pub mod ExpressionLaws
 pub mod GrammarLaws
+pub mod GuardLaws
 pub mod RepeatLaws
+pub mod StatementLaws
 pub mod StepLaws
 pub mod TokenLaws
