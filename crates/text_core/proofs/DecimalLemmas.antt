@@ -1,15 +1,18 @@
 -- The number that digits write when they follow those of another.
-use Rattle.std.proofs.Common.{◌≡◌, ℕ, ◌+◌, ◌-◌, ◌*◌, ◌/◌, ◌<◌, ◌≤◌, ◌&&◌, true, List, [], ◌∷◌, Option, Some, None, refl, arith}
+use Rattle.std.proofs.Common.{length, ◌≡◌, ℕ, ◌+◌, ◌-◌, ◌*◌, ◌/◌, ◌<◌, ◌≤◌, ◌&&◌, true, List, [], ◌∷◌, Option, Some, None, refl, arith}
 use Rattle.std.specs.Prelude.{nat_le, if◌then◌else◌}
 use Rattle.std.specs.Char.{digit_value, is_ascii_digit}
 use Rattle.std.specs.Str.{all_ascii_digits}
-use Rattle.std.specs.Str.Parse.{digits_value_after}
+use Rattle.std.specs.Str.Parse.{AllDigits, digits_value, digits_value_after}
 use Rattle.std.specs.Int.{IsInRange}
-use Rattle.std.proofs.lemmas.Bool.{lt-leb}
+use Rattle.std.specs.Fmt.{decimal}
+use Rattle.std.proofs.lemmas.Fmt.{decimal_is_IsNumeral}
+use Rattle.std.proofs.lemmas.Str.Parse.{digit_from_value}
+use Rattle.std.proofs.lemmas.Bool.{le-leb, lt-leb}
 use Rattle.std.proofs.lemmas.Bool.Decides.{nat_tests}
 use Rattle.std.proofs.lemmas.Str.{digit_value_digit}
 use Rattle.std.proofs.Math.Bool.{and-false}
-use Rattle.text_core.specs.Decimals.{max}
+use Rattle.text_core.specs.Decimals.{max, is_numeral, number_of}
 
 -- the number that the bytes write behind the digits of n
 abbrev pub number_after : ℕ → List ℕ → Option ℕ
@@ -37,3 +40,29 @@ pub number_after-stop : (n b : ℕ) (bs : List ℕ) → is_ascii_digit b ≡ tru
 number_after-stop n b bs digit large =
     let value = digit_value_digit b (digit_range b digit) in
     rw digit (number_after-large (n * 10 + digit_value b) bs (omega arith))
+
+digit_test : (b : ℕ) → IsInRange 48 57 b → is_ascii_digit b ≡ true
+digit_test b range = rw (le-leb 48 b range.0, le-leb b 57 range.1) refl
+
+digits_test : (ds : List ℕ) → AllDigits 10 ds → all_ascii_digits ds ≡ true
+digits_test [] all = refl
+digits_test (d ∷ ds) all = rw (digit_test d (digit_from_value d all.0), digits_test ds all.1) refl
+
+numeral_test : (ds : List ℕ) → 0 < length ds → all_ascii_digits ds ≡ true → is_numeral ds ≡ true
+numeral_test [] some all = absurd (omega arith)
+numeral_test (d ∷ ds) some all = all
+
+-- what is written of a number is digits
+pub decimal-digits : (n : ℕ) → n ≤ max → all_ascii_digits (decimal n) ≡ true
+decimal-digits n low = digits_test (decimal n) (decimal_is_IsNumeral n (omega arith)).0.1
+
+pub decimal-numeral : (n : ℕ) → n ≤ max → is_numeral (decimal n) ≡ true
+decimal-numeral n low = numeral_test (decimal n) (decimal_is_IsNumeral n (omega arith)).0.0 (decimal-digits n low)
+
+-- and reads back as that number
+pub number_of-decimal : (n : ℕ) → n ≤ max → number_of (decimal n) ≡ Some n
+number_of-decimal n low =
+    let written = decimal_is_IsNumeral n (omega arith) in
+    let numeral = decimal-numeral n low in
+    let value : digits_value 10 (decimal n) ≡ n = written.1 in
+    rw (numeral, value, le-leb n max low) refl

@@ -1,9 +1,9 @@
 -- The spans of the lines hold the statements of the text.
-use Rattle.std.proofs.Common.{◌≡◌, ℕ, zero, suc, ◌+◌, ◌-◌, ◌<◌, ◌≤◌, Bool, true, false, cond, ◌&&◌, List, [], ◌∷◌, length, take, drop, map, sym, refl, ap, ◌∙◌, subst, arith, length-drop}
-use Rattle.std.specs.List.{prefix_len, list_all, All, AllByRecursion}
+use Rattle.std.proofs.Common.{◌≡◌, ℕ, zero, suc, ◌+◌, ◌-◌, ◌<◌, ◌≤◌, Bool, true, false, cond, List, [], ◌∷◌, length, take, drop, map, sym, refl, ap, ◌∙◌, arith, length-drop}
+use Rattle.std.specs.List.{prefix_len, All, AllByRecursion}
 use Rattle.std.proofs.lemmas.List.Sums.{prefix_len-le-length}
 use Rattle.text_core.specs.declared.line.Line.{Line}
-use Rattle.text_core.specs.Lines.{is_text, is_clean, is_clean_text, no_comment, ends_with_return, statement_length, statement_of, onto_first, lines_of, statements_of, line_text, clean_of, LiesIn, line_at, Follow, AreLines}
+use Rattle.text_core.specs.Lines.{is_text, is_clean_text, no_comment, statement_length, statement_of, onto_first, lines_of, line_text, clean_of, LiesIn, line_at, Follow}
 
 abbrev nothing : List ℕ
 nothing = []

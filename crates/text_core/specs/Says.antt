@@ -1,12 +1,13 @@
 -- What the bytes of a line say as tokens.
-use Rattle.std.specs.Prelude.{◌≡◌, ℕ, ◌-◌, List, [], ◌∷◌, take, drop, Option, Some, option_map}
+use Rattle.std.specs.Prelude.{◌≡◌, refl, ℕ, ◌-◌, ◌==◌, Bool, true, false, not, ◌||◌, List, [], ◌∷◌, ◌++◌, take, drop, Option, Some, option_map, codes}
 use Rattle.std.specs.List.{prefix_len}
 use Rattle.text_core.specs.declared.token.TokenKind.{TokenKind}
 use Rattle.text_core.specs.declared.token.TokenKind.TheVariants as k
 use Rattle.text_core.specs.declared.token.Token.{Token}
+use Rattle.text_core.specs.declared.mark.Mark.TheVariants as m
 use Rattle.text_core.specs.Decimals.{number_of}
 use Rattle.text_core.specs.Marks.{mark_of}
-use Rattle.text_core.specs.Tokens.{is_blank, token_at, begun}
+use Rattle.text_core.specs.Tokens.{is_blank, is_word_byte, token_at, begun}
 use Rattle.text_core.specs.Glyphs.{Glyph, text, figure, sign}
 
 -- what a token says, if anything: a number above `max` says nothing
@@ -28,8 +29,29 @@ SaysFrom bytes (g ∷ gs) = (kind : TokenKind) × (n : ℕ) × (token_at bytes �
 abbrev pub Says : List ℕ → List Glyph → Type 0
 Says bytes gs = SaysFrom (skipped bytes) gs
 
+-- the bytes of a token's span
+abbrev pub token_text : List ℕ → Token → List ℕ
+token_text line t = take (t.end - t.start) (drop t.start line)
+
 -- each token of the line says its glyph
 abbrev pub AreSaid : List ℕ → List Token → List Glyph → Type 0
 AreSaid line [] [] = Unit {0}
-AreSaid line (t ∷ ts) (g ∷ gs) = (said t.kind (take (t.end - t.start) (drop t.start line)) ≡ Some g) × AreSaid line ts gs
+AreSaid line (t ∷ ts) (g ∷ gs) = (said t.kind (token_text line t) ≡ Some g) × AreSaid line ts gs
 AreSaid line _ _ = ⊥
+
+-- no byte of a word stands first: a word or a number may end before these bytes
+abbrev pub IsBoundary : List ℕ → Type 0
+IsBoundary [] = Unit {0}
+IsBoundary (b ∷ bs) = is_word_byte b ≡ false
+
+-- no byte stands first that makes a mark longer
+abbrev pub ends_mark : List ℕ → Bool
+ends_mark [] = true
+ends_mark (b ∷ bs) = not (b == 46 || b == 61)
+
+-- the bytes say the glyphs, whatever follows that doesn't go on with a word
+pub record IsTextOf (bytes : List ℕ) (glyphs : List Glyph) : Type 0 where
+  pub says : (rest : List ℕ) (gs : List Glyph) → IsBoundary rest → Says rest gs → Says (bytes ++ rest) (glyphs ++ gs)
+
+a_range : Says (codes "keep w 0..7") (text (codes "keep") ∷ text (codes "w") ∷ figure 0 ∷ sign m.DotDot ∷ figure 7 ∷ [])
+a_range = (k.Word, 4, refl, refl, (k.Word, 1, refl, refl, (k.Number, 1, refl, refl, (k.Mark, 2, refl, refl, (k.Number, 1, refl, refl, refl)))))

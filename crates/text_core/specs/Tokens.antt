@@ -1,5 +1,5 @@
 -- What the tokens of a line are.
-use Rattle.std.specs.Prelude.{◌≡◌, ℕ, ◌+◌, ◌-◌, ◌<◌, ◌≤◌, ◌==◌, Bool, false, ◌&&◌, ◌||◌, if◌then◌else◌, List, [], ◌∷◌, length, drop, Option, Some, None, option_map}
+use Rattle.std.specs.Prelude.{◌≡◌, ℕ, ◌+◌, ◌-◌, ◌<◌, ◌≤◌, ◌==◌, Bool, false, ◌&&◌, ◌||◌, if◌then◌else◌, List, [], ◌∷◌, length, drop, Option, Some, None, option_map, codes, refl}
 use Rattle.std.specs.List.{prefix_len}
 use Rattle.std.specs.Char.{is_ascii_digit, is_ascii_alphabetic}
 use Rattle.text_core.specs.declared.token.TokenKind.{TokenKind}
@@ -24,10 +24,6 @@ abbrev pub begins_word : List ℕ → Bool
 begins_word [] = false
 begins_word (b ∷ bs) = is_word_start b
 
-abbrev pub begins_with : ℕ → List ℕ → Bool
-begins_with c [] = false
-begins_with c (b ∷ bs) = b == c
-
 -- `. / + - * ( ) , = < >`
 abbrev pub is_mark : ℕ → Bool
 is_mark b = b == 46 || b == 47 || b == 43 || b == 45 || b == 42 || b == 40 || b == 41 || b == 44 || b == 61 || b == 60 || b == 62
@@ -51,9 +47,6 @@ Begun = TokenKind × ℕ
 abbrev pub begun : TokenKind → ℕ → Begun
 begun kind n = (kind, n)
 
-abbrev pub kind_and_length : Begun → Begun
-kind_and_length p = p
-
 -- a number ends before whatever isn't a digit, but no letter may stand there
 abbrev pub number_at : List ℕ → ℕ → Option Begun
 number_at bs n = if begins_word (drop n bs) then None else Some (begun Number n)
@@ -75,6 +68,10 @@ abbrev pub Stand : List ℕ → ℕ → List Token → ℕ → Type 0
 Stand line from [] to = to ≡ after_blanks line from
 Stand line from (t ∷ ts) to = (t.start ≡ after_blanks line from) × (t.start < t.end) × (t.end ≤ length line) × (token_at (drop t.start line) ≡ Some (begun t.kind (t.end - t.start))) × Stand line t.end ts to
 
+-- the token's span has a byte or more, and lies in the line
+abbrev pub StandsIn : List ℕ → Token → Type 0
+StandsIn line t = (t.start < t.end) × (t.end ≤ length line)
+
 -- no token begins at this place, where the line isn't over
 pub record IsBadAt (line : List ℕ) (place : ℕ) : Type 0 where
   pub inside : place < length line
@@ -85,3 +82,18 @@ pub record IsFaultOf (line : List ℕ) (place : ℕ) : Type 0 where
   pub before : List Token
   pub stand : Stand line 0 before place
   pub bad : IsBadAt line place
+
+a_word_takes_digits : token_at (codes "w1_ b") ≡ Some (begun Word 3)
+a_word_takes_digits = refl
+
+two_dots_are_one_mark : token_at (codes "..7") ≡ Some (begun Mark 2)
+two_dots_are_one_mark = refl
+
+at_most_is_one_mark : token_at (codes "<=3") ≡ Some (begun Mark 2)
+at_most_is_one_mark = refl
+
+no_letter_follows_a_number : token_at (codes "1a") ≡ None
+no_letter_follows_a_number = refl
+
+an_exclamation_alone_is_none : token_at (codes "!") ≡ None
+an_exclamation_alone_is_none = refl

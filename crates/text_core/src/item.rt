@@ -1,6 +1,13 @@
+ghost use Rattle.std.specs.Prelude.{◌≡◌, List, IfOk};
+ghost use Rattle.text_core.specs.Glyphs.{Glyph, glyphs_of};
+ghost use Rattle.text_core.specs.Says.{Says};
+
 use crate::mark::Mark;
 use crate::number::decimal;
-use crate::token::TokenKind;
+use crate::refusal::Refusal;
+use crate::token::{TokenKind, tokens};
+use list_core::List;
+use std::alloc::Global;
 
 /// What a token says.
 #[derive(Clone, Copy, Debug)]
@@ -25,4 +32,20 @@ impl<'a> Item<'a> {
             TokenKind::Mark => Item::Mark(Mark::of(bytes)?),
         })
     }
+}
+
+/// What the tokens of a line say. A line with a bad token, or with a number above `MAX`, is in no form.
+pub fn items<'a>(alloc: Global, line: &'a [u8]) -> Result<List<Item<'a>>, Refusal>
+    ensures said { IfOk result (λ is. Says line.now (glyphs_of is)) }
+    ensures silent { result ≡ Err Refusal.NoForm → (gs : List Glyph) → Says line.now gs → ⊥ }
+{
+    let tokens = tokens(alloc, line)?;
+    let mut found = List::from_vec(Vec::new(alloc));
+    for token in tokens.as_slice() {
+        let Some(item) = Item::of(token.kind, &line[token.start..token.end]) else {
+            return Err(Refusal::NoForm);
+        };
+        found.push(item)?;
+    }
+    Ok(found)
 }

@@ -2,13 +2,21 @@
 #![tactic(auto)]
 
 mod item;
+mod law;
 mod line;
 mod mark;
 mod number;
+mod refusal;
+#[cfg(test)]
+mod tests;
 mod token;
 
-pub use item::Item;
+pub use item::{Item, items};
+pub use law::{
+    bytes_say_one_list, longest_token_is_taken, printed_number_reads_back, tokens_say_the_line,
+};
 pub use line::{Line, lines};
 pub use mark::Mark;
 pub use number::{MAX, decimal, put_decimal};
+pub use refusal::Refusal;
 pub use token::{Token, TokenFault, TokenKind, tokens};

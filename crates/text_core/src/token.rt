@@ -1,6 +1,6 @@
-ghost use Rattle.std.specs.Prelude.{◌≡◌, ◌+◌, ◌<◌, ◌≤◌, ℕ, length, List, [], take_while, drop, IfOk, IfSome, OnSome, option_map};
-ghost use Rattle.std.specs.List.{prefix_len};
-ghost use Rattle.text_core.specs.Tokens.{is_blank, is_digit, is_word_byte, is_word_start, token_at, mark_length, Stand, IsBadAt, IsFaultOf, kind_and_length};
+ghost use Rattle.std.specs.Prelude.{◌≡◌, ◌⊎◌, ◌+◌, ◌<◌, ◌≤◌, ℕ, length, List, [], take_while, drop, IfOk, IfSome, OnSome, option_map};
+ghost use Rattle.std.specs.List.{prefix_len, All};
+ghost use Rattle.text_core.specs.Tokens.{is_blank, is_digit, is_word_byte, is_word_start, token_at, mark_length, Stand, IsBadAt, IsFaultOf, StandsIn};
 
 use list_core::List;
 use std::alloc::{AllocError, AllocFailed, Global};
@@ -113,7 +113,7 @@ fn mark_length(bytes: &[u8]) -> Option<usize>
 
 /// The longest token with which the bytes begin.
 fn token_at(bytes: &[u8]) -> Option<(TokenKind, usize)>
-    ensures token { option_map kind_and_length result ≡ token_at bytes.now }
+    ensures token { result ≡ token_at bytes.now }
     ensures fits { IfSome result (λ r. (0 < r.1) × (r.1 ≤ length bytes.now)) }
 {
     let first = *bytes.first()?;
@@ -133,7 +133,9 @@ fn token_at(bytes: &[u8]) -> Option<(TokenKind, usize)>
 /// The tokens of a line.
 pub fn tokens(alloc: Global, line: &[u8]) -> Result<List<Token>, TokenFault>
     ensures ok { IfOk result (λ ts. Stand line.now 0 ts (length line.now)) }
+    ensures within { IfOk result (λ ts. All (StandsIn line.now) ts) }
     ensures bad { (p : ℕ) → result ≡ Err (TokenFault.Bad p) → IsFaultOf line.now p }
+    ensures fault { (p : ℕ) → IsFaultOf line.now p → (result ≡ Err (TokenFault.Bad p)) ⊎ (result ≡ Err TokenFault.NoMemory) }
 {
     let mut found = List::from_vec(Vec::new(alloc));
     let mut at = blanks(line);

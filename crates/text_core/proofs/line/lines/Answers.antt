@@ -1,5 +1,5 @@
 use Rattle.std.proofs.Common.{◌≡◌, ◌+◌, ◌-◌, List, take, drop, sym, ◌∙◌, refl, ap, arith, subst}
-use Rattle.text_core.proofs.LineLaws.{Hold, Follow-Hold, Hold-All}
+use Rattle.text_core.proofs.LineLaws.{Follow-Hold, Hold-All}
 use Rattle.std.specs.List.{prefix_len, list_all}
 use Rattle.text_core.specs.Lines.{is_text, is_clean, statement_length, line_at, Follow}
 use Rattle.text_core.proofs.LineLemmas.{Follow-push}

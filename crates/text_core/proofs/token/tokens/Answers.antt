@@ -1,6 +1,8 @@
-use Rattle.std.proofs.Common.{◌≡◌, ◌+◌, ◌≤◌, List, length, drop, Some, sym, ◌∙◌, ap, arith, subst, length-drop}
+use Rattle.std.proofs.Common.{◌≡◌, ◌+◌, ◌≤◌, List, length, drop, Some, None, Err, inl, sym, ◌∙◌, ap, arith, subst, length-drop}
 use Rattle.std.specs.List.{prefix_len}
-use Rattle.text_core.specs.Tokens.{is_blank, Stand, token_at, begun, after_blanks}
+use Rattle.text_core.specs.Tokens.{is_blank, Stand, token_at, begun, after_blanks, IsFaultOf}
+use Rattle.text_core.specs.declared.token.TokenFault.TheVariants.{Bad}
+use Rattle.text_core.proofs.TokenLaws.{Stand-All, Fault-one, Fault-whole}
 use Rattle.text_core.proofs.TokenLemmas.{Stand-push, rest-from}
 use Rattle.text_core.proofs.token.tokens.Goals as goal
 
@@ -22,3 +24,20 @@ loop-at-preserved c =
     let within = c.blanks.ensures.within in
     let rest_is = ap length (rest-from (at + n) line) ∙ length-drop (at + n) line in
     record { stand = let P : List _ → Type 0 = λ ts. Stand line 0 ts (at + n + c.blanks.result) in subst P (sym c.in_ok-push.ensures.ok) (subst (Stand line 0 _) (sym count) (Stand-push line 0 _ _ at n c.loop-at.invariant.stand token (fits.0) inside)); inside = omega arith }
+
+pub returns-clause-within : goal.returns-clause-within
+returns-clause-within c = Stand-All _ 0 c.loop-at.found _ c.loop-at.invariant.stand
+
+pub returns-clause-fault : goal.returns-clause-fault
+returns-clause-fault c p fault =
+    let inside = c.loop-at.invariant.inside in
+    let whole : c.loop-at.at ≡ length c.args.line.now = omega arith in
+    absurd (Fault-whole c.args.line.now p c.loop-at.found fault (subst (Stand c.args.line.now 0 c.loop-at.found) whole c.loop-at.invariant.stand))
+
+pub returns-in_default-clause-fault : goal.returns-in_default-clause-fault
+returns-in_default-clause-fault c p fault =
+    let line = c.args.line.now in
+    let at = c.loop-at.at in
+    let none : token_at (drop at line) ≡ None = sym (c.in_default.ensures.token ∙ ap token_at (rest-from at line)) in
+    let here : IsFaultOf line at = record { before = c.loop-at.found; stand = c.loop-at.invariant.stand; bad = record { inside = c.loop-at-test.true; none = none } } in
+    inl (ap (λ n. Err (Bad n)) (Fault-one line at p here fault))

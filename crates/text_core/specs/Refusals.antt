@@ -1,0 +1,10 @@
+-- Why a line isn't read.
+use Rattle.text_core.specs.declared.token.TokenFault.{TokenFault}
+use Rattle.text_core.specs.declared.token.TokenFault.TheVariants as fault
+use Rattle.text_core.specs.declared.refusal.Refusal.{Refusal}
+use Rattle.text_core.specs.declared.refusal.Refusal.TheVariants as refusal
+
+-- a bad token leaves a line in no form
+abbrev pub refusal_of : TokenFault → Refusal
+refusal_of (fault.Bad place) = refusal.NoForm
+refusal_of fault.NoMemory = refusal.NoMemory
