@@ -15,7 +15,7 @@ use Rattle.policy_text_defs.specs.Reading.{Outcome, Reader, ◌>>=◌, pick, pur
 use Rattle.policy_text_defs.specs.StatementReading.{repeated, many, attribute_at, is_unset, set_to, set_next, attributes, name_ahead, name_last, name, names}
 use Rattle.policy_text_defs.proofs.StepLaws.{steps, same_value, same_rest, stands, ahead_at, in_table}
 use Rattle.policy_text_defs.proofs.TokenLaws.{numbered, kept, Kept, both_true, named_reads, name_was}
-use Rattle.policy_text_defs.proofs.RepeatLaws.{Leads, Goes, over, onward, repeated_ends, repeated_more, many_was}
+use Rattle.policy_text_defs.proofs.RepeatLaws.{Leads, Goes, no_step, onward, repeated_ends, repeated_more, many_was}
 
 -- ---- attributes
 
@@ -75,7 +75,7 @@ attribute_was k a b gs hs is found e =
     record { front = text (attribute_word k) ∷ figure first.value ∷ []; split = stand.split ∙ ap (λ g. g ∷ hs) (attribute_at-is stand.glyph k stand.is) ∙ ap (λ l. text (attribute_word k) ∷ l) number; is = record { key = k; value = first.value; tokens = refl; may = may; same = w.same } }
 
 sets : (a b : Attrs) (ts : List Glyph) → Goes IsSet a ts b → AttributesFrom a ts b
-sets a b ts (over _) = no_more a
+sets a b ts (no_step _) = no_more a
 sets a b ts (onward us vs _ c _ is on) =
     let later : AttributesFrom (with_attribute is.key is.value a) vs b = subst (λ d. AttributesFrom d vs b) (sym is.same) (sets c b vs on) in
     let P : List Glyph → Type 0 = λ l. AttributesFrom a (l ++ vs) b in
@@ -106,3 +106,71 @@ names_read acc (n ∷ ns) (suc k) all enough =
     repeated_more _ _ k n acc (acc ++ n ∷ []) (text n ∷ map text ns) (map text ns) (map text ns) (ahead_at name_ahead (text n) (map text ns) n here) refl
     ∙ names_read (acc ++ n ∷ []) ns k all.1 (omega arith)
     ∙ ap (λ l. Some (l, [])) (append_assoc acc (n ∷ []) ns)
+
+mapped : (ns : List (List ℕ)) → length ns ≤ length (map text ns)
+mapped [] = omega arith
+mapped (n ∷ ns) = let later = mapped ns in omega arith
+
+-- one name follows
+record IsNamed (acc : List (List ℕ)) (ts : List Glyph) (b : List (List ℕ)) : Type 0 where
+  name : List ℕ
+  tokens : ts ≡ text name ∷ []
+  is : IsName name
+  same : acc ++ name ∷ [] ≡ b
+
+-- the first token is a name
+record IsNameToken (g : Glyph) (w : List ℕ) : Type 0 where
+  token : g ≡ text w
+  is : IsName w
+
+name_ahead-case : (v : Bool) (w u : List ℕ) → is_name w ≡ v → cond v (Some w) None ≡ Some u → IsNameToken (text w) u
+name_ahead-case true w u is e = let same : w ≡ u = ap (λ o. pick o w (λ x. x)) e in record { token = ap text same; is = subst IsName same is }
+name_ahead-case false w u is e = absurd cc
+
+name_ahead-is : (g : Glyph) (w : List ℕ) → name_ahead g ≡ Some w → IsNameToken g w
+name_ahead-is (text v) w e = name_ahead-case (is_name v) v w refl e
+name_ahead-is _ w e = absurd cc
+
+name_last_was : (w : List ℕ) (a b : List (List ℕ)) (gs hs is : List Glyph) → ahead name_ahead gs ≡ Some (w, hs) → name_last w a hs ≡ Some (b, is) → Leads IsNamed a gs b is
+name_last_was w a b gs hs is found e =
+    let stand = stands name_ahead gs hs w found in
+    let token = name_ahead-is stand.glyph w stand.is in
+    record { front = text w ∷ []; split = stand.split ∙ ap (λ g. g ∷ hs) token.token ∙ ap (λ l. text w ∷ l) (same_rest (a ++ w ∷ []) b hs is e); is = record { name = w; tokens = refl; is = token.is; same = same_value (a ++ w ∷ []) b hs is e } }
+
+-- names follow
+record MoreNames (acc : List (List ℕ)) (ts : List Glyph) (b : List (List ℕ)) : Type 0 where
+  names : List (List ℕ)
+  tokens : ts ≡ map text names
+  each : AllByRecursion IsName names
+  same : acc ++ names ≡ b
+
+follow : (a b : List (List ℕ)) (ts : List Glyph) → Goes IsNamed a ts b → MoreNames a ts b
+follow a b ts (no_step _) = record { names = []; tokens = refl; each = tt; same = append-nil a }
+follow a b ts (onward us vs _ c _ is on) =
+    let later = follow c b vs on in
+    record { names = is.name ∷ later.names; tokens = ap (λ l. l ++ vs) is.tokens ∙ ap (λ l. text is.name ∷ l) later.tokens; each = (is.is, later.each); same = sym (append_assoc a (is.name ∷ []) later.names) ∙ ap (λ l. l ++ later.names) is.same ∙ later.same }
+
+-- names were read
+pub record WithNames (gs : List Glyph) (ns : List (List ℕ)) (left : List Glyph) : Type 0 where
+  pub split : gs ≡ map text ns ++ left
+  pub are : AreNames ns
+
+names_from : (w : List ℕ) (ns : List (List ℕ)) (gs hs left : List Glyph) → gs ≡ text w ∷ hs → IsName w → Leads (Goes IsNamed) (w ∷ []) hs ns left → WithNames gs ns left
+names_from w ns gs hs left first is leads =
+    let more = follow (w ∷ []) ns leads.front leads.is in
+    let behind : hs ≡ map text more.names ++ left = leads.split ∙ ap (λ l. l ++ left) more.tokens in
+    let made : AreNames (w ∷ more.names) = record { some = omega arith; each = (is, more.each) } in
+    record { split = first ∙ ap (λ l. text w ∷ l) behind ∙ ap (λ l. map text l ++ left) more.same; are = subst AreNames more.same made }
+
+pub names_were : (ns : List (List ℕ)) (gs left : List Glyph) → names gs ≡ Some (ns, left) → WithNames gs ns left
+unfolding names
+names_were ns gs left e =
+    let first = steps _ _ _ _ e in
+    let named = name_was first.value gs first.left first.read in
+    names_from first.value ns gs first.left left named.split named.is (many_was _ _ name_last_was (first.value ∷ []) ns first.left left first.next)
+
+pub read_names : (ns : List (List ℕ)) → AreNames ns → names (map text ns) ≡ Some (ns, [])
+unfolding names many
+read_names [] are = absurd (omega (arith, are.some))
+read_names (n ∷ ns) are =
+    rw (named_reads n (map text ns) are.each.0) (names_read (n ∷ []) ns (length (map text ns)) are.each.1 (mapped ns))

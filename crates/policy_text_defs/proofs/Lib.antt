@@ -2,14 +2,17 @@ pub mod AtomLaws
 pub mod AttributeLaws
 pub mod CanonicalLaws
 pub mod ChainLemmas
+pub mod ConditionLaws
 pub mod ExpressionLaws
 pub mod GrammarLaws
+pub mod GuardLaws
 pub mod Lexed
 pub mod Pieces
 pub mod Printable
 pub mod PrintableProps
 pub mod RepeatLaws
 pub mod StatementForms
+pub mod StatementLaws
 pub mod StatementPieces
 pub mod StatementTokens
 pub mod StepLaws

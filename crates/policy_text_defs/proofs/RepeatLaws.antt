@@ -13,7 +13,7 @@ pub record Leads {A : Type 0} (Step : A → List Glyph → A → Type 0) (a : A)
 
 -- steps one after another
 pub data Goes {A : Type 0} (Step : A → List Glyph → A → Type 0) : A → List Glyph → A → Type 0 where
-  over : (a : A) → Goes Step a [] a
+  no_step : (a : A) → Goes Step a [] a
   onward : (ts us : List Glyph) (a b c : A) → Step a ts b → Goes Step b us c → Goes Step a (ts ++ us) c
 
 module _ {K A : Type 0} (take : List Glyph → Outcome K) (step : K → A → Reader A) where
@@ -28,7 +28,7 @@ module _ {K A : Type 0} (take : List Glyph → Outcome K) (step : K → A → Re
 
   module _ {Step : A → List Glyph → A → Type 0} (sound : (t : K) (a b : A) (gs hs is : List Glyph) → take gs ≡ Some (t, hs) → step t a hs ≡ Some (b, is) → Leads Step a gs b is) where
     goes_end : (a c : A) (gs left : List Glyph) → pure a gs ≡ Some (c, left) → Leads (Goes Step) a gs c left
-    goes_end a c gs left e = record { front = []; split = same_rest a c gs left e; is = subst (Goes Step a []) (same_value a c gs left e) (over a) }
+    goes_end a c gs left e = record { front = []; split = same_rest a c gs left e; is = subst (Goes Step a []) (same_value a c gs left e) (no_step a) }
 
     goes_last : (a c : A) (gs left : List Glyph) (found : Outcome K) → pick found (pure a gs) (λ _. refuse gs) ≡ Some (c, left) → Leads (Goes Step) a gs c left
     goes_last a c gs left None e = goes_end a c gs left e
