@@ -9,14 +9,16 @@ use Rattle.text_core.specs.Glyphs.{Glyph}
 use Rattle.text_core.specs.Says.{Says}
 use Rattle.text_core.specs.Lines.{is_text, is_clean, is_clean_text, no_comment, ends_with_return, statement_length, statement_of, onto_first, lines_of, statements_of}
 use Rattle.policy_text_defs.specs.Ranges.{most_text}
-use Rattle.policy_text_defs.specs.Sense.{Sense, version, transaction, keep, each, push, pop, class, leaf, node, numbered}
+use Rattle.policy_text_defs.specs.Sense.{Sense, version, transaction, keep, each, push, pop, class, leaf, node, Entry, numbered}
 use Rattle.policy_text_defs.specs.Text.{is_shaping, Carries, IsWritten, Entries, over, carried, HasEntries}
 use Rattle.policy_text_defs.specs.Canonical.{statement_text, canonical_text}
+use Rattle.policy_text_defs.specs.Valid.{IsValid}
 use Rattle.policy_text_defs.proofs.Pieces.{is_plain}
-use Rattle.policy_text_defs.proofs.StatementTokens.{statement_tokens, IsPrintable}
+use Rattle.policy_text_defs.proofs.StatementTokens.{statement_tokens}
 use Rattle.policy_text_defs.proofs.StatementForms.{statement_form}
 use Rattle.policy_text_defs.proofs.StatementPieces.{text_statement}
-use Rattle.policy_text_defs.proofs.Printable.{IsWritten-printable}
+use Rattle.policy_text_defs.proofs.EntriesLaws.{HasEntries_one}
+use Rattle.policy_text_defs.proofs.ValidLaws.{IsWritten_IsValid}
 
 -- ---- plain bytes
 
@@ -83,10 +85,10 @@ line_first (b ∷ bs) rest plain = rw (plain_text b (first_plain b bs plain)) (a
 
 -- ---- statements
 
-statement_plain : (s : Sense) → IsPrintable s → ArePlain (statement_text s)
+statement_plain : (s : Sense) → IsValid s → ArePlain (statement_text s)
 statement_plain s is = (text_statement s is).plain
 
-statement_says : (s : Sense) → IsPrintable s → Says (statement_text s) (statement_tokens s)
+statement_says : (s : Sense) → IsValid s → Says (statement_text s) (statement_tokens s)
 statement_says s is =
     let all = (text_statement s is).says [] [] tt refl in
     let P : List ℕ → Type 0 = λ l. Says l (statement_tokens s ++ []) in
@@ -103,7 +105,7 @@ unshaped (class n a cs) = refl
 unshaped (leaf n u a ns) = refl
 unshaped (node n u a ns) = refl
 
-statement_carried : (s : Sense) → IsPrintable s → Carries (statement_text s) s
+statement_carried : (s : Sense) → IsValid s → Carries (statement_text s) s
 statement_carried s is = record {
   clean = all_clean (statement_text s) (statement_plain s is);
   unshaped = unshaped s;
@@ -114,11 +116,15 @@ statement_carried s is = record {
 
 -- the canonical line of a statement that some line has carries it
 pub statement_text_carries : (s : Sense) → IsWritten s → Carries (statement_text s) s
-statement_text_carries s written = statement_carried s (IsWritten-printable s written)
+statement_text_carries s written = statement_carried s (IsWritten_IsValid s written)
+
+-- what is valid is written
+pub IsValid_IsWritten : (s : Sense) → IsValid s → IsWritten s
+IsValid_IsWritten s is = ∣ record { line = statement_text s; carries = statement_carried s is } ∣₁
 
 -- ---- texts
 
-canonical_lines : (ss : List Sense) → AllByRecursion IsPrintable ss → statements_of (canonical_text ss) ≡ map statement_text ss
+canonical_lines : (ss : List Sense) → AllByRecursion IsValid ss → statements_of (canonical_text ss) ≡ map statement_text ss
 canonical_lines [] all = refl
 canonical_lines (s ∷ ss) all =
     let plain = statement_plain s all.0 in
@@ -126,17 +132,21 @@ canonical_lines (s ∷ ss) all =
     ∙ ap (λ l. l ∷ statements_of (canonical_text ss)) (plain_statement (statement_text s) plain)
     ∙ ap (λ ls. statement_text s ∷ ls) (canonical_lines ss all.1)
 
-canonical_entries : (n : ℕ) (ss : List Sense) → AllByRecursion IsPrintable ss → Entries n (map statement_text ss) (numbered n ss)
+canonical_entries : (n : ℕ) (ss : List Sense) → AllByRecursion IsValid ss → Entries n (map statement_text ss) (numbered n ss)
 canonical_entries n [] all = over n
 canonical_entries n (s ∷ ss) all = carried n (statement_text s) (map statement_text ss) s (numbered (suc n) ss) (statement_carried s all.0) (canonical_entries (suc n) ss all.1)
 
-all_printable : (ss : List Sense) → All IsWritten ss → AllByRecursion IsPrintable ss
-all_printable [] all = tt
-all_printable (s ∷ ss) all = (IsWritten-printable s (all 0 s (omega arith)), all_printable ss (All-tail IsWritten s ss all))
+all_valid : (ss : List Sense) → All IsWritten ss → AllByRecursion IsValid ss
+all_valid [] all = tt
+all_valid (s ∷ ss) all = (IsWritten_IsValid s (all 0 s (omega arith)), all_valid ss (All-tail IsWritten s ss all))
 
 -- the canonical text of statements that lines have is in form and has them, numbered from 1
 pub canonical_text_HasEntries : (ss : List Sense) → All IsWritten ss → length (canonical_text ss) ≤ most_text → HasEntries (canonical_text ss) (numbered 1 ss)
 canonical_text_HasEntries ss all short =
-    let printable = all_printable ss all in
+    let valid = all_valid ss all in
     let P : List (List ℕ) → Type 0 = λ ls. Entries 1 ls (numbered 1 ss) in
-    record { short = short; entries = subst P (sym (canonical_lines ss printable)) (canonical_entries 1 ss printable) }
+    record { short = short; entries = subst P (sym (canonical_lines ss valid)) (canonical_entries 1 ss valid) }
+
+-- and has no others
+pub canonical_text_has_only : (ss : List Sense) (es : List Entry) → All IsWritten ss → HasEntries (canonical_text ss) es → es ≡ numbered 1 ss
+canonical_text_has_only ss es all has = HasEntries_one (canonical_text ss) es (numbered 1 ss) has (canonical_text_HasEntries ss all has.short)

@@ -12,7 +12,7 @@ use Rattle.text_core.specs.Decimals.{max, is_numeral, number_of}
 use Rattle.text_core.specs.Marks.{mark_of}
 use Rattle.text_core.specs.Glyphs.{Glyph, text, figure, sign}
 use Rattle.text_core.specs.Says.{said, skipped, SaysFrom, Says}
-use Rattle.policy_text_defs.proofs.TermTokens.{IsWord}
+use Rattle.policy_text_defs.specs.Valid.{IsWord}
 
 abbrev pub IsLexed : Glyph → Type 0
 IsLexed (text w) = IsWord w

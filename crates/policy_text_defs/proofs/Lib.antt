@@ -3,13 +3,12 @@ pub mod AttributeLaws
 pub mod CanonicalLaws
 pub mod ChainLemmas
 pub mod ConditionLaws
+pub mod EntriesLaws
 pub mod ExpressionLaws
 pub mod GrammarLaws
 pub mod GuardLaws
 pub mod Lexed
 pub mod Pieces
-pub mod Printable
-pub mod PrintableProps
 pub mod RepeatLaws
 pub mod StatementForms
 pub mod StatementLaws
@@ -20,3 +19,5 @@ pub mod TermForms
 pub mod TermPieces
 pub mod TermTokens
 pub mod TokenLaws
+pub mod ValidLaws
+pub mod ValidProps

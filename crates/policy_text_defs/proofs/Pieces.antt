@@ -15,7 +15,7 @@ use Rattle.text_core.specs.Glyphs.{Glyph, text, figure, sign}
 use Rattle.text_core.specs.Says.{Says, IsBoundary, ends_mark}
 use Rattle.text_core.proofs.DecimalLemmas.{decimal-digits, decimal-numeral}
 use Rattle.text_core.proofs.TextLaws.{says_token, says_blank, says_word, says_number, says_mark}
-use Rattle.policy_text_defs.proofs.TermTokens.{IsWord}
+use Rattle.policy_text_defs.specs.Valid.{IsWord}
 
 -- what may follow
 abbrev pub Ending : Type 1

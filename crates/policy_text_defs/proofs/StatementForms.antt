@@ -17,8 +17,9 @@ use Rattle.policy_text_defs.specs.declared.condition.Condition.TheVariants as co
 use Rattle.policy_text_defs.specs.Sense.{Sense, version, transaction, keep, each, push, pop, class, leaf, node}
 use Rattle.policy_text_defs.specs.Statements.{IsName, IsTarget, variable_target, rank_target, unset, attribute_value, with_attribute, MaySet, AttributesFrom, no_more, set, Attributes, Range, single, between, AreOctets, address_of, Address, prefix, IsCondition, field, source, dest, ipv4, ipv6, Conditions, last, also, Guard, unguarded, guarded, AreNames, IsForm, version_form, transaction_form, keep_form, each_form, push_form, pop_form, class_form, leaf_form, node_form}
 use Rattle.policy_text_defs.specs.Canonical.{octets_of}
+use Rattle.policy_text_defs.specs.Valid.{IsNamed, is_target, IsAttributeNumber, IsValidAttribute, AreValidAttributes, IsValidAddress, IsValidRange, IsValidCondition, IsValid}
 use Rattle.policy_text_defs.proofs.TermForms.{tokens_of-Spells}
-use Rattle.policy_text_defs.proofs.StatementTokens.{attribute_tokens, attributes_tokens, range_tokens, address_tokens, condition_tokens, more_conditions_tokens, guard_tokens, statement_tokens, IsNamed, is_target, IsInRange, IsAttribute, AreAttributes, IsPrintableAddress, IsPrintableRange, IsPrintableCondition, IsPrintable}
+use Rattle.policy_text_defs.proofs.StatementTokens.{attribute_tokens, attributes_tokens, range_tokens, address_tokens, condition_tokens, more_conditions_tokens, guard_tokens, statement_tokens}
 
 -- ---- attributes
 
@@ -26,7 +27,7 @@ abbrev set_option : Attribute → Option ℕ → Attrs → Attrs
 set_option k None a = a
 set_option k (Some n) a = with_attribute k n a
 
-attribute_form : (k : Attribute) (v : Option ℕ) (ts : List Glyph) (a b : Attrs) → attribute_value k a ≡ None → IsAttribute k v → AttributesFrom (set_option k v a) ts b → AttributesFrom a (attribute_tokens k v ++ ts) b
+attribute_form : (k : Attribute) (v : Option ℕ) (ts : List Glyph) (a b : Attrs) → attribute_value k a ≡ None → IsValidAttribute k v → AttributesFrom (set_option k v a) ts b → AttributesFrom a (attribute_tokens k v ++ ts) b
 attribute_form k None ts a b free is later = later
 attribute_form k (Some n) ts a b free is later = set k n ts a b (record { unset = free; above = is.above; below = is.below }) later
 
@@ -42,7 +43,7 @@ slack_set : (v w x : Option ℕ) → set_option attribute.Slack x (record { prio
 slack_set v w None = refl
 slack_set v w (Some n) = refl
 
-pub attributes_form : (a : Attrs) → AreAttributes a → Attributes (attributes_tokens a) a
+pub attributes_form : (a : Attrs) → AreValidAttributes a → Attributes (attributes_tokens a) a
 attributes_form a are =
     let P : Attrs → Type 0 = λ b. AttributesFrom b (attribute_tokens attribute.Weight a.weight ++ attribute_tokens attribute.Slack a.slack) a in
     let Q : Attrs → Type 0 = λ b. AttributesFrom b (attribute_tokens attribute.Slack a.slack) a in
@@ -68,23 +69,23 @@ octets_are a small = record { first = omega arith; second = omega arith; third =
 pub address_same : (a : ℕ) → address_of (octets_of a) ≡ a
 address_same a = omega arith
 
-address_form : (a l : ℕ) → IsPrintableAddress a l → Address (address_tokens a l) a l
+address_form : (a l : ℕ) → IsValidAddress a l → Address (address_tokens a l) a l
 address_form a l is =
     let P : ℕ → Type 0 = λ b. Address (address_tokens a l) b l in
     subst P (address_same a) (prefix (octets_of a) l (octets_are a is.address) is.prefix)
 
-condition_form : (c : Condition) → IsPrintableCondition c → IsCondition (condition_tokens c) c
+condition_form : (c : Condition) → IsValidCondition c → IsCondition (condition_tokens c) c
 condition_form (condition.Field f low high) is = field f (range_tokens low high) low high (range_form low high is.ordered) is.below
 condition_form (condition.Source a l) is = source (address_tokens a l) a l (address_form a l is)
 condition_form (condition.Dest a l) is = dest (address_tokens a l) a l (address_form a l is)
 condition_form condition.Ipv4 is = ipv4
 condition_form condition.Ipv6 is = ipv6
 
-conditions_form : (c : Condition) (cs : List Condition) → IsPrintableCondition c → AllByRecursion IsPrintableCondition cs → Conditions (condition_tokens c ++ more_conditions_tokens cs) (c ∷ cs)
+conditions_form : (c : Condition) (cs : List Condition) → IsValidCondition c → AllByRecursion IsValidCondition cs → Conditions (condition_tokens c ++ more_conditions_tokens cs) (c ∷ cs)
 conditions_form c [] is all = subst (λ l. Conditions l (c ∷ [])) (sym (append-nil (condition_tokens c))) (last (condition_tokens c) c (condition_form c is))
 conditions_form c (d ∷ ds) is all = also (condition_tokens c) (condition_tokens d ++ more_conditions_tokens ds) c (d ∷ ds) (condition_form c is) (conditions_form d ds all.0 all.1)
 
-guard_form : (cs : List Condition) → AllByRecursion IsPrintableCondition cs → Guard (guard_tokens cs) cs
+guard_form : (cs : List Condition) → AllByRecursion IsValidCondition cs → Guard (guard_tokens cs) cs
 guard_form [] all = unguarded
 guard_form (c ∷ cs) all = guarded (condition_tokens c ++ more_conditions_tokens cs) (c ∷ cs) (conditions_form c cs all.0 all.1)
 
@@ -103,7 +104,7 @@ IsTarget-from : (w : List ℕ) → is_target w ≡ true → IsTarget w
 IsTarget-from w is = target_case w (is_name w) (bytes_eq w (codes "rank")) refl refl is
 
 -- the tokens of a statement's canonical line are a form of it
-pub statement_form : (s : Sense) → IsPrintable s → IsForm (statement_tokens s) s
+pub statement_form : (s : Sense) → IsValid s → IsForm (statement_tokens s) s
 statement_form (version v) is =
     let P : ℕ → Type 0 = λ n. IsForm (statement_tokens (version n)) (version n) in
     subst P (sym is) version_form

@@ -21,10 +21,11 @@ use Rattle.policy_text_defs.specs.Phrase.{Phrase}
 use Rattle.policy_text_defs.specs.Sense.{Sense, version, transaction, keep, each, push, pop, class, leaf, node}
 use Rattle.policy_text_defs.specs.Statements.{Octets, span_tokens, AreOctets}
 use Rattle.policy_text_defs.specs.Canonical.{term_text, between_text, span_text, range_text, octets_of, address_text, condition_text, more_conditions_text, guard_text, attribute_text, attributes_text, names_text, statement_text}
-use Rattle.policy_text_defs.proofs.TermTokens.{IsWord, tokens_of}
+use Rattle.policy_text_defs.specs.Valid.{IsWord, IsNamed, IsValidAttribute, AreValidAttributes, IsValidSpan, IsValidAddress, IsValidRange, IsValidCondition, IsValid}
+use Rattle.policy_text_defs.proofs.TermTokens.{tokens_of}
 use Rattle.policy_text_defs.proofs.Pieces.{Anything, IsPiece, boundary-append, join, after, before, text_blank, text_slash, text_dots, text_dot, text_is, text_word, text_number}
 use Rattle.policy_text_defs.proofs.TermPieces.{text_term}
-use Rattle.policy_text_defs.proofs.StatementTokens.{attribute_tokens, attributes_tokens, range_tokens, address_tokens, condition_tokens, more_conditions_tokens, guard_tokens, statement_tokens, IsNamed, IsAttribute, AreAttributes, IsPrintableSpan, IsPrintableAddress, IsPrintableRange, IsPrintableCondition, IsPrintable}
+use Rattle.policy_text_defs.proofs.StatementTokens.{attribute_tokens, attributes_tokens, range_tokens, address_tokens, condition_tokens, more_conditions_tokens, guard_tokens, statement_tokens}
 use Rattle.policy_text_defs.proofs.StatementForms.{octets_are}
 
 text_nothing : IsPiece IsBoundary [] []
@@ -46,7 +47,7 @@ attribute_small attribute.Prio n low = omega arith
 attribute_small attribute.Weight n low = omega arith
 attribute_small attribute.Slack n low = omega arith
 
-text_attribute : (k : Attribute) (v : Option ℕ) → IsAttribute k v → IsPiece IsBoundary (attribute_text k v) (attribute_tokens k v)
+text_attribute : (k : Attribute) (v : Option ℕ) → IsValidAttribute k v → IsPiece IsBoundary (attribute_text k v) (attribute_tokens k v)
 text_attribute k None is = text_nothing
 text_attribute k (Some n) is = after text_blank (before (text_word (attribute_word k) (attribute_is_word k)) refl (after text_blank (text_number n (attribute_small k n is.below))))
 
@@ -57,7 +58,7 @@ attribute_boundary k (Some n) = refl
 attributes_boundary : (a : Attrs) → IsBoundary (attributes_text a)
 attributes_boundary a = boundary-append (attribute_text attribute.Prio a.prio) _ (attribute_boundary attribute.Prio a.prio) (boundary-append (attribute_text attribute.Weight a.weight) _ (attribute_boundary attribute.Weight a.weight) (attribute_boundary attribute.Slack a.slack))
 
-text_attributes : (a : Attrs) → AreAttributes a → IsPiece IsBoundary (attributes_text a) (attributes_tokens a)
+text_attributes : (a : Attrs) → AreValidAttributes a → IsPiece IsBoundary (attributes_text a) (attributes_tokens a)
 text_attributes a are =
     before (text_attribute attribute.Prio a.prio are.prio) (boundary-append (attribute_text attribute.Weight a.weight) _ (attribute_boundary attribute.Weight a.weight) (attribute_boundary attribute.Slack a.slack))
         (before (text_attribute attribute.Weight a.weight are.weight) (attribute_boundary attribute.Slack a.slack) (text_attribute attribute.Slack a.slack are.slack))
@@ -74,7 +75,7 @@ text_range_case low high false small great = text_between low high small great
 text_range : (low high : ℕ) → low ≤ max → high ≤ max → IsPiece IsBoundary (range_text low high) (range_tokens low high)
 text_range low high small great = text_range_case low high (eqb low high) small great
 
-text_address : (a l : ℕ) → IsPrintableAddress a l → IsPiece IsBoundary (address_text a l) (address_tokens a l)
+text_address : (a l : ℕ) → IsValidAddress a l → IsPiece IsBoundary (address_text a l) (address_tokens a l)
 text_address a l is =
     let o = octets_of a in
     let are = octets_are a is.address in
@@ -101,7 +102,7 @@ field_small field.Sport n low = omega arith
 field_small field.Dport n low = omega arith
 field_small field.Len n low = omega arith
 
-text_condition : (c : Condition) → IsPrintableCondition c → IsPiece IsBoundary (condition_text c) (condition_tokens c)
+text_condition : (c : Condition) → IsValidCondition c → IsPiece IsBoundary (condition_text c) (condition_tokens c)
 text_condition (condition.Field f low high) is =
     let great = field_small f high is.below in
     let ordered = is.ordered in
@@ -115,7 +116,7 @@ more_boundary : (cs : List Condition) → IsBoundary (more_conditions_text cs)
 more_boundary [] = tt
 more_boundary (c ∷ cs) = refl
 
-text_more : (cs : List Condition) → AllByRecursion IsPrintableCondition cs → IsPiece IsBoundary (more_conditions_text cs) (more_conditions_tokens cs)
+text_more : (cs : List Condition) → AllByRecursion IsValidCondition cs → IsPiece IsBoundary (more_conditions_text cs) (more_conditions_tokens cs)
 text_more [] all = text_nothing
 text_more (c ∷ cs) all = after text_blank (after (text_key {w = codes "and"} (record { begins = refl; all = refl })) (before (text_condition c all.0) (more_boundary cs) (text_more cs all.1)))
 
@@ -123,7 +124,7 @@ guard_boundary : (cs : List Condition) → IsBoundary (guard_text cs)
 guard_boundary [] = tt
 guard_boundary (c ∷ cs) = refl
 
-text_guard : (cs : List Condition) → AllByRecursion IsPrintableCondition cs → IsPiece IsBoundary (guard_text cs) (guard_tokens cs)
+text_guard : (cs : List Condition) → AllByRecursion IsValidCondition cs → IsPiece IsBoundary (guard_text cs) (guard_tokens cs)
 text_guard [] all = text_nothing
 text_guard (c ∷ cs) all = after text_blank (after (text_key {w = codes "when"} (record { begins = refl; all = refl })) (before (text_condition c all.0) (more_boundary cs) (text_more cs all.1)))
 
@@ -137,7 +138,7 @@ text_names : (ns : List (List ℕ)) → AllByRecursion IsNamed ns → IsPiece Is
 text_names [] all = text_nothing
 text_names (n ∷ ns) all = after text_blank (before (text_word n all.0.word) (names_boundary ns) (text_names ns all.1))
 
-text_span : (s : Span) → IsPrintableSpan s → IsPiece IsBoundary (span_text s) (span_tokens s)
+text_span : (s : Span) → IsValidSpan s → IsPiece IsBoundary (span_text s) (span_tokens s)
 text_span s is = before (text_between s.low s.high is.low is.high) refl (after text_is (text_number s.first is.first))
 
 -- a keyword, a name, and what follows that begins with no byte of a word
@@ -145,7 +146,7 @@ text_named : {w n bs : List ℕ} {ts : List Glyph} → IsWord w → IsWord n →
 text_named {n = n} key is end t = after (text_key key) (before (text_word n is) end t)
 
 -- the canonical line of a statement says its tokens
-pub text_statement : (s : Sense) → IsPrintable s → IsPiece IsBoundary (statement_text s) (statement_tokens s)
+pub text_statement : (s : Sense) → IsValid s → IsPiece IsBoundary (statement_text s) (statement_tokens s)
 text_statement (version v) is =
     let small : v ≤ max = omega arith in
     after (text_key {w = codes "policy"} (record { begins = refl; all = refl })) (text_number v small)

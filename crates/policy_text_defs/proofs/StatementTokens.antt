@@ -17,7 +17,8 @@ use Rattle.policy_text_defs.specs.Phrase.{Phrase, depth, most_depth}
 use Rattle.policy_text_defs.specs.Sense.{Sense, version, transaction, keep, each, push, pop, class, leaf, node}
 use Rattle.policy_text_defs.specs.Statements.{IsName, IsSpan, span_tokens, octet_tokens}
 use Rattle.policy_text_defs.specs.Canonical.{octets_of}
-use Rattle.policy_text_defs.proofs.TermTokens.{IsWord, HasNames, tokens_of}
+use Rattle.policy_text_defs.specs.Valid.{IsWord, HasOperands}
+use Rattle.policy_text_defs.proofs.TermTokens.{tokens_of}
 
 abbrev pub attribute_tokens : Attribute → Option ℕ → List Glyph
 attribute_tokens k None = []
@@ -57,62 +58,3 @@ statement_tokens (pop n a) = text (codes "pop") ∷ text n ∷ sign m.Is ∷ tok
 statement_tokens (class n a cs) = text (codes "class") ∷ text n ∷ attributes_tokens a ++ guard_tokens cs
 statement_tokens (leaf n u a ns) = text (codes "leaf") ∷ text n ∷ text (codes "using") ∷ text u ∷ attributes_tokens a ++ text (codes "classes") ∷ map text ns
 statement_tokens (node n u a ns) = text (codes "node") ∷ text n ∷ text (codes "using") ∷ text u ∷ attributes_tokens a ++ text (codes "children") ∷ map text ns
-
--- ---- what is printed is in range
-
-pub record IsNamed (w : List ℕ) : Type 0 where
-  pub word : IsWord w
-  pub name : IsName w
-
--- a name or `rank`
-abbrev pub is_target : List ℕ → Bool
-is_target w = is_name w || bytes_eq w (codes "rank")
-
-pub record IsPrintableSpan (s : Span) : Type 0 where
-  pub ordered : IsSpan s
-  pub low : s.low ≤ max
-  pub high : s.high ≤ max
-  pub first : s.first ≤ max
-
-pub record IsPrintablePhrase (a : Phrase) : Type 0 where
-  pub names : HasNames a
-  pub low : depth a ≤ most_depth
-
-pub record IsInRange (k : Attribute) (n : ℕ) : Type 0 where
-  pub above : attribute_least k ≤ n
-  pub below : n ≤ attribute_most k
-
-abbrev pub IsAttribute : Attribute → Option ℕ → Type 0
-IsAttribute k None = Unit {0}
-IsAttribute k (Some n) = IsInRange k n
-
-pub record AreAttributes (a : Attrs) : Type 0 where
-  pub prio : IsAttribute attribute.Prio a.prio
-  pub weight : IsAttribute attribute.Weight a.weight
-  pub slack : IsAttribute attribute.Slack a.slack
-
-pub record IsPrintableAddress (a l : ℕ) : Type 0 where
-  pub address : a < 4294967296
-  pub prefix : l ≤ most_prefix
-
-pub record IsPrintableRange (low high most : ℕ) : Type 0 where
-  pub ordered : low ≤ high
-  pub below : high ≤ most
-
-abbrev pub IsPrintableCondition : Condition → Type 0
-IsPrintableCondition (condition.Field f low high) = IsPrintableRange low high (field_most f)
-IsPrintableCondition (condition.Source a l) = IsPrintableAddress a l
-IsPrintableCondition (condition.Dest a l) = IsPrintableAddress a l
-IsPrintableCondition condition.Ipv4 = Unit {0}
-IsPrintableCondition condition.Ipv6 = Unit {0}
-
-abbrev pub IsPrintable : Sense → Type 0
-IsPrintable (version v) = v ≡ 1
-IsPrintable (transaction n) = IsNamed n
-IsPrintable (keep n s) = IsNamed n × IsPrintableSpan s
-IsPrintable (each n s) = IsNamed n × IsPrintableSpan s
-IsPrintable (push n a) = IsWord n × (is_target n ≡ true) × IsPrintablePhrase a
-IsPrintable (pop n a) = IsNamed n × IsPrintablePhrase a
-IsPrintable (class n a cs) = IsNamed n × AreAttributes a × AllByRecursion IsPrintableCondition cs
-IsPrintable (leaf n u a ns) = IsNamed n × IsNamed u × AreAttributes a × AllByRecursion IsNamed ns × (0 < length ns)
-IsPrintable (node n u a ns) = IsNamed n × IsNamed u × AreAttributes a × AllByRecursion IsNamed ns × (0 < length ns)

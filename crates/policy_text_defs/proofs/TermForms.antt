@@ -11,7 +11,8 @@ use Rattle.policy_text_defs.specs.Phrase.{Phrase, number, word, two, negation, c
 use Rattle.text_core.specs.Glyphs.{Glyph, text, figure, sign}
 use Rattle.policy_text_defs.specs.Grammar.{product_op, sum_op, relation, Form, GoesOn, ends, more, grouped, alone, compared, Product, Sum, Expression, Call, min_call, max_call, and_call, or_call, IsOperand, named, variable, number_atom, word_atom, parens_atom, call_atom, not_atom, if_atom, Atom, Spells}
 use Rattle.policy_text_defs.specs.Canonical.{is_infix, is_infix_op, op_text}
-use Rattle.policy_text_defs.proofs.TermTokens.{op_mark, wrapped_tokens, infix_tokens, call_tokens, tokens_of, is_operand, HasNames}
+use Rattle.policy_text_defs.specs.Valid.{is_operand, HasOperands}
+use Rattle.policy_text_defs.proofs.TermTokens.{op_mark, wrapped_tokens, infix_tokens, call_tokens, tokens_of}
 
 -- at each number of parentheses that is large enough, as a whole, and as an atom where it isn't infix
 pub record IsSpelled (a : Phrase) : Type 0 where
@@ -125,7 +126,7 @@ two_bare : (op : Op) (a b : Phrase) → IsSpelled a → IsSpelled b → (v : Boo
 two_bare op a b s t true is bare room low = absurd cc
 two_bare op a b s t false is bare room low = call_bare op a b s t is room low
 
-pub is_spelled : (a : Phrase) → HasNames a → IsSpelled a
+pub is_spelled : (a : Phrase) → HasOperands a → IsSpelled a
 is_spelled (number n) names = record { whole = λ room low. whole_alone _ _ (number_bare n room); bare = λ e room low. number_bare n room }
 is_spelled (word w) names = record { whole = λ room low. whole_alone _ _ (name_bare w room (IsOperand-from w names.1)); bare = λ e room low. name_bare w room (IsOperand-from w names.1) }
 is_spelled (negation a) names =
@@ -142,5 +143,5 @@ is_spelled (two op a b) names =
     record { whole = λ room low. two_whole op a b s t (is_infix_op op) refl room low; bare = λ e room low. two_bare op a b s t (is_infix_op op) refl e room low }
 
 -- the tokens of the canonical text of a term spell it
-pub tokens_of-Spells : (a : Phrase) → HasNames a → depth a ≤ most_depth → Spells (tokens_of a) a
+pub tokens_of-Spells : (a : Phrase) → HasOperands a → depth a ≤ most_depth → Spells (tokens_of a) a
 tokens_of-Spells a names low = record { form = (is_spelled a names).whole most_open (omega arith); low = low }

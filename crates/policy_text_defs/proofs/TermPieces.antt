@@ -10,7 +10,8 @@ use Rattle.text_core.specs.Says.{Says, IsBoundary}
 use Rattle.text_core.proofs.TextLaws.{says_mark}
 use Rattle.policy_text_defs.specs.Phrase.{Phrase, number, word, two, negation, choice}
 use Rattle.policy_text_defs.specs.Canonical.{wrapped, infix_text, call_text, op_text, term_text, is_infix, is_infix_op}
-use Rattle.policy_text_defs.proofs.TermTokens.{op_mark, wrapped_tokens, infix_tokens, call_tokens, tokens_of, HasNames}
+use Rattle.policy_text_defs.specs.Valid.{HasOperands}
+use Rattle.policy_text_defs.proofs.TermTokens.{op_mark, wrapped_tokens, infix_tokens, call_tokens, tokens_of}
 use Rattle.policy_text_defs.proofs.Pieces.{is_plain, IsSpaced, IsPiece, join, after, before, ends_early, text_blank, text_open, text_close, text_comma, text_word, text_number}
 
 op_plain : (op : Op) → is_infix_op op ≡ true → list_all is_plain (op_text op) ≡ true
@@ -86,7 +87,7 @@ text_two op true is a b t u = text_infix op is (text_wrapped (is_infix a) t) (te
 text_two op false is a b t u = text_call op is t u
 
 -- the canonical text of a term says the term's tokens
-pub text_term : (a : Phrase) → HasNames a → IsPiece IsBoundary (term_text a) (tokens_of a)
+pub text_term : (a : Phrase) → HasOperands a → IsPiece IsBoundary (term_text a) (tokens_of a)
 text_term (number n) low = text_number n low
 text_term (word w) name = text_word w name.0
 text_term (negation a) names = before (text_word (codes "not") (record { begins = refl; all = refl })) refl (after text_open (before (text_term a names) refl (ends_early text_close)))

@@ -43,20 +43,3 @@ tokens_of (choice a b c) = text (codes "if") ∷ sign m.Open ∷ tokens_of a ++ 
 tokens_of (two op a b) =
     if is_infix_op op then infix_tokens op (wrapped_tokens (is_infix a) (tokens_of a)) (wrapped_tokens (is_infix b) (tokens_of b))
     else call_tokens op (tokens_of a) (tokens_of b)
-
--- a letter or `_`, then letters, digits and `_`
-pub record IsWord (w : List ℕ) : Type 0 where
-  pub begins : begins_word w ≡ true
-  pub all : prefix_len is_word_byte w ≡ length w
-
--- a name, or one of the words `len`, `now`, `prio`, `weight`, `slack` and `rank`
-abbrev pub is_operand : List ℕ → Bool
-is_operand w = is_name w || is_variable w
-
--- operands are words and numbers in range
-abbrev pub HasNames : Phrase → Type 0
-HasNames (number n) = n ≤ max
-HasNames (word w) = IsWord w × (is_operand w ≡ true)
-HasNames (negation a) = HasNames a
-HasNames (choice a b c) = HasNames a × HasNames b × HasNames c
-HasNames (two op a b) = HasNames a × HasNames b

@@ -7,4 +7,5 @@ pub mod Sense
 pub mod StatementReading
 pub mod Statements
 pub mod Text
+pub mod Valid
 pub mod Words

@@ -13,14 +13,13 @@ use Rattle.policy_text_defs.specs.declared.condition.Condition.TheVariants as co
 use Rattle.policy_text_defs.specs.Words.{is_name, protocol_of}
 use Rattle.std.proofs.Math.Bool.{or-true}
 use Rattle.std.proofs.Math.Logic.{∥∥₁_elim}
-use Rattle.policy_text_defs.proofs.PrintableProps.{IsPrintable-prop}
+use Rattle.policy_text_defs.proofs.ValidProps.{IsValid-prop}
 use Rattle.policy_text_defs.specs.Phrase.{Phrase, number, word, two, negation, choice, most_open}
 use Rattle.policy_text_defs.specs.Grammar.{Form, GoesOn, ends, more, Grouped, grouped, Compared, alone, compared, Product, Sum, Expression, IsOperand, named, variable, AtomOver, number_atom, word_atom, parens_atom, call_atom, not_atom, if_atom, NoForm, Atom, Spells}
 use Rattle.policy_text_defs.specs.Sense.{Sense}
 use Rattle.policy_text_defs.specs.Statements.{IsName, IsTarget, variable_target, rank_target, unset, with_attribute, AttributesFrom, no_more, set, Attributes, Range, single, between, Octets, Address, whole, prefix, IsCondition, field, protocol, source, dest, ipv4, ipv6, Conditions, last, also, Guard, unguarded, guarded, AreNames, IsForm, version_form, transaction_form, keep_form, each_form, push_form, pop_form, class_form, leaf_form, node_form}
 use Rattle.policy_text_defs.specs.Text.{LineOf, IsWritten}
-use Rattle.policy_text_defs.proofs.TermTokens.{is_operand, HasNames}
-use Rattle.policy_text_defs.proofs.StatementTokens.{is_target, IsNamed, IsPrintablePhrase, IsInRange, AreAttributes, IsPrintableAddress, IsPrintableRange, IsPrintableCondition, IsPrintable}
+use Rattle.policy_text_defs.specs.Valid.{is_operand, HasOperands, is_target, IsNamed, IsValidPhrase, IsAttributeNumber, AreValidAttributes, IsValidAddress, IsValidRange, IsValidCondition, IsValid}
 use Rattle.policy_text_defs.proofs.Lexed.{IsLexed, Says-lexed}
 
 abbrev AreLexed : List Glyph → Type 0
@@ -38,9 +37,9 @@ back (g ∷ gs) hs all = back gs hs all.1
 
 -- what is spelled by tokens of a line has names
 abbrev Sound : Form → Type 0
-Sound Part = (ts : List Glyph) (a : Phrase) → AreLexed ts → Part ts a → HasNames a
+Sound Part = (ts : List Glyph) (a : Phrase) → AreLexed ts → Part ts a → HasOperands a
 
-goes_on_names : {op : Glyph → Option Op} {Part : Form} → Sound Part → (a : Phrase) (us : List Glyph) (c : Phrase) → HasNames a → AreLexed us → GoesOn op Part a us c → HasNames c
+goes_on_names : {op : Glyph → Option Op} {Part : Form} → Sound Part → (a : Phrase) (us : List Glyph) (c : Phrase) → HasOperands a → AreLexed us → GoesOn op Part a us c → HasOperands c
 goes_on_names sound a us c names all (ends _) = names
 goes_on_names sound a gs d names all (more o g ts us _ b c is part later) = goes_on_names sound (two o a b) us c (names, sound ts b (front ts us all.1) part) (back ts us all.1) later
 
@@ -75,22 +74,22 @@ room_names : (room : ℕ) → Sound (Atom room)
 room_names zero = atom_names none_names
 room_names (suc room) = atom_names (expression_names (room_names room))
 
-phrase_printable : (ts : List Glyph) (a : Phrase) → AreLexed ts → Spells ts a → IsPrintablePhrase a
-phrase_printable ts a all spells = record { names = expression_names (room_names most_open) ts a all spells.form; low = spells.low }
+phrase_valid : (ts : List Glyph) (a : Phrase) → AreLexed ts → Spells ts a → IsValidPhrase a
+phrase_valid ts a all spells = record { names = expression_names (room_names most_open) ts a all spells.form; low = spells.low }
 
 -- ---- attributes
 
-with_printable : (k : Attribute) (n : ℕ) (a : Attrs) → IsInRange k n → AreAttributes a → AreAttributes (with_attribute k n a)
-with_printable attribute.Prio n a is are = record { prio = is; weight = are.weight; slack = are.slack }
-with_printable attribute.Weight n a is are = record { prio = are.prio; weight = is; slack = are.slack }
-with_printable attribute.Slack n a is are = record { prio = are.prio; weight = are.weight; slack = is }
+with_valid : (k : Attribute) (n : ℕ) (a : Attrs) → IsAttributeNumber k n → AreValidAttributes a → AreValidAttributes (with_attribute k n a)
+with_valid attribute.Prio n a is are = record { prio = is; weight = are.weight; slack = are.slack }
+with_valid attribute.Weight n a is are = record { prio = are.prio; weight = is; slack = are.slack }
+with_valid attribute.Slack n a is are = record { prio = are.prio; weight = are.weight; slack = is }
 
-attributes_from : (a : Attrs) (ts : List Glyph) (b : Attrs) → AttributesFrom a ts b → AreAttributes a → AreAttributes b
+attributes_from : (a : Attrs) (ts : List Glyph) (b : Attrs) → AttributesFrom a ts b → AreValidAttributes a → AreValidAttributes b
 attributes_from a ts b (no_more _) are = are
-attributes_from a gs b (set k n ts _ _ may later) are = attributes_from (with_attribute k n a) ts b later (with_printable k n a (record { above = may.above; below = may.below }) are)
+attributes_from a gs b (set k n ts _ _ may later) are = attributes_from (with_attribute k n a) ts b later (with_valid k n a (record { above = may.above; below = may.below }) are)
 
-attributes_printable : (ts : List Glyph) (a : Attrs) → Attributes ts a → AreAttributes a
-attributes_printable ts a is = attributes_from unset ts a is (record { prio = tt; weight = tt; slack = tt })
+attributes_valid : (ts : List Glyph) (a : Attrs) → Attributes ts a → AreValidAttributes a
+attributes_valid ts a is = attributes_from unset ts a is (record { prio = tt; weight = tt; slack = tt })
 
 -- ---- conditions
 
@@ -104,60 +103,60 @@ protocol_case false true w n e = let same : 17 ≡ n = cc in omega arith
 protocol_case false false true n e = let same : 1 ≡ n = cc in omega arith
 protocol_case false false false n e = absurd cc
 
-address_printable : (ts : List Glyph) (a l : ℕ) → Address ts a l → IsPrintableAddress a l
-address_printable ts a l (whole o are) =
+address_valid : (ts : List Glyph) (a l : ℕ) → Address ts a l → IsValidAddress a l
+address_valid ts a l (whole o are) =
     let first = are.first in
     let second = are.second in
     let third = are.third in
     let fourth = are.fourth in
     record { address = omega arith; prefix = omega arith }
-address_printable ts a l (prefix o _ are low) =
+address_valid ts a l (prefix o _ are low) =
     let first = are.first in
     let second = are.second in
     let third = are.third in
     let fourth = are.fourth in
     record { address = omega arith; prefix = low }
 
-condition_printable : (ts : List Glyph) (c : Condition) → IsCondition ts c → IsPrintableCondition c
-condition_printable gs c (field f ts low high range below) = record { ordered = range_ordered ts low high range; below = below }
-condition_printable gs c (protocol w n is) = record { ordered = omega arith; below = protocol_case (bytes_eq w (codes "tcp")) (bytes_eq w (codes "udp")) (bytes_eq w (codes "icmp")) n is }
-condition_printable gs c (source ts a l address) = address_printable ts a l address
-condition_printable gs c (dest ts a l address) = address_printable ts a l address
-condition_printable gs c ipv4 = tt
-condition_printable gs c ipv6 = tt
+condition_valid : (ts : List Glyph) (c : Condition) → IsCondition ts c → IsValidCondition c
+condition_valid gs c (field f ts low high range below) = record { ordered = range_ordered ts low high range; below = below }
+condition_valid gs c (protocol w n is) = record { ordered = omega arith; below = protocol_case (bytes_eq w (codes "tcp")) (bytes_eq w (codes "udp")) (bytes_eq w (codes "icmp")) n is }
+condition_valid gs c (source ts a l address) = address_valid ts a l address
+condition_valid gs c (dest ts a l address) = address_valid ts a l address
+condition_valid gs c ipv4 = tt
+condition_valid gs c ipv6 = tt
 
-conditions_printable : (ts : List Glyph) (cs : List Condition) → Conditions ts cs → AllByRecursion IsPrintableCondition cs
-conditions_printable gs cs (last ts c is) = (condition_printable ts c is, tt)
-conditions_printable gs cs (also ts us c ds is later) = (condition_printable ts c is, conditions_printable us ds later)
+conditions_valid : (ts : List Glyph) (cs : List Condition) → Conditions ts cs → AllByRecursion IsValidCondition cs
+conditions_valid gs cs (last ts c is) = (condition_valid ts c is, tt)
+conditions_valid gs cs (also ts us c ds is later) = (condition_valid ts c is, conditions_valid us ds later)
 
-guard_printable : (ts : List Glyph) (cs : List Condition) → Guard ts cs → AllByRecursion IsPrintableCondition cs
-guard_printable gs cs unguarded = tt
-guard_printable gs cs (guarded ts _ are) = conditions_printable ts cs are
+guard_valid : (ts : List Glyph) (cs : List Condition) → Guard ts cs → AllByRecursion IsValidCondition cs
+guard_valid gs cs unguarded = tt
+guard_valid gs cs (guarded ts _ are) = conditions_valid ts cs are
 
 -- ---- statements
 
-names_printable : (ns : List (List ℕ)) → AreLexed (map text ns) → AllByRecursion IsName ns → AllByRecursion IsNamed ns
-names_printable [] all names = tt
-names_printable (n ∷ ns) all names = (record { word = all.0; name = names.0 }, names_printable ns all.1 names.1)
+names_valid : (ns : List (List ℕ)) → AreLexed (map text ns) → AllByRecursion IsName ns → AllByRecursion IsNamed ns
+names_valid [] all names = tt
+names_valid (n ∷ ns) all names = (record { word = all.0; name = names.0 }, names_valid ns all.1 names.1)
 
 target_is : (w : List ℕ) → IsTarget w → is_target w ≡ true
 target_is w (variable_target _ is) = rw is refl
 target_is w rank_target = refl
 
-form_printable : (gs : List Glyph) (s : Sense) → AreLexed gs → IsForm gs s → IsPrintable s
-form_printable gs s all version_form = refl
-form_printable gs s all (transaction_form n name) = record { word = all.1.0; name = name }
-form_printable gs s all (keep_form n span name ordered) = (record { word = all.1.0; name = name }, record { ordered = ordered; low = all.1.1.0; high = all.1.1.1.1.0; first = all.1.1.1.1.1.1.0 })
-form_printable gs s all (each_form n span name ordered) = (record { word = all.1.0; name = name }, record { ordered = ordered; low = all.1.1.0; high = all.1.1.1.1.0; first = all.1.1.1.1.1.1.0 })
-form_printable gs s all (push_form n ts a target spells) = (all.1.0, target_is n target, phrase_printable ts a all.1.1.1 spells)
-form_printable gs s all (pop_form n ts a name spells) = (record { word = all.1.0; name = name }, phrase_printable ts a all.1.1.1 spells)
-form_printable gs s all (class_form n ts us a cs name attributes guard) = (record { word = all.1.0; name = name }, attributes_printable ts a attributes, guard_printable us cs guard)
-form_printable gs s all (leaf_form n u ts a ns name used attributes names) = (record { word = all.1.0; name = name }, record { word = all.1.1.1.0; name = used }, attributes_printable ts a attributes, names_printable ns (back ts _ all.1.1.1.1).1 names.each, names.some)
-form_printable gs s all (node_form n u ts a ns name used attributes names) = (record { word = all.1.0; name = name }, record { word = all.1.1.1.0; name = used }, attributes_printable ts a attributes, names_printable ns (back ts _ all.1.1.1.1).1 names.each, names.some)
+form_valid : (gs : List Glyph) (s : Sense) → AreLexed gs → IsForm gs s → IsValid s
+form_valid gs s all version_form = refl
+form_valid gs s all (transaction_form n name) = record { word = all.1.0; name = name }
+form_valid gs s all (keep_form n span name ordered) = (record { word = all.1.0; name = name }, record { ordered = ordered; low = all.1.1.0; high = all.1.1.1.1.0; first = all.1.1.1.1.1.1.0 })
+form_valid gs s all (each_form n span name ordered) = (record { word = all.1.0; name = name }, record { ordered = ordered; low = all.1.1.0; high = all.1.1.1.1.0; first = all.1.1.1.1.1.1.0 })
+form_valid gs s all (push_form n ts a target spells) = (all.1.0, target_is n target, phrase_valid ts a all.1.1.1 spells)
+form_valid gs s all (pop_form n ts a name spells) = (record { word = all.1.0; name = name }, phrase_valid ts a all.1.1.1 spells)
+form_valid gs s all (class_form n ts us a cs name attributes guard) = (record { word = all.1.0; name = name }, attributes_valid ts a attributes, guard_valid us cs guard)
+form_valid gs s all (leaf_form n u ts a ns name used attributes names) = (record { word = all.1.0; name = name }, record { word = all.1.1.1.0; name = used }, attributes_valid ts a attributes, names_valid ns (back ts _ all.1.1.1.1).1 names.each, names.some)
+form_valid gs s all (node_form n u ts a ns name used attributes names) = (record { word = all.1.0; name = name }, record { word = all.1.1.1.0; name = used }, attributes_valid ts a attributes, names_valid ns (back ts _ all.1.1.1.1).1 names.each, names.some)
 
-line_printable : (s : Sense) → LineOf s → IsPrintable s
-line_printable s line = form_printable line.carries.tokens s (Says-lexed line.line line.carries.tokens line.carries.says) line.carries.form
+line_valid : (s : Sense) → LineOf s → IsValid s
+line_valid s line = form_valid line.carries.tokens s (Says-lexed line.line line.carries.tokens line.carries.says) line.carries.form
 
 -- a statement that some line has
-pub IsWritten-printable : (s : Sense) → IsWritten s → IsPrintable s
-IsWritten-printable s written = ∥∥₁_elim written (IsPrintable-prop s) (line_printable s)
+pub IsWritten_IsValid : (s : Sense) → IsWritten s → IsValid s
+IsWritten_IsValid s written = ∥∥₁_elim written (IsValid-prop s) (line_valid s)
