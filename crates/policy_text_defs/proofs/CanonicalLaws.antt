@@ -1,11 +1,10 @@
 -- The canonical text of statements that lines have is in form and has them.
-use Rattle.std.proofs.Common.{◌≡◌, ℕ, zero, suc, ◌-◌, ◌≤◌, ◌&&◌, ◌==◌, List, [], ◌∷◌, ◌++◌, length, map, take, ◌<◌, Bool, true, false, cond, sym, refl, ap, ◌∙◌, subst, arith}
-use Rattle.std.specs.Prelude.{codes, slice_index}
+use Rattle.std.proofs.Common.{◌≡◌, ℕ, zero, suc, ◌-◌, ◌≤◌, ◌&&◌, ◌==◌, List, [], ◌∷◌, ◌++◌, length, map, Bool, true, false, cond, sym, refl, ap, ◌∙◌, subst, arith}
+use Rattle.std.specs.Prelude.{codes, slice_index, ◌↔◌}
 use Rattle.std.specs.List.{prefix_len, list_all, All, AllByRecursion}
 use Rattle.std.proofs.lemmas.List.Elements.{All-tail}
 use Rattle.std.proofs.lemmas.List.{append-nil, take_all}
 use Rattle.std.proofs.lemmas.Bool.Decides.{nat_tests}
-use Rattle.text_core.specs.Glyphs.{Glyph}
 use Rattle.text_core.specs.Says.{Says}
 use Rattle.text_core.specs.Lines.{is_text, is_clean, is_clean_text, no_comment, ends_with_return, statement_length, statement_of, onto_first, lines_of, statements_of}
 use Rattle.policy_text_defs.specs.Ranges.{most_text}
@@ -140,13 +139,14 @@ all_valid : (ss : List Sense) → All IsWritten ss → AllByRecursion IsValid ss
 all_valid [] all = tt
 all_valid (s ∷ ss) all = (IsWritten_IsValid s (all 0 s (omega arith)), all_valid ss (All-tail IsWritten s ss all))
 
--- the canonical text of statements that lines have is in form and has them, numbered from 1
-pub canonical_text_HasEntries : (ss : List Sense) → All IsWritten ss → length (canonical_text ss) ≤ most_text → HasEntries (canonical_text ss) (numbered 1 ss)
+canonical_text_HasEntries : (ss : List Sense) → All IsWritten ss → length (canonical_text ss) ≤ most_text → HasEntries (canonical_text ss) (numbered 1 ss)
 canonical_text_HasEntries ss all short =
     let valid = all_valid ss all in
     let P : List (List ℕ) → Type 0 = λ ls. Entries 1 ls (numbered 1 ss) in
     record { short = short; entries = subst P (sym (canonical_lines ss valid)) (canonical_entries 1 ss valid) }
 
--- and has no others
-pub canonical_text_has_only : (ss : List Sense) (es : List Entry) → All IsWritten ss → HasEntries (canonical_text ss) es → es ≡ numbered 1 ss
-canonical_text_has_only ss es all has = HasEntries_one (canonical_text ss) es (numbered 1 ss) has (canonical_text_HasEntries ss all has.short)
+-- the canonical text of statements that lines have is in form and has just them, numbered from 1
+pub canonical_text_has : (ss : List Sense) → All IsWritten ss → length (canonical_text ss) ≤ most_text → (es : List Entry) → HasEntries (canonical_text ss) es ↔ (es ≡ numbered 1 ss)
+canonical_text_has ss all short es =
+    let has = canonical_text_HasEntries ss all short in
+    (λ other. HasEntries_one (canonical_text ss) es (numbered 1 ss) other has, λ same. subst (HasEntries (canonical_text ss)) (sym same) has)

@@ -1,10 +1,10 @@
 -- A line has at most one statement, and a text one list of statements.
-use Rattle.std.proofs.Common.{◌≡◌, ℕ, suc, ◌+◌, ◌&&◌, List, [], ◌∷◌, length, drop, Some, None, Bool, true, false, sym, refl, ap, ◌∙◌, subst, arith}
+use Rattle.std.proofs.Common.{◌≡◌, ℕ, suc, ◌+◌, ◌&&◌, List, [], ◌∷◌, drop, Some, None, Bool, true, false, sym, refl, ap, ◌∙◌, subst, arith}
 use Rattle.std.specs.List.{prefix_len, list_all}
 use Rattle.text_core.specs.Lines.{statements_of}
 use Rattle.text_core.specs.Tokens.{is_blank, token_at, begun}
 use Rattle.text_core.specs.Glyphs.{Glyph}
-use Rattle.text_core.specs.Says.{skipped, SaysFrom, Says}
+use Rattle.text_core.specs.Says.{skipped, SaysFrom}
 use Rattle.text_core.proofs.SaysLaws.{Says-one}
 use Rattle.policy_text_defs.specs.Sense.{Sense, Entry, entry}
 use Rattle.policy_text_defs.specs.Statements.{IsForm, version_form, transaction_form, keep_form, each_form, push_form, pop_form, class_form, leaf_form, node_form}

@@ -1,5 +1,5 @@
 -- The tokens of a canonical line are a form of its statement.
-use Rattle.std.proofs.Common.{◌≡◌, ℕ, ◌+◌, ◌*◌, ◌/◌, ◌%◌, ◌<◌, ◌≤◌, ◌==◌, eqb, cond, Bool, true, false, List, [], ◌∷◌, ◌++◌, length, map, Option, Some, None, sym, refl, subst, ap, arith}
+use Rattle.std.proofs.Common.{◌≡◌, ℕ, ◌<◌, ◌≤◌, eqb, cond, Bool, true, false, List, [], ◌∷◌, ◌++◌, Option, Some, None, sym, refl, subst, arith}
 use Rattle.std.specs.Prelude.{codes, ◌||◌}
 use Rattle.std.specs.Str.{bytes_eq}
 use Rattle.std.proofs.lemmas.Slice.Eq.{bytes_eq-Decides}
@@ -8,16 +8,16 @@ use Rattle.std.specs.List.{AllByRecursion}
 use Rattle.std.proofs.lemmas.List.{append-nil}
 use Rattle.std.proofs.lemmas.Bool.{eqb-true}
 use Rattle.text_core.specs.declared.mark.Mark.TheVariants as m
-use Rattle.text_core.specs.Glyphs.{Glyph, text, figure, sign}
+use Rattle.text_core.specs.Glyphs.{Glyph, figure, sign}
 use Rattle.policy_text_defs.specs.declared.attribute.Attrs.{Attrs}
 use Rattle.policy_text_defs.specs.declared.attribute.Attribute.{Attribute}
 use Rattle.policy_text_defs.specs.declared.attribute.Attribute.TheVariants as attribute
 use Rattle.policy_text_defs.specs.declared.condition.Condition.{Condition}
 use Rattle.policy_text_defs.specs.declared.condition.Condition.TheVariants as condition
 use Rattle.policy_text_defs.specs.Sense.{Sense, version, transaction, keep, each, push, pop, class, leaf, node}
-use Rattle.policy_text_defs.specs.Statements.{IsName, IsTarget, variable_target, rank_target, unset, attribute_value, with_attribute, MaySet, AttributesFrom, no_more, set, Attributes, Range, single, between, AreOctets, address_of, Address, prefix, IsCondition, field, source, dest, ipv4, ipv6, Conditions, last, also, Guard, unguarded, guarded, AreNames, IsForm, version_form, transaction_form, keep_form, each_form, push_form, pop_form, class_form, leaf_form, node_form}
+use Rattle.policy_text_defs.specs.Statements.{IsName, IsTarget, variable_target, rank_target, unset, attribute_value, with_attribute, AttributesFrom, no_more, set, Attributes, Range, single, between, AreOctets, address_of, Address, prefix, IsCondition, field, source, dest, ipv4, ipv6, Conditions, last, also, Guard, unguarded, guarded, IsForm, version_form, transaction_form, keep_form, each_form, push_form, pop_form, class_form, leaf_form, node_form}
 use Rattle.policy_text_defs.specs.Canonical.{octets_of}
-use Rattle.policy_text_defs.specs.Valid.{IsNamed, is_target, IsAttributeNumber, IsValidAttribute, AreValidAttributes, IsValidAddress, IsValidRange, IsValidCondition, IsValid}
+use Rattle.policy_text_defs.specs.Valid.{IsNamed, is_target, IsValidAttribute, AreValidAttributes, IsValidAddress, IsValidCondition, IsValid}
 use Rattle.policy_text_defs.proofs.TermForms.{tokens_of-Spells}
 use Rattle.policy_text_defs.proofs.StatementTokens.{attribute_tokens, attributes_tokens, range_tokens, address_tokens, condition_tokens, more_conditions_tokens, guard_tokens, statement_tokens}
 

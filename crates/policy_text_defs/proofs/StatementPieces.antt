@@ -1,5 +1,5 @@
 -- The canonical line of a statement says the statement's tokens.
-use Rattle.std.proofs.Common.{◌≡◌, ℕ, ◌+◌, ◌/◌, ◌%◌, ◌<◌, ◌≤◌, ◌==◌, eqb, cond, Bool, true, false, List, [], ◌∷◌, ◌++◌, length, map, Option, Some, None, sym, refl, subst, arith}
+use Rattle.std.proofs.Common.{ℕ, ◌≤◌, eqb, cond, Bool, true, false, List, [], ◌∷◌, ◌++◌, map, Option, Some, None, refl, arith}
 use Rattle.std.specs.Prelude.{codes}
 use Rattle.std.specs.Fmt.{decimal}
 use Rattle.std.specs.List.{AllByRecursion}
@@ -17,12 +17,10 @@ use Rattle.policy_text_defs.specs.declared.condition.FieldName.{FieldName}
 use Rattle.policy_text_defs.specs.declared.condition.FieldName.TheVariants as field
 use Rattle.policy_text_defs.specs.Words.{attribute_word, field_word}
 use Rattle.policy_text_defs.specs.Ranges.{attribute_most, field_most}
-use Rattle.policy_text_defs.specs.Phrase.{Phrase}
 use Rattle.policy_text_defs.specs.Sense.{Sense, version, transaction, keep, each, push, pop, class, leaf, node}
-use Rattle.policy_text_defs.specs.Statements.{Octets, span_tokens, AreOctets}
-use Rattle.policy_text_defs.specs.Canonical.{term_text, between_text, span_text, range_text, octets_of, address_text, condition_text, more_conditions_text, guard_text, attribute_text, attributes_text, names_text, statement_text}
-use Rattle.policy_text_defs.specs.Valid.{IsWord, IsNamed, IsValidAttribute, AreValidAttributes, IsValidSpan, IsValidAddress, IsValidRange, IsValidCondition, IsValid}
-use Rattle.policy_text_defs.proofs.TermTokens.{tokens_of}
+use Rattle.policy_text_defs.specs.Statements.{span_tokens}
+use Rattle.policy_text_defs.specs.Canonical.{between_text, span_text, range_text, octets_of, address_text, condition_text, more_conditions_text, guard_text, attribute_text, attributes_text, names_text, statement_text}
+use Rattle.policy_text_defs.specs.Valid.{IsWord, IsNamed, IsValidAttribute, AreValidAttributes, IsValidSpan, IsValidAddress, IsValidCondition, IsValid}
 use Rattle.policy_text_defs.proofs.Pieces.{Anything, IsPiece, boundary-append, join, after, before, text_blank, text_slash, text_dots, text_dot, text_is, text_word, text_number}
 use Rattle.policy_text_defs.proofs.TermPieces.{text_term}
 use Rattle.policy_text_defs.proofs.StatementTokens.{attribute_tokens, attributes_tokens, range_tokens, address_tokens, condition_tokens, more_conditions_tokens, guard_tokens, statement_tokens}

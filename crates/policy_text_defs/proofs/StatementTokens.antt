@@ -1,23 +1,16 @@
 -- The tokens of a statement's canonical line, and what holds of a statement that has one.
-use Rattle.std.specs.Prelude.{◌≡◌, ℕ, ◌<◌, ◌≤◌, ◌==◌, if◌then◌else◌, ◌||◌, Bool, true, List, [], ◌∷◌, ◌++◌, length, map, Option, Some, None, codes}
-use Rattle.std.specs.List.{AllByRecursion}
-use Rattle.std.specs.Str.{bytes_eq}
-use Rattle.rank_defs.specs.declared.transaction.Span.{Span}
+use Rattle.std.specs.Prelude.{ℕ, ◌==◌, if◌then◌else◌, List, [], ◌∷◌, ◌++◌, map, Option, Some, None, codes}
 use Rattle.text_core.specs.declared.mark.Mark.TheVariants as m
 use Rattle.text_core.specs.Glyphs.{Glyph, text, figure, sign}
-use Rattle.text_core.specs.Decimals.{max}
 use Rattle.policy_text_defs.specs.declared.attribute.Attrs.{Attrs}
 use Rattle.policy_text_defs.specs.declared.attribute.Attribute.{Attribute}
 use Rattle.policy_text_defs.specs.declared.attribute.Attribute.TheVariants as attribute
 use Rattle.policy_text_defs.specs.declared.condition.Condition.{Condition}
 use Rattle.policy_text_defs.specs.declared.condition.Condition.TheVariants as condition
-use Rattle.policy_text_defs.specs.Words.{is_name, attribute_word, field_word}
-use Rattle.policy_text_defs.specs.Ranges.{attribute_least, attribute_most, field_most, most_prefix}
-use Rattle.policy_text_defs.specs.Phrase.{Phrase, depth, most_depth}
+use Rattle.policy_text_defs.specs.Words.{attribute_word, field_word}
 use Rattle.policy_text_defs.specs.Sense.{Sense, version, transaction, keep, each, push, pop, class, leaf, node}
-use Rattle.policy_text_defs.specs.Statements.{IsName, IsSpan, span_tokens, octet_tokens}
+use Rattle.policy_text_defs.specs.Statements.{span_tokens, octet_tokens}
 use Rattle.policy_text_defs.specs.Canonical.{octets_of}
-use Rattle.policy_text_defs.specs.Valid.{IsWord, HasOperands}
 use Rattle.policy_text_defs.proofs.TermTokens.{tokens_of}
 
 abbrev pub attribute_tokens : Attribute → Option ℕ → List Glyph

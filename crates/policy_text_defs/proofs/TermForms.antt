@@ -1,8 +1,7 @@
 -- The tokens of the canonical text of a term spell the term.
-use Rattle.std.proofs.Common.{◌≡◌, ℕ, zero, suc, ◌<◌, ◌≤◌, max, List, [], ◌∷◌, ◌++◌, None, Some, Bool, true, false, cond, refl, subst, arith}
+use Rattle.std.proofs.Common.{◌≡◌, ℕ, zero, suc, ◌<◌, ◌≤◌, max, List, [], ◌∷◌, ◌++◌, Some, Bool, true, false, cond, refl, subst, arith}
 use Rattle.std.proofs.lemmas.List.{append-nil}
-use Rattle.std.specs.Prelude.{codes, ◌||◌}
-use Rattle.text_core.specs.declared.mark.Mark.{Mark}
+use Rattle.std.specs.Prelude.{◌||◌}
 use Rattle.text_core.specs.declared.mark.Mark.TheVariants as m
 use Rattle.rank_defs.specs.declared.expression.Op.{Op}
 use Rattle.rank_defs.specs.declared.expression.Op.TheVariants.{Add, Sub, Mul, Div, Less, LessEq, Equal, NotEqual, MoreEq, More, Min, Max, And, Or}
@@ -12,7 +11,7 @@ use Rattle.text_core.specs.Glyphs.{Glyph, text, figure, sign}
 use Rattle.policy_text_defs.specs.Grammar.{product_op, sum_op, relation, Form, GoesOn, ends, more, grouped, alone, compared, Product, Sum, Expression, Call, min_call, max_call, and_call, or_call, IsOperand, named, variable, number_atom, word_atom, parens_atom, call_atom, not_atom, if_atom, Atom, Spells}
 use Rattle.policy_text_defs.specs.Canonical.{is_infix, is_infix_op, op_text}
 use Rattle.policy_text_defs.specs.Valid.{is_operand, HasOperands}
-use Rattle.policy_text_defs.proofs.TermTokens.{op_mark, wrapped_tokens, infix_tokens, call_tokens, tokens_of}
+use Rattle.policy_text_defs.proofs.TermTokens.{wrapped_tokens, infix_tokens, call_tokens, tokens_of}
 
 -- at each number of parentheses that is large enough, as a whole, and as an atom where it isn't infix
 pub record IsSpelled (a : Phrase) : Type 0 where

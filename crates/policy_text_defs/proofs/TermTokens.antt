@@ -1,13 +1,9 @@
 -- The tokens of the canonical text of a term.
-use Rattle.std.specs.Prelude.{◌≡◌, ℕ, ◌≤◌, if◌then◌else◌, Bool, true, false, List, [], ◌∷◌, ◌++◌, length, ◌||◌, codes}
-use Rattle.std.specs.List.{prefix_len}
-use Rattle.text_core.specs.Tokens.{is_word_byte, begins_word}
+use Rattle.std.specs.Prelude.{if◌then◌else◌, Bool, true, false, List, [], ◌∷◌, ◌++◌, codes}
 use Rattle.text_core.specs.declared.mark.Mark.{Mark}
 use Rattle.text_core.specs.declared.mark.Mark.TheVariants as m
 use Rattle.rank_defs.specs.declared.expression.Op.{Op}
-use Rattle.rank_defs.specs.declared.expression.Op.TheVariants.{Add, Sub, Mul, Div, Less, LessEq, Equal, NotEqual, MoreEq, More, Min, Max, And, Or}
-use Rattle.text_core.specs.Decimals.{max}
-use Rattle.policy_text_defs.specs.Words.{is_name, is_variable}
+use Rattle.rank_defs.specs.declared.expression.Op.TheVariants.{Add, Sub, Mul, Div, Less, LessEq, Equal, NotEqual, MoreEq, More}
 use Rattle.policy_text_defs.specs.Phrase.{Phrase, number, word, two, negation, choice}
 use Rattle.text_core.specs.Glyphs.{Glyph, text, figure, sign}
 use Rattle.policy_text_defs.specs.Canonical.{is_infix, is_infix_op, op_text}

@@ -1,5 +1,5 @@
 -- That a statement can be printed has one proof.
-use Rattle.std.proofs.Common.{◌≡◌, ℕ, ◌<◌, ◌≤◌, List, Option, Some, None, Bool}
+use Rattle.std.proofs.Common.{ℕ, List, Option, Some, None}
 use Rattle.std.specs.List.{AllByRecursion, AllByRecursion-prop}
 use Rattle.std.proofs.Props.{props}
 use Rattle.policy_text_defs.specs.declared.attribute.Attribute.{Attribute}
@@ -9,7 +9,7 @@ use Rattle.policy_text_defs.specs.declared.condition.Condition.{Condition}
 use Rattle.policy_text_defs.specs.declared.condition.Condition.TheVariants as condition
 use Rattle.policy_text_defs.specs.Phrase.{Phrase, number, word, two, negation, choice}
 use Rattle.policy_text_defs.specs.Sense.{Sense, version, transaction, keep, each, push, pop, class, leaf, node}
-use Rattle.policy_text_defs.specs.Valid.{IsWord, HasOperands, IsNamed, IsValidSpan, IsValidPhrase, IsValidAttribute, AreValidAttributes, IsValidAddress, IsValidRange, IsValidCondition, IsValid}
+use Rattle.policy_text_defs.specs.Valid.{HasOperands, IsNamed, IsValidPhrase, IsValidAttribute, AreValidAttributes, IsValidCondition, IsValid}
 
 names-prop : (a : Phrase) → IsProp (HasOperands a)
 names-prop (number n) = hlevel props

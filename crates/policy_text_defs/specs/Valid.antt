@@ -1,5 +1,5 @@
 -- What a statement is like that some line has: names are names, numbers are in range, expressions aren't too deep.
-use Rattle.std.specs.Prelude.{◌≡◌, ℕ, ◌<◌, ◌≤◌, ◌||◌, Bool, true, List, [], ◌∷◌, length, Option, Some, None, codes}
+use Rattle.std.specs.Prelude.{◌≡◌, ℕ, ◌<◌, ◌≤◌, ◌||◌, Bool, true, List, length, Option, Some, None, codes}
 use Rattle.std.specs.List.{prefix_len, AllByRecursion}
 use Rattle.std.specs.Str.{bytes_eq}
 use Rattle.rank_defs.specs.declared.transaction.Span.{Span}

@@ -13,11 +13,10 @@ pub fn written_statements_are_valid()
 }
 
 /// The canonical text of statements that lines have is in form and has just these statements, numbered from 1.
-#[tactic(auto, using(crate::proofs::CanonicalLaws::statement_text_carries, crate::proofs::CanonicalLaws::canonical_text_HasEntries, crate::proofs::CanonicalLaws::canonical_text_has_only))]
+#[tactic(auto, using(crate::proofs::CanonicalLaws::statement_text_carries, crate::proofs::CanonicalLaws::canonical_text_has))]
 pub fn canonical_text_reads_back()
     ensures line { (s : Sense) → IsWritten s → Carries (statement_text s) s }
-    ensures text { (ss : List Sense) → All IsWritten ss → length (canonical_text ss) ≤ most_text → HasEntries (canonical_text ss) (numbered 1 ss) }
-    ensures only { (ss : List Sense) (es : List Entry) → All IsWritten ss → HasEntries (canonical_text ss) es → es ≡ numbered 1 ss }
+    ensures text { (ss : List Sense) → All IsWritten ss → length (canonical_text ss) ≤ most_text → (es : List Entry) → HasEntries (canonical_text ss) es ↔ (es ≡ numbered 1 ss) }
 {
 }
 
