@@ -9,3 +9,4 @@ pub mod RepeatLaws
 pub mod StatementLaws
 pub mod StepLaws
 pub mod TokenLaws
+pub mod WordLaws
