@@ -1,8 +1,11 @@
 //! Policy texts: reading their statements, and printing statements as canonical text.
 #![tactic(auto)]
 
+mod cursor;
 mod lines;
+mod part;
 mod printing;
+mod refusal;
 
 pub use lines::Lines;
 pub use policy_text_defs::{Attrs, Condition, FieldName, Statement, Term};

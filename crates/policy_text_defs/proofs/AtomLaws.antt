@@ -60,12 +60,12 @@ function_is : (w : List ℕ) (k : Function) → function_of w ≡ Some k → fun
 function_is w k e =
     let P : Function → Type 0 = λ k. function_word k w in
     in_table P w (codes "min") (f.Two op.Min) k _ (λ s. subst (Call op.Min) (sym s) min_call)
-      (in_table P w (codes "max") (f.Two op.Max) k _ (λ s. subst (Call op.Max) (sym s) max_call)
-      (in_table P w (codes "and") (f.Two op.And) k _ (λ s. subst (Call op.And) (sym s) and_call)
-      (in_table P w (codes "or") (f.Two op.Or) k _ (λ s. subst (Call op.Or) (sym s) or_call)
-      (in_table P w (codes "not") f.Not k _ (λ s. s)
-      (in_table P w (codes "if") f.If k _ (λ s. s)
-      (λ none. absurd cc)))))) e
+    (in_table P w (codes "max") (f.Two op.Max) k _ (λ s. subst (Call op.Max) (sym s) max_call)
+    (in_table P w (codes "and") (f.Two op.And) k _ (λ s. subst (Call op.And) (sym s) and_call)
+    (in_table P w (codes "or") (f.Two op.Or) k _ (λ s. subst (Call op.Or) (sym s) or_call)
+    (in_table P w (codes "not") f.Not k _ (λ s. s)
+    (in_table P w (codes "if") f.If k _ (λ s. s)
+    (λ none. absurd cc)))))) e
 
 call_reads : (o : Op) (w : List ℕ) → Call o w → function_of w ≡ Some (f.Two o)
 call_reads o w min_call = refl

@@ -28,9 +28,9 @@ attribute_is : (w : List ℕ) (k : Attribute) → attribute_of w ≡ Some k → 
 attribute_is w k e =
     let P : Attribute → Type 0 = λ k. w ≡ attribute_word k in
     in_table P w (codes "prio") attribute.Prio k _ (λ s. s)
-      (in_table P w (codes "weight") attribute.Weight k _ (λ s. s)
-      (in_table P w (codes "slack") attribute.Slack k _ (λ s. s)
-      (λ none. absurd cc))) e
+    (in_table P w (codes "weight") attribute.Weight k _ (λ s. s)
+    (in_table P w (codes "slack") attribute.Slack k _ (λ s. s)
+    (λ none. absurd cc))) e
 
 attribute_at-is : (g : Glyph) (k : Attribute) → attribute_at g ≡ Some k → g ≡ text (attribute_word k)
 attribute_at-is (text w) k e = ap text (attribute_is w k e)

@@ -194,16 +194,16 @@ subject_is : (w : List ℕ) (s : Subject) → subject_of w ≡ Some s → w ≡ 
 subject_is w s e =
     let P : Subject → Type 0 = λ s. w ≡ subject_word s in
     in_table P w (codes "vlan") (subject.Field field_name.Vlan) s _ (λ h. h)
-      (in_table P w (codes "dscp") (subject.Field field_name.Dscp) s _ (λ h. h)
-      (in_table P w (codes "proto") (subject.Field field_name.Proto) s _ (λ h. h)
-      (in_table P w (codes "sport") (subject.Field field_name.Sport) s _ (λ h. h)
-      (in_table P w (codes "dport") (subject.Field field_name.Dport) s _ (λ h. h)
-      (in_table P w (codes "len") (subject.Field field_name.Len) s _ (λ h. h)
-      (in_table P w (codes "src") subject.Source s _ (λ h. h)
-      (in_table P w (codes "dst") subject.Dest s _ (λ h. h)
-      (in_table P w (codes "ipv4") subject.Ipv4 s _ (λ h. h)
-      (in_table P w (codes "ipv6") subject.Ipv6 s _ (λ h. h)
-      (λ none. absurd cc)))))))))) e
+    (in_table P w (codes "dscp") (subject.Field field_name.Dscp) s _ (λ h. h)
+    (in_table P w (codes "proto") (subject.Field field_name.Proto) s _ (λ h. h)
+    (in_table P w (codes "sport") (subject.Field field_name.Sport) s _ (λ h. h)
+    (in_table P w (codes "dport") (subject.Field field_name.Dport) s _ (λ h. h)
+    (in_table P w (codes "len") (subject.Field field_name.Len) s _ (λ h. h)
+    (in_table P w (codes "src") subject.Source s _ (λ h. h)
+    (in_table P w (codes "dst") subject.Dest s _ (λ h. h)
+    (in_table P w (codes "ipv4") subject.Ipv4 s _ (λ h. h)
+    (in_table P w (codes "ipv6") subject.Ipv6 s _ (λ h. h)
+    (λ none. absurd cc)))))))))) e
 
 subject_of-field : (f : FieldName) → subject_of (field_word f) ≡ Some (subject.Field f)
 subject_of-field field_name.Vlan = refl

@@ -68,7 +68,6 @@ pub record WithGuard (gs : List Glyph) (cs : List Condition) (left : List Glyph)
   pub split : gs ≡ front ++ left
   pub is : Guard front cs
 
-
 guard_case : (cs : List Condition) (gs left : List Glyph) (found : Outcome (Unit {0})) → ahead (word_ahead (codes "when")) gs ≡ found → pick found (pure [] gs) (λ t. conditions t.1) ≡ Some (cs, left) → WithGuard gs cs left
 guard_case cs gs left None is e = record { front = []; split = same_rest [] cs gs left e; is = subst (Guard []) (same_value [] cs gs left e) unguarded }
 guard_case cs gs left (Some t) is e =

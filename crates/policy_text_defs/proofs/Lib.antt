@@ -21,3 +21,4 @@ pub mod TermTokens
 pub mod TokenLaws
 pub mod ValidLaws
 pub mod ValidProps
+pub mod WordLaws

@@ -38,15 +38,15 @@ keyword_is : (w : List ℕ) (k : Keyword) → keyword_of w ≡ Some k → w ≡ 
 keyword_is w k e =
     let P : Keyword → Type 0 = λ k. w ≡ keyword_word k in
     in_table P w (codes "policy") keyword.Policy k _ (λ h. h)
-      (in_table P w (codes "transaction") keyword.Transaction k _ (λ h. h)
-      (in_table P w (codes "keep") keyword.Keep k _ (λ h. h)
-      (in_table P w (codes "each") keyword.Each k _ (λ h. h)
-      (in_table P w (codes "push") keyword.Push k _ (λ h. h)
-      (in_table P w (codes "pop") keyword.Pop k _ (λ h. h)
-      (in_table P w (codes "class") keyword.Class k _ (λ h. h)
-      (in_table P w (codes "leaf") keyword.Leaf k _ (λ h. h)
-      (in_table P w (codes "node") keyword.Node k _ (λ h. h)
-      (λ none. absurd cc))))))))) e
+    (in_table P w (codes "transaction") keyword.Transaction k _ (λ h. h)
+    (in_table P w (codes "keep") keyword.Keep k _ (λ h. h)
+    (in_table P w (codes "each") keyword.Each k _ (λ h. h)
+    (in_table P w (codes "push") keyword.Push k _ (λ h. h)
+    (in_table P w (codes "pop") keyword.Pop k _ (λ h. h)
+    (in_table P w (codes "class") keyword.Class k _ (λ h. h)
+    (in_table P w (codes "leaf") keyword.Leaf k _ (λ h. h)
+    (in_table P w (codes "node") keyword.Node k _ (λ h. h)
+    (λ none. absurd cc))))))))) e
 
 -- ---- what is read is in a form
 

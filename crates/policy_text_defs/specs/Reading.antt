@@ -1,6 +1,6 @@
 -- Reading from the left, token by token: what a reader gives of a list of tokens, and what it leaves.
 -- It serves proofs; the laws in proofs/ say that it gives exactly the forms of Grammar and Statements.
-use Rattle.std.specs.Prelude.{◌≡◌, ℕ, zero, suc, nat_le, Bool, true, false, ◌&&◌, ◌||◌, if◌then◌else◌, List, [], ◌∷◌, length, Option, Some, None, option_map, codes}
+use Rattle.std.specs.Prelude.{◌≡◌, ℕ, zero, suc, nat_le, Bool, true, false, if◌then◌else◌, List, [], ◌∷◌, length, Option, Some, None, option_map, codes}
 use Rattle.std.specs.Str.{bytes_eq}
 use Rattle.rank_defs.specs.declared.expression.Op.{Op}
 use Rattle.text_core.specs.declared.mark.Mark.{Mark}
@@ -9,7 +9,7 @@ use Rattle.text_core.specs.Marks.{mark_text}
 use Rattle.text_core.specs.Glyphs.{Glyph, text, figure, sign}
 use Rattle.policy_text_defs.specs.declared.function.Function.{Function}
 use Rattle.policy_text_defs.specs.declared.function.Function.TheVariants as function
-use Rattle.policy_text_defs.specs.Words.{is_name, is_variable, function_of}
+use Rattle.policy_text_defs.specs.Words.{is_operand, function_of}
 use Rattle.policy_text_defs.specs.Phrase.{Phrase, number, word, two, negation, choice, depth, most_depth, most_open}
 use Rattle.policy_text_defs.specs.Grammar.{product_op, sum_op, relation}
 
@@ -100,7 +100,7 @@ unfoldable pub expression : Reader Phrase → Reader Phrase
 expression atom = sum atom >>= comparison (sum atom)
 
 unfoldable pub operand : List ℕ → Reader Phrase
-operand w = if is_name w || is_variable w then pure (word w) else refuse
+operand w = if is_operand w then pure (word w) else refuse
 
 -- The reader is of expressions inside one more pair of parentheses.
 module _ (inside : Reader Phrase) where

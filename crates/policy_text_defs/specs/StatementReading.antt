@@ -14,7 +14,7 @@ use Rattle.policy_text_defs.specs.declared.condition.Subject.{Subject}
 use Rattle.policy_text_defs.specs.declared.condition.Subject.TheVariants as subject
 use Rattle.policy_text_defs.specs.declared.keyword.Keyword.{Keyword}
 use Rattle.policy_text_defs.specs.declared.keyword.Keyword.TheVariants as keyword
-use Rattle.policy_text_defs.specs.Words.{is_name, attribute_of, subject_of, protocol_of, keyword_of}
+use Rattle.policy_text_defs.specs.Words.{is_name, is_target, attribute_of, subject_of, protocol_of, keyword_of, passing}
 use Rattle.policy_text_defs.specs.Ranges.{attribute_least, attribute_most, field_most, most_octet, most_prefix}
 use Rattle.policy_text_defs.specs.Phrase.{most_open}
 use Rattle.policy_text_defs.specs.Sense.{Sense, version, transaction, keep, each, push, pop, class, leaf, node}
@@ -58,7 +58,7 @@ abbrev pub name : Reader (List ℕ)
 name = a_word >>= named_by
 
 unfoldable pub target_by : List ℕ → Reader (List ℕ)
-target_by w = if is_name w || bytes_eq w (codes "rank") then pure w else refuse
+target_by w = if is_target w then pure w else refuse
 
 abbrev pub target : Reader (List ℕ)
 target = a_word >>= target_by
@@ -97,7 +97,7 @@ abbrev pub attributes : Reader Attrs
 attributes = many (ahead attribute_at) set_next unset
 
 abbrev pub name_ahead : Glyph → Option (List ℕ)
-name_ahead (text w) = if is_name w then Some w else None
+name_ahead (text w) = passing is_name w
 name_ahead _ = None
 
 abbrev pub name_last : List ℕ → List (List ℕ) → Reader (List (List ℕ))

@@ -1,7 +1,8 @@
 -- The words of the language.
-use Rattle.std.specs.Prelude.{ℕ, nat_le, Bool, not, ◌&&◌, List, [], ◌∷◌, length, Option, Some, None, if◌then◌else◌, codes}
-use Rattle.std.specs.List.{list_any}
+use Rattle.std.specs.Prelude.{ℕ, nat_le, Bool, not, ◌&&◌, ◌||◌, List, [], ◌∷◌, length, Option, Some, None, if◌then◌else◌, codes}
+use Rattle.std.specs.List.{list_all, list_any}
 use Rattle.std.specs.Str.{bytes_eq}
+use Rattle.text_core.specs.Tokens.{begins_word, is_word_byte}
 use Rattle.rank_defs.specs.declared.expression.Op.TheVariants as op
 use Rattle.policy_text_defs.specs.declared.function.Function.{Function}
 use Rattle.policy_text_defs.specs.declared.function.Function.TheVariants as function
@@ -30,9 +31,13 @@ reserved =
 abbrev pub is_reserved : List ℕ → Bool
 is_reserved w = list_any (bytes_eq w) reserved
 
--- of a word: it isn't reserved and not too long
+-- a letter or `_`, then letters, digits and `_`
+abbrev pub is_word : List ℕ → Bool
+is_word w = begins_word w && list_all is_word_byte w
+
+-- a word that isn't reserved and not too long
 abbrev pub is_name : List ℕ → Bool
-is_name w = nat_le (length w) most_name && not (is_reserved w)
+is_name w = is_word w && (nat_le (length w) most_name && not (is_reserved w))
 
 -- the reserved words that are numbers in expressions
 abbrev pub variables : List (List ℕ)
@@ -40,6 +45,21 @@ variables = codes "len" ∷ codes "now" ∷ codes "prio" ∷ codes "weight" ∷ 
 
 abbrev pub is_variable : List ℕ → Bool
 is_variable w = list_any (bytes_eq w) variables
+
+-- a name, or one of these
+abbrev pub is_operand : List ℕ → Bool
+is_operand w = is_name w || is_variable w
+
+-- a name, or `rank`
+abbrev pub is_target : List ℕ → Bool
+is_target w = is_name w || bytes_eq w (codes "rank")
+
+abbrev pub some_if : Bool → List ℕ → Option (List ℕ)
+some_if passes w = if passes then Some w else None
+
+-- what passes a test
+abbrev pub passing : (List ℕ → Bool) → List ℕ → Option (List ℕ)
+passing test w = some_if (test w) w
 
 -- the function that a word names
 abbrev pub function_of : List ℕ → Option Function

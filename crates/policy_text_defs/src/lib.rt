@@ -17,4 +17,4 @@ pub use function::Function;
 pub use keyword::Keyword;
 pub use statement::Statement;
 pub use term::Term;
-pub use word::{is, is_name, is_variable};
+pub use word::{is, name_of, operand_of, target_of};

@@ -1,7 +1,8 @@
-ghost use Rattle.std.specs.Prelude.{◌≡◌};
-ghost use Rattle.std.specs.List.{list_any};
-ghost use Rattle.std.specs.Str.{bytes_eq};
-ghost use Rattle.policy_text_defs.specs.Words.{is_reserved, is_variable, is_name};
+ghost use Rattle.std.specs.Prelude.{◌≡◌, true, option_map};
+ghost use Rattle.std.specs.List.{list_all, list_any};
+ghost use Rattle.std.specs.Str.{bytes_eq, IsUtf8};
+ghost use Rattle.text_core.specs.Tokens.{begins_word, is_word_byte};
+ghost use Rattle.policy_text_defs.specs.Words.{is_reserved, is_variable, is_name, is_operand, is_target, is_word, some_if, passing};
 
 /// The most bytes that a name may have.
 const MOST_NAME: usize = 64;
@@ -72,16 +73,89 @@ fn is_reserved(word: &[u8]) -> bool
     is_among(word, &RESERVED)
 }
 
-/// Whether a word is a name.
-pub fn is_name(word: &[u8]) -> bool
-    ensures { result ≡ is_name word.now }
+/// Whether the bytes are a word: a letter or `_`, then letters, digits and `_`.
+fn is_word(bytes: &[u8]) -> bool
+    ensures { result ≡ is_word bytes.now }
 {
-    word.len() <= MOST_NAME && !is_reserved(word)
+    begins_word(bytes) && are_word_bytes(bytes)
 }
 
-/// Whether a word is a number of the packet, its class or its way.
-pub fn is_variable(word: &[u8]) -> bool
+fn are_word_bytes(bytes: &[u8]) -> bool
+    ensures { result ≡ list_all is_word_byte bytes.now }
+{
+    bytes.iter().all(|byte| is_word_byte(*byte))
+}
+
+fn begins_word(bytes: &[u8]) -> bool
+    ensures { result ≡ begins_word bytes.now }
+{
+    match bytes {
+        [first, ..] => first.is_ascii_alphabetic() || *first == b'_',
+        [] => false,
+    }
+}
+
+fn is_word_byte(byte: u8) -> bool
+    ensures { result ≡ is_word_byte byte }
+{
+    byte.is_ascii_alphabetic() || byte == b'_' || byte.is_ascii_digit()
+}
+
+fn is_name(word: &[u8]) -> bool
+    ensures { result ≡ is_name word.now }
+{
+    is_word(word) && word.len() <= MOST_NAME && !is_reserved(word)
+}
+
+fn is_variable(word: &[u8]) -> bool
     ensures { result ≡ is_variable word.now }
 {
     is_among(word, &VARIABLES)
+}
+
+fn is_operand(word: &[u8]) -> bool
+    ensures { result ≡ is_operand word.now }
+{
+    is_name(word) || is_variable(word)
+}
+
+fn is_target(word: &[u8]) -> bool
+    ensures { result ≡ is_target word.now }
+{
+    is_name(word) || is(word, "rank")
+}
+
+/// The text of a word that passed a test.
+fn text_if(passes: bool, word: &[u8]) -> Option<&str>
+    requires { passes ≡ true → IsUtf8 word.now }
+    ensures { option_map (λ s. s.now) result ≡ some_if passes word.now }
+{
+    if !passes {
+        return None;
+    }
+    str::from_utf8(word).ok()
+}
+
+/// The text of a word that is a name.
+#[tactic(auto, using(crate::proofs::WordLaws::is_name_utf8))]
+pub fn name_of(word: &[u8]) -> Option<&str>
+    ensures { option_map (λ s. s.now) result ≡ passing is_name word.now }
+{
+    text_if(is_name(word), word)
+}
+
+/// The text of a word that is a name or a number of the packet, its class or its way.
+#[tactic(auto, using(crate::proofs::WordLaws::is_operand_utf8))]
+pub fn operand_of(word: &[u8]) -> Option<&str>
+    ensures { option_map (λ s. s.now) result ≡ passing is_operand word.now }
+{
+    text_if(is_operand(word), word)
+}
+
+/// The text of a word that is a name or `rank`.
+#[tactic(auto, using(crate::proofs::WordLaws::is_target_utf8))]
+pub fn target_of(word: &[u8]) -> Option<&str>
+    ensures { option_map (λ s. s.now) result ≡ passing is_target word.now }
+{
+    text_if(is_target(word), word)
 }
