@@ -12,6 +12,7 @@ use Rattle.policy_text_defs.specs.Sense.{Sense, version, transaction, keep, each
 use Rattle.policy_text_defs.specs.Text.{is_shaping, Carries, IsWritten, Entries, over, carried, HasEntries}
 use Rattle.policy_text_defs.specs.Canonical.{statement_text, canonical_text}
 use Rattle.policy_text_defs.specs.Valid.{IsValid}
+use Rattle.policy_text_defs.proofs.TokenLaws.{both_true}
 use Rattle.policy_text_defs.proofs.Pieces.{is_plain}
 use Rattle.policy_text_defs.proofs.StatementTokens.{statement_tokens}
 use Rattle.policy_text_defs.proofs.StatementForms.{statement_form}
@@ -33,22 +34,14 @@ plain_no_comment b is = grind (arith, nat_tests)
 plain_no_return : (b : ℕ) → is_plain b ≡ true → b == 13 ≡ false
 plain_no_return b is = grind (arith, nat_tests)
 
-both_left : (u v : Bool) → u && v ≡ true → u ≡ true
-both_left true v e = refl
-both_left false v e = absurd cc
-
-both_right : (u v : Bool) → u && v ≡ true → v ≡ true
-both_right true v e = e
-both_right false v e = absurd cc
-
 abbrev ArePlain : List ℕ → Type 0
 ArePlain bs = list_all is_plain bs ≡ true
 
 first_plain : (b : ℕ) (bs : List ℕ) → ArePlain (b ∷ bs) → is_plain b ≡ true
-first_plain b bs plain = both_left (is_plain b) (list_all is_plain bs) plain
+first_plain b bs plain = (both_true (is_plain b) (list_all is_plain bs) plain).0
 
 others_plain : (b : ℕ) (bs : List ℕ) → ArePlain (b ∷ bs) → ArePlain bs
-others_plain b bs plain = both_right (is_plain b) (list_all is_plain bs) plain
+others_plain b bs plain = (both_true (is_plain b) (list_all is_plain bs) plain).1
 
 all_clean : (bs : List ℕ) → ArePlain bs → is_clean_text bs ≡ true
 all_clean [] plain = refl

@@ -1,5 +1,5 @@
 -- Bytes that say tokens whatever follows, piece by piece.
-use Rattle.std.proofs.Common.{◌≡◌, ℕ, suc, ◌+◌, ◌≤◌, ◌&&◌, List, [], ◌∷◌, ◌++◌, length, Bool, true, false, cond, sym, refl, subst, arith, append_assoc}
+use Rattle.std.proofs.Common.{◌≡◌, ℕ, ◌≤◌, ◌&&◌, List, [], ◌∷◌, ◌++◌, length, Bool, true, sym, refl, subst, arith, append_assoc}
 use Rattle.std.specs.Prelude.{codes, not, ◌==◌, ◌||◌}
 use Rattle.std.specs.List.{prefix_len, list_all}
 use Rattle.std.specs.Fmt.{decimal}
@@ -9,13 +9,14 @@ use Rattle.std.proofs.lemmas.Bool.Decides.{nat_tests}
 use Rattle.text_core.specs.declared.token.TokenKind.TheVariants as k
 use Rattle.text_core.specs.declared.mark.Mark.TheVariants as m
 use Rattle.text_core.specs.Lines.{is_clean, no_comment}
-use Rattle.text_core.specs.Tokens.{is_word_byte, is_digit}
+use Rattle.text_core.specs.Tokens.{is_word_byte, is_digit, begins_word}
 use Rattle.text_core.specs.Decimals.{max, is_numeral}
 use Rattle.text_core.specs.Glyphs.{Glyph, text, figure, sign}
 use Rattle.text_core.specs.Says.{Says, IsBoundary, ends_mark}
 use Rattle.text_core.proofs.DecimalLemmas.{decimal-digits, decimal-numeral}
 use Rattle.text_core.proofs.TextLaws.{says_token, says_blank, says_word, says_number, says_mark}
-use Rattle.policy_text_defs.specs.Valid.{IsWord}
+use Rattle.policy_text_defs.specs.Words.{is_word}
+use Rattle.policy_text_defs.proofs.TokenLaws.{both_true}
 
 -- what may follow
 abbrev pub Ending : Type 1
@@ -32,14 +33,6 @@ pub boundary-append : (bytes rest : List ℕ) → IsBoundary bytes → IsBoundar
 boundary-append [] rest first end = end
 boundary-append (b ∷ bytes) rest first end = first
 
-both_left : (u v : Bool) → u && v ≡ true → u ≡ true
-both_left true v e = refl
-both_left false v e = absurd cc
-
-both_right : (u v : Bool) → u && v ≡ true → v ≡ true
-both_right true v e = e
-both_right false v e = absurd cc
-
 -- allowed in a statement, and no `#`
 abbrev pub is_plain : ℕ → Bool
 is_plain b = is_clean b && no_comment b
@@ -49,29 +42,35 @@ pub record IsPiece (End : Ending) (bytes : List ℕ) (tokens : List Glyph) : Typ
   pub plain : list_all is_plain bytes ≡ true
   pub says : (rest : List ℕ) (gs : List Glyph) → End rest → Says rest gs → Says (bytes ++ rest) (tokens ++ gs)
 
-run_case : (p q : ℕ → Bool) → ((b : ℕ) → p b ≡ true → q b ≡ true) → (b : ℕ) (bs : List ℕ) (v : Bool) → p b ≡ v → cond v (1 + prefix_len p bs) 0 ≡ suc (length bs) → (prefix_len p bs ≡ length bs → list_all q bs ≡ true) → list_all q (b ∷ bs) ≡ true
-run_case p q step b bs true is all later =
-    let rest : prefix_len p bs ≡ length bs = omega arith in
-    rw (step b is) (later rest)
-run_case p q step b bs false is all later = absurd (omega arith)
+-- what each byte of a text has, each has that follows from it
+all_step : (p q : ℕ → Bool) → ((b : ℕ) → p b ≡ true → q b ≡ true) → (bs : List ℕ) → list_all p bs ≡ true → list_all q bs ≡ true
+all_step p q step [] all = refl
+all_step p q step (b ∷ bs) all =
+    let both = both_true (p b) (list_all p bs) all in
+    rw (step b both.0) (all_step p q step bs both.1)
 
--- a run of bytes that goes to the end has nothing else
-all_of_run : (p q : ℕ → Bool) → ((b : ℕ) → p b ≡ true → q b ≡ true) → (bs : List ℕ) → prefix_len p bs ≡ length bs → list_all q bs ≡ true
-all_of_run p q step [] all = refl
-all_of_run p q step (b ∷ bs) all = run_case p q step b bs (p b) refl all (all_of_run p q step bs)
+-- a text of such bytes is one run of them
+one_run : (p : ℕ → Bool) (bs : List ℕ) → list_all p bs ≡ true → prefix_len p bs ≡ length bs
+one_run p [] all = refl
+one_run p (b ∷ bs) all =
+    let both = both_true (p b) (list_all p bs) all in
+    let rest = one_run p bs both.1 in
+    rw both.0 (omega arith)
 
 word_byte_plain : (b : ℕ) → is_word_byte b ≡ true → is_plain b ≡ true
 word_byte_plain b is = grind (arith, nat_tests)
 
-word_plain : (w : List ℕ) → IsWord w → list_all is_plain w ≡ true
-word_plain w is = all_of_run is_word_byte is_plain word_byte_plain w is.all
+word_bytes : (w : List ℕ) → is_word w ≡ true → list_all is_word_byte w ≡ true
+word_bytes w is = (both_true (begins_word w) (list_all is_word_byte w) is).1
 
 digit_plain : (b : ℕ) → is_digit b ≡ true → is_plain b ≡ true
 digit_plain b is = grind (arith, nat_tests)
 
 digits_plain : (ds : List ℕ) → all_ascii_digits ds ≡ true → list_all is_plain ds ≡ true
 digits_plain [] all = refl
-digits_plain (d ∷ ds) all = rw (digit_plain d (both_left (is_digit d) (all_ascii_digits ds) all)) (digits_plain ds (both_right (is_digit d) (all_ascii_digits ds) all))
+digits_plain (d ∷ ds) all =
+    let both = both_true (is_digit d) (all_ascii_digits ds) all in
+    rw (digit_plain d both.0) (digits_plain ds both.1)
 
 decimal_plain : (n : ℕ) → n ≤ max → list_all is_plain (decimal n) ≡ true
 decimal_plain n low = digits_plain (decimal n) (decimal-digits n low)
@@ -137,8 +136,11 @@ text_dots = record { plain = refl; says = λ rest gs end later. says_token k.Mar
 pub text_is : IsPiece Anything (codes " = ") (sign m.Is ∷ [])
 text_is = record { plain = refl; says = λ rest gs end later. says_blank (61 ∷ 32 ∷ rest) (sign m.Is ∷ gs) (says_mark m.Is (32 ∷ rest) gs refl (says_blank rest gs later)) }
 
-pub text_word : (w : List ℕ) → IsWord w → IsPiece IsBoundary w (text w ∷ [])
-text_word w is = record { plain = word_plain w is; says = λ rest gs end later. says_word w rest gs is.begins is.all end later }
+pub text_word : (w : List ℕ) → is_word w ≡ true → IsPiece IsBoundary w (text w ∷ [])
+text_word w is = record {
+  plain = all_step is_word_byte is_plain word_byte_plain w (word_bytes w is);
+  says = λ rest gs end later. says_word w rest gs (both_true (begins_word w) (list_all is_word_byte w) is).0 (one_run is_word_byte w (word_bytes w is)) end later;
+}
 
 pub text_number : (n : ℕ) → n ≤ max → IsPiece IsBoundary (decimal n) (figure n ∷ [])
 text_number n low = record { plain = decimal_plain n low; says = λ rest gs end later. says_number n rest gs low end later }
@@ -148,7 +150,7 @@ digit_ends b is = grind (arith, nat_tests)
 
 numeral_ends : (ds rest : List ℕ) → is_numeral ds ≡ true → ends_mark (ds ++ rest) ≡ true
 numeral_ends [] rest is = absurd cc
-numeral_ends (d ∷ ds) rest is = digit_ends d (both_left (is_digit d) (all_ascii_digits ds) is)
+numeral_ends (d ∷ ds) rest is = digit_ends d (both_true (is_digit d) (all_ascii_digits ds) is).0
 
 -- a point and the number behind it
 pub text_dot : (n : ℕ) → n ≤ max → IsPiece IsBoundary (codes "." ++ decimal n) (sign m.Dot ∷ figure n ∷ [])

@@ -3,7 +3,7 @@ use Rattle.std.proofs.Common.{◌≡◌, ℕ, ◌<◌, ◌≤◌, eqb, cond, Boo
 use Rattle.std.specs.Prelude.{codes, ◌||◌}
 use Rattle.std.specs.Str.{bytes_eq}
 use Rattle.std.proofs.lemmas.Slice.Eq.{bytes_eq-Decides}
-use Rattle.policy_text_defs.specs.Words.{is_name}
+use Rattle.policy_text_defs.specs.Words.{is_name, is_target}
 use Rattle.std.specs.List.{AllByRecursion}
 use Rattle.std.proofs.lemmas.List.{append-nil}
 use Rattle.std.proofs.lemmas.Bool.{eqb-true}
@@ -15,9 +15,9 @@ use Rattle.policy_text_defs.specs.declared.attribute.Attribute.TheVariants as at
 use Rattle.policy_text_defs.specs.declared.condition.Condition.{Condition}
 use Rattle.policy_text_defs.specs.declared.condition.Condition.TheVariants as condition
 use Rattle.policy_text_defs.specs.Sense.{Sense, version, transaction, keep, each, push, pop, class, leaf, node}
-use Rattle.policy_text_defs.specs.Statements.{IsName, IsTarget, variable_target, rank_target, unset, attribute_value, with_attribute, AttributesFrom, no_more, set, Attributes, Range, single, between, AreOctets, address_of, Address, prefix, IsCondition, field, source, dest, ipv4, ipv6, Conditions, last, also, Guard, unguarded, guarded, IsForm, version_form, transaction_form, keep_form, each_form, push_form, pop_form, class_form, leaf_form, node_form}
+use Rattle.policy_text_defs.specs.Statements.{IsTarget, variable_target, rank_target, unset, attribute_value, with_attribute, AttributesFrom, no_more, set, Attributes, Range, single, between, AreOctets, address_of, Address, prefix, IsCondition, field, source, dest, ipv4, ipv6, Conditions, last, also, Guard, unguarded, guarded, IsForm, version_form, transaction_form, keep_form, each_form, push_form, pop_form, class_form, leaf_form, node_form}
 use Rattle.policy_text_defs.specs.Canonical.{octets_of}
-use Rattle.policy_text_defs.specs.Valid.{IsNamed, is_target, IsValidAttribute, AreValidAttributes, IsValidAddress, IsValidCondition, IsValid}
+use Rattle.policy_text_defs.specs.Valid.{IsValidAttribute, AreValidAttributes, IsValidAddress, IsValidCondition, IsValid}
 use Rattle.policy_text_defs.proofs.TermForms.{tokens_of-Spells}
 use Rattle.policy_text_defs.proofs.StatementTokens.{attribute_tokens, attributes_tokens, range_tokens, address_tokens, condition_tokens, more_conditions_tokens, guard_tokens, statement_tokens}
 
@@ -91,10 +91,6 @@ guard_form (c ∷ cs) all = guarded (condition_tokens c ++ more_conditions_token
 
 -- ---- statements
 
-names_form : (ns : List (List ℕ)) → AllByRecursion IsNamed ns → AllByRecursion IsName ns
-names_form [] all = tt
-names_form (n ∷ ns) all = (all.0.name, names_form ns all.1)
-
 target_case : (w : List ℕ) (u v : Bool) → is_name w ≡ u → bytes_eq w (codes "rank") ≡ v → u || v ≡ true → IsTarget w
 target_case w true v p q is = variable_target w p
 target_case w false true p q is = subst IsTarget (sym ((bytes_eq-Decides w (codes "rank")).0 q)) rank_target
@@ -108,11 +104,11 @@ pub statement_form : (s : Sense) → IsValid s → IsForm (statement_tokens s) s
 statement_form (version v) is =
     let P : ℕ → Type 0 = λ n. IsForm (statement_tokens (version n)) (version n) in
     subst P (sym is) version_form
-statement_form (transaction n) is = transaction_form n is.name
-statement_form (keep n s) is = keep_form n s is.0.name is.1.ordered
-statement_form (each n s) is = each_form n s is.0.name is.1.ordered
-statement_form (push n a) is = push_form n _ a (IsTarget-from n is.1) (tokens_of-Spells a is.2.names is.2.low)
-statement_form (pop n a) is = pop_form n _ a is.0.name (tokens_of-Spells a is.1.names is.1.low)
-statement_form (class n a cs) is = class_form n (attributes_tokens a) (guard_tokens cs) a cs is.0.name (attributes_form a is.1) (guard_form cs is.2)
-statement_form (leaf n u a ns) is = leaf_form n u (attributes_tokens a) a ns is.0.name is.1.name (attributes_form a is.2) (record { some = is.4; each = names_form ns is.3 })
-statement_form (node n u a ns) is = node_form n u (attributes_tokens a) a ns is.0.name is.1.name (attributes_form a is.2) (record { some = is.4; each = names_form ns is.3 })
+statement_form (transaction n) is = transaction_form n is
+statement_form (keep n s) is = keep_form n s is.0 is.1.ordered
+statement_form (each n s) is = each_form n s is.0 is.1.ordered
+statement_form (push n a) is = push_form n _ a (IsTarget-from n is.0) (tokens_of-Spells a is.1.operands is.1.low)
+statement_form (pop n a) is = pop_form n _ a is.0 (tokens_of-Spells a is.1.operands is.1.low)
+statement_form (class n a cs) is = class_form n (attributes_tokens a) (guard_tokens cs) a cs is.0 (attributes_form a is.1) (guard_form cs is.2)
+statement_form (leaf n u a ns) is = leaf_form n u (attributes_tokens a) a ns is.0 is.1 (attributes_form a is.2) is.3
+statement_form (node n u a ns) is = node_form n u (attributes_tokens a) a ns is.0 is.1 (attributes_form a is.2) is.3

@@ -1,5 +1,5 @@
 -- The canonical line of a statement says the statement's tokens.
-use Rattle.std.proofs.Common.{ℕ, ◌≤◌, eqb, cond, Bool, true, false, List, [], ◌∷◌, ◌++◌, map, Option, Some, None, refl, arith}
+use Rattle.std.proofs.Common.{◌≡◌, ℕ, ◌≤◌, eqb, cond, Bool, true, false, List, [], ◌∷◌, ◌++◌, map, Option, Some, None, refl, arith}
 use Rattle.std.specs.Prelude.{codes}
 use Rattle.std.specs.Fmt.{decimal}
 use Rattle.std.specs.List.{AllByRecursion}
@@ -15,12 +15,13 @@ use Rattle.policy_text_defs.specs.declared.condition.Condition.{Condition}
 use Rattle.policy_text_defs.specs.declared.condition.Condition.TheVariants as condition
 use Rattle.policy_text_defs.specs.declared.condition.FieldName.{FieldName}
 use Rattle.policy_text_defs.specs.declared.condition.FieldName.TheVariants as field
-use Rattle.policy_text_defs.specs.Words.{attribute_word, field_word}
+use Rattle.policy_text_defs.specs.Words.{is_word, attribute_word, field_word}
 use Rattle.policy_text_defs.specs.Ranges.{attribute_most, field_most}
 use Rattle.policy_text_defs.specs.Sense.{Sense, version, transaction, keep, each, push, pop, class, leaf, node}
-use Rattle.policy_text_defs.specs.Statements.{span_tokens}
+use Rattle.policy_text_defs.specs.Statements.{IsName, span_tokens}
 use Rattle.policy_text_defs.specs.Canonical.{between_text, span_text, range_text, octets_of, address_text, condition_text, more_conditions_text, guard_text, attribute_text, attributes_text, names_text, statement_text}
-use Rattle.policy_text_defs.specs.Valid.{IsWord, IsNamed, IsValidAttribute, AreValidAttributes, IsValidSpan, IsValidAddress, IsValidCondition, IsValid}
+use Rattle.policy_text_defs.specs.Valid.{IsValidAttribute, AreValidAttributes, IsValidSpan, IsValidAddress, IsValidCondition, IsValid}
+use Rattle.policy_text_defs.proofs.WordForms.{name_is_word, target_is_word}
 use Rattle.policy_text_defs.proofs.Pieces.{Anything, IsPiece, boundary-append, join, after, before, text_blank, text_slash, text_dots, text_dot, text_is, text_word, text_number}
 use Rattle.policy_text_defs.proofs.TermPieces.{text_term}
 use Rattle.policy_text_defs.proofs.StatementTokens.{attribute_tokens, attributes_tokens, range_tokens, address_tokens, condition_tokens, more_conditions_tokens, guard_tokens, statement_tokens}
@@ -30,15 +31,15 @@ text_nothing : IsPiece IsBoundary [] []
 text_nothing = record { plain = refl; says = λ rest gs end later. later }
 
 -- a word and the space behind it
-text_key : {w : List ℕ} → IsWord w → IsPiece Anything (w ++ codes " ") (text w ∷ [])
+text_key : {w : List ℕ} → is_word w ≡ true → IsPiece Anything (w ++ codes " ") (text w ∷ [])
 text_key {w} is = join (text_word w is) (λ rest end. refl) text_blank
 
 -- ---- attributes
 
-attribute_is_word : (k : Attribute) → IsWord (attribute_word k)
-attribute_is_word attribute.Prio = record { begins = refl; all = refl }
-attribute_is_word attribute.Weight = record { begins = refl; all = refl }
-attribute_is_word attribute.Slack = record { begins = refl; all = refl }
+attribute_is_word : (k : Attribute) → is_word (attribute_word k) ≡ true
+attribute_is_word attribute.Prio = refl
+attribute_is_word attribute.Weight = refl
+attribute_is_word attribute.Slack = refl
 
 attribute_small : (k : Attribute) (n : ℕ) → n ≤ attribute_most k → n ≤ max
 attribute_small attribute.Prio n low = omega arith
@@ -84,13 +85,13 @@ text_address a l is =
                 (before (text_dot o.fourth (omega (arith, are.fourth))) refl
                     (after text_slash (text_number l (omega arith))))))
 
-field_is_word : (f : FieldName) → IsWord (field_word f)
-field_is_word field.Vlan = record { begins = refl; all = refl }
-field_is_word field.Dscp = record { begins = refl; all = refl }
-field_is_word field.Proto = record { begins = refl; all = refl }
-field_is_word field.Sport = record { begins = refl; all = refl }
-field_is_word field.Dport = record { begins = refl; all = refl }
-field_is_word field.Len = record { begins = refl; all = refl }
+field_is_word : (f : FieldName) → is_word (field_word f) ≡ true
+field_is_word field.Vlan = refl
+field_is_word field.Dscp = refl
+field_is_word field.Proto = refl
+field_is_word field.Sport = refl
+field_is_word field.Dport = refl
+field_is_word field.Len = refl
 
 field_small : (f : FieldName) (n : ℕ) → n ≤ field_most f → n ≤ max
 field_small field.Vlan n low = omega arith
@@ -105,10 +106,10 @@ text_condition (condition.Field f low high) is =
     let great = field_small f high is.below in
     let ordered = is.ordered in
     before (text_word (field_word f) (field_is_word f)) refl (after text_blank (text_range low high (omega arith) great))
-text_condition (condition.Source a l) is = after (text_key {w = codes "src"} (record { begins = refl; all = refl })) (text_address a l is)
-text_condition (condition.Dest a l) is = after (text_key {w = codes "dst"} (record { begins = refl; all = refl })) (text_address a l is)
-text_condition condition.Ipv4 is = text_word (codes "ipv4") (record { begins = refl; all = refl })
-text_condition condition.Ipv6 is = text_word (codes "ipv6") (record { begins = refl; all = refl })
+text_condition (condition.Source a l) is = after (text_key {w = codes "src"} refl) (text_address a l is)
+text_condition (condition.Dest a l) is = after (text_key {w = codes "dst"} refl) (text_address a l is)
+text_condition condition.Ipv4 is = text_word (codes "ipv4") refl
+text_condition condition.Ipv6 is = text_word (codes "ipv6") refl
 
 more_boundary : (cs : List Condition) → IsBoundary (more_conditions_text cs)
 more_boundary [] = tt
@@ -116,7 +117,7 @@ more_boundary (c ∷ cs) = refl
 
 text_more : (cs : List Condition) → AllByRecursion IsValidCondition cs → IsPiece IsBoundary (more_conditions_text cs) (more_conditions_tokens cs)
 text_more [] all = text_nothing
-text_more (c ∷ cs) all = after text_blank (after (text_key {w = codes "and"} (record { begins = refl; all = refl })) (before (text_condition c all.0) (more_boundary cs) (text_more cs all.1)))
+text_more (c ∷ cs) all = after text_blank (after (text_key {w = codes "and"} refl) (before (text_condition c all.0) (more_boundary cs) (text_more cs all.1)))
 
 guard_boundary : (cs : List Condition) → IsBoundary (guard_text cs)
 guard_boundary [] = tt
@@ -124,7 +125,7 @@ guard_boundary (c ∷ cs) = refl
 
 text_guard : (cs : List Condition) → AllByRecursion IsValidCondition cs → IsPiece IsBoundary (guard_text cs) (guard_tokens cs)
 text_guard [] all = text_nothing
-text_guard (c ∷ cs) all = after text_blank (after (text_key {w = codes "when"} (record { begins = refl; all = refl })) (before (text_condition c all.0) (more_boundary cs) (text_more cs all.1)))
+text_guard (c ∷ cs) all = after text_blank (after (text_key {w = codes "when"} refl) (before (text_condition c all.0) (more_boundary cs) (text_more cs all.1)))
 
 -- ---- statements
 
@@ -132,33 +133,33 @@ names_boundary : (ns : List (List ℕ)) → IsBoundary (names_text ns)
 names_boundary [] = tt
 names_boundary (n ∷ ns) = refl
 
-text_names : (ns : List (List ℕ)) → AllByRecursion IsNamed ns → IsPiece IsBoundary (names_text ns) (map text ns)
+text_names : (ns : List (List ℕ)) → AllByRecursion IsName ns → IsPiece IsBoundary (names_text ns) (map text ns)
 text_names [] all = text_nothing
-text_names (n ∷ ns) all = after text_blank (before (text_word n all.0.word) (names_boundary ns) (text_names ns all.1))
+text_names (n ∷ ns) all = after text_blank (before (text_word n (name_is_word n all.0)) (names_boundary ns) (text_names ns all.1))
 
 text_span : (s : Span) → IsValidSpan s → IsPiece IsBoundary (span_text s) (span_tokens s)
 text_span s is = before (text_between s.low s.high is.low is.high) refl (after text_is (text_number s.first is.first))
 
 -- a keyword, a name, and what follows that begins with no byte of a word
-text_named : {w n bs : List ℕ} {ts : List Glyph} → IsWord w → IsWord n → IsBoundary bs → IsPiece IsBoundary bs ts → IsPiece IsBoundary ((w ++ codes " ") ++ (n ++ bs)) (text w ∷ text n ∷ ts)
+text_named : {w n bs : List ℕ} {ts : List Glyph} → is_word w ≡ true → is_word n ≡ true → IsBoundary bs → IsPiece IsBoundary bs ts → IsPiece IsBoundary ((w ++ codes " ") ++ (n ++ bs)) (text w ∷ text n ∷ ts)
 text_named {n = n} key is end t = after (text_key key) (before (text_word n is) end t)
 
 -- the canonical line of a statement says its tokens
 pub text_statement : (s : Sense) → IsValid s → IsPiece IsBoundary (statement_text s) (statement_tokens s)
 text_statement (version v) is =
     let small : v ≤ max = omega arith in
-    after (text_key {w = codes "policy"} (record { begins = refl; all = refl })) (text_number v small)
-text_statement (transaction n) is = after (text_key {w = codes "transaction"} (record { begins = refl; all = refl })) (text_word n is.word)
-text_statement (keep n s) is = text_named {w = codes "keep"} (record { begins = refl; all = refl }) is.0.word refl (after text_blank (text_span s is.1))
-text_statement (each n s) is = text_named {w = codes "each"} (record { begins = refl; all = refl }) is.0.word refl (after text_blank (text_span s is.1))
-text_statement (push n a) is = text_named {w = codes "push"} (record { begins = refl; all = refl }) is.0 refl (after text_is (text_term a is.2.names))
-text_statement (pop n a) is = text_named {w = codes "pop"} (record { begins = refl; all = refl }) is.0.word refl (after text_is (text_term a is.1.names))
-text_statement (class n a cs) is = text_named {w = codes "class"} (record { begins = refl; all = refl }) is.0.word (boundary-append (attributes_text a) _ (attributes_boundary a) (guard_boundary cs)) (before (text_attributes a is.1) (guard_boundary cs) (text_guard cs is.2))
+    after (text_key {w = codes "policy"} refl) (text_number v small)
+text_statement (transaction n) is = after (text_key {w = codes "transaction"} refl) (text_word n (name_is_word n is))
+text_statement (keep n s) is = text_named {w = codes "keep"} refl (name_is_word n is.0) refl (after text_blank (text_span s is.1))
+text_statement (each n s) is = text_named {w = codes "each"} refl (name_is_word n is.0) refl (after text_blank (text_span s is.1))
+text_statement (push n a) is = text_named {w = codes "push"} refl (target_is_word n is.0) refl (after text_is (text_term a is.1.operands))
+text_statement (pop n a) is = text_named {w = codes "pop"} refl (name_is_word n is.0) refl (after text_is (text_term a is.1.operands))
+text_statement (class n a cs) is = text_named {w = codes "class"} refl (name_is_word n is.0) (boundary-append (attributes_text a) _ (attributes_boundary a) (guard_boundary cs)) (before (text_attributes a is.1) (guard_boundary cs) (text_guard cs is.2))
 text_statement (leaf n u a ns) is =
-    let names = after text_blank (before (text_word (codes "classes") (record { begins = refl; all = refl })) (names_boundary ns) (text_names ns is.3)) in
-    let behind = before (text_word u is.1.word) (boundary-append (attributes_text a) _ (attributes_boundary a) refl) (before (text_attributes a is.2) refl names) in
-    text_named {w = codes "leaf"} (record { begins = refl; all = refl }) is.0.word refl (after text_blank (after (text_key {w = codes "using"} (record { begins = refl; all = refl })) behind))
+    let names = after text_blank (before (text_word (codes "classes") refl) (names_boundary ns) (text_names ns is.3.each)) in
+    let behind = before (text_word u (name_is_word u is.1)) (boundary-append (attributes_text a) _ (attributes_boundary a) refl) (before (text_attributes a is.2) refl names) in
+    text_named {w = codes "leaf"} refl (name_is_word n is.0) refl (after text_blank (after (text_key {w = codes "using"} refl) behind))
 text_statement (node n u a ns) is =
-    let names = after text_blank (before (text_word (codes "children") (record { begins = refl; all = refl })) (names_boundary ns) (text_names ns is.3)) in
-    let behind = before (text_word u is.1.word) (boundary-append (attributes_text a) _ (attributes_boundary a) refl) (before (text_attributes a is.2) refl names) in
-    text_named {w = codes "node"} (record { begins = refl; all = refl }) is.0.word refl (after text_blank (after (text_key {w = codes "using"} (record { begins = refl; all = refl })) behind))
+    let names = after text_blank (before (text_word (codes "children") refl) (names_boundary ns) (text_names ns is.3.each)) in
+    let behind = before (text_word u (name_is_word u is.1)) (boundary-append (attributes_text a) _ (attributes_boundary a) refl) (before (text_attributes a is.2) refl names) in
+    text_named {w = codes "node"} refl (name_is_word n is.0) refl (after text_blank (after (text_key {w = codes "using"} refl) behind))

@@ -5,12 +5,12 @@ use Rattle.std.specs.Prelude.{◌||◌}
 use Rattle.text_core.specs.declared.mark.Mark.TheVariants as m
 use Rattle.rank_defs.specs.declared.expression.Op.{Op}
 use Rattle.rank_defs.specs.declared.expression.Op.TheVariants.{Add, Sub, Mul, Div, Less, LessEq, Equal, NotEqual, MoreEq, More, Min, Max, And, Or}
-use Rattle.policy_text_defs.specs.Words.{is_name, is_variable}
+use Rattle.policy_text_defs.specs.Words.{is_name, is_variable, is_operand}
 use Rattle.policy_text_defs.specs.Phrase.{Phrase, number, word, two, negation, choice, depth, most_depth, most_open}
 use Rattle.text_core.specs.Glyphs.{Glyph, text, figure, sign}
 use Rattle.policy_text_defs.specs.Grammar.{product_op, sum_op, relation, Form, GoesOn, ends, more, grouped, alone, compared, Product, Sum, Expression, Call, min_call, max_call, and_call, or_call, IsOperand, named, variable, number_atom, word_atom, parens_atom, call_atom, not_atom, if_atom, Atom, Spells}
 use Rattle.policy_text_defs.specs.Canonical.{is_infix, is_infix_op, op_text}
-use Rattle.policy_text_defs.specs.Valid.{is_operand, HasOperands}
+use Rattle.policy_text_defs.specs.Valid.{HasOperands}
 use Rattle.policy_text_defs.proofs.TermTokens.{wrapped_tokens, infix_tokens, call_tokens, tokens_of}
 
 -- at each number of parentheses that is large enough, as a whole, and as an atom where it isn't infix
@@ -127,7 +127,7 @@ two_bare op a b s t false is bare room low = call_bare op a b s t is room low
 
 pub is_spelled : (a : Phrase) → HasOperands a → IsSpelled a
 is_spelled (number n) names = record { whole = λ room low. whole_alone _ _ (number_bare n room); bare = λ e room low. number_bare n room }
-is_spelled (word w) names = record { whole = λ room low. whole_alone _ _ (name_bare w room (IsOperand-from w names.1)); bare = λ e room low. name_bare w room (IsOperand-from w names.1) }
+is_spelled (word w) names = record { whole = λ room low. whole_alone _ _ (name_bare w room (IsOperand-from w names)); bare = λ e room low. name_bare w room (IsOperand-from w names) }
 is_spelled (negation a) names =
     let s = is_spelled a names in
     record { whole = λ room low. whole_alone _ _ (not_bare a s room low); bare = λ e room low. not_bare a s room low }

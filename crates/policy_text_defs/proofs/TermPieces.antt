@@ -12,6 +12,7 @@ use Rattle.policy_text_defs.specs.Phrase.{Phrase, number, word, two, negation, c
 use Rattle.policy_text_defs.specs.Canonical.{wrapped, infix_text, call_text, op_text, term_text, is_infix, is_infix_op}
 use Rattle.policy_text_defs.specs.Valid.{HasOperands}
 use Rattle.policy_text_defs.proofs.TermTokens.{op_mark, wrapped_tokens, infix_tokens, call_tokens, tokens_of}
+use Rattle.policy_text_defs.proofs.WordForms.{operand_is_word}
 use Rattle.policy_text_defs.proofs.Pieces.{is_plain, IsSpaced, IsPiece, join, after, before, ends_early, text_blank, text_open, text_close, text_comma, text_word, text_number}
 
 op_plain : (op : Op) → is_infix_op op ≡ true → list_all is_plain (op_text op) ≡ true
@@ -74,10 +75,10 @@ text_function Equal is = absurd cc
 text_function NotEqual is = absurd cc
 text_function MoreEq is = absurd cc
 text_function More is = absurd cc
-text_function Min is = text_word (op_text Min) (record { begins = refl; all = refl })
-text_function Max is = text_word (op_text Max) (record { begins = refl; all = refl })
-text_function And is = text_word (op_text And) (record { begins = refl; all = refl })
-text_function Or is = text_word (op_text Or) (record { begins = refl; all = refl })
+text_function Min is = text_word (op_text Min) refl
+text_function Max is = text_word (op_text Max) refl
+text_function And is = text_word (op_text And) refl
+text_function Or is = text_word (op_text Or) refl
 
 text_call : (op : Op) {bs cs : List ℕ} {ts us : List Glyph} → is_infix_op op ≡ false → IsPiece IsBoundary bs ts → IsPiece IsBoundary cs us → IsPiece IsBoundary (call_text op bs cs) (call_tokens op ts us)
 text_call op is t u = before (text_function op is) refl (after text_open (before t refl (after text_comma (before u refl (ends_early text_close)))))
@@ -89,7 +90,7 @@ text_two op false is a b t u = text_call op is t u
 -- the canonical text of a term says the term's tokens
 pub text_term : (a : Phrase) → HasOperands a → IsPiece IsBoundary (term_text a) (tokens_of a)
 text_term (number n) low = text_number n low
-text_term (word w) name = text_word w name.0
-text_term (negation a) names = before (text_word (codes "not") (record { begins = refl; all = refl })) refl (after text_open (before (text_term a names) refl (ends_early text_close)))
-text_term (choice a b c) names = before (text_word (codes "if") (record { begins = refl; all = refl })) refl (after text_open (before (text_term a names.0) refl (after text_comma (before (text_term b names.1) refl (after text_comma (before (text_term c names.2) refl (ends_early text_close)))))))
+text_term (word w) is = text_word w (operand_is_word w is)
+text_term (negation a) names = before (text_word (codes "not") refl) refl (after text_open (before (text_term a names) refl (ends_early text_close)))
+text_term (choice a b c) names = before (text_word (codes "if") refl) refl (after text_open (before (text_term a names.0) refl (after text_comma (before (text_term b names.1) refl (after text_comma (before (text_term c names.2) refl (ends_early text_close)))))))
 text_term (two op a b) names = text_two op (is_infix_op op) refl a b (text_term a names.0) (text_term b names.1)

@@ -1,24 +1,24 @@
 -- What holds of a statement that some line has.
-use Rattle.std.proofs.Common.{◌≡◌, ℕ, zero, suc, ◌≤◌, List, [], ◌∷◌, ◌++◌, map, Option, Some, None, Bool, true, false, cond, refl, arith}
+use Rattle.std.proofs.Common.{◌≡◌, ℕ, zero, suc, ◌≤◌, List, [], ◌∷◌, ◌++◌, Option, Some, None, Bool, true, false, cond, refl, arith}
 use Rattle.std.specs.Prelude.{codes}
 use Rattle.std.specs.Str.{bytes_eq}
 use Rattle.std.specs.List.{AllByRecursion}
 use Rattle.rank_defs.specs.declared.expression.Op.{Op}
-use Rattle.text_core.specs.Glyphs.{Glyph, text}
+use Rattle.text_core.specs.Glyphs.{Glyph}
 use Rattle.policy_text_defs.specs.declared.attribute.Attrs.{Attrs}
 use Rattle.policy_text_defs.specs.declared.attribute.Attribute.{Attribute}
 use Rattle.policy_text_defs.specs.declared.attribute.Attribute.TheVariants as attribute
 use Rattle.policy_text_defs.specs.declared.condition.Condition.{Condition}
-use Rattle.policy_text_defs.specs.Words.{is_name}
+use Rattle.policy_text_defs.specs.Words.{is_name, is_operand, is_target}
 use Rattle.std.proofs.Math.Bool.{or-true}
 use Rattle.std.proofs.Math.Logic.{∥∥₁_elim}
 use Rattle.policy_text_defs.proofs.ValidProps.{IsValid-prop}
 use Rattle.policy_text_defs.specs.Phrase.{Phrase, two, most_open}
 use Rattle.policy_text_defs.specs.Grammar.{Form, GoesOn, ends, more, Grouped, grouped, Compared, alone, compared, Expression, IsOperand, named, variable, AtomOver, number_atom, word_atom, parens_atom, call_atom, not_atom, if_atom, NoForm, Atom, Spells}
 use Rattle.policy_text_defs.specs.Sense.{Sense}
-use Rattle.policy_text_defs.specs.Statements.{IsName, IsTarget, variable_target, rank_target, unset, with_attribute, AttributesFrom, no_more, set, Attributes, Range, single, between, Address, whole, prefix, IsCondition, field, protocol, source, dest, ipv4, ipv6, Conditions, last, also, Guard, unguarded, guarded, IsForm, version_form, transaction_form, keep_form, each_form, push_form, pop_form, class_form, leaf_form, node_form}
+use Rattle.policy_text_defs.specs.Statements.{IsTarget, variable_target, rank_target, unset, with_attribute, AttributesFrom, no_more, set, Attributes, Range, single, between, Address, whole, prefix, IsCondition, field, protocol, source, dest, ipv4, ipv6, Conditions, last, also, Guard, unguarded, guarded, IsForm, version_form, transaction_form, keep_form, each_form, push_form, pop_form, class_form, leaf_form, node_form}
 use Rattle.policy_text_defs.specs.Text.{LineOf, IsWritten}
-use Rattle.policy_text_defs.specs.Valid.{is_operand, HasOperands, is_target, IsNamed, IsValidPhrase, IsAttributeNumber, AreValidAttributes, IsValidAddress, IsValidCondition, IsValid}
+use Rattle.policy_text_defs.specs.Valid.{HasOperands, IsValidPhrase, IsAttributeNumber, AreValidAttributes, IsValidAddress, IsValidCondition, IsValid}
 use Rattle.policy_text_defs.proofs.Lexed.{IsLexed, Says-lexed}
 
 abbrev AreLexed : List Glyph → Type 0
@@ -58,7 +58,7 @@ operand_is w (variable is) = rw (is, or-true (is_name w)) refl
 
 atom_names : {Inside : Form} → Sound Inside → Sound (AtomOver Inside)
 atom_names sound gs c all (number_atom n) = all.0
-atom_names sound gs c all (word_atom w is) = (all.0, operand_is w is)
+atom_names sound gs c all (word_atom w is) = operand_is w is
 atom_names sound gs c all (parens_atom ts a part) = sound ts a (front ts _ all.1) part
 atom_names sound gs c all (call_atom o w ts us a b is left right) = (sound ts a (front ts _ all.1.1) left, sound us b (front us _ (back ts _ all.1.1).1) right)
 atom_names sound gs c all (not_atom ts a part) = sound ts a (front ts _ all.1.1) part
@@ -74,7 +74,7 @@ room_names zero = atom_names none_names
 room_names (suc room) = atom_names (expression_names (room_names room))
 
 phrase_valid : (ts : List Glyph) (a : Phrase) → AreLexed ts → Spells ts a → IsValidPhrase a
-phrase_valid ts a all spells = record { names = expression_names (room_names most_open) ts a all spells.form; low = spells.low }
+phrase_valid ts a all spells = record { operands = expression_names (room_names most_open) ts a all spells.form; low = spells.low }
 
 -- ---- attributes
 
@@ -134,24 +134,20 @@ guard_valid gs cs (guarded ts _ are) = conditions_valid ts cs are
 
 -- ---- statements
 
-names_valid : (ns : List (List ℕ)) → AreLexed (map text ns) → AllByRecursion IsName ns → AllByRecursion IsNamed ns
-names_valid [] all names = tt
-names_valid (n ∷ ns) all names = (record { word = all.0; name = names.0 }, names_valid ns all.1 names.1)
-
 target_is : (w : List ℕ) → IsTarget w → is_target w ≡ true
 target_is w (variable_target _ is) = rw is refl
 target_is w rank_target = refl
 
 form_valid : (gs : List Glyph) (s : Sense) → AreLexed gs → IsForm gs s → IsValid s
 form_valid gs s all version_form = refl
-form_valid gs s all (transaction_form n name) = record { word = all.1.0; name = name }
-form_valid gs s all (keep_form n span name ordered) = (record { word = all.1.0; name = name }, record { ordered = ordered; low = all.1.1.0; high = all.1.1.1.1.0; first = all.1.1.1.1.1.1.0 })
-form_valid gs s all (each_form n span name ordered) = (record { word = all.1.0; name = name }, record { ordered = ordered; low = all.1.1.0; high = all.1.1.1.1.0; first = all.1.1.1.1.1.1.0 })
-form_valid gs s all (push_form n ts a target spells) = (all.1.0, target_is n target, phrase_valid ts a all.1.1.1 spells)
-form_valid gs s all (pop_form n ts a name spells) = (record { word = all.1.0; name = name }, phrase_valid ts a all.1.1.1 spells)
-form_valid gs s all (class_form n ts us a cs name attributes guard) = (record { word = all.1.0; name = name }, attributes_valid ts a attributes, guard_valid us cs guard)
-form_valid gs s all (leaf_form n u ts a ns name used attributes names) = (record { word = all.1.0; name = name }, record { word = all.1.1.1.0; name = used }, attributes_valid ts a attributes, names_valid ns (back ts _ all.1.1.1.1).1 names.each, names.some)
-form_valid gs s all (node_form n u ts a ns name used attributes names) = (record { word = all.1.0; name = name }, record { word = all.1.1.1.0; name = used }, attributes_valid ts a attributes, names_valid ns (back ts _ all.1.1.1.1).1 names.each, names.some)
+form_valid gs s all (transaction_form n name) = name
+form_valid gs s all (keep_form n span name ordered) = (name, record { ordered = ordered; low = all.1.1.0; high = all.1.1.1.1.0; first = all.1.1.1.1.1.1.0 })
+form_valid gs s all (each_form n span name ordered) = (name, record { ordered = ordered; low = all.1.1.0; high = all.1.1.1.1.0; first = all.1.1.1.1.1.1.0 })
+form_valid gs s all (push_form n ts a target spells) = (target_is n target, phrase_valid ts a all.1.1.1 spells)
+form_valid gs s all (pop_form n ts a name spells) = (name, phrase_valid ts a all.1.1.1 spells)
+form_valid gs s all (class_form n ts us a cs name attributes guard) = (name, attributes_valid ts a attributes, guard_valid us cs guard)
+form_valid gs s all (leaf_form n u ts a ns name used attributes names) = (name, used, attributes_valid ts a attributes, names)
+form_valid gs s all (node_form n u ts a ns name used attributes names) = (name, used, attributes_valid ts a attributes, names)
 
 line_valid : (s : Sense) → LineOf s → IsValid s
 line_valid s line = form_valid line.carries.tokens s (Says-lexed line.line line.carries.tokens line.carries.says) line.carries.form

@@ -9,7 +9,8 @@ use Rattle.policy_text_defs.specs.declared.condition.Condition.{Condition}
 use Rattle.policy_text_defs.specs.declared.condition.Condition.TheVariants as condition
 use Rattle.policy_text_defs.specs.Phrase.{Phrase, number, word, two, negation, choice}
 use Rattle.policy_text_defs.specs.Sense.{Sense, version, transaction, keep, each, push, pop, class, leaf, node}
-use Rattle.policy_text_defs.specs.Valid.{HasOperands, IsNamed, IsValidPhrase, IsValidAttribute, AreValidAttributes, IsValidCondition, IsValid}
+use Rattle.policy_text_defs.specs.Statements.{IsName, AreNames}
+use Rattle.policy_text_defs.specs.Valid.{HasOperands, IsValidPhrase, IsValidAttribute, AreValidAttributes, IsValidCondition, IsValid}
 
 names-prop : (a : Phrase) → IsProp (HasOperands a)
 names-prop (number n) = hlevel props
@@ -38,11 +39,14 @@ condition-prop condition.Ipv6 = hlevel props
 conditions-prop : (cs : List Condition) → IsProp (AllByRecursion IsValidCondition cs)
 conditions-prop cs = AllByRecursion-prop IsValidCondition condition-prop cs
 
-named-prop : (w : List ℕ) → IsProp (IsNamed w)
+named-prop : (w : List ℕ) → IsProp (IsName w)
 named-prop w = hlevel props
 
-all-named-prop : (ns : List (List ℕ)) → IsProp (AllByRecursion IsNamed ns)
-all-named-prop ns = AllByRecursion-prop IsNamed named-prop ns
+all-named-prop : (ns : List (List ℕ)) → IsProp (AllByRecursion IsName ns)
+all-named-prop ns = AllByRecursion-prop IsName named-prop ns
+
+are-names-prop : (ns : List (List ℕ)) → IsProp (AreNames ns)
+are-names-prop ns = hlevel (props, all-named-prop ns)
 
 pub IsValid-prop : (s : Sense) → IsProp (IsValid s)
 IsValid-prop (version v) = hlevel props
@@ -52,5 +56,5 @@ IsValid-prop (each n s) = hlevel props
 IsValid-prop (push n a) = hlevel (props, phrase-prop a)
 IsValid-prop (pop n a) = hlevel (props, phrase-prop a)
 IsValid-prop (class n a cs) = hlevel (props, attributes-prop a, conditions-prop cs)
-IsValid-prop (leaf n u a ns) = hlevel (props, attributes-prop a, all-named-prop ns)
-IsValid-prop (node n u a ns) = hlevel (props, attributes-prop a, all-named-prop ns)
+IsValid-prop (leaf n u a ns) = hlevel (props, attributes-prop a, are-names-prop ns)
+IsValid-prop (node n u a ns) = hlevel (props, attributes-prop a, are-names-prop ns)

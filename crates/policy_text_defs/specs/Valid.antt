@@ -1,46 +1,26 @@
 -- What a statement is like that some line has: names are names, numbers are in range, expressions aren't too deep.
-use Rattle.std.specs.Prelude.{◌≡◌, ℕ, ◌<◌, ◌≤◌, ◌||◌, Bool, true, List, length, Option, Some, None, codes}
-use Rattle.std.specs.List.{prefix_len, AllByRecursion}
-use Rattle.std.specs.Str.{bytes_eq}
+use Rattle.std.specs.Prelude.{◌≡◌, ℕ, ◌<◌, ◌≤◌, true, Option, Some, None}
+use Rattle.std.specs.List.{AllByRecursion}
 use Rattle.rank_defs.specs.declared.transaction.Span.{Span}
-use Rattle.text_core.specs.Tokens.{is_word_byte, begins_word}
 use Rattle.text_core.specs.Decimals.{max}
 use Rattle.policy_text_defs.specs.declared.attribute.Attrs.{Attrs}
 use Rattle.policy_text_defs.specs.declared.attribute.Attribute.{Attribute}
 use Rattle.policy_text_defs.specs.declared.attribute.Attribute.TheVariants as attribute
 use Rattle.policy_text_defs.specs.declared.condition.Condition.{Condition}
 use Rattle.policy_text_defs.specs.declared.condition.Condition.TheVariants as condition
-use Rattle.policy_text_defs.specs.Words.{is_name, is_variable}
+use Rattle.policy_text_defs.specs.Words.{is_operand, is_target}
 use Rattle.policy_text_defs.specs.Ranges.{attribute_least, attribute_most, field_most, most_prefix}
 use Rattle.policy_text_defs.specs.Phrase.{Phrase, number, word, two, negation, choice, depth, most_depth}
 use Rattle.policy_text_defs.specs.Sense.{Sense, version, transaction, keep, each, push, pop, class, leaf, node}
-use Rattle.policy_text_defs.specs.Statements.{IsName, IsSpan}
-
--- a letter or `_`, then letters, digits and `_`
-pub record IsWord (w : List ℕ) : Type 0 where
-  pub begins : begins_word w ≡ true
-  pub all : prefix_len is_word_byte w ≡ length w
-
--- a name, or one of the words `len`, `now`, `prio`, `weight`, `slack` and `rank`
-abbrev pub is_operand : List ℕ → Bool
-is_operand w = is_name w || is_variable w
+use Rattle.policy_text_defs.specs.Statements.{IsName, IsSpan, AreNames}
 
 -- numbers are at most `max`, and words are operands
 abbrev pub HasOperands : Phrase → Type 0
 HasOperands (number n) = n ≤ max
-HasOperands (word w) = IsWord w × (is_operand w ≡ true)
+HasOperands (word w) = is_operand w ≡ true
 HasOperands (negation a) = HasOperands a
 HasOperands (choice a b c) = HasOperands a × HasOperands b × HasOperands c
 HasOperands (two op a b) = HasOperands a × HasOperands b
-
--- a NAME: a word that isn't reserved and isn't too long
-pub record IsNamed (w : List ℕ) : Type 0 where
-  pub word : IsWord w
-  pub name : IsName w
-
--- a name or `rank`
-abbrev pub is_target : List ℕ → Bool
-is_target w = is_name w || bytes_eq w (codes "rank")
 
 -- a variable's range and first value
 pub record IsValidSpan (s : Span) : Type 0 where
@@ -51,7 +31,7 @@ pub record IsValidSpan (s : Span) : Type 0 where
 
 -- an expression within the limit of depth
 pub record IsValidPhrase (a : Phrase) : Type 0 where
-  pub names : HasOperands a
+  pub operands : HasOperands a
   pub low : depth a ≤ most_depth
 
 -- a number that the attribute may have
@@ -59,7 +39,7 @@ pub record IsAttributeNumber (k : Attribute) (n : ℕ) : Type 0 where
   pub above : attribute_least k ≤ n
   pub below : n ≤ attribute_most k
 
--- an attribute that isn't set, or to such a number
+-- not set, or to such a number
 abbrev pub IsValidAttribute : Attribute → Option ℕ → Type 0
 IsValidAttribute k None = Unit {0}
 IsValidAttribute k (Some n) = IsAttributeNumber k n
@@ -79,6 +59,7 @@ pub record IsValidRange (low high most : ℕ) : Type 0 where
   pub ordered : low ≤ high
   pub below : high ≤ most
 
+-- a range in the field's range, or an address
 abbrev pub IsValidCondition : Condition → Type 0
 IsValidCondition (condition.Field f low high) = IsValidRange low high (field_most f)
 IsValidCondition (condition.Source a l) = IsValidAddress a l
@@ -89,11 +70,11 @@ IsValidCondition condition.Ipv6 = Unit {0}
 -- the statement is one that some line has
 abbrev pub IsValid : Sense → Type 0
 IsValid (version v) = v ≡ 1
-IsValid (transaction n) = IsNamed n
-IsValid (keep n s) = IsNamed n × IsValidSpan s
-IsValid (each n s) = IsNamed n × IsValidSpan s
-IsValid (push n a) = IsWord n × (is_target n ≡ true) × IsValidPhrase a
-IsValid (pop n a) = IsNamed n × IsValidPhrase a
-IsValid (class n a cs) = IsNamed n × AreValidAttributes a × AllByRecursion IsValidCondition cs
-IsValid (leaf n u a ns) = IsNamed n × IsNamed u × AreValidAttributes a × AllByRecursion IsNamed ns × (0 < length ns)
-IsValid (node n u a ns) = IsNamed n × IsNamed u × AreValidAttributes a × AllByRecursion IsNamed ns × (0 < length ns)
+IsValid (transaction n) = IsName n
+IsValid (keep n s) = IsName n × IsValidSpan s
+IsValid (each n s) = IsName n × IsValidSpan s
+IsValid (push n a) = (is_target n ≡ true) × IsValidPhrase a
+IsValid (pop n a) = IsName n × IsValidPhrase a
+IsValid (class n a cs) = IsName n × AreValidAttributes a × AllByRecursion IsValidCondition cs
+IsValid (leaf n u a ns) = IsName n × IsName u × AreValidAttributes a × AreNames ns
+IsValid (node n u a ns) = IsName n × IsName u × AreValidAttributes a × AreNames ns
