@@ -21,4 +21,5 @@ pub mod TermTokens
 pub mod TokenLaws
 pub mod ValidLaws
 pub mod ValidProps
+pub mod WordForms
 pub mod WordLaws
