@@ -1,2 +1,3 @@
 pub mod PrintLaws
 pub mod PrintMeasure
+pub mod Refusals

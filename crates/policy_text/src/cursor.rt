@@ -125,7 +125,10 @@ impl<'a> Cursor<'a> {
     pub fn name(&mut self) -> Result<&'a str, Refusal>
         ensures { Reads (λ n. n.now) (forms.name (glyphs_of self.old.rest.now)) result (glyphs_of self.new.rest.now) }
     {
-        name_of(self.word()?).ok_or(Refusal::NoForm)
+        match name_of(self.word()?) {
+            Some(name) => Ok(name),
+            None => Err(Refusal::NoForm),
+        }
     }
 
     /// A name, or `rank`.
@@ -133,7 +136,10 @@ impl<'a> Cursor<'a> {
     pub fn target(&mut self) -> Result<&'a str, Refusal>
         ensures { Reads (λ n. n.now) (forms.target (glyphs_of self.old.rest.now)) result (glyphs_of self.new.rest.now) }
     {
-        target_of(self.word()?).ok_or(Refusal::NoForm)
+        match target_of(self.word()?) {
+            Some(name) => Ok(name),
+            None => Err(Refusal::NoForm),
+        }
     }
 
     /// Takes the operator with which a product goes on.

@@ -3,6 +3,7 @@
 
 mod cursor;
 mod lines;
+mod parser;
 mod part;
 mod printing;
 mod refusal;

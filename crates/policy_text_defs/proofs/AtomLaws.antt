@@ -7,10 +7,10 @@ use Rattle.text_core.specs.declared.mark.Mark.{Mark}
 use Rattle.text_core.specs.declared.mark.Mark.TheVariants as m
 use Rattle.policy_text_defs.specs.declared.function.Function.{Function}
 use Rattle.policy_text_defs.specs.declared.function.Function.TheVariants as f
-use Rattle.policy_text_defs.specs.Words.{is_name, is_variable, function_of}
+use Rattle.policy_text_defs.specs.Words.{is_name, is_variable, function_of, some_if}
 use Rattle.policy_text_defs.specs.Phrase.{Phrase, number, word, two, negation, choice, depth, most_depth, most_open}
 use Rattle.text_core.specs.Glyphs.{Glyph, text, figure, sign}
-use Rattle.policy_text_defs.specs.Reading.{Reader, ◌>>=◌, pick, next, ahead, pure, refuse, limited, comparison, mark, operand, in_parentheses, call, opposite, alternative, mark_at, word_at, atom_at, expression, product, sum, atom}
+use Rattle.policy_text_defs.specs.Reading.{Reader, ◌>>=◌, pick, given, next, ahead, pure, refuse, limited, comparison, mark, operand, in_parentheses, call, opposite, alternative, mark_at, word_at, atom_at, expression, product, sum, atom}
 use Rattle.policy_text_defs.specs.Grammar.{product_op, sum_op, relation, Form, Compared, alone, compared, Expression, Call, min_call, max_call, and_call, or_call, IsOperand, named, variable, AtomOver, number_atom, word_atom, parens_atom, call_atom, not_atom, if_atom, NoForm, Atom}
 use Rattle.policy_text_defs.proofs.GrammarLaws.{Exact, Begins, low_along, limited_low, passed, Grouped-exact}
 use Rattle.policy_text_defs.proofs.StepLaws.{steps, same_value, same_rest, stands, ahead_at, marked, in_table}
@@ -100,14 +100,14 @@ no_function : (w : List ℕ) (found : Option Function) → function_of w ≡ fou
 no_function w None is operand = refl
 no_function w (Some k) is operand = absurd (function_is_no_operand k w (function_is w k is) operand)
 
-either_reads : (u v : Bool) → v ≡ true → (a : Phrase) (gs : List Glyph) → cond (u || v) (pure a) refuse gs ≡ Some (a, gs)
-either_reads true v is a gs = refl
-either_reads false v is a gs = rw is refl
+or_true : (u v : Bool) → v ≡ true → (u || v) ≡ true
+or_true true v is = refl
+or_true false v is = is
 
 operand_reads : (w : List ℕ) (gs : List Glyph) → IsOperand w → operand w gs ≡ Some (word w, gs)
 unfolding operand
 operand_reads w gs (named is) = rw is refl
-operand_reads w gs (variable is) = either_reads (is_name w) (is_variable w) is (word w) gs
+operand_reads w gs (variable is) = rw (or_true (is_name w) (is_variable w) is) refl
 
 -- an operand was read
 record Operand (w : List ℕ) (c : Phrase) (gs rest : List Glyph) : Type 0 where
@@ -115,7 +115,7 @@ record Operand (w : List ℕ) (c : Phrase) (gs rest : List Glyph) : Type 0 where
   same : word w ≡ c
   over : gs ≡ rest
 
-operand_case : (u v : Bool) (w : List ℕ) (c : Phrase) (gs rest : List Glyph) → is_name w ≡ u → is_variable w ≡ v → cond (u || v) (pure (word w)) refuse gs ≡ Some (c, rest) → Operand w c gs rest
+operand_case : (u v : Bool) (w : List ℕ) (c : Phrase) (gs rest : List Glyph) → is_name w ≡ u → is_variable w ≡ v → given word (some_if (u || v) w) gs ≡ Some (c, rest) → Operand w c gs rest
 operand_case true v w c gs rest p q e = record { is = named p; same = same_value (word w) c gs rest e; over = same_rest (word w) c gs rest e }
 operand_case false true w c gs rest p q e = record { is = variable q; same = same_value (word w) c gs rest e; over = same_rest (word w) c gs rest e }
 operand_case false false w c gs rest p q e = absurd cc

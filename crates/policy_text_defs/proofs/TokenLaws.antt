@@ -7,9 +7,9 @@ use Rattle.std.proofs.lemmas.Bool.{le-leb, leb-true}
 use Rattle.rank_defs.specs.declared.transaction.Span.{Span}
 use Rattle.text_core.specs.declared.mark.Mark.TheVariants as m
 use Rattle.text_core.specs.Glyphs.{Glyph, text, figure, sign}
-use Rattle.policy_text_defs.specs.Words.{is_name}
+use Rattle.policy_text_defs.specs.Words.{is_name, is_target, some_if}
 use Rattle.policy_text_defs.specs.Statements.{IsName, IsTarget, variable_target, rank_target, IsSpan, span_tokens}
-use Rattle.policy_text_defs.specs.Reading.{◌>>=◌, pure, refuse, mark}
+use Rattle.policy_text_defs.specs.Reading.{◌>>=◌, pure, refuse, given, mark}
 use Rattle.policy_text_defs.specs.StatementReading.{a_word, a_number, within, number_to, named_by, name, target_by, target, spanned, span_at, span}
 use Rattle.policy_text_defs.proofs.StepLaws.{steps, same_value, same_rest, marked}
 
@@ -46,6 +46,11 @@ pub kept : {A : Type 0} (v : Bool) (a b : A) (gs left : List Glyph) → cond v (
 kept true a b gs left e = record { is = refl; same = same_value a b gs left e; rest = same_rest a b gs left e }
 kept false a b gs left e = absurd cc
 
+-- a word passed a test, and something was made of it
+pub given_was : {A : Type 0} (v : Bool) (f : List ℕ → A) (w : List ℕ) (b : A) (gs left : List Glyph) → given f (some_if v w) gs ≡ Some (b, left) → Kept v (f w) b gs left
+given_was true f w b gs left e = record { is = refl; same = same_value (f w) b gs left e; rest = same_rest (f w) b gs left e }
+given_was false f w b gs left e = absurd cc
+
 within_was : (most n o : ℕ) (gs left : List Glyph) → within most n gs ≡ Some (o, left) → Kept (leb n most) n o gs left
 unfolding within
 within_was most n o gs left e = kept (leb n most) n o gs left e
@@ -69,7 +74,7 @@ pub record Named (gs : List Glyph) (w : List ℕ) (left : List Glyph) : Type 0 w
 
 named_was : (v w : List ℕ) (gs left : List Glyph) → named_by v gs ≡ Some (w, left) → Kept (is_name v) v w gs left
 unfolding named_by
-named_was v w gs left e = kept (is_name v) v w gs left e
+named_was v w gs left e = given_was (is_name v) (λ u. u) v w gs left e
 
 pub name_was : (w : List ℕ) (gs left : List Glyph) → name gs ≡ Some (w, left) → Named gs w left
 name_was w gs left e =
@@ -95,7 +100,7 @@ target_by_case false false w p q e = absurd cc
 
 target_by_was : (v w : List ℕ) (gs left : List Glyph) → target_by v gs ≡ Some (w, left) → Kept (is_name v || bytes_eq v (codes "rank")) v w gs left
 unfolding target_by
-target_by_was v w gs left e = kept (is_name v || bytes_eq v (codes "rank")) v w gs left e
+target_by_was v w gs left e = given_was (is_target v) (λ u. u) v w gs left e
 
 pub target_was : (w : List ℕ) (gs left : List Glyph) → target gs ≡ Some (w, left) → Targeted gs w left
 target_was w gs left e =

@@ -9,7 +9,7 @@ use Rattle.text_core.specs.Marks.{mark_text}
 use Rattle.text_core.specs.Glyphs.{Glyph, text, figure, sign}
 use Rattle.policy_text_defs.specs.declared.function.Function.{Function}
 use Rattle.policy_text_defs.specs.declared.function.Function.TheVariants as function
-use Rattle.policy_text_defs.specs.Words.{is_operand, function_of}
+use Rattle.policy_text_defs.specs.Words.{is_operand, function_of, passing}
 use Rattle.policy_text_defs.specs.Phrase.{Phrase, number, word, two, negation, choice, depth, most_depth, most_open}
 use Rattle.policy_text_defs.specs.Grammar.{product_op, sum_op, relation}
 
@@ -41,6 +41,11 @@ refuse = λ gs. None
 abbrev pub pick : {A B : Type 0} → Option A → B → (A → B) → B
 pick None other f = other
 pick (Some x) other f = f x
+
+-- what is made of a word that passed a test
+abbrev pub given : {A : Type 0} → (List ℕ → A) → Option (List ℕ) → Reader A
+given f None = refuse
+given f (Some w) = pure (f w)
 
 abbrev pub next : Reader Glyph
 next [] = None
@@ -100,7 +105,7 @@ unfoldable pub expression : Reader Phrase → Reader Phrase
 expression atom = sum atom >>= comparison (sum atom)
 
 unfoldable pub operand : List ℕ → Reader Phrase
-operand w = if is_operand w then pure (word w) else refuse
+operand w = given word (passing is_operand w)
 
 -- The reader is of expressions inside one more pair of parentheses.
 module _ (inside : Reader Phrase) where

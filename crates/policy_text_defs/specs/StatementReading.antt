@@ -19,7 +19,7 @@ use Rattle.policy_text_defs.specs.Ranges.{attribute_least, attribute_most, field
 use Rattle.policy_text_defs.specs.Phrase.{most_open}
 use Rattle.policy_text_defs.specs.Sense.{Sense, version, transaction, keep, each, push, pop, class, leaf, node}
 use Rattle.policy_text_defs.specs.Statements.{unset, attribute_value, with_attribute, Octets, address_of}
-use Rattle.policy_text_defs.specs.Reading.{Outcome, Reader, ◌>>=◌, ◌>>◌, pure, refuse, pick, next, is_sign, is_text, mark, literal, ahead, unit_if, expression, atom}
+use Rattle.policy_text_defs.specs.Reading.{Outcome, Reader, ◌>>=◌, ◌>>◌, pure, refuse, pick, given, next, is_sign, is_text, mark, literal, ahead, unit_if, expression, atom}
 
 -- goes on, at most so often, while the tokens begin with what take finds
 unfoldable pub repeated : {K A : Type 0} → (List Glyph → Outcome K) → (K → A → Reader A) → ℕ → A → Reader A
@@ -52,13 +52,13 @@ abbrev pub number_to : ℕ → Reader ℕ
 number_to most = a_number >>= within most
 
 unfoldable pub named_by : List ℕ → Reader (List ℕ)
-named_by w = if is_name w then pure w else refuse
+named_by w = given (λ v. v) (passing is_name w)
 
 abbrev pub name : Reader (List ℕ)
 name = a_word >>= named_by
 
 unfoldable pub target_by : List ℕ → Reader (List ℕ)
-target_by w = if is_target w then pure w else refuse
+target_by w = given (λ v. v) (passing is_target w)
 
 abbrev pub target : Reader (List ℕ)
 target = a_word >>= target_by
