@@ -60,7 +60,7 @@ attributes_boundary a = boundary-append (attribute_text attribute.Prio a.prio) _
 text_attributes : (a : Attrs) → AreValidAttributes a → IsPiece IsBoundary (attributes_text a) (attributes_tokens a)
 text_attributes a are =
     before (text_attribute attribute.Prio a.prio are.prio) (boundary-append (attribute_text attribute.Weight a.weight) _ (attribute_boundary attribute.Weight a.weight) (attribute_boundary attribute.Slack a.slack))
-        (before (text_attribute attribute.Weight a.weight are.weight) (attribute_boundary attribute.Slack a.slack) (text_attribute attribute.Slack a.slack are.slack))
+    (before (text_attribute attribute.Weight a.weight are.weight) (attribute_boundary attribute.Slack a.slack) (text_attribute attribute.Slack a.slack are.slack))
 
 -- ---- ranges, addresses and conditions
 
@@ -80,10 +80,10 @@ text_address a l is =
     let are = octets_are a is.address in
     let length_low = is.prefix in
     before (text_number o.first (omega (arith, are.first))) refl
-        (before (text_dot o.second (omega (arith, are.second))) refl
-            (before (text_dot o.third (omega (arith, are.third))) refl
-                (before (text_dot o.fourth (omega (arith, are.fourth))) refl
-                    (after text_slash (text_number l (omega arith))))))
+    (before (text_dot o.second (omega (arith, are.second))) refl
+    (before (text_dot o.third (omega (arith, are.third))) refl
+    (before (text_dot o.fourth (omega (arith, are.fourth))) refl
+    (after text_slash (text_number l (omega arith))))))
 
 field_is_word : (f : FieldName) → is_word (field_word f) ≡ true
 field_is_word field.Vlan = refl

@@ -11,7 +11,9 @@ mod term;
 mod word;
 
 pub use attribute::{Attribute, Attrs};
-pub use canonical::{canonical_text_reads_back, texts_have_one_list_of_statements, written_statements_are_valid};
+pub use canonical::{
+    canonical_text_reads_back, texts_have_one_list_of_statements, written_statements_are_valid,
+};
 pub use condition::{Condition, FieldName, Subject, protocol_of};
 pub use function::Function;
 pub use keyword::Keyword;
