@@ -10,3 +10,4 @@ pub mod StatementLaws
 pub mod StepLaws
 pub mod TokenLaws
 pub mod WordLaws
+pub mod RepeatLoops
