@@ -1,5 +1,5 @@
 -- What a reading function answers, by what reading gives.
-use Rattle.std.specs.Prelude.{◌≡◌, List, Option, Some, None, Result, Ok, Err}
+use Rattle.std.specs.Prelude.{◌≡◌, Bool, true, false, List, Option, Some, None, Result, Ok, Err}
 use Rattle.text_core.specs.Glyphs.{Glyph}
 use Rattle.policy_text.specs.declared.refusal.Refusal.{Refusal}
 use Rattle.policy_text.specs.declared.refusal.Refusal.TheVariants.{NoForm, NoMemory}
@@ -21,6 +21,11 @@ Reads view outcome (Err e) new = Refuses e outcome
 abbrev pub Takes : {A B : Type 0} → (B → A) → Outcome A → Option B → List Glyph → List Glyph → Type 0
 Takes view outcome None old new = (outcome ≡ None) × (new ≡ old)
 Takes view outcome (Some b) old new = outcome ≡ Some (view b, new)
+
+-- the same for a token of which nothing is told but that it was taken
+abbrev pub TakesIf : Outcome (Unit {0}) → Bool → List Glyph → List Glyph → Type 0
+TakesIf outcome false old new = (outcome ≡ None) × (new ≡ old)
+TakesIf outcome true old new = outcome ≡ Some (tt, new)
 
 abbrev pub phrase_of_part : Part → Phrase
 phrase_of_part p = phrase_of p.term

@@ -1,8 +1,8 @@
-ghost use Rattle.std.specs.Prelude.{◌≡◌, MatchOption, option_map};
+ghost use Rattle.std.specs.Prelude.{◌≡◌, ◌≤◌, IfOk};
 ghost use Rattle.policy_text_defs.specs.Grammar as grammar;
 ghost use Rattle.policy_text_defs.specs.Reading as spec;
 ghost use Rattle.policy_text_defs.specs.StatementReading as forms;
-ghost use Rattle.policy_text.specs.Reads.{Reads, Takes, same};
+ghost use Rattle.policy_text.specs.Reads.{Reads, Takes, TakesIf, same};
 ghost use Rattle.text_core.specs.Glyphs.{glyph_of, glyphs_of};
 
 use crate::refusal::Refusal;
@@ -66,28 +66,28 @@ impl<'a> Cursor<'a> {
     }
 
     /// Takes a mark where it stands first.
-    pub fn takes_mark(&mut self, mark: Mark) -> Option<()>
-        ensures { Takes same (spec.ahead (λ g. spec.unit_if (spec.is_sign mark g)) (glyphs_of self.old.rest.now)) result (glyphs_of self.old.rest.now) (glyphs_of self.new.rest.now) }
+    pub fn takes_mark(&mut self, mark: Mark) -> bool
+        ensures { TakesIf (spec.ahead (λ g. spec.unit_if (spec.is_sign mark g)) (glyphs_of self.old.rest.now)) result (glyphs_of self.old.rest.now) (glyphs_of self.new.rest.now) }
     {
         match self.rest {
             [first, rest @ ..] if is_mark(first, mark) => {
                 self.rest = rest;
-                Some(())
+                true
             }
-            _ => None,
+            _ => false,
         }
     }
 
     /// Takes a word where it stands first.
-    pub fn takes_word(&mut self, word: &str) -> Option<()>
-        ensures { Takes same (spec.ahead (forms.word_ahead word.now) (glyphs_of self.old.rest.now)) result (glyphs_of self.old.rest.now) (glyphs_of self.new.rest.now) }
+    pub fn takes_word(&mut self, word: &str) -> bool
+        ensures { TakesIf (spec.ahead (forms.word_ahead word.now) (glyphs_of self.old.rest.now)) result (glyphs_of self.old.rest.now) (glyphs_of self.new.rest.now) }
     {
         match self.rest {
             [first, rest @ ..] if is_word(first, word) => {
                 self.rest = rest;
-                Some(())
+                true
             }
-            _ => None,
+            _ => false,
         }
     }
 
@@ -112,7 +112,8 @@ impl<'a> Cursor<'a> {
     /// A number that is at most `most`.
     #[tactic(auto, unfolding(policy_text_defs::specs::StatementReading::within))]
     pub fn number_to(&mut self, most: u32) -> Result<u32, Refusal>
-        ensures { Reads same (forms.number_to most (glyphs_of self.old.rest.now)) result (glyphs_of self.new.rest.now) }
+        ensures reads { Reads same (forms.number_to most (glyphs_of self.old.rest.now)) result (glyphs_of self.new.rest.now) }
+        ensures low { IfOk result (λ n. n ≤ most) }
     {
         let number = self.number()?;
         if number > most as u64 {

@@ -1,12 +1,14 @@
 //! Policy texts: reading their statements, and printing statements as canonical text.
 #![tactic(auto)]
 
+mod conditions;
 mod cursor;
 mod lines;
 mod parser;
 mod part;
 mod printing;
 mod refusal;
+mod statements;
 
 pub use lines::Lines;
 pub use policy_text_defs::{Attrs, Condition, FieldName, Statement, Term};

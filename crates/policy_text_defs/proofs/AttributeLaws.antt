@@ -1,5 +1,5 @@
 -- Attributes and lists of names: what is read is their form, and their form is read.
-use Rattle.std.proofs.Common.{◌≡◌, ℕ, zero, suc, ◌≤◌, List, [], ◌∷◌, ◌++◌, length, map, Option, Some, None, Bool, true, false, cond, leb, sym, refl, ap, ◌∙◌, subst, codes, arith, append_assoc}
+use Rattle.std.proofs.Common.{◌≡◌, ℕ, zero, suc, ◌<◌, ◌≤◌, List, [], ◌∷◌, ◌++◌, length, map, Option, Some, None, Bool, true, false, cond, leb, sym, refl, ap, ◌∙◌, subst, codes, arith, append_assoc}
 use Rattle.std.proofs.lemmas.List.{append-nil}
 use Rattle.std.specs.Prelude.{◌&&◌}
 use Rattle.std.specs.List.{AllByRecursion}
@@ -15,7 +15,7 @@ use Rattle.policy_text_defs.specs.Reading.{Outcome, Reader, ◌>>=◌, pick, pur
 use Rattle.policy_text_defs.specs.StatementReading.{repeated, many, attribute_at, is_unset, set_to, set_next, attributes, name_ahead, name_last, name, names}
 use Rattle.policy_text_defs.proofs.StepLaws.{steps, same_value, same_rest, stands, ahead_at, in_table}
 use Rattle.policy_text_defs.proofs.TokenLaws.{numbered, kept, Kept, both_true, named_reads, name_was}
-use Rattle.policy_text_defs.proofs.RepeatLaws.{Leads, Goes, no_step, onward, repeated_ends, repeated_more, many_was}
+use Rattle.policy_text_defs.proofs.RepeatLaws.{Leads, Goes, no_step, onward, repeated_ends, repeated_more, many_was, leads_shrink}
 
 -- ---- attributes
 
@@ -174,3 +174,9 @@ unfolding names many
 read_names [] are = absurd (omega (arith, are.some))
 read_names (n ∷ ns) are =
     rw (named_reads n (map text ns) are.each.0) (names_read (n ∷ []) ns (length (map text ns)) are.each.1 (mapped ns))
+
+pub attribute_shrinks : (k : Attribute) (a b : Attrs) (gs hs is : List Glyph) → ahead attribute_at gs ≡ Some (k, hs) → set_next k a hs ≡ Some (b, is) → length is < length gs
+attribute_shrinks k a b gs hs is found e = let l = attribute_was k a b gs hs is found e in leads_shrink a b gs is l (let two : length l.front ≡ 2 = ap length l.is.tokens in omega arith)
+
+pub name_shrinks : (w : List ℕ) (a b : List (List ℕ)) (gs hs is : List Glyph) → ahead name_ahead gs ≡ Some (w, hs) → name_last w a hs ≡ Some (b, is) → length is < length gs
+name_shrinks w a b gs hs is found e = let l = name_last_was w a b gs hs is found e in leads_shrink a b gs is l (let one : length l.front ≡ 1 = ap length l.is.tokens in omega arith)

@@ -1,5 +1,5 @@
 -- Lists of conditions: what is read is their form, and their form is read.
-use Rattle.std.proofs.Common.{◌≡◌, ℕ, zero, suc, ◌≤◌, List, [], ◌∷◌, ◌++◌, length, Option, Some, None, sym, refl, ap, ◌∙◌, subst, codes, arith, append_assoc, length-append}
+use Rattle.std.proofs.Common.{◌≡◌, ℕ, zero, suc, ◌<◌, ◌≤◌, List, [], ◌∷◌, ◌++◌, length, Option, Some, None, sym, refl, ap, ◌∙◌, subst, codes, arith, append_assoc, length-append}
 use Rattle.std.proofs.lemmas.List.{append-nil}
 use Rattle.text_core.specs.Glyphs.{Glyph, text, figure, sign}
 use Rattle.policy_text_defs.specs.declared.condition.Condition.{Condition}
@@ -8,7 +8,7 @@ use Rattle.policy_text_defs.specs.Reading.{Outcome, Reader, ◌>>=◌, pick, pur
 use Rattle.policy_text_defs.specs.StatementReading.{repeated, many, a_condition, word_ahead, condition_last, conditions, guard}
 use Rattle.policy_text_defs.proofs.StepLaws.{steps, same_value, same_rest}
 use Rattle.policy_text_defs.proofs.ConditionLaws.{Apart, apart_end, apart_word, word_follows, condition_was, condition_reads}
-use Rattle.policy_text_defs.proofs.RepeatLaws.{Leads, Goes, no_step, onward, repeated_ends, repeated_more, many_was}
+use Rattle.policy_text_defs.proofs.RepeatLaws.{Leads, Goes, no_step, onward, repeated_ends, repeated_more, many_was, leads_shrink}
 
 -- {and COND}
 data Further : List Glyph → List Condition → Type 0 where
@@ -112,3 +112,6 @@ pub read_guard : (cs : List Condition) (ts : List Glyph) → Guard ts cs → gua
 unfolding guard
 read_guard cs ts unguarded = refl
 read_guard cs ts (guarded us _ are) = read_conditions cs us are
+
+pub condition_shrinks : (u : Unit {0}) (a b : List Condition) (gs hs is : List Glyph) → ahead (word_ahead (codes "and")) gs ≡ Some (u, hs) → condition_last u a hs ≡ Some (b, is) → length is < length gs
+condition_shrinks u a b gs hs is found e = let l = further_was u a b gs hs is found e in leads_shrink a b gs is l (let some : length l.front ≡ suc (length l.is.rest) = ap length l.is.tokens in omega arith)

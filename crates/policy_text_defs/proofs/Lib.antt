@@ -23,3 +23,4 @@ pub mod ValidLaws
 pub mod ValidProps
 pub mod WordForms
 pub mod WordLaws
+pub mod RepeatLoops

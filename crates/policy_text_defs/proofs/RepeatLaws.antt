@@ -1,5 +1,5 @@
 -- What is read again and again while the tokens begin with something.
-use Rattle.std.proofs.Common.{◌≡◌, ℕ, zero, suc, ◌≤◌, List, [], ◌∷◌, ◌++◌, length, Option, Some, None, sym, refl, ap, ◌∙◌, subst, arith, append_assoc}
+use Rattle.std.proofs.Common.{◌≡◌, ℕ, zero, suc, ◌<◌, ◌≤◌, List, [], ◌∷◌, ◌++◌, length, Option, Some, None, sym, refl, ap, ◌∙◌, subst, arith, append_assoc, length-append}
 use Rattle.text_core.specs.Glyphs.{Glyph}
 use Rattle.policy_text_defs.specs.Reading.{Outcome, Reader, ◌>>=◌, pick, pure, refuse}
 use Rattle.policy_text_defs.specs.StatementReading.{repeated, many}
@@ -50,3 +50,7 @@ module _ {K A : Type 0} (take : List Glyph → Outcome K) (step : K → A → Re
     pub many_was : (a c : A) (gs left : List Glyph) → many take step a gs ≡ Some (c, left) → Leads (Goes Step) a gs c left
     unfolding many
     many_was a c gs left e = repeated_was (length gs) a c gs left e
+
+-- what leads on takes tokens, where its front has any
+pub leads_shrink : {A : Type 0} {Step : A → List Glyph → A → Type 0} (a b : A) (gs rest : List Glyph) (l : Leads Step a gs b rest) → 0 < length l.front → length rest < length gs
+leads_shrink a b gs rest l some = omega (arith, ap length l.split, length-append l.front rest)
