@@ -6,7 +6,6 @@ mod cursor;
 mod lines;
 mod parser;
 mod part;
-mod refusal;
 mod statements;
 
 pub use lines::Lines;

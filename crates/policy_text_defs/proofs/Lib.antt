@@ -11,3 +11,4 @@ pub mod StepLaws
 pub mod TokenLaws
 pub mod WordLaws
 pub mod RepeatLoops
+pub mod TextLaws
