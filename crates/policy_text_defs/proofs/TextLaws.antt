@@ -12,6 +12,7 @@ use Rattle.text_core.proofs.SaysLaws.{Says-one}
 use Rattle.policy_text_defs.specs.Sense.{Sense, Entry, entry}
 use Rattle.policy_text_defs.specs.Statements.{IsForm}
 use Rattle.policy_text_defs.specs.Text.{first_word, is_shaping, Carries, Entries, over, empty, carried, HasEntries, Fault, not_text, shaping, syntax_fault, IsFault, IsSound, blank_line, statement_line, FirstFault, here, later, IsFirstFault}
+use Rattle.policy_text_defs.specs.StatementReading.{a_statement}
 use Rattle.policy_text_defs.proofs.TokenLaws.{both_true}
 use Rattle.policy_text_defs.proofs.StatementLaws.{read-IsForm, IsForm-one}
 
@@ -22,7 +23,8 @@ blank_skipped [] all = refl
 blank_skipped (b ∷ bs) all =
     let both = both_true (is_blank b) (list_all is_blank bs) all in
     let later : skipped bs ≡ [] = blank_skipped bs both.1 in
-    rw both.0 later
+    let one : 1 + prefix_len is_blank bs ≡ suc (prefix_len is_blank bs) = omega arith in
+    rw both.0 (ap (λ n. drop n (b ∷ bs)) one ∙ later)
 
 blank_clean_byte : (u v : Bool) (b : ℕ) → (b == 32) ≡ u → (b == 9) ≡ v → (u || v) ≡ true → is_clean b ≡ true
 blank_clean_byte true v b is_u is_v e = let same : b ≡ 32 = eqb-true b 32 is_u in subst (λ n. is_clean n ≡ true) (sym same) refl
@@ -42,8 +44,12 @@ no_tokens : (gs : List Glyph) → SaysFrom [] gs → gs ≡ []
 no_tokens [] says = refl
 no_tokens (g ∷ gs) says = absurd cc
 
+nothing_read : (s : Sense) (rest : List Glyph) → a_statement [] ≡ Some (s, rest) → ⊥
+unfolding a_statement
+nothing_read s rest e = absurd cc
+
 no_form : (gs : List Glyph) (s : Sense) → gs ≡ [] → IsForm gs s → ⊥
-no_form gs s none is = let read = read-IsForm gs s is in let empty = subst (λ l. IsForm l s) none is in let read_none = read-IsForm [] s empty in absurd cc
+no_form gs s none is = nothing_read s [] (read-IsForm [] s (subst (λ l. IsForm l s) none is))
 
 -- a line of blanks carries nothing
 blank_carries : (line : List ℕ) (s : Sense) → list_all is_blank line ≡ true → Carries line s → ⊥
