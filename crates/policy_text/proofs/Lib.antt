@@ -1,3 +1,5 @@
 pub mod PrintLaws
 pub mod PrintMeasure
 pub mod Refusals
+pub mod LoopLaws
+pub mod StateLaws

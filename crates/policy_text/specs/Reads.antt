@@ -1,8 +1,8 @@
 -- What a reading function answers, by what reading gives.
 use Rattle.std.specs.Prelude.{◌≡◌, Bool, true, false, List, Option, Some, None, Result, Ok, Err}
 use Rattle.text_core.specs.Glyphs.{Glyph}
-use Rattle.policy_text.specs.declared.refusal.Refusal.{Refusal}
-use Rattle.policy_text.specs.declared.refusal.Refusal.TheVariants.{NoForm, NoMemory}
+use Rattle.text_core.specs.declared.refusal.Refusal.{Refusal}
+use Rattle.text_core.specs.declared.refusal.Refusal.TheVariants.{NoForm, NoMemory}
 use Rattle.policy_text.specs.declared.part.Part.{Part}
 use Rattle.policy_text_defs.specs.Phrase.{Phrase, phrase_of}
 use Rattle.policy_text_defs.specs.Reading.{Outcome}

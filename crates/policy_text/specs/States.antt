@@ -1,7 +1,7 @@
 -- What a parser of statements answers.
 use Rattle.std.specs.Prelude.{◌≡◌, Result, Ok, Err}
-use Rattle.policy_text.specs.declared.refusal.Refusal.{Refusal}
-use Rattle.policy_text.specs.declared.refusal.Refusal.TheVariants.{NoForm, NoMemory}
+use Rattle.text_core.specs.declared.refusal.Refusal.{Refusal}
+use Rattle.text_core.specs.declared.refusal.Refusal.TheVariants.{NoForm, NoMemory}
 use Rattle.policy_text_defs.specs.declared.statement.Statement.{Statement}
 use Rattle.policy_text_defs.specs.Sense.{Sense, sense_of}
 

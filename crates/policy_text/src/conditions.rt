@@ -5,11 +5,11 @@ ghost use Rattle.std.specs.Prelude.{List};
 ghost use Rattle.text_core.specs.Glyphs.{Glyph, glyphs_of};
 
 use crate::cursor::Cursor;
-use crate::refusal::Refusal;
+
 use list_core::List;
 use policy_text_defs::{Condition, FieldName, Subject, protocol_of};
 use std::alloc::Global;
-use text_core::{Item, Mark};
+use text_core::{Item, Mark, Refusal};
 
 const MOST_OCTET: u32 = 255;
 

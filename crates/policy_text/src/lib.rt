@@ -7,7 +7,6 @@ mod lines;
 mod parser;
 mod part;
 mod printing;
-mod refusal;
 mod statements;
 
 pub use lines::Lines;

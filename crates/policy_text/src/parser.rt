@@ -7,12 +7,12 @@ ghost use Rattle.text_core.specs.Glyphs.{Glyph, glyphs_of};
 
 use crate::cursor::Cursor;
 use crate::part::{MOST_DEPTH, Part};
-use crate::refusal::Refusal;
+
 use list_core::Name;
 use policy_text_defs::{Function, Term, operand_of};
 use rank_defs::Op;
 use std::alloc::Global;
-use text_core::{Item, Mark};
+use text_core::{Item, Mark, Refusal};
 
 #[tactic(auto, unfolding(policy_text_defs::specs::Reading::limited))]
 fn pair(alloc: Global, op: Op, left: Part, right: Part) -> Result<Part, Refusal>

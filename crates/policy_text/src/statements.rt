@@ -12,12 +12,12 @@ use crate::conditions::guard;
 use crate::cursor::Cursor;
 use crate::parser::expression;
 use crate::part::{MOST_OPEN, Part};
-use crate::refusal::Refusal;
+
 use list_core::{List, Name};
 use policy_text_defs::{Attribute, Attrs, Keyword, Statement};
 use rank_defs::Span;
 use std::alloc::Global;
-use text_core::{Item, Mark};
+use text_core::{Item, Mark, Refusal};
 
 const UNSET: Attrs = Attrs {
     prio: None,

@@ -24,3 +24,4 @@ pub mod ValidProps
 pub mod WordForms
 pub mod WordLaws
 pub mod RepeatLoops
+pub mod TextLaws

@@ -1,5 +1,5 @@
 -- The statements of a text, and the least of its lines that is at fault.
-use Rattle.std.specs.Prelude.{◌≡◌, ℕ, suc, ◌+◌, ◌≤◌, Bool, true, false, List, [], ◌∷◌, ◌++◌, length, take, codes}
+use Rattle.std.specs.Prelude.{◌≡◌, ℕ, suc, ◌≤◌, Bool, true, false, List, [], ◌∷◌, length, take, codes}
 use Rattle.std.specs.List.{prefix_len, list_all}
 use Rattle.std.specs.Str.{bytes_eq}
 use Rattle.text_core.specs.Lines.{is_clean_text, statements_of}
@@ -57,14 +57,17 @@ IsFault line not_text = is_clean_text line ≡ false
 IsFault line shaping = (is_clean_text line ≡ true) × (is_shaping line ≡ true)
 IsFault line syntax_fault = (is_clean_text line ≡ true) × (is_shaping line ≡ false) × (list_all is_blank line ≡ false) × ((s : Sense) → Carries line s → ⊥)
 
--- the least line at fault, counted from 1, and its fault
+-- the line carries a statement, or none
+pub data IsSound (line : List ℕ) : Type 0 where
+  blank_line : list_all is_blank line ≡ true → IsSound line
+  statement_line : (s : Sense) → Carries line s → IsSound line
+
+-- the first of the lines that is at fault, its number and its fault, where the lines are numbered from this number on
+pub data FirstFault : ℕ → List (List ℕ) → ℕ → Fault → Type 0 where
+  here : (n : ℕ) (line : List ℕ) (lines : List (List ℕ)) (f : Fault) → IsFault line f → FirstFault n (line ∷ lines) n f
+  later : (n m : ℕ) (line : List ℕ) (lines : List (List ℕ)) (f : Fault) → IsSound line → FirstFault (suc n) lines m f → FirstFault n (line ∷ lines) m f
+
+-- the least line of the text that is at fault, counted from 1, and its fault
 pub record IsFirstFault (text : List ℕ) (n : ℕ) (f : Fault) : Type 0 where
   pub short : length text ≤ most_text
-  pub before : List (List ℕ)
-  pub line : List ℕ
-  pub after : List (List ℕ)
-  pub apart : statements_of text ≡ before ++ line ∷ after
-  pub entries : List Entry
-  pub sound : Entries 1 before entries
-  pub number : n ≡ length before + 1
-  pub fault : IsFault line f
+  pub first : FirstFault 1 (statements_of text) n f

@@ -3,7 +3,7 @@ use Rattle.std.proofs.Common.{◌≡◌, ℕ, zero, suc, ◌+◌, ◌-◌, ◌<�
 use Rattle.std.specs.List.{prefix_len, All, AllByRecursion}
 use Rattle.std.proofs.lemmas.List.Sums.{prefix_len-le-length}
 use Rattle.text_core.specs.declared.line.Line.{Line}
-use Rattle.text_core.specs.Lines.{is_text, is_clean_text, no_comment, statement_length, statement_of, onto_first, lines_of, line_text, clean_of, LiesIn, line_at, Follow}
+use Rattle.text_core.specs.Lines.{is_text, is_clean_text, no_comment, statement_length, statement_of, onto_first, lines_of, line_text, IsMarked, LiesIn, line_at, Follow}
 
 abbrev nothing : List ℕ
 nothing = []
@@ -77,14 +77,14 @@ text_at text from l start end =
 -- what the spans hold, line by line
 pub record Hold (text : List ℕ) (from : ℕ) (ls : List Line) : Type 0 where
   pub texts : map (line_text text) ls ≡ map statement_of (lines_of (drop from text))
-  pub clean : map clean_of ls ≡ map is_clean_text (map statement_of (lines_of (drop from text)))
+  pub clean : AllByRecursion (IsMarked text) ls
   pub within : AllByRecursion (LiesIn text) ls
   pub count : length ls ≤ length (drop from text)
 
 pub Follow-Hold : (text : List ℕ) (from : ℕ) (ls : List Line) (to : ℕ) → Follow text from ls to → length text ≤ to → Hold text from ls
 Follow-Hold text from [] to follow over =
     let none : drop from text ≡ nothing = drop-over from text (omega arith) in
-    record { texts = ap (λ bs. map statement_of (lines_of bs)) (sym none); clean = ap (λ bs. map is_clean_text (map statement_of (lines_of bs))) (sym none); within = tt; count = omega arith }
+    record { texts = ap (λ bs. map statement_of (lines_of bs)) (sym none); clean = tt; within = tt; count = omega arith }
 Follow-Hold text from (l ∷ ls) to follow over =
     let n = prefix_len is_text (drop from text) in
     let line = line_at text from in
@@ -103,7 +103,7 @@ Follow-Hold text from (l ∷ ls) to follow over =
     let behind_left = length-drop next text in
     record {
       texts = ap (λ x. x ∷ map (line_text text) ls) (text_at text from l start end) ∙ ap (λ r. statement_of line ∷ r) later.texts ∙ sym (ap (map statement_of) whole);
-      clean = ap (λ v. v ∷ map clean_of ls) follow.3 ∙ ap (λ r. is_clean_text (statement_of line) ∷ r) later.clean ∙ sym (ap (λ r. map is_clean_text (map statement_of r)) whole);
+      clean = (follow.3 ∙ ap is_clean_text (sym (text_at text from l start end)), later.clean);
       within = ((omega arith, omega arith), later.within);
       count = omega arith;
     }
@@ -115,3 +115,6 @@ all-at P (l ∷ ls) holds (suc k) d inside = all-at P ls holds.1 k d (omega arit
 
 pub Hold-All : (text : List ℕ) (ls : List Line) → Hold text 0 ls → All (LiesIn text) ls
 Hold-All text ls hold = all-at (LiesIn text) ls hold.within
+
+pub Hold-clean : (text : List ℕ) (ls : List Line) → Hold text 0 ls → All (IsMarked text) ls
+Hold-clean text ls hold = all-at (IsMarked text) ls hold.clean

@@ -48,8 +48,9 @@ statements_of text = map statement_of (lines_of text)
 abbrev pub line_text : List ℕ → Line → List ℕ
 line_text text l = take (l.end - l.start) (drop l.start text)
 
-abbrev pub clean_of : Line → Bool
-clean_of l = l.clean
+-- `clean` says whether each byte of the line's span is allowed
+abbrev pub IsMarked : List ℕ → Line → Type 0
+IsMarked text l = l.clean ≡ is_clean_text (line_text text l)
 
 -- the line's span lies in the text
 abbrev pub LiesIn : List ℕ → Line → Type 0

@@ -1,6 +1,6 @@
 ghost use Rattle.std.specs.Prelude.{◌≡◌, ◌<◌, ◌≤◌, length, map, IfOk, IsTrue};
 ghost use Rattle.std.specs.List.{prefix_len, list_all, All};
-ghost use Rattle.text_core.specs.Lines.{is_text, is_clean, no_comment, ends_with_return, statement_length, AreLines, line_text, statements_of, clean_of, is_clean_text, LiesIn};
+ghost use Rattle.text_core.specs.Lines.{is_text, is_clean, no_comment, ends_with_return, statement_length, AreLines, line_text, statements_of, IsMarked, LiesIn};
 
 use list_core::List;
 use std::alloc::{AllocError, Global};
@@ -64,7 +64,7 @@ fn statement_length(line: &[u8]) -> usize
 pub fn lines(alloc: Global, text: &[u8]) -> Result<List<Line>, AllocError>
     ensures spans { IfOk result (λ ls. AreLines text.now ls) }
     ensures texts { IfOk result (λ ls. map (line_text text.now) ls ≡ statements_of text.now) }
-    ensures clean { IfOk result (λ ls. map clean_of ls ≡ map is_clean_text (statements_of text.now)) }
+    ensures clean { IfOk result (λ ls. All (IsMarked text.now) ls) }
     ensures within { IfOk result (λ ls. All (LiesIn text.now) ls) }
     ensures count { IfOk result (λ ls. length ls ≤ length text.now) }
 {

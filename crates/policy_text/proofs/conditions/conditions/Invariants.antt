@@ -5,8 +5,8 @@ use Rattle.policy_text_defs.specs.StatementReading as forms
 use Rattle.policy_text_defs.proofs.RepeatLoops.{Repeats}
 use Rattle.policy_text.proofs.conditions.conditions.Given as goal
 
-abbrev pub invariant-loop : goal.invariant-loop
-invariant-loop l = Repeats (spec.ahead (forms.word_ahead (codes "and"))) forms.condition_last (forms.conditions (glyphs_of l.fn.cursor.rest.now)) l.conditions (glyphs_of l.cursor.rest.now)
+abbrev pub invariant-loop-conditions : goal.invariant-loop-conditions
+invariant-loop-conditions l = Repeats (spec.ahead (forms.word_ahead (codes "and"))) forms.condition_last (forms.conditions (glyphs_of l.fn.cursor.rest.now)) l.conditions (glyphs_of l.cursor.rest.now)
 
-abbrev pub decreases-loop : goal.decreases-loop
-decreases-loop l = length l.cursor.rest.now
+abbrev pub decreases-loop-conditions : goal.decreases-loop-conditions
+decreases-loop-conditions l = length (glyphs_of l.cursor.rest.now)

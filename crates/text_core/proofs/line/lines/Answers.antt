@@ -1,5 +1,5 @@
 use Rattle.std.proofs.Common.{◌≡◌, ◌+◌, ◌-◌, List, take, drop, sym, ◌∙◌, refl, ap, arith, subst}
-use Rattle.text_core.proofs.LineLaws.{Follow-Hold, Hold-All}
+use Rattle.text_core.proofs.LineLaws.{Follow-Hold, Hold-All, Hold-clean}
 use Rattle.std.specs.List.{prefix_len, list_all}
 use Rattle.text_core.specs.Lines.{is_text, is_clean, statement_length, line_at, Follow}
 use Rattle.text_core.proofs.LineLemmas.{Follow-push}
@@ -25,7 +25,7 @@ pub returns-clause-texts : goal.returns-clause-texts
 returns-clause-texts c = (Follow-Hold c.args.text.now 0 c.loop-at.found c.loop-at.at c.loop-at.invariant (omega arith)).texts
 
 pub returns-clause-clean : goal.returns-clause-clean
-returns-clause-clean c = (Follow-Hold c.args.text.now 0 c.loop-at.found c.loop-at.at c.loop-at.invariant (omega arith)).clean
+returns-clause-clean c = Hold-clean _ _ (Follow-Hold c.args.text.now 0 c.loop-at.found c.loop-at.at c.loop-at.invariant (omega arith))
 
 pub returns-clause-within : goal.returns-clause-within
 returns-clause-within c = Hold-All _ _ (Follow-Hold c.args.text.now 0 c.loop-at.found c.loop-at.at c.loop-at.invariant (omega arith))

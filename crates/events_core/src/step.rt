@@ -1,0 +1,51 @@
+ghost use Rattle.std.specs.Prelude.{◌≡◌};
+ghost use Rattle.events_core.specs.Steps.{count_of, word_step, counted_step};
+
+/// What a line of a script asks for.
+#[derive(Clone, Copy, Debug, PartialEq, Eq)]
+pub enum Step {
+    /// So many arrivals, each of the next packet.
+    Arrive(u64),
+    /// So many departures.
+    Depart(u64),
+    /// Arrivals as long as a packet is left.
+    Rest,
+    /// Departures as long as a packet is held.
+    Drain,
+}
+
+impl Step {
+    /// What the step adds to the counts of a script.
+    pub fn count(self) -> u64
+        ensures { result ≡ count_of self }
+    {
+        match self {
+            Step::Arrive(count) | Step::Depart(count) => count,
+            Step::Rest | Step::Drain => 0,
+        }
+    }
+
+    /// The step that a word asks for.
+    pub(crate) fn of(word: &[u8]) -> Option<Step>
+        ensures { result ≡ word_step word.now }
+    {
+        match word {
+            b"a" => Some(Step::Arrive(1)),
+            b"d" => Some(Step::Depart(1)),
+            b"rest" => Some(Step::Rest),
+            b"drain" => Some(Step::Drain),
+            _ => None,
+        }
+    }
+
+    /// The step that a word with a count asks for.
+    pub(crate) fn counted(word: &[u8], count: u64) -> Option<Step>
+        ensures { result ≡ counted_step word.now count }
+    {
+        match word {
+            b"a" => Some(Step::Arrive(count)),
+            b"d" => Some(Step::Depart(count)),
+            _ => None,
+        }
+    }
+}

@@ -1,0 +1,61 @@
+use super::*;
+use std::test::Fail;
+
+fn reading(rt: &HostRuntime, text: &[u8]) -> Result<String, Fail> {
+    let alloc = rt.alloc();
+    let mut told = String::new(alloc);
+    match parse_events(alloc, text) {
+        Ok(script) => {
+            for step in script.steps() {
+                let word = match *step {
+                    Step::Arrive(count) => format!(in alloc; "a{count} ")?,
+                    Step::Depart(count) => format!(in alloc; "d{count} ")?,
+                    Step::Rest => String::from_str(alloc, "rest ")?,
+                    Step::Drain => String::from_str(alloc, "drain ")?,
+                };
+                told.push_str(&word)?;
+            }
+        }
+        Err(fault) => told.push_str(&format!(in alloc;
+            "fault {} {}",
+            fault.code(),
+            fault.place()
+        )?)?,
+    }
+    Ok(told)
+}
+
+#[test]
+fn scripts(rt: HostRuntime) -> Result<(), Fail> {
+    for (text, want) in [
+        (&b""[..], ""),
+        (b"a\nd\n", "a1 d1 "),
+        (b"a 3\nd 0\nrest\ndrain", "a3 d0 rest drain "),
+        (b"a 2 # two\r\n\r\n\tdrain \r\n#\n", "a2 drain "),
+        (b"a 007", "a7 "),
+        (b"a 4194303\nd 1\nrest\na 0", "a4194303 d1 rest a0 "),
+        (b"a 4194303\nrest\nd 2\nx", "fault 2 3"),
+        (b"a 4194305", "fault 2 1"),
+        (b"a 4611686018427387904", "fault 1 1"),
+        (b"a\nx\na 4194304", "fault 1 2"),
+        (b"a 1 2", "fault 1 1"),
+        (b"a1", "fault 1 1"),
+        (b"A", "fault 1 1"),
+        (b"\nrest 1", "fault 1 2"),
+        (b"a\rd", "fault 1 1"),
+        (b"a ,", "fault 1 1"),
+        (b"3", "fault 1 1"),
+    ] {
+        assert_eq!(rt; reading(&rt, text)?.as_str(), want);
+    }
+    Ok(())
+}
+
+#[test]
+fn long_texts(rt: HostRuntime) -> Result<(), Fail> {
+    let mut text = vec![in rt.alloc(); b'\n'; MOST_BYTES]?;
+    assert_eq!(rt; reading(&rt, &text)?.as_str(), "");
+    text.push(b'\n')?;
+    assert_eq!(rt; reading(&rt, &text)?.as_str(), "fault 4 0");
+    Ok(())
+}
