@@ -17,7 +17,7 @@ use Rattle.policy_text_defs.proofs.Pieces.{is_plain}
 use Rattle.policy_text_defs.proofs.StatementTokens.{statement_tokens}
 use Rattle.policy_text_defs.proofs.StatementForms.{statement_form}
 use Rattle.policy_text_defs.proofs.StatementPieces.{text_statement}
-use Rattle.policy_text_defs.proofs.EntriesLaws.{HasEntries_one}
+use Rattle.policy_text_defs.proofs.TextLaws.{Entries-one}
 use Rattle.policy_text_defs.proofs.ValidLaws.{IsWritten_IsValid}
 
 -- ---- plain bytes
@@ -142,4 +142,4 @@ canonical_text_HasEntries ss all short =
 pub canonical_text_has : (ss : List Sense) → All IsWritten ss → length (canonical_text ss) ≤ most_text → (es : List Entry) → HasEntries (canonical_text ss) es ↔ (es ≡ numbered 1 ss)
 canonical_text_has ss all short es =
     let has = canonical_text_HasEntries ss all short in
-    (λ other. HasEntries_one (canonical_text ss) es (numbered 1 ss) other has, λ same. subst (HasEntries (canonical_text ss)) (sym same) has)
+    (λ other. Entries-one 1 (statements_of (canonical_text ss)) es (numbered 1 ss) other.entries has.entries, λ same. subst (HasEntries (canonical_text ss)) (sym same) has)

@@ -3,7 +3,6 @@ pub mod AttributeLaws
 pub mod CanonicalLaws
 pub mod ChainLemmas
 pub mod ConditionLaws
-pub mod EntriesLaws
 pub mod ExpressionLaws
 pub mod GrammarLaws
 pub mod GuardLaws
