@@ -3,10 +3,15 @@
 
 mod conditions;
 mod cursor;
+mod fault;
+mod line;
 mod lines;
+mod parse;
 mod parser;
 mod part;
 mod statements;
 
+pub use fault::TextFault;
 pub use lines::Lines;
+pub use parse::parse;
 pub use policy_text_defs::{Attrs, Condition, FieldName, Statement, Term};
