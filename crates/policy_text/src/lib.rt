@@ -3,12 +3,17 @@
 
 mod conditions;
 mod cursor;
+mod fault;
+mod line;
 mod lines;
+mod parse;
 mod parser;
 mod part;
 mod printing;
 mod statements;
 
+pub use fault::TextFault;
 pub use lines::Lines;
+pub use parse::parse;
 pub use policy_text_defs::{Attrs, Condition, FieldName, Statement, Term};
 pub use printing::print;
