@@ -1,6 +1,5 @@
-pub mod EntryLaws
-pub mod LoopLaws
 pub mod PrintLaws
 pub mod PrintMeasure
 pub mod Refusals
+pub mod LoopLaws
 pub mod StateLaws

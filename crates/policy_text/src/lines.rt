@@ -23,10 +23,10 @@ impl Lines {
         ensures { IfOk result (λ lines. map entry_of lines.held ≡ numbered 1 (map sense_of statements)) }
     {
         let mut held = List::from_vec(Vec::new(alloc));
-        let mut number = 0;
+        let mut number = 1;
         for statement in statements.into_vec() {
-            number += 1;
             held.push((number, statement))?;
+            number += 1;
         }
         Ok(Lines { held })
     }
