@@ -1,4 +1,5 @@
 use super::*;
+use crate::parse;
 use list_core::Name;
 use policy_text_defs::{Attrs, Condition, FieldName, Term};
 use rank_defs::{Op, Span};
@@ -76,6 +77,28 @@ fn lines_of_statements(rt: HostRuntime) -> Result<(), Fail> {
         let mut text = Vec::new(rt.alloc());
         put_line(&mut text, statement)?;
         assert_eq!(rt; text.as_slice(), want.as_bytes(), "{want}");
+    }
+    Ok(())
+}
+
+#[test]
+fn canonical_texts(rt: HostRuntime) -> Result<(), Fail> {
+    let alloc = rt.alloc();
+    for (text, want) in [
+        (&b""[..], ""),
+        (
+            b"policy   1 # one\n\ntransaction t\npush rank=min(len,prio)*2",
+            "policy 1\ntransaction t\npush rank = min(len, prio) * 2\n",
+        ),
+        (
+            b"\tclass web weight 02 prio 1 when proto tcp and dport 80..80 and src 10 . 9 . 0 . 1\r\n",
+            "class web prio 1 weight 2 when proto 6 and dport 80 and src 10.9.0.1/32\n",
+        ),
+    ] {
+        let printed = print(alloc, &parse(alloc, text).expect(&rt, want))?;
+        assert_eq!(rt; printed.as_slice(), want.as_bytes(), "{want}");
+        let again = print(alloc, &parse(alloc, printed.as_slice()).expect(&rt, want))?;
+        assert_eq!(rt; again.as_slice(), want.as_bytes(), "{want}");
     }
     Ok(())
 }
