@@ -1,3 +1,5 @@
-pub mod Refusals
+pub mod EntryLaws
 pub mod LoopLaws
+pub mod Refusals
 pub mod StateLaws
+pub mod TextSteps

@@ -6,12 +6,12 @@ mod cursor;
 mod fault;
 mod line;
 mod lines;
-mod parse;
 mod parser;
 mod part;
 mod statements;
+mod text;
 
 pub use fault::TextFault;
 pub use lines::Lines;
-pub use parse::parse;
 pub use policy_text_defs::{Attrs, Condition, FieldName, Statement, Term};
+pub use text::parse;
