@@ -22,7 +22,7 @@ pub state_rest : (gs rest : List Glyph) (s t : Sense) → a_statement gs ≡ Som
 state_rest gs rest s t e f = same_rest t s rest [] (sym e ∙ read-IsForm gs s f)
 
 pub state_refused : (e : Refusal) (gs : List Glyph) (s : Sense) → Refuses e (a_statement gs) → IsForm gs s → StatesErr e
-state_refused NoForm gs s none f = let both : None ≡ Some (s, []) = sym none ∙ read-IsForm gs s f in absurd cc
+state_refused NoForm gs s none f = let both = sym none ∙ read-IsForm gs s f in absurd cc
 state_refused NoMemory gs s none f = tt
 
 pub state_found : (gs rest : List Glyph) (s : Sense) → a_statement gs ≡ Some (s, rest) → rest ≡ [] → IsForm gs s

@@ -1,5 +1,5 @@
 -- What `parse` answers a text.
-use Rattle.std.specs.Prelude.{◌≡◌, ◌⊎◌, ℕ, ◌<◌, List, length, map, Option, Some, None, Result, Ok, Err, true}
+use Rattle.std.specs.Prelude.{◌≡◌, ◌⊎◌, ℕ, ◌<◌, List, [], ◌∷◌, ◌++◌, length, map, Option, Some, None, Result, Ok, Err, true}
 use Rattle.std.specs.List.{list_all}
 use Rattle.text_core.specs.Tokens.{is_blank}
 use Rattle.text_core.specs.Glyphs.{Glyph}
@@ -8,11 +8,11 @@ use Rattle.policy_text_defs.specs.declared.statement.Statement.{Statement}
 use Rattle.policy_text_defs.specs.Ranges.{most_text}
 use Rattle.policy_text_defs.specs.Sense.{Sense, Entry, sense_of}
 use Rattle.policy_text_defs.specs.Statements.{IsForm}
-use Rattle.policy_text_defs.specs.Text.{Carries, Fault, not_text, shaping, syntax_fault, IsFault, IsFirstFault}
+use Rattle.policy_text_defs.specs.Text.{Carries, Fault, not_text, shaping, syntax_fault, IsFault, HasEntries, IsFirstFault}
 use Rattle.policy_text.specs.declared.lines.Lines.{Lines}
 use Rattle.policy_text.specs.declared.fault.TextFault.{TextFault}
 use Rattle.policy_text.specs.declared.fault.TextFault.TheVariants as fault
-use Rattle.policy_text.specs.Entries.{entry_of}
+use Rattle.policy_text.specs.Entries.{Numbered, entry_of}
 
 -- why a text is refused with this fault; want of memory has no cause
 abbrev pub IsCause : List ℕ → TextFault → Type 0
@@ -42,6 +42,14 @@ abbrev pub Fails : Result Lines TextFault → TextFault → Type 0
 Fails (Ok lines) f = ⊥
 Fails (Err e) f = (e ≡ f) ⊎ IsWant e
 
+-- the statements of a text in form are answered
+abbrev pub AcceptsAll : List ℕ → Result Lines TextFault → Type 0
+AcceptsAll text result = (es : List Entry) → HasEntries text es → Gives result es
+
+-- a text with a cause of a fault is refused with this fault
+abbrev pub RefusesAll : List ℕ → Result Lines TextFault → Type 0
+RefusesAll text result = (f : TextFault) → IsCause text f → Fails result f
+
 -- ---- one line
 
 -- the line's tokens are a form of the statement
@@ -66,3 +74,8 @@ LineHas line (Some t) = Carries line (sense_of t)
 abbrev pub LineIs : List ℕ → ℕ → Result (Option Statement) TextFault → Type 0
 LineIs line n (Ok found) = LineHas line found
 LineIs line n (Err e) = LineFault line n e
+
+-- what was found on a line is last
+abbrev pub Kept : ℕ → Option Statement → List Numbered → List Numbered → Type 0
+Kept n None old new = new ≡ old
+Kept n (Some t) old new = new ≡ old ++ (n, t) ∷ []

@@ -5,7 +5,6 @@ ghost use Rattle.std.specs.Prelude.{List};
 ghost use Rattle.text_core.specs.Glyphs.{Glyph, glyphs_of};
 
 use crate::cursor::Cursor;
-
 use list_core::List;
 use policy_text_defs::{Condition, FieldName, Subject, protocol_of};
 use std::alloc::Global;

@@ -5,7 +5,6 @@ ghost use Rattle.policy_text_defs.specs.StatementReading as forms;
 ghost use Rattle.policy_text.specs.Reads.{Reads, Takes, TakesIf, same};
 ghost use Rattle.text_core.specs.Glyphs.{glyph_of, glyphs_of};
 
-
 use policy_text_defs::{Attribute, is, name_of, target_of};
 use rank_defs::Op;
 use text_core::{Item, Mark, Refusal};

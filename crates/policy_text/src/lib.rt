@@ -6,14 +6,14 @@ mod cursor;
 mod fault;
 mod line;
 mod lines;
-mod parse;
 mod parser;
 mod part;
 mod printing;
 mod statements;
+mod text;
 
 pub use fault::TextFault;
 pub use lines::Lines;
-pub use parse::parse;
 pub use policy_text_defs::{Attrs, Condition, FieldName, Statement, Term};
 pub use printing::print;
+pub use text::parse;

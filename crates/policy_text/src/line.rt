@@ -65,7 +65,12 @@ fn statement_of(alloc: Global, line: &[u8]) -> Result<Statement, Refusal>
 }
 
 /// What stands on a line with this number, if anything.
-pub fn read_line(alloc: Global, line: &[u8], clean: bool, number: u32) -> Result<Option<Statement>, TextFault>
+pub fn read_line(
+    alloc: Global,
+    line: &[u8],
+    clean: bool,
+    number: u32,
+) -> Result<Option<Statement>, TextFault>
     requires { clean ≡ is_clean_text line.now }
     ensures { LineIs line.now number result }
 {

@@ -23,10 +23,10 @@ impl Lines {
         ensures { IfOk result (λ lines. map entry_of lines.held ≡ numbered 1 (map sense_of statements)) }
     {
         let mut held = List::from_vec(Vec::new(alloc));
-        let mut number = 1;
+        let mut number = 0;
         for statement in statements.into_vec() {
-            held.push((number, statement))?;
             number += 1;
+            held.push((number, statement))?;
         }
         Ok(Lines { held })
     }

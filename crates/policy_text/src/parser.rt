@@ -7,7 +7,6 @@ ghost use Rattle.text_core.specs.Glyphs.{Glyph, glyphs_of};
 
 use crate::cursor::Cursor;
 use crate::part::{MOST_DEPTH, Part};
-
 use list_core::Name;
 use policy_text_defs::{Function, Term, operand_of};
 use rank_defs::Op;

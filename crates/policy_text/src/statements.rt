@@ -12,7 +12,6 @@ use crate::conditions::guard;
 use crate::cursor::Cursor;
 use crate::parser::expression;
 use crate::part::{MOST_OPEN, Part};
-
 use list_core::{List, Name};
 use policy_text_defs::{Attribute, Attrs, Keyword, Statement};
 use rank_defs::Span;
