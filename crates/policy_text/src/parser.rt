@@ -91,11 +91,11 @@ fn call(alloc: Global, cursor: &mut Cursor<'_>, room: u32, op: Op) -> Result<Par
     ensures { Reads phrase_of_part (spec.call (spec.inside room) op (glyphs_of cursor.old.rest.now)) result (glyphs_of cursor.new.rest.now) }
 {
     cursor.mark(Mark::Open)?;
-    let left = inside(alloc, cursor, room)?;
+    let first = inside(alloc, cursor, room)?;
     cursor.mark(Mark::Comma)?;
-    let right = inside(alloc, cursor, room)?;
+    let second = inside(alloc, cursor, room)?;
     cursor.mark(Mark::Close)?;
-    pair(alloc, op, left, right)
+    pair(alloc, op, first, second)
 }
 
 /// The argument of `not`.
