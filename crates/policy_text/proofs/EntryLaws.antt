@@ -1,0 +1,113 @@
+-- What the numbers of lines and the statements of entries are.
+use Rattle.std.proofs.Common.{◌≡◌, ℕ, zero, suc, ◌+◌, ◌<◌, ◌≤◌, List, [], ◌∷◌, ◌++◌, length, take, drop, map, sym, refl, ap, ◌∙◌, subst, arith, append_assoc, length-append}
+use Rattle.std.proofs.lemmas.List.{append-nil}
+use Rattle.std.specs.List.{All, AllByRecursion, AllPairs}
+use Rattle.std.proofs.lemmas.List.Elements.{All-nil, All-cons, All-tail}
+use Rattle.std.proofs.lemmas.List.Kept.{AllPairs-cons}
+use Rattle.policy_text_defs.specs.declared.statement.Statement.{Statement}
+use Rattle.policy_text_defs.specs.Sense.{Sense, Entry, entry, sense_of, numbered}
+use Rattle.policy_text_defs.specs.Text.{IsWritten, Entries, over, empty, carried}
+use Rattle.policy_text.specs.Entries.{Numbered, entry_of, IsRising, AreWritten}
+
+-- numbers rise strictly, the first being at least this one
+abbrev pub Rises : ℕ → List Entry → Type 0
+Rises n [] = Unit {0}
+Rises n (e ∷ es) = (n ≤ e.0) × Rises (suc e.0) es
+
+rises_from : (m n : ℕ) (es : List Entry) → m ≤ n → Rises n es → Rises m es
+rises_from m n [] le r = tt
+rises_from m n (e ∷ es) le r = (let first = r.0 in omega arith, r.1)
+
+pub numbered_rises : (n : ℕ) (ss : List Sense) → Rises n (numbered n ss)
+numbered_rises n [] = tt
+numbered_rises n (s ∷ ss) = (omega arith, numbered_rises (suc n) ss)
+
+pub entries_rise : (n : ℕ) (lines : List (List ℕ)) (es : List Entry) → Entries n lines es → Rises n es
+entries_rise n lines es (over _) = tt
+entries_rise n lines es (empty _ line rest _ all on) = rises_from n (suc n) es (omega arith) (entries_rise (suc n) rest es on)
+entries_rise n lines es (carried _ line rest s ds c on) = (omega arith, entries_rise (suc n) rest ds on)
+
+above : (k n : ℕ) (ls : List Numbered) → k < n → Rises n (map entry_of ls) → All (λ l. k < l.0) ls
+above k n [] less r = All-nil (λ l. k < l.0)
+above k n (l ∷ ls) less r = let first : n ≤ l.0 = r.0 in All-cons (λ l. k < l.0) l ls (omega arith) (above k (suc l.0) ls (omega arith) r.1)
+
+pub rising : (n : ℕ) (ls : List Numbered) → Rises n (map entry_of ls) → IsRising ls
+rising n [] r = λ i j d less within. absurd (omega arith)
+rising n (l ∷ ls) r = AllPairs-cons (λ a b. a.0 < b.0) l ls (above l.0 (suc l.0) ls (omega arith) r.1) (rising (suc l.0) ls r.1)
+
+-- the statements of entries are ones that some line has
+abbrev pub Written : List Entry → Type 0
+Written es = AllByRecursion (λ e. IsWritten e.1) es
+
+pub entries_written : (n : ℕ) (lines : List (List ℕ)) (es : List Entry) → Entries n lines es → Written es
+entries_written n lines es (over _) = tt
+entries_written n lines es (empty _ line rest _ all on) = entries_written (suc n) rest es on
+entries_written n lines es (carried _ line rest s ds c on) = (∣ record { line = line; carries = c } ∣₁, entries_written (suc n) rest ds on)
+
+pub written : (ls : List Numbered) → Written (map entry_of ls) → AreWritten ls
+written [] w = All-nil (λ l. IsWritten (sense_of l.1))
+written (l ∷ ls) w = All-cons (λ l. IsWritten (sense_of l.1)) l ls w.0 (written ls w.1)
+
+All-head : {X : Type 0} (P : X → Type 0) (x : X) (xs : List X) → All P (x ∷ xs) → P x
+All-head P x xs all = all 0 x (omega arith)
+
+pub numbered_written : (n : ℕ) (ts : List Statement) → All (λ t. IsWritten (sense_of t)) ts → Written (numbered n (map sense_of ts))
+numbered_written n [] all = tt
+numbered_written n (t ∷ ts) all = (All-head (λ t. IsWritten (sense_of t)) t ts all, numbered_written (suc n) ts (All-tail (λ t. IsWritten (sense_of t)) t ts all))
+
+-- one statement more
+pub numbered_more : (n m : ℕ) (ss : List Sense) (s : Sense) → m ≡ n + length ss → numbered n (ss ++ s ∷ []) ≡ numbered n ss ++ entry m s ∷ []
+numbered_more n m [] s at = let same : n ≡ m = omega arith in ap (λ k. entry k s ∷ []) same
+numbered_more n m (t ∷ ss) s at = ap (λ l. entry n t ∷ l) (numbered_more (suc n) m ss s (omega arith))
+
+map_held : (held : List Numbered) (h : Numbered) → map entry_of (held ++ h ∷ []) ≡ map entry_of held ++ entry_of h ∷ []
+map_held [] h = refl
+map_held (k ∷ held) h = ap (λ l. entry_of k ∷ l) (map_held held h)
+
+map_senses : (ts : List Statement) (t : Statement) → map sense_of (ts ++ t ∷ []) ≡ map sense_of ts ++ sense_of t ∷ []
+map_senses [] t = refl
+map_senses (u ∷ ts) t = ap (λ l. sense_of u ∷ l) (map_senses ts t)
+
+senses_length : (ts : List Statement) → length (map sense_of ts) ≡ length ts
+senses_length [] = refl
+senses_length (t ∷ ts) = ap suc (senses_length ts)
+
+pub of_more : (held new : List Numbered) (ts : List Statement) (t : Statement) (n : ℕ) → new ≡ held ++ (n, t) ∷ [] → n ≡ length ts + 1 → map entry_of held ≡ numbered 1 (map sense_of ts) → map entry_of new ≡ numbered 1 (map sense_of (ts ++ t ∷ []))
+of_more held new ts t n grown at before =
+    let h : Numbered = (n, t) in
+    let many = senses_length ts in
+    ap (map entry_of) grown ∙ map_held held h ∙ ap (λ l. l ++ entry n (sense_of t) ∷ []) before ∙ sym (numbered_more 1 n (map sense_of ts) (sense_of t) (omega arith)) ∙ ap (numbered 1) (sym (map_senses ts t))
+
+map_self : {A : Type 0} (xs : List A) → map (λ x. x) xs ≡ xs
+map_self [] = refl
+map_self (x ∷ xs) = ap (λ l. x ∷ l) (map_self xs)
+
+-- all statements have come
+pub of_all : (held : List Numbered) (ys ts : List Statement) → map entry_of held ≡ numbered 1 (map sense_of ys) → map (λ t. t) ys ≡ ts → map entry_of held ≡ numbered 1 (map sense_of ts)
+of_all held ys ts before all = before ∙ ap (λ l. numbered 1 (map sense_of l)) (sym (map_self ys) ∙ all)
+
+pub of_rising : (held : List Numbered) (ts : List Statement) → map entry_of held ≡ numbered 1 (map sense_of ts) → IsRising held
+of_rising held ts is = rising 1 held (subst (Rises 1) (sym is) (numbered_rises 1 (map sense_of ts)))
+
+pub of_written : (held : List Numbered) (ts : List Statement) → map entry_of held ≡ numbered 1 (map sense_of ts) → All (λ t. IsWritten (sense_of t)) ts → AreWritten held
+of_written held ts is all = written held (subst Written (sym is) (numbered_written 1 ts all))
+
+-- where nothing is left to come, what came is all
+pub all_came : (ys rest ts : List Statement) → ys ++ rest ≡ ts → rest ≡ [] → map (λ t. t) ys ≡ ts
+all_came ys rest ts whole none = map_self ys ∙ sym (append-nil ys) ∙ ap (λ l. ys ++ l) (sym none) ∙ whole
+
+pub one_came : (ys rest more ts : List Statement) (t : Statement) → ys ++ rest ≡ ts → rest ≡ t ∷ more → (ys ++ t ∷ []) ++ more ≡ ts
+one_came ys rest more ts t whole is = append_assoc ys (t ∷ []) more ∙ ap (λ l. ys ++ l) (sym is) ∙ whole
+
+pub still_few : (ys rest more ts : List Statement) (t : Statement) → ys ++ rest ≡ ts → rest ≡ t ∷ more → length ys < length ts
+still_few ys rest more ts t whole is = let a = ap length whole in let b = length-append ys rest in let c : length rest ≡ suc (length more) = ap length is in omega arith
+
+pub length_more : (ys : List Statement) (t : Statement) → length ys + 1 ≡ length (ys ++ t ∷ [])
+length_more ys t = let b = length-append ys (t ∷ []) in omega arith
+
+pub empty_at : (n : ℕ) (ts : List Statement) → n ≡ length ts → n ≡ 0 → ts ≡ []
+empty_at n [] long none = refl
+empty_at n (t ∷ ts) long none = absurd (omega arith)
+
+pub one_less : (n m : ℕ) (rest more : List Statement) (t : Statement) → n ≡ length rest → rest ≡ t ∷ more → m + 1 ≡ n → m ≡ length more
+one_less n m rest more t long is less = let c : length rest ≡ suc (length more) = ap length is in omega arith

@@ -1,0 +1,10 @@
+-- How many parts a term has, which falls as its text is written.
+use Rattle.std.proofs.Common.{ℕ, ◌+◌}
+use Rattle.policy_text_defs.specs.Phrase.{Phrase, number, word, two, negation, choice}
+
+abbrev pub parts : Phrase → ℕ
+parts (number n) = 1
+parts (word w) = 1
+parts (negation a) = parts a + 1
+parts (choice a b c) = parts a + parts b + parts c + 1
+parts (two op a b) = parts a + parts b + 1

@@ -1,0 +1,37 @@
+-- What reading all tokens of a line says of its statement.
+use Rattle.std.proofs.Common.{◌≡◌, List, [], ◌∷◌, Some, None, true, false, length, sym, refl, ap, ◌∙◌, arith}
+use Rattle.std.proofs.lemmas.Bool.{eqb-true}
+use Rattle.std.specs.Prelude.{◌==◌}
+use Rattle.text_core.specs.declared.item.Item.{Item}
+use Rattle.text_core.specs.declared.refusal.Refusal.{Refusal}
+use Rattle.text_core.specs.declared.refusal.Refusal.TheVariants.{NoForm, NoMemory}
+use Rattle.text_core.specs.Glyphs.{Glyph, glyphs_of}
+use Rattle.policy_text_defs.specs.Sense.{Sense}
+use Rattle.policy_text_defs.specs.Statements.{IsForm}
+use Rattle.policy_text_defs.specs.Reading.{pure}
+use Rattle.policy_text_defs.specs.StatementReading.{a_statement}
+use Rattle.policy_text_defs.proofs.StepLaws.{same_value, same_rest}
+use Rattle.policy_text_defs.proofs.StatementLaws.{IsForm-read, read-IsForm}
+use Rattle.policy_text.specs.Reads.{Refuses}
+use Rattle.policy_text.specs.States.{StatesErr}
+
+pub state_value : (gs rest : List Glyph) (s t : Sense) → a_statement gs ≡ Some (t, rest) → IsForm gs s → t ≡ s
+state_value gs rest s t e f = same_value t s rest [] (sym e ∙ read-IsForm gs s f)
+
+pub state_rest : (gs rest : List Glyph) (s t : Sense) → a_statement gs ≡ Some (t, rest) → IsForm gs s → rest ≡ []
+state_rest gs rest s t e f = same_rest t s rest [] (sym e ∙ read-IsForm gs s f)
+
+pub state_refused : (e : Refusal) (gs : List Glyph) (s : Sense) → Refuses e (a_statement gs) → IsForm gs s → StatesErr e
+state_refused NoForm gs s none f = let both = sym none ∙ read-IsForm gs s f in absurd cc
+state_refused NoMemory gs s none f = tt
+
+pub state_found : (gs rest : List Glyph) (s : Sense) → a_statement gs ≡ Some (s, rest) → rest ≡ [] → IsForm gs s
+state_found gs rest s e over = IsForm-read gs s (e ∙ ap (pure s) over)
+
+pub glyphs_of-empty : (items : List Item) → true ≡ (length items == 0) → glyphs_of items ≡ []
+glyphs_of-empty [] e = refl
+glyphs_of-empty (i ∷ items) e = let none : length (i ∷ items) ≡ 0 = eqb-true (length (i ∷ items)) 0 (sym e) in absurd (omega arith)
+
+pub glyphs_of-some : (items : List Item) → false ≡ (length items == 0) → glyphs_of items ≡ [] → ⊥
+glyphs_of-some [] e none = cc
+glyphs_of-some (i ∷ items) e none = cc

@@ -1,0 +1,6 @@
+use Rattle.std.proofs.Common.{◌≡◌, ◌++◌, drop}
+use Rattle.policy_text_defs.specs.Canonical.{names_text}
+use Rattle.policy_text.proofs.printing.statement.put_names.Given as goal
+
+abbrev pub invariant-loop-name : goal.invariant-loop-name
+invariant-loop-name l = record { same : l.fn.into.items ++ names_text l.names ≡ l.into.items ++ names_text (drop l.name-index l.names) }

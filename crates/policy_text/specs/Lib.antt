@@ -1,0 +1,4 @@
+pub mod Entries
+pub mod Parsing
+pub mod Reads
+pub mod States

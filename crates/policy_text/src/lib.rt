@@ -1,0 +1,19 @@
+//! Policy texts: reading their statements, and printing statements as canonical text.
+#![tactic(auto)]
+
+mod conditions;
+mod cursor;
+mod fault;
+mod line;
+mod lines;
+mod parser;
+mod part;
+mod printing;
+mod statements;
+mod text;
+
+pub use fault::TextFault;
+pub use lines::Lines;
+pub use policy_text_defs::{Attrs, Condition, FieldName, Statement, Term};
+pub use printing::print;
+pub use text::parse;

@@ -1,0 +1,236 @@
+ghost use Rattle.std.specs.Prelude.{◌≡◌, ◌≤◌, List, Some, IfOk};
+ghost use Rattle.policy_text_defs.specs.declared.keyword.Keyword.TheVariants as keyword;
+ghost use Rattle.policy_text_defs.specs.Ranges.{attribute_most};
+ghost use Rattle.policy_text_defs.specs.Sense.{Sense, sense_of};
+ghost use Rattle.policy_text_defs.specs.StatementReading as forms;
+ghost use Rattle.policy_text_defs.specs.Statements.{IsForm, with_attribute};
+ghost use Rattle.policy_text.specs.Reads.{Reads, same};
+ghost use Rattle.policy_text.specs.States.{States};
+ghost use Rattle.text_core.specs.Glyphs.{Glyph, glyphs_of};
+
+use crate::conditions::guard;
+use crate::cursor::Cursor;
+use crate::parser::expression;
+use crate::part::{MOST_OPEN, Part};
+use list_core::{List, Name};
+use policy_text_defs::{Attribute, Attrs, Keyword, Statement};
+use rank_defs::Span;
+use std::alloc::Global;
+use text_core::{Item, Mark, Refusal};
+
+const UNSET: Attrs = Attrs {
+    prio: None,
+    weight: None,
+    slack: None,
+};
+
+fn is_unset(attribute: Attribute, attrs: &Attrs) -> bool
+    ensures { result ≡ forms.is_unset attribute attrs.now }
+{
+    match attribute {
+        Attribute::Prio => attrs.prio.is_none(),
+        Attribute::Weight => attrs.weight.is_none(),
+        Attribute::Slack => attrs.slack.is_none(),
+    }
+}
+
+/// The attributes with this one set to a number of its range.
+fn with(attribute: Attribute, number: u64, attrs: Attrs) -> Attrs
+    requires { number ≤ attribute_most attribute }
+    ensures { result ≡ with_attribute attribute number attrs }
+{
+    match attribute {
+        Attribute::Prio => Attrs {
+            prio: Some(number as u32),
+            ..attrs
+        },
+        Attribute::Weight => Attrs {
+            weight: Some(number as u32),
+            ..attrs
+        },
+        Attribute::Slack => Attrs {
+            slack: Some(number),
+            ..attrs
+        },
+    }
+}
+
+/// Sets an attribute that isn't set.
+#[tactic(auto, unfolding(policy_text_defs::specs::StatementReading::set_to))]
+fn set(attribute: Attribute, number: u64, attrs: Attrs) -> Result<Attrs, Refusal>
+    ensures { (gs : List Glyph) → Reads same (forms.set_to attribute attrs number gs) result gs }
+{
+    if !is_unset(attribute, &attrs) || number < attribute.least() || number > attribute.most() {
+        return Err(Refusal::NoForm);
+    }
+    Ok(with(attribute, number, attrs))
+}
+
+impl<'a> Cursor<'a> {
+    /// `LOW..HIGH = FIRST`
+    #[tactic(auto, unfolding(policy_text_defs::specs::StatementReading::span, policy_text_defs::specs::StatementReading::spanned))]
+    fn span(&mut self) -> Result<Span, Refusal>
+        ensures { Reads same (forms.span (glyphs_of self.old.rest.now)) result (glyphs_of self.new.rest.now) }
+    {
+        let low = self.number()?;
+        self.mark(Mark::DotDot)?;
+        let high = self.number()?;
+        self.mark(Mark::Is)?;
+        let first = self.number()?;
+        if low > first || first > high {
+            return Err(Refusal::NoForm);
+        }
+        Ok(Span { low, high, first })
+    }
+
+    /// Attributes in any order, each at most once.
+    #[tactic(auto, using(policy_text_defs::proofs::RepeatLoops::repeats_start, policy_text_defs::proofs::RepeatLoops::repeats_over))]
+    fn attributes(&mut self) -> Result<Attrs, Refusal>
+        ensures { Reads same (forms.attributes (glyphs_of self.old.rest.now)) result (glyphs_of self.new.rest.now) }
+    {
+        let mut attrs = UNSET;
+        while let Some(attribute) = self.attribute() {
+            let number = self.number()?;
+            attrs = set(attribute, number, attrs)?;
+        }
+        Ok(attrs)
+    }
+}
+
+/// One name or more.
+#[tactic(auto, unfolding(policy_text_defs::specs::StatementReading::names), using(policy_text_defs::proofs::RepeatLoops::repeats_start, policy_text_defs::proofs::RepeatLoops::repeats_over))]
+fn names(alloc: Global, cursor: &mut Cursor<'_>) -> Result<List<Name>, Refusal>
+    ensures { Reads same (forms.names (glyphs_of cursor.old.rest.now)) result (glyphs_of cursor.new.rest.now) }
+{
+    let mut names = List::from_vec(Vec::new(alloc));
+    names.push(Name::new(alloc, cursor.name()?)?)?;
+    while let Some(name) = cursor.takes_name() {
+        names.push(Name::new(alloc, name)?)?;
+    }
+    Ok(names)
+}
+
+#[tactic(auto, unfolding(policy_text_defs::specs::StatementReading::version_by))]
+fn version(cursor: &mut Cursor<'_>) -> Result<Statement, Refusal>
+    ensures { Reads sense_of (forms.rest_by (Some keyword.Policy) (glyphs_of cursor.old.rest.now)) result (glyphs_of cursor.new.rest.now) }
+{
+    match cursor.number()? {
+        1 => Ok(Statement::Version(1)),
+        _ => Err(Refusal::NoForm),
+    }
+}
+
+#[tactic(auto, unfolding(policy_text_defs::specs::StatementReading::transaction_rest))]
+fn transaction(alloc: Global, cursor: &mut Cursor<'_>) -> Result<Statement, Refusal>
+    ensures { Reads sense_of (forms.transaction_rest (glyphs_of cursor.old.rest.now)) result (glyphs_of cursor.new.rest.now) }
+{
+    let name = cursor.name()?;
+    Ok(Statement::Transaction(Name::new(alloc, name)?))
+}
+
+#[tactic(auto, unfolding(policy_text_defs::specs::StatementReading::keep_rest))]
+fn keep(alloc: Global, cursor: &mut Cursor<'_>) -> Result<Statement, Refusal>
+    ensures { Reads sense_of (forms.keep_rest (glyphs_of cursor.old.rest.now)) result (glyphs_of cursor.new.rest.now) }
+{
+    let name = cursor.name()?;
+    let span = cursor.span()?;
+    Ok(Statement::Keep(Name::new(alloc, name)?, span))
+}
+
+#[tactic(auto, unfolding(policy_text_defs::specs::StatementReading::each_rest))]
+fn each(alloc: Global, cursor: &mut Cursor<'_>) -> Result<Statement, Refusal>
+    ensures { Reads sense_of (forms.each_rest (glyphs_of cursor.old.rest.now)) result (glyphs_of cursor.new.rest.now) }
+{
+    let name = cursor.name()?;
+    let span = cursor.span()?;
+    Ok(Statement::Each(Name::new(alloc, name)?, span))
+}
+
+#[tactic(auto, unfolding(policy_text_defs::specs::StatementReading::push_rest))]
+fn push(alloc: Global, cursor: &mut Cursor<'_>) -> Result<Statement, Refusal>
+    ensures { Reads sense_of (forms.push_rest (glyphs_of cursor.old.rest.now)) result (glyphs_of cursor.new.rest.now) }
+{
+    let target = cursor.target()?;
+    cursor.mark(Mark::Is)?;
+    let Part { term, depth: _ } = expression(alloc, cursor, MOST_OPEN)?;
+    Ok(Statement::Push(Name::new(alloc, target)?, term))
+}
+
+#[tactic(auto, unfolding(policy_text_defs::specs::StatementReading::pop_rest))]
+fn pop(alloc: Global, cursor: &mut Cursor<'_>) -> Result<Statement, Refusal>
+    ensures { Reads sense_of (forms.pop_rest (glyphs_of cursor.old.rest.now)) result (glyphs_of cursor.new.rest.now) }
+{
+    let name = cursor.name()?;
+    cursor.mark(Mark::Is)?;
+    let Part { term, depth: _ } = expression(alloc, cursor, MOST_OPEN)?;
+    Ok(Statement::Pop(Name::new(alloc, name)?, term))
+}
+
+#[tactic(auto, unfolding(policy_text_defs::specs::StatementReading::class_rest))]
+fn class(alloc: Global, cursor: &mut Cursor<'_>) -> Result<Statement, Refusal>
+    ensures { Reads sense_of (forms.class_rest (glyphs_of cursor.old.rest.now)) result (glyphs_of cursor.new.rest.now) }
+{
+    let name = cursor.name()?;
+    let attrs = cursor.attributes()?;
+    let conditions = guard(alloc, cursor)?;
+    Ok(Statement::Class(Name::new(alloc, name)?, attrs, conditions))
+}
+
+#[tactic(auto, unfolding(policy_text_defs::specs::StatementReading::leaf_rest))]
+fn leaf(alloc: Global, cursor: &mut Cursor<'_>) -> Result<Statement, Refusal>
+    ensures { Reads sense_of (forms.leaf_rest (glyphs_of cursor.old.rest.now)) result (glyphs_of cursor.new.rest.now) }
+{
+    let name = cursor.name()?;
+    cursor.literal("using")?;
+    let used = cursor.name()?;
+    let attrs = cursor.attributes()?;
+    cursor.literal("classes")?;
+    let classes = names(alloc, cursor)?;
+    let used = Name::new(alloc, used)?;
+    Ok(Statement::Leaf(Name::new(alloc, name)?, used, attrs, classes))
+}
+
+#[tactic(auto, unfolding(policy_text_defs::specs::StatementReading::node_rest))]
+fn node(alloc: Global, cursor: &mut Cursor<'_>) -> Result<Statement, Refusal>
+    ensures { Reads sense_of (forms.node_rest (glyphs_of cursor.old.rest.now)) result (glyphs_of cursor.new.rest.now) }
+{
+    let name = cursor.name()?;
+    cursor.literal("using")?;
+    let used = cursor.name()?;
+    let attrs = cursor.attributes()?;
+    cursor.literal("children")?;
+    let children = names(alloc, cursor)?;
+    let used = Name::new(alloc, used)?;
+    Ok(Statement::Node(Name::new(alloc, name)?, used, attrs, children))
+}
+
+#[tactic(auto, unfolding(policy_text_defs::specs::StatementReading::a_statement))]
+fn statement(alloc: Global, cursor: &mut Cursor<'_>) -> Result<Statement, Refusal>
+    ensures { Reads sense_of (forms.a_statement (glyphs_of cursor.old.rest.now)) result (glyphs_of cursor.new.rest.now) }
+{
+    match Keyword::of(cursor.word()?) {
+        Some(Keyword::Policy) => version(cursor),
+        Some(Keyword::Transaction) => transaction(alloc, cursor),
+        Some(Keyword::Keep) => keep(alloc, cursor),
+        Some(Keyword::Each) => each(alloc, cursor),
+        Some(Keyword::Push) => push(alloc, cursor),
+        Some(Keyword::Pop) => pop(alloc, cursor),
+        Some(Keyword::Class) => class(alloc, cursor),
+        Some(Keyword::Leaf) => leaf(alloc, cursor),
+        Some(Keyword::Node) => node(alloc, cursor),
+        None => Err(Refusal::NoForm),
+    }
+}
+
+/// The statement that all the tokens of a line are.
+pub fn parse_statement(alloc: Global, items: &[Item<'_>]) -> Result<Statement, Refusal>
+    ensures found { IfOk result (λ t. IsForm (glyphs_of items.now) (sense_of t)) }
+    ensures only { (s : Sense) → IsForm (glyphs_of items.now) s → States result s }
+{
+    let mut cursor = Cursor { rest: items };
+    let found = statement(alloc, &mut cursor)?;
+    if !cursor.rest.is_empty() {
+        return Err(Refusal::NoForm);
+    }
+    Ok(found)
+}

@@ -1,0 +1,104 @@
+-- Steps of reading: what each took of the tokens.
+use Rattle.std.proofs.Common.{◌≡◌, ℕ, List, [], ◌∷◌, Option, Some, None, Bool, true, false, cond, sym, refl, ap, ◌∙◌, subst}
+use Rattle.std.specs.Str.{bytes_eq}
+use Rattle.std.proofs.lemmas.Slice.Eq.{bytes_eq-Decides}
+use Rattle.text_core.specs.declared.mark.Mark.{Mark}
+use Rattle.text_core.specs.declared.mark.Mark.TheVariants as m
+use Rattle.text_core.specs.Marks.{mark_text, mark_of}
+use Rattle.text_core.specs.Glyphs.{Glyph, text, figure, sign}
+use Rattle.policy_text_defs.specs.Reading.{Outcome, Reader, and_then, ◌>>=◌, pick, pure, refuse, ahead, with_rest, is_sign, is_text, expect, mark, literal}
+
+-- an outcome by two steps comes of two outcomes
+pub record Steps {A B : Type 0} (first : Outcome A) (then : A → Reader B) (b : B) (rest : List Glyph) : Type 0 where
+  pub value : A
+  pub left : List Glyph
+  pub read : first ≡ Some (value, left)
+  pub next : then value left ≡ Some (b, rest)
+
+pub steps : {A B : Type 0} (first : Outcome A) (then : A → Reader B) (b : B) (rest : List Glyph) → and_then first then ≡ Some (b, rest) → Steps first then b rest
+steps None then b rest e = absurd cc
+steps (Some p) then b rest e = record { value = p.0; left = p.1; read = refl; next = e }
+
+-- two outcomes that are the same have the same values and leave the same
+pub same_value : {A : Type 0} (a b : A) (gs hs : List Glyph) → pure a gs ≡ Some (b, hs) → a ≡ b
+same_value a b gs hs e = ap (λ v. pick v a (λ p. p.0)) e
+
+pub same_rest : {A : Type 0} (a b : A) (gs hs : List Glyph) → pure a gs ≡ Some (b, hs) → gs ≡ hs
+same_rest a b gs hs e = ap (λ v. pick v gs (λ p. p.1)) e
+
+-- the first token is something
+pub record Stands {A : Type 0} (test : Glyph → Option A) (gs : List Glyph) (a : A) (hs : List Glyph) : Type 0 where
+  pub glyph : Glyph
+  pub split : gs ≡ glyph ∷ hs
+  pub is : test glyph ≡ Some a
+
+stands_case : {A : Type 0} (test : Glyph → Option A) (g : Glyph) (gs hs : List Glyph) (a : A) (found : Option A) → test g ≡ found → with_rest gs found ≡ Some (a, hs) → Stands test (g ∷ gs) a hs
+stands_case test g gs hs a None is e = absurd cc
+stands_case test g gs hs a (Some b) is e =
+    record { glyph = g; split = ap (λ l. g ∷ l) (same_rest b a gs hs e); is = is ∙ ap Some (same_value b a gs hs e) }
+
+pub stands : {A : Type 0} (test : Glyph → Option A) (gs hs : List Glyph) (a : A) → ahead test gs ≡ Some (a, hs) → Stands test gs a hs
+stands test [] hs a e = absurd cc
+stands test (g ∷ gs) hs a e = stands_case test g gs hs a (test g) refl e
+
+pub ahead_at : {A : Type 0} (test : Glyph → Option A) (g : Glyph) (gs : List Glyph) (a : A) → test g ≡ Some a → ahead test (g ∷ gs) ≡ Some (a, gs)
+ahead_at test g gs a e = ap (with_rest gs) e
+
+-- a token that passes is taken
+pub record Taken (test : Glyph → Bool) (gs left : List Glyph) : Type 0 where
+  pub glyph : Glyph
+  pub split : gs ≡ glyph ∷ left
+  pub is : test glyph ≡ true
+
+taken_case : (test : Glyph → Bool) (g : Glyph) (gs left : List Glyph) (u : Unit {0}) (v : Bool) → test g ≡ v → cond v (pure tt) refuse gs ≡ Some (u, left) → Taken test (g ∷ gs) left
+taken_case test g gs left u true is e = record { glyph = g; split = ap (λ v. g ∷ pick v gs (λ p. p.1)) e; is = is }
+taken_case test g gs left u false is e = absurd cc
+
+pub taken : (test : Glyph → Bool) (gs left : List Glyph) (u : Unit {0}) → expect test gs ≡ Some (u, left) → Taken test gs left
+taken test [] left u e = absurd cc
+taken test (g ∷ gs) left u e = taken_case test g gs left u (test g) refl e
+
+pub mark_of-text : (s : Mark) → mark_of (mark_text s) ≡ Some s
+mark_of-text m.DotDot = refl
+mark_of-text m.Dot = refl
+mark_of-text m.Slash = refl
+mark_of-text m.Plus = refl
+mark_of-text m.Minus = refl
+mark_of-text m.Star = refl
+mark_of-text m.Open = refl
+mark_of-text m.Close = refl
+mark_of-text m.Comma = refl
+mark_of-text m.Is = refl
+mark_of-text m.Equal = refl
+mark_of-text m.NotEqual = refl
+mark_of-text m.Less = refl
+mark_of-text m.LessEq = refl
+mark_of-text m.More = refl
+mark_of-text m.MoreEq = refl
+
+same_mark : (s t : Mark) → mark_text s ≡ mark_text t → s ≡ t
+same_mark s t e = let both : Some s ≡ Some t = sym (mark_of-text s) ∙ ap mark_of e ∙ mark_of-text t in ap (λ v. pick v s (λ u. u)) both
+
+pub sign_is : (s : Mark) (g : Glyph) → is_sign s g ≡ true → g ≡ sign s
+sign_is s (sign t) e = ap sign (same_mark t s ((bytes_eq-Decides (mark_text t) (mark_text s)).0 e))
+sign_is s _ e = absurd cc
+
+pub text_is : (w : List ℕ) (g : Glyph) → is_text w g ≡ true → g ≡ text w
+text_is w (text v) e = ap text ((bytes_eq-Decides v w).0 e)
+text_is w _ e = absurd cc
+
+pub marked : (s : Mark) (gs left : List Glyph) (u : Unit {0}) → mark s gs ≡ Some (u, left) → gs ≡ sign s ∷ left
+marked s gs left u e = let t = taken (is_sign s) gs left u e in t.split ∙ ap (λ g. g ∷ left) (sign_is s t.glyph t.is)
+
+pub worded : (w : List ℕ) (gs left : List Glyph) (u : Unit {0}) → literal w gs ≡ Some (u, left) → gs ≡ text w ∷ left
+worded w gs left u e = let t = taken (is_text w) gs left u e in t.split ∙ ap (λ g. g ∷ left) (text_is w t.glyph t.is)
+
+-- ---- tables of words
+
+table_case : {A : Type 0} (P : A → Type 0) (v : Bool) (x k : A) (other : Option A) → (v ≡ true → P x) → (other ≡ Some k → P k) → cond v (Some x) other ≡ Some k → P k
+table_case P true x k other here later e = subst P (ap (λ o. pick o x (λ y. y)) e) (here refl)
+table_case P false x k other here later e = later e
+
+-- what a table gives, it gives at the first word that is the word, or further down
+pub in_table : {A : Type 0} (P : A → Type 0) (w v : List ℕ) (x k : A) (other : Option A) → (w ≡ v → P x) → (other ≡ Some k → P k) → cond (bytes_eq w v) (Some x) other ≡ Some k → P k
+in_table P w v x k other here later e = table_case P (bytes_eq w v) x k other (λ t. here ((bytes_eq-Decides w v).0 t)) later e

@@ -1,0 +1,157 @@
+-- What holds of a statement that some line has.
+use Rattle.std.proofs.Common.{◌≡◌, ℕ, zero, suc, ◌≤◌, List, [], ◌∷◌, ◌++◌, Option, Some, None, Bool, true, false, cond, refl, arith}
+use Rattle.std.specs.Prelude.{codes}
+use Rattle.std.specs.Str.{bytes_eq}
+use Rattle.std.specs.List.{AllByRecursion}
+use Rattle.rank_defs.specs.declared.expression.Op.{Op}
+use Rattle.text_core.specs.Glyphs.{Glyph}
+use Rattle.policy_text_defs.specs.declared.attribute.Attrs.{Attrs}
+use Rattle.policy_text_defs.specs.declared.attribute.Attribute.{Attribute}
+use Rattle.policy_text_defs.specs.declared.attribute.Attribute.TheVariants as attribute
+use Rattle.policy_text_defs.specs.declared.condition.Condition.{Condition}
+use Rattle.policy_text_defs.specs.Words.{is_name, is_operand, is_target}
+use Rattle.std.proofs.Math.Bool.{or-true}
+use Rattle.std.proofs.Math.Logic.{∥∥₁_elim}
+use Rattle.policy_text_defs.proofs.ValidProps.{IsValid-prop}
+use Rattle.policy_text_defs.specs.Phrase.{Phrase, two, most_open}
+use Rattle.policy_text_defs.specs.Grammar.{Form, GoesOn, ends, more, Grouped, grouped, Compared, alone, compared, Expression, IsOperand, named, variable, AtomOver, number_atom, word_atom, parens_atom, call_atom, not_atom, if_atom, NoForm, Atom, Spells}
+use Rattle.policy_text_defs.specs.Sense.{Sense}
+use Rattle.policy_text_defs.specs.Statements.{IsTarget, variable_target, rank_target, unset, with_attribute, AttributesFrom, no_more, set, Attributes, Range, single, between, Address, whole, prefix, IsCondition, field, protocol, source, dest, ipv4, ipv6, Conditions, last, also, Guard, unguarded, guarded, IsForm, version_form, transaction_form, keep_form, each_form, push_form, pop_form, class_form, leaf_form, node_form}
+use Rattle.policy_text_defs.specs.Text.{LineOf, IsWritten}
+use Rattle.policy_text_defs.specs.Valid.{HasOperands, IsValidPhrase, IsAttributeNumber, AreValidAttributes, IsValidAddress, IsValidCondition, IsValid}
+use Rattle.policy_text_defs.proofs.Lexed.{IsLexed, Says-lexed}
+
+abbrev AreLexed : List Glyph → Type 0
+AreLexed gs = AllByRecursion IsLexed gs
+
+front : (gs hs : List Glyph) → AreLexed (gs ++ hs) → AreLexed gs
+front [] hs all = tt
+front (g ∷ gs) hs all = (all.0, front gs hs all.1)
+
+back : (gs hs : List Glyph) → AreLexed (gs ++ hs) → AreLexed hs
+back [] hs all = all
+back (g ∷ gs) hs all = back gs hs all.1
+
+-- ---- expressions
+
+-- what is spelled by tokens of a line has names
+abbrev Sound : Form → Type 0
+Sound Part = (ts : List Glyph) (a : Phrase) → AreLexed ts → Part ts a → HasOperands a
+
+goes_on_names : {op : Glyph → Option Op} {Part : Form} → Sound Part → (a : Phrase) (us : List Glyph) (c : Phrase) → HasOperands a → AreLexed us → GoesOn op Part a us c → HasOperands c
+goes_on_names sound a us c names all (ends _) = names
+goes_on_names sound a gs d names all (more o g ts us _ b c is part later) = goes_on_names sound (two o a b) us c (names, sound ts b (front ts us all.1) part) (back ts us all.1) later
+
+grouped_names : {op : Glyph → Option Op} {Part : Form} → Sound Part → Sound (Grouped op Part)
+grouped_names sound gs d all (grouped ts us a c part on) = goes_on_names sound a us c (sound ts a (front ts us all) part) (back ts us all) on
+
+compared_names : {Part : Form} → Sound Part → Sound (Compared Part)
+compared_names sound gs c all (alone ts a part) = sound ts a all part
+compared_names sound gs c all (compared o g ts us a b is left right) = (sound ts a (front ts (g ∷ us) all) left, sound us b (back ts (g ∷ us) all).1 right)
+
+expression_names : {Atom : Form} → Sound Atom → Sound (Expression Atom)
+expression_names sound = compared_names (grouped_names (grouped_names sound))
+
+operand_is : (w : List ℕ) → IsOperand w → is_operand w ≡ true
+operand_is w (named is) = rw is refl
+operand_is w (variable is) = rw (is, or-true (is_name w)) refl
+
+atom_names : {Inside : Form} → Sound Inside → Sound (AtomOver Inside)
+atom_names sound gs c all (number_atom n) = all.0
+atom_names sound gs c all (word_atom w is) = operand_is w is
+atom_names sound gs c all (parens_atom ts a part) = sound ts a (front ts _ all.1) part
+atom_names sound gs c all (call_atom o w ts us a b is left right) = (sound ts a (front ts _ all.1.1) left, sound us b (front us _ (back ts _ all.1.1).1) right)
+atom_names sound gs c all (not_atom ts a part) = sound ts a (front ts _ all.1.1) part
+atom_names sound gs c all (if_atom ts us vs a b d test then other) =
+    let behind = (back ts _ all.1.1).1 in
+    (sound ts a (front ts _ all.1.1) test, sound us b (front us _ behind) then, sound vs d (front vs _ (back us _ behind).1) other)
+
+none_names : Sound NoForm
+none_names ts a all part = absurd part
+
+room_names : (room : ℕ) → Sound (Atom room)
+room_names zero = atom_names none_names
+room_names (suc room) = atom_names (expression_names (room_names room))
+
+phrase_valid : (ts : List Glyph) (a : Phrase) → AreLexed ts → Spells ts a → IsValidPhrase a
+phrase_valid ts a all spells = record { operands = expression_names (room_names most_open) ts a all spells.form; low = spells.low }
+
+-- ---- attributes
+
+with_valid : (k : Attribute) (n : ℕ) (a : Attrs) → IsAttributeNumber k n → AreValidAttributes a → AreValidAttributes (with_attribute k n a)
+with_valid attribute.Prio n a is are = record { prio = is; weight = are.weight; slack = are.slack }
+with_valid attribute.Weight n a is are = record { prio = are.prio; weight = is; slack = are.slack }
+with_valid attribute.Slack n a is are = record { prio = are.prio; weight = are.weight; slack = is }
+
+attributes_from : (a : Attrs) (ts : List Glyph) (b : Attrs) → AttributesFrom a ts b → AreValidAttributes a → AreValidAttributes b
+attributes_from a ts b (no_more _) are = are
+attributes_from a gs b (set k n ts _ _ may later) are = attributes_from (with_attribute k n a) ts b later (with_valid k n a (record { above = may.above; below = may.below }) are)
+
+attributes_valid : (ts : List Glyph) (a : Attrs) → Attributes ts a → AreValidAttributes a
+attributes_valid ts a is = attributes_from unset ts a is (record { prio = tt; weight = tt; slack = tt })
+
+-- ---- conditions
+
+range_ordered : (ts : List Glyph) (low high : ℕ) → Range ts low high → low ≤ high
+range_ordered ts low high (single n) = omega arith
+range_ordered ts low high (between _ _ ordered) = ordered
+
+protocol_case : (u v w : Bool) (n : ℕ) → cond u (Some 6) (cond v (Some 17) (cond w (Some 1) None)) ≡ Some n → n ≤ 255
+protocol_case true v w n e = let same : 6 ≡ n = cc in omega arith
+protocol_case false true w n e = let same : 17 ≡ n = cc in omega arith
+protocol_case false false true n e = let same : 1 ≡ n = cc in omega arith
+protocol_case false false false n e = absurd cc
+
+address_valid : (ts : List Glyph) (a l : ℕ) → Address ts a l → IsValidAddress a l
+address_valid ts a l (whole o are) =
+    let first = are.first in
+    let second = are.second in
+    let third = are.third in
+    let fourth = are.fourth in
+    record { address = omega arith; prefix = omega arith }
+address_valid ts a l (prefix o _ are low) =
+    let first = are.first in
+    let second = are.second in
+    let third = are.third in
+    let fourth = are.fourth in
+    record { address = omega arith; prefix = low }
+
+condition_valid : (ts : List Glyph) (c : Condition) → IsCondition ts c → IsValidCondition c
+condition_valid gs c (field f ts low high range below) = record { ordered = range_ordered ts low high range; below = below }
+condition_valid gs c (protocol w n is) = record { ordered = omega arith; below = protocol_case (bytes_eq w (codes "tcp")) (bytes_eq w (codes "udp")) (bytes_eq w (codes "icmp")) n is }
+condition_valid gs c (source ts a l address) = address_valid ts a l address
+condition_valid gs c (dest ts a l address) = address_valid ts a l address
+condition_valid gs c ipv4 = tt
+condition_valid gs c ipv6 = tt
+
+conditions_valid : (ts : List Glyph) (cs : List Condition) → Conditions ts cs → AllByRecursion IsValidCondition cs
+conditions_valid gs cs (last ts c is) = (condition_valid ts c is, tt)
+conditions_valid gs cs (also ts us c ds is later) = (condition_valid ts c is, conditions_valid us ds later)
+
+guard_valid : (ts : List Glyph) (cs : List Condition) → Guard ts cs → AllByRecursion IsValidCondition cs
+guard_valid gs cs unguarded = tt
+guard_valid gs cs (guarded ts _ are) = conditions_valid ts cs are
+
+-- ---- statements
+
+target_is : (w : List ℕ) → IsTarget w → is_target w ≡ true
+target_is w (variable_target _ is) = rw is refl
+target_is w rank_target = refl
+
+form_valid : (gs : List Glyph) (s : Sense) → AreLexed gs → IsForm gs s → IsValid s
+form_valid gs s all version_form = refl
+form_valid gs s all (transaction_form n name) = name
+form_valid gs s all (keep_form n span name ordered) = (name, record { ordered = ordered; low = all.1.1.0; high = all.1.1.1.1.0; first = all.1.1.1.1.1.1.0 })
+form_valid gs s all (each_form n span name ordered) = (name, record { ordered = ordered; low = all.1.1.0; high = all.1.1.1.1.0; first = all.1.1.1.1.1.1.0 })
+form_valid gs s all (push_form n ts a target spells) = (target_is n target, phrase_valid ts a all.1.1.1 spells)
+form_valid gs s all (pop_form n ts a name spells) = (name, phrase_valid ts a all.1.1.1 spells)
+form_valid gs s all (class_form n ts us a cs name attributes guard) = (name, attributes_valid ts a attributes, guard_valid us cs guard)
+form_valid gs s all (leaf_form n u ts a ns name used attributes names) = (name, used, attributes_valid ts a attributes, names)
+form_valid gs s all (node_form n u ts a ns name used attributes names) = (name, used, attributes_valid ts a attributes, names)
+
+line_valid : (s : Sense) → LineOf s → IsValid s
+line_valid s line = form_valid line.carries.tokens s (Says-lexed line.line line.carries.tokens line.carries.says) line.carries.form
+
+-- a statement that some line has
+pub IsWritten_IsValid : (s : Sense) → IsWritten s → IsValid s
+IsWritten_IsValid s written = ∥∥₁_elim written (IsValid-prop s) (line_valid s)

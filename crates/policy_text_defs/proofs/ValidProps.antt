@@ -1,0 +1,60 @@
+-- That a statement can be printed has one proof.
+use Rattle.std.proofs.Common.{ℕ, List, Option, Some, None}
+use Rattle.std.specs.List.{AllByRecursion, AllByRecursion-prop}
+use Rattle.std.proofs.Props.{props}
+use Rattle.policy_text_defs.specs.declared.attribute.Attribute.{Attribute}
+use Rattle.policy_text_defs.specs.declared.attribute.Attrs.{Attrs}
+use Rattle.policy_text_defs.specs.declared.attribute.Attribute.TheVariants as attribute
+use Rattle.policy_text_defs.specs.declared.condition.Condition.{Condition}
+use Rattle.policy_text_defs.specs.declared.condition.Condition.TheVariants as condition
+use Rattle.policy_text_defs.specs.Phrase.{Phrase, number, word, two, negation, choice}
+use Rattle.policy_text_defs.specs.Sense.{Sense, version, transaction, keep, each, push, pop, class, leaf, node}
+use Rattle.policy_text_defs.specs.Statements.{IsName, AreNames}
+use Rattle.policy_text_defs.specs.Valid.{HasOperands, IsValidPhrase, IsValidAttribute, AreValidAttributes, IsValidCondition, IsValid}
+
+names-prop : (a : Phrase) → IsProp (HasOperands a)
+names-prop (number n) = hlevel props
+names-prop (word w) = hlevel props
+names-prop (negation a) = names-prop a
+names-prop (choice a b c) = hlevel (props, names-prop a, names-prop b, names-prop c)
+names-prop (two op a b) = hlevel (props, names-prop a, names-prop b)
+
+phrase-prop : (a : Phrase) → IsProp (IsValidPhrase a)
+phrase-prop a = hlevel (props, names-prop a)
+
+attribute-prop : (k : Attribute) (v : Option ℕ) → IsProp (IsValidAttribute k v)
+attribute-prop k None = hlevel props
+attribute-prop k (Some n) = hlevel props
+
+attributes-prop : (a : Attrs) → IsProp (AreValidAttributes a)
+attributes-prop a = hlevel (props, attribute-prop attribute.Prio a.prio, attribute-prop attribute.Weight a.weight, attribute-prop attribute.Slack a.slack)
+
+condition-prop : (c : Condition) → IsProp (IsValidCondition c)
+condition-prop (condition.Field f low high) = hlevel props
+condition-prop (condition.Source a l) = hlevel props
+condition-prop (condition.Dest a l) = hlevel props
+condition-prop condition.Ipv4 = hlevel props
+condition-prop condition.Ipv6 = hlevel props
+
+conditions-prop : (cs : List Condition) → IsProp (AllByRecursion IsValidCondition cs)
+conditions-prop cs = AllByRecursion-prop IsValidCondition condition-prop cs
+
+named-prop : (w : List ℕ) → IsProp (IsName w)
+named-prop w = hlevel props
+
+all-named-prop : (ns : List (List ℕ)) → IsProp (AllByRecursion IsName ns)
+all-named-prop ns = AllByRecursion-prop IsName named-prop ns
+
+are-names-prop : (ns : List (List ℕ)) → IsProp (AreNames ns)
+are-names-prop ns = hlevel (props, all-named-prop ns)
+
+pub IsValid-prop : (s : Sense) → IsProp (IsValid s)
+IsValid-prop (version v) = hlevel props
+IsValid-prop (transaction n) = hlevel props
+IsValid-prop (keep n s) = hlevel props
+IsValid-prop (each n s) = hlevel props
+IsValid-prop (push n a) = hlevel (props, phrase-prop a)
+IsValid-prop (pop n a) = hlevel (props, phrase-prop a)
+IsValid-prop (class n a cs) = hlevel (props, attributes-prop a, conditions-prop cs)
+IsValid-prop (leaf n u a ns) = hlevel (props, attributes-prop a, are-names-prop ns)
+IsValid-prop (node n u a ns) = hlevel (props, attributes-prop a, are-names-prop ns)

@@ -1,0 +1,11 @@
+pub mod Canonical
+pub mod Grammar
+pub mod Phrase
+pub mod Ranges
+pub mod Reading
+pub mod Sense
+pub mod StatementReading
+pub mod Statements
+pub mod Text
+pub mod Valid
+pub mod Words

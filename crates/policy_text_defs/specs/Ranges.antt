@@ -1,0 +1,37 @@
+-- The ranges of the numbers that are written.
+use Rattle.std.specs.Prelude.{ℕ}
+use Rattle.policy_text_defs.specs.declared.attribute.Attribute.{Attribute}
+use Rattle.policy_text_defs.specs.declared.attribute.Attribute.TheVariants as attribute
+use Rattle.policy_text_defs.specs.declared.condition.FieldName.{FieldName}
+use Rattle.policy_text_defs.specs.declared.condition.FieldName.TheVariants as field
+
+-- a number that an attribute may have; slack is in nanoseconds
+abbrev pub attribute_least : Attribute → ℕ
+attribute_least attribute.Prio = 0
+attribute_least attribute.Weight = 1
+attribute_least attribute.Slack = 0
+
+abbrev pub attribute_most : Attribute → ℕ
+attribute_most attribute.Prio = 65535
+attribute_most attribute.Weight = 65535
+attribute_most attribute.Slack = 1000000000000
+
+-- the greatest number of a field
+abbrev pub field_most : FieldName → ℕ
+field_most field.Vlan = 4095
+field_most field.Dscp = 63
+field_most field.Proto = 255
+field_most field.Sport = 65535
+field_most field.Dport = 65535
+field_most field.Len = 4294967295
+
+-- the greatest of the four numbers of an address, and the longest prefix
+abbrev pub most_octet : ℕ
+most_octet = 255
+
+abbrev pub most_prefix : ℕ
+most_prefix = 32
+
+-- the most bytes of a policy text
+abbrev pub most_text : ℕ
+most_text = 1048576

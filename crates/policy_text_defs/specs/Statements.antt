@@ -1,0 +1,132 @@
+-- The forms of statements, over whole lists of tokens.
+use Rattle.std.specs.Prelude.{◌≡◌, ℕ, ◌+◌, ◌*◌, ◌≤◌, ◌<◌, Bool, true, List, [], ◌∷◌, ◌++◌, length, map, Option, Some, None, codes}
+use Rattle.std.specs.List.{AllByRecursion}
+use Rattle.rank_defs.specs.declared.transaction.Span.{Span}
+use Rattle.text_core.specs.declared.mark.Mark.TheVariants as m
+use Rattle.policy_text_defs.specs.declared.attribute.Attrs.{Attrs}
+use Rattle.policy_text_defs.specs.declared.attribute.Attribute.{Attribute}
+use Rattle.policy_text_defs.specs.declared.attribute.Attribute.TheVariants as attribute
+use Rattle.policy_text_defs.specs.declared.condition.FieldName.{FieldName}
+use Rattle.policy_text_defs.specs.declared.condition.FieldName.TheVariants as field_name
+use Rattle.policy_text_defs.specs.declared.condition.Condition.{Condition}
+use Rattle.policy_text_defs.specs.declared.condition.Condition.TheVariants as condition
+use Rattle.policy_text_defs.specs.Words.{is_name, attribute_word, field_word, protocol_of}
+use Rattle.policy_text_defs.specs.Ranges.{attribute_least, attribute_most, field_most, most_octet, most_prefix}
+use Rattle.text_core.specs.Glyphs.{Glyph, text, figure, sign}
+use Rattle.policy_text_defs.specs.Phrase.{Phrase}
+use Rattle.policy_text_defs.specs.Sense.{Sense, version, transaction, keep, each, push, pop, class, leaf, node}
+use Rattle.policy_text_defs.specs.Grammar.{Spells}
+
+-- NAME
+abbrev pub IsName : List ℕ → Type 0
+IsName w = is_name w ≡ true
+
+-- NAME or `rank`
+pub data IsTarget : List ℕ → Type 0 where
+  variable_target : (w : List ℕ) → IsName w → IsTarget w
+  rank_target : IsTarget (codes "rank")
+
+-- LOW is at most FIRST, and FIRST at most HIGH
+pub record IsSpan (s : Span) : Type 0 where
+  pub above : s.low ≤ s.first
+  pub below : s.first ≤ s.high
+
+-- `LOW..HIGH = FIRST`
+abbrev pub span_tokens : Span → List Glyph
+span_tokens s = figure s.low ∷ sign m.DotDot ∷ figure s.high ∷ sign m.Is ∷ figure s.first ∷ []
+
+-- no attribute
+abbrev pub unset : Attrs
+unset = record { prio = None; weight = None; slack = None }
+
+-- what an attribute is set to
+abbrev pub attribute_value : Attribute → Attrs → Option ℕ
+attribute_value attribute.Prio a = a.prio
+attribute_value attribute.Weight a = a.weight
+attribute_value attribute.Slack a = a.slack
+
+abbrev pub with_attribute : Attribute → ℕ → Attrs → Attrs
+with_attribute attribute.Prio n a = record a { prio = Some n }
+with_attribute attribute.Weight n a = record a { weight = Some n }
+with_attribute attribute.Slack n a = record a { slack = Some n }
+
+-- the number is in the attribute's range, and the attribute isn't set before
+pub record MaySet (k : Attribute) (n : ℕ) (a : Attrs) : Type 0 where
+  pub unset : attribute_value k a ≡ None
+  pub above : attribute_least k ≤ n
+  pub below : n ≤ attribute_most k
+
+-- attributes in any order, each at most once, and none that was set before
+pub data AttributesFrom : Attrs → List Glyph → Attrs → Type 0 where
+  no_more : (a : Attrs) → AttributesFrom a [] a
+  set : (k : Attribute) (n : ℕ) (ts : List Glyph) (a b : Attrs) → MaySet k n a → AttributesFrom (with_attribute k n a) ts b → AttributesFrom a (text (attribute_word k) ∷ figure n ∷ ts) b
+
+-- ATTRS
+abbrev pub Attributes : List Glyph → Attrs → Type 0
+Attributes ts a = AttributesFrom unset ts a
+
+-- R: `N`, or `LOW..HIGH` with LOW at most HIGH
+pub data Range : List Glyph → ℕ → ℕ → Type 0 where
+  single : (n : ℕ) → Range (figure n ∷ []) n n
+  between : (low high : ℕ) → low ≤ high → Range (figure low ∷ sign m.DotDot ∷ figure high ∷ []) low high
+
+-- the four numbers of an IPv4 address
+pub record Octets : Type 0 where
+  pub first : ℕ
+  pub second : ℕ
+  pub third : ℕ
+  pub fourth : ℕ
+
+pub record AreOctets (o : Octets) : Type 0 where
+  pub first : o.first ≤ most_octet
+  pub second : o.second ≤ most_octet
+  pub third : o.third ≤ most_octet
+  pub fourth : o.fourth ≤ most_octet
+
+abbrev pub address_of : Octets → ℕ
+address_of o = o.first * 16777216 + o.second * 65536 + o.third * 256 + o.fourth
+
+-- N.N.N.N
+abbrev pub octet_tokens : Octets → List Glyph
+octet_tokens o = figure o.first ∷ sign m.Dot ∷ figure o.second ∷ sign m.Dot ∷ figure o.third ∷ sign m.Dot ∷ figure o.fourth ∷ []
+
+-- A: `N.N.N.N` or `N.N.N.N/L`, which gives an address and the length of its prefix
+pub data Address : List Glyph → ℕ → ℕ → Type 0 where
+  whole : (o : Octets) → AreOctets o → Address (octet_tokens o) (address_of o) most_prefix
+  prefix : (o : Octets) (l : ℕ) → AreOctets o → l ≤ most_prefix → Address (octet_tokens o ++ sign m.Slash ∷ figure l ∷ []) (address_of o) l
+
+-- COND: `vlan R`, `dscp R`, `proto R`, `sport R`, `dport R`, `len R`, `proto tcp`, `proto udp`, `proto icmp`, `src A`, `dst A`, `ipv4`, `ipv6`
+pub data IsCondition : List Glyph → Condition → Type 0 where
+  field : (f : FieldName) (ts : List Glyph) (low high : ℕ) → Range ts low high → high ≤ field_most f → IsCondition (text (field_word f) ∷ ts) (condition.Field f low high)
+  protocol : (w : List ℕ) (n : ℕ) → protocol_of w ≡ Some n → IsCondition (text (codes "proto") ∷ text w ∷ []) (condition.Field field_name.Proto n n)
+  source : (ts : List Glyph) (a l : ℕ) → Address ts a l → IsCondition (text (codes "src") ∷ ts) (condition.Source a l)
+  dest : (ts : List Glyph) (a l : ℕ) → Address ts a l → IsCondition (text (codes "dst") ∷ ts) (condition.Dest a l)
+  ipv4 : IsCondition (text (codes "ipv4") ∷ []) condition.Ipv4
+  ipv6 : IsCondition (text (codes "ipv6") ∷ []) condition.Ipv6
+
+-- COND {and COND}
+pub data Conditions : List Glyph → List Condition → Type 0 where
+  last : (ts : List Glyph) (c : Condition) → IsCondition ts c → Conditions ts (c ∷ [])
+  also : (ts us : List Glyph) (c : Condition) (cs : List Condition) → IsCondition ts c → Conditions us cs → Conditions (ts ++ text (codes "and") ∷ us) (c ∷ cs)
+
+-- [when COND {and COND}]
+pub data Guard : List Glyph → List Condition → Type 0 where
+  unguarded : Guard [] []
+  guarded : (ts : List Glyph) (cs : List Condition) → Conditions ts cs → Guard (text (codes "when") ∷ ts) cs
+
+-- NAME {NAME}
+pub record AreNames (names : List (List ℕ)) : Type 0 where
+  pub some : 0 < length names
+  pub each : AllByRecursion IsName names
+
+-- the tokens of a line are a statement's form
+pub data IsForm : List Glyph → Sense → Type 0 where
+  version_form : IsForm (text (codes "policy") ∷ figure 1 ∷ []) (version 1)
+  transaction_form : (n : List ℕ) → IsName n → IsForm (text (codes "transaction") ∷ text n ∷ []) (transaction n)
+  keep_form : (n : List ℕ) (s : Span) → IsName n → IsSpan s → IsForm (text (codes "keep") ∷ text n ∷ span_tokens s) (keep n s)
+  each_form : (n : List ℕ) (s : Span) → IsName n → IsSpan s → IsForm (text (codes "each") ∷ text n ∷ span_tokens s) (each n s)
+  push_form : (n : List ℕ) (ts : List Glyph) (a : Phrase) → IsTarget n → Spells ts a → IsForm (text (codes "push") ∷ text n ∷ sign m.Is ∷ ts) (push n a)
+  pop_form : (n : List ℕ) (ts : List Glyph) (a : Phrase) → IsName n → Spells ts a → IsForm (text (codes "pop") ∷ text n ∷ sign m.Is ∷ ts) (pop n a)
+  class_form : (n : List ℕ) (ts us : List Glyph) (a : Attrs) (cs : List Condition) → IsName n → Attributes ts a → Guard us cs → IsForm (text (codes "class") ∷ text n ∷ ts ++ us) (class n a cs)
+  leaf_form : (n u : List ℕ) (ts : List Glyph) (a : Attrs) (ns : List (List ℕ)) → IsName n → IsName u → Attributes ts a → AreNames ns → IsForm (text (codes "leaf") ∷ text n ∷ text (codes "using") ∷ text u ∷ ts ++ text (codes "classes") ∷ map text ns) (leaf n u a ns)
+  node_form : (n u : List ℕ) (ts : List Glyph) (a : Attrs) (ns : List (List ℕ)) → IsName n → IsName u → Attributes ts a → AreNames ns → IsForm (text (codes "node") ∷ text n ∷ text (codes "using") ∷ text u ∷ ts ++ text (codes "children") ∷ map text ns) (node n u a ns)

@@ -1,0 +1,73 @@
+-- The statements of a text, and the least of its lines that is at fault.
+use Rattle.std.specs.Prelude.{◌≡◌, ℕ, suc, ◌≤◌, Bool, true, false, List, [], ◌∷◌, length, take, codes}
+use Rattle.std.specs.List.{prefix_len, list_all}
+use Rattle.std.specs.Str.{bytes_eq}
+use Rattle.text_core.specs.Lines.{is_clean_text, statements_of}
+use Rattle.text_core.specs.Tokens.{is_blank, is_word_byte}
+use Rattle.policy_text_defs.specs.Ranges.{most_text}
+use Rattle.text_core.specs.Glyphs.{Glyph}
+use Rattle.policy_text_defs.specs.Sense.{Sense, Entry, entry}
+use Rattle.policy_text_defs.specs.Statements.{IsForm}
+use Rattle.text_core.specs.Says.{Says, skipped}
+
+-- the longest run of letters, digits and `_` after the leading blanks
+abbrev pub first_word : List ℕ → List ℕ
+first_word line = take (prefix_len is_word_byte (skipped line)) (skipped line)
+
+abbrev pub is_shaping : List ℕ → Bool
+is_shaping line = bytes_eq (first_word line) (codes "shape")
+
+-- the line's statement bytes carry this statement
+pub record Carries (line : List ℕ) (s : Sense) : Type 0 where
+  pub clean : is_clean_text line ≡ true
+  pub unshaped : is_shaping line ≡ false
+  pub tokens : List Glyph
+  pub says : Says line tokens
+  pub form : IsForm tokens s
+
+-- a line that has this statement
+pub record LineOf (s : Sense) : Type 0 where
+  pub line : List ℕ
+  pub carries : Carries line s
+
+-- some line has this statement
+abbrev pub IsWritten : Sense → Type 0
+IsWritten s = ∥ LineOf s ∥₁
+
+-- the statements of lines, numbered from this number on; lines of blanks alone have none
+pub data Entries : ℕ → List (List ℕ) → List Entry → Type 0 where
+  over : (n : ℕ) → Entries n [] []
+  empty : (n : ℕ) (line : List ℕ) (lines : List (List ℕ)) (es : List Entry) → list_all is_blank line ≡ true → Entries (suc n) lines es → Entries n (line ∷ lines) es
+  carried : (n : ℕ) (line : List ℕ) (lines : List (List ℕ)) (s : Sense) (es : List Entry) → Carries line s → Entries (suc n) lines es → Entries n (line ∷ lines) (entry n s ∷ es)
+
+-- the text is in form, and these are its statements with the numbers of their lines
+pub record HasEntries (text : List ℕ) (es : List Entry) : Type 0 where
+  pub short : length text ≤ most_text
+  pub entries : Entries 1 (statements_of text) es
+
+-- why a line is refused
+pub data Fault : Type 0 where
+  not_text : Fault
+  shaping : Fault
+  syntax_fault : Fault
+
+-- the fault of a line: it isn't clean, else its first word is `shape`, else it is in no form
+abbrev pub IsFault : List ℕ → Fault → Type 0
+IsFault line not_text = is_clean_text line ≡ false
+IsFault line shaping = (is_clean_text line ≡ true) × (is_shaping line ≡ true)
+IsFault line syntax_fault = (is_clean_text line ≡ true) × (is_shaping line ≡ false) × (list_all is_blank line ≡ false) × ((s : Sense) → Carries line s → ⊥)
+
+-- the line carries a statement, or none
+pub data IsSound (line : List ℕ) : Type 0 where
+  blank_line : list_all is_blank line ≡ true → IsSound line
+  statement_line : (s : Sense) → Carries line s → IsSound line
+
+-- the first of the lines that is at fault, its number and its fault, where the lines are numbered from this number on
+pub data FirstFault : ℕ → List (List ℕ) → ℕ → Fault → Type 0 where
+  here : (n : ℕ) (line : List ℕ) (lines : List (List ℕ)) (f : Fault) → IsFault line f → FirstFault n (line ∷ lines) n f
+  later : (n m : ℕ) (line : List ℕ) (lines : List (List ℕ)) (f : Fault) → IsSound line → FirstFault (suc n) lines m f → FirstFault n (line ∷ lines) m f
+
+-- the least line of the text that is at fault, counted from 1, and its fault
+pub record IsFirstFault (text : List ℕ) (n : ℕ) (f : Fault) : Type 0 where
+  pub short : length text ≤ most_text
+  pub first : FirstFault 1 (statements_of text) n f

@@ -1,0 +1,80 @@
+-- What a statement is like that some line has: names are names, numbers are in range, expressions aren't too deep.
+use Rattle.std.specs.Prelude.{◌≡◌, ℕ, ◌<◌, ◌≤◌, true, Option, Some, None}
+use Rattle.std.specs.List.{AllByRecursion}
+use Rattle.rank_defs.specs.declared.transaction.Span.{Span}
+use Rattle.text_core.specs.Decimals.{max}
+use Rattle.policy_text_defs.specs.declared.attribute.Attrs.{Attrs}
+use Rattle.policy_text_defs.specs.declared.attribute.Attribute.{Attribute}
+use Rattle.policy_text_defs.specs.declared.attribute.Attribute.TheVariants as attribute
+use Rattle.policy_text_defs.specs.declared.condition.Condition.{Condition}
+use Rattle.policy_text_defs.specs.declared.condition.Condition.TheVariants as condition
+use Rattle.policy_text_defs.specs.Words.{is_operand, is_target}
+use Rattle.policy_text_defs.specs.Ranges.{attribute_least, attribute_most, field_most, most_prefix}
+use Rattle.policy_text_defs.specs.Phrase.{Phrase, number, word, two, negation, choice, depth, most_depth}
+use Rattle.policy_text_defs.specs.Sense.{Sense, version, transaction, keep, each, push, pop, class, leaf, node}
+use Rattle.policy_text_defs.specs.Statements.{IsName, IsSpan, AreNames}
+
+-- numbers are at most `max`, and words are operands
+abbrev pub HasOperands : Phrase → Type 0
+HasOperands (number n) = n ≤ max
+HasOperands (word w) = is_operand w ≡ true
+HasOperands (negation a) = HasOperands a
+HasOperands (choice a b c) = HasOperands a × HasOperands b × HasOperands c
+HasOperands (two op a b) = HasOperands a × HasOperands b
+
+-- a variable's range and first value
+pub record IsValidSpan (s : Span) : Type 0 where
+  pub ordered : IsSpan s
+  pub low : s.low ≤ max
+  pub high : s.high ≤ max
+  pub first : s.first ≤ max
+
+-- an expression within the limit of depth
+pub record IsValidPhrase (a : Phrase) : Type 0 where
+  pub operands : HasOperands a
+  pub low : depth a ≤ most_depth
+
+-- a number that the attribute may have
+pub record IsAttributeNumber (k : Attribute) (n : ℕ) : Type 0 where
+  pub above : attribute_least k ≤ n
+  pub below : n ≤ attribute_most k
+
+-- not set, or to such a number
+abbrev pub IsValidAttribute : Attribute → Option ℕ → Type 0
+IsValidAttribute k None = Unit {0}
+IsValidAttribute k (Some n) = IsAttributeNumber k n
+
+pub record AreValidAttributes (a : Attrs) : Type 0 where
+  pub prio : IsValidAttribute attribute.Prio a.prio
+  pub weight : IsValidAttribute attribute.Weight a.weight
+  pub slack : IsValidAttribute attribute.Slack a.slack
+
+-- an IPv4 address and the length of its prefix
+pub record IsValidAddress (a l : ℕ) : Type 0 where
+  pub address : a < 4294967296
+  pub prefix : l ≤ most_prefix
+
+-- the ends of a range
+pub record IsValidRange (low high most : ℕ) : Type 0 where
+  pub ordered : low ≤ high
+  pub below : high ≤ most
+
+-- a range in the field's range, or an address
+abbrev pub IsValidCondition : Condition → Type 0
+IsValidCondition (condition.Field f low high) = IsValidRange low high (field_most f)
+IsValidCondition (condition.Source a l) = IsValidAddress a l
+IsValidCondition (condition.Dest a l) = IsValidAddress a l
+IsValidCondition condition.Ipv4 = Unit {0}
+IsValidCondition condition.Ipv6 = Unit {0}
+
+-- the statement is one that some line has
+abbrev pub IsValid : Sense → Type 0
+IsValid (version v) = v ≡ 1
+IsValid (transaction n) = IsName n
+IsValid (keep n s) = IsName n × IsValidSpan s
+IsValid (each n s) = IsName n × IsValidSpan s
+IsValid (push n a) = (is_target n ≡ true) × IsValidPhrase a
+IsValid (pop n a) = IsName n × IsValidPhrase a
+IsValid (class n a cs) = IsName n × AreValidAttributes a × AllByRecursion IsValidCondition cs
+IsValid (leaf n u a ns) = IsName n × IsName u × AreValidAttributes a × AreNames ns
+IsValid (node n u a ns) = IsName n × IsName u × AreValidAttributes a × AreNames ns

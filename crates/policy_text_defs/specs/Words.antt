@@ -1,0 +1,132 @@
+-- The words of the language.
+use Rattle.std.specs.Prelude.{ℕ, nat_le, Bool, not, ◌&&◌, ◌||◌, List, [], ◌∷◌, length, Option, Some, None, if◌then◌else◌, codes}
+use Rattle.std.specs.List.{list_all, list_any}
+use Rattle.std.specs.Str.{bytes_eq}
+use Rattle.text_core.specs.Tokens.{begins_word, is_word_byte}
+use Rattle.rank_defs.specs.declared.expression.Op.TheVariants as op
+use Rattle.policy_text_defs.specs.declared.function.Function.{Function}
+use Rattle.policy_text_defs.specs.declared.function.Function.TheVariants as function
+use Rattle.policy_text_defs.specs.declared.keyword.Keyword.{Keyword}
+use Rattle.policy_text_defs.specs.declared.keyword.Keyword.TheVariants as keyword
+use Rattle.policy_text_defs.specs.declared.attribute.Attribute.{Attribute}
+use Rattle.policy_text_defs.specs.declared.attribute.Attribute.TheVariants as attribute
+use Rattle.policy_text_defs.specs.declared.condition.FieldName.{FieldName}
+use Rattle.policy_text_defs.specs.declared.condition.FieldName.TheVariants as field
+use Rattle.policy_text_defs.specs.declared.condition.Subject.{Subject}
+use Rattle.policy_text_defs.specs.declared.condition.Subject.TheVariants as subject
+
+-- the most bytes of a name
+abbrev pub most_name : ℕ
+most_name = 64
+
+-- the words that aren't names
+abbrev pub reserved : List (List ℕ)
+reserved =
+    codes "policy" ∷ codes "transaction" ∷ codes "keep" ∷ codes "each" ∷ codes "push" ∷ codes "pop" ∷ codes "node" ∷ codes "leaf" ∷
+    codes "class" ∷ codes "using" ∷ codes "children" ∷ codes "classes" ∷ codes "when" ∷ codes "and" ∷ codes "or" ∷ codes "not" ∷
+    codes "min" ∷ codes "max" ∷ codes "if" ∷ codes "prio" ∷ codes "weight" ∷ codes "slack" ∷ codes "len" ∷ codes "now" ∷
+    codes "rank" ∷ codes "src" ∷ codes "dst" ∷ codes "sport" ∷ codes "dport" ∷ codes "proto" ∷ codes "dscp" ∷ codes "vlan" ∷
+    codes "ipv4" ∷ codes "ipv6" ∷ codes "tcp" ∷ codes "udp" ∷ codes "icmp" ∷ codes "shape" ∷ codes "limit" ∷ []
+
+abbrev pub is_reserved : List ℕ → Bool
+is_reserved w = list_any (bytes_eq w) reserved
+
+-- a letter or `_`, then letters, digits and `_`
+abbrev pub is_word : List ℕ → Bool
+is_word w = begins_word w && list_all is_word_byte w
+
+-- a word that isn't reserved and not too long
+abbrev pub is_name : List ℕ → Bool
+is_name w = is_word w && (nat_le (length w) most_name && not (is_reserved w))
+
+-- the reserved words that are numbers in expressions
+abbrev pub variables : List (List ℕ)
+variables = codes "len" ∷ codes "now" ∷ codes "prio" ∷ codes "weight" ∷ codes "slack" ∷ codes "rank" ∷ []
+
+abbrev pub is_variable : List ℕ → Bool
+is_variable w = list_any (bytes_eq w) variables
+
+-- a name, or one of these
+abbrev pub is_operand : List ℕ → Bool
+is_operand w = is_name w || is_variable w
+
+-- a name, or `rank`
+abbrev pub is_target : List ℕ → Bool
+is_target w = is_name w || bytes_eq w (codes "rank")
+
+abbrev pub some_if : Bool → List ℕ → Option (List ℕ)
+some_if passes w = if passes then Some w else None
+
+-- what passes a test
+abbrev pub passing : (List ℕ → Bool) → List ℕ → Option (List ℕ)
+passing test w = some_if (test w) w
+
+-- the function that a word names
+abbrev pub function_of : List ℕ → Option Function
+function_of w =
+    if bytes_eq w (codes "min") then Some (function.Two op.Min)
+    else (if bytes_eq w (codes "max") then Some (function.Two op.Max)
+    else (if bytes_eq w (codes "and") then Some (function.Two op.And)
+    else (if bytes_eq w (codes "or") then Some (function.Two op.Or)
+    else (if bytes_eq w (codes "not") then Some function.Not
+    else (if bytes_eq w (codes "if") then Some function.If
+    else None)))))
+
+-- the word that begins a statement
+abbrev pub keyword_of : List ℕ → Option Keyword
+keyword_of w =
+    if bytes_eq w (codes "policy") then Some keyword.Policy
+    else (if bytes_eq w (codes "transaction") then Some keyword.Transaction
+    else (if bytes_eq w (codes "keep") then Some keyword.Keep
+    else (if bytes_eq w (codes "each") then Some keyword.Each
+    else (if bytes_eq w (codes "push") then Some keyword.Push
+    else (if bytes_eq w (codes "pop") then Some keyword.Pop
+    else (if bytes_eq w (codes "class") then Some keyword.Class
+    else (if bytes_eq w (codes "leaf") then Some keyword.Leaf
+    else (if bytes_eq w (codes "node") then Some keyword.Node
+    else None))))))))
+
+-- how an attribute is written
+abbrev pub attribute_word : Attribute → List ℕ
+attribute_word attribute.Prio = codes "prio"
+attribute_word attribute.Weight = codes "weight"
+attribute_word attribute.Slack = codes "slack"
+
+abbrev pub attribute_of : List ℕ → Option Attribute
+attribute_of w =
+    if bytes_eq w (codes "prio") then Some attribute.Prio
+    else (if bytes_eq w (codes "weight") then Some attribute.Weight
+    else (if bytes_eq w (codes "slack") then Some attribute.Slack
+    else None))
+
+-- how a field is written
+abbrev pub field_word : FieldName → List ℕ
+field_word field.Vlan = codes "vlan"
+field_word field.Dscp = codes "dscp"
+field_word field.Proto = codes "proto"
+field_word field.Sport = codes "sport"
+field_word field.Dport = codes "dport"
+field_word field.Len = codes "len"
+
+-- what the word that begins a condition names
+abbrev pub subject_of : List ℕ → Option Subject
+subject_of w =
+    if bytes_eq w (codes "vlan") then Some (subject.Field field.Vlan)
+    else (if bytes_eq w (codes "dscp") then Some (subject.Field field.Dscp)
+    else (if bytes_eq w (codes "proto") then Some (subject.Field field.Proto)
+    else (if bytes_eq w (codes "sport") then Some (subject.Field field.Sport)
+    else (if bytes_eq w (codes "dport") then Some (subject.Field field.Dport)
+    else (if bytes_eq w (codes "len") then Some (subject.Field field.Len)
+    else (if bytes_eq w (codes "src") then Some subject.Source
+    else (if bytes_eq w (codes "dst") then Some subject.Dest
+    else (if bytes_eq w (codes "ipv4") then Some subject.Ipv4
+    else (if bytes_eq w (codes "ipv6") then Some subject.Ipv6
+    else None)))))))))
+
+-- the protocol that a word names (IANA protocol numbers)
+abbrev pub protocol_of : List ℕ → Option ℕ
+protocol_of w =
+    if bytes_eq w (codes "tcp") then Some 6
+    else (if bytes_eq w (codes "udp") then Some 17
+    else (if bytes_eq w (codes "icmp") then Some 1
+    else None))

@@ -1,0 +1,59 @@
+ghost use Rattle.std.specs.Prelude.{◌≡◌};
+ghost use Rattle.policy_text_defs.specs.Words.{attribute_of};
+ghost use Rattle.policy_text_defs.specs.Ranges.{attribute_least, attribute_most};
+
+use crate::word::is;
+
+/// The attributes that were written for a class, leaf or node.
+#[derive(Clone, Copy, PartialEq, Eq, Debug)]
+pub struct Attrs {
+    pub prio: Option<u32>,
+    pub weight: Option<u32>,
+    /// In nanoseconds.
+    pub slack: Option<u64>,
+}
+
+/// What an attribute sets.
+#[derive(Clone, Copy, PartialEq, Eq, Debug)]
+pub enum Attribute {
+    Prio,
+    Weight,
+    Slack,
+}
+
+impl Attribute {
+    /// The attribute that a word names.
+    pub fn of(word: &[u8]) -> Option<Attribute>
+        ensures { result ≡ attribute_of word.now }
+    {
+        if is(word, "prio") {
+            Some(Attribute::Prio)
+        } else if is(word, "weight") {
+            Some(Attribute::Weight)
+        } else if is(word, "slack") {
+            Some(Attribute::Slack)
+        } else {
+            None
+        }
+    }
+
+    /// The least number that may be written.
+    pub fn least(self) -> u64
+        ensures { result ≡ attribute_least self }
+    {
+        match self {
+            Attribute::Weight => 1,
+            Attribute::Prio | Attribute::Slack => 0,
+        }
+    }
+
+    /// The greatest number that may be written.
+    pub fn most(self) -> u64
+        ensures { result ≡ attribute_most self }
+    {
+        match self {
+            Attribute::Prio | Attribute::Weight => 65_535,
+            Attribute::Slack => 1_000_000_000_000,
+        }
+    }
+}

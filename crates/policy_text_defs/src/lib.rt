@@ -1,0 +1,22 @@
+//! The language of policy texts: the types of its statements, its grammar, and which statements a text has.
+#![tactic(auto)]
+
+mod attribute;
+mod canonical;
+mod condition;
+mod function;
+mod keyword;
+mod statement;
+mod term;
+mod word;
+
+pub use attribute::{Attribute, Attrs};
+pub use canonical::{
+    canonical_text_reads_back, texts_have_one_list_of_statements, written_statements_are_valid,
+};
+pub use condition::{Condition, FieldName, Subject, protocol_of};
+pub use function::Function;
+pub use keyword::Keyword;
+pub use statement::Statement;
+pub use term::Term;
+pub use word::{is, name_of, operand_of, target_of};

@@ -1,0 +1,161 @@
+ghost use Rattle.std.specs.Prelude.{◌≡◌, true, option_map};
+ghost use Rattle.std.specs.List.{list_all, list_any};
+ghost use Rattle.std.specs.Str.{bytes_eq, IsUtf8};
+ghost use Rattle.text_core.specs.Tokens.{begins_word, is_word_byte};
+ghost use Rattle.policy_text_defs.specs.Words.{is_reserved, is_variable, is_name, is_operand, is_target, is_word, some_if, passing};
+
+/// The most bytes that a name may have.
+const MOST_NAME: usize = 64;
+
+/// The words that aren't names.
+const RESERVED: [&str; 39] = [
+    "policy",
+    "transaction",
+    "keep",
+    "each",
+    "push",
+    "pop",
+    "node",
+    "leaf",
+    "class",
+    "using",
+    "children",
+    "classes",
+    "when",
+    "and",
+    "or",
+    "not",
+    "min",
+    "max",
+    "if",
+    "prio",
+    "weight",
+    "slack",
+    "len",
+    "now",
+    "rank",
+    "src",
+    "dst",
+    "sport",
+    "dport",
+    "proto",
+    "dscp",
+    "vlan",
+    "ipv4",
+    "ipv6",
+    "tcp",
+    "udp",
+    "icmp",
+    "shape",
+    "limit",
+];
+
+/// The reserved words that are numbers in expressions.
+const VARIABLES: [&str; 6] = ["len", "now", "prio", "weight", "slack", "rank"];
+
+/// Whether a word is written so.
+pub fn is(word: &[u8], text: &str) -> bool
+    ensures { result ≡ bytes_eq word.now text.now }
+{
+    word == text.as_bytes()
+}
+
+/// Whether a word is one of the words.
+fn is_among(word: &[u8], words: &[&str]) -> bool
+    ensures { result ≡ list_any (λ w. bytes_eq word.now w.now) words.now }
+{
+    words.iter().any(|other| word == other.as_bytes())
+}
+
+fn is_reserved(word: &[u8]) -> bool
+    ensures { result ≡ is_reserved word.now }
+{
+    is_among(word, &RESERVED)
+}
+
+/// Whether the bytes are a word: a letter or `_`, then letters, digits and `_`.
+fn is_word(bytes: &[u8]) -> bool
+    ensures { result ≡ is_word bytes.now }
+{
+    begins_word(bytes) && are_word_bytes(bytes)
+}
+
+fn are_word_bytes(bytes: &[u8]) -> bool
+    ensures { result ≡ list_all is_word_byte bytes.now }
+{
+    bytes.iter().all(|byte| is_word_byte(*byte))
+}
+
+fn begins_word(bytes: &[u8]) -> bool
+    ensures { result ≡ begins_word bytes.now }
+{
+    match bytes {
+        [first, ..] => first.is_ascii_alphabetic() || *first == b'_',
+        [] => false,
+    }
+}
+
+fn is_word_byte(byte: u8) -> bool
+    ensures { result ≡ is_word_byte byte }
+{
+    byte.is_ascii_alphabetic() || byte == b'_' || byte.is_ascii_digit()
+}
+
+fn is_name(word: &[u8]) -> bool
+    ensures { result ≡ is_name word.now }
+{
+    is_word(word) && word.len() <= MOST_NAME && !is_reserved(word)
+}
+
+fn is_variable(word: &[u8]) -> bool
+    ensures { result ≡ is_variable word.now }
+{
+    is_among(word, &VARIABLES)
+}
+
+fn is_operand(word: &[u8]) -> bool
+    ensures { result ≡ is_operand word.now }
+{
+    is_name(word) || is_variable(word)
+}
+
+fn is_target(word: &[u8]) -> bool
+    ensures { result ≡ is_target word.now }
+{
+    is_name(word) || is(word, "rank")
+}
+
+/// The text of a word that passed a test.
+fn text_if(passes: bool, word: &[u8]) -> Option<&str>
+    requires { passes ≡ true → IsUtf8 word.now }
+    ensures { option_map (λ s. s.now) result ≡ some_if passes word.now }
+{
+    if !passes {
+        return None;
+    }
+    str::from_utf8(word).ok()
+}
+
+/// The text of a word that is a name.
+#[tactic(auto, using(crate::proofs::WordLaws::is_name_utf8))]
+pub fn name_of(word: &[u8]) -> Option<&str>
+    ensures { option_map (λ s. s.now) result ≡ passing is_name word.now }
+{
+    text_if(is_name(word), word)
+}
+
+/// The text of a word that is a name or a number of the packet, its class or its way.
+#[tactic(auto, using(crate::proofs::WordLaws::is_operand_utf8))]
+pub fn operand_of(word: &[u8]) -> Option<&str>
+    ensures { option_map (λ s. s.now) result ≡ passing is_operand word.now }
+{
+    text_if(is_operand(word), word)
+}
+
+/// The text of a word that is a name or `rank`.
+#[tactic(auto, using(crate::proofs::WordLaws::is_target_utf8))]
+pub fn target_of(word: &[u8]) -> Option<&str>
+    ensures { option_map (λ s. s.now) result ≡ passing is_target word.now }
+{
+    text_if(is_target(word), word)
+}
