@@ -1,5 +1,5 @@
 -- Statements with the numbers of their lines.
-use Rattle.std.specs.Prelude.{ℕ, ◌<◌, List, map, All, AllPairs}
+use Rattle.std.specs.Prelude.{ℕ, ◌<◌, List, All, AllPairs}
 use Rattle.policy_text_defs.specs.declared.statement.Statement.{Statement}
 use Rattle.policy_text_defs.specs.Sense.{Sense, Entry, entry, sense_of}
 use Rattle.policy_text_defs.specs.Text.{IsWritten}

@@ -8,7 +8,7 @@ use Rattle.policy_text_defs.specs.declared.statement.Statement.{Statement}
 use Rattle.policy_text_defs.specs.Ranges.{most_text}
 use Rattle.policy_text_defs.specs.Sense.{Sense, Entry, sense_of}
 use Rattle.policy_text_defs.specs.Statements.{IsForm}
-use Rattle.policy_text_defs.specs.Text.{Carries, Fault, not_text, shaping, syntax_fault, IsFault, HasEntries, IsFirstFault}
+use Rattle.policy_text_defs.specs.Text.{Carries, not_text, shaping, syntax_fault, IsFault, HasEntries, IsFirstFault}
 use Rattle.policy_text.specs.declared.lines.Lines.{Lines}
 use Rattle.policy_text.specs.declared.fault.TextFault.{TextFault}
 use Rattle.policy_text.specs.declared.fault.TextFault.TheVariants as fault

@@ -1,5 +1,5 @@
 -- Comparisons and atoms: what is read is in the grammar, and what is in the grammar is read.
-use Rattle.std.proofs.Common.{◌≡◌, ℕ, zero, suc, ◌≤◌, max, List, [], ◌∷◌, ◌++◌, Option, Some, None, Bool, true, false, cond, sym, refl, ap, ◌∙◌, subst, codes, arith, append_assoc}
+use Rattle.std.proofs.Common.{◌≡◌, ℕ, zero, suc, ◌≤◌, max, List, [], ◌∷◌, ◌++◌, Option, Some, None, Bool, true, false, sym, refl, ap, ◌∙◌, subst, codes, arith, append_assoc}
 use Rattle.std.specs.Prelude.{◌||◌}
 use Rattle.rank_defs.specs.declared.expression.Op.{Op}
 use Rattle.rank_defs.specs.declared.expression.Op.TheVariants as op

@@ -1,6 +1,5 @@
 -- Conditions: what is read is their form, and their form is read.
-use Rattle.std.proofs.Common.{◌≡◌, ℕ, zero, suc, ◌≤◌, List, [], ◌∷◌, ◌++◌, length, Option, Some, None, Bool, true, false, cond, leb, sym, refl, ap, ◌∙◌, subst, codes, arith, append_assoc}
-use Rattle.std.proofs.lemmas.List.{append-nil}
+use Rattle.std.proofs.Common.{◌≡◌, ℕ, ◌≤◌, List, [], ◌∷◌, ◌++◌, Option, Some, None, Bool, true, false, leb, sym, refl, ap, ◌∙◌, subst, codes, arith}
 use Rattle.std.specs.Prelude.{◌&&◌}
 use Rattle.std.proofs.lemmas.Bool.{le-leb, leb-true}
 use Rattle.text_core.specs.declared.mark.Mark.{Mark}
@@ -14,12 +13,11 @@ use Rattle.policy_text_defs.specs.declared.condition.Subject.{Subject}
 use Rattle.policy_text_defs.specs.declared.condition.Subject.TheVariants as subject
 use Rattle.policy_text_defs.specs.Words.{field_word, subject_of, protocol_of}
 use Rattle.policy_text_defs.specs.Ranges.{field_most, most_octet, most_prefix}
-use Rattle.policy_text_defs.specs.Statements.{Range, single, between, Octets, AreOctets, address_of, octet_tokens, Address, whole, prefix, IsCondition, field, protocol, source, dest, ipv4, ipv6, Conditions, last, also, Guard, unguarded, guarded}
-use Rattle.policy_text_defs.specs.Reading.{Outcome, Reader, ◌>>=◌, pick, pure, refuse, ahead, unit_if, is_sign, is_text}
-use Rattle.policy_text_defs.specs.StatementReading.{repeated, many, a_number, within, number_to, upper, bounded, range_from, protocol_by, named_value, bounds, octets_at, address, prefix_length, source_rest, dest_rest, condition_by, a_condition, word_ahead, condition_last, conditions, guard}
-use Rattle.policy_text_defs.proofs.StepLaws.{steps, same_value, same_rest, stands, ahead_at, marked, sign_is, text_is, in_table}
+use Rattle.policy_text_defs.specs.Statements.{Range, single, between, Octets, AreOctets, address_of, octet_tokens, Address, whole, prefix, IsCondition, field, protocol, source, dest, ipv4, ipv6}
+use Rattle.policy_text_defs.specs.Reading.{Outcome, ◌>>=◌, pick, pure, ahead, unit_if, is_sign, is_text}
+use Rattle.policy_text_defs.specs.StatementReading.{a_number, within, number_to, upper, bounded, protocol_by, named_value, bounds, octets_at, address, prefix_length, source_rest, dest_rest, condition_by, a_condition, word_ahead}
+use Rattle.policy_text_defs.proofs.StepLaws.{steps, same_value, same_rest, stands, marked, sign_is, text_is, in_table}
 use Rattle.policy_text_defs.proofs.TokenLaws.{numbered, a_word_was, number_to_was, kept, Kept, both_true}
-use Rattle.policy_text_defs.proofs.RepeatLaws.{Leads, Goes, no_step, onward, repeated_ends, repeated_more, many_was}
 
 -- ---- a mark or a word that may follow
 

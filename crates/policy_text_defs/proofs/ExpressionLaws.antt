@@ -1,5 +1,5 @@
 -- What reading all tokens says of the grammar.
-use Rattle.std.proofs.Common.{◌≡◌, List, [], ◌∷◌, ◌++◌, Some, sym, refl, ap, ◌∙◌, subst}
+use Rattle.std.proofs.Common.{◌≡◌, List, [], ◌++◌, Some, sym, refl, ap, ◌∙◌, subst}
 use Rattle.std.proofs.lemmas.List.{append-nil}
 use Rattle.text_core.specs.Glyphs.{Glyph}
 use Rattle.policy_text_defs.specs.Phrase.{Phrase, most_open}

@@ -1,10 +1,10 @@
 -- What is read is in the grammar, and what is in the grammar is read.
-use Rattle.std.proofs.Common.{◌≡◌, ℕ, zero, suc, ◌+◌, ◌≤◌, max, List, [], ◌∷◌, ◌++◌, Option, Some, None, option_map, Bool, true, false, sym, refl, ap, ◌∙◌, subst, leb, arith, append_assoc}
+use Rattle.std.proofs.Common.{◌≡◌, ℕ, zero, suc, ◌+◌, ◌≤◌, max, List, [], ◌∷◌, ◌++◌, Option, Some, None, Bool, true, false, sym, refl, ap, ◌∙◌, subst, leb, arith, append_assoc}
 use Rattle.std.proofs.lemmas.Bool.{le-leb, leb-true}
 use Rattle.rank_defs.specs.declared.expression.Op.{Op}
 use Rattle.policy_text_defs.specs.Phrase.{Phrase, two, depth, most_depth}
 use Rattle.text_core.specs.Glyphs.{Glyph}
-use Rattle.policy_text_defs.specs.Reading.{Outcome, Reader, and_then, ◌>>=◌, pick, ahead, pure, refuse, limited, chain}
+use Rattle.policy_text_defs.specs.Reading.{Reader, and_then, ◌>>=◌, pick, ahead, pure, refuse, limited, chain}
 use Rattle.policy_text_defs.specs.Grammar.{Form, GoesOn, ends, more, Grouped, grouped}
 use Rattle.policy_text_defs.proofs.ChainLemmas.{limited_by, chain_ends}
 use Rattle.policy_text_defs.proofs.StepLaws.{steps, stands, ahead_at}

@@ -1,5 +1,5 @@
 -- What is read again and again while the tokens begin with something.
-use Rattle.std.proofs.Common.{◌≡◌, ℕ, zero, suc, ◌<◌, ◌≤◌, List, [], ◌∷◌, ◌++◌, length, Option, Some, None, sym, refl, ap, ◌∙◌, subst, arith, append_assoc, length-append}
+use Rattle.std.proofs.Common.{◌≡◌, ℕ, zero, suc, ◌<◌, List, [], ◌++◌, length, Some, None, sym, refl, ap, ◌∙◌, subst, arith, append_assoc, length-append}
 use Rattle.text_core.specs.Glyphs.{Glyph}
 use Rattle.policy_text_defs.specs.Reading.{Outcome, Reader, ◌>>=◌, pick, pure, refuse}
 use Rattle.policy_text_defs.specs.StatementReading.{repeated, many}

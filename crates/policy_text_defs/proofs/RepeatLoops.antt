@@ -1,7 +1,7 @@
 -- Loops that read again and again: how far they came.
-use Rattle.std.proofs.Common.{◌≡◌, ℕ, zero, suc, ◌<◌, ◌≤◌, List, length, Option, Some, None, sym, refl, ap, ◌∙◌, arith}
+use Rattle.std.proofs.Common.{◌≡◌, ℕ, zero, suc, ◌<◌, ◌≤◌, List, length, Some, None, refl, ◌∙◌, arith}
 use Rattle.text_core.specs.Glyphs.{Glyph}
-use Rattle.policy_text_defs.specs.Reading.{Outcome, Reader, ◌>>=◌, pick}
+use Rattle.policy_text_defs.specs.Reading.{Outcome, Reader}
 use Rattle.policy_text_defs.specs.StatementReading.{repeated, many}
 use Rattle.policy_text_defs.proofs.RepeatLaws.{repeated_ends, repeated_more}
 

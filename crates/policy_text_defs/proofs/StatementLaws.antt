@@ -1,21 +1,19 @@
 -- Statements: what is read of all tokens is in a form, and what is in a form is read.
-use Rattle.std.proofs.Common.{◌≡◌, ℕ, ◌≤◌, List, [], ◌∷◌, ◌++◌, map, Option, Some, None, sym, refl, ap, ◌∙◌, subst, codes}
+use Rattle.std.proofs.Common.{◌≡◌, ℕ, List, [], ◌∷◌, ◌++◌, map, Option, Some, None, sym, refl, ap, ◌∙◌, subst, codes}
 use Rattle.std.proofs.lemmas.List.{append-nil}
 use Rattle.std.proofs.lemmas.Bool.{eqb-true}
 use Rattle.std.specs.Prelude.{◌==◌}
 use Rattle.rank_defs.specs.declared.transaction.Span.{Span}
 use Rattle.text_core.specs.declared.mark.Mark.TheVariants as m
 use Rattle.text_core.specs.Glyphs.{Glyph, text, figure, sign}
-use Rattle.policy_text_defs.specs.declared.attribute.Attrs.{Attrs}
 use Rattle.policy_text_defs.specs.declared.condition.Condition.{Condition}
 use Rattle.policy_text_defs.specs.declared.keyword.Keyword.{Keyword}
 use Rattle.policy_text_defs.specs.declared.keyword.Keyword.TheVariants as keyword
 use Rattle.policy_text_defs.specs.Words.{keyword_of}
-use Rattle.policy_text_defs.specs.Phrase.{Phrase, most_open}
 use Rattle.policy_text_defs.specs.Sense.{Sense, version, transaction, keep, each, push, pop, class, leaf, node}
-use Rattle.policy_text_defs.specs.Statements.{IsName, span_tokens, Attributes, Guard, unguarded, guarded, AreNames, IsForm, version_form, transaction_form, keep_form, each_form, push_form, pop_form, class_form, leaf_form, node_form}
-use Rattle.policy_text_defs.specs.Reading.{Outcome, ◌>>=◌, pick, pure, refuse, ahead, expression, atom}
-use Rattle.policy_text_defs.specs.StatementReading.{a_word, a_number, attribute_at, attributes, names, guard, version_by, transaction_rest, keep_rest, each_rest, push_rest, pop_rest, class_rest, leaf_rest, node_rest, rest_by, a_statement}
+use Rattle.policy_text_defs.specs.Statements.{span_tokens, Guard, unguarded, guarded, IsForm, version_form, transaction_form, keep_form, each_form, push_form, pop_form, class_form, leaf_form, node_form}
+use Rattle.policy_text_defs.specs.Reading.{◌>>=◌, ahead}
+use Rattle.policy_text_defs.specs.StatementReading.{a_number, attribute_at, version_by, transaction_rest, keep_rest, each_rest, push_rest, pop_rest, class_rest, leaf_rest, node_rest, rest_by, a_statement}
 use Rattle.policy_text_defs.proofs.StepLaws.{steps, same_value, same_rest, marked, worded, in_table}
 use Rattle.policy_text_defs.proofs.TokenLaws.{numbered, a_word_was, kept, Kept, named_reads, name_was, target_reads, target_was, span_reads, span_was}
 use Rattle.policy_text_defs.proofs.ExpressionLaws.{Spells-read, read-Spells}

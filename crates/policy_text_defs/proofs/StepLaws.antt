@@ -5,8 +5,8 @@ use Rattle.std.proofs.lemmas.Slice.Eq.{bytes_eq-Decides}
 use Rattle.text_core.specs.declared.mark.Mark.{Mark}
 use Rattle.text_core.specs.declared.mark.Mark.TheVariants as m
 use Rattle.text_core.specs.Marks.{mark_text, mark_of}
-use Rattle.text_core.specs.Glyphs.{Glyph, text, figure, sign}
-use Rattle.policy_text_defs.specs.Reading.{Outcome, Reader, and_then, ◌>>=◌, pick, pure, refuse, ahead, with_rest, is_sign, is_text, expect, mark, literal}
+use Rattle.text_core.specs.Glyphs.{Glyph, text, sign}
+use Rattle.policy_text_defs.specs.Reading.{Outcome, Reader, and_then, pick, pure, refuse, ahead, with_rest, is_sign, is_text, expect, mark, literal}
 
 -- an outcome by two steps comes of two outcomes
 pub record Steps {A B : Type 0} (first : Outcome A) (then : A → Reader B) (b : B) (rest : List Glyph) : Type 0 where

@@ -1,17 +1,16 @@
 -- The statements of a text and its first fault are one, and no text has both.
-use Rattle.std.proofs.Common.{◌≡◌, ℕ, zero, suc, ◌+◌, ◌<◌, ◌≤◌, List, [], ◌∷◌, ◌++◌, length, take, drop, map, Option, Some, None, Bool, true, false, cond, sym, refl, ap, ◌∙◌, subst, codes, arith}
-use Rattle.std.specs.Prelude.{◌==◌, ◌&&◌, ◌||◌, nat_le}
+use Rattle.std.proofs.Common.{◌≡◌, ℕ, suc, ◌+◌, List, [], ◌∷◌, ◌++◌, length, drop, Some, Bool, true, false, sym, refl, ap, ◌∙◌, subst, arith}
+use Rattle.std.specs.Prelude.{◌==◌, ◌||◌}
 use Rattle.std.specs.List.{prefix_len, list_all}
-use Rattle.std.specs.Str.{bytes_eq}
 use Rattle.std.proofs.lemmas.Bool.{eqb-true}
-use Rattle.text_core.specs.Lines.{is_clean, is_clean_text, statements_of}
-use Rattle.text_core.specs.Tokens.{is_blank, is_word_byte}
+use Rattle.text_core.specs.Lines.{is_clean, is_clean_text}
+use Rattle.text_core.specs.Tokens.{is_blank}
 use Rattle.text_core.specs.Glyphs.{Glyph}
-use Rattle.text_core.specs.Says.{Says, SaysFrom, skipped}
+use Rattle.text_core.specs.Says.{SaysFrom, skipped}
 use Rattle.text_core.proofs.SaysLaws.{Says-one}
 use Rattle.policy_text_defs.specs.Sense.{Sense, Entry, entry}
 use Rattle.policy_text_defs.specs.Statements.{IsForm}
-use Rattle.policy_text_defs.specs.Text.{first_word, is_shaping, Carries, Entries, over, empty, carried, HasEntries, Fault, not_text, shaping, syntax_fault, IsFault, IsSound, blank_line, statement_line, FirstFault, here, later, IsFirstFault}
+use Rattle.policy_text_defs.specs.Text.{is_shaping, Carries, Entries, over, empty, carried, Fault, not_text, shaping, syntax_fault, IsFault, IsSound, blank_line, statement_line, FirstFault, here, later}
 use Rattle.policy_text_defs.specs.StatementReading.{a_statement}
 use Rattle.policy_text_defs.proofs.TokenLaws.{both_true}
 use Rattle.policy_text_defs.proofs.StatementLaws.{read-IsForm, IsForm-one}

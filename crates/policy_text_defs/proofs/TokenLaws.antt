@@ -1,5 +1,5 @@
 -- Single tokens and short runs of them: what is read, and what was read.
-use Rattle.std.proofs.Common.{◌≡◌, ℕ, ◌≤◌, List, [], ◌∷◌, ◌++◌, Option, Some, None, Bool, true, false, cond, leb, sym, refl, ap, ◌∙◌, subst, codes}
+use Rattle.std.proofs.Common.{◌≡◌, ℕ, ◌≤◌, List, [], ◌∷◌, ◌++◌, Some, Bool, true, false, cond, leb, sym, refl, ap, ◌∙◌, subst, codes}
 use Rattle.std.specs.Prelude.{◌&&◌, ◌||◌}
 use Rattle.std.specs.Str.{bytes_eq}
 use Rattle.std.proofs.lemmas.Slice.Eq.{bytes_eq-Decides}
@@ -9,7 +9,7 @@ use Rattle.text_core.specs.declared.mark.Mark.TheVariants as m
 use Rattle.text_core.specs.Glyphs.{Glyph, text, figure, sign}
 use Rattle.policy_text_defs.specs.Words.{is_name, is_target, some_if}
 use Rattle.policy_text_defs.specs.Statements.{IsName, IsTarget, variable_target, rank_target, IsSpan, span_tokens}
-use Rattle.policy_text_defs.specs.Reading.{◌>>=◌, pure, refuse, given, mark}
+use Rattle.policy_text_defs.specs.Reading.{pure, refuse, given}
 use Rattle.policy_text_defs.specs.StatementReading.{a_word, a_number, within, number_to, named_by, name, target_by, target, spanned, span_at, span}
 use Rattle.policy_text_defs.proofs.StepLaws.{steps, same_value, same_rest, marked}
 

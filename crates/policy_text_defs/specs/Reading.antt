@@ -1,6 +1,6 @@
 -- Reading from the left, token by token: what a reader gives of a list of tokens, and what it leaves.
 -- It serves proofs; the laws in proofs/ say that it gives exactly the forms of Grammar and Statements.
-use Rattle.std.specs.Prelude.{◌≡◌, ℕ, zero, suc, nat_le, Bool, true, false, if◌then◌else◌, List, [], ◌∷◌, length, Option, Some, None, option_map, codes}
+use Rattle.std.specs.Prelude.{ℕ, zero, suc, nat_le, Bool, false, if◌then◌else◌, List, [], ◌∷◌, Option, Some, None, option_map}
 use Rattle.std.specs.Str.{bytes_eq}
 use Rattle.rank_defs.specs.declared.expression.Op.{Op}
 use Rattle.text_core.specs.declared.mark.Mark.{Mark}
@@ -10,7 +10,7 @@ use Rattle.text_core.specs.Glyphs.{Glyph, text, figure, sign}
 use Rattle.policy_text_defs.specs.declared.function.Function.{Function}
 use Rattle.policy_text_defs.specs.declared.function.Function.TheVariants as function
 use Rattle.policy_text_defs.specs.Words.{is_operand, function_of, passing}
-use Rattle.policy_text_defs.specs.Phrase.{Phrase, number, word, two, negation, choice, depth, most_depth, most_open}
+use Rattle.policy_text_defs.specs.Phrase.{Phrase, number, word, two, negation, choice, depth, most_depth}
 use Rattle.policy_text_defs.specs.Grammar.{product_op, sum_op, relation}
 
 abbrev pub Outcome : Type 0 → Type 0

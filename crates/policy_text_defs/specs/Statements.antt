@@ -1,5 +1,5 @@
 -- The forms of statements, over whole lists of tokens.
-use Rattle.std.specs.Prelude.{◌≡◌, ℕ, ◌+◌, ◌*◌, ◌≤◌, ◌<◌, Bool, true, List, [], ◌∷◌, ◌++◌, length, map, Option, Some, None, codes}
+use Rattle.std.specs.Prelude.{◌≡◌, ℕ, ◌+◌, ◌*◌, ◌≤◌, ◌<◌, true, List, [], ◌∷◌, ◌++◌, length, map, Option, Some, None, codes}
 use Rattle.std.specs.List.{AllByRecursion}
 use Rattle.rank_defs.specs.declared.transaction.Span.{Span}
 use Rattle.text_core.specs.declared.mark.Mark.TheVariants as m

@@ -89,22 +89,31 @@ fn limits_of_expressions(rt: HostRuntime) -> Result<(), Fail> {
     Ok(())
 }
 
+/// The line number and the form of a statement.
+fn described(rt: &HostRuntime, line: u32, statement: &Statement) -> Result<String, Fail> {
+    let alloc = rt.alloc();
+    Ok(match statement {
+        Statement::Version(version) => format!(in alloc; "{line} policy {version}")?,
+        Statement::Transaction(name) => format!(in alloc; "{line} transaction {}", name.as_str())?,
+        Statement::Push(name, Term::Two(Op::Mul, _, _)) => {
+            format!(in alloc; "{line} push {} = a product", name.as_str())?
+        }
+        _ => format!(in alloc; "{line}")?,
+    })
+}
+
 #[test]
 fn lines_keep_their_numbers(rt: HostRuntime) -> Result<(), Fail> {
     let text = b"policy   1 # one\n\ntransaction t\npush rank=min(len,prio)*2\n";
-    let Ok(lines) = parse(rt.alloc(), text) else {
-        return Err(Fail);
-    };
-    let [
-        (1, Statement::Version(1)),
-        (3, Statement::Transaction(name)),
-        (4, Statement::Push(target, term)),
-    ] = lines.entries()
-    else {
-        return Err(Fail);
-    };
-    assert_eq!(rt; name.as_str(), "t");
-    assert_eq!(rt; target.as_str(), "rank");
-    assert!(rt; matches!(term, Term::Two(Op::Mul, _, _)));
+    let want = ["1 policy 1", "3 transaction t", "4 push rank = a product"];
+    match parse(rt.alloc(), text) {
+        Ok(lines) => {
+            assert_eq!(rt; lines.entries().len(), want.len());
+            for ((line, statement), want) in lines.entries().iter().zip(want) {
+                assert_eq!(rt; described(&rt, *line, statement)?.as_str(), want);
+            }
+        }
+        Err(fault) => panic!(rt; "{fault:?}"),
+    }
     Ok(())
 }

@@ -1,4 +1,4 @@
-use Rattle.std.proofs.Common.{◌≡◌, ◌+◌, ◌<◌, length, ap, ◌∙◌, arith}
+use Rattle.std.proofs.Common.{◌+◌, ◌<◌, length, ap, ◌∙◌, arith}
 use Rattle.policy_text.proofs.EntryLaws.{empty_at, one_less, length_more, of_more, of_all, of_rising, of_written, all_came, one_came, still_few}
 use Rattle.policy_text.proofs.lines.Lines.of.Goals as goal
 
