@@ -1,18 +1,32 @@
 -- The answer to a plain run, and what it leaves in the fabric.
-use Rattle.std.proofs.Common.{◌≡◌, ◌+◌, ℕ, Option, None, Some, List, [], refl, ap, sym, subst, ◌∙◌, arith, inl, inr}
+use Rattle.std.proofs.Common.{◌≡◌, ℕ, Bool, Option, None, List, [], ◌∷◌, map, refl, ap, sym, subst, ◌∙◌, arith, inl, inr}
+use Rattle.std.specs.Str.{bytes_eq}
 use Rattle.std.specs.Prelude.{Result, Ok, Err, OnOk, OnErr, IfOk}
 use Rattle.outside_core.specs.Written.{Appended, AppendedPrefix}
 use Rattle.fabric_defs.specs.Family.{Family}
 use Rattle.schedule_defs.specs.Script.{Course}
 use Rattle.replay_app.specs.declared.ending.Ending.{Ending}
-use Rattle.replay_app.specs.declared.ending.Ending.TheVariants.{Replayed, NoForm, Early}
-use Rattle.replay_app.specs.Endings.{ending_status, Leaves, IsLeftBehind}
-use Rattle.replay_app.specs.FirstPath.{Inputs, plain_course}
-use Rattle.replay_app.specs.Fabrics.{HoldsLeaf, HoldsLeafOf}
+use Rattle.replay_app.specs.declared.ending.Ending.TheVariants.{Replayed, Checked, NoForm, BadPolicy, Early}
+use Rattle.replay_app.specs.Endings.{ending_status, HoldsAfter, Leaves, LeavesCourse, IsLeftBehind}
+use Rattle.replay_app.specs.FirstPath.{Inputs, plain_course, plain_policy}
+use Rattle.replay_app.specs.Fabrics.{HoldsLeaf, HoldsLeafOf, IsAsItWas}
 use Rattle.replay_app.specs.OneLeaf.{no_totals, turned_all}
-use Rattle.replay_app.specs.Output.{Answer, course_answer}
+use Rattle.replay_app.specs.Answer.{Answer}
+use Rattle.replay_app.specs.Inputs.{AreInputs}
+use Rattle.replay_app.specs.Named.{form_in}
+use Rattle.replay_app.specs.Others.{AreOthers}
+use Rattle.replay_app.specs.Output.{course_answer, inputs_of, IsOutput, IsAnswered, IsBegun}
+use Rattle.replay_app.specs.Policies.{entries_in, senses_of, policy_refusal, IsAcceptedAs}
+use Rattle.replay_app.specs.Words.{Form, AreTold}
+use Rattle.replay_app.specs.declared.files.Files.{Files}
+use Rattle.replay_app.specs.declared.files.Others.{Others}
+use Rattle.replay_app.specs.declared.stop.Stop.{Stop}
+use Rattle.policy_text_defs.specs.Canonical.{canonical_text}
+use Rattle.policy_text_defs.specs.Sense.{Sense, Entry}
+use Rattle.policy_text.specs.Entries.{Numbered, entry_of, sense_at}
+use Rattle.policy_text.specs.declared.lines.Lines.{Lines}
+use Rattle.outside_core.specs.Files.{KeepsFiles}
 use Rattle.replay_app.specs.PlainRuns.{IsPlainRun, plain_text}
-use Rattle.replay_app.specs.Played.{IsPlayed}
 use Rattle.replay_app.specs.Turns.{Holds, CountsAlike}
 use Rattle.replay_app.specs.declared.turn.Turn.{Turn}
 use Rattle.replay_app.proofs.PlainCourses.{plain-played}
@@ -54,8 +68,82 @@ appended-answer a b old new e h = subst (λ (c : Answer). Appended old new c.tex
 pub part-answer : (a b : Answer) (old new : Option (List ℕ)) → a ≡ b → AppendedPrefix old new b.text → AppendedPrefix old new a.text
 part-answer a b old new e h = subst (λ (c : Answer). AppendedPrefix old new c.text) (sym e) h
 
-pub left-behind : {F : Type 0} (queues : F → Family) (pushed popped : F → ℕ) (c : Option Course) (old new : F) (ending : Ending) (status : ℕ) → status ≡ ending_status ending
-    → Leaves queues pushed popped c old new ending → IsLeftBehind queues pushed popped c old new status
-left-behind queues pushed popped c old new Replayed status e h = record { holds = λ _. h; stays = λ s. elim s [ inl two ↦ absurd (omega arith) | inr eleven ↦ absurd (omega arith) ] }
-left-behind queues pushed popped c old new NoForm status e h = record { holds = λ none. absurd (omega arith); stays = λ _. h }
-left-behind queues pushed popped c old new Early status e h = record { holds = λ none. absurd (omega arith); stays = λ _. h }
+-- a name that was told is told after others were read
+pub told-later : {S : Type 0} (lends : S → List ℕ → Bool) (content : S → List ℕ → Option (List ℕ)) (old new : S) (contents : List ℕ → List ℕ) (names : List (List ℕ))
+    → KeepsFiles lends content old new → AreTold (content old) contents names → AreTold (content new) contents names
+told-later lends content old new contents [] keeps told = tt
+told-later lends content old new contents (name ∷ names) keeps told = (keeps.contents name ∙ told.0, told-later lends content old new contents names keeps told.1)
+
+-- the inputs of a run whose policy has these statements
+abbrev pub inputs_with : Files → (List ℕ → List ℕ) → List Entry → Inputs
+inputs_with f contents es = inputs_of (canonical_text (senses_of es)) f.target.now f.capture.now f.script.now contents
+
+abbrev pub run_answer : Files → (List ℕ → List ℕ) → List Entry → Answer
+run_answer f contents es = course_answer (plain_course (inputs_with f contents es))
+
+abbrev pub check_answer : List Entry → Answer
+check_answer es = record { status = 0; text = canonical_text (senses_of es) }
+
+pub senses-held : (xs : List Numbered) → map sense_at xs ≡ senses_of (map entry_of xs)
+senses-held [] = refl
+senses-held (x ∷ xs) = ap (λ (ys : List Sense). sense_at x ∷ ys) (senses-held xs)
+
+pub inputs-read : (f : Files) (contents : List ℕ → List ℕ) (lines : Lines) (o : Others) → AreOthers f contents o → AreInputs lines o (inputs_with f contents (entries_in lines))
+inputs-read f contents lines o h = record { policy = ap canonical_text (sym (senses-held lines.held)); target = h.target; packets = h.packets; turns = h.turns }
+
+-- a whole answer, and the first part of one
+pub given-of : (r : Result Ending Stop) (form : Form) (contents : List ℕ → List ℕ) (a : Answer) (old new : Option (List ℕ)) → IsOutput form contents a
+    → IfOk r (λ e. ending_status e ≡ a.status) → OnOk r (Appended old new a.text) → IfOk r (λ e. IsAnswered form contents (ending_status e) old new)
+given-of (Ok e) form contents a old new is status text = record { answer = a; is = is; status_is = status; text = text }
+given-of (Err e) form contents a old new is status text = tt
+
+pub begun-of : (r : Result Ending Stop) (form : Form) (contents : List ℕ → List ℕ) (a : Answer) (old new : Option (List ℕ)) → ((b : Answer) → IsOutput form contents b → a ≡ b)
+    → OnErr r (AppendedPrefix old new a.text) → OnErr r (IsBegun form contents old new)
+begun-of (Ok e) form contents a old new only part = tt
+begun-of (Err e) form contents a old new only part = λ b is. subst (λ (x : Answer). AppendedPrefix old new x.text) (only b is) part
+
+pub ends-badly : (r : Result Ending Stop) (code line : ℕ) → IfOk r (λ e. e ≡ BadPolicy) → IfOk r (λ e. ending_status e ≡ (policy_refusal code line).status)
+ends-badly (Ok e) code line same = ap ending_status same
+ends-badly (Err e) code line same = tt
+
+-- what the replay of accepted statements leaves, the words' form leaves
+pub leaves-of : {F : Type 0} (queues : F → Family) (pushed popped : F → ℕ) (f : Files) (contents : List ℕ → List ℕ) (es : List Entry) (old new : F) (r : Result Ending Stop)
+    → IsAcceptedAs (contents f.policy.now) es → IfOk r (λ e. LeavesCourse queues pushed popped (plain_course (inputs_with f contents es)) old new e)
+    → IfOk r (λ e. Leaves queues pushed popped (form_in f) contents old new e)
+leaves-of queues pushed popped f contents es old new (Err e) is h = tt
+leaves-of queues pushed popped f contents es old new (Ok Replayed) is h =
+    λ others has. subst (λ (xs : List Entry). HoldsLeafOf queues pushed popped (plain_course (inputs_with f contents xs)) old new) (is.only others has) h
+leaves-of queues pushed popped f contents es old new (Ok Checked) is h = absurd h
+leaves-of queues pushed popped f contents es old new (Ok NoForm) is h = h
+leaves-of queues pushed popped f contents es old new (Ok BadPolicy) is h = h
+leaves-of queues pushed popped f contents es old new (Ok Early) is h = h
+
+-- a check leaves the fabric as it was
+stays-behind : {F : Type 0} (queues : F → Family) (pushed popped : F → ℕ) (form : Form) (contents : List ℕ → List ℕ) (old new : F) (status : ℕ) → (status ≡ 0 → ⊥)
+    → IsAsItWas queues pushed popped old new → IsLeftBehind queues pushed popped form contents old new status
+stays-behind queues pushed popped form contents old new status none h = record { holds = λ e. absurd (none e); stays = λ _. h }
+
+whole-behind : {F : Type 0} (queues : F → Family) (pushed popped : F → ℕ) (form : Form) (contents : List ℕ → List ℕ) (old new : F) (status : ℕ) → status ≡ 0
+    → HoldsAfter queues pushed popped form contents old new → IsLeftBehind queues pushed popped form contents old new status
+whole-behind queues pushed popped form contents old new status e h = record {
+  holds = λ _. h;
+  stays = λ s. elim s [ inl two ↦ absurd (omega arith) | inr more ↦ elim more [ inl three ↦ absurd (omega arith) | inr eleven ↦ absurd (omega arith) ] ];
+}
+
+pub left-behind : {F : Type 0} (queues : F → Family) (pushed popped : F → ℕ) (form : Form) (contents : List ℕ → List ℕ) (old new : F) (ending : Ending) (status : ℕ)
+    → status ≡ ending_status ending → Leaves queues pushed popped form contents old new ending → IsLeftBehind queues pushed popped form contents old new status
+left-behind queues pushed popped form contents old new Replayed status e h = whole-behind queues pushed popped form contents old new status e h
+left-behind queues pushed popped form contents old new Checked status e h = whole-behind queues pushed popped form contents old new status e h
+left-behind queues pushed popped form contents old new NoForm status e h = stays-behind queues pushed popped form contents old new status (λ zero. absurd (omega arith)) h
+left-behind queues pushed popped form contents old new BadPolicy status e h = stays-behind queues pushed popped form contents old new status (λ zero. absurd (omega arith)) h
+left-behind queues pushed popped form contents old new Early status e h = stays-behind queues pushed popped form contents old new status (λ zero. absurd (omega arith)) h
+
+-- a printed text is compared with the text of the plain policy
+pub policy-plain : (same : Bool) (printed : List ℕ) (lines : Lines) (others : Others) (inputs : Inputs) → same ≡ bytes_eq printed plain_policy → printed ≡ canonical_text (map sense_at lines.held)
+    → AreInputs lines others inputs → same ≡ bytes_eq inputs.policy plain_policy
+policy-plain same printed lines others inputs e text read = e ∙ ap (λ (t : List ℕ). bytes_eq t plain_policy) (text ∙ sym read.policy)
+
+-- a printed text is the answer to a check
+pub checked-answer : (lines : Lines) (printed : List ℕ) → printed ≡ canonical_text (map sense_at lines.held) → check_answer (entries_in lines) ≡ record { status = 0; text = printed }
+unfolding answered
+checked-answer lines printed e = ap (λ (t : List ℕ). answered 0 t) (ap canonical_text (sym (senses-held lines.held)) ∙ sym e)

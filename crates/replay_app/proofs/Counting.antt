@@ -1,18 +1,18 @@
 -- How a capture's records are counted.
-use Rattle.std.proofs.Common.{◌≡◌, ◌<◌, ◌≤◌, ◌+◌, ℕ, zero, suc, Bool, true, false, Option, Some, None, List, [], ◌∷◌, ◌++◌, length, refl, ap, sym, subst, ◌∙◌, arith, append_assoc, append-nil, length-append}
-use Rattle.std.specs.Prelude.{IfSome, option_map, ◌||◌, if◌then◌else◌, Result, Ok, Err, IfOk}
+use Rattle.std.proofs.Common.{◌≡◌, ◌≤◌, ◌+◌, ℕ, Bool, true, false, Option, Some, None, List, [], ◌∷◌, ◌++◌, length, refl, ap, sym, subst, ◌∙◌, arith, append_assoc, append-nil, length-append}
+use Rattle.std.specs.Prelude.{IfSome, option_map, ◌||◌, Result, Ok, Err, IfOk}
 use Rattle.capture_defs.specs.declared.head.Head.{Head}
 use Rattle.capture_defs.specs.Fault.{Fault}
 use Rattle.capture_defs.specs.Header.{IsHeader, IsHeaderFault}
 use Rattle.capture_defs.specs.Record.{Record, IsSpelling, AreSpellings, IsRecordFault, most_records}
-use Rattle.capture_defs.specs.Capture.{AreRecords, EndsWith, IsCapture}
-use Rattle.capture_defs.specs.Reading.{Capture, refused, packets, capture_of}
+use Rattle.capture_defs.specs.Capture.{EndsWith, IsCapture}
+use Rattle.capture_defs.specs.Reading.{packets}
 use Rattle.capture_defs.proofs.ReadingLaws.{reads_captures, reads_refusals}
 use Rattle.std.specs.Option.{option_map_or}
 use Rattle.pcap_core.specs.Readers.{head_of, is_big}
 use Rattle.pcap_core.specs.declared.reader.Reader.{Reader}
-use Rattle.pcap_core.specs.Rest.{TakesFront, TakesHeader, TakesRecord, IsWhole}
-use Rattle.replay_app.specs.FirstPath.{plain_packets, packets_from}
+use Rattle.pcap_core.specs.Rest.{TakesHeader, TakesRecord, IsWhole}
+use Rattle.replay_app.specs.FirstPath.{plain_packets}
 use Rattle.replay_app.specs.Counted.{HasPassed, Passed, HasRecords, IsCounted, packet_count}
 use Rattle.replay_app.proofs.LeafRuns.{length-packets_from}
 

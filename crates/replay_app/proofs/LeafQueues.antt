@@ -1,6 +1,5 @@
 -- The queue of a leaf that is served first in first out.
-use Rattle.std.proofs.Common.{◌≡◌, ◌<◌, ◌≤◌, ◌+◌, ℕ, zero, suc, true, Some, List, [], ◌∷◌, ◌++◌, refl, ap, sym, subst, ◌∙◌, arith, nat_le, le-leb}
-use Rattle.std.specs.Prelude.{if◌then◌else◌}
+use Rattle.std.proofs.Common.{◌≡◌, ◌+◌, ℕ, zero, suc, true, Some, [], ◌∷◌, refl, ap, arith, nat_le, le-leb}
 use Rattle.queue_defs.specs.Queue.{Queue, put, take_from, take_least, sooner, Taking}
 use Rattle.replay_app.specs.OneLeaf.{entries}
 

@@ -1,8 +1,7 @@
 -- The course of a script over one leaf is what its counts say.
-use Rattle.std.proofs.Common.{◌≡◌, ◌<◌, ◌≤◌, ◌+◌, ◌-◌, ℕ, zero, suc, Bool, true, false, Option, Some, None, List, [], ◌∷◌, ◌++◌, length, map, refl, ap, sym, subst, ◌∙◌, arith, inl, inr}
+use Rattle.std.proofs.Common.{◌≡◌, ◌<◌, ◌≤◌, ◌+◌, ◌-◌, ℕ, suc, Bool, true, false, Option, Some, None, List, [], ◌∷◌, length, map, refl, ap, sym, subst, ◌∙◌, arith, inl, inr}
 use Rattle.std.specs.Prelude.{nat_lt, ◌==◌, if◌then◌else◌, IsSomeAnd, option_map}
 use Rattle.std.proofs.lemmas.Bool.{cases_lt, lt-ltb, le-ltb, eqb-true, eqb-false, ne_eqb}
-use Rattle.queue_defs.specs.Queue.{Queue, put, take_least}
 use Rattle.tree_defs.specs.Tree.{leaf, Popping, option_bind}
 use Rattle.tree_defs.specs.SourceTree.{SourceTree, push, pop, of_leaf}
 use Rattle.capture_defs.specs.declared.head.Head.{Head}
@@ -11,7 +10,7 @@ use Rattle.packet_defs.specs.declared.packet.Packet.{Packet}
 use Rattle.policy_defs.specs.Policy.{one_leaf}
 use Rattle.schedule_defs.specs.SourceState.{SourceState, arrived, departed, left_from, left_with, leaving}
 use Rattle.schedule_defs.specs.Events.{Event, Arrive, Depart, Outcome, Departed, Empty, outcome, departure, after, outcomes, arrivals_in, departures_in}
-use Rattle.schedule_defs.specs.Script.{Course, Whole, Ending, PastLast, behind, stopped_or, course}
+use Rattle.schedule_defs.specs.Script.{Course, Whole, PastLast, behind, stopped_or, course}
 use Rattle.replay_app.specs.FirstPath.{packet_of, packets_from, arrivals_of}
 use Rattle.replay_app.specs.OneLeaf.{entries, held_by, turned, turned_all, told, told_all, step_for}
 use Rattle.replay_app.specs.declared.turn.Turn.{Turn}

@@ -6,4 +6,5 @@ pub mod Counting
 pub mod Scripts
 pub mod Reports
 pub mod PlainCourses
+pub mod PolicyReads
 pub mod Commands

@@ -1,28 +1,24 @@
 -- The course of a plain run is what its turns say.
-use Rattle.std.proofs.Common.{◌≡◌, ◌<◌, ◌≤◌, ◌+◌, ◌-◌, ℕ, zero, suc, Bool, true, false, Option, Some, None, List, [], ◌∷◌, ◌++◌, length, map, refl, ap, sym, subst, ◌∙◌, arith, inl, inr}
+use Rattle.std.proofs.Common.{◌≡◌, ◌≤◌, ◌+◌, ◌-◌, ℕ, zero, suc, true, Some, None, List, [], ◌∷◌, ◌++◌, length, map, refl, ap, sym, ◌∙◌, arith, inl, inr}
 use Rattle.std.specs.Prelude.{option_map, ◌||◌, ◌&&◌, if◌then◌else◌, nat_le}
 use Rattle.std.specs.Option.{option_and_then}
 use Rattle.std.specs.Str.{bytes_eq}
 use Rattle.std.proofs.lemmas.Bool.{cases_lt, cases_Bool, and_from, le-leb}
-use Rattle.queue_defs.specs.Queue.{Queue}
-use Rattle.tree_defs.specs.Tree.{Tree, leaf}
 use Rattle.tree_defs.specs.SourceTree.{size}
 use Rattle.tree_defs.specs.Packets.{queue_at}
 use Rattle.capture_defs.specs.declared.head.Head.{Head}
-use Rattle.capture_defs.specs.Fault.{Fault}
 use Rattle.capture_defs.specs.Record.{Record}
 use Rattle.capture_defs.specs.Reading.{Capture, refused, packets, capture_of}
 use Rattle.report_defs.specs.Report.{end_line}
 use Rattle.policy_defs.specs.Policy.{one_leaf}
-use Rattle.schedule_defs.specs.SourceState.{SourceState, start}
-use Rattle.schedule_defs.specs.Events.{Outcome, after, outcomes, arrivals_in, departures_in}
-use Rattle.schedule_defs.specs.Script.{Course, Whole, Ending, Step, course}
+use Rattle.schedule_defs.specs.SourceState.{start}
+use Rattle.schedule_defs.specs.Events.{Outcome, after, arrivals_in, departures_in}
+use Rattle.schedule_defs.specs.Script.{Course, Step, course}
 use Rattle.schedule_defs.specs.Report.{lines_from, pushed_in, popped_in, empty_in, ending_line, course_report}
 use Rattle.replay_app.specs.FirstPath.{Inputs, plain_policy, plain_target, plain_packets, packets_from, plain_course, course_over, script_steps, arrivals_of}
-use Rattle.replay_app.specs.Counted.{packet_count}
-use Rattle.replay_app.specs.OneLeaf.{entries, held_by, no_totals, turned, turned_all, told, told_all, step_for}
+use Rattle.replay_app.specs.OneLeaf.{entries, no_totals, turned, turned_all, told, told_all, step_for}
 use Rattle.replay_app.specs.Turns.{turn_lines}
-use Rattle.replay_app.specs.PlainRuns.{IsPlainRun, summary_line, plain_text}
+use Rattle.replay_app.specs.PlainRuns.{IsPlainRun, plain_text}
 use Rattle.replay_app.specs.Played.{IsPlayed}
 use Rattle.replay_app.specs.declared.turn.Turn.{Turn}
 use Rattle.replay_app.specs.declared.turn.Turn.TheVariants as turn

@@ -1,9 +1,9 @@
 -- What is said of a report that is begun and finished by one call.
-use Rattle.std.proofs.Common.{◌≡◌, ℕ, Option, List, [], ◌++◌, subst, sym, append-nil}
+use Rattle.std.proofs.Common.{◌≡◌, ℕ, Option, List, [], ◌++◌, subst, append-nil}
 use Rattle.outside_core.specs.Written.{Appended, AppendedPrefix}
 use Rattle.outside_core.proofs.WrittenLaws.{appended_in_turn}
 use Rattle.report_defs.specs.Text.{appended, Begins, IsCut}
-use Rattle.report_core.proofs.TextLaws.{Begins-trans, IsCut-append, IsCut-longer, Appended-from_start, AppendedPrefix-from_cut}
+use Rattle.report_core.proofs.TextLaws.{Begins-trans, IsCut-append, Appended-from_start, AppendedPrefix-from_cut}
 
 -- a write failed in the text of a report that held nothing
 pub cut-part : (before written : Option (List ℕ)) (held text : List ℕ) → held ≡ [] → Begins before written → IsCut (appended before held) text written → AppendedPrefix before written text

@@ -1,21 +1,19 @@
 -- What an arrival and a departure at a single leaf leave, and what is said of turns in a row.
-use Rattle.std.proofs.Common.{◌≡◌, ◌<◌, ◌≤◌, ◌+◌, ◌-◌, ℕ, zero, suc, true, false, Option, Some, None, List, [], ◌∷◌, ◌++◌, length, refl, ap, sym, subst, ◌∙◌, arith, inl, inr, append_assoc, append-nil}
-use Rattle.std.specs.Prelude.{nat_lt, if◌then◌else◌, option_map, codes, Result, Ok, Err, OnOk}
-use Rattle.std.proofs.lemmas.Bool.{cases_lt, lt-ltb, le-ltb}
+use Rattle.std.proofs.Common.{◌≡◌, ◌<◌, ◌≤◌, ◌+◌, ◌-◌, ℕ, suc, Some, None, List, [], ◌∷◌, ap, sym, subst, ◌∙◌, arith, inl, inr}
+use Rattle.std.specs.Prelude.{option_map, codes, Result, Ok, Err, OnOk}
+use Rattle.std.proofs.lemmas.Bool.{cases_lt}
 use Rattle.queue_defs.specs.Queue.{Queue, put, take_least, Taking}
 use Rattle.tree_defs.specs.Tree.{Popping}
 use Rattle.fabric_defs.specs.Family.{Family, Pops, pop_along, popped_last}
-use Rattle.report_defs.specs.Report.{departure_line, empty_line}
+use Rattle.report_defs.specs.Report.{departure_line}
 use Rattle.policy_defs.specs.Policy.{one_leaf}
-use Rattle.schedule_defs.specs.Report.{outcome_line, lines_from}
-use Rattle.schedule_defs.specs.Events.{Departed, Empty}
-use Rattle.replay_app.specs.OneLeaf.{entries, held_by, turned, turned_all, told, told_all, events_in}
-use Rattle.replay_app.specs.Turns.{turn_line, turn_lines}
-use Rattle.replay_app.specs.declared.turn.Turn.{Turn}
+use Rattle.schedule_defs.specs.Report.{outcome_line}
+use Rattle.replay_app.specs.OneLeaf.{entries, held_by, turned, events_in}
+use Rattle.replay_app.specs.Turns.{turn_line}
 use Rattle.replay_app.specs.declared.turn.Turn.TheVariants as turn
 use Rattle.replay_app.specs.declared.turn.Totals.{Totals}
 use Rattle.replay_app.proofs.LeafQueues.{put-entries, take-entries}
-use Rattle.replay_app.proofs.LeafRuns.{departures-turned, pushed-turned, turned-some, turned-none, told-some, told-none}
+use Rattle.replay_app.proofs.LeafRuns.{told-some}
 
 pub put-held : (t : Totals) → t.popped ≤ t.pushed → put (held_by t) 0 (t.pushed + 1) ≡ held_by (turned turn.Arrive t)
 put-held t le =

@@ -1,5 +1,5 @@
 -- How many packets a capture has.
-use Rattle.std.specs.Prelude.{◌≡◌, ◌++◌, ℕ, Bool, Option, None, Some, option_map, List, length, IfSome, ⊤}
+use Rattle.std.specs.Prelude.{◌≡◌, ◌++◌, ℕ, Bool, Option, None, Some, option_map, List, length, ⊤}
 use Rattle.capture_defs.specs.declared.head.Head.{Head}
 use Rattle.capture_defs.specs.Fault.{Fault}
 use Rattle.capture_defs.specs.Record.{Record, AreSpellings}

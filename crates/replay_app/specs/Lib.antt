@@ -10,3 +10,7 @@ pub mod PlainRuns
 pub mod Named
 pub mod Played
 pub mod Endings
+pub mod Answer
+pub mod Policies
+pub mod Others
+pub mod Inputs

@@ -6,42 +6,47 @@ use Rattle.policy_defs.specs.Policy.{one_leaf}
 use Rattle.schedule_defs.specs.SourceState.{start}
 use Rattle.schedule_defs.specs.Script.{Course}
 use Rattle.schedule_defs.specs.Report.{course_report}
-use Rattle.replay_app.specs.Words.{Form, replay, no_form, form_of}
+use Rattle.policy_text_defs.specs.Canonical.{canonical_text}
+use Rattle.replay_app.specs.Answer.{Answer}
+use Rattle.replay_app.specs.Policies.{IsPolicyAnswer, senses_of}
+use Rattle.replay_app.specs.Words.{Form, replay, check, no_form}
 use Rattle.replay_app.specs.FirstPath.{Inputs, plain_course}
-
--- a status, and the text that is written
-pub record Answer : Type 0 where
-  pub status : ℕ
-  pub text : List ℕ
 
 -- the report of a run, and the refusal of inputs that can't be replayed so far
 abbrev pub course_answer : Option Course → Answer
 course_answer (Some c) = record { status = 0; text = course_report one_leaf c (start one_leaf) }
 course_answer None = record { status = 11; text = fault_line (codes "early") 1 0 }
 
+-- the contents of a run's files, with the canonical text of its policy
 abbrev pub inputs_of : List ℕ → List ℕ → List ℕ → List ℕ → (List ℕ → List ℕ) → Inputs
-inputs_of p t c e contents = record { policy = contents p; target = contents t; capture = contents c; script = contents e }
-
-abbrev pub form_answer : Form → (List ℕ → List ℕ) → Answer
-form_answer (replay p t c e) contents = course_answer (plain_course (inputs_of p t c e contents))
-form_answer no_form contents = record { status = 2; text = fault_line (codes "words") 0 0 }
+inputs_of policy t c e contents = record { policy = policy; target = contents t; capture = contents c; script = contents e }
 
 -- the answer to words, where the names have these contents
-abbrev pub output : List (List ℕ) → (List ℕ → List ℕ) → Answer
-output words contents = form_answer (form_of words) contents
+abbrev pub IsOutput : Form → (List ℕ → List ℕ) → Answer → Type 0
+IsOutput (replay p t c e) contents a =
+    IsPolicyAnswer (contents p) (λ es. course_answer (plain_course (inputs_of (canonical_text (senses_of es)) t c e contents))) a
+IsOutput (check p) contents a = IsPolicyAnswer (contents p) (λ es. record { status = 0; text = canonical_text (senses_of es) }) a
+IsOutput no_form contents a = a ≡ record { status = 2; text = fault_line (codes "words") 0 0 }
 
 -- reading failed, writing failed, or there was no memory
 abbrev pub IsStop : ℕ → Type 0
 IsStop status = (status ≡ 8) ⊎ (status ≡ 9) ⊎ (status ≡ 10)
 
--- what was to be written stands there, or the run stopped with a first part of it
-pub record IsGiven (answer : Answer) (status : ℕ) (old new : Option (List ℕ)) : Type 0 where
+-- an answer to the words was written whole, and this is its status
+pub record IsAnswered (form : Form) (contents : List ℕ → List ℕ) (status : ℕ) (old new : Option (List ℕ)) : Type 0 where
+  pub answer : Answer
+  pub is : IsOutput form contents answer
   pub status_is : status ≡ answer.status
   pub text : Appended old new answer.text
 
-pub record IsStopped (answer : Answer) (status : ℕ) (old new : Option (List ℕ)) : Type 0 where
-  pub stop : IsStop status
-  pub part : AppendedPrefix old new answer.text
+-- of each answer to the words a first part was written
+abbrev pub IsBegun : Form → (List ℕ → List ℕ) → Option (List ℕ) → Option (List ℕ) → Type 0
+IsBegun form contents old new = (a : Answer) → IsOutput form contents a → AppendedPrefix old new a.text
 
-abbrev pub Answers : Answer → ℕ → Option (List ℕ) → Option (List ℕ) → Type 0
-Answers answer status old new = IsGiven answer status old new ⊎ IsStopped answer status old new
+pub record IsStopped (form : Form) (contents : List ℕ → List ℕ) (status : ℕ) (old new : Option (List ℕ)) : Type 0 where
+  pub stop : IsStop status
+  pub part : IsBegun form contents old new
+
+-- an answer to the words was given, or the run stopped with a first part of it
+abbrev pub Answers : Form → (List ℕ → List ℕ) → ℕ → Option (List ℕ) → Option (List ℕ) → Type 0
+Answers form contents status old new = IsAnswered form contents status old new ⊎ IsStopped form contents status old new

@@ -1,5 +1,5 @@
 -- A run over one leaf, by its turns and the number of packets.
-use Rattle.std.specs.Prelude.{◌≡◌, ◌≤◌, ℕ, ◌+◌, ◌-◌, true, Option, None, Some, List, ◌++◌, map}
+use Rattle.std.specs.Prelude.{◌≡◌, ◌≤◌, ℕ, ◌-◌, true, Option, None, Some, List, ◌++◌, map}
 use Rattle.std.specs.Str.{bytes_eq}
 use Rattle.report_defs.specs.Report.{end_line}
 use Rattle.replay_app.specs.Counted.{packet_count}

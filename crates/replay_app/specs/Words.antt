@@ -12,15 +12,19 @@ texts words = map string_bytes words
 pub data Form : Type 0 where
   -- a policy, a target, a capture and a script
   replay : List ℕ → List ℕ → List ℕ → List ℕ → Form
+  -- a policy
+  check : List ℕ → Form
   no_form : Form
 
 abbrev pub form_of : List (List ℕ) → Form
+form_of (w ∷ p ∷ []) = if bytes_eq w (codes "check") then check p else no_form
 form_of (w ∷ p ∷ t ∷ c ∷ e ∷ []) = if bytes_eq w (codes "replay") then replay p t c e else no_form
 form_of words = no_form
 
 -- the words that name files
 abbrev pub file_words : Form → List (List ℕ)
 file_words (replay p t c e) = p ∷ t ∷ c ∷ e ∷ []
+file_words (check p) = p ∷ []
 file_words no_form = []
 
 -- each of the names is lent
@@ -36,3 +40,6 @@ form_of-replay = refl
 
 pub form_of-replay_alone : form_of (codes "replay" ∷ []) ≡ no_form
 form_of-replay_alone = refl
+
+pub form_of-check : form_of (codes "check" ∷ codes "p" ∷ []) ≡ check (codes "p")
+form_of-check = refl

@@ -5,8 +5,12 @@ ghost use Rattle.std.specs.Prelude.{◌≡◌};
 pub enum Ending {
     /// The report was written whole.
     Replayed,
+    /// The canonical text of the policy was written whole.
+    Checked,
     /// The words are in no form.
     NoForm,
+    /// The policy text is refused.
+    BadPolicy,
     /// The inputs can't be replayed so far.
     Early,
 }
@@ -19,8 +23,9 @@ impl Ending {
         ensures { result ≡ ending_status self }
     {
         match self {
-            Ending::Replayed => 0,
+            Ending::Replayed | Ending::Checked => 0,
             Ending::NoForm => 2,
+            Ending::BadPolicy => 3,
             Ending::Early => 11,
         }
     }

@@ -18,7 +18,7 @@ use std::alloc::{AllocError, Global};
 const MOST_SCRIPT: usize = 1_048_576;
 
 /// The content of a file, unless it is longer than `most`.
-fn load_short<S: Shelf>(
+pub fn load_short<S: Shelf>(
     alloc: Global,
     shelf: &mut S,
     name: &str,

@@ -6,6 +6,7 @@ mod ending;
 mod files;
 mod inputs;
 mod plain;
+mod policies;
 mod replay;
 mod stop;
 #[cfg(test)]

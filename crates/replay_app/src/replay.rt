@@ -35,6 +35,19 @@ pub fn refuse<K: Sink>(
     Ok(())
 }
 
+/// Writes the whole text.
+pub fn write<K: Sink>(alloc: Global, text: &[u8], sink: &mut K) -> Result<(), Stop>
+    ensures text { OnOk result (Appended (K.written sink.old) (K.written sink.new) text.now) }
+    ensures part { OnErr result (AppendedPrefix (K.written sink.old) (K.written sink.new) text.now) }
+    ensures cause { IsErrOf result Stop.Sink → Rose (K.faults sink.old) (K.faults sink.new) }
+    ensures reads_nothing { IsErrOf result Stop.Shelf → ⊥ }
+{
+    let mut report = Report::new(alloc)?;
+    report.piece(sink, text)?;
+    report.finish(sink)?;
+    Ok(())
+}
+
 /// Writes the line of inputs that can't be replayed so far, as the whole text.
 pub fn refuse_early<K: Sink>(alloc: Global, sink: &mut K) -> Result<(), Stop>
     ensures text { OnOk result (Appended (K.written sink.old) (K.written sink.new) (codes "fault early 1 0\n")) }
@@ -42,10 +55,7 @@ pub fn refuse_early<K: Sink>(alloc: Global, sink: &mut K) -> Result<(), Stop>
     ensures cause { IsErrOf result Stop.Sink → Rose (K.faults sink.old) (K.faults sink.new) }
     ensures reads_nothing { IsErrOf result Stop.Shelf → ⊥ }
 {
-    let mut report = Report::new(alloc)?;
-    report.piece(sink, b"fault early 1 0\n")?;
-    report.finish(sink)?;
-    Ok(())
+    write(alloc, b"fault early 1 0\n", sink)
 }
 
 /// Makes the turns of a run through a fabric, and writes the report.

@@ -6,6 +6,10 @@ use std::test::Fail;
 
 const POLICY: &[u8] = b"policy 1\nclass all\nleaf root using fifo classes all\n";
 
+/// The same policy with other spaces, and a comment.
+const SPELLED: &[u8] =
+    b"policy 1\n# one class\n class  all\nleaf root using fifo classes all # one leaf\n";
+
 const TARGET: &[u8] = b"arity = 2\nheight = 0\n";
 
 /// A header and two records of four bytes each, as tcpdump writes them.
@@ -14,9 +18,18 @@ const CAPTURE: &[u8] = b"\xd4\xc3\xb2\xa1\x02\0\x04\0\0\0\0\0\0\0\0\0\0\0\x04\0\
     \x01\0\0\0\x01\0\0\0\x04\0\0\0\x04\0\0\0\0\0\0\x02";
 
 /// The words of a run.
-fn words(alloc: Global) -> Result<Vec<String>, Fail> {
+fn replay_words(alloc: Global) -> Result<Vec<String>, Fail> {
     let mut words = Vec::new(alloc);
     for word in ["replay", "p", "t", "c", "e"] {
+        words.push(String::from_str(alloc, word)?)?;
+    }
+    Ok(words)
+}
+
+/// The words of a check.
+fn check_words(alloc: Global) -> Result<Vec<String>, Fail> {
+    let mut words = Vec::new(alloc);
+    for word in ["check", "p"] {
         words.push(String::from_str(alloc, word)?)?;
     }
     Ok(words)
@@ -28,9 +41,14 @@ fn file(alloc: Global, name: &str, content: &[u8]) -> Result<(String, Vec<u8>), 
 }
 
 /// The files of a run.
-fn files(alloc: Global, capture: &[u8], script: &[u8]) -> Result<Vec<(String, Vec<u8>)>, Fail> {
+fn files(
+    alloc: Global,
+    policy: &[u8],
+    capture: &[u8],
+    script: &[u8],
+) -> Result<Vec<(String, Vec<u8>)>, Fail> {
     let mut files = Vec::new(alloc);
-    files.push(file(alloc, "p", POLICY)?)?;
+    files.push(file(alloc, "p", policy)?)?;
     files.push(file(alloc, "t", TARGET)?)?;
     files.push(file(alloc, "c", capture)?)?;
     files.push(file(alloc, "e", script)?)?;
@@ -40,31 +58,58 @@ fn files(alloc: Global, capture: &[u8], script: &[u8]) -> Result<Vec<(String, Ve
 #[test]
 fn runs_over_memory(rt: HostRuntime) -> Result<(), Fail> {
     let alloc = rt.alloc();
-    let words = words(alloc)?;
-    let table: [(&[u8], &[u8], u8, &[u8]); 5] = [
+    let words = replay_words(alloc)?;
+    let table: [(&[u8], &[u8], &[u8], u8, &[u8]); 6] = [
         (
+            POLICY,
             CAPTURE,
             b"a\na\nd\nd\nd\n",
             0,
             b"a 1 1 root 0\na 2 2 root 0\nd 3 1 root 0\nd 4 2 root 0\ne 5\nend pushed 2 popped 2 empty 1 held 0 unsent 0\n",
         ),
         (
+            SPELLED,
             &CAPTURE[..24],
             b"",
             0,
             b"end pushed 0 popped 0 empty 0 held 0 unsent 0\n",
         ),
         (
+            POLICY,
             CAPTURE,
             b"a\n",
             0,
             b"a 1 1 root 0\nend pushed 1 popped 0 empty 0 held 1 unsent 1\n",
         ),
-        (CAPTURE, b"rest\n", 11, b"fault early 1 0\n"),
-        (&CAPTURE[..60], b"a\n", 11, b"fault early 1 0\n"),
+        (POLICY, CAPTURE, b"rest\n", 11, b"fault early 1 0\n"),
+        (POLICY, &CAPTURE[..60], b"a\n", 11, b"fault early 1 0\n"),
+        (b"policy 2\n", CAPTURE, b"a\n", 3, b"fault policy 23 1\n"),
     ];
-    for (capture, script, status, text) in table {
-        let mut shelf = PlainShelf::new(files(alloc, capture, script)?);
+    for (policy, capture, script, status, text) in table {
+        let mut shelf = PlainShelf::new(files(alloc, policy, capture, script)?);
+        let mut sink = PlainSink::new(alloc, 200)?;
+        let mut fabric = FlatFabric::new(alloc)?;
+        let answer = run(alloc, &words, &mut shelf, &mut sink, &mut fabric);
+        assert_eq!(rt; answer, status);
+        assert_eq!(rt; sink.bytes(), text);
+    }
+    Ok(())
+}
+
+#[test]
+fn checks_over_memory(rt: HostRuntime) -> Result<(), Fail> {
+    let alloc = rt.alloc();
+    let words = check_words(alloc)?;
+    let table: [(&[u8], u8, &[u8]); 4] = [
+        (SPELLED, 0, POLICY),
+        (b"policy 1\n", 0, b"policy 1\n"),
+        (b"policy 1\nleaf\n", 3, b"fault policy 23 2\n"),
+        (b"policy 1\n\xff\n", 3, b"fault policy 22 2\n"),
+    ];
+    for (policy, status, text) in table {
+        let mut held = Vec::new(alloc);
+        held.push(file(alloc, "p", policy)?)?;
+        let mut shelf = PlainShelf::new(held);
         let mut sink = PlainSink::new(alloc, 200)?;
         let mut fabric = FlatFabric::new(alloc)?;
         let answer = run(alloc, &words, &mut shelf, &mut sink, &mut fabric);
@@ -77,8 +122,8 @@ fn runs_over_memory(rt: HostRuntime) -> Result<(), Fail> {
 #[test]
 fn a_fault_ends_the_run(rt: HostRuntime) -> Result<(), Fail> {
     let alloc = rt.alloc();
-    let words = words(alloc)?;
-    let mut shelf = PlainShelf::new(files(alloc, CAPTURE, b"a\n")?);
+    let words = replay_words(alloc)?;
+    let mut shelf = PlainShelf::new(files(alloc, POLICY, CAPTURE, b"a\n")?);
     let mut fabric = FlatFabric::new(alloc)?;
     let mut second_write_fails = Vec::new(alloc);
     second_write_fails.push(2)?;

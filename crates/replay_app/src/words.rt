@@ -1,22 +1,38 @@
 ghost use Rattle.std.specs.Prelude.{◌≡◌, MatchOption};
 ghost use Rattle.replay_app.specs.Words.{form_of, no_form, texts};
-ghost use Rattle.replay_app.specs.Named.{form_in};
+ghost use Rattle.replay_app.specs.Named.{command_form};
 
 use crate::files::Files;
 
-/// The files of a run, if the words are `replay` and their names.
-pub fn files_of(words: &[String]) -> Option<Files<'_>>
-    ensures { MatchOption result (form_of (texts words.now) ≡ no_form) (λ files. form_of (texts words.now) ≡ form_in files) }
+/// What the words ask for.
+#[derive(Clone, Copy, Debug)]
+pub enum Command<'a> {
+    /// A run over these files.
+    Replay(Files<'a>),
+    /// The canonical text of a policy's file.
+    Check(&'a str),
+}
+
+/// The command that the words spell, if they are in a form.
+pub fn command_of(words: &[String]) -> Option<Command<'_>>
+    ensures { MatchOption result (form_of (texts words.now) ≡ no_form) (λ c. form_of (texts words.now) ≡ command_form c) }
 {
     match words {
+        [command, policy] => {
+            if command.as_str() == "check" {
+                Some(Command::Check(policy.as_str()))
+            } else {
+                None
+            }
+        }
         [command, policy, target, capture, script] => {
             if command.as_str() == "replay" {
-                Some(Files {
+                Some(Command::Replay(Files {
                     policy: policy.as_str(),
                     target: target.as_str(),
                     capture: capture.as_str(),
                     script: script.as_str(),
-                })
+                }))
             } else {
                 None
             }

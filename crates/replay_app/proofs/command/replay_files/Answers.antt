@@ -1,45 +1,56 @@
-use Rattle.std.proofs.Common.{ap, sym}
-use Rattle.std.specs.Fmt.{digits}
-use Rattle.std.proofs.lemmas.Result.{err_from_is_err_and}
-use Rattle.replay_app.specs.Named.{inputs_in}
-use Rattle.replay_app.specs.Output.{Answer}
-use Rattle.replay_app.proofs.Commands.{replayed-answer, replayed-fabric, early-answer, appended-answer, part-answer}
+use Rattle.replay_app.specs.Policies.{entries_in, policy_refusal}
+use Rattle.replay_app.specs.Named.{form_in}
+use Rattle.replay_app.specs.Others.{other_words}
+use Rattle.replay_app.specs.declared.policies.Policy.TheVariants.{Accepted, Refused}
+use Rattle.replay_app.proofs.Commands.{run_answer, told-later, inputs-read, given-of, begun-of, leaves-of, ends-badly}
+use Rattle.replay_app.proofs.PolicyReads.{answer-is, answer-only}
 use Rattle.replay_app.proofs.command.replay_files.Goals as goal
 
-pub returns-in_err-replay-in-Some-clause-part : goal.returns-in_err-replay-in-Some-clause-part
-returns-in_err-replay-in-Some-clause-part g c =
-    let p = err_from_is_err_and c.from_residual-in_err-replay-in-Some.result c.from_residual-in_err-replay-in-Some.ensures.1 in
-    λ contents told. rw (p.1) (part-answer _ _ _ _
-    (replayed-answer (inputs_in c.args.files.now contents) _ _ _ c.deref.ensures.value (rw c.in-Some.is at (c.in_ok-plain.ensures.plain contents told)))
-    c.in_err-replay-in-Some.ensures.part)
+pub returns-in-Accepted-clause-given : goal.returns-in-Accepted-clause-given
+returns-in-Accepted-clause-given g c = λ contents told.
+    let f = c.args.files.now in
+    let l = c.in-Accepted.lines in
+    let read = rw c.in-Accepted.is at (rw (told.0) at c.in_ok-policy.ensures.read) in
+    let others = c.in_ok-others.ensures.read contents (told-later _ _ _ _ contents (other_words f) c.in_ok-policy.ensures.files told.1) in
+    let inputs = inputs-read f contents l c.in_ok-others.others others in
+    given-of c.replay_lines.result (form_in f) contents (run_answer f contents (entries_in l)) _ _
+    (answer-is (contents f.policy.now) (run_answer f contents) (Accepted l) read)
+    (c.replay_lines.ensures.status _ inputs) (c.replay_lines.ensures.text _ inputs)
 
-pub returns-in_err-refuse_early-in-None-clause-part : goal.returns-in_err-refuse_early-in-None-clause-part
-unfolding digits
-returns-in_err-refuse_early-in-None-clause-part g c =
-    let p = err_from_is_err_and c.from_residual-in_err-refuse_early-in-None.result c.from_residual-in_err-refuse_early-in-None.ensures.1 in
-    λ contents told. rw (p.1) (part-answer _ _ _ _
-    (early-answer (inputs_in c.args.files.now contents) (rw c.in-None.is at (c.in_ok-plain.ensures.plain contents told)))
-    c.in_err-refuse_early-in-None.ensures.part)
+pub returns-in-Accepted-clause-part : goal.returns-in-Accepted-clause-part
+returns-in-Accepted-clause-part g c = λ contents told.
+    let f = c.args.files.now in
+    let l = c.in-Accepted.lines in
+    let read = rw c.in-Accepted.is at (rw (told.0) at c.in_ok-policy.ensures.read) in
+    let others = c.in_ok-others.ensures.read contents (told-later _ _ _ _ contents (other_words f) c.in_ok-policy.ensures.files told.1) in
+    let inputs = inputs-read f contents l c.in_ok-others.others others in
+    begun-of c.replay_lines.result (form_in f) contents (run_answer f contents (entries_in l)) _ _
+    (λ b is. answer-only (contents f.policy.now) (run_answer f contents) (Accepted l) b read is)
+    (c.replay_lines.ensures.part _ inputs)
 
-pub returns-in_ok-replay-in-Some-clause-status : goal.returns-in_ok-replay-in-Some-clause-status
-returns-in_ok-replay-in-Some-clause-status g c = λ contents told.
-    ap (λ (a : Answer). a.status) (sym (replayed-answer (inputs_in c.args.files.now contents) _ _ _ c.deref.ensures.value (rw c.in-Some.is at (c.in_ok-plain.ensures.plain contents told))))
+pub returns-in-Accepted-clause-fabric : goal.returns-in-Accepted-clause-fabric
+returns-in-Accepted-clause-fabric g c = λ contents told.
+    let f = c.args.files.now in
+    let l = c.in-Accepted.lines in
+    let read = rw c.in-Accepted.is at (rw (told.0) at c.in_ok-policy.ensures.read) in
+    let others = c.in_ok-others.ensures.read contents (told-later _ _ _ _ contents (other_words f) c.in_ok-policy.ensures.files told.1) in
+    let inputs = inputs-read f contents l c.in_ok-others.others others in
+    leaves-of _ _ _ f contents (entries_in l) _ _ c.replay_lines.result read (c.replay_lines.ensures.fabric _ inputs)
 
-pub returns-in_ok-replay-in-Some-clause-text : goal.returns-in_ok-replay-in-Some-clause-text
-returns-in_ok-replay-in-Some-clause-text g c = λ contents told. appended-answer _ _ _ _
-    (replayed-answer (inputs_in c.args.files.now contents) _ _ _ c.deref.ensures.value (rw c.in-Some.is at (c.in_ok-plain.ensures.plain contents told)))
-    c.in_ok-replay-in-Some.ensures.text
+pub returns-in-Refused-clause-given : goal.returns-in-Refused-clause-given
+returns-in-Refused-clause-given g c = λ contents told.
+    let f = c.args.files.now in
+    let r = c.in-Refused.refusal in
+    let read = rw c.in-Refused.is at (rw (told.0) at c.in_ok-policy.ensures.read) in
+    given-of c.refuse_policy.result (form_in f) contents (policy_refusal r.code r.line) _ _
+    (answer-is (contents f.policy.now) (run_answer f contents) (Refused r) read)
+    (ends-badly _ r.code r.line c.refuse_policy.ensures.status) c.refuse_policy.ensures.text
 
-pub returns-in_ok-replay-in-Some-clause-fabric : goal.returns-in_ok-replay-in-Some-clause-fabric
-returns-in_ok-replay-in-Some-clause-fabric g c = λ contents told. replayed-fabric g.F.Fabric.shape _ _ _ _ _ (inputs_in c.args.files.now contents) _ _ _ c.deref.ensures.value
-    (rw c.in-Some.is at (c.in_ok-plain.ensures.plain contents told)) c.in_ok-replay-in-Some.ensures.holds c.in_ok-replay-in-Some.ensures.counts
-
-pub returns-in_ok-refuse_early-in-None-clause-status : goal.returns-in_ok-refuse_early-in-None-clause-status
-returns-in_ok-refuse_early-in-None-clause-status g c = λ contents told.
-    ap (λ (a : Answer). a.status) (sym (early-answer (inputs_in c.args.files.now contents) (rw c.in-None.is at (c.in_ok-plain.ensures.plain contents told))))
-
-pub returns-in_ok-refuse_early-in-None-clause-text : goal.returns-in_ok-refuse_early-in-None-clause-text
-unfolding digits
-returns-in_ok-refuse_early-in-None-clause-text g c = λ contents told. appended-answer _ _ _ _
-    (early-answer (inputs_in c.args.files.now contents) (rw c.in-None.is at (c.in_ok-plain.ensures.plain contents told)))
-    c.in_ok-refuse_early-in-None.ensures.text
+pub returns-in-Refused-clause-part : goal.returns-in-Refused-clause-part
+returns-in-Refused-clause-part g c = λ contents told.
+    let f = c.args.files.now in
+    let r = c.in-Refused.refusal in
+    let read = rw c.in-Refused.is at (rw (told.0) at c.in_ok-policy.ensures.read) in
+    begun-of c.refuse_policy.result (form_in f) contents (policy_refusal r.code r.line) _ _
+    (λ b is. answer-only (contents f.policy.now) (run_answer f contents) (Refused r) b read is)
+    c.refuse_policy.ensures.part

@@ -1,4 +1,4 @@
-use Rattle.std.proofs.Common.{◌≡◌, ℕ, sym, ◌∙◌, rules}
+use Rattle.std.proofs.Common.{sym, ◌∙◌, rules}
 use Rattle.std.proofs.lemmas.Result.{err_from_is_err_and}
 use Rattle.pcap_core.specs.Faults.{fault_in}
 use Rattle.replay_app.proofs.Counting.{if_some_weaker, is_big-same, next-passed, broken-passed}

@@ -1,4 +1,4 @@
-use Rattle.std.proofs.Common.{◌≡◌, ◌≤◌, ◌-◌, ◌^◌, IsSome, IsTrue}
+use Rattle.std.proofs.Common.{◌≡◌, ◌≤◌, ◌-◌, IsSome, IsTrue}
 use Rattle.outside_core.specs.Files.{KeepsFiles}
 use Rattle.pcap_core.specs.Readers.{head_of, is_big, is_live, records_given, rest_left}
 use Rattle.replay_app.specs.Counted.{Passed}

@@ -1,5 +1,5 @@
 use Rattle.std.specs.Prelude.{option_map}
-use Rattle.std.proofs.Common.{sym, map, length, ap, ◌∙◌, arith, length-append}
+use Rattle.std.proofs.Common.{sym, map, length, ap, ◌∙◌, length-append}
 use Rattle.std.proofs.lemmas.List.{map-append}
 use Rattle.replay_app.specs.OneLeaf.{step_for}
 use Rattle.replay_app.proofs.Scripts.{two-front, steps-more, few-more}

@@ -1,4 +1,4 @@
-use Rattle.std.proofs.Common.{arith, ◌≤◌}
+use Rattle.std.proofs.Common.{arith}
 use Rattle.replay_app.proofs.TurnRuns.{asked-turn}
 use Rattle.replay_app.proofs.plain.arrivals_asked.Goals as goal
 

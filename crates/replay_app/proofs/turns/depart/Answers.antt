@@ -1,9 +1,8 @@
-use Rattle.std.proofs.Common.{OnOk, OnErr, ℕ, List, length, ap, ◌∙◌, ◌+◌, ◌≤◌, ◌<◌, ◌≡◌, [], arith, subst, sym}
+use Rattle.std.proofs.Common.{OnOk, OnErr, ℕ, List, length, ap, ◌∙◌, ◌<◌, arith, subst}
 use Rattle.outside_core.specs.Written.{Appended}
 use Rattle.report_defs.specs.Text.{IsCut}
 use Rattle.report_core.specs.Gathered.{text_of}
-use Rattle.replay_app.specs.Turns.{Holds}
-use Rattle.replay_app.proofs.TurnLaws.{HasPopped, pops-one_leaf, line-departed, on_ok}
+use Rattle.replay_app.proofs.TurnLaws.{pops-one_leaf, line-departed, on_ok}
 use Rattle.replay_app.proofs.turns.depart.Goals as goal
 
 pub returns-in-Some-clause-holds : goal.returns-in-Some-clause-holds

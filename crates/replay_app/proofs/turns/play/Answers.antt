@@ -1,5 +1,5 @@
 use Rattle.std.proofs.lemmas.Result.{err_from_is_err_and}
-use Rattle.std.proofs.Common.{get_or, ℕ, ◌<◌, length, arith, subst, List, take, rules}
+use Rattle.std.proofs.Common.{ℕ, subst, List, rules}
 use Rattle.outside_core.specs.Written.{Appended}
 use Rattle.outside_core.proofs.WrittenLaws.{appended_in_turn}
 use Rattle.report_core.specs.Gathered.{text_of}

@@ -1,6 +1,6 @@
 use Rattle.std.proofs.lemmas.Result.{err_from_is_err_and}
 use Rattle.replay_app.proofs.Reports.{cut-part, cut-end, text-whole}
-use Rattle.replay_app.proofs.replay.refuse_early.Goals as goal
+use Rattle.replay_app.proofs.replay.write.Goals as goal
 
 pub returns-in_err-piece-clause-part : goal.returns-in_err-piece-clause-part
 returns-in_err-piece-clause-part g c =

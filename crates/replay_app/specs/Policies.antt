@@ -1,0 +1,61 @@
+-- How a policy text is answered.
+use Rattle.std.specs.Prelude.{◌≡◌, ◌<◌, ℕ, List, length, map, codes}
+use Rattle.report_defs.specs.Report.{fault_line}
+use Rattle.policy_text_defs.specs.Ranges.{most_text}
+use Rattle.policy_text_defs.specs.Sense.{Sense, Entry}
+use Rattle.policy_text_defs.specs.Text.{Fault, not_text, shaping, syntax_fault, HasEntries, IsFirstFault}
+use Rattle.policy_text.specs.declared.lines.Lines.{Lines}
+use Rattle.policy_text.specs.Entries.{entry_of}
+use Rattle.replay_app.specs.Answer.{Answer}
+use Rattle.replay_app.specs.declared.policies.Refusal.{Refusal}
+use Rattle.replay_app.specs.declared.policies.Policy.{Policy}
+use Rattle.replay_app.specs.declared.policies.Policy.TheVariants.{Accepted, Refused}
+
+-- the statements, without the numbers of their lines
+abbrev pub senses_of : List Entry → List Sense
+senses_of es = map (λ e. e.1) es
+
+-- the statements that are held, with the numbers of their lines
+abbrev pub entries_in : Lines → List Entry
+entries_in lines = map entry_of lines.held
+
+-- the code of the fault of a line
+abbrev pub fault_code : Fault → ℕ
+fault_code not_text = 22
+fault_code syntax_fault = 23
+fault_code shaping = 24
+
+-- the code and the line with which a text is refused: it is too long, or its first line at fault decides
+pub data IsRefused (text : List ℕ) : ℕ → ℕ → Type 0 where
+  too_long : most_text < length text → IsRefused text 21 0
+  at_fault : (n : ℕ) (f : Fault) → IsFirstFault text n f → IsRefused text (fault_code f) n
+
+abbrev pub policy_refusal : ℕ → ℕ → Answer
+policy_refusal code line = record { status = 3; text = fault_line (codes "policy") code line }
+
+-- what follows from the statements of a text in form, or its refusal
+pub data IsPolicyAnswer (text : List ℕ) (after : List Entry → Answer) : Answer → Type 0 where
+  accepted : (es : List Entry) → HasEntries text es → IsPolicyAnswer text after (after es)
+  refused : (code line : ℕ) → IsRefused text code line → IsPolicyAnswer text after (policy_refusal code line)
+
+-- the one answer to a text that is read so
+abbrev pub policy_answer : (List Entry → Answer) → Policy → Answer
+policy_answer after (Accepted lines) = after (entries_in lines)
+policy_answer after (Refused r) = policy_refusal r.code r.line
+
+-- the text has these statements, and no others
+pub record IsAcceptedAs (text : List ℕ) (es : List Entry) : Type 0 where
+  pub has : HasEntries text es
+  pub only : (others : List Entry) → HasEntries text others → es ≡ others
+  pub sound : (code line : ℕ) → IsRefused text code line → ⊥
+
+-- the text is refused so, and not otherwise
+pub record IsRefusedAs (text : List ℕ) (r : Refusal) : Type 0 where
+  pub refused : IsRefused text r.code r.line
+  pub only : (code line : ℕ) → IsRefused text code line → (r.code ≡ code) × (r.line ≡ line)
+  pub none : (es : List Entry) → HasEntries text es → ⊥
+
+-- what is read of a text
+abbrev pub IsRead : List ℕ → Policy → Type 0
+IsRead text (Accepted lines) = IsAcceptedAs text (entries_in lines)
+IsRead text (Refused r) = IsRefusedAs text r
