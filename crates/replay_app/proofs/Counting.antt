@@ -144,13 +144,13 @@ pub broken-content : (head : Head) (flag : Bool) (content left rest : Option (Li
     → IfSome rest (λ after. (n : ℕ) × HasRecords flag after (Some fault) n) → IfSome content (λ f. packet_count f ≡ None)
 broken-content head flag content left rest fault e same t h =
     counted-broken head content rest fault (subst (λ (o : Option (List ℕ)). TakesHeader head o rest) e t)
-        (subst (λ (b : Bool). IfSome rest (λ after. (n : ℕ) × HasRecords b after (Some fault) n)) same h)
+    (subst (λ (b : Bool). IfSome rest (λ after. (n : ℕ) × HasRecords b after (Some fault) n)) same h)
 
 pub whole-content : (head : Head) (flag : Bool) (content left rest : Option (List ℕ)) (n : ℕ) → left ≡ content → flag ≡ head.big → TakesHeader head left rest
     → IfSome rest (λ after. HasRecords flag after None n) → IfSome content (IsCounted head n)
 whole-content head flag content left rest n e same t h =
     counted-whole head content rest n (subst (λ (o : Option (List ℕ)). TakesHeader head o rest) e t)
-        (subst (λ (b : Bool). IfSome rest (λ after. HasRecords b after None n)) same h)
+    (subst (λ (b : Bool). IfSome rest (λ after. HasRecords b after None n)) same h)
 
 counted-flags : (head : Head) → head.big ≡ false → head.nano ≡ false → (head.big || head.nano) ≡ false
 counted-flags head big nano = rw big nano

@@ -98,15 +98,15 @@ left-matches s t p m lt = record {
 
 pub Matches-departed : (s : SourceState) (t : Totals) → Matches s t → Matches (departed one_leaf s) (turned turn.Depart t)
 Matches-departed s t m = elim (cases_lt t.popped t.pushed) [
-    | inl lt ↦
-        let here : Matches (departed one_leaf s) (record t { popped = t.popped + 1 }) =
-            subst (λ (u : SourceState). Matches u (record t { popped = t.popped + 1 })) (sym (departed-some s t m lt)) (left-matches s t (first_held s t m lt).packet m lt) in
-        subst (λ (u : Totals). Matches (departed one_leaf s) u) (sym (turned-some t lt)) here
-    | inr le ↦
-        let same : departed one_leaf s ≡ s = ap (left_from one_leaf s) (pop-none s t m le) in
-        let here : Matches s (record t { empty = t.empty + 1 }) = record { tree = m.tree; order = m.order; held = m.held } in
-        subst (λ (u : Totals). Matches (departed one_leaf s) u) (sym (turned-none t le)) (subst (λ (u : SourceState). Matches u (record t { empty = t.empty + 1 })) (sym same) here)
-  ]
+  | inl lt ↦
+      let here : Matches (departed one_leaf s) (record t { popped = t.popped + 1 }) =
+      subst (λ (u : SourceState). Matches u (record t { popped = t.popped + 1 })) (sym (departed-some s t m lt)) (left-matches s t (first_held s t m lt).packet m lt) in
+      subst (λ (u : Totals). Matches (departed one_leaf s) u) (sym (turned-some t lt)) here
+  | inr le ↦
+      let same : departed one_leaf s ≡ s = ap (left_from one_leaf s) (pop-none s t m le) in
+      let here : Matches s (record t { empty = t.empty + 1 }) = record { tree = m.tree; order = m.order; held = m.held } in
+      subst (λ (u : Totals). Matches (departed one_leaf s) u) (sym (turned-none t le)) (subst (λ (u : SourceState). Matches u (record t { empty = t.empty + 1 })) (sym same) here)
+]
 
 pub told-some : (t : Totals) → t.popped < t.pushed → told turn.Depart t ≡ Departed (t.popped + 1) [] (0 ∷ [])
 told-some t lt = rw (lt-ltb t.popped t.pushed lt) refl
@@ -117,14 +117,14 @@ told-none t le = rw (le-ltb t.popped t.pushed le) refl
 pub outcome-departed : (s : SourceState) (t : Totals) → Matches s t → outcome one_leaf Depart s ≡ told turn.Depart t
 unfolding taken_from
 outcome-departed s t m = elim (cases_lt t.popped t.pushed) [
-    | inl lt ↦
-        let h = first_held s t m lt in
-        ap (λ o. departure (option_bind o (λ taken. option_map (leaving taken) (s.held taken.value)))) (pop-some s t m lt)
-        ∙ ap (λ o. departure (option_map (leaving (taken_from t)) o)) h.is
-        ∙ ap (λ n. Departed n [] (0 ∷ [])) h.number
-        ∙ sym (told-some t lt)
-    | inr le ↦ ap (λ o. departure (option_bind o (λ taken. option_map (leaving taken) (s.held taken.value)))) (pop-none s t m le) ∙ sym (told-none t le)
-  ]
+  | inl lt ↦
+      let h = first_held s t m lt in
+      ap (λ o. departure (option_bind o (λ taken. option_map (leaving taken) (s.held taken.value)))) (pop-some s t m lt)
+      ∙ ap (λ o. departure (option_map (leaving (taken_from t)) o)) h.is
+      ∙ ap (λ n. Departed n [] (0 ∷ [])) h.number
+      ∙ sym (told-some t lt)
+  | inr le ↦ ap (λ o. departure (option_bind o (λ taken. option_map (leaving taken) (s.held taken.value)))) (pop-none s t m le) ∙ sym (told-none t le)
+]
 
 -- what a course over the turns leaves
 pub record Follows (turns : List Turn) (t : Totals) (s : SourceState) (c : Course) (unsent : ℕ) : Type 0 where
@@ -151,9 +151,9 @@ Follows-arrived head turns n r s t c unsent e f = record {
 
 pub departures-turned : (t : Totals) → (turned turn.Depart t).popped + (turned turn.Depart t).empty ≡ t.popped + t.empty + 1
 departures-turned t = elim (cases_lt t.popped t.pushed) [
-    | inl lt ↦ let here : t.popped + 1 + t.empty ≡ t.popped + t.empty + 1 = omega arith in ap (λ u. u.popped + u.empty) (turned-some t lt) ∙ here
-    | inr le ↦ let here : t.popped + (t.empty + 1) ≡ t.popped + t.empty + 1 = omega arith in ap (λ u. u.popped + u.empty) (turned-none t le) ∙ here
-  ]
+  | inl lt ↦ let here : t.popped + 1 + t.empty ≡ t.popped + t.empty + 1 = omega arith in ap (λ u. u.popped + u.empty) (turned-some t lt) ∙ here
+  | inr le ↦ let here : t.popped + (t.empty + 1) ≡ t.popped + t.empty + 1 = omega arith in ap (λ u. u.popped + u.empty) (turned-none t le) ∙ here
+]
 
 pub pushed-turned : (t : Totals) → (turned turn.Depart t).pushed ≡ t.pushed
 pushed-turned t = elim (cases_lt t.popped t.pushed) [ inl lt ↦ ap (λ u. u.pushed) (turned-some t lt) | inr le ↦ ap (λ u. u.pushed) (turned-none t le) ]
@@ -183,11 +183,11 @@ course-follows head (turn.Arrive ∷ turns) n [] s t event unsent e m few = absu
 course-follows head (turn.Arrive ∷ turns) n (r ∷ records) s t event unsent e m few =
     let rest = course one_leaf (map step_for turns) (packets_from head (n + 1) records) None (arrived one_leaf (packet_of head n r) s) (event + 1) in
     let f : Follows turns (turned turn.Arrive t) (arrived one_leaf (packet_of head n r) s) rest unsent =
-        course-follows head turns (n + 1) records (arrived one_leaf (packet_of head n r) s) (turned turn.Arrive t) (event + 1) unsent (omega arith) (Matches-arrived head n r s t e m) (omega arith) in
+    course-follows head turns (n + 1) records (arrived one_leaf (packet_of head n r) s) (turned turn.Arrive t) (event + 1) unsent (omega arith) (Matches-arrived head n r s t e m) (omega arith) in
     let enough : nat_lt (suc (length (packets_from head (n + 1) records))) 1 ≡ false = le-ltb (suc (length (packets_from head (n + 1) records))) 1 (omega arith) in
     subst (λ (c : Course). Follows (turn.Arrive ∷ turns) t s c unsent)
-        (sym (ap (λ b. stopped_or (Arrive (packet_of head n r) ∷ []) (if b then Some (PastLast (event + 1)) else None) rest) enough))
-        (Follows-arrived head turns n r s t rest unsent e f)
+    (sym (ap (λ b. stopped_or (Arrive (packet_of head n r) ∷ []) (if b then Some (PastLast (event + 1)) else None) rest) enough))
+    (Follows-arrived head turns n r s t rest unsent e f)
 course-follows head (turn.Depart ∷ turns) n records s t event unsent e m few =
     Follows-departed turns s t (course one_leaf (map step_for turns) (packets_from head n records) None (departed one_leaf s) (event + 1)) unsent m
-        (course-follows head turns n records (departed one_leaf s) (turned turn.Depart t) (event + 1) unsent (e ∙ ap (λ k. k + 1) (sym (pushed-turned t))) (Matches-departed s t m) few)
+    (course-follows head turns n records (departed one_leaf s) (turned turn.Depart t) (event + 1) unsent (e ∙ ap (λ k. k + 1) (sym (pushed-turned t))) (Matches-departed s t m) few)

@@ -39,16 +39,16 @@ record AreSent (k : Capture) (n : ℕ) : Type 0 where
 
 sent-plain : (head : Head) (records : List Record) (n : ℕ) → option_map length (plain_packets (packets head records None)) ≡ Some n → AreSent (packets head records None) n
 sent-plain head records n e = elim (cases_Bool (head.big || head.nano)) [
-    | inl other ↦
-        let none : option_map length (plain_packets (packets head records None)) ≡ None = rw other refl in
-        let both : None ≡ Some n = sym none ∙ e in
-        cc
-    | inr little ↦
-        let some : plain_packets (packets head records None) ≡ Some (packets_from head 1 records) = rw little refl in
-        let both : Some (length (packets_from head 1 records)) ≡ Some n = ap (option_map length) (sym some) ∙ e in
-        let same : length (packets_from head 1 records) ≡ n = cc in
-        record { head = head; records = records; sent = some; counted = sym (length-packets_from head 1 records) ∙ same }
-  ]
+  | inl other ↦
+      let none : option_map length (plain_packets (packets head records None)) ≡ None = rw other refl in
+      let both : None ≡ Some n = sym none ∙ e in
+      cc
+  | inr little ↦
+      let some : plain_packets (packets head records None) ≡ Some (packets_from head 1 records) = rw little refl in
+      let both : Some (length (packets_from head 1 records)) ≡ Some n = ap (option_map length) (sym some) ∙ e in
+      let same : length (packets_from head 1 records) ≡ n = cc in
+      record { head = head; records = records; sent = some; counted = sym (length-packets_from head 1 records) ∙ same }
+]
 
 are-sent : (k : Capture) (n : ℕ) → option_map length (plain_packets k) ≡ Some n → AreSent k n
 are-sent (refused fault) n e = cc
@@ -61,19 +61,19 @@ left-pushed t os = elim (cases_lt t.popped t.pushed) [ inl lt ↦ ap (λ o. push
 
 left-popped : (t : Totals) (os : List Outcome) → t.popped + popped_in (told turn.Depart t ∷ os) ≡ (turned turn.Depart t).popped + popped_in os
 left-popped t os = elim (cases_lt t.popped t.pushed) [
-    | inl lt ↦
-        let same : t.popped + (1 + popped_in os) ≡ t.popped + 1 + popped_in os = omega arith in
-        ap (λ o. t.popped + popped_in (o ∷ os)) (told-some t lt) ∙ same ∙ ap (λ u. u.popped + popped_in os) (sym (turned-some t lt))
-    | inr le ↦ ap (λ o. t.popped + popped_in (o ∷ os)) (told-none t le) ∙ ap (λ u. u.popped + popped_in os) (sym (turned-none t le))
-  ]
+  | inl lt ↦
+      let same : t.popped + (1 + popped_in os) ≡ t.popped + 1 + popped_in os = omega arith in
+      ap (λ o. t.popped + popped_in (o ∷ os)) (told-some t lt) ∙ same ∙ ap (λ u. u.popped + popped_in os) (sym (turned-some t lt))
+  | inr le ↦ ap (λ o. t.popped + popped_in (o ∷ os)) (told-none t le) ∙ ap (λ u. u.popped + popped_in os) (sym (turned-none t le))
+]
 
 left-empty : (t : Totals) (os : List Outcome) → t.empty + empty_in (told turn.Depart t ∷ os) ≡ (turned turn.Depart t).empty + empty_in os
 left-empty t os = elim (cases_lt t.popped t.pushed) [
-    | inl lt ↦ ap (λ o. t.empty + empty_in (o ∷ os)) (told-some t lt) ∙ ap (λ u. u.empty + empty_in os) (sym (turned-some t lt))
-    | inr le ↦
-        let same : t.empty + (1 + empty_in os) ≡ t.empty + 1 + empty_in os = omega arith in
-        ap (λ o. t.empty + empty_in (o ∷ os)) (told-none t le) ∙ same ∙ ap (λ u. u.empty + empty_in os) (sym (turned-none t le))
-  ]
+  | inl lt ↦ ap (λ o. t.empty + empty_in (o ∷ os)) (told-some t lt) ∙ ap (λ u. u.empty + empty_in os) (sym (turned-some t lt))
+  | inr le ↦
+      let same : t.empty + (1 + empty_in os) ≡ t.empty + 1 + empty_in os = omega arith in
+      ap (λ o. t.empty + empty_in (o ∷ os)) (told-none t le) ∙ same ∙ ap (λ u. u.empty + empty_in os) (sym (turned-none t le))
+]
 
 pushed-told : (turns : List Turn) (t : Totals) → t.pushed + pushed_in (told_all turns t) ≡ (turned_all turns t).pushed
 pushed-told [] t = omega arith
@@ -136,7 +136,7 @@ plain-played inputs turns captured p =
     let pushed : (turned_all turns no_totals).pushed ≡ 0 + arrivals_of (map step_for turns) = pushed-all turns no_totals in
     let c = course one_leaf (map step_for turns) (packets_from s.head 1 s.records) None (start one_leaf) 1 in
     let f : Follows turns no_totals (start one_leaf) c (captured - arrivals_of (map step_for turns)) =
-        course-follows s.head turns 1 s.records (start one_leaf) no_totals 1 (captured - arrivals_of (map step_for turns)) refl start-matches (omega arith) in
+    course-follows s.head turns 1 s.records (start one_leaf) no_totals 1 (captured - arrivals_of (map step_for turns)) refl start-matches (omega arith) in
     let arrivals : 0 + arrivals_in c.events ≡ (turned_all turns no_totals).pushed = f.arrivals in
     let departures : 0 + 0 + departures_in c.events ≡ (turned_all turns no_totals).popped + (turned_all turns no_totals).empty = f.departures in
     record {

@@ -16,7 +16,7 @@ pub cut-end : (before mid written : Option (List ℕ)) (held last text : List �
 cut-end before mid written held last text none first second ok cut =
     let all : IsCut (appended before held) (text ++ []) written = IsCut-append (appended before held) (appended mid last) written text [] ok cut in
     cut-part before written held text none (Begins-trans before mid written first second)
-        (subst (λ (t : List ℕ). IsCut (appended before held) t written) (append-nil text) all)
+    (subst (λ (t : List ℕ). IsCut (appended before held) t written) (append-nil text) all)
 
 -- all of the text was written
 pub text-whole : (before mid written : Option (List ℕ)) (held last text : List ℕ) → held ≡ []

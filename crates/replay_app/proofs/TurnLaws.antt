@@ -40,22 +40,22 @@ held-none t le = let count : t.pushed - t.popped ≡ 0 = omega arith in ap (entr
 
 pops-held : (F G : Family) (t : Totals) (v : ℕ) (digits ranks : List ℕ) → F [] ≡ held_by t → Pops 0 F v digits ranks G → HasPopped t v ranks (G [])
 pops-held F G t v digits ranks e p = elim (cases_lt t.popped t.pushed) [
-    | inl lt ↦
-        let taking : Taking = record { rank = 0; value = t.popped + 1; rest = held_by (record t { popped = t.popped + 1 }) } in
-        let took : take_least (F []) ≡ Some taking = ap take_least e ∙ take-held t lt in
-        let same : Some p.taken ≡ Some (popped_last F taking) = sym p.popped ∙ ap (option_map (popped_last F)) took in
-        let taken : p.taken ≡ popped_last F taking = cc in
-        record {
-          some = lt;
-          value = sym p.value ∙ ap (λ q. q.value) taken;
-          ranks_are = sym p.ranks_are ∙ ap (λ q. q.ranks) taken;
-          left_is = p.left [] ∙ ap (λ (q : Popping Family). q.left []) taken;
-        }
-    | inr le ↦
-        let none : pop_along 0 F ≡ None = ap (λ q. option_map (popped_last F) (take_least q)) (e ∙ held-none t le) in
-        let both : Some p.taken ≡ None = sym p.popped ∙ none in
-        cc
-  ]
+  | inl lt ↦
+      let taking : Taking = record { rank = 0; value = t.popped + 1; rest = held_by (record t { popped = t.popped + 1 }) } in
+      let took : take_least (F []) ≡ Some taking = ap take_least e ∙ take-held t lt in
+      let same : Some p.taken ≡ Some (popped_last F taking) = sym p.popped ∙ ap (option_map (popped_last F)) took in
+      let taken : p.taken ≡ popped_last F taking = cc in
+      record {
+        some = lt;
+        value = sym p.value ∙ ap (λ q. q.value) taken;
+        ranks_are = sym p.ranks_are ∙ ap (λ q. q.ranks) taken;
+        left_is = p.left [] ∙ ap (λ (q : Popping Family). q.left []) taken;
+      }
+  | inr le ↦
+      let none : pop_along 0 F ≡ None = ap (λ q. option_map (popped_last F) (take_least q)) (e ∙ held-none t le) in
+      let both : Some p.taken ≡ None = sym p.popped ∙ none in
+      cc
+]
 
 pub pops-one_leaf : (F G : Family) (t : Totals) (v height : ℕ) (digits ranks : List ℕ) → height ≡ 0 → F [] ≡ held_by t → Pops height F v digits ranks G → HasPopped t v ranks (G [])
 pops-one_leaf F G t v height digits ranks none e p =

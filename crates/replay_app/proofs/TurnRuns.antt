@@ -50,9 +50,9 @@ pub turn_lines-append : (xs ys : List Turn) (t : Totals) → turn_lines (xs ++ y
 turn_lines-append [] ys t = refl
 turn_lines-append (x ∷ xs) ys t =
     let next : lines_from one_leaf (events_in t + 1 + 1) (told_all (xs ++ ys) (turned x t)) ≡ turn_lines (xs ++ ys) (turned x t) =
-        ap (λ n. lines_from one_leaf (n + 1) (told_all (xs ++ ys) (turned x t))) (sym (events-turned x t)) in
+    ap (λ n. lines_from one_leaf (n + 1) (told_all (xs ++ ys) (turned x t))) (sym (events-turned x t)) in
     let back : turn_lines xs (turned x t) ≡ lines_from one_leaf (events_in t + 1 + 1) (told_all xs (turned x t)) =
-        ap (λ n. lines_from one_leaf (n + 1) (told_all xs (turned x t))) (events-turned x t) in
+    ap (λ n. lines_from one_leaf (n + 1) (told_all xs (turned x t))) (events-turned x t) in
     ap (λ w. turn_line x t ++ w) (next ∙ turn_lines-append xs ys (turned x t) ∙ ap (λ w. w ++ turn_lines ys (turned_all (x ∷ xs) t)) back)
     ∙ sym (append_assoc (turn_line x t) (lines_from one_leaf (events_in t + 1 + 1) (told_all xs (turned x t))) (turn_lines ys (turned_all (x ∷ xs) t)))
 

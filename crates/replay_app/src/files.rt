@@ -30,11 +30,7 @@ pub struct Files<'a> {
 }
 
 /// The run of these inputs, if it can be replayed so far.
-fn plain_run(
-    files_are_plain: bool,
-    packets: Option<u64>,
-    turns: Option<Vec<Turn>>,
-) -> Option<Plain>
+fn plain_run(files_are_plain: bool, packets: Option<u64>, turns: Option<Vec<Turn>>) -> Option<Plain>
     requires few { IfSome turns (λ v. length v.items ≤ 1048576) }
 
     ensures reads { (inputs : Inputs) → files_are_plain ≡ (bytes_eq inputs.policy plain_policy && bytes_eq inputs.target plain_target)

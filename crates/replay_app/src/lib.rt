@@ -8,6 +8,8 @@ mod inputs;
 mod plain;
 mod replay;
 mod stop;
+#[cfg(test)]
+mod tests;
 mod turn;
 mod turns;
 mod words;

@@ -10,16 +10,16 @@ pub returns-in_err-replay-in-Some-clause-part : goal.returns-in_err-replay-in-So
 returns-in_err-replay-in-Some-clause-part g c =
     let p = err_from_is_err_and c.from_residual-in_err-replay-in-Some.result c.from_residual-in_err-replay-in-Some.ensures.1 in
     λ contents told. rw (p.1) (part-answer _ _ _ _
-        (replayed-answer (inputs_in c.args.files.now contents) _ _ _ c.deref.ensures.value (rw c.in-Some.is at (c.in_ok-plain.ensures.plain contents told)))
-        c.in_err-replay-in-Some.ensures.part)
+    (replayed-answer (inputs_in c.args.files.now contents) _ _ _ c.deref.ensures.value (rw c.in-Some.is at (c.in_ok-plain.ensures.plain contents told)))
+    c.in_err-replay-in-Some.ensures.part)
 
 pub returns-in_err-refuse_early-in-None-clause-part : goal.returns-in_err-refuse_early-in-None-clause-part
 unfolding digits
 returns-in_err-refuse_early-in-None-clause-part g c =
     let p = err_from_is_err_and c.from_residual-in_err-refuse_early-in-None.result c.from_residual-in_err-refuse_early-in-None.ensures.1 in
     λ contents told. rw (p.1) (part-answer _ _ _ _
-        (early-answer (inputs_in c.args.files.now contents) (rw c.in-None.is at (c.in_ok-plain.ensures.plain contents told)))
-        c.in_err-refuse_early-in-None.ensures.part)
+    (early-answer (inputs_in c.args.files.now contents) (rw c.in-None.is at (c.in_ok-plain.ensures.plain contents told)))
+    c.in_err-refuse_early-in-None.ensures.part)
 
 pub returns-in_ok-replay-in-Some-clause-status : goal.returns-in_ok-replay-in-Some-clause-status
 returns-in_ok-replay-in-Some-clause-status g c = λ contents told.

@@ -1,6 +1,5 @@
 use Rattle.std.proofs.Common.{◌≡◌, ℕ, sym, ◌∙◌, rules}
 use Rattle.std.proofs.lemmas.Result.{err_from_is_err_and}
- 
 use Rattle.pcap_core.specs.Faults.{fault_in}
 use Rattle.replay_app.proofs.Counting.{if_some_weaker, is_big-same, next-passed, broken-passed}
 use Rattle.replay_app.proofs.inputs.count_records.Goals as goal
@@ -28,5 +27,5 @@ returns-in_err-frame-clause-broken g c =
     let p = err_from_is_err_and c.from_residual.result c.from_residual.ensures.1 in
     let i = c.loop-captured.invariant in
     rw (p.1, p.2) (if_some_weaker (fault_in c.in_err-frame.field-0.0) _ _
-        (λ fault is. broken-passed _ _ _ _ c.loop-captured.count _ fault (is_big-same c.loop-captured.reader c.args.reader.now i.head) i.given i.few i.passed is)
-        c.in_err-frame.ensures.fault)
+    (λ fault is. broken-passed _ _ _ _ c.loop-captured.count _ fault (is_big-same c.loop-captured.reader c.args.reader.now i.head) i.given i.few i.passed is)
+    c.in_err-frame.ensures.fault)

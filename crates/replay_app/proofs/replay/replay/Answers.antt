@@ -11,7 +11,7 @@ use Rattle.replay_app.proofs.replay.replay.Goals as goal
 pub overflow_sub-unsent : goal.overflow_sub-unsent
 overflow_sub-unsent g c =
     let same : c.play.new.totals.pushed ≡ 0 + arrivals_of (map step_for c.args.turns.now) =
-        ap (λ t. t.pushed) c.in_ok-play.ensures.totals ∙ pushed-all c.args.turns.now no_totals in
+    ap (λ t. t.pushed) c.in_ok-play.ensures.totals ∙ pushed-all c.args.turns.now no_totals in
     let enough : arrivals_of (map step_for c.args.turns.now) ≤ c.args.packets = c.requires.enough in
     omega arith
 

@@ -16,10 +16,10 @@ pub returns-in-Some-clause-text : goal.returns-in-Some-clause-text
 returns-in-Some-clause-text g c =
     let h = pops-one_leaf _ _ c.args.totals.now _ _ _ _ (ap length c.requires.holds.one_leaf) c.requires.holds.queue c.in-Some.ensures.taken in
     subst (λ (line : List ℕ). OnOk c.departed.result (Appended (text_of (g.K.Sink.written c.args.sink.now) c.args.report.now) (text_of (g.K.Sink.written c.departed.new.sink) c.departed.new.self) line))
-        (line-departed c.args.totals.now _ _ _ h) c.departed.ensures.ok
+    (line-departed c.args.totals.now _ _ _ h) c.departed.ensures.ok
 
 pub returns-in-Some-clause-cut : goal.returns-in-Some-clause-cut
 returns-in-Some-clause-cut g c =
     let h = pops-one_leaf _ _ c.args.totals.now _ _ _ _ (ap length c.requires.holds.one_leaf) c.requires.holds.queue c.in-Some.ensures.taken in
     subst (λ (line : List ℕ). OnErr c.departed.result (IsCut (text_of (g.K.Sink.written c.args.sink.now) c.args.report.now) line (g.K.Sink.written c.departed.new.sink)))
-        (line-departed c.args.totals.now _ _ _ h) c.departed.ensures.cut
+    (line-departed c.args.totals.now _ _ _ h) c.departed.ensures.cut

@@ -1,0 +1,95 @@
+use crate::run;
+use fabric_core::FlatFabric;
+use outside_core::{MemShelf, MemSink, PlainShelf, PlainSink};
+use std::alloc::Global;
+use std::test::Fail;
+
+const POLICY: &[u8] = b"policy 1\nclass all\nleaf root using fifo classes all\n";
+
+const TARGET: &[u8] = b"arity = 2\nheight = 0\n";
+
+/// A header and two records of four bytes each, as tcpdump writes them.
+const CAPTURE: &[u8] = b"\xd4\xc3\xb2\xa1\x02\0\x04\0\0\0\0\0\0\0\0\0\0\0\x04\0\x93\0\0\0\
+    \x01\0\0\0\0\0\0\0\x04\0\0\0\x04\0\0\0\0\0\0\x01\
+    \x01\0\0\0\x01\0\0\0\x04\0\0\0\x04\0\0\0\0\0\0\x02";
+
+/// The words of a run.
+fn words(alloc: Global) -> Result<Vec<String>, Fail> {
+    let mut words = Vec::new(alloc);
+    for word in ["replay", "p", "t", "c", "e"] {
+        words.push(String::from_str(alloc, word)?)?;
+    }
+    Ok(words)
+}
+
+/// A file by its name.
+fn file(alloc: Global, name: &str, content: &[u8]) -> Result<(String, Vec<u8>), Fail> {
+    Ok((String::from_str(alloc, name)?, content.to_vec(alloc)?))
+}
+
+/// The files of a run.
+fn files(alloc: Global, capture: &[u8], script: &[u8]) -> Result<Vec<(String, Vec<u8>)>, Fail> {
+    let mut files = Vec::new(alloc);
+    files.push(file(alloc, "p", POLICY)?)?;
+    files.push(file(alloc, "t", TARGET)?)?;
+    files.push(file(alloc, "c", capture)?)?;
+    files.push(file(alloc, "e", script)?)?;
+    Ok(files)
+}
+
+#[test]
+fn runs_over_memory(rt: HostRuntime) -> Result<(), Fail> {
+    let alloc = rt.alloc();
+    let words = words(alloc)?;
+    let table: [(&[u8], &[u8], u8, &[u8]); 5] = [
+        (
+            CAPTURE,
+            b"a\na\nd\nd\nd\n",
+            0,
+            b"a 1 1 root 0\na 2 2 root 0\nd 3 1 root 0\nd 4 2 root 0\ne 5\nend pushed 2 popped 2 empty 1 held 0 unsent 0\n",
+        ),
+        (
+            &CAPTURE[..24],
+            b"",
+            0,
+            b"end pushed 0 popped 0 empty 0 held 0 unsent 0\n",
+        ),
+        (
+            CAPTURE,
+            b"a\n",
+            0,
+            b"a 1 1 root 0\nend pushed 1 popped 0 empty 0 held 1 unsent 1\n",
+        ),
+        (CAPTURE, b"rest\n", 11, b"fault early 1 0\n"),
+        (&CAPTURE[..60], b"a\n", 11, b"fault early 1 0\n"),
+    ];
+    for (capture, script, status, text) in table {
+        let mut shelf = PlainShelf::new(files(alloc, capture, script)?);
+        let mut sink = PlainSink::new(alloc, 200)?;
+        let mut fabric = FlatFabric::new(alloc)?;
+        let answer = run(alloc, &words, &mut shelf, &mut sink, &mut fabric);
+        assert_eq!(rt; answer, status);
+        assert_eq!(rt; sink.bytes(), text);
+    }
+    Ok(())
+}
+
+#[test]
+fn a_fault_ends_the_run(rt: HostRuntime) -> Result<(), Fail> {
+    let alloc = rt.alloc();
+    let words = words(alloc)?;
+    let mut shelf = PlainShelf::new(files(alloc, CAPTURE, b"a\n")?);
+    let mut fabric = FlatFabric::new(alloc)?;
+    let mut second_write_fails = Vec::new(alloc);
+    second_write_fails.push(2)?;
+    let mut sink = MemSink::new(alloc, 200, 1, second_write_fails)?;
+    let answer = run(alloc, &words, &mut shelf, &mut sink, &mut fabric);
+    assert_eq!(rt; (answer, sink.bytes()), (9, b"a".as_slice()));
+
+    let mut fabric = FlatFabric::new(alloc)?;
+    let mut no_files = MemShelf::new(Vec::new(alloc), 7, Vec::new(alloc));
+    let mut sink = PlainSink::new(alloc, 200)?;
+    let answer = run(alloc, &words, &mut no_files, &mut sink, &mut fabric);
+    assert_eq!(rt; (answer, sink.bytes().len()), (8, 0));
+    Ok(())
+}
