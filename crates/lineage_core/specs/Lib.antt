@@ -1,0 +1,5 @@
+pub mod Descent
+pub mod Marks
+pub mod Row
+pub mod Preorder
+pub mod Growth
