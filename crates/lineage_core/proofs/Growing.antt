@@ -183,7 +183,7 @@ child-within g i c limit above shallow step = (let r : 1 + above ≤ limit = sha
 
 -- ---- room for what is still to come
 mutual
-  tree-is_part : (g : Graph) (t : Tree ℕ) → IsTreeOf g t → IsPartOf g t
+  pub tree-is_part : (g : Graph) (t : Tree ℕ) → IsTreeOf g t → IsPartOf g t
   tree-is_part g (leaf i) h = tt
   tree-is_part g (inner i ts) h = (([], append-nil (labels ts) ∙ h.1), trees-are_parts g ts h.2)
 

@@ -5,3 +5,5 @@ pub mod Growing
 pub mod Shapes
 pub mod Once
 pub mod Pointing
+pub mod PreorderLaws
+pub mod Sound

@@ -13,18 +13,18 @@ pub record ArePointedTo (g : Graph) (node : ℕ) (parents : List ℕ) : Type 0 w
   pub each : (c q : ℕ) → q < node → IsChild g q c → IsChild g (slice_index parents c) c
   pub in_range : All (λ p. p < length g) parents
 
-pub pointed-start : (g : Graph) (n : ℕ) → n ≡ length g → ArePointedTo g 0 (replicate n 0)
+pub pointed-start : (g : Graph) (n : ℕ) → n ≡ length g → ArePointedTo g 0 (replicate n zero)
 pointed-start g n size = record {
   len = length-zeros n ∙ size;
   each = λ c q short. absurd (omega arith);
   in_range = λ k d short. omega (arith, zeros n k d, short, length-zeros n, size);
 }
   where
-    length-zeros : (n : ℕ) → length (replicate n 0) ≡ n
+    length-zeros : (n : ℕ) → length (replicate n zero) ≡ n
     length-zeros zero = refl
     length-zeros (suc n) = ap suc (length-zeros n)
 
-    zeros : (n k d : ℕ) → k < length (replicate n 0) → get_or (replicate n 0) k d ≡ 0
+    zeros : (n k d : ℕ) → k < length (replicate n zero) → get_or (replicate n zero) k d ≡ 0
     zeros zero k d l = absurd (omega arith)
     zeros (suc n) zero d l = refl
     zeros (suc n) (suc k) d l = zeros n k d (omega arith)

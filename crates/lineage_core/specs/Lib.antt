@@ -3,3 +3,4 @@ pub mod Marks
 pub mod Row
 pub mod Preorder
 pub mod Growth
+pub mod Codes

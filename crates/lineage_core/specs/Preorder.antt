@@ -1,7 +1,7 @@
 -- The tree of a graph below a node, and its nodes in preorder.
 use Rattle.std.specs.Prelude.{ℕ, ◌≡◌, ◌<◌, ◌≤◌, ◌+◌, ◌^◌, refl, List, [], ◌∷◌, ◌++◌, length}
 use Rattle.tree_defs.specs.Tree.{Tree, leaf, inner, Trees, none, more, Address, HasChild, root_of, nodes, depth}
-use Rattle.tree_defs.specs.Topology.{Topology, topology_of}
+use Rattle.tree_defs.specs.Topology.{Topology, topology_of, IsBranched}
 use Rattle.lineage_core.specs.Descent.{Graph, children}
 use Rattle.lineage_core.specs.Row.{Row, row}
 
@@ -51,6 +51,9 @@ pub record Numbered : Type 0 where
   pub rows : List Row
   pub topology : Topology
 
+abbrev pub numbered : List Row → Topology → Numbered
+numbered all shape = record { rows = all; topology = shape }
+
 -- they come from this tree, whose root has place 0 and the empty address
 pub record IsNumberedBy (t : Tree ℕ) (all : List Row) (shape : Topology) : Type 0 where
   pub rows_are : all ≡ rows 0 [] t
@@ -63,12 +66,13 @@ pub record IsTreeBelow (g : Graph) (root : ℕ) (all : Numbered) : Type 0 where
   pub is_tree : IsTreeOf g tree
   pub numbered : IsNumberedBy tree all.rows all.topology
 
--- they come from a tree of at most 64 levels below the root, with fewer than 2^32 nodes
+-- they come from a tree of at most 64 levels below the root, with fewer than 2^32 nodes, and a child at each inner node
 pub record IsSound (all : List Row) (shape : Topology) : Type 0 where
   pub tree : Tree ℕ
   pub numbered : IsNumberedBy tree all shape
   pub levels : depth tree ≤ 64
   pub few : nodes tree < 2 ^ 32
+  pub branched : IsBranched shape
 
 -- a root 2 with children 0 and 1, and below 0 a node 3
 abbrev pub three_levels : Tree ℕ

@@ -7,8 +7,10 @@ mod descendants;
 mod growth;
 mod kinship;
 mod place;
+mod preorder;
 
 pub use checks::{first_deep, first_on_cycle};
 pub use depths::depth;
 pub use descendants::below;
 pub use kinship::parents;
+pub use preorder::Preorder;
