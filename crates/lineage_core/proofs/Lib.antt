@@ -7,3 +7,4 @@ pub mod Once
 pub mod Pointing
 pub mod PreorderLaws
 pub mod Sound
+pub mod OneTree

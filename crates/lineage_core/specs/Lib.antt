@@ -4,3 +4,4 @@ pub mod Row
 pub mod Preorder
 pub mod Growth
 pub mod Codes
+pub mod Laws
