@@ -8,3 +8,4 @@ pub mod Pointing
 pub mod PreorderLaws
 pub mod Sound
 pub mod OneTree
+pub mod Example

@@ -1,5 +1,5 @@
 -- Nodes by number. A graph is, for each node, the list of its children.
-use Rattle.std.specs.Prelude.{ℕ, zero, suc, ◌≡◌, ◌≢◌, ◌<◌, ◌≤◌, ◌+◌, List, [], map, length, slice_index, slice_index_or, Contains, Vec, count_by, nat_eq, ◌⊎◌}
+use Rattle.std.specs.Prelude.{ℕ, zero, suc, ◌≡◌, ◌≢◌, ◌<◌, ◌≤◌, ◌+◌, refl, List, [], ◌∷◌, map, length, slice_index, slice_index_or, Contains, Vec, count_by, nat_eq, ◌⊎◌}
 use Rattle.std.specs.declared.alloc.Global.{Global}
 
 abbrev pub Graph : Type 0
@@ -70,3 +70,13 @@ pub record ArePointed (parent : ℕ) (nodes old new : List ℕ) : Type 0 where
   pub len : length new ≡ length old
   pub changed : (c : ℕ) → Contains nodes c → slice_index new c ≡ parent
   pub others : (c : ℕ) → (slice_index new c ≡ parent) × Contains nodes c ⊎ (slice_index new c ≡ slice_index old c)
+
+-- a root 2 with children 0 and 1, and below 0 a node 3
+abbrev pub two_below_a_root : Graph
+two_below_a_root = (3 ∷ []) ∷ [] ∷ (0 ∷ 1 ∷ []) ∷ [] ∷ []
+
+pub children-two_below_a_root : children two_below_a_root 2 ≡ 0 ∷ 1 ∷ []
+children-two_below_a_root = refl
+
+pub times-once : times 1 (children two_below_a_root 2) ≡ 1
+times-once = refl

@@ -2,7 +2,7 @@
 use Rattle.std.specs.Prelude.{ℕ, ◌≡◌, ◌<◌, ◌≤◌, ◌+◌, ◌^◌, refl, List, [], ◌∷◌, ◌++◌, length}
 use Rattle.tree_defs.specs.Tree.{Tree, leaf, inner, Trees, none, more, Address, HasChild, root_of, nodes, depth}
 use Rattle.tree_defs.specs.Topology.{Topology, topology_of, IsBranched}
-use Rattle.lineage_core.specs.Descent.{Graph, children}
+use Rattle.lineage_core.specs.Descent.{Graph, children, two_below_a_root}
 use Rattle.lineage_core.specs.Row.{Row, row}
 
 -- the numbers at the roots of some trees
@@ -74,11 +74,11 @@ pub record IsSound (all : List Row) (shape : Topology) : Type 0 where
   pub few : nodes tree < 2 ^ 32
   pub branched : IsBranched shape
 
--- a root 2 with children 0 and 1, and below 0 a node 3
+-- the tree of a graph of four nodes
 abbrev pub three_levels : Tree ℕ
 three_levels = inner 2 (more (inner 0 (more (leaf 3) none)) (more (leaf 1) none))
 
-pub IsTreeOf-three_levels : IsTreeOf ((3 ∷ []) ∷ [] ∷ (0 ∷ 1 ∷ []) ∷ [] ∷ []) three_levels
+pub IsTreeOf-three_levels : IsTreeOf two_below_a_root three_levels
 IsTreeOf-three_levels = (tt, refl, ((tt, refl, (refl, tt)), (refl, tt)))
 
 pub rows-three_levels : rows 0 [] three_levels ≡ row 2 [] (1 ∷ 3 ∷ []) ∷ row 0 (0 ∷ []) (2 ∷ []) ∷ row 3 (0 ∷ 0 ∷ []) [] ∷ row 1 (1 ∷ []) [] ∷ []
