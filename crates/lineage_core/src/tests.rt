@@ -11,7 +11,7 @@ fn two_below_a_root(alloc: Global) -> Result<Vec<Vec<u32>>, AllocError>
 {
     let first = vec![in alloc; 3]?;
     let root = vec![in alloc; 0, 1]?;
-    vec![in alloc; first, Vec::new(alloc), root, Vec::new(alloc)]
+    Ok(vec![in alloc; first, Vec::new(alloc), root, Vec::new(alloc)]?)
 }
 
 #[test]
@@ -43,6 +43,7 @@ fn a_forest_has_parents_and_depths(rt: HostRuntime) -> Result<(), Fail> {
     let parents = parents(alloc, graph.as_slice())?;
     assert_eq!(rt; parents.as_slice(), [2, 2, 0, 0].as_slice());
     assert_eq!(rt; first_deep(parents.as_slice(), 2), None);
+    assert_eq!(rt; depth(parents.as_slice(), 2, 3), Some(2));
     Ok(())
 }
 
