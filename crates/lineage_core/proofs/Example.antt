@@ -1,7 +1,7 @@
 -- Four nodes that are a forest.
-use Rattle.std.proofs.Common.{◌≡◌, ◌≢◌, ℕ, zero, suc, ◌+◌, ◌<◌, ◌≤◌, List, [], ◌∷◌, ◌++◌, length, refl, sym, ap, subst, arith, inl, inr, Contains}
+use Rattle.std.proofs.Common.{◌≡◌, ◌≢◌, ℕ, zero, suc, ◌+◌, ◌<◌, ◌≤◌, [], ◌∷◌, refl, ap, subst, arith, inl, inr, Contains}
 use Rattle.std.proofs.lemmas.List.Elements.{Contains-get_or, Contains-push_cases}
-use Rattle.lineage_core.specs.Descent.{Graph, children, IsChild, AreInRange, Leads, IsBelow, IsDeep, IsForest, HasOneParent, two_below_a_root}
+use Rattle.lineage_core.specs.Descent.{IsChild, Leads, IsDeep, IsForest, HasOneParent, two_below_a_root}
 
 no-member : {X : Type 0} (j : X) → Contains [] j → ⊥
 no-member j there = (let l : there.0 < 0 = there.1 in absurd (omega arith))

@@ -5,7 +5,7 @@ use Rattle.std.proofs.lemmas.List.{take_more, length-take}
 use Rattle.std.proofs.Math.Seq.{take-append_seam}
 use Rattle.std.proofs.lemmas.List.Elements.{Contains-get_or}
 use Rattle.std.specs.declared.alloc.Global.{Global}
-use Rattle.tree_defs.specs.Tree.{Tree, leaf, inner, Trees, none, more, Address, HasChild, root_of, nodes, nodes_below, count_of, trees_of}
+use Rattle.tree_defs.specs.Tree.{Tree, leaf, inner, Trees, none, more, Address, root_of, nodes, nodes_below, count_of, trees_of}
 use Rattle.tree_defs.specs.Topology.{Topology, topology_of, topologies_of}
 use Rattle.tree_core.specs.TreeContents.{branch}
 use Rattle.lineage_core.proofs.Marking.{children-at}

@@ -1,11 +1,9 @@
 -- Parents from the lists of children.
-use Rattle.std.proofs.Common.{◌≡◌, ◌≢◌, ℕ, zero, suc, ◌+◌, ◌<◌, ◌≤◌, ◌⊎◌, All, List, [], ◌∷◌, ◌++◌, length, replicate, refl, sym, ap, subst, ◌∙◌, arith, inl, inr, get_or, slice_index, Contains, Vec, take, drop}
+use Rattle.std.proofs.Common.{◌≡◌, ◌≢◌, ℕ, zero, suc, ◌+◌, ◌<◌, ◌≤◌, ◌⊎◌, All, List, [], length, replicate, refl, sym, ap, subst, ◌∙◌, arith, inl, inr, get_or, slice_index, Contains}
 use Rattle.std.proofs.lemmas.Bool.{cases_eq, cases_lt}
 use Rattle.std.proofs.lemmas.List.{get_or_default}
 use Rattle.std.proofs.Math.ListN.{get_or-eq_default}
-use Rattle.std.specs.declared.alloc.Global.{Global}
-use Rattle.lineage_core.specs.Descent.{Graph, lists, children, IsChild, AreInRange, AreParents, ArePointed}
-use Rattle.lineage_core.proofs.Marking.{children-at, length-lists}
+use Rattle.lineage_core.specs.Descent.{Graph, children, IsChild, AreParents, ArePointed}
 
 -- after the lists of the first nodes
 pub record ArePointedTo (g : Graph) (node : ℕ) (parents : List ℕ) : Type 0 where

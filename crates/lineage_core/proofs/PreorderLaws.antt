@@ -1,11 +1,11 @@
 -- The rows of a tree: addresses, children's places, and leaves.
-use Rattle.std.proofs.Common.{◌≡◌, ℕ, zero, suc, ◌+◌, ◌<◌, ◌≤◌, ◌-◌, ◌↔◌, ◌⊎◌, List, [], ◌∷◌, ◌++◌, length, map, refl, sym, ap, subst, ◌∙◌, arith, inl, inr, get_or, slice_index, append_assoc, length-append}
+use Rattle.std.proofs.Common.{◌≡◌, ℕ, zero, suc, ◌+◌, ◌<◌, ◌≤◌, ◌-◌, ◌↔◌, List, [], ◌∷◌, ◌++◌, length, refl, sym, ap, subst, ◌∙◌, arith, inl, inr, slice_index, append_assoc, length-append}
 use Rattle.std.proofs.lemmas.Bool.{cases_lt}
-use Rattle.tree_defs.specs.Tree.{Tree, leaf, inner, Trees, none, more, Address, root_of, nodes, nodes_below, count_of, LeadsToLeaf, LeadsBelow}
+use Rattle.tree_defs.specs.Tree.{Tree, leaf, inner, Trees, none, more, Address, nodes, count_of, LeadsToLeaf, LeadsBelow}
 use Rattle.tree_defs.specs.Topology.{topology_of, topologies_of, IsBranched, AreBranched}
 use Rattle.lineage_core.specs.Row.{Row, row, row_at, nodes_of}
 use Rattle.lineage_core.specs.Preorder.{starts, rows, rows_below, preorder, preorder_below}
-use Rattle.lineage_core.proofs.Growing.{length-rows, length-rows_below, nodes-some}
+use Rattle.lineage_core.proofs.Growing.{length-rows, nodes-some}
 
 nodes_of-append : (xs ys : List Row) → nodes_of (xs ++ ys) ≡ nodes_of xs ++ nodes_of ys
 nodes_of-append [] ys = refl

@@ -1,5 +1,5 @@
 -- The shape of a node with children.
-use Rattle.std.proofs.Common.{◌≡◌, ℕ, Bool, true, false, List, [], ◌∷◌, length, map, nat_eq, refl, ap, sym, ◌∙◌, true≢false}
+use Rattle.std.proofs.Common.{◌≡◌, ℕ, Bool, false, List, [], ◌∷◌, length, map, nat_eq, ap, sym, ◌∙◌, true≢false}
 use Rattle.tree_defs.specs.Tree.{inner, trees_of}
 use Rattle.tree_defs.specs.Topology.{Topology}
 use Rattle.tree_core.specs.TreeContents.{branch}

@@ -3,11 +3,11 @@ use Rattle.std.proofs.Common.{◌≡◌, ℕ, zero, suc, ◌+◌, ◌<◌, ◌�
 use Rattle.std.proofs.lemmas.Bool.{cases_lt, eqb-true}
 use Rattle.std.proofs.lemmas.List.{get_or_default}
 use Rattle.std.proofs.lemmas.List.Elements.{Contains-append_right, Contains-get_or}
-use Rattle.tree_defs.specs.Tree.{Tree, leaf, inner, Trees, none, more, root_of, nodes, depth, depth_below, HasChild, LeadsToLeaf}
+use Rattle.tree_defs.specs.Tree.{Tree, leaf, inner, Trees, none, more, root_of, nodes, depth, depth_below, LeadsToLeaf}
 use Rattle.tree_defs.specs.Topology.{Topology, topology_of, topologies_of, IsBranched, AreBranched}
-use Rattle.lineage_core.specs.Descent.{Graph, children, IsChild, Leads, IsForest, IsDeep, IsWithin, times}
+use Rattle.lineage_core.specs.Descent.{Graph, IsChild, Leads, IsForest, IsDeep, IsWithin, times}
 use Rattle.lineage_core.specs.Row.{Row, row, row_at, nodes_of}
-use Rattle.lineage_core.specs.Preorder.{labels, IsTreeOf, AreTreesOf, rows, Numbered, numbered, IsNumberedBy, IsTreeBelow, IsSound, preorder}
+use Rattle.lineage_core.specs.Preorder.{labels, IsTreeOf, AreTreesOf, rows, Numbered, numbered, IsTreeBelow, IsSound}
 use Rattle.lineage_core.specs.Growth.{HasGrown}
 use Rattle.lineage_core.proofs.Steps.{below-within}
 use Rattle.lineage_core.proofs.Growing.{within-child, length-rows, tree-is_part}

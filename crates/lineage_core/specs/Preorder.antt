@@ -1,5 +1,5 @@
 -- The tree of a graph below a node, and its nodes in preorder.
-use Rattle.std.specs.Prelude.{ℕ, ◌≡◌, ◌<◌, ◌≤◌, ◌+◌, ◌^◌, refl, List, [], ◌∷◌, ◌++◌, length}
+use Rattle.std.specs.Prelude.{ℕ, ◌≡◌, ◌<◌, ◌≤◌, ◌+◌, ◌^◌, refl, List, [], ◌∷◌, ◌++◌}
 use Rattle.tree_defs.specs.Tree.{Tree, leaf, inner, Trees, none, more, Address, HasChild, root_of, nodes, depth}
 use Rattle.tree_defs.specs.Topology.{Topology, topology_of, IsBranched}
 use Rattle.lineage_core.specs.Descent.{Graph, children, two_below_a_root}

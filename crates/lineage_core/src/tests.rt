@@ -21,15 +21,18 @@ fn nodes_are_numbered_in_preorder(rt: HostRuntime) -> Result<(), Fail> {
     let tree = Preorder::new(alloc, graph.as_slice(), 2)?;
     assert_eq!(rt; tree.count(), 4);
     assert_eq!(rt; tree.depth(), 2);
-    let expected = [(2, 0, false), (0, 1, false), (3, 2, true), (1, 1, true)];
-    let mut number = 0;
-    for (node, levels, leaf) in expected {
+    let expected = [
+        (0, 2, 0, false),
+        (1, 0, 1, false),
+        (2, 3, 2, true),
+        (3, 1, 1, true),
+    ];
+    for (number, node, levels, leaf) in expected {
         if number < tree.count() {
             assert_eq!(rt; tree.node(number), node);
             assert_eq!(rt; tree.address(number).len(), levels);
             assert_eq!(rt; tree.is_leaf(number), leaf);
         }
-        number += 1;
     }
     Ok(())
 }
@@ -38,7 +41,10 @@ fn nodes_are_numbered_in_preorder(rt: HostRuntime) -> Result<(), Fail> {
 fn a_forest_has_parents_and_depths(rt: HostRuntime) -> Result<(), Fail> {
     let alloc = rt.alloc();
     let graph = two_below_a_root(alloc)?;
-    assert_eq!(rt; below(alloc, graph.as_slice(), 2)?.as_slice(), [true, true, false, true].as_slice());
+    assert_eq!(rt;
+        below(alloc, graph.as_slice(), 2)?.as_slice(),
+        [true, true, false, true].as_slice()
+    );
     assert_eq!(rt; first_on_cycle(alloc, graph.as_slice())?, None);
     let parents = parents(alloc, graph.as_slice())?;
     assert_eq!(rt; parents.as_slice(), [2, 2, 0, 0].as_slice());

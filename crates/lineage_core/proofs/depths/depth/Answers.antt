@@ -4,9 +4,11 @@ use Rattle.lineage_core.proofs.Steps.{depth-none, depth-up, depth-found}
 use Rattle.lineage_core.proofs.depths.depth.Goals as goal
 
 pub returns : goal.returns
-returns c = record { depth = λ g forest p.
-    (let all : c.loop-depth.depth ≡ 65 = omega arith in
-    depth-none g c.args.root c.loop-depth.at c.args.node forest (omega (arith, p.len)) (subst (λ (n : ℕ). Leads g n c.loop-depth.at c.args.node) all (c.loop-depth.invariant.1 g forest p))) }
+returns c = record {
+  depth = λ g forest p.
+      (let all : c.loop-depth.depth ≡ 65 = omega arith in
+      depth-none g c.args.root c.loop-depth.at c.args.node forest (omega (arith, p.len)) (subst (λ (n : ℕ). Leads g n c.loop-depth.at c.args.node) all (c.loop-depth.invariant.1 g forest p)));
+}
 
 pub returns-then-at-root : goal.returns-then-at-root
 returns-then-at-root c = record { depth = λ g forest p. (omega arith, depth-found g c.loop-depth.depth c.loop-depth.at c.args.root c.args.node (c.loop-depth.invariant.1 g forest p) c.if-at-root.true) }

@@ -1,4 +1,4 @@
-use Rattle.std.proofs.Common.{◌≡◌, ◌<◌, arith, slice_index}
+use Rattle.std.proofs.Common.{arith, slice_index}
 use Rattle.lineage_core.proofs.PreorderLaws.{IsChildRow}
 use Rattle.lineage_core.proofs.Sound.{child-found, child-address}
 use Rattle.lineage_core.proofs.preorder.Preorder.child.Goals as goal

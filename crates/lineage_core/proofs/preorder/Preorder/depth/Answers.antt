@@ -1,5 +1,4 @@
-use Rattle.std.proofs.Common.{arith, ap}
-use Rattle.tree_defs.specs.Tree.{depth}
+use Rattle.std.proofs.Common.{arith}
 use Rattle.lineage_core.proofs.Sound.{levels-few}
 use Rattle.lineage_core.proofs.preorder.Preorder.depth.Goals as goal
 

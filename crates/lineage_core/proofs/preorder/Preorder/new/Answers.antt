@@ -1,8 +1,7 @@
-use Rattle.std.proofs.Common.{◌≡◌, ◌<◌, ◌∙◌, [], ℕ, List, ap, sym, subst, length, arith}
+use Rattle.std.proofs.Common.{◌∙◌, ℕ, ap, sym, subst, length, arith}
 use Rattle.tree_core.specs.Shape.{topology}
-use Rattle.lineage_core.specs.Descent.{lists, IsWithin, IsForest}
-use Rattle.lineage_core.specs.Growth.{HasRoom, HasGrown}
-use Rattle.lineage_core.specs.Row.{Row}
+use Rattle.lineage_core.specs.Descent.{lists, IsWithin}
+use Rattle.lineage_core.specs.Growth.{HasRoom}
 use Rattle.lineage_core.proofs.Marking.{length-lists}
 use Rattle.lineage_core.proofs.Once.{room-root}
 use Rattle.lineage_core.proofs.Sound.{shallow-root, grown-whole, sound, all-there, all-once}
