@@ -1,3 +1,4 @@
+//! How deep nodes are, by parent links.
 ghost use Rattle.std.specs.Prelude.{◌≡◌, ℕ, ◌<◌, ◌≤◌, ◌^◌, length, MatchOption, All};
 ghost use Rattle.lineage_core.specs.Descent.{IsForest, AreParents, IsDeep, IsLeast, Leads};
 

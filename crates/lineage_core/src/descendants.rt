@@ -1,3 +1,4 @@
+//! Descendants of nodes, and cycles.
 ghost use Rattle.std.specs.Prelude.{◌≡◌, ℕ, ◌<◌, ◌^◌, length, All, IfOk, OnOk, IsTrue, MatchOption, ◌↔◌};
 ghost use Rattle.lineage_core.specs.Descent.{lists, IsBelow, AreInRange, IsLeast};
 ghost use Rattle.lineage_core.specs.Marks.{MarksMore, MarksBelow, is_marked};
@@ -18,7 +19,7 @@ fn mark_all(nodes: &[u32], marks: &mut [bool], work: &mut Vec<u32>) -> Result<()
     Ok(())
 }
 
-/// Marks the descendants of a node.
+/// Marks the descendants of a node, with the node itself where it lies on a cycle. The error is want of memory.
 pub fn below(alloc: Global, graph: &[Vec<u32>], node: u32) -> Result<Vec<bool>, AllocError>
     requires within { node < length graph.now }
     requires in_range { AreInRange (lists graph.now) }
@@ -38,7 +39,7 @@ pub fn below(alloc: Global, graph: &[Vec<u32>], node: u32) -> Result<Vec<bool>, 
     Ok(marks)
 }
 
-/// The first node that is its own descendant.
+/// The first node that is its own descendant. The error is want of memory.
 pub fn first_on_cycle(alloc: Global, graph: &[Vec<u32>]) -> Result<Option<u32>, AllocError>
     requires in_range { AreInRange (lists graph.now) }
     requires small { length graph.now < 2 ^ 32 }

@@ -1,3 +1,4 @@
+//! A tree that grows node by node, in preorder.
 ghost use Rattle.std.specs.Prelude.{◌≡◌, ◌<◌, ◌^◌, map, length, IfOk, OnOk};
 ghost use Rattle.tree_defs.specs.Tree.{trees_of};
 ghost use Rattle.tree_core.specs.Shape.{topology};

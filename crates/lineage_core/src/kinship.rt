@@ -1,9 +1,10 @@
+//! Parents from the lists of children.
 ghost use Rattle.std.specs.Prelude.{◌≡◌, ℕ, ◌<◌, ◌^◌, length, All, IfOk};
 ghost use Rattle.lineage_core.specs.Descent.{lists, AreInRange, AreParents, ArePointed};
 
 use std::alloc::{AllocError, Global};
 
-/// For each node a node that lists it as a child, and node 0 where none does.
+/// For each node a node that lists it as a child, and node 0 where none does. The error is want of memory.
 pub fn parents(alloc: Global, graph: &[Vec<u32>]) -> Result<Vec<u32>, AllocError>
     requires in_range { AreInRange (lists graph.now) }
     requires small { length graph.now < 2 ^ 32 }

@@ -1,3 +1,4 @@
+//! A node of a tree as it is kept.
 ghost use Rattle.std.specs.Prelude.{◌≡◌, []};
 ghost use Rattle.lineage_core.specs.Row.{Row, row};
 

@@ -1,3 +1,4 @@
+//! The tree of a graph below its root, its nodes numbered in preorder.
 ghost use Rattle.std.specs.Prelude.{◌≡◌, ℕ, ◌<◌, ◌≤◌, ◌++◌, ◌∷◌, [], ◌^◌, ◌↔◌, length, slice_index, IfOk, IsTrue};
 ghost use Rattle.tree_defs.specs.Tree.{depth as levels, LeadsToLeaf};
 ghost use Rattle.tree_defs.specs.Topology.{IsBranched};
@@ -34,7 +35,7 @@ impl Model for Preorder {
 }
 
 impl Preorder {
-    /// The tree of a graph below its root, with the children in the order of the lists.
+    /// The tree of a graph below its root, with the children in the order of the lists. The error is want of memory.
     pub fn new(alloc: Global, graph: &[Vec<u32>], root: u32) -> Result<Preorder, AllocError>
         requires forest { IsForest (lists graph.now) root }
         requires shallow { (a : ℕ) → a < length graph.now → ¬ IsDeep (lists graph.now) root a }
@@ -49,6 +50,7 @@ impl Preorder {
         Ok(Preorder { places, topo })
     }
 
+    /// The shape of the tree.
     pub fn topo(&self) -> &Topo
         ensures topology { topology result.now ≡ self.now.topology }
         ensures branched { IsBranched self.now.topology }
@@ -79,6 +81,7 @@ impl Preorder {
         self.places[number as usize].node()
     }
 
+    /// The digits on the way from the root to a node.
     pub fn address(&self, number: u32) -> &[u32]
         requires there { number < length self.now.rows }
         ensures address { result.now ≡ (row_at self.now.rows number).address }
@@ -86,6 +89,7 @@ impl Preorder {
         self.places[number as usize].address()
     }
 
+    /// Whether a node has no children.
     pub fn is_leaf(&self, number: u32) -> bool
         requires there { number < length self.now.rows }
         ensures childless { IsTrue result ↔ ((row_at self.now.rows number).children ≡ []) }
