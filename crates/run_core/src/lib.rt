@@ -1,0 +1,2 @@
+//! Events made by a scheduler, each with its line of a report.
+#![tactic(auto)]
