@@ -1,0 +1,80 @@
+-- Events in a row, joined, with their lines.
+use Rattle.std.proofs.Common.{◌≡◌, ℕ, ◌+◌, ◌-◌, ◌<◌, ◌≤◌, zero, suc, Option, None, Some, List, [], ◌∷◌, ◌++◌, length, map, take, drop, get_or, replicate, drop-cons, refl, sym, ap, ◌∙◌, subst, arith, append_assoc, append-nil}
+use Rattle.std.proofs.lemmas.Grind.{replicate_next}
+use Rattle.std.proofs.lemmas.List.{length-map, length-take-le, take_more, map-append, take-append-drop, length-replicate, replicate-append-replicate}
+use Rattle.outside_core.specs.Written.{Appended}
+use Rattle.outside_core.proofs.WrittenLaws.{appended_in_turn}
+use Rattle.report_defs.specs.Text.{IsCut, IsFront, appended}
+use Rattle.report_core.proofs.TextLaws.{IsCut-append, IsCut-longer}
+use Rattle.packet_defs.specs.declared.packet.Packet.{Packet}
+use Rattle.policy_defs.specs.Policy.{Policy}
+use Rattle.schedule_defs.specs.SourceState.{SourceState, departed}
+use Rattle.schedule_defs.specs.Events.{Event, Arrive, Depart, Outcome, CanArrive, CanMake, step, after, outcome, outcomes, arrivals_in, departures_in}
+use Rattle.schedule_defs.specs.Report.{outcome_line, lines_from}
+use Rattle.schedule_defs.proofs.Runs.{after-append, outcomes-append, arrivals_in-append, departures_in-append, CanMake-front, CanMake-back}
+use Rattle.sched_core.specs.declared.scheduler.Scheduler.{Ghosts}
+use Rattle.run_core.specs.Played.{told, Plays, StopsIn}
+
+pub length-outcomes : (policy : Policy) (es : List Event) (s : SourceState) → length (outcomes policy es s) ≡ length es
+length-outcomes policy [] s = refl
+length-outcomes policy (e ∷ es) s = ap (λ n. suc n) (length-outcomes policy es (step policy e s))
+
+pub lines_from-append : (policy : Policy) (event : ℕ) (os ps : List Outcome) → lines_from policy event (os ++ ps) ≡ lines_from policy event os ++ lines_from policy (event + length os) ps
+lines_from-append policy event [] ps = let e : event + 0 ≡ event = omega arith in ap (λ n. lines_from policy n ps) (sym e)
+lines_from-append policy event (o ∷ os) ps =
+    let e : (event + 1) + length os ≡ event + length (o ∷ os) = omega arith in
+    ap (λ ls. outcome_line policy event o ++ ls) (lines_from-append policy (event + 1) os ps ∙ ap (λ n. lines_from policy (event + 1) os ++ lines_from policy n ps) e)
+    ∙ sym (append_assoc (outcome_line policy event o) (lines_from policy (event + 1) os) (lines_from policy (event + length (o ∷ os)) ps))
+
+-- the text of events in a row
+pub told-append : (policy : Policy) (event : ℕ) (es fs : List Event) (s : SourceState) → told policy event (es ++ fs) s ≡ told policy event es s ++ told policy (event + length es) fs (after policy es s)
+told-append policy event es fs s =
+    ap (lines_from policy event) (outcomes-append policy es fs s) ∙ lines_from-append policy event (outcomes policy es s) (outcomes policy fs (after policy es s))
+    ∙ ap (λ n. lines_from policy event (outcomes policy es s) ++ lines_from policy (event + n) (outcomes policy fs (after policy es s))) (length-outcomes policy es s)
+
+pub told-one : (policy : Policy) (event : ℕ) (e : Event) (s : SourceState) → told policy event (e ∷ []) s ≡ outcome_line policy event (outcome policy e s)
+told-one policy event e s = append-nil (outcome_line policy event (outcome policy e s))
+
+-- what is written is a first part of the text, and of all that follows it
+pub cut_unwritten : (written : Option (List ℕ)) (unwritten more : List ℕ) → IsCut (appended written unwritten) more written
+cut_unwritten None unwritten more = tt
+cut_unwritten (Some w) unwritten more = record { rest = unwritten ++ more; joined = append_assoc w unwritten more }
+
+module _ {C U : Type 0} (S : Ghosts C U) (policy : Policy) where
+  pub plays_none : (event : ℕ) (s : SourceState) (c : C) (u : U) (before : Option (List ℕ)) → S.stands c u s → Appended before before [] → Plays S policy event [] s c c u before before
+  plays_none event s c u before stood same = record { state = stood; arrived = omega arith; departed = omega arith; lines = same }
+
+  pub plays_both : (event : ℕ) (es fs : List Event) (s : SourceState) (c c' c'' : C) (u' u'' : U) (before mid text : Option (List ℕ)) →
+      Plays S policy event es s c c' u' before mid → Plays S policy (event + length es) fs (after policy es s) c' c'' u'' mid text →
+      Plays S policy event (es ++ fs) s c c'' u'' before text
+  plays_both event es fs s c c' c'' u' u'' before mid text first second = record {
+    state = rw (after-append policy es fs s) second.state;
+    arrived = omega (arith, first.arrived, second.arrived, arrivals_in-append es fs);
+    departed = omega (arith, first.departed, second.departed, departures_in-append es fs);
+    lines = rw (told-append policy event es fs s) (appended_in_turn before mid text _ _ first.lines second.lines);
+  }
+
+  pub stops_first : (event : ℕ) (es fs : List Event) (s : SourceState) (c c' : C) (u' : U) (before written : Option (List ℕ)) →
+      StopsIn S policy event es s c c' u' before written → StopsIn S policy event (es ++ fs) s c c' u' before written
+  stops_first event es fs s c c' u' before written stop = record {
+    made = stop.made;
+    unmade = stop.unmade ++ fs;
+    whole = sym (append_assoc stop.made stop.unmade fs) ∙ ap (λ l. l ++ fs) stop.whole;
+    state = stop.state;
+    arrived = stop.arrived;
+    departed = stop.departed;
+    lines = rw (told-append policy event es fs s) (IsCut-longer before written _ _ stop.lines);
+  }
+
+  pub stops_second : (event : ℕ) (es fs : List Event) (s : SourceState) (c c' c'' : C) (u' u'' : U) (before mid written : Option (List ℕ)) →
+      Plays S policy event es s c c' u' before mid → StopsIn S policy (event + length es) fs (after policy es s) c' c'' u'' mid written →
+      StopsIn S policy event (es ++ fs) s c c'' u'' before written
+  stops_second event es fs s c c' c'' u' u'' before mid written first stop = record {
+    made = es ++ stop.made;
+    unmade = stop.unmade;
+    whole = append_assoc es stop.made stop.unmade ∙ ap (λ l. es ++ l) stop.whole;
+    state = rw (after-append policy es stop.made s) stop.state;
+    arrived = omega (arith, first.arrived, stop.arrived, arrivals_in-append es stop.made);
+    departed = omega (arith, first.departed, stop.departed, departures_in-append es stop.made);
+    lines = rw (told-append policy event es fs s) (IsCut-append before mid written _ _ first.lines stop.lines);
+  }
