@@ -12,14 +12,16 @@ use Rattle.policy_defs.specs.Accepted.{IsAccepted, max_name}
 use Rattle.policy_defs.specs.Numbers.{number_at, number_below}
 use Rattle.schedule_defs.specs.SourceState.{SourceState, Leaver, class_of, arrival_ranks, leaver}
 use Rattle.schedule_defs.specs.Sound.{IsSound}
-use Rattle.schedule_defs.specs.Events.{Depart, CanArrive, outcome}
+use Rattle.schedule_defs.specs.Events.{Arrive, Depart, CanArrive, outcome}
 use Rattle.schedule_defs.specs.Report.{name_at, outcome_line}
 use Rattle.schedule_defs.specs.Laws.{ArrivesAtALeaf, LeavesItsLeaf}
 use Rattle.schedule_defs.proofs.Leaving.{arrives_at_a_leaf, leaves_its_leaf}
 use Rattle.schedule_defs.proofs.Soundness.{class_is_ready}
-use Rattle.report_defs.specs.Report.{departure_line}
+use Rattle.report_defs.specs.Report.{arrival_line, departure_line}
 use Rattle.sched_core.specs.Departures.{departed_packet, IsTaken}
 use Rattle.tree_core.specs.Paths.{Way}
+use Rattle.run_core.specs.Played.{told}
+use Rattle.run_core.proofs.Runs.{told-one}
 
 module _ {Q : Type 0} where
   mutual
@@ -143,3 +145,11 @@ arrival_few policy p s accepted sound can =
     let c = (arrives_at_a_leaf policy p s accepted sound can).ranks.count in
     let k = (arrives policy p s accepted can).few in
     omega arith
+
+-- the lines of a packet that arrived
+pub lines_arrived : (policy : Policy) (p : Packet) (s : SourceState) (event : ℕ) (name ranks : List ℕ) → name ≡ name_at policy (class_of policy p).leaf → ranks ≡ arrival_ranks policy p s
+    → arrival_line event p.number name ranks ≡ told policy event (Arrive p ∷ []) s
+lines_arrived policy p s event name ranks n r =
+    ap (λ (z : List ℕ). arrival_line event p.number z ranks) n
+    ∙ ap (λ (z : List ℕ). arrival_line event p.number (name_at policy (class_of policy p).leaf) z) r
+    ∙ sym (told-one policy event (Arrive p) s)

@@ -78,3 +78,93 @@ module _ {C U : Type 0} (S : Ghosts C U) (policy : Policy) where
     departed = omega (arith, first.departed, stop.departed, departures_in-append es stop.made);
     lines = rw (told-append policy event es fs s) (IsCut-append before mid written _ _ first.lines stop.lines);
   }
+
+-- ---- departures in a row
+module _ {C U : Type 0} (S : Ghosts C U) (policy : Policy) where
+  -- one more departure, with its line
+  pub depart_next : {event : ℕ} (n : ℕ) {s : SourceState} {c c' c'' : C} {u' u'' : U} {before mid text : Option (List ℕ)} →
+      Plays S policy event (replicate n Depart) s c c' u' before mid →
+      S.stands c'' u'' (departed policy (after policy (replicate n Depart) s)) → S.arrivals c'' ≡ S.arrivals c' → S.departures c'' ≡ S.departures c' + 1 →
+      Appended mid text (outcome_line policy (event + n) (outcome policy Depart (after policy (replicate n Depart) s))) →
+      Plays S policy event (replicate (n + 1) Depart) s c c'' u'' before text
+  depart_next {event = event} n {s = s} {c = c} {c' = c'} {c'' = c''} {u' = u'} {u'' = u''} {before = before} {mid = mid} {text = text} first state arrived departed line =
+      rw (replicate_next n Depart) (plays_both S policy event (replicate n Depart) (Depart ∷ []) s c c' c'' u' u'' before mid text first record {
+        state = state;
+        arrived = omega (arith, arrived);
+        departed = departed;
+        lines = rw (length-replicate n Depart) (subst (Appended mid text) (sym (told-one policy (event + n) Depart (after policy (replicate n Depart) s))) line);
+      })
+
+  -- one more departure, whose line was cut
+  pub depart_cut : {event : ℕ} (n count : ℕ) → n < count → {s : SourceState} {c c' c'' : C} {u' u'' : U} {before mid written : Option (List ℕ)} →
+      Plays S policy event (replicate n Depart) s c c' u' before mid →
+      S.stands c'' u'' (departed policy (after policy (replicate n Depart) s)) → S.arrivals c'' ≡ S.arrivals c' → S.departures c'' ≡ S.departures c' + 1 →
+      IsCut mid (outcome_line policy (event + n) (outcome policy Depart (after policy (replicate n Depart) s))) written →
+      StopsIn S policy event (replicate count Depart) s c c'' u'' before written
+  depart_cut {event = event} n count below {s = s} {c = c} {c' = c'} {c'' = c''} {u' = u'} {u'' = u''} {before = before} {mid = mid} {written = written} first state arrived departed cut =
+      let rest : List Event = replicate (count - n - 1) Depart in
+      let whole : replicate n Depart ++ (Depart ∷ rest) ≡ replicate count Depart =
+      replicate-append-replicate n (suc (count - n - 1)) Depart ∙ ap (λ m. replicate m Depart) (omega arith) in
+      let one : StopsIn S policy (event + length (replicate n Depart)) (Depart ∷ []) (after policy (replicate n Depart) s) c' c'' u'' mid written = record {
+        made = Depart ∷ [];
+        unmade = [];
+        whole = refl;
+        state = state;
+        arrived = omega (arith, arrived);
+        departed = departed;
+        lines = rw (length-replicate n Depart) (subst (λ (l : List ℕ). IsCut mid l written) (sym (told-one policy (event + n) Depart (after policy (replicate n Depart) s))) cut);
+      } in
+      let more : StopsIn S policy (event + length (replicate n Depart)) (Depart ∷ rest) (after policy (replicate n Depart) s) c' c'' u'' mid written =
+      stops_first S policy (event + length (replicate n Depart)) (Depart ∷ []) rest (after policy (replicate n Depart) s) c' c'' u'' mid written one in
+      subst (λ (es : List Event). StopsIn S policy event es s c c'' u'' before written) whole
+      (stops_second S policy event (replicate n Depart) (Depart ∷ rest) s c c' c'' u' u'' before mid written first more)
+
+-- ---- arrivals in a row
+-- the arrivals so far, and the next
+pub map-take-more : (ps : List Packet) (i : ℕ) (d : Packet) → i < length ps → map Arrive (take (i + 1) ps) ≡ map Arrive (take i ps) ++ Arrive (get_or ps i d) ∷ []
+map-take-more ps i d below = ap (map Arrive) (take_more ps i d below) ∙ map-append Arrive (take i ps) (get_or ps i d ∷ [])
+
+-- all arrivals: those so far, and those to come
+pub map-split : (ps : List Packet) (i : ℕ) → map Arrive (take i ps) ++ map Arrive (drop i ps) ≡ map Arrive ps
+map-split ps i = sym (map-append Arrive (take i ps) (drop i ps)) ∙ ap (map Arrive) (take-append-drop i ps)
+
+-- the next, and those behind it
+pub map-drop-cons : (ps : List Packet) (i : ℕ) (d : Packet) → i < length ps → map Arrive (drop i ps) ≡ Arrive (get_or ps i d) ∷ map Arrive (drop (suc i) ps)
+map-drop-cons ps i d below = ap (map Arrive) (drop-cons ps i d below)
+
+pub length-map-take : (ps : List Packet) (i : ℕ) → i < length ps → length (map Arrive (take i ps)) ≡ i
+length-map-take ps i below = length-map (take i ps) Arrive ∙ length-take-le i ps (omega arith)
+
+-- the next packet can arrive after those before it
+pub record CanNext (policy : Policy) (ps : List Packet) (i : ℕ) (p : Packet) (s : SourceState) : Type 0 where
+  pub front : CanMake policy (map Arrive (take i ps)) s
+  pub next : CanArrive policy (after policy (map Arrive (take i ps)) s) p
+
+pub can_next : (policy : Policy) (ps : List Packet) (i : ℕ) (d : Packet) (s : SourceState) → i < length ps → CanMake policy (map Arrive ps) s → CanNext policy ps i (get_or ps i d) s
+can_next policy ps i d s below can =
+    let split : CanMake policy (map Arrive (take i ps) ++ map Arrive (drop i ps)) s = subst (λ (es : List Event). CanMake policy es s) (sym (map-split ps i)) can in
+    let back : CanMake policy (Arrive (get_or ps i d) ∷ map Arrive (drop (suc i) ps)) (after policy (map Arrive (take i ps)) s) =
+    subst (λ (es : List Event). CanMake policy es (after policy (map Arrive (take i ps)) s)) (map-drop-cons ps i d below) (CanMake-back policy (map Arrive (take i ps)) (map Arrive (drop i ps)) s split) in
+    record { front = CanMake-front policy (map Arrive (take i ps)) (map Arrive (drop i ps)) s split; next = back.0 }
+
+module _ {C U : Type 0} (S : Ghosts C U) (policy : Policy) where
+  -- one more arrival, with its line
+  pub arrive_next : {event : ℕ} (ps : List Packet) (i : ℕ) (d : Packet) → i < length ps → {s : SourceState} {c c' c'' : C} {u' u'' : U} {before mid text : Option (List ℕ)} →
+      Plays S policy event (map Arrive (take i ps)) s c c' u' before mid →
+      Plays S policy (event + i) (Arrive (get_or ps i d) ∷ []) (after policy (map Arrive (take i ps)) s) c' c'' u'' mid text →
+      Plays S policy event (map Arrive (take (i + 1) ps)) s c c'' u'' before text
+  arrive_next {event = event} ps i d below {s = s} {c = c} {c' = c'} {c'' = c''} {u' = u'} {u'' = u''} {before = before} {mid = mid} {text = text} first second =
+      rw (map-take-more ps i d below) (plays_both S policy event (map Arrive (take i ps)) (Arrive (get_or ps i d) ∷ []) s c c' c'' u' u'' before mid text first (rw (length-map-take ps i below) second))
+
+  -- one more arrival, which stopped
+  pub arrive_stop : {event : ℕ} (ps : List Packet) (i : ℕ) (d : Packet) → i < length ps → {s : SourceState} {c c' c'' : C} {u' u'' : U} {before mid written : Option (List ℕ)} →
+      Plays S policy event (map Arrive (take i ps)) s c c' u' before mid →
+      StopsIn S policy (event + i) (Arrive (get_or ps i d) ∷ []) (after policy (map Arrive (take i ps)) s) c' c'' u'' mid written →
+      StopsIn S policy event (map Arrive ps) s c c'' u'' before written
+  arrive_stop {event = event} ps i d below {s = s} {c = c} {c' = c'} {c'' = c''} {u' = u'} {u'' = u''} {before = before} {mid = mid} {written = written} first stop =
+      let stopped : StopsIn S policy event (map Arrive (take i ps) ++ (Arrive (get_or ps i d) ∷ [])) s c c'' u'' before written =
+      stops_second S policy event (map Arrive (take i ps)) (Arrive (get_or ps i d) ∷ []) s c c' c'' u' u'' before mid written first (rw (length-map-take ps i below) stop) in
+      let whole : (map Arrive (take i ps) ++ (Arrive (get_or ps i d) ∷ [])) ++ map Arrive (drop (suc i) ps) ≡ map Arrive ps =
+      append_assoc (map Arrive (take i ps)) (Arrive (get_or ps i d) ∷ []) (map Arrive (drop (suc i) ps)) ∙ ap (λ (es : List Event). map Arrive (take i ps) ++ es) (sym (map-drop-cons ps i d below)) ∙ map-split ps i in
+      subst (λ (es : List Event). StopsIn S policy event es s c c'' u'' before written) whole
+      (stops_first S policy event (map Arrive (take i ps) ++ (Arrive (get_or ps i d) ∷ [])) (map Arrive (drop (suc i) ps)) s c c'' u'' before written stopped)
