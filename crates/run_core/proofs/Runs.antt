@@ -13,6 +13,7 @@ use Rattle.schedule_defs.specs.Events.{Event, Arrive, Depart, Outcome, CanArrive
 use Rattle.schedule_defs.specs.Report.{outcome_line, lines_from}
 use Rattle.schedule_defs.proofs.Runs.{after-append, outcomes-append, arrivals_in-append, departures_in-append, CanMake-front, CanMake-back}
 use Rattle.sched_core.specs.declared.scheduler.Scheduler.{Ghosts}
+use Rattle.sched_core.specs.Standing.{ForEachState}
 use Rattle.run_core.specs.Played.{told, Plays, StopsIn}
 
 pub length-outcomes : (policy : Policy) (es : List Event) (s : SourceState) → length (outcomes policy es s) ≡ length es
@@ -168,3 +169,8 @@ module _ {C U : Type 0} (S : Ghosts C U) (policy : Policy) where
       append_assoc (map Arrive (take i ps)) (Arrive (get_or ps i d) ∷ []) (map Arrive (drop (suc i) ps)) ∙ ap (λ (es : List Event). map Arrive (take i ps) ++ es) (sym (map-drop-cons ps i d below)) ∙ map-split ps i in
       subst (λ (es : List Event). StopsIn S policy event es s c c'' u'' before written) whole
       (stops_first S policy event (map Arrive (take i ps) ++ (Arrive (get_or ps i d) ∷ [])) (map Arrive (drop (suc i) ps)) s c c'' u'' before written stopped)
+
+-- ---- the same policy, said of the scheduler as it now is
+module _ {C U : Type 0} (S : Ghosts C U) where
+  pub each_state : {policy q : Policy} (P : Policy → SourceState → Type 0) {c : C} {u : U} → q ≡ policy → ForEachState S.stands q c u (P q) → ForEachState S.stands policy c u (P policy)
+  each_state P {c = c} {u = u} same h = subst (λ (z : Policy). ForEachState S.stands z c u (P z)) same h
