@@ -121,6 +121,10 @@ module _ {C U : Type 0} (S : Ghosts C U) (policy : Policy) where
       (stops_second S policy event (replicate n Depart) (Depart ∷ rest) s c c' c'' u' u'' before mid written first more)
 
 -- ---- arrivals in a row
+-- stands for a packet past the last, which no list has
+abbrev pub no_packet : Packet
+no_packet = record { number = 0; class = 0; len = 0; moment = 0; flow = record { version = 0; source = 0; target = 0; proto = 0; sport = 0; dport = 0 } }
+
 -- the arrivals so far, and the next
 pub map-take-more : (ps : List Packet) (i : ℕ) (d : Packet) → i < length ps → map Arrive (take (i + 1) ps) ≡ map Arrive (take i ps) ++ Arrive (get_or ps i d) ∷ []
 map-take-more ps i d below = ap (map Arrive) (take_more ps i d below) ∙ map-append Arrive (take i ps) (get_or ps i d ∷ [])
