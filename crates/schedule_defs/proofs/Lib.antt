@@ -6,3 +6,4 @@ pub mod Counts
 pub mod Soundness
 pub mod Runs
 pub mod Leaving
+pub mod Courses

@@ -1,5 +1,5 @@
 -- What follows from the definitions of states and events.
-use Rattle.std.specs.Prelude.{◌≡◌, ◌≤◌, ◌↔◌, ℕ, ◌+◌, ◌-◌, nat_eq, IsSome, None, Some, List, ◌++◌, length, replicate}
+use Rattle.std.specs.Prelude.{◌≡◌, ◌≤◌, ◌↔◌, ℕ, ◌+◌, ◌-◌, nat_eq, IsSome, Option, None, Some, List, ◌++◌, length, replicate}
 use Rattle.std.specs.List.{AllByRecursion, IsDistinct, Contains}
 use Rattle.tree_defs.specs.Tree.{LeadsToLeaf}
 use Rattle.tree_defs.specs.SourceTree.{size}
@@ -9,7 +9,10 @@ use Rattle.policy_defs.specs.Policy.{Policy}
 use Rattle.policy_defs.specs.Accepted.{IsAccepted}
 use Rattle.schedule_defs.specs.SourceState.{Held, SourceState, Leaver, start, class_of, arrival_ranks, arrived, departed, leaver}
 use Rattle.schedule_defs.specs.Sound.{IsSound}
-use Rattle.schedule_defs.specs.Events.{Event, Depart, after, outcomes, CanArrive, CanMake}
+use Rattle.schedule_defs.specs.Events.{Event, Depart, after, outcomes, arrivals_in, departures_in, CanArrive, CanMake}
+use Rattle.schedule_defs.specs.Script.{Step, course}
+use Rattle.schedule_defs.specs.Numbered.{CanBeSent, departures_asked}
+use Rattle.capture_defs.specs.Fault.{Fault}
 
 -- ---- sound states
 abbrev pub StartIsSound : Type 0
@@ -77,3 +80,20 @@ pub record EventsJoin : Type 0 where
 -- departures can always be made
 abbrev pub DeparturesCanBeMade : Type 0
 DeparturesCanBeMade = (policy : Policy) (n : ℕ) (s : SourceState) → CanMake policy (replicate n Depart) s
+
+-- ---- scripts
+-- the events of a script over packets in the order of a capture can be made
+abbrev pub CoursesCanBeMade : Type 0
+CoursesCanBeMade =
+    (policy : Policy) (steps : List Step) (packets : List Packet) (fault : Option Fault) (first event : ℕ) (s : SourceState) → CanBeSent policy first packets s
+    → CanMake policy (course policy steps packets fault s event).events s
+
+-- no more packets arrive than there are, and none leaves by `drain` that wasn't held or didn't arrive
+pub record IsCourseShort (policy : Policy) (steps : List Step) (packets : List Packet) (s : SourceState) (events : List Event) : Type 0 where
+  pub arrivals : arrivals_in events ≤ length packets
+  pub departures : departures_in events ≤ departures_asked steps + size s.tree + arrivals_in events
+
+abbrev pub CoursesAreShort : Type 0
+CoursesAreShort =
+    (policy : Policy) (steps : List Step) (packets : List Packet) (fault : Option Fault) (first event : ℕ) (s : SourceState) → IsAccepted policy → IsSound policy s → CanBeSent policy first packets s
+    → IsCourseShort policy steps packets s (course policy steps packets fault s event).events

@@ -2,7 +2,8 @@ pub mod Visits
 pub mod SourceState
 pub mod Sound
 pub mod Events
-pub mod Laws
 pub mod Script
+pub mod Numbered
+pub mod Laws
 pub mod Report
 pub mod Rows

@@ -1,5 +1,5 @@
 //! Laws of states and events.
-ghost use Rattle.schedule_defs.specs.Laws.{StartIsSound, ArrivalsKeepSound, DeparturesKeepSound, EventsKeepSound, HeldStandInLeaves, ArrivalsAddOne, DeparturesTakeOne, ArrivalsComeToLeaves, NothingLeavesWhereNothingIsHeld, PacketsLeaveTheirLeaves, EventsJoin, DeparturesCanBeMade};
+ghost use Rattle.schedule_defs.specs.Laws.{StartIsSound, ArrivalsKeepSound, DeparturesKeepSound, EventsKeepSound, HeldStandInLeaves, ArrivalsAddOne, DeparturesTakeOne, ArrivalsComeToLeaves, NothingLeavesWhereNothingIsHeld, PacketsLeaveTheirLeaves, EventsJoin, DeparturesCanBeMade, CoursesCanBeMade};
 
 /// Arrivals and departures keep a state sound, from the start on.
 pub fn events_keep_states_sound()
@@ -27,4 +27,9 @@ pub fn packets_keep_to_their_leaves()
 pub fn events_join()
     ensures joined { EventsJoin }
     ensures departures { DeparturesCanBeMade }
+{}
+
+/// The events of a script can be made over packets in the order of a capture.
+pub fn courses_can_be_made()
+    ensures { CoursesCanBeMade }
 {}

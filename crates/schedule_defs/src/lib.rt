@@ -4,6 +4,6 @@
 mod laws;
 
 pub use laws::{
-    events_join, events_keep_states_sound, held_packets_stand_in_leaves,
+    courses_can_be_made, events_join, events_keep_states_sound, held_packets_stand_in_leaves,
     packets_keep_to_their_leaves,
 };
