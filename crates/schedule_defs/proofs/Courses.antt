@@ -13,7 +13,7 @@ use Rattle.schedule_defs.specs.Events.{Event, Arrive, Depart, after, arrivals_in
 use Rattle.schedule_defs.specs.Script.{Step, Arrivals, Departures, Rest, Drain, Ending, Course, course, step_events, left_by, stop_at, stopped_or, behind}
 use Rattle.schedule_defs.specs.Numbered.{AreNumberedFrom, IsSendable, IsHeldBelow, CanBeSent, departures_asked}
 use Rattle.schedule_defs.specs.Laws.{IsCourseShort}
-use Rattle.schedule_defs.proofs.Soundness.{with_packet-is, without-is}
+use Rattle.schedule_defs.proofs.Soundness.{with_packet-is, without-is, sound_arrived, sound_departed}
 use Rattle.schedule_defs.proofs.Runs.{sound_after, CanMake-departures, CanMake-joined, arrivals_in-append, departures_in-append, arrivals_in-departures, departures_in-departures, arrivals_in-arrivals, departures_in-arrivals}
 use Rattle.schedule_defs.proofs.Leaving.{size_arrived, size_departed}
 
@@ -99,3 +99,75 @@ course_can policy (step ∷ steps) packets fault first event s can =
     stopped_can policy (step_events step packets s) (stop_at step packets fault (event + length (step_events step packets s)))
     (course policy steps (left_by step packets) fault (after policy (step_events step packets s) s) (event + length (step_events step packets s))) s made.can
     (course_can policy steps (left_by step packets) fault made.next (event + length (step_events step packets s)) (after policy (step_events step packets s) s) made.rest)
+
+-- ---- counts
+size_arrivals : (policy : Policy) (packets : List Packet) (s : SourceState) → IsAccepted policy → IsSound policy s → CanMake policy (map Arrive packets) s → size (after policy (map Arrive packets) s).tree ≡ size s.tree + length packets
+size_arrivals policy [] s accepted sound can = omega arith
+size_arrivals policy (p ∷ packets) s accepted sound can =
+    let one = size_arrived policy p s accepted sound can.0 in
+    let more = size_arrivals policy packets (arrived policy p s) accepted (sound_arrived policy p s accepted sound can.0) can.1 in
+    omega arith
+
+size_departures : (policy : Policy) (n : ℕ) (s : SourceState) → IsAccepted policy → IsSound policy s → size (after policy (replicate n Depart) s).tree ≡ size s.tree - n
+size_departures policy zero s accepted sound = omega arith
+size_departures policy (suc n) s accepted sound =
+    let one = size_departed policy s sound in
+    let more = size_departures policy n (departed policy s) accepted (sound_departed policy s accepted sound) in
+    omega arith
+
+length-split : {X : Type 0} (k : ℕ) (xs : List X) → length (take k xs) + length (drop k xs) ≡ length xs
+length-split zero xs = omega arith
+length-split (suc k) [] = omega arith
+length-split (suc k) (x ∷ xs) = let h = length-split k xs in omega arith
+
+-- what a step's events count
+record IsStepShort (policy : Policy) (step : Step) (packets : List Packet) (s : SourceState) : Type 0 where
+  arrivals : arrivals_in (step_events step packets s) + length (left_by step packets) ≤ length packets
+  departures : departures_in (step_events step packets s) + size (after policy (step_events step packets s) s).tree ≤ departures_asked (step ∷ []) + size s.tree + arrivals_in (step_events step packets s)
+
+step_short : (policy : Policy) (step : Step) (packets : List Packet) (s : SourceState) → IsAccepted policy → IsSound policy s → CanMake policy (step_events step packets s) s → IsStepShort policy step packets s
+step_short policy (Arrivals k) packets s accepted sound can =
+    let a = arrivals_in-arrivals (take k packets) in let d = departures_in-arrivals (take k packets) in
+    let l = length-split k packets in let m = size_arrivals policy (take k packets) s accepted sound can in
+    record { arrivals = omega arith; departures = omega arith }
+step_short policy (Departures k) packets s accepted sound can =
+    let a = arrivals_in-departures k in let d = departures_in-departures k in
+    let m = size_departures policy k s accepted sound in
+    record { arrivals = omega arith; departures = omega arith }
+step_short policy Rest packets s accepted sound can =
+    let a = arrivals_in-arrivals packets in let d = departures_in-arrivals packets in
+    let m = size_arrivals policy packets s accepted sound can in
+    record { arrivals = omega arith; departures = omega arith }
+step_short policy Drain packets s accepted sound can =
+    let a = arrivals_in-departures (size s.tree) in let d = departures_in-departures (size s.tree) in
+    let m = size_departures policy (size s.tree) s accepted sound in
+    record { arrivals = omega arith; departures = omega arith }
+
+asked_more : (step : Step) (steps : List Step) → departures_asked (step ∷ steps) ≡ departures_asked (step ∷ []) + departures_asked steps
+asked_more (Arrivals k) steps = omega arith
+asked_more (Departures k) steps = omega arith
+asked_more Rest steps = omega arith
+asked_more Drain steps = omega arith
+
+stopped_short : (policy : Policy) (step : Step) (steps : List Step) (packets : List Packet) (s : SourceState) (ending : Option Ending) (c : Course) → IsStepShort policy step packets s
+    → IsCourseShort policy steps (left_by step packets) (after policy (step_events step packets s) s) c.events → IsCourseShort policy (step ∷ steps) packets s (stopped_or (step_events step packets s) ending c).events
+stopped_short policy step steps packets s (Some e) c here rest =
+    let a = here.arrivals in let d = here.departures in let m = asked_more step steps in
+    record { arrivals = omega arith; departures = omega arith }
+stopped_short policy step steps packets s None c here rest =
+    let a = here.arrivals in let d = here.departures in let m = asked_more step steps in
+    let b = rest.arrivals in let f = rest.departures in
+    let x = arrivals_in-append (step_events step packets s) c.events in
+    let y = departures_in-append (step_events step packets s) c.events in
+    record { arrivals = omega arith; departures = omega arith }
+
+pub course_short : (policy : Policy) (steps : List Step) (packets : List Packet) (fault : Option Fault) (first event : ℕ) (s : SourceState) → IsAccepted policy → IsSound policy s → CanBeSent policy first packets s
+    → IsCourseShort policy steps packets s (course policy steps packets fault s event).events
+course_short policy [] packets fault first event s accepted sound can = record { arrivals = omega arith; departures = omega arith }
+course_short policy (step ∷ steps) packets fault first event s accepted sound can =
+    let made : IsStepMade policy step first packets s = step_made policy step first packets s can in
+    stopped_short policy step steps packets s (stop_at step packets fault (event + length (step_events step packets s)))
+    (course policy steps (left_by step packets) fault (after policy (step_events step packets s) s) (event + length (step_events step packets s)))
+    (step_short policy step packets s accepted sound made.can)
+    (course_short policy steps (left_by step packets) fault made.next (event + length (step_events step packets s)) (after policy (step_events step packets s) s) accepted
+    (sound_after policy (step_events step packets s) s accepted sound made.can) made.rest)

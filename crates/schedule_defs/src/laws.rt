@@ -1,5 +1,5 @@
 //! Laws of states and events.
-ghost use Rattle.schedule_defs.specs.Laws.{StartIsSound, ArrivalsKeepSound, DeparturesKeepSound, EventsKeepSound, HeldStandInLeaves, ArrivalsAddOne, DeparturesTakeOne, ArrivalsComeToLeaves, NothingLeavesWhereNothingIsHeld, PacketsLeaveTheirLeaves, EventsJoin, DeparturesCanBeMade, CoursesCanBeMade};
+ghost use Rattle.schedule_defs.specs.Laws.{StartIsSound, ArrivalsKeepSound, DeparturesKeepSound, EventsKeepSound, HeldStandInLeaves, ArrivalsAddOne, DeparturesTakeOne, ArrivalsComeToLeaves, NothingLeavesWhereNothingIsHeld, PacketsLeaveTheirLeaves, EventsJoin, DeparturesCanBeMade, CoursesCanBeMade, CoursesAreShort};
 
 /// Arrivals and departures keep a state sound, from the start on.
 pub fn events_keep_states_sound()
@@ -29,7 +29,9 @@ pub fn events_join()
     ensures departures { DeparturesCanBeMade }
 {}
 
-/// The events of a script can be made over packets in the order of a capture.
+/// The events of a script can be made over packets in the order of a capture, and are at most those that it asks for and
+/// two for each packet.
 pub fn courses_can_be_made()
-    ensures { CoursesCanBeMade }
+    ensures made { CoursesCanBeMade }
+    ensures short { CoursesAreShort }
 {}
