@@ -1,20 +1,20 @@
 -- The numbers and names of leaves.
 use Rattle.std.proofs.Common.{◌≡◌, ◌≤◌, ◌<◌, ℕ, zero, suc, ◌+◌, List, [], ◌∷◌, length, Option, Some, None, IfSome, option_map, refl, sym, ap, ◌∙◌, subst, arith}
 use Rattle.std.specs.Option.{option_map_or}
-use Rattle.tree_defs.specs.Tree.{Tree, leaf, inner, Trees, none, more, Address, subtree, subtree_in, IsAddressOf, LeadsToLeaf, LeadsBelow, SameShape, nodes, nodes_below, depth, depth_below}
+use Rattle.tree_defs.specs.Tree.{Tree, leaf, inner, Trees, none, more, Address, subtree_in, IsAddressOf, LeadsToLeaf, LeadsBelow, SameShape, nodes, nodes_below, depth, depth_below}
 use Rattle.tree_defs.specs.Topology.{Topology, topology_of}
 use Rattle.tree_defs.proofs.Shapes.{topology_of-same, LeadsToLeaf-topology}
 use Rattle.tree_defs.proofs.Options.{option_map-some}
 use Rattle.packet_defs.specs.declared.packet.Packet.{Packet}
 use Rattle.packet_defs.specs.declared.packet.Departed.{Departed}
 use Rattle.policy_defs.specs.Policy.{Policy, Node, node_at}
-use Rattle.policy_defs.specs.Accepted.{IsAccepted, max_name}
+use Rattle.policy_defs.specs.Accepted.{IsAccepted}
 use Rattle.policy_defs.specs.Numbers.{number_at, number_below}
 use Rattle.schedule_defs.specs.SourceState.{SourceState, Leaver, class_of, arrival_ranks, leaver}
 use Rattle.schedule_defs.specs.Sound.{IsSound}
 use Rattle.schedule_defs.specs.Events.{Arrive, Depart, CanArrive, outcome}
 use Rattle.schedule_defs.specs.Report.{name_at, outcome_line}
-use Rattle.schedule_defs.specs.Laws.{ArrivesAtALeaf, LeavesItsLeaf}
+use Rattle.schedule_defs.specs.Laws.{LeavesItsLeaf}
 use Rattle.schedule_defs.proofs.Leaving.{arrives_at_a_leaf, leaves_its_leaf}
 use Rattle.schedule_defs.proofs.Soundness.{class_is_ready}
 use Rattle.report_defs.specs.Report.{arrival_line, departure_line}

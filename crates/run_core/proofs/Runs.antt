@@ -1,15 +1,15 @@
 -- Events in a row, joined, with their lines.
-use Rattle.std.proofs.Common.{◌≡◌, ℕ, ◌+◌, ◌-◌, ◌<◌, ◌≤◌, zero, suc, Option, None, Some, List, [], ◌∷◌, ◌++◌, length, map, take, drop, get_or, replicate, drop-cons, refl, sym, ap, ◌∙◌, subst, arith, append_assoc, append-nil}
+use Rattle.std.proofs.Common.{◌≡◌, ℕ, ◌+◌, ◌-◌, ◌<◌, suc, Option, None, Some, List, [], ◌∷◌, ◌++◌, length, map, take, drop, get_or, replicate, drop-cons, refl, sym, ap, ◌∙◌, subst, arith, append_assoc, append-nil}
 use Rattle.std.proofs.lemmas.Grind.{replicate_next}
 use Rattle.std.proofs.lemmas.List.{length-map, length-take-le, take_more, map-append, take-append-drop, length-replicate, replicate-append-replicate}
 use Rattle.outside_core.specs.Written.{Appended}
 use Rattle.outside_core.proofs.WrittenLaws.{appended_in_turn}
-use Rattle.report_defs.specs.Text.{IsCut, IsFront, appended}
+use Rattle.report_defs.specs.Text.{IsCut, appended}
 use Rattle.report_core.proofs.TextLaws.{IsCut-append, IsCut-longer}
 use Rattle.packet_defs.specs.declared.packet.Packet.{Packet}
 use Rattle.policy_defs.specs.Policy.{Policy}
 use Rattle.schedule_defs.specs.SourceState.{SourceState, departed}
-use Rattle.schedule_defs.specs.Events.{Event, Arrive, Depart, Outcome, CanArrive, CanMake, step, after, outcome, outcomes, arrivals_in, departures_in}
+use Rattle.schedule_defs.specs.Events.{Event, Arrive, Depart, Outcome, CanArrive, CanMake, step, after, outcome, outcomes}
 use Rattle.schedule_defs.specs.Report.{outcome_line, lines_from}
 use Rattle.schedule_defs.proofs.Runs.{after-append, outcomes-append, arrivals_in-append, departures_in-append, CanMake-front, CanMake-back}
 use Rattle.sched_core.specs.declared.scheduler.Scheduler.{Ghosts}

@@ -1,5 +1,5 @@
 -- What a scheduler tells of a packet that left.
-use Rattle.std.specs.Prelude.{◌≡◌, List, ℕ}
+use Rattle.std.specs.Prelude.{◌≡◌}
 use Rattle.packet_defs.specs.declared.packet.Departed.{Departed}
 use Rattle.policy_defs.specs.Policy.{Policy}
 use Rattle.policy_defs.specs.Numbers.{number_at}

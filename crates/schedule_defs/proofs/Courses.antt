@@ -1,17 +1,16 @@
 -- The events of a script can be made, and are few.
-use Rattle.std.proofs.Common.{◌≡◌, ◌≢◌, ◌<◌, ◌≤◌, ◌⊎◌, ℕ, zero, suc, ◌+◌, ◌-◌, List, [], ◌∷◌, ◌++◌, map, length, take, drop, replicate, Option, Some, None, refl, sym, ap, ◌∙◌, subst, arith, inl, inr, append-nil}
-use Rattle.std.specs.List.{AllByRecursion}
+use Rattle.std.proofs.Common.{◌≡◌, ◌<◌, ◌≤◌, ℕ, zero, suc, ◌+◌, ◌-◌, List, [], ◌∷◌, map, length, take, drop, replicate, Option, Some, None, refl, ap, ◌∙◌, subst, arith, inl, inr}
 use Rattle.tree_defs.specs.Tree.{Popping}
 use Rattle.tree_defs.specs.SourceTree.{SourceTree, pop, size}
 use Rattle.capture_defs.specs.Fault.{Fault}
 use Rattle.packet_defs.specs.declared.packet.Packet.{Packet}
 use Rattle.policy_defs.specs.Policy.{Policy}
 use Rattle.policy_defs.specs.Accepted.{IsAccepted}
-use Rattle.schedule_defs.specs.SourceState.{Held, SourceState, arrived, departed, left_from, left_with, with_packet, without}
+use Rattle.schedule_defs.specs.SourceState.{Held, SourceState, arrived, departed, left_from, left_with}
 use Rattle.schedule_defs.specs.Sound.{IsSound}
-use Rattle.schedule_defs.specs.Events.{Event, Arrive, Depart, after, arrivals_in, departures_in, CanArrive, CanMake}
-use Rattle.schedule_defs.specs.Script.{Step, Arrivals, Departures, Rest, Drain, Ending, Course, course, step_events, left_by, stop_at, stopped_or, behind}
-use Rattle.schedule_defs.specs.Numbered.{AreNumberedFrom, IsSendable, IsHeldBelow, CanBeSent, departures_asked}
+use Rattle.schedule_defs.specs.Events.{Event, Arrive, Depart, after, arrivals_in, departures_in, CanMake}
+use Rattle.schedule_defs.specs.Script.{Step, Arrivals, Departures, Rest, Drain, Ending, Course, course, step_events, left_by, stop_at, stopped_or}
+use Rattle.schedule_defs.specs.Numbered.{IsHeldBelow, CanBeSent, departures_asked}
 use Rattle.schedule_defs.specs.Laws.{IsCourseShort}
 use Rattle.schedule_defs.proofs.Soundness.{with_packet-is, without-is, sound_arrived, sound_departed}
 use Rattle.schedule_defs.proofs.Runs.{sound_after, CanMake-departures, CanMake-joined, arrivals_in-append, departures_in-append, arrivals_in-departures, departures_in-departures, arrivals_in-arrivals, departures_in-arrivals}
@@ -38,6 +37,7 @@ held_departed policy s n below = by_pop (pop s.tree)
     by_packet : (taken : Popping SourceTree) (o : Option Packet) → IsHeldBelow n (left_with policy s taken o).held
     by_packet taken None = below
     by_packet taken (Some p) = λ m q h. below m q (without-is s.held taken.value m q h).1
+
     by_pop : (o : Option (Popping SourceTree)) → IsHeldBelow n (left_from policy s o).held
     by_pop None = below
     by_pop (Some taken) = by_packet taken (s.held taken.value)
@@ -47,9 +47,10 @@ sent_front : (policy : Policy) (n k : ℕ) (packets : List Packet) (s : SourceSt
 sent_front policy n zero packets s can = tt
 sent_front policy n (suc k) [] s can = tt
 sent_front policy n (suc k) (p ∷ packets) s can =
-    let number = can.numbered.0 in
-    ( record { fresh = ap s.held number ∙ held_none s.held n can.held; known = can.sendable.0.known; moment = can.sendable.0.moment }
-    , sent_front policy (n + 1) k packets (arrived policy p s) (record { numbered = can.numbered.1; sendable = can.sendable.1; held = held_arrived policy p s n number can.held }))
+    let number = can.numbered.0 in (
+      record { fresh = ap s.held number ∙ held_none s.held n can.held; known = can.sendable.0.known; moment = can.sendable.0.moment },
+      sent_front policy (n + 1) k packets (arrived policy p s) (record { numbered = can.numbered.1; sendable = can.sendable.1; held = held_arrived policy p s n number can.held }),
+    )
 
 sent_rest : (policy : Policy) (n k : ℕ) (packets : List Packet) (s : SourceState) → CanBeSent policy n packets s → CanBeSent policy (n + length (take k packets)) (drop k packets) (after policy (map Arrive (take k packets)) s)
 sent_rest policy n zero packets s can = subst (λ (m : ℕ). CanBeSent policy m packets s) (omega arith) can

@@ -6,7 +6,7 @@ use Rattle.packet_defs.specs.declared.packet.Packet.{Packet}
 use Rattle.policy_defs.specs.Policy.{Policy}
 use Rattle.schedule_defs.specs.SourceState.{Held, SourceState}
 use Rattle.schedule_defs.specs.Sound.{IsKnown}
-use Rattle.schedule_defs.specs.Script.{Step, Arrivals, Departures, Rest, Drain}
+use Rattle.schedule_defs.specs.Script.{Step, Departures}
 
 -- numbered in a row, from this number on
 abbrev pub AreNumberedFrom : ℕ → List Packet → Type 0

@@ -1,13 +1,11 @@
-use Rattle.std.proofs.Common.{◌≡◌, ◌<◌, ◌≤◌, List, ℕ, length, sym, subst, ap, ◌∙◌}
+use Rattle.std.proofs.Common.{◌<◌, ◌≤◌, List, ℕ, length, sym, subst, ap, ◌∙◌}
 use Rattle.std.proofs.lemmas.Result.{err_from_is_err_and}
 use Rattle.outside_core.specs.Written.{Appended}
 use Rattle.report_defs.specs.Text.{IsCut}
 use Rattle.report_core.specs.Gathered.{text_of}
 use Rattle.tree_defs.specs.Tree.{nodes}
 use Rattle.policy_defs.specs.Policy.{Policy}
-use Rattle.policy_defs.specs.Numbers.{number_at}
 use Rattle.packet_defs.specs.declared.packet.Departed.{Departed}
-use Rattle.schedule_defs.specs.Report.{name_at}
 use Rattle.run_core.proofs.Leaves.{Left, left, ranks_left, line_left, named_leaf}
 use Rattle.run_core.proofs.lines.depart_line.Goals as goal
 

@@ -1,10 +1,9 @@
-use Rattle.std.proofs.Common.{◌≡◌, ◌≤◌, ◌+◌, ℕ, arith, replicate, sym, subst, ◌∙◌}
+use Rattle.std.proofs.Common.{◌+◌, arith, replicate, sym, subst, ◌∙◌}
 use Rattle.std.proofs.lemmas.Result.{err_from_is_err_and}
 use Rattle.outside_core.specs.Written.{Appended}
 use Rattle.report_defs.specs.Text.{IsCut}
 use Rattle.report_core.specs.Gathered.{text_of}
-use Rattle.report_core.proofs.TextLaws.{Begins-same, Begins-trans}
-use Rattle.tree_defs.specs.Tree.{depth}
+use Rattle.report_core.proofs.TextLaws.{Begins-trans}
 use Rattle.policy_defs.specs.Policy.{Policy}
 use Rattle.policy_defs.specs.Accepted.{IsAccepted}
 use Rattle.schedule_defs.specs.SourceState.{SourceState, departed}
