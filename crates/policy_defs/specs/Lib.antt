@@ -1,1 +1,3 @@
 pub mod Policy
+pub mod Accepted
+pub mod Numbers

@@ -3,5 +3,7 @@ pub mod SourceState
 pub mod Sound
 pub mod Events
 pub mod Script
+pub mod Numbered
+pub mod Laws
 pub mod Report
 pub mod Rows

@@ -1,6 +1,6 @@
 -- The states that events lead to.
-use Rattle.std.specs.Prelude.{◌≡◌, ◌≤◌, ◌<◌, ℕ, Some, List, [], ◌∷◌, length, Contains}
-use Rattle.std.specs.List.{AllByRecursion}
+use Rattle.std.specs.Prelude.{◌≡◌, ◌≤◌, ◌<◌, ℕ, nat_eq, Some, length}
+use Rattle.std.specs.List.{AllByRecursion, IsDistinct, Contains}
 use Rattle.queue_defs.specs.Queue.{Queue}
 use Rattle.tree_defs.specs.Tree.{Tree, leaf, inner, Trees, none, more, Address, SameShape}
 use Rattle.tree_defs.specs.SourceTree.{IsWellFormed}
@@ -10,14 +10,6 @@ use Rattle.rank_defs.specs.Shapes.{IsStateInRange, max_len}
 use Rattle.packet_defs.specs.declared.packet.Packet.{Packet}
 use Rattle.policy_defs.specs.Policy.{Policy, Node, node_at}
 use Rattle.schedule_defs.specs.SourceState.{SourceState, class_of}
-
--- no number stands there twice
-abbrev pub IsFresh : ℕ → List ℕ → Type 0
-IsFresh n numbers = AllByRecursion (λ m. n ≡ m → ⊥) numbers
-
-abbrev pub AreDistinct : List ℕ → Type 0
-AreDistinct [] = Unit {0}
-AreDistinct (n ∷ numbers) = IsFresh n numbers × AreDistinct numbers
 
 -- each rank is at most the greatest
 abbrev pub HasRanks : Queue → Type 0
@@ -43,13 +35,16 @@ pub record IsAtItsLeaf (policy : Policy) (s : SourceState) (at : Placed) : Type 
   pub held : s.held at.1 ≡ Some packet
   pub leaf_is : (class_of policy packet).leaf ≡ at.0
 
+-- The queues have the policy's topology and are well formed; the packets in the leaves are those that are held, each once
+-- and at the leaf of its class; and each rank, each variable and `now` is in range.
 pub record IsSound (policy : Policy) (s : SourceState) : Type 0 where
   pub well_formed : IsWellFormed s.tree
   pub shape : SameShape s.tree policy.tree
-  pub distinct : AreDistinct (values s.tree)
+  pub distinct : IsDistinct nat_eq (values s.tree)
   pub placed : AllByRecursion (IsAtItsLeaf policy s) (packets s.tree)
   pub stands : (n : ℕ) (p : Packet) → s.held n ≡ Some p → Contains (values s.tree) n
   pub known : (n : ℕ) (p : Packet) → s.held n ≡ Some p → IsKnown policy p
+  pub numbered : (n : ℕ) (p : Packet) → s.held n ≡ Some p → p.number ≡ n
   pub states : (a : Address) (n : Node) → node_at policy.tree a ≡ Some n → IsStateInRange n.program (s.nodes a)
   pub ranks : HasLowRanks s.tree
   pub now : s.now ≤ max_rank

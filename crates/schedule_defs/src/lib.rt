@@ -1,2 +1,9 @@
 //! What a policy's tree of queues does with packets, one event at a time, and what a run reports.
 #![tactic(auto)]
+
+mod laws;
+
+pub use laws::{
+    courses_can_be_made, events_join, events_keep_states_sound, held_packets_stand_in_leaves,
+    packets_keep_to_their_leaves,
+};

@@ -1,0 +1,11 @@
+pub mod Steps
+pub mod Marking
+pub mod FirstFaults
+pub mod Growing
+pub mod Shapes
+pub mod Once
+pub mod Pointing
+pub mod PreorderLaws
+pub mod Sound
+pub mod OneTree
+pub mod Example

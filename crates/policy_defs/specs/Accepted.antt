@@ -1,0 +1,50 @@
+-- What is needed of a policy, so that its queues can be run.
+use Rattle.std.specs.Prelude.{◌≡◌, ◌≤◌, ◌<◌, ◌^◌, ℕ, Some, length}
+use Rattle.std.specs.List.{AllByRecursion}
+use Rattle.tree_defs.specs.Tree.{Tree, leaf, inner, Trees, none, more, Address, LeadsToLeaf, depth, count_of}
+use Rattle.rank_defs.specs.Shapes.{IsShaped, max_prio, max_weight, max_slack}
+use Rattle.rank_defs.specs.Checks.{IsChecked}
+use Rattle.policy_defs.specs.Policy.{Policy, Marks, Node, Class, node_at}
+
+-- the greatest length of a name in bytes, and the greatest number of levels below the root
+abbrev pub max_name : ℕ
+max_name = 64
+
+abbrev pub max_levels : ℕ
+max_levels = 64
+
+pub record AreMarksInRange (m : Marks) : Type 0 where
+  pub prio : m.prio ≤ max_prio
+  pub weight_low : 1 ≤ m.weight
+  pub weight_high : m.weight ≤ max_weight
+  pub slack : m.slack ≤ max_slack
+
+-- a node whose transaction is checked, with marks in range and a name that isn't too long
+pub record IsNodeReady (n : Node) : Type 0 where
+  pub shaped : IsShaped n.program
+  pub checked : IsChecked n.program
+  pub marks : AreMarksInRange n.marks
+  pub name : length n.name ≤ max_name
+
+-- a class whose packets have a leaf
+pub record IsClassReady (tree : Tree Node) (c : Class) : Type 0 where
+  pub marks : AreMarksInRange c.marks
+  pub leaf_address : LeadsToLeaf tree c.leaf
+
+-- each inner node has so few children that 32 bits hold their indices
+abbrev mutual
+  pub HasFewChildren : Tree Node → Type 0
+  HasFewChildren (leaf n) = Unit {0}
+  HasFewChildren (inner n ts) = (count_of ts < 2 ^ 32) × HaveFewChildren ts
+
+  pub HaveFewChildren : Trees Node → Type 0
+  HaveFewChildren none = Unit {0}
+  HaveFewChildren (more t ts) = HasFewChildren t × HaveFewChildren ts
+
+-- each transaction is checked, each class has a leaf and there is one at least, and sizes are within the limits
+pub record IsAccepted (policy : Policy) : Type 0 where
+  pub nodes : (a : Address) (n : Node) → node_at policy.tree a ≡ Some n → IsNodeReady n
+  pub classes : AllByRecursion (IsClassReady policy.tree) policy.classes
+  pub some_class : 0 < length policy.classes
+  pub levels : depth policy.tree ≤ max_levels
+  pub children : HasFewChildren policy.tree

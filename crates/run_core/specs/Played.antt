@@ -1,0 +1,39 @@
+-- What a call that makes events in a row leaves.
+use Rattle.std.specs.Prelude.{◌≡◌, ◌<◌, ◌^◌, ℕ, ◌+◌, Option, List, ◌++◌, length}
+use Rattle.outside_core.specs.Written.{Appended}
+use Rattle.report_defs.specs.Text.{IsCut}
+use Rattle.policy_defs.specs.Policy.{Policy}
+use Rattle.schedule_defs.specs.SourceState.{SourceState}
+use Rattle.schedule_defs.specs.Events.{Event, CanMake, after, outcomes, arrivals_in, departures_in}
+use Rattle.schedule_defs.specs.Report.{lines_from}
+use Rattle.sched_core.specs.declared.scheduler.Scheduler.{Ghosts}
+
+-- the lines of events from a state, where the first event has this number
+abbrev pub told : Policy → ℕ → List Event → SourceState → List ℕ
+told policy event events from = lines_from policy event (outcomes policy events from)
+
+-- all of the events were made, from a state for which they stood, and the text grew by a line for each
+pub record Plays {C U : Type 0} (S : Ghosts C U) (policy : Policy) (event : ℕ) (events : List Event) (from : SourceState)
+    (old new : C) (under : U) (before text : Option (List ℕ)) : Type 0 where
+  pub state : S.stands new under (after policy events from)
+  pub arrived : S.arrivals new ≡ S.arrivals old + arrivals_in events
+  pub departed : S.departures new ≡ S.departures old + departures_in events
+  pub lines : Appended before text (told policy event events from)
+
+-- the first of the events were made, and a first part of the text with the lines of all is written
+pub record StopsIn {C U : Type 0} (S : Ghosts C U) (policy : Policy) (event : ℕ) (events : List Event) (from : SourceState)
+    (old new : C) (under : U) (before written : Option (List ℕ)) : Type 0 where
+  pub made : List Event
+  pub unmade : List Event
+  pub whole : made ++ unmade ≡ events
+  pub state : S.stands new under (after policy made from)
+  pub arrived : S.arrivals new ≡ S.arrivals old + arrivals_in made
+  pub departed : S.departures new ≡ S.departures old + departures_in made
+  pub lines : IsCut before (told policy event events from) written
+
+-- these events can be made, and the counts have room for them
+pub record CanPlay (policy : Policy) (arrivals departures event : ℕ) (events : List Event) (from : SourceState) : Type 0 where
+  pub can : CanMake policy events from
+  pub few_arrivals : arrivals + arrivals_in events < 2 ^ 61
+  pub few_departures : departures + departures_in events < 2 ^ 61
+  pub few_events : event + length events < 2 ^ 62

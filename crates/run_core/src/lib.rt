@@ -1,0 +1,12 @@
+//! Events made by a scheduler, each with its line of a report.
+#![tactic(auto)]
+
+mod lines;
+mod names;
+mod several;
+mod stop;
+
+pub use lines::{arrive_line, depart_line};
+pub use names::Names;
+pub use several::{arrive_lines, depart_lines};
+pub use stop::Stop;

@@ -1,0 +1,16 @@
+-- What a scheduler tells of a packet that left.
+use Rattle.std.specs.Prelude.{◌≡◌}
+use Rattle.packet_defs.specs.declared.packet.Departed.{Departed}
+use Rattle.policy_defs.specs.Policy.{Policy}
+use Rattle.policy_defs.specs.Numbers.{number_at}
+use Rattle.schedule_defs.specs.SourceState.{Leaver}
+use Rattle.tree_core.specs.Paths.{Way}
+
+-- its number, its class, the leaf from which it left, and its length
+abbrev pub departed_packet : Policy → Leaver → Departed
+departed_packet policy l = record { packet = l.packet.number; class = l.packet.class; leaf = number_at policy.tree l.digits; len = l.packet.len }
+
+-- the digits and ranks taken are those with which the packet left
+pub record IsTaken (l : Leaver) (way : Way) : Type 0 where
+  pub digits : way.digits ≡ l.digits
+  pub ranks : way.ranks ≡ l.ranks

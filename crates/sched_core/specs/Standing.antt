@@ -1,0 +1,15 @@
+-- The source states for which a scheduler and what is under it stand.
+use Rattle.policy_defs.specs.Policy.{Policy}
+use Rattle.schedule_defs.specs.SourceState.{SourceState}
+use Rattle.schedule_defs.specs.Sound.{IsSound}
+
+-- they stand for a sound state of the policy that has P
+pub record StandForOne {C U : Type 0} (stands : C → U → SourceState → Type 0) (policy : Policy) (c : C) (u : U) (P : SourceState → Type 0) : Type 0 where
+  pub state : SourceState
+  pub sound : IsSound policy state
+  pub stood : stands c u state
+  pub has : P state
+
+-- P holds of each sound state of the policy for which they stand
+abbrev pub ForEachState : {C U : Type 0} → (C → U → SourceState → Type 0) → Policy → C → U → (SourceState → Type 0) → Type 0
+ForEachState stands policy c u P = (s : SourceState) → IsSound policy s → stands c u s → P s

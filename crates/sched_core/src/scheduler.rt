@@ -1,0 +1,87 @@
+ghost use Rattle.std.specs.Prelude.{◌≡◌, ◌<◌, ◌≤◌, ◌+◌, ◌^◌, ◌↔◌, ℕ, Option, option_map, is_ok, if◌then◌else◌, IsNone, OnOk, OnErr, IfOk, IfSome, IfNone};
+ghost use Rattle.tree_defs.specs.Tree.{depth};
+ghost use Rattle.tree_defs.specs.SourceTree.{size};
+ghost use Rattle.policy_defs.specs.Policy.{Policy};
+ghost use Rattle.policy_defs.specs.Accepted.{IsAccepted};
+ghost use Rattle.policy_defs.specs.Numbers.{number_at};
+ghost use Rattle.schedule_defs.specs.SourceState.{SourceState, class_of, arrival_ranks, arrived, departed, leaver};
+ghost use Rattle.schedule_defs.specs.Events.{CanArrive};
+ghost use Rattle.sched_core.specs.Standing.{StandForOne, ForEachState};
+ghost use Rattle.sched_core.specs.Origins.{Origin};
+ghost use Rattle.sched_core.specs.Departures.{departed_packet, IsTaken};
+
+use packet_defs::{Departed, Packet};
+use std::alloc::AllocError;
+use tree_core::Taken;
+
+/// What drives queues that another owns, by a policy.
+pub trait Scheduler {
+    /// What holds the queues.
+    type Under;
+
+    /// The source states for which the scheduler stands with what is under it.
+    ghost stands: { Self → Self.Under → SourceState → Type 0 };
+
+    /// How many arrivals were `Ok`.
+    ghost arrivals: { Self → ℕ };
+
+    /// How many departures were asked for.
+    ghost departures: { Self → ℕ };
+
+    ghost policy: { Self → Policy };
+
+    /// Where the queues stand in a target, if they do.
+    ghost origin: { Self → Option Origin };
+
+    /// A packet arrives: the push steps run from the root to the leaf of its class, and it is pushed along their ranks. The
+    /// answer is the leaf's number, and `trace` gets its address and the ranks. The error is want of memory.
+    fn arrive(
+        &mut self,
+        under: &mut Self::Under,
+        packet: &Packet,
+        trace: &mut Taken,
+    ) -> Result<u32, AllocError>
+        requires accepted { IsAccepted (policy self.old) }
+        requires stands { StandForOne stands (policy self.old) self.old under.old (λ s. CanArrive (policy self.old) s packet.now) }
+        requires room { depth (policy self.old).tree ≤ trace.old.room }
+        requires few { arrivals self.old < 2 ^ 61 }
+
+        ensures ok { OnOk result (ForEachState stands (policy self.old) self.old under.old (λ s. stands self.new under.new (arrived (policy self.old) packet.now s))) }
+        ensures leaf { IfOk result (λ leaf. leaf ≡ number_at (policy self.old).tree (class_of (policy self.old) packet.now).leaf) }
+        ensures digits { OnOk result (trace.new.digits ≡ (class_of (policy self.old) packet.now).leaf) }
+        ensures ranks { OnOk result (ForEachState stands (policy self.old) self.old under.old (λ s. trace.new.ranks ≡ arrival_ranks (policy self.old) packet.now s)) }
+        ensures err { OnErr result (ForEachState stands (policy self.old) self.old under.old (λ s. stands self.new under.new s)) }
+        ensures trace { OnErr result (trace.new ≡ trace.old) }
+        ensures room { trace.new.room ≡ trace.old.room }
+        ensures arrivals { arrivals self.new ≡ (if is_ok result then arrivals self.old + 1 else arrivals self.old) }
+        ensures departures { departures self.new ≡ departures self.old }
+        ensures policy { policy self.new ≡ policy self.old }
+        ensures origin { origin self.new ≡ origin self.old };
+
+    /// The next packet leaves, if one is held: it is popped, and the pop steps run on its way with the ranks taken, which `trace`
+    /// gets with the digits. Takes no memory.
+    fn depart(&mut self, under: &mut Self::Under, trace: &mut Taken) -> Option<Departed>
+        requires accepted { IsAccepted (policy self.old) }
+        requires stands { StandForOne stands (policy self.old) self.old under.old (λ _. Unit {0}) }
+        requires room { depth (policy self.old).tree ≤ trace.old.room }
+        requires few { departures self.old < 2 ^ 61 }
+
+        ensures state { ForEachState stands (policy self.old) self.old under.old (λ s. stands self.new under.new (departed (policy self.old) s)) }
+        ensures value { ForEachState stands (policy self.old) self.old under.old (λ s. result ≡ option_map (departed_packet (policy self.old)) (leaver s)) }
+        ensures none { ForEachState stands (policy self.old) self.old under.old (λ s. IsNone result ↔ (size s.tree ≡ 0)) }
+        ensures taken { ForEachState stands (policy self.old) self.old under.old (λ s. IfSome (leaver s) (λ l. IsTaken l trace.new)) }
+        ensures trace { IfNone result (trace.new ≡ trace.old) }
+        ensures room { trace.new.room ≡ trace.old.room }
+        ensures arrivals { arrivals self.new ≡ arrivals self.old }
+        ensures departures { departures self.new ≡ departures self.old + 1 }
+        ensures policy { policy self.new ≡ policy self.old }
+        ensures origin { origin self.new ≡ origin self.old };
+
+    /// How many packets are held.
+    fn held(&self) -> u64
+        ensures { (under : Self.Under) → ForEachState stands (policy self.now) self.now under (λ s. result ≡ size s.tree) };
+
+    /// The greatest moment of the packets so far, in nanoseconds.
+    fn now(&self) -> u64
+        ensures { (under : Self.Under) → ForEachState stands (policy self.now) self.now under (λ s. result ≡ s.now) };
+}
