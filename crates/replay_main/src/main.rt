@@ -5,9 +5,8 @@ use fabric_core::FlatFabric;
 use outside_core::{FileShelf, StdSink};
 use replay_app::run;
 use std::alloc::AllocError;
-use std::env;
-use std::io;
 use std::process::ExitCode;
+use std::{env, io};
 
 /// There was no memory for the words or for what `run` works on.
 const NO_MEMORY: u8 = 10;
