@@ -1,14 +1,14 @@
 ghost use Rattle.std.specs.Prelude.{◌≤◌, IfOk};
 
 use crate::fabric::Fabric;
-use pifo_core::{Pifo, SortedPifo};
+use pifo_core::{HeapPifo, Pifo};
 use std::alloc::{AllocError, Global};
 
 /// A fabric that is a single leaf: one queue.
 #[derive(Drop)]
 pub struct FlatFabric {
     alloc: Global,
-    root: SortedPifo,
+    root: HeapPifo,
     pushed: u64,
     popped: u64,
     ghost pushes: { root.pushes ≤ pushed },
@@ -23,7 +23,7 @@ impl FlatFabric {
     {
         Ok(FlatFabric {
             alloc,
-            root: SortedPifo::new(alloc),
+            root: HeapPifo::new(alloc),
             pushed: 0,
             popped: 0,
         })
@@ -45,7 +45,7 @@ impl Fabric for FlatFabric {
     ghost room = { λ f _. f.root.spare };
 
     fn configure(&mut self, _arities: &[u32]) -> Result<(), AllocError> {
-        self.root = SortedPifo::new(self.alloc);
+        self.root = HeapPifo::new(self.alloc);
         Ok(())
     }
 
