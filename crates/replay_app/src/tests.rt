@@ -100,11 +100,20 @@ fn runs_over_memory(rt: HostRuntime) -> Result<(), Fail> {
 fn checks_over_memory(rt: HostRuntime) -> Result<(), Fail> {
     let alloc = rt.alloc();
     let words = check_words(alloc)?;
-    let table: [(&[u8], u8, &[u8]); 4] = [
+    let table: [(&[u8], u8, &[u8]); 5] = [
         (SPELLED, 0, POLICY),
         (b"policy 1\n", 0, b"policy 1\n"),
-        (b"policy 1\nleaf\n", 3, b"fault policy 23 2\n"),
-        (b"policy 1\n\xff\n", 3, b"fault policy 22 2\n"),
+        (
+            b"policy 1\nclass\nleaf root using fifo classes all\n",
+            3,
+            b"fault policy 23 2\n",
+        ),
+        (b"policy 1\nclass \xc3\n", 3, b"fault policy 22 2\n"),
+        (
+            b"policy 1\nclass all\nleaf root using fifo classes all\nshape root 5\n",
+            3,
+            b"fault policy 24 4\n",
+        ),
     ];
     for (policy, status, text) in table {
         let mut held = Vec::new(alloc);
@@ -130,6 +139,17 @@ fn a_fault_ends_the_run(rt: HostRuntime) -> Result<(), Fail> {
     let mut sink = MemSink::new(alloc, 200, 1, second_write_fails)?;
     let answer = run(alloc, &words, &mut shelf, &mut sink, &mut fabric);
     assert_eq!(rt; (answer, sink.bytes()), (9, b"a".as_slice()));
+
+    // The policy and the target take three calls each: `begin`, a read that finds all of the file,
+    // and one that finds its end. The capture is begun by the seventh, and first read by the eighth.
+    let mut eighth_call_fails = Vec::new(alloc);
+    eighth_call_fails.push(8)?;
+    let held = files(alloc, POLICY, CAPTURE, b"a\n")?;
+    let mut capture_fails = MemShelf::new(held, 1000, eighth_call_fails);
+    let mut sink = PlainSink::new(alloc, 200)?;
+    let mut fabric = FlatFabric::new(alloc)?;
+    let answer = run(alloc, &words, &mut capture_fails, &mut sink, &mut fabric);
+    assert_eq!(rt; (answer, sink.bytes().len()), (8, 0));
 
     let mut fabric = FlatFabric::new(alloc)?;
     let mut no_files = MemShelf::new(Vec::new(alloc), 7, Vec::new(alloc));
