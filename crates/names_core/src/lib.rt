@@ -1,0 +1,11 @@
+//! Names that are found quickly: each once, in the order in which they came, and how often they came.
+#![tactic(auto)]
+
+mod names;
+mod tally;
+
+pub use names::Names;
+pub use tally::Tally;
+
+#[cfg(test)]
+mod tests;

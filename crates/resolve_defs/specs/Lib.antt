@@ -1,0 +1,11 @@
+pub mod Names
+pub mod Bodies
+pub mod Clauses
+pub mod Families
+pub mod Programs
+pub mod Accepted
+pub mod Codes
+pub mod Resolved
+pub mod Graph
+pub mod Entries
+pub mod Rows
