@@ -1,0 +1,4 @@
+pub mod Lines
+pub mod Roots
+pub mod CatchAlls
+pub mod Orphans
