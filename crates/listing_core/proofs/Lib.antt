@@ -2,3 +2,4 @@ pub mod Lines
 pub mod Roots
 pub mod CatchAlls
 pub mod Orphans
+pub mod ListedOnce
