@@ -5,7 +5,7 @@ use Rattle.policy_text_defs.specs.declared.condition.Condition.{Condition}
 use Rattle.policy_text_defs.specs.declared.statement.Statement.{Statement}
 use Rattle.policy_text_defs.specs.declared.statement.Statement.TheVariants.{Version, Transaction, Keep, Each, Push, Pop, Class, Leaf, Node}
 use Rattle.resolve_defs.specs.Names.{Name}
-use Rattle.policy_text_defs.specs.Sense.{Sense, Entry, sense_of, version, transaction, keep, each, push, pop, class, leaf, node}
+use Rattle.policy_text_defs.specs.Sense.{Entry, sense_of, version, transaction, keep, each, push, pop, class, leaf, node}
 use Rattle.resolve_defs.specs.Entries.{entries_of}
 use Rattle.resolve_defs.specs.Clauses.{has_catch_all, has_catch_all_behind}
 use Rattle.listing_core.specs.Statements.{is_catch_all}

@@ -1,15 +1,13 @@
 -- Passes over lines.
-use Rattle.std.proofs.Common.{◌≡◌, ℕ, ◌+◌, ◌<◌, ◌≤◌, ◌⊎◌, inl, inr, List, [], ◌∷◌, ◌++◌, map, All, refl, sym, ap, subst, ◌∙◌, arith, length, take, get_or}
+use Rattle.std.proofs.Common.{◌≡◌, ℕ, ◌+◌, ◌<◌, ◌≤◌, ◌⊎◌, inl, inr, List, [], ◌∷◌, ◌++◌, refl, sym, ap, subst, ◌∙◌, arith, length, take, get_or}
 use Rattle.std.proofs.lemmas.Bool.{cases_order}
-use Rattle.std.proofs.lemmas.List.Elements.{AllWithin-more, All-from_all_within, at_read}
-use Rattle.std.proofs.lemmas.List.{length-map, take_more, map-append, get_or-map, get_or_default}
-use Rattle.std.proofs.lemmas.List.Concat.{flat_map-append}
+use Rattle.std.proofs.lemmas.List.Elements.{AllWithin-more, at_read}
+use Rattle.std.proofs.lemmas.List.{length-map, take_more, map-append, get_or-map}
 use Rattle.std.specs.List.{AllWithin}
 use Rattle.policy_text_defs.specs.declared.statement.Statement.{Statement}
-use Rattle.policy_text_defs.specs.Sense.{Sense, Entry, entry, sense_of}
-use Rattle.resolve_defs.specs.Names.{Name, listed}
+use Rattle.policy_text_defs.specs.Sense.{Entry, entry, sense_of}
 use Rattle.resolve_defs.specs.Entries.{entries_of, AreRising}
-use Rattle.resolve_defs.specs.Clauses.{IsLeastLine, NoLine}
+use Rattle.resolve_defs.specs.Clauses.{IsLeastLine}
 
 abbrev pub Line : Type 0
 Line = ℕ × Statement

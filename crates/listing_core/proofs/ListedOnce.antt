@@ -1,9 +1,9 @@
 -- A name that statements list once is listed by one statement.
-use Rattle.std.proofs.Common.{◌≡◌, ◌≢◌, ◌⊎◌, inl, inr, ℕ, ◌+◌, ◌<◌, ◌≤◌, suc, nat_eq, nat_lt, Bool, true, false, not, ◌||◌, ◌&&◌, IsTrue, List, [], ◌∷◌, ◌++◌, Option, Some, None, Any, Contains, length, take, drop, get_or, cond, count_by, flat_map, refl, sym, ap, subst, ◌∙◌, arith, true≢false}
+use Rattle.std.proofs.Common.{◌≡◌, ◌≢◌, inl, inr, ℕ, ◌+◌, ◌<◌, ◌≤◌, suc, nat_eq, Bool, true, false, not, ◌||◌, ◌&&◌, IsTrue, List, [], ◌∷◌, Option, Some, None, Any, Contains, length, take, drop, get_or, cond, refl, sym, ap, subst, ◌∙◌, arith, true≢false}
 use Rattle.std.specs.List.{sum_by, list_any, cons_option}
 use Rattle.std.specs.Option.{option_map_or}
 use Rattle.std.specs.Str.{bytes_eq}
-use Rattle.std.proofs.lemmas.Bool.{cases_Bool, cases_order, ltb-true}
+use Rattle.std.proofs.lemmas.Bool.{cases_Bool, cases_order}
 use Rattle.std.proofs.lemmas.Bool.Decides.{nat_tests}
 use Rattle.std.proofs.lemmas.List.{length-take, get_or-take}
 use Rattle.std.proofs.lemmas.List.Elements.{Contains-append_right}
@@ -11,7 +11,7 @@ use Rattle.std.proofs.lemmas.List.Sums.{sum_by-append, sum_by-cons, get_or-le-su
 use Rattle.std.proofs.lemmas.Slice.Eq.{bytes_eq-Decides}
 use Rattle.policy_text_defs.specs.Sense.{Sense, Entry, version, transaction, keep, each, push, pop, class, leaf, node}
 use Rattle.resolve_defs.specs.Names.{Name, has, times, is_once, declared, listed, class_name, node_name, children, leaf_classes}
-use Rattle.resolve_defs.specs.Clauses.{root, NoLine, IsOrphan, is_orphan, IsStray, is_stray}
+use Rattle.resolve_defs.specs.Clauses.{root, NoLine, IsOrphan, IsStray}
 use Rattle.resolve_defs.specs.Resolved.{ListsClass}
 
 Any-cons : {X : Type 0} (P : X → Type 0) (x : X) (xs : List X) → Any P xs → Any P (x ∷ xs)

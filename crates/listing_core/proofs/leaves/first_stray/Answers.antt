@@ -7,8 +7,10 @@ use Rattle.listing_core.proofs.leaves.first_stray.Goals as goal
 
 pub returns-then-is_stray : goal.returns-then-is_stray
 returns-then-is_stray c =
-    record { first = least_here (IsStray (entries_of c.args.lines.now)) c.args.lines.now c.loop-line.line-index c.loop-line-item.result c.requires.rising c.loop-line-test.true c.loop-line-item.is c.loop-line.invariant
-    (sym (c.is_stray.ensures (listed leaf_classes (entries_of c.args.lines.now)) c.requires.tally) ∙ c.if-is_stray.true) }
+    record {
+      first = least_here (IsStray (entries_of c.args.lines.now)) c.args.lines.now c.loop-line.line-index c.loop-line-item.result c.requires.rising c.loop-line-test.true c.loop-line-item.is c.loop-line.invariant
+          (sym (c.is_stray.ensures (listed leaf_classes (entries_of c.args.lines.now)) c.requires.tally) ∙ c.if-is_stray.true);
+    }
 
 pub loop-line-preserved : goal.loop-line-preserved
 loop-line-preserved c =

@@ -1,4 +1,4 @@
-use Rattle.std.proofs.Common.{List, ℕ, ap, not, sym, ◌∙◌}
+use Rattle.std.proofs.Common.{ap, not, sym, ◌∙◌}
 use Rattle.policy_text_defs.specs.declared.statement.Statement.{Statement}
 use Rattle.policy_text_defs.specs.Sense.{sense_of}
 use Rattle.resolve_defs.specs.Names.{is_once}

@@ -1,7 +1,7 @@
 use Rattle.std.proofs.Common.{List, ℕ, ap, not, ◌∙◌}
 use Rattle.std.specs.Str.{bytes_eq}
 use Rattle.policy_text_defs.specs.Sense.{sense_of}
-use Rattle.resolve_defs.specs.Names.{is_once, node_name}
+use Rattle.resolve_defs.specs.Names.{is_once}
 use Rattle.resolve_defs.specs.Clauses.{root}
 use Rattle.listing_core.proofs.Orphans.{orphan-counted, named}
 use Rattle.listing_core.proofs.parents.is_orphan.Goals as goal
