@@ -1,0 +1,5 @@
+pub mod Lines
+pub mod Roots
+pub mod CatchAlls
+pub mod Orphans
+pub mod ListedOnce
