@@ -1,0 +1,142 @@
+-- What the parts of a policy say of its value.
+use Rattle.std.proofs.Common.{◌≡◌, ℕ, ◌+◌, ◌<◌, ◌≤◌, ◌↔◌, Bool, List, [], ◌∷◌, ◌++◌, length, map, Option, Some, refl, sym, ap, subst, ◌∙◌, arith, zero, suc, get_or}
+use Rattle.std.specs.Prelude.{IsSomeAnd, IsTrue}
+use Rattle.std.specs.List.{AllByRecursion}
+use Rattle.std.proofs.lemmas.List.{get_or_default}
+use Rattle.tree_defs.specs.Tree.{Tree, Address, nodes, depth, IsAddressOf, LeadsToLeaf}
+use Rattle.tree_defs.specs.Topology.{Topology, topology_of}
+use Rattle.tree_defs.proofs.Shapes.{nodes-topology, depth-topology, LeadsToLeaf-topology}
+use Rattle.rank_defs.specs.Programs.{Program}
+use Rattle.policy_defs.specs.Policy.{Node, node_at}
+use Rattle.policy_defs.specs.Accepted.{IsAccepted}
+use Rattle.policy_defs.specs.Numbers.{number_at}
+use Rattle.resolve_defs.specs.Resolved.{Resolved}
+use Rattle.lineage_core.specs.Row.{Row, row, row_at}
+use Rattle.lineage_core.specs.Preorder.{Numbered, rows}
+use Rattle.lineage_core.proofs.Growing.{length-rows}
+use Rattle.policy_core.specs.declared.parts.Station.{Station}
+use Rattle.policy_core.specs.declared.parts.Class.{Class}
+use Rattle.policy_core.specs.Numbering.{nodes_from, address_at}
+use Rattle.policy_core.specs.Parts.{resolved, tree_of, node_of, station_at, no_station, no_program, told, AreNumbered, HaveLeaves, IsWhole}
+use Rattle.policy_core.proofs.Numbers.{IsNumber, number-undone, IsAddress, address-undone, address_at-topology, address-down, address-up, topology_of-nodes, nodes-made, address-made, node_numbered}
+use Rattle.policy_core.proofs.Rows.{IsRowAt, row-numbered}
+
+pub all-at : {X : Type 0} (P : X → Type 0) (xs : List X) (i : ℕ) (d : X) → AllByRecursion P xs → i < length xs → P (get_or xs i d)
+all-at P [] i d h l = absurd (omega arith)
+all-at P (x ∷ xs) zero d h l = h.0
+all-at P (x ∷ xs) (suc i) d h l = all-at P xs i d h.1 (omega arith)
+
+pub all-more : {X : Type 0} (P Q : X → Type 0) (xs : List X) → ((x : X) → P x → Q x) → AllByRecursion P xs → AllByRecursion Q xs
+all-more P Q [] f h = tt
+all-more P Q (x ∷ xs) f h = (f x h.0, all-more P Q xs f h.1)
+
+pub some-and : {X : Type 0} (o : Option X) (x : X) (P : X → Type 0) → o ≡ Some x → P x → IsSomeAnd o P
+some-and {X} o x P is p = subst (λ (q : Option X). IsSomeAnd q P) (sym is) p
+
+-- ---- rows of one tree, and its topology
+module _ (tree : Numbered) (h : AreNumbered tree) where
+  rows-count : length tree.rows ≡ nodes tree.topology
+  rows-count = ap length h.1.rows_are ∙ length-rows 0 [] h.0 ∙ sym (nodes-topology h.0) ∙ ap (λ (u : Topology). nodes u) (sym h.1.topology_is)
+
+  address-same : (k : ℕ) → address_at tree.topology k ≡ address_at h.0 k
+  address-same k = ap (λ (u : Topology). address_at u k) h.1.topology_is ∙ address_at-topology h.0 k
+
+  row-in : (k : ℕ) → k < length tree.rows → IsRowAt h.0 [] (address_at h.0 k) (row_at tree.rows k)
+  row-in k l =
+      subst (λ (all : List Row). IsRowAt h.0 [] (address_at h.0 k) (row_at all k)) (sym h.1.rows_are)
+      (row-numbered 0 [] h.0 k (omega (arith, l, ap length h.1.rows_are, length-rows 0 [] h.0)))
+
+  row-address : (k : ℕ) → k < length tree.rows → (row_at tree.rows k).address ≡ address_at tree.topology k
+  row-address k l = (row-in k l).address ∙ sym (address-same k)
+
+  row-child : (k d : ℕ) → k < length tree.rows → IsAddressOf tree.topology (address_at tree.topology k ++ d ∷ []) → d < length (row_at tree.rows k).children
+  row-child k d l p =
+      (row-in k l).children d
+      (address-up h.0 (address_at h.0 k ++ d ∷ [])
+      (subst (λ (u : Topology). IsAddressOf u (address_at h.0 k ++ d ∷ [])) h.1.topology_is
+      (subst (λ (w : Address). IsAddressOf tree.topology (w ++ d ∷ [])) (address-same k) p)))
+
+-- ---- the value
+module _ (tree : Numbered) (ss : List Station) (ps : List Program) (cs : List Class) (r : Resolved) (view : resolved tree ss ps cs ≡ r) (w : IsWhole tree ss ps cs) where
+  tree-is : tree_of tree ss ps ≡ r.policy.tree
+  tree-is = ap (λ (q : Resolved). q.policy.tree) view
+
+  pub accepted-is : IsAccepted r.policy
+  accepted-is = subst (λ (q : Resolved). IsAccepted q.policy) view w.accepted
+
+  pub topology-is : tree.topology ≡ topology_of r.policy.tree
+  topology-is = sym (topology_of-nodes _ 0 tree.topology) ∙ ap (λ (t : Tree Node). topology_of t) tree-is
+
+  pub levels-is : depth tree.topology ≡ depth r.policy.tree
+  levels-is = ap (λ (u : Topology). depth u) topology-is ∙ depth-topology r.policy.tree
+
+  pub count-is : length tree.rows ≡ nodes r.policy.tree
+  count-is = rows-count tree w.numbered ∙ ap (λ (u : Topology). nodes u) topology-is ∙ nodes-topology r.policy.tree
+
+  pub within : (k : ℕ) → k < nodes r.policy.tree → k < length tree.rows
+  within k l = omega (arith, l, count-is)
+
+  address-shape : (k : ℕ) → address_at tree.topology k ≡ address_at r.policy.tree k
+  address-shape k = ap (λ (u : Topology). address_at u k) topology-is ∙ address_at-topology r.policy.tree k
+
+  pub address-is : (k : ℕ) → k < nodes r.policy.tree → (row_at tree.rows k).address ≡ address_at r.policy.tree k
+  address-is k l = row-address tree w.numbered k (within k l) ∙ address-shape k
+
+  pub child-there : (k d : ℕ) → k < nodes r.policy.tree → IsAddressOf r.policy.tree (address_at r.policy.tree k ++ d ∷ []) → d < length (row_at tree.rows k).children
+  child-there k d l p =
+      row-child tree w.numbered k d (within k l)
+      (subst (λ (u : Topology). IsAddressOf u (address_at u k ++ d ∷ [])) (sym topology-is)
+      (subst (λ (a : Address). IsAddressOf (topology_of r.policy.tree) (a ++ d ∷ [])) (sym (address_at-topology r.policy.tree k)) (address-down r.policy.tree (address_at r.policy.tree k ++ d ∷ []) p)))
+
+  pub child-address : (k d m : ℕ) → k < nodes r.policy.tree → m < length tree.rows → (row_at tree.rows m).address ≡ (row_at tree.rows k).address ++ d ∷ [] → address_at r.policy.tree m ≡ address_at r.policy.tree k ++ d ∷ []
+  child-address k d m l short is = sym (address-is m (omega (arith, short, count-is))) ∙ is ∙ ap (λ (a : Address). a ++ d ∷ []) (address-is k l)
+
+  pub child-is : (k d m : ℕ) → k < nodes r.policy.tree → m < length tree.rows → (row_at tree.rows m).address ≡ (row_at tree.rows k).address ++ d ∷ [] → m ≡ number_at r.policy.tree (address_at r.policy.tree k ++ d ∷ [])
+  child-is k d m l short is =
+      let a : IsAddress r.policy.tree m (address_at r.policy.tree m) = address-undone r.policy.tree m (omega (arith, short, count-is)) in
+      sym a.number ∙ ap (number_at r.policy.tree) (child-address k d m l short is)
+
+  pub leaf-is : (k : ℕ) (b : Bool) → k < nodes r.policy.tree → IsTrue b ↔ LeadsToLeaf tree.topology (row_at tree.rows k).address → IsTrue b ↔ LeadsToLeaf r.policy.tree (address_at r.policy.tree k)
+  leaf-is k b l is =
+      let same : LeadsToLeaf r.policy.tree (address_at r.policy.tree k) ≡ LeadsToLeaf tree.topology (row_at tree.rows k).address =
+      LeadsToLeaf-topology r.policy.tree (address_at r.policy.tree k) ∙ ap (λ (u : Topology). LeadsToLeaf u (address_at r.policy.tree k)) (sym topology-is) ∙ ap (λ (a : Address). LeadsToLeaf tree.topology a) (sym (address-is k l)) in
+      subst (λ (P : Type 0). IsTrue b ↔ P) (sym same) is
+
+  pub station-there : (k : ℕ) → k < nodes r.policy.tree → (row_at tree.rows k).node < length ss
+  station-there k l = all-at (λ x. x.node < length ss) tree.rows k (row 0 [] []) w.stations (within k l)
+
+  pub node-is : (k : ℕ) → k < nodes r.policy.tree → node_at r.policy.tree (address_at r.policy.tree k) ≡ Some (node_of ps (station_at ss (row_at tree.rows k).node))
+  node-is k l =
+      subst (λ (t : Tree Node). node_at t (address_at t k) ≡ Some (node_of ps (station_at ss (row_at tree.rows k).node))) tree-is
+      (node_numbered (λ n. node_of ps (station_at ss (row_at tree.rows n).node)) tree.topology k (omega (arith, within k l, rows-count tree w.numbered)))
+
+  pub name-short : (k : ℕ) → k < nodes r.policy.tree → length (station_at ss (row_at tree.rows k).node).name ≤ 64
+  name-short k l = (accepted-is.nodes (address_at r.policy.tree k) (node_of ps (station_at ss (row_at tree.rows k).node)) (node-is k l)).name
+
+  pub program-there : (k : ℕ) → k < nodes r.policy.tree → (station_at ss (row_at tree.rows k).node).program < length ps
+  program-there k l = all-at (λ s. s.program < length ps) ss (row_at tree.rows k).node no_station w.programs (station-there k l)
+
+  pub leaves-there : AllByRecursion (λ c. c.leaf < nodes r.policy.tree) cs
+  leaves-there = all-more (λ c. c.leaf < length tree.rows) (λ c. c.leaf < nodes r.policy.tree) cs (λ c l. omega (arith, l, count-is)) w.leaves
+
+  -- ---- in the terms of the code
+  pub own-station : (k : ℕ) (s : Station) (all : List Station) → all ≡ ss → s ≡ station_at all (row_at tree.rows k).node → s ≡ station_at ss (row_at tree.rows k).node
+  own-station k s all same is = is ∙ ap (λ (l : List Station). station_at l (row_at tree.rows k).node) same
+
+  pub program-within : (k : ℕ) (s : Station) (all : List Program) → k < nodes r.policy.tree → s ≡ station_at ss (row_at tree.rows k).node → all ≡ ps → s.program < length all
+  program-within k s all l own same = omega (arith, program-there k l, ap (λ (x : Station). x.program) own, ap length same)
+
+  pub program-is : (k : ℕ) (s : Station) (p : Program) (all : List Program) → k < nodes r.policy.tree → s ≡ station_at ss (row_at tree.rows k).node → all ≡ ps → p ≡ get_or all s.program p
+      → IsSomeAnd (node_at r.policy.tree (address_at r.policy.tree k)) (λ n. p ≡ n.program)
+  program-is k s p all l own same read =
+      some-and _ _ (λ n. p ≡ n.program) (node-is k l)
+      (read ∙ get_or_default all s.program p no_program (program-within k s all l own same) ∙ ap (λ (x : List Program). get_or x s.program no_program) same ∙ ap (λ (x : Station). get_or ps x.program no_program) own)
+
+  pub marks-are : (k : ℕ) (s : Station) → k < nodes r.policy.tree → s ≡ station_at ss (row_at tree.rows k).node → IsSomeAnd (node_at r.policy.tree (address_at r.policy.tree k)) (λ n. told s.marks ≡ n.marks)
+  marks-are k s l own = some-and _ _ (λ n. told s.marks ≡ n.marks) (node-is k l) (ap (λ (x : Station). told x.marks) own)
+
+  pub name-is : (k : ℕ) (s : Station) (name : List ℕ) → k < nodes r.policy.tree → s ≡ station_at ss (row_at tree.rows k).node → name ≡ s.name → IsSomeAnd (node_at r.policy.tree (address_at r.policy.tree k)) (λ n. name ≡ n.name)
+  name-is k s name l own is = some-and _ _ (λ n. name ≡ n.name) (node-is k l) (is ∙ ap (λ (x : Station). x.name) own)
+
+  pub name-length : (k : ℕ) (s : Station) (name : List ℕ) → k < nodes r.policy.tree → s ≡ station_at ss (row_at tree.rows k).node → name ≡ s.name → length name ≤ 64
+  name-length k s name l own is = omega (arith, name-short k l, ap length is, ap (λ (x : Station). length x.name) own)

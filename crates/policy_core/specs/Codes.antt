@@ -1,0 +1,29 @@
+-- How a policy is stored as a ghost value.
+use Rattle.std.specs.Prelude.{ℕ, List, refl}
+use Rattle.std.specs.Coded.{Coded, code_by, coded×, coded_ℕ, coded_list}
+use Rattle.tree_defs.specs.Tree.{Tree, Address}
+use Rattle.tree_defs.specs.Codes.{tree_code}
+use Rattle.rank_defs.specs.Programs.{Program}
+use Rattle.range_core.specs.Codes.{program_code}
+use Rattle.policy_defs.specs.Policy.{Policy, Node, Class, Marks}
+use Rattle.policy_text_defs.specs.declared.condition.Condition.{Condition}
+use Rattle.policy_text_defs.specs.contracts.condition.Condition as condition_row
+use Rattle.resolve_defs.specs.Resolved.{Resolved}
+
+abbrev condition_code : Coded Condition
+condition_code = condition_row.the_row.coded
+
+abbrev pub marks_code : Coded Marks
+marks_code = code_by (ℕ × (ℕ × ℕ)) (coded× coded_ℕ (coded× coded_ℕ coded_ℕ)) (λ m. (m.prio, (m.weight, m.slack))) (λ p. record { prio = p.0; weight = p.1.0; slack = p.1.1 }) (λ _. refl)
+
+abbrev pub node_code : Coded Node
+node_code = code_by (List ℕ × (Program × Marks)) (coded× (coded_list coded_ℕ) (coded× program_code marks_code)) (λ n. (n.name, (n.program, n.marks))) (λ p. record { name = p.0; program = p.1.0; marks = p.1.1 }) (λ _. refl)
+
+abbrev pub class_code : Coded Class
+class_code = code_by (Marks × Address) (coded× marks_code (coded_list coded_ℕ)) (λ c. (c.marks, c.leaf)) (λ p. record { marks = p.0; leaf = p.1 }) (λ _. refl)
+
+abbrev pub policy_code : Coded Policy
+policy_code = code_by (Tree Node × List Class) (coded× (tree_code node_code) (coded_list class_code)) (λ p. (p.tree, p.classes)) (λ p. record { tree = p.0; classes = p.1 }) (λ _. refl)
+
+abbrev pub resolved_code : Coded Resolved
+resolved_code = code_by (Policy × List (List Condition)) (coded× policy_code (coded_list (coded_list condition_code))) (λ r. (r.policy, r.conditions)) (λ p. record { policy = p.0; conditions = p.1 }) (λ _. refl)

@@ -1,0 +1,4 @@
+pub mod Numbering
+pub mod Parts
+pub mod Codes
+pub mod Laws

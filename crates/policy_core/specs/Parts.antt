@@ -1,0 +1,68 @@
+-- The policy that a tree of numbered nodes, stations, transactions and classes give.
+use Rattle.std.specs.Prelude.{◌<◌, ℕ, List, [], map, length, slice_index_or}
+use Rattle.std.specs.List.{AllByRecursion}
+use Rattle.tree_defs.specs.Tree.{Tree}
+use Rattle.rank_defs.specs.Programs.{Program}
+use Rattle.policy_defs.specs.Policy.{Node, Class as Aimed, Marks as Told}
+use Rattle.policy_defs.specs.Accepted.{IsAccepted}
+use Rattle.resolve_defs.specs.Resolved.{Resolved}
+use Rattle.lineage_core.specs.Row.{Row, row_at}
+use Rattle.lineage_core.specs.Preorder.{Numbered, IsNumberedBy}
+use Rattle.policy_core.specs.declared.parts.Marks.{Marks}
+use Rattle.policy_core.specs.declared.parts.Station.{Station}
+use Rattle.policy_core.specs.declared.parts.Class.{Class}
+use Rattle.policy_core.specs.Numbering.{nodes_from, address_at}
+
+abbrev pub told : Marks → Told
+told m = record { prio = m.prio; weight = m.weight; slack = m.slack }
+
+-- what stands past the end of a list
+abbrev pub no_station : Station
+no_station = record { name = []; program = 0; marks = record { prio = 0; weight = 1; slack = 0 } }
+
+abbrev pub no_program : Program
+no_program = record { keeps = []; eaches = []; push = []; pop = [] }
+
+abbrev pub station_at : List Station → ℕ → Station
+station_at stations i = slice_index_or stations i no_station
+
+-- a station, with its transaction
+abbrev pub node_of : List Program → Station → Node
+node_of programs s = record { name = s.name; program = slice_index_or programs s.program no_program; marks = told s.marks }
+
+-- at each node the station that its row names
+abbrev pub tree_of : Numbered → List Station → List Program → Tree Node
+tree_of tree stations programs = nodes_from (λ n. node_of programs (station_at stations (row_at tree.rows n).node)) 0 tree.topology
+
+-- a class, with the address of its leaf
+abbrev pub class_in : Tree Node → Class → Aimed
+class_in tree c = record { marks = told c.marks; leaf = address_at tree c.leaf }
+
+abbrev pub resolved : Numbered → List Station → List Program → List Class → Resolved
+resolved tree stations programs classes = record {
+  policy = record { tree = tree_of tree stations programs; classes = map (class_in (tree_of tree stations programs)) classes };
+  conditions = map (λ c. c.conditions) classes;
+}
+
+-- the rows and the topology are those of one tree
+abbrev pub AreNumbered : Numbered → Type 0
+AreNumbered tree = (t : Tree ℕ) × IsNumberedBy t tree.rows tree.topology
+
+-- each node of the tree is the place of a station
+abbrev pub HaveStations : Numbered → List Station → Type 0
+HaveStations tree stations = AllByRecursion (λ r. r.node < length stations) tree.rows
+
+-- each station has the place of a transaction
+abbrev pub HavePrograms : List Station → List Program → Type 0
+HavePrograms stations programs = AllByRecursion (λ s. s.program < length programs) stations
+
+-- the leaf of each class is the number of a node
+abbrev pub HaveLeaves : Numbered → List Class → Type 0
+HaveLeaves tree classes = AllByRecursion (λ c. c.leaf < length tree.rows) classes
+
+pub record IsWhole (tree : Numbered) (ss : List Station) (ps : List Program) (cs : List Class) : Type 0 where
+  pub numbered : AreNumbered tree
+  pub stations : HaveStations tree ss
+  pub programs : HavePrograms ss ps
+  pub leaves : HaveLeaves tree cs
+  pub accepted : IsAccepted (resolved tree ss ps cs).policy

@@ -1,0 +1,10 @@
+//! A policy that can be run: a tree of numbered nodes, each with its transaction, and classes of packets, each with its leaf.
+#![tactic(auto)]
+
+mod laws;
+mod parts;
+mod policy;
+
+pub use laws::{addresses_undo_numbers, numbers_undo_addresses};
+pub use parts::{Class, Marks, Station};
+pub use policy::Policy;

@@ -1,0 +1,27 @@
+//! What a policy is made of.
+use list_core::{List, Name};
+use policy_text_defs::Condition;
+
+/// What steps are told of a node or a class: the priority, the weight, and the slack in nanoseconds.
+#[derive(Clone, Copy, PartialEq, Eq, Debug)]
+pub struct Marks {
+    pub prio: u32,
+    pub weight: u32,
+    pub slack: u64,
+}
+
+/// A node or a leaf: its name, the place of its transaction among the checked ones, and its marks.
+#[derive(Drop)]
+pub struct Station {
+    pub name: Name,
+    pub program: u32,
+    pub marks: Marks,
+}
+
+/// A class of packets: its marks, what a packet of it has to meet, and the number in preorder of the leaf that holds its packets.
+#[derive(Drop)]
+pub struct Class {
+    pub marks: Marks,
+    pub conditions: List<Condition>,
+    pub leaf: u32,
+}

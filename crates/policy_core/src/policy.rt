@@ -1,0 +1,163 @@
+ghost use Rattle.std.specs.Prelude.{◌≡◌, ◌<◌, ◌≤◌, ◌++◌, ◌∷◌, [], ◌↔◌, map, length, IsTrue, IsSomeAnd};
+ghost use Rattle.std.specs.List.{AllByRecursion};
+ghost use Rattle.tree_defs.specs.Tree.{depth as levels, nodes, IsAddressOf, LeadsToLeaf};
+ghost use Rattle.tree_defs.specs.Topology.{topology_of, IsBranched};
+ghost use Rattle.tree_core.specs.Shape.{topology};
+ghost use Rattle.policy_defs.specs.Policy.{node_at};
+ghost use Rattle.policy_defs.specs.Accepted.{IsAccepted};
+ghost use Rattle.policy_defs.specs.Numbers.{number_at};
+ghost use Rattle.policy_core.specs.Numbering.{address_at};
+ghost use Rattle.policy_core.specs.Parts.{resolved, told, class_in, AreNumbered, HaveStations, HavePrograms, HaveLeaves, station_at};
+ghost use Rattle.lineage_core.specs.Row.{row_at};
+
+use crate::parts::{Class, Marks, Station};
+use lineage_core::Preorder;
+use list_core::List;
+use range_core::Checked;
+use std::marker::Model;
+use tree_core::Topo;
+
+/// An accepted policy. Its nodes and leaves are numbered in preorder from the root, which is 0.
+#[derive(Drop)]
+pub struct Policy {
+    tree: Preorder,
+    stations: List<Station>,
+    programs: List<Checked>,
+    classes: List<Class>,
+}
+
+impl Model for Policy {
+    ghost use Rattle.resolve_defs.specs.Resolved.{Resolved};
+    ghost use Rattle.policy_core.specs.Codes.{resolved_code};
+    ghost use Rattle.policy_core.specs.Parts.{resolved, IsWhole};
+
+    ghost Value = { Resolved };
+
+    ghost coded = { resolved_code };
+
+    ghost view = { λ p. resolved p.tree p.stations p.programs p.classes };
+
+    ghost invariant = { λ p. IsWhole p.tree p.stations p.programs p.classes };
+}
+
+impl Policy {
+    /// A policy of these parts: each node of the tree is the place of its station, each station has the place of its transaction.
+    pub fn new(
+        tree: Preorder,
+        stations: List<Station>,
+        programs: List<Checked>,
+        classes: List<Class>,
+    ) -> Policy
+        requires numbered { AreNumbered tree }
+        requires stations { HaveStations tree stations }
+        requires programs { HavePrograms stations programs }
+        requires leaves { HaveLeaves tree classes }
+        requires accepted { IsAccepted (resolved tree stations programs classes).policy }
+        ensures policy { result ≡ resolved tree stations programs classes }
+    {
+        Policy {
+            tree,
+            stations,
+            programs,
+            classes,
+        }
+    }
+
+    /// The shape of the tree.
+    pub fn topo(&self) -> &Topo
+        ensures topology { topology result.now ≡ topology_of self.now.policy.tree }
+        ensures branched { IsBranched (topology_of self.now.policy.tree) }
+        ensures accepted { IsAccepted self.now.policy }
+    {
+        self.tree.topo()
+    }
+
+    /// How many levels lie below the root.
+    pub fn depth(&self) -> u32
+        ensures levels { result ≡ levels self.now.policy.tree }
+        ensures limit { result ≤ 64 }
+        ensures accepted { IsAccepted self.now.policy }
+    {
+        self.tree.depth()
+    }
+
+    /// The number of nodes and leaves.
+    pub fn count(&self) -> u32
+        ensures count { result ≡ nodes self.now.policy.tree }
+    {
+        self.tree.count()
+    }
+
+    /// The name of a node or leaf, at most 64 bytes.
+    pub fn name(&self, node: u32) -> &str
+        requires there { node < nodes self.now.policy.tree }
+        ensures name { IsSomeAnd (node_at self.now.policy.tree (address_at self.now.policy.tree node)) (λ n. result.now ≡ n.name) }
+        ensures short { length result.now ≤ 64 }
+    {
+        station_of(&self.tree, self.stations.as_slice(), node)
+            .name
+            .as_str()
+    }
+
+    /// The digits on the way from the root to a node or leaf.
+    pub fn address(&self, node: u32) -> &[u32]
+        requires there { node < nodes self.now.policy.tree }
+        ensures address { result.now ≡ address_at self.now.policy.tree node }
+    {
+        self.tree.address(node)
+    }
+
+    pub fn is_leaf(&self, node: u32) -> bool
+        requires there { node < nodes self.now.policy.tree }
+        ensures leaf { IsTrue result ↔ LeadsToLeaf self.now.policy.tree (address_at self.now.policy.tree node) }
+    {
+        self.tree.is_leaf(node)
+    }
+
+    /// The number of a node's child at a digit.
+    pub fn child(&self, node: u32, digit: u32) -> u32
+        requires there { node < nodes self.now.policy.tree }
+        requires child { IsAddressOf self.now.policy.tree (address_at self.now.policy.tree node ++ digit ∷ []) }
+        ensures child { result ≡ number_at self.now.policy.tree (address_at self.now.policy.tree node ++ digit ∷ []) }
+        ensures address { address_at self.now.policy.tree result ≡ address_at self.now.policy.tree node ++ digit ∷ [] }
+        ensures within { result < nodes self.now.policy.tree }
+    {
+        self.tree.child(node, digit)
+    }
+
+    /// The transaction of a node or leaf.
+    pub fn checked(&self, node: u32) -> &Checked
+        requires there { node < nodes self.now.policy.tree }
+        ensures program { IsSomeAnd (node_at self.now.policy.tree (address_at self.now.policy.tree node)) (λ n. result.now ≡ n.program) }
+    {
+        let station = station_of(&self.tree, self.stations.as_slice(), node);
+        &self.programs.as_slice()[station.program as usize]
+    }
+
+    /// The marks of a node or leaf.
+    pub fn attrs(&self, node: u32) -> Marks
+        requires there { node < nodes self.now.policy.tree }
+        ensures marks { IsSomeAnd (node_at self.now.policy.tree (address_at self.now.policy.tree node)) (λ n. told result ≡ n.marks) }
+    {
+        station_of(&self.tree, self.stations.as_slice(), node).marks
+    }
+
+    /// The classes, the first to be tried first, each with the number of its leaf.
+    pub fn classes(&self) -> &[Class]
+        ensures classes { map (class_in self.now.policy.tree) result.now ≡ self.now.policy.classes }
+        ensures conditions { map (λ c. c.conditions) result.now ≡ self.now.conditions }
+        ensures leaves { AllByRecursion (λ c. c.leaf < nodes self.now.policy.tree) result.now }
+        ensures accepted { IsAccepted self.now.policy }
+    {
+        self.classes.as_slice()
+    }
+}
+
+/// The station of a node of the tree.
+fn station_of<'a>(tree: &Preorder, stations: &'a [Station], node: u32) -> &'a Station
+    requires there { node < length tree.now.rows }
+    requires stations { HaveStations tree.now stations.now }
+    ensures { result.now ≡ station_at stations.entry.now (row_at tree.now.rows node).node }
+{
+    &stations[tree.node(node) as usize]
+}
