@@ -2,11 +2,13 @@
 #![tactic(auto)]
 
 mod bytes;
+mod classes;
 mod ethernet;
 mod flows;
 mod headers;
 mod internet;
 
+pub use classes::classify;
 pub use flows::flow;
 pub use headers::read_fields;
 pub use packet_defs::{Departed, Fields, Packet};
