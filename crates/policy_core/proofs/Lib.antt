@@ -1,3 +1,4 @@
 pub mod Numbers
 pub mod Rows
 pub mod Whole
+pub mod Samples

@@ -1,10 +1,10 @@
 -- Numbers and addresses give each other, in any tree; and what a tree made of a topology has at them.
-use Rattle.std.proofs.Common.{◌≡◌, ℕ, zero, suc, ◌+◌, ◌-◌, ◌<◌, ◌≤◌, Bool, true, false, List, [], ◌∷◌, ◌++◌, Some, None, refl, sym, ap, subst, ◌∙◌, arith, inl, inr, nat_lt}
+use Rattle.std.proofs.Common.{◌≡◌, ℕ, zero, suc, ◌+◌, ◌-◌, ◌<◌, [], ◌∷◌, Some, None, refl, sym, ap, subst, ◌∙◌, arith, inl, inr, nat_lt}
 use Rattle.std.proofs.lemmas.Bool.{cases_lt, lt-ltb, le-ltb}
-use Rattle.std.specs.Prelude.{if◌then◌else◌, IsSomeAnd}
+use Rattle.std.specs.Prelude.{if◌then◌else◌}
 use Rattle.tree_defs.specs.Tree.{Tree, leaf, inner, Trees, none, more, Address, nodes, nodes_below, subtree, subtree_in, IsAddressOf}
 use Rattle.tree_defs.specs.Topology.{Topology, topology_of, topologies_of}
-use Rattle.tree_defs.proofs.Shapes.{nodes-topology, nodes_below-topology}
+use Rattle.tree_defs.proofs.Shapes.{nodes-topology}
 use Rattle.policy_defs.specs.Policy.{Node, node_at, node_below}
 use Rattle.policy_defs.specs.Numbers.{number_at, number_below}
 use Rattle.policy_core.specs.Numbering.{nodes_from, nodes_from_below, sibling_of, address_at, address_below}

@@ -1,5 +1,5 @@
 -- What the parts of a policy say of its value.
-use Rattle.std.proofs.Common.{◌≡◌, ℕ, ◌+◌, ◌<◌, ◌≤◌, ◌↔◌, Bool, List, [], ◌∷◌, ◌++◌, length, map, Option, Some, refl, sym, ap, subst, ◌∙◌, arith, zero, suc, get_or}
+use Rattle.std.proofs.Common.{◌≡◌, ℕ, ◌<◌, ◌≤◌, ◌↔◌, Bool, List, [], ◌∷◌, ◌++◌, length, Option, Some, sym, ap, subst, ◌∙◌, arith, zero, suc, get_or}
 use Rattle.std.specs.Prelude.{IsSomeAnd, IsTrue}
 use Rattle.std.specs.List.{AllByRecursion}
 use Rattle.std.proofs.lemmas.List.{get_or_default}
@@ -12,13 +12,13 @@ use Rattle.policy_defs.specs.Accepted.{IsAccepted}
 use Rattle.policy_defs.specs.Numbers.{number_at}
 use Rattle.resolve_defs.specs.Resolved.{Resolved}
 use Rattle.lineage_core.specs.Row.{Row, row, row_at}
-use Rattle.lineage_core.specs.Preorder.{Numbered, rows}
+use Rattle.lineage_core.specs.Preorder.{Numbered}
 use Rattle.lineage_core.proofs.Growing.{length-rows}
 use Rattle.policy_core.specs.declared.parts.Station.{Station}
 use Rattle.policy_core.specs.declared.parts.Class.{Class}
-use Rattle.policy_core.specs.Numbering.{nodes_from, address_at}
-use Rattle.policy_core.specs.Parts.{resolved, tree_of, node_of, station_at, no_station, no_program, told, AreNumbered, HaveLeaves, IsWhole}
-use Rattle.policy_core.proofs.Numbers.{IsNumber, number-undone, IsAddress, address-undone, address_at-topology, address-down, address-up, topology_of-nodes, nodes-made, address-made, node_numbered}
+use Rattle.policy_core.specs.Numbering.{address_at}
+use Rattle.policy_core.specs.Parts.{resolved, tree_of, node_of, station_at, no_station, no_program, told, AreNumbered, IsWhole}
+use Rattle.policy_core.proofs.Numbers.{IsAddress, address-undone, address_at-topology, address-down, address-up, topology_of-nodes, node_numbered}
 use Rattle.policy_core.proofs.Rows.{IsRowAt, row-numbered}
 
 pub all-at : {X : Type 0} (P : X → Type 0) (xs : List X) (i : ℕ) (d : X) → AllByRecursion P xs → i < length xs → P (get_or xs i d)

@@ -2,3 +2,4 @@ pub mod Numbering
 pub mod Parts
 pub mod Codes
 pub mod Laws
+pub mod Samples

@@ -6,7 +6,7 @@ use Rattle.rank_defs.specs.Programs.{Program}
 use Rattle.policy_defs.specs.Policy.{Node, Class as Aimed, Marks as Told}
 use Rattle.policy_defs.specs.Accepted.{IsAccepted}
 use Rattle.resolve_defs.specs.Resolved.{Resolved}
-use Rattle.lineage_core.specs.Row.{Row, row_at}
+use Rattle.lineage_core.specs.Row.{row_at}
 use Rattle.lineage_core.specs.Preorder.{Numbered, IsNumberedBy}
 use Rattle.policy_core.specs.declared.parts.Marks.{Marks}
 use Rattle.policy_core.specs.declared.parts.Station.{Station}

@@ -8,3 +8,6 @@ mod policy;
 pub use laws::{addresses_undo_numbers, numbers_undo_addresses};
 pub use parts::{Class, Marks, Station};
 pub use policy::Policy;
+
+#[cfg(test)]
+mod tests;

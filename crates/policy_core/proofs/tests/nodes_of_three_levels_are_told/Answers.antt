@@ -1,0 +1,8 @@
+use Rattle.std.proofs.Common.{subst, sym, ◌∷◌, [], ◌++◌, refl}
+use Rattle.tree_defs.specs.Tree.{IsAddressOf}
+use Rattle.resolve_defs.specs.Resolved.{Resolved}
+use Rattle.policy_core.specs.Numbering.{address_at}
+use Rattle.policy_core.proofs.tests.nodes_of_three_levels_are_told.Goals as goal
+
+pub child-requires-clause-child : goal.child-requires-clause-child
+child-requires-clause-child g c = subst (λ (r : Resolved). IsAddressOf r.policy.tree (address_at r.policy.tree 0 ++ 0 ∷ [])) (sym c.in_ok-policy.ensures) (_, refl)
