@@ -66,12 +66,10 @@ fn meets_all(conditions: &[Condition], fields: &Fields, len: u32) -> bool
 }
 
 /// The place of the first class all of whose conditions a packet of this original length meets.
-fn first_met(classes: &[Class], fields: &Fields, len: u32) -> Option<usize>
+pub(crate) fn first_met(classes: &[Class], fields: &Fields, len: u32) -> Option<usize>
     ensures { result ≡ position (λ c. meets_all fields.now len c.conditions) classes.now }
 {
-    classes
-        .iter()
-        .position(|class| meets_all(class.conditions.as_slice(), fields, len))
+    classes.iter().position(|class| meets_all(class.conditions.as_slice(), fields, len))
 }
 
 /// The first class all of whose conditions a packet of this original length meets. The last class has none, so there is one.

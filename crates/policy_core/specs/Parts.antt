@@ -1,8 +1,9 @@
 -- The policy that a tree of numbered nodes, stations, transactions and classes give.
-use Rattle.std.specs.Prelude.{◌<◌, ℕ, List, [], map, length, slice_index_or}
+use Rattle.std.specs.Prelude.{◌≡◌, ◌<◌, ◌≤◌, ℕ, List, [], ◌∷◌, ◌++◌, map, length, slice_index_or}
 use Rattle.std.specs.List.{AllByRecursion}
 use Rattle.tree_defs.specs.Tree.{Tree}
 use Rattle.rank_defs.specs.Programs.{Program}
+use Rattle.policy_text_defs.specs.declared.condition.Condition.{Condition}
 use Rattle.policy_defs.specs.Policy.{Node, Class as Aimed, Marks as Told}
 use Rattle.policy_defs.specs.Accepted.{IsAccepted}
 use Rattle.resolve_defs.specs.Resolved.{Resolved}
@@ -60,9 +61,19 @@ HavePrograms stations programs = AllByRecursion (λ s. s.program < length progra
 abbrev pub HaveLeaves : Numbered → List Class → Type 0
 HaveLeaves tree classes = AllByRecursion (λ c. c.leaf < length tree.rows) classes
 
+-- the most classes
+abbrev pub most_classes : ℕ
+most_classes = 256
+
+-- the last class has no condition
+abbrev pub HasCatchAll : List (List Condition) → Type 0
+HasCatchAll conditions = (others : List (List Condition)) × (conditions ≡ others ++ [] ∷ [])
+
 pub record IsWhole (tree : Numbered) (ss : List Station) (ps : List Program) (cs : List Class) : Type 0 where
   pub numbered : AreNumbered tree
   pub stations : HaveStations tree ss
   pub programs : HavePrograms ss ps
   pub leaves : HaveLeaves tree cs
+  pub few : length cs ≤ most_classes
+  pub catch_all : HasCatchAll (map (λ c. c.conditions) cs)
   pub accepted : IsAccepted (resolved tree ss ps cs).policy

@@ -7,7 +7,7 @@ ghost use Rattle.policy_defs.specs.Policy.{node_at};
 ghost use Rattle.policy_defs.specs.Accepted.{IsAccepted};
 ghost use Rattle.policy_defs.specs.Numbers.{number_at};
 ghost use Rattle.policy_core.specs.Numbering.{address_at};
-ghost use Rattle.policy_core.specs.Parts.{resolved, told, class_in, AreNumbered, HaveStations, HavePrograms, HaveLeaves, station_at};
+ghost use Rattle.policy_core.specs.Parts.{resolved, told, class_in, AreNumbered, HaveStations, HavePrograms, HaveLeaves, HasCatchAll, most_classes, station_at};
 ghost use Rattle.lineage_core.specs.Row.{row_at};
 
 use crate::parts::{Class, Marks, Station};
@@ -52,6 +52,8 @@ impl Policy {
         requires stations { HaveStations tree stations }
         requires programs { HavePrograms stations programs }
         requires leaves { HaveLeaves tree classes }
+        requires few { length classes ≤ most_classes }
+        requires catch_all { HasCatchAll (map (λ c. c.conditions) classes) }
         requires accepted { IsAccepted (resolved tree stations programs classes).policy }
         ensures policy { result ≡ resolved tree stations programs classes }
     {
@@ -147,6 +149,8 @@ impl Policy {
         ensures classes { map (class_in self.now.policy.tree) result.now ≡ self.now.policy.classes }
         ensures conditions { map (λ c. c.conditions) result.now ≡ self.now.conditions }
         ensures leaves { AllByRecursion (λ c. c.leaf < nodes self.now.policy.tree) result.now }
+        ensures few { length result.now ≤ most_classes }
+        ensures catch_all { HasCatchAll self.now.conditions }
         ensures accepted { IsAccepted self.now.policy }
     {
         self.classes.as_slice()

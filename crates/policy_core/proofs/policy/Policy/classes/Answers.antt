@@ -1,8 +1,10 @@
 use Rattle.std.proofs.Common.{subst, sym}
-use Rattle.std.specs.Prelude.{List, ◌<◌}
+use Rattle.std.specs.Prelude.{List, ◌<◌, ◌≤◌, length}
 use Rattle.std.specs.List.{AllByRecursion}
 use Rattle.tree_defs.specs.Tree.{nodes}
 use Rattle.policy_core.specs.declared.parts.Class.{Class}
+use Rattle.policy_core.specs.Parts.{HasCatchAll, most_classes}
+use Rattle.resolve_defs.specs.Resolved.{Resolved}
 use Rattle.policy_core.proofs.Whole.{leaves-there}
 use Rattle.policy_core.proofs.policy.Policy.classes.Goals as goal
 
@@ -10,3 +12,9 @@ pub returns-clause-leaves : goal.returns-clause-leaves
 returns-clause-leaves c =
     subst (λ (cs : List Class). AllByRecursion (λ x. x.leaf < nodes c.args.self.now.policy.tree) cs) (sym c.as_slice.ensures)
     (leaves-there _ _ _ _ c.args.self.now c.self.view_is c.self.invariant)
+
+pub returns-clause-few : goal.returns-clause-few
+returns-clause-few c = subst (λ (cs : List Class). length cs ≤ most_classes) (sym c.as_slice.ensures) c.self.invariant.few
+
+pub returns-clause-catch_all : goal.returns-clause-catch_all
+returns-clause-catch_all c = subst (λ (r : Resolved). HasCatchAll r.conditions) c.self.view_is c.self.invariant.catch_all

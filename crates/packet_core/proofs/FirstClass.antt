@@ -1,0 +1,53 @@
+-- The first class that is met, by the conditions alone.
+use Rattle.std.proofs.Common.{◌≡◌, ◌<◌, ◌≤◌, ◌+◌, ℕ, suc, Bool, true, false, not, List, [], ◌∷◌, ◌++◌, Option, Some, None, refl, sym, ap, ◌∙◌, cond, nat_lt, map, length, position, arith}
+use Rattle.std.specs.List.{list_all, position_or_len}
+use Rattle.std.proofs.lemmas.Bool.{lt-ltb}
+use Rattle.std.proofs.lemmas.List.Folds.{list_all-map}
+use Rattle.packet_defs.specs.declared.fields.Fields.{Fields}
+use Rattle.packet_defs.specs.Condition.{meets, class_of}
+use Rattle.policy_text_defs.specs.declared.condition.Condition.{Condition}
+use Rattle.policy_core.specs.declared.parts.Class.{Class}
+use Rattle.policy_core.specs.Parts.{HasCatchAll}
+use Rattle.packet_core.specs.Conditions.{condition_of, conditions_of, meets_all}
+
+position_or_len-map : {X Y : Type 0} (f : X → Y) (t : Y → Bool) (xs : List X) → position_or_len t (map f xs) ≡ position_or_len (λ x. t (f x)) xs
+position_or_len-map f t [] = refl
+position_or_len-map f t (x ∷ xs) = ap (λ n. cond (not (t (f x))) (1 + n) 0) (position_or_len-map f t xs)
+
+length-map : {X Y : Type 0} (f : X → Y) (xs : List X) → length (map f xs) ≡ length xs
+length-map f [] = refl
+length-map f (x ∷ xs) = ap suc (length-map f xs)
+
+position-map : {X Y : Type 0} (f : X → Y) (t : Y → Bool) (xs : List X) → position (λ x. t (f x)) xs ≡ position t (map f xs)
+position-map f t xs =
+    ap (λ n. cond (nat_lt n (length xs)) (Some n) None) (sym (position_or_len-map f t xs))
+    ∙ ap (λ n. cond (nat_lt (position_or_len t (map f xs)) n) (Some (position_or_len t (map f xs))) None) (sym (length-map f xs))
+
+pub class_of-classes : (fields : Fields) (n : ℕ) (classes : List Class)
+    → position (λ c. meets_all fields n c.conditions) classes ≡ class_of (conditions_of (map (λ c. c.conditions) classes)) fields n
+class_of-classes fields n classes =
+    position-map (λ (c : Class). c.conditions) (meets_all fields n) classes
+    ∙ (λ i. position (λ (cs : List Condition). sym (list_all-map (meets fields n) condition_of cs) i) (map (λ (c : Class). c.conditions) classes))
+    ∙ position-map (λ (cs : List Condition). map condition_of cs) (list_all (meets fields n)) (map (λ (c : Class). c.conditions) classes)
+
+found-later : {X : Type 0} (t : X → Bool) (y : X) (ys : List X) → position_or_len t ys < length ys → position_or_len t (y ∷ ys) < length (y ∷ ys)
+found-later t y ys inside = by_first (t y) refl
+  where
+    by_first : (b : Bool) → t y ≡ b → position_or_len t (y ∷ ys) < length (y ∷ ys)
+    by_first true is = rw (is) (omega arith)
+    by_first false is = rw (is) (omega arith)
+
+-- where the last one passes, one is found
+found-last : {X : Type 0} (t : X → Bool) (xs : List X) (x : X) → t x ≡ true → position_or_len t (xs ++ x ∷ []) < length (xs ++ x ∷ [])
+found-last t [] x passes = rw (passes) (omega arith)
+found-last t (y ∷ ys) x passes = found-later t y (ys ++ x ∷ []) (found-last t ys x passes)
+
+-- where a class without conditions stands last, some class is met
+pub some-class : (fields : Fields) (n : ℕ) (classes : List Class) → HasCatchAll (map (λ c. c.conditions) classes) → position (λ c. meets_all fields n c.conditions) classes ≡ None → ⊥
+some-class fields n classes last none =
+    let test : List Condition → Bool = meets_all fields n in
+    let all : List (List Condition) = last.0 ++ [] ∷ [] in
+    let inside : position_or_len test all < length all = found-last test last.0 [] refl in
+    let found : position test all ≡ Some (position_or_len test all) = rw (lt-ltb (position_or_len test all) (length all) inside) refl in
+    let same : Some (position_or_len test all) ≡ None = sym found ∙ ap (λ (cs : List (List Condition)). position test cs) (sym last.1) ∙ sym (position-map (λ (c : Class). c.conditions) test classes) ∙ none in
+    absurd cc
