@@ -1,3 +1,5 @@
 pub mod Earlier
 pub mod Turns
 pub mod Bodies
+pub mod OpenVariables
+pub mod SpaceLemmas

@@ -9,7 +9,7 @@ ghost use Rattle.declaration_core.specs.Passes.{IsFirst};
 ghost use Rattle.declaration_core.specs.Kept.{AreSpaces, AreVariables};
 
 use crate::spaces::Spaces;
-use crate::variables::see_variable;
+use crate::variables::variables_after;
 use crate::words::{is_builtin, is_packet_number};
 use list_core::Name;
 use names_core::Names;
@@ -94,7 +94,7 @@ pub fn first_unknown(
         if !is_known(spaces, &variables, statement) {
             return Ok(Some(*line));
         }
-        see_variable(alloc, &mut variables, statement)?;
+        variables = variables_after(alloc, variables, statement)?;
     }
     Ok(None)
 }

@@ -6,7 +6,7 @@ ghost use Rattle.resolve_defs.specs.Codes.{code_of};
 ghost use Rattle.resolve_defs.specs.Entries.{entries_of, AreRising};
 ghost use Rattle.declaration_core.specs.Kept.{AreSpaces, AreVariables};
 
-use crate::variables::see_variable;
+use crate::variables::variables_after;
 use crate::words::is_builtin;
 use names_core::Names;
 use policy_text_defs::Statement;
@@ -58,20 +58,22 @@ impl<'a> Spaces<'a> {
         match statement {
             Statement::Transaction(name) => {
                 self.transactions.add(name.as_str())?;
+                Ok(())
             }
             Statement::Class(name, _, _) => {
                 self.classes.add(name.as_str())?;
+                Ok(())
             }
             Statement::Leaf(name, _, _, _) | Statement::Node(name, _, _, _) => {
                 self.nodes.add(name.as_str())?;
+                Ok(())
             }
             Statement::Version(_)
             | Statement::Keep(..)
             | Statement::Each(..)
             | Statement::Push(..)
-            | Statement::Pop(..) => {}
+            | Statement::Pop(..) => Ok(()),
         }
-        Ok(())
     }
 }
 
@@ -91,7 +93,7 @@ pub fn declared<'a>(alloc: Global, lines: &'a [(u32, Statement)]) -> Result<Spac
             return Err(PolicyFault::Twice(*line));
         }
         spaces.add(statement)?;
-        see_variable(alloc, &mut variables, statement)?;
+        variables = variables_after(alloc, variables, statement)?;
     }
     Ok(spaces)
 }

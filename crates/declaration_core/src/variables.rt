@@ -1,4 +1,4 @@
-ghost use Rattle.std.specs.Prelude.{◌≡◌, ℕ, List, ◌∷◌, ◌++◌, [], OnOk};
+ghost use Rattle.std.specs.Prelude.{◌≡◌, ℕ, List, ◌∷◌, ◌++◌, [], IfOk};
 ghost use Rattle.policy_text_defs.specs.Sense.{Entry, entry, sense_of};
 ghost use Rattle.declaration_core.specs.Kept.{AreVariables};
 
@@ -6,25 +6,25 @@ use names_core::Names;
 use policy_text_defs::Statement;
 use std::alloc::{AllocError, Global};
 
-/// Adds the variable that a statement declares to those of its transaction, which begins with none.
-pub fn see_variable<'a>(
+/// The variables of a transaction with the one that a statement declares. A transaction begins with none.
+pub fn variables_after<'a>(
     alloc: Global,
-    variables: &mut Names<'a>,
+    mut variables: Names<'a>,
     statement: &'a Statement,
-) -> Result<(), AllocError>
-    ensures { (earlier : List Entry) (line : ℕ) → AreVariables earlier variables.old → OnOk result (AreVariables (earlier ++ entry line (sense_of statement.entry.now) ∷ []) variables.new) }
+) -> Result<Names<'a>, AllocError>
+    ensures { (earlier : List Entry) (line : ℕ) → AreVariables earlier variables.entry → IfOk result (AreVariables (earlier ++ entry line (sense_of statement.entry.now) ∷ [])) }
 {
     match statement {
-        Statement::Transaction(_) => *variables = Names::new(alloc),
+        Statement::Transaction(_) => Ok(Names::new(alloc)),
         Statement::Keep(name, _) | Statement::Each(name, _) => {
             variables.add(name.as_str())?;
+            Ok(variables)
         }
         Statement::Version(_)
         | Statement::Push(..)
         | Statement::Pop(..)
         | Statement::Class(..)
         | Statement::Leaf(..)
-        | Statement::Node(..) => {}
+        | Statement::Node(..) => Ok(variables),
     }
-    Ok(())
 }
