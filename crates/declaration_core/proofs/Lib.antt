@@ -3,3 +3,4 @@ pub mod Turns
 pub mod Bodies
 pub mod OpenVariables
 pub mod SpaceLemmas
+pub mod Operands

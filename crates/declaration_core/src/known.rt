@@ -1,8 +1,9 @@
-ghost use Rattle.std.specs.Prelude.{◌≡◌, ℕ, List, IfOk, codes, ◌&&◌};
+ghost use Rattle.std.specs.Prelude.{◌≡◌, ℕ, List, IfOk, codes, ◌||◌};
 ghost use Rattle.std.specs.List.{list_all};
+ghost use Rattle.std.specs.Str.{bytes_eq};
 ghost use Rattle.policy_text_defs.specs.Phrase.{phrase_of};
 ghost use Rattle.policy_text_defs.specs.Sense.{Entry, sense_of};
-ghost use Rattle.resolve_defs.specs.Names.{Name, has};
+ghost use Rattle.resolve_defs.specs.Names.{has};
 ghost use Rattle.resolve_defs.specs.Clauses.{IsUnknown, is_known, are_operands_known, is_transaction_known};
 ghost use Rattle.resolve_defs.specs.Entries.{entries_of, AreRising};
 ghost use Rattle.declaration_core.specs.Passes.{IsFirst};
@@ -37,6 +38,13 @@ fn are_operands_known(variables: &Names, term: &Term) -> bool
     }
 }
 
+/// Whether a push line may set this: the rank, or a variable.
+fn is_target_known(variables: &Names, name: &str) -> bool
+    ensures { result ≡ (bytes_eq name.now (codes "rank") || has variables.now name.now) }
+{
+    name == "rank" || variables.contains(name)
+}
+
 /// Whether each name is among those that were declared.
 fn are_among(names: &[Name], declared: &Names) -> bool
     ensures { result ≡ list_all (has declared.now) names.now }
@@ -57,8 +65,7 @@ fn is_known(spaces: &Spaces, variables: &Names, statement: &Statement) -> bool
 {
     match statement {
         Statement::Push(name, value) => {
-            (name.as_str() == "rank" || variables.contains(name.as_str()))
-                && are_operands_known(variables, value)
+            is_target_known(variables, name.as_str()) && are_operands_known(variables, value)
         }
         Statement::Pop(name, value) => {
             variables.contains(name.as_str()) && are_operands_known(variables, value)
