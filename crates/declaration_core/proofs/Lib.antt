@@ -4,3 +4,4 @@ pub mod Bodies
 pub mod OpenVariables
 pub mod SpaceLemmas
 pub mod Operands
+pub mod RoomLemmas
