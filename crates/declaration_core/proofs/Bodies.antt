@@ -1,11 +1,11 @@
 -- One more statement, and what the passes keep.
-use Rattle.std.proofs.Common.{◌≡◌, ℕ, ◌+◌, Bool, true, false, not, ◌||◌, ◌&&◌, List, [], ◌∷◌, ◌++◌, refl, sym, ap, ◌∙◌, cond, if◌then◌else◌, Option, Some, None, option_map}
+use Rattle.std.proofs.Common.{◌≡◌, Bool, true, false, ◌||◌, List, [], ◌∷◌, ◌++◌, refl, ap, ◌∙◌, if◌then◌else◌, Option, Some}
 use Rattle.std.proofs.lemmas.List.Elements.{filter_map-append}
 use Rattle.std.specs.List.{list_any}
-use Rattle.policy_text_defs.specs.Sense.{Sense, Entry, entry}
+use Rattle.policy_text_defs.specs.Sense.{Sense, Entry}
 use Rattle.resolve_defs.specs.Names.{Name, declared}
 use Rattle.resolve_defs.specs.Bodies.{is_transaction, open_body}
-use Rattle.resolve_defs.specs.Clauses.{last_of, is_placed}
+use Rattle.resolve_defs.specs.Clauses.{is_placed}
 use Rattle.declaration_core.specs.Kept.{last_sense, is_placed_behind}
 
 -- the last statement is the one that came last

@@ -1,5 +1,5 @@
 -- The variables of the open transaction after one more statement.
-use Rattle.std.proofs.Common.{◌≡◌, ℕ, Bool, true, false, ◌||◌, List, [], ◌∷◌, ◌++◌, refl, sym, ap, ◌∙◌, Option, Some, None}
+use Rattle.std.proofs.Common.{◌≡◌, ℕ, Bool, true, false, ◌||◌, List, [], ◌∷◌, ◌++◌, refl, sym, ap, ◌∙◌, Some, None}
 use Rattle.std.proofs.lemmas.List.Folds.{list_any-append}
 use Rattle.std.specs.List.{cons_option}
 use Rattle.std.specs.Str.{bytes_eq}
@@ -29,7 +29,7 @@ pub variables-added : (earlier : List Entry) (e : Entry) (a : Name) (vs vs' : Li
 variables-added earlier e a vs vs' other names kept after = λ n.
     ap (λ l. has l n) after ∙ has-with_name vs a n ∙ ap (λ b. b || bytes_eq n a) (kept n)
     ∙ sym (ap (λ l. has l n) (open_variables-line earlier e other ∙ ap (λ o. open_variables earlier ++ cons_option o []) names)
-        ∙ list_any-append (bytes_eq n) (open_variables earlier) (a ∷ []) ∙ ap (λ b. has (open_variables earlier) n || b) (or_false (bytes_eq n a)))
+    ∙ list_any-append (bytes_eq n) (open_variables earlier) (a ∷ []) ∙ ap (λ b. has (open_variables earlier) n || b) (or_false (bytes_eq n a)))
 
 pub variables-same : (earlier : List Entry) (e : Entry) (vs : List Name) → is_transaction e ≡ false → variable_name e.1 ≡ None → AreVariables earlier vs → AreVariables (earlier ++ e ∷ []) vs
 variables-same earlier e vs other names kept = λ n.

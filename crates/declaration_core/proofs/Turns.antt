@@ -1,6 +1,6 @@
 -- One turn of a pass over the statements as they are kept.
-use Rattle.std.proofs.Common.{◌≡◌, ℕ, ◌+◌, ◌<◌, ◌≤◌, Bool, true, false, List, [], ◌∷◌, ◌++◌, refl, sym, ap, subst, ◌∙◌, length, take, get_or, map, true≢false}
-use Rattle.std.proofs.lemmas.List.{length-map, take-map, get_or-map, take_more}
+use Rattle.std.proofs.Common.{◌≡◌, ℕ, ◌+◌, ◌<◌, ◌≤◌, Bool, true, false, List, [], ◌∷◌, ◌++◌, sym, ap, subst, ◌∙◌, length, take, get_or, true≢false}
+use Rattle.std.proofs.lemmas.List.{length-map, get_or-map, take_more}
 use Rattle.std.proofs.lemmas.List.Elements.{AllWithin-none, AllWithin-upto, All-from_all_within}
 use Rattle.policy_text_defs.specs.declared.statement.Statement.{Statement}
 use Rattle.policy_text_defs.specs.Sense.{Sense, Entry, entry, sense_of}
@@ -20,7 +20,7 @@ length-entries lines = length-map lines entry_of
 pub entry_here : (lines : List (ℕ × Statement)) (i : ℕ) (l : ℕ × Statement) → i < length lines → l ≡ get_or lines i l → entry_of l ≡ get_or (entries_of lines) i (entry_of l)
 entry_here lines i l within is = ap entry_of is ∙ sym (get_or-map entry_of lines i l (entry_of l) within)
 
-within_entries : (lines : List (ℕ × Statement)) (i : ℕ) → i < length lines → i < length (entries_of lines)
+pub within_entries : (lines : List (ℕ × Statement)) (i : ℕ) → i < length lines → i < length (entries_of lines)
 within_entries lines i within = subst (λ n. i < n) (sym (length-entries lines)) within
 
 -- what a pass says of nothing

@@ -1,6 +1,8 @@
 -- What passes keep of the statements that they saw.
-use Rattle.std.specs.Prelude.{ℕ, ◌≡◌, ◌+◌, Bool, not, ◌&&◌, ◌||◌, Option, Some, None, List, length, option_map}
+use Rattle.std.specs.Prelude.{◌≡◌, ◌+◌, Bool, not, ◌&&◌, ◌||◌, Option, Some, None, List, length, option_map}
 use Rattle.policy_text_defs.specs.Sense.{Sense, Entry}
+use Rattle.declaration_core.specs.declared.spaces.Spaces.{Spaces}
+use Rattle.declaration_core.specs.declared.room.Room.{Room}
 use Rattle.resolve_defs.specs.Names.{Name, has, transaction_name, class_name, node_name, variable_name, declared}
 use Rattle.resolve_defs.specs.Bodies.{stage, is_body, open_body}
 use Rattle.resolve_defs.specs.Clauses.{is_version, may_follow, last_of, most_classes, most_nodes, most_transactions, most_variables, most_assignments, assignments_in}
@@ -15,10 +17,10 @@ is_placed_behind None s = is_version s
 is_placed_behind (Some last) s = not (is_version s) && (not (is_body s) || may_follow (stage last) (stage s))
 
 -- the names of the three spaces in which all statements declare
-pub record AreSpaces (entries : List Entry) (transactions classes nodes : List Name) : Type 0 where
-  pub transactions_are : transactions ≡ declared transaction_name entries
-  pub classes_are : classes ≡ declared class_name entries
-  pub nodes_are : nodes ≡ declared node_name entries
+pub record AreSpaces (entries : List Entry) (spaces : Spaces) : Type 0 where
+  pub transactions_are : spaces.transactions ≡ declared transaction_name entries
+  pub classes_are : spaces.classes ≡ declared class_name entries
+  pub nodes_are : spaces.nodes ≡ declared node_name entries
 
 -- the variables of the last transaction
 abbrev pub open_variables : List Entry → List Name
@@ -28,10 +30,10 @@ open_variables entries = declared variable_name (open_body entries)
 abbrev pub AreVariables : List Entry → List Name → Type 0
 AreVariables entries variables = (n : Name) → has variables n ≡ has (open_variables entries) n
 
--- so many more may come: classes, nodes and leaves, transactions, and in the last transaction variables and assignments
-pub record IsRoom (entries : List Entry) (classes nodes transactions variables assignments : ℕ) : Type 0 where
-  pub for_classes : length (declared class_name entries) + classes ≡ most_classes
-  pub for_nodes : length (declared node_name entries) + nodes ≡ most_nodes
-  pub for_transactions : length (declared transaction_name entries) + transactions ≡ most_transactions
-  pub for_variables : length (open_variables entries) + variables ≡ most_variables
-  pub for_assignments : assignments_in (open_body entries) + assignments ≡ most_assignments
+-- so many more may come, the variables and assignments in the last transaction
+pub record IsRoom (entries : List Entry) (room : Room) : Type 0 where
+  pub for_classes : length (declared class_name entries) + room.classes ≡ most_classes
+  pub for_nodes : length (declared node_name entries) + room.nodes ≡ most_nodes
+  pub for_transactions : length (declared transaction_name entries) + room.transactions ≡ most_transactions
+  pub for_variables : length (open_variables entries) + room.variables ≡ most_variables
+  pub for_assignments : assignments_in (open_body entries) + room.assignments ≡ most_assignments

@@ -13,9 +13,12 @@ use resolve_defs::PolicyFault;
 use std::alloc::Global;
 
 /// The names that statements declare, where none fails one of the first four clauses of an accepted policy.
-pub fn declarations<'a>(alloc: Global, lines: &'a [(u32, Statement)]) -> Result<Spaces<'a>, PolicyFault>
+pub fn declarations<'a>(
+    alloc: Global,
+    lines: &'a [(u32, Statement)],
+) -> Result<Spaces<'a>, PolicyFault>
     requires rising { AreRising (entries_of lines.now) }
-    ensures spaces { IfOk result (λ s. AreSpaces (entries_of lines.entry.now) s.transactions s.classes s.nodes) }
+    ensures spaces { IfOk result (AreSpaces (entries_of lines.entry.now)) }
     ensures few { OnOk result (AreFew (entries_of lines.entry.now)) }
     ensures fault { IfErr result (IsFault (entries_of lines.entry.now)) }
     ensures early { IfErr result (λ f. code_of f ≤ 4) }

@@ -23,9 +23,7 @@ fn are_operands_known(variables: &Names, term: &Term) -> bool
 {
     match term {
         Term::Number(_) => true,
-        Term::Word(word) => {
-            is_packet_number(word.as_str()) || variables.contains(word.as_str())
-        }
+        Term::Word(word) => { is_packet_number(word.as_str()) || variables.contains(word.as_str()) }
         Term::Two(_, left, right) => {
             are_operands_known(variables, left) && are_operands_known(variables, right)
         }
@@ -54,14 +52,14 @@ fn are_among(names: &[Name], declared: &Names) -> bool
 
 /// Whether a transaction is built in or declared.
 fn is_transaction_known(spaces: &Spaces, name: &str) -> bool
-    ensures { (entries : List Entry) → AreSpaces entries spaces.now.transactions spaces.now.classes spaces.now.nodes → result ≡ is_transaction_known entries name.now }
+    ensures { (entries : List Entry) → AreSpaces entries spaces.now → result ≡ is_transaction_known entries name.now }
 {
     is_builtin(name) || spaces.transactions.contains(name)
 }
 
 /// Whether all names that a statement uses are declared.
 fn is_known(spaces: &Spaces, variables: &Names, statement: &Statement) -> bool
-    ensures { (entries earlier : List Entry) → AreSpaces entries spaces.now.transactions spaces.now.classes spaces.now.nodes → AreVariables earlier variables.now → result ≡ is_known entries earlier (sense_of statement.now) }
+    ensures { (entries earlier : List Entry) → AreSpaces entries spaces.now → AreVariables earlier variables.now → result ≡ is_known entries earlier (sense_of statement.now) }
 {
     match statement {
         Statement::Push(name, value) => {
@@ -93,7 +91,7 @@ pub fn first_unknown(
     spaces: &Spaces,
 ) -> Result<Option<u32>, AllocError>
     requires rising { AreRising (entries_of lines.now) }
-    requires spaces { AreSpaces (entries_of lines.now) spaces.now.transactions spaces.now.classes spaces.now.nodes }
+    requires spaces { AreSpaces (entries_of lines.now) spaces.now }
     ensures { IfOk result (IsFirst (IsUnknown (entries_of lines.now)) (entries_of lines.now)) }
 {
     let mut variables = Names::new(alloc);

@@ -13,3 +13,6 @@ mod words;
 pub use clauses::declarations;
 pub use spaces::Spaces;
 pub use words::is_builtin;
+
+#[cfg(test)]
+mod tests;

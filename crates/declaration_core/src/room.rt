@@ -42,7 +42,7 @@ fn take_one(left: &mut u32) -> bool
 
 impl Room {
     fn new() -> Room
-        ensures { IsRoom [] result.classes result.nodes result.transactions result.variables result.assignments }
+        ensures { IsRoom [] result }
     {
         Room {
             classes: MOST_CLASSES,
@@ -55,8 +55,8 @@ impl Room {
 
     /// Gives a statement its room. False where there is none.
     fn admit(&mut self, statement: &Statement) -> bool
-        ensures beyond { (earlier : List Entry) → IsRoom earlier self.old.classes self.old.nodes self.old.transactions self.old.variables self.old.assignments → not result ≡ is_beyond earlier (sense_of statement.now) }
-        ensures room { (earlier : List Entry) (line : ℕ) → IsRoom earlier self.old.classes self.old.nodes self.old.transactions self.old.variables self.old.assignments → result ≡ true → IsRoom (earlier ++ entry line (sense_of statement.now) ∷ []) self.new.classes self.new.nodes self.new.transactions self.new.variables self.new.assignments }
+        ensures beyond { (earlier : List Entry) → IsRoom earlier self.old → not result ≡ is_beyond earlier (sense_of statement.now) }
+        ensures room { (earlier : List Entry) (line : ℕ) → IsRoom earlier self.old → result ≡ true → IsRoom (earlier ++ entry line (sense_of statement.now) ∷ []) self.new }
     {
         match statement {
             Statement::Version(_) => true,

@@ -23,7 +23,7 @@ pub struct Spaces<'a> {
 
 impl<'a> Spaces<'a> {
     fn new(alloc: Global) -> Spaces<'a>
-        ensures { AreSpaces [] result.transactions result.classes result.nodes }
+        ensures { AreSpaces [] result }
     {
         Spaces {
             transactions: Names::new(alloc),
@@ -34,7 +34,7 @@ impl<'a> Spaces<'a> {
 
     /// Whether the statement's name is taken.
     fn is_declared(&self, variables: &Names, statement: &Statement) -> bool
-        ensures { (earlier : List Entry) → AreSpaces earlier self.now.transactions self.now.classes self.now.nodes → AreVariables earlier variables.now → result ≡ is_declared earlier (sense_of statement.now) }
+        ensures { (earlier : List Entry) → AreSpaces earlier self.now → AreVariables earlier variables.now → result ≡ is_declared earlier (sense_of statement.now) }
     {
         match statement {
             Statement::Version(_) | Statement::Push(..) | Statement::Pop(..) => false,
@@ -53,7 +53,7 @@ impl<'a> Spaces<'a> {
 
     /// Adds the name of a statement whose name isn't taken.
     fn add(&mut self, statement: &'a Statement) -> Result<(), AllocError>
-        ensures { (earlier : List Entry) (line : ℕ) → AreSpaces earlier self.old.transactions self.old.classes self.old.nodes → is_declared earlier (sense_of statement.entry.now) ≡ false → OnOk result (AreSpaces (earlier ++ entry line (sense_of statement.entry.now) ∷ []) self.new.transactions self.new.classes self.new.nodes) }
+        ensures { (earlier : List Entry) (line : ℕ) → AreSpaces earlier self.old → is_declared earlier (sense_of statement.entry.now) ≡ false → OnOk result (AreSpaces (earlier ++ entry line (sense_of statement.entry.now) ∷ []) self.new) }
     {
         match statement {
             Statement::Transaction(name) => {
@@ -81,7 +81,7 @@ impl<'a> Spaces<'a> {
 pub fn declared<'a>(alloc: Global, lines: &'a [(u32, Statement)]) -> Result<Spaces<'a>, PolicyFault>
     requires rising { AreRising (entries_of lines.now) }
     requires placed { ArePlaced (entries_of lines.now) }
-    ensures spaces { IfOk result (λ s. AreSpaces (entries_of lines.entry.now) s.transactions s.classes s.nodes) }
+    ensures spaces { IfOk result (AreSpaces (entries_of lines.entry.now)) }
     ensures new { OnOk result (AreNew (entries_of lines.entry.now)) }
     ensures fault { IfErr result (IsFault (entries_of lines.entry.now)) }
     ensures early { IfErr result (λ f. code_of f ≤ 2) }

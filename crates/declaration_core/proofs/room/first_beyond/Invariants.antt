@@ -5,4 +5,4 @@ use Rattle.declaration_core.specs.Kept.{IsRoom}
 use Rattle.declaration_core.proofs.room.first_beyond.Given as goal
 
 abbrev pub invariant-loop-line : goal.invariant-loop-line
-invariant-loop-line l = Passed (λ done. IsRoom done l.room.classes l.room.nodes l.room.transactions l.room.variables l.room.assignments) is_beyond (entries_of l.lines) l.line-index
+invariant-loop-line l = Passed (λ done. IsRoom done l.room) is_beyond (entries_of l.lines) l.line-index

@@ -7,7 +7,7 @@ pub returns-in-Version-clause-room : goal.returns-in-Version-clause-room
 returns-in-Version-clause-room c = λ earlier line room told. room_for earlier line _ _ (ap sense_of c.in-Version.is) room refl (omega arith) (omega arith) (omega arith) (omega arith) (omega arith)
 
 pub returns-in-Transaction-clause-room : goal.returns-in-Transaction-clause-room
-returns-in-Transaction-clause-room c = λ earlier line room told. room_opened earlier line _ _ (ap sense_of c.in-Transaction.is) room refl (omega arith) (omega arith) (c.take_one.ensures.one told)
+returns-in-Transaction-clause-room c = λ earlier line room told. room_opened earlier line _ _ (ap sense_of c.in-Transaction.is) room refl (omega arith) (omega arith) (c.take_one.ensures.one told) refl refl
 
 pub returns-in-Class-clause-room : goal.returns-in-Class-clause-room
 returns-in-Class-clause-room c = λ earlier line room told. room_for earlier line _ _ (ap sense_of c.in-Class.is) room refl (c.take_one-in-Class.ensures.one told) (omega arith) (omega arith) (omega arith) (omega arith)
