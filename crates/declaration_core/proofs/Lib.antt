@@ -1,0 +1,7 @@
+pub mod Earlier
+pub mod Turns
+pub mod Bodies
+pub mod OpenVariables
+pub mod SpaceLemmas
+pub mod Operands
+pub mod RoomLemmas
