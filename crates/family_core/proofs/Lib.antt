@@ -1,0 +1,4 @@
+pub mod Places
+pub mod Kinship
+pub mod Named
+pub mod Descents
