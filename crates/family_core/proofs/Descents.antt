@@ -1,5 +1,5 @@
 -- Descendants by name and by number.
-use Rattle.std.proofs.Common.{◌≡◌, ℕ, zero, suc, ◌<◌, ◌≤◌, ◌↔◌, true, List, [], length, refl, sym, ap, subst, ◌∙◌, arith, inl, inr, Contains, Any, get_or, map, Some}
+use Rattle.std.proofs.Common.{◌≡◌, ℕ, zero, suc, ◌<◌, ◌↔◌, true, List, [], length, sym, ap, subst, ◌∙◌, arith, inl, inr, Contains, get_or, map, Some}
 use Rattle.std.specs.List.{list_all}
 use Rattle.std.proofs.lemmas.Bool.{cases_lt}
 use Rattle.std.proofs.Math.ListN.{get_or-eq_default}

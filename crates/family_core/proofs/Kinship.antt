@@ -1,26 +1,21 @@
 -- Children by name and by number.
-use Rattle.std.proofs.Common.{◌≡◌, ℕ, zero, suc, ◌+◌, ◌<◌, ◌≤◌, ◌↔◌, Bool, true, false, cond, List, [], ◌∷◌, ◌++◌, length, refl, sym, ap, subst, ◌∙◌, arith, inl, inr, true≢false, Contains, Any, All, get_or, map, take, filter, filter_map, flat_map, Option, None, Some, is_some, unwrap_or, Vec}
+use Rattle.std.proofs.Common.{◌≡◌, ℕ, zero, suc, ◌+◌, ◌<◌, ◌≤◌, Bool, true, false, cond, List, [], ◌∷◌, ◌++◌, length, refl, sym, ap, subst, ◌∙◌, arith, Contains, get_or, map, take, filter, filter_map, Option, None, Some, is_some, unwrap_or, Vec}
 use Rattle.std.specs.Option.{option_to_list}
-use Rattle.std.specs.List.{IsDistinct, list_all, cons_option}
-use Rattle.std.specs.Str.{bytes_eq}
+use Rattle.std.specs.List.{cons_option}
 use Rattle.std.proofs.lemmas.List.{take_more, take_all, get_or-map, get_or_default, map-append}
 use Rattle.std.proofs.lemmas.List.Elements.{filter_map-append, filter_passes, Contains-append_right}
 use Rattle.std.proofs.lemmas.Simd.{map-map}
-use Rattle.std.proofs.lemmas.Bool.{cases_lt}
-use Rattle.std.proofs.Math.ListN.{get_or-eq_default}
 use Rattle.names_core.proofs.Texts.{length-map}
 use Rattle.policy_text_defs.specs.Sense.{Sense, Entry, version, transaction, keep, each, push, pop, class, leaf, node, entry, sense_of}
 use Rattle.policy_text_defs.specs.declared.statement.Statement.{Statement}
-use Rattle.resolve_defs.specs.Names.{Name, has, node_name, children, declared, listed}
+use Rattle.resolve_defs.specs.Names.{Name, node_name, children, declared}
 use Rattle.resolve_defs.specs.Programs.{place}
 use Rattle.resolve_defs.specs.Graph.{family, graph_of}
 use Rattle.resolve_defs.specs.Entries.{entries_of}
-use Rattle.resolve_defs.specs.Families.{ListsChild, NamesLead, IsDescendant}
 use Rattle.std.specs.declared.alloc.Global.{Global}
 use Rattle.lineage_core.specs.Descent.{Graph, lists, children as kids}
 use Rattle.lineage_core.proofs.Marking.{length-lists}
 use Rattle.family_core.specs.Lines.{node_entries}
-use Rattle.family_core.proofs.Places.{place-within, place-at, at-place, all-at, Contains-map, Contains-map_back}
 
 -- ---- the loop that makes the graph
 
@@ -77,9 +72,12 @@ family-is (class n a cs) = refl
 family-is (leaf n u a ns) = refl
 family-is (node n u a ns) = refl
 
+pub families-of-nodes : (es : List Entry) → filter_map (λ e. family e.1) es ≡ map (λ e. children e.1) (node_entries es)
+families-of-nodes es = by-nodes (λ e. children e.1) (λ e. family e.1) (λ e. family-is e.1) es
+
 pub graph-of-nodes : (es : List Entry) → graph_of es ≡ map (λ e. map (place (declared node_name es)) (children e.1)) (node_entries es)
 graph-of-nodes es =
-    ap (map (map (place (declared node_name es)))) (by-nodes (λ e. children e.1) (λ e. family e.1) (λ e. family-is e.1) es)
+    ap (map (map (place (declared node_name es)))) (families-of-nodes es)
     ∙ map-map (map (place (declared node_name es))) (λ (e : Entry). children e.1) (node_entries es)
 
 -- a node's name

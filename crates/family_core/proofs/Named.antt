@@ -1,5 +1,5 @@
 -- Where no name is declared again and none is unknown, names stand for nodes.
-use Rattle.std.proofs.Common.{◌≡◌, ◌≢◌, ◌==◌, ℕ, zero, suc, ◌+◌, ◌<◌, ◌≤◌, ◌⊎◌, ◌&&◌, ◌||◌, Bool, true, false, not, cond, nat_lt, IsTrue, List, [], ◌∷◌, ◌++◌, length, refl, sym, ap, subst, ◌∙◌, arith, inl, inr, true≢false, All, get_or, take, drop, filter, map, Option, None, Some}
+use Rattle.std.proofs.Common.{◌≡◌, ◌≢◌, ℕ, zero, suc, ◌+◌, ◌<◌, ◌≤◌, ◌⊎◌, Bool, true, false, not, cond, nat_lt, List, [], ◌∷◌, ◌++◌, length, refl, sym, ap, subst, ◌∙◌, arith, inl, inr, All, get_or, take, drop, filter, Option, None, Some}
 use Rattle.std.proofs.lemmas.Bool.{and_parts, cases_eq, lt-ltb, le-ltb, false_from_ne_true, true_from_ne_false, eqb-false}
 use Rattle.std.proofs.lemmas.List.{take_more, take-append-drop, length-take, length-drop, length-append, get_or_default, get_or-take, get_or-drop, append-nil, get_or-map}
 use Rattle.std.proofs.lemmas.List.Elements.{filter_map-append, filter-append}
@@ -11,10 +11,9 @@ use Rattle.std.specs.Str.{bytes_eq}
 use Rattle.policy_text_defs.specs.Sense.{Sense, Entry, version, transaction, keep, each, push, pop, class, leaf, node, entry, sense_of}
 use Rattle.policy_text_defs.specs.declared.statement.Statement.{Statement}
 use Rattle.resolve_defs.specs.Names.{Name, has, node_name, children, declared, before}
-use Rattle.resolve_defs.specs.Clauses.{NoLine, IsAgain, IsUnknown, IsBeyond, is_declared, is_known, is_beyond, is_transaction_known, most_nodes}
+use Rattle.resolve_defs.specs.Clauses.{NoLine, IsAgain, IsBeyond, is_declared, is_known, is_beyond, is_transaction_known, most_nodes}
 use Rattle.resolve_defs.specs.Entries.{AreRising, entries_of}
 use Rattle.resolve_defs.specs.Accepted.{AreFew}
-use Rattle.family_core.specs.Lines.{node_entries}
 
 -- each node's name is declared once, each listed child is declared, and the nodes are few
 pub record IsNamed (es : List Entry) : Type 0 where

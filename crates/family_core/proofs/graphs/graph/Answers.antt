@@ -3,7 +3,6 @@ use Rattle.lineage_core.specs.Descent.{lists}
 use Rattle.resolve_defs.specs.Entries.{entries_of}
 use Rattle.family_core.proofs.Kinship.{graph-more, graph-size}
 use Rattle.family_core.proofs.Named.{named, few-names, known-at}
-use Rattle.family_core.proofs.Descents.{descendants-same}
 use Rattle.family_core.proofs.graphs.graph.Goals as goal
 
 pub add_family-requires-clause-small : goal.add_family-requires-clause-small
