@@ -70,7 +70,7 @@ module _ (es : List Entry) (rising : AreRising es) (rooted : HaveRoot es) (g : L
   no-cycle none = (
     rooted,
     no-line es (rooted-named es rising rooted) (λ b. IsDescendant es b b) (λ i. IsBelow (graph_of es) i i) (cyclic-same es (rooted-named es rising rooted))
-    (λ i inside. subst (λ (k : Graph). IsBelow k i i → ⊥) is (none i (omega (arith, inside, graph-nodes)))),
+        (λ i inside. subst (λ (k : Graph). IsBelow k i i → ⊥) is (none i (omega (arith, inside, graph-nodes)))),
   )
 
   pub graph-forest : AreAcyclic es → (r : ℕ) → r ≡ root_at es → IsForest (lists g) r
@@ -84,7 +84,7 @@ module _ (es : List Entry) (rising : AreRising es) (rooted : HaveRoot es) (g : L
   no-deep acyclic r m at all none = (
     acyclic,
     no-line es (rooted-named es rising rooted) (IsFar es) (IsDeep (graph_of es) (root_at es)) (deep-same es (rooted-named es rising rooted) rooted.1)
-    (λ i inside. subst (λ (a : ℕ). IsDeep (graph_of es) a i → ⊥) at (subst (λ (k : Graph). IsDeep k r i → ⊥) is (none i (omega (arith, inside, all, graph-nodes))))),
+        (λ i inside. subst (λ (a : ℕ). IsDeep (graph_of es) a i → ⊥) at (subst (λ (k : Graph). IsDeep k r i → ⊥) is (none i (omega (arith, inside, all, graph-nodes))))),
   )
 
   pub graph-small : length g < 2 ^ 32

@@ -23,11 +23,10 @@ line_of-requires c =
 
 pub returns-in-Some-clause-fault : goal.returns-in-Some-clause-fault
 returns-in-Some-clause-fault c =
-    let found : IsLeast (length c.args.graph.now) (λ a. IsBelow (lists c.args.graph.now) a a) c.in-Some.node = MatchOption-at_some _ _ _ c.in-Some.is c.in_ok-node.ensures.first in
-    (
+    let found : IsLeast (length c.args.graph.now) (λ a. IsBelow (lists c.args.graph.now) a a) c.in-Some.node = MatchOption-at_some _ _ _ c.in-Some.is c.in_ok-node.ensures.first in (
       c.requires.rooted,
       subst (λ (n : ℕ). IsLeastLine (IsCyclic (entries_of c.args.lines.now)) (entries_of c.args.lines.now) n) (sym c.line_of.ensures)
-      (cycle-line (entries_of c.args.lines.now) c.requires.rising c.requires.rooted c.args.graph.now c.requires.graph c.in-Some.node found),
+          (cycle-line (entries_of c.args.lines.now) c.requires.rising c.requires.rooted c.args.graph.now c.requires.graph c.in-Some.node found),
     )
 
 pub parents-requires-clause-in_range : goal.parents-requires-clause-in_range
@@ -72,12 +71,11 @@ returns-in-Some-first_deep-clause-fault c =
     let root : c.number.result ≡ root_at es = root-is es c.requires.rising c.requires.rooted c.args.graph.now c.requires.graph c.args.nodes.now c.number.result c.requires.nodes c.number.ensures in
     let parents : AreParents (lists c.args.graph.now) c.as_slice.result.now = subst (λ (l : List ℕ). AreParents (lists c.args.graph.now) l) (sym c.as_slice.ensures.value) c.in_ok-parents.ensures.parents in
     let found : IsLeast (length c.as_slice.result.now) (IsDeep (lists c.args.graph.now) c.number.result) c.in-Some-first_deep.node =
-    c.in-Some-first_deep.ensures.first (lists c.args.graph.now) (graph-forest es c.requires.rising c.requires.rooted c.args.graph.now c.requires.graph acyclic c.number.result root) parents in
-    (
+    c.in-Some-first_deep.ensures.first (lists c.args.graph.now) (graph-forest es c.requires.rising c.requires.rooted c.args.graph.now c.requires.graph acyclic c.number.result root) parents in (
       acyclic,
       subst (λ (n : ℕ). IsLeastLine (IsTooDeep es) es n) (sym c.line_of-in-Some-first_deep.ensures)
-      (deep-line es c.requires.rising c.requires.rooted c.args.graph.now c.requires.graph c.number.result (length c.as_slice.result.now) c.in-Some-first_deep.node root
-      (parents-all es c.requires.rising c.requires.rooted c.args.graph.now c.requires.graph c.as_slice.result.now parents) found),
+          (deep-line es c.requires.rising c.requires.rooted c.args.graph.now c.requires.graph c.number.result (length c.as_slice.result.now) c.in-Some-first_deep.node root
+          (parents-all es c.requires.rising c.requires.rooted c.args.graph.now c.requires.graph c.as_slice.result.now parents) found),
     )
 
 pub returns-clause-ok : goal.returns-clause-ok
