@@ -1,0 +1,5 @@
+pub mod Places
+pub mod Stated
+pub mod Programs
+pub mod Accepting
+pub mod Resolving
