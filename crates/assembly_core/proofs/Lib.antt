@@ -1,5 +1,12 @@
-pub mod Places
+pub mod NamePlaces
 pub mod Stated
 pub mod Programs
 pub mod Accepting
 pub mod Resolving
+pub mod Rows
+pub mod Classes
+pub mod Putting
+pub mod Inverse
+pub mod Passing
+pub mod Distinct
+pub mod Homing

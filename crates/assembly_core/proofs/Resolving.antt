@@ -17,7 +17,7 @@ use Rattle.resolve_defs.specs.Resolved.{IsNodeOf, IsLeafOf, IsInnerOf, IsTreeIn,
 use Rattle.lineage_core.specs.Descent.{children}
 use Rattle.lineage_core.specs.Preorder.{labels, IsTreeOf, AreTreesOf}
 use Rattle.assembly_core.specs.Labels.{map_tree, map_trees, node_numbered, nodes_at}
-use Rattle.assembly_core.proofs.Places.{place-within, at-place, at-places}
+use Rattle.assembly_core.proofs.NamePlaces.{place-within, at-place, at-places}
 use Rattle.assembly_core.proofs.Stated.{families, IsStated, stated, names-nodes}
 use Rattle.assembly_core.proofs.Programs.{none-some, some-same, program-there}
 use Rattle.assembly_core.proofs.Accepting.{known-at}
