@@ -1,5 +1,5 @@
 -- Each class at a leaf that lists it.
-use Rattle.std.proofs.Common.{◌≡◌, ℕ, List, [], ◌∷◌, map, refl, ap}
+use Rattle.std.proofs.Common.{◌≡◌, ℕ, List, [], ◌∷◌, map, refl, sym, ap, subst}
 use Rattle.std.specs.List.{AllZip}
 use Rattle.tree_defs.specs.Tree.{Tree}
 use Rattle.policy_text_defs.specs.Sense.{Entry, version, transaction, keep, each, push, pop, class, leaf, node}
@@ -40,3 +40,6 @@ classes-all : (es : List Entry) (t : Tree ℕ) (ds : List Declared) (ks : List �
 classes-all es t [] ks tree homes = tt
 classes-all es t (d ∷ ds) [] tree homes = homes
 classes-all es t (d ∷ ds) (k ∷ ks) tree homes = (refl, leaf-for es t d.name k tree homes.0, classes-all es t ds ks tree homes.1)
+
+pub classes-of : (es : List Entry) (t : Tree ℕ) (numbers : List ℕ) → IsTreeOf (graph_of es) t → AreHomes es (rows 0 [] t) numbers → AreClassesOf es (nodes_at es t) (classes_in es) (classes_at (rows 0 [] t) (classes_in es) numbers)
+classes-of es t numbers tree homes = classes-all es t (classes_in es) numbers tree (subst (λ (names : List Name). AllZip (IsHome es (rows 0 [] t)) names numbers) (sym (names-classes es)) homes)

@@ -10,3 +10,5 @@ pub mod Inverse
 pub mod Passing
 pub mod Distinct
 pub mod Homing
+pub mod Acceptable
+pub mod Shape

@@ -10,17 +10,19 @@ use Rattle.policy_text_defs.specs.Sense.{Sense, Entry, version, transaction, kee
 use Rattle.policy_text_defs.specs.Valid.{IsValid}
 use Rattle.policy_defs.specs.Policy.{Node}
 use Rattle.resolve_defs.specs.Names.{Name, has, node_name, declared, before}
-use Rattle.resolve_defs.specs.Clauses.{NoLine, IsUnknown, is_known, is_transaction_known}
+use Rattle.resolve_defs.specs.Clauses.{NoLine, IsUnknown, is_known, is_transaction_known, root}
 use Rattle.resolve_defs.specs.Programs.{place}
 use Rattle.resolve_defs.specs.Graph.{family, graph_of, node_in, nodes_in, said}
 use Rattle.resolve_defs.specs.Resolved.{IsNodeOf, IsLeafOf, IsInnerOf, IsTreeIn, AreTreesIn, names_of}
 use Rattle.lineage_core.specs.Descent.{children}
 use Rattle.lineage_core.specs.Preorder.{labels, IsTreeOf, AreTreesOf}
+use Rattle.resolve_defs.specs.Accepted.{AreAccepted}
+use Rattle.assembly_core.specs.Laws.{AreValid, IsNodeTree}
 use Rattle.assembly_core.specs.Labels.{map_tree, map_trees, node_numbered, nodes_at}
 use Rattle.assembly_core.proofs.NamePlaces.{place-within, at-place, at-places}
 use Rattle.assembly_core.proofs.Stated.{families, IsStated, stated, names-nodes}
 use Rattle.assembly_core.proofs.Programs.{none-some, some-same, program-there}
-use Rattle.assembly_core.proofs.Accepting.{known-at}
+use Rattle.assembly_core.proofs.Accepting.{known-at, known-there, root-there}
 
 -- ---- one statement
 is-node : (es : List Entry) (n : Node) (name used : Name) (a : Attrs) → Some (said es name used a) ≡ Some n → is_transaction_known es used ≡ true → IsNodeOf es n name used a
@@ -124,3 +126,9 @@ root-map f (inner i ts) = refl
 pub root-name : (es : List Entry) (t : Tree ℕ) (a : Name) → has (declared node_name es) a ≡ true → root_of t ≡ place (declared node_name es) a → (root_of (nodes_at es t)).name ≡ a
 root-name es t a there top =
     ap (λ (n : Node). n.name) (root-map (node_numbered es) t) ∙ name-at es (root_of t) ∙ ap (λ i. get_or (declared node_name es) i []) top ∙ at-place (declared node_name es) a [] there
+
+pub node-tree : (es : List Entry) (t : Tree ℕ) → AreAccepted es → AreValid es → IsTreeOf (graph_of es) t → root_of t ≡ place (declared node_name es) root → IsNodeTree es t
+node-tree es t accepted valid tree top = record {
+  root_is = root-name es t root (root-there es accepted) top;
+  tree = tree-in es t (known-there es accepted) valid tree (omega (arith, top, place-within (declared node_name es) root (root-there es accepted)));
+}

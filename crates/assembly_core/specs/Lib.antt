@@ -1,3 +1,4 @@
 pub mod Labels
 pub mod Homes
 pub mod Numbers
+pub mod Laws
