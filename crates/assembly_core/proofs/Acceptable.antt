@@ -1,11 +1,9 @@
 -- A policy that accepted statements give can be run.
-use Rattle.std.proofs.Common.{◌≡◌, ℕ, zero, suc, ◌+◌, ◌≤◌, ◌<◌, ◌^◌, ◌∙◌, ◌&&◌, Bool, true, false, max, List, [], ◌∷◌, length, refl, sym, ap, subst, arith, true≢false, IsTrue, not, nat_le, Option, Some, None, unwrap_or, All, Any, get_or, leb-true}
+use Rattle.std.proofs.Common.{◌≡◌, ℕ, zero, suc, ◌≤◌, ◌<◌, ◌^◌, ◌&&◌, true, false, List, [], ◌∷◌, length, refl, sym, ap, subst, arith, true≢false, IsTrue, not, nat_le, Option, Some, None, unwrap_or, Any, leb-true}
 use Rattle.std.proofs.lemmas.Bool.{and_parts}
 use Rattle.std.specs.List.{AllByRecursion}
 use Rattle.std.proofs.lemmas.List.Elements.{recursion_from_All}
-use Rattle.tree_defs.specs.Tree.{Tree, leaf as leaf_of, inner, Trees, none, more, Address, nodes, nodes_below, count_of, depth, depth_below}
-use Rattle.tree_defs.specs.Topology.{topology_of, topologies_of}
-use Rattle.rank_defs.specs.Programs.{Program}
+use Rattle.tree_defs.specs.Tree.{Tree, leaf as leaf_of, inner, Trees, none, more, Address, nodes, nodes_below, count_of, depth}
 use Rattle.rank_defs.specs.Builtins.{Builtin, builtins}
 use Rattle.rank_defs.specs.Shapes.{IsShaped, max_prio, max_weight, max_slack}
 use Rattle.rank_defs.specs.Checks.{IsChecked}
@@ -16,7 +14,7 @@ use Rattle.policy_text_defs.specs.Words.{is_word, is_reserved, most_name}
 use Rattle.policy_text_defs.specs.Statements.{IsName}
 use Rattle.policy_text_defs.specs.Valid.{IsValid, IsValidAttribute, AreValidAttributes}
 use Rattle.policy_text_defs.specs.Sense.{Sense, Entry, version, transaction, keep, each, push, pop, class, leaf, node}
-use Rattle.policy_defs.specs.Policy.{Node, Class, Policy, node_at, node_below}
+use Rattle.policy_defs.specs.Policy.{Node, Class, node_at, node_below}
 use Rattle.policy_defs.specs.Accepted.{AreMarksInRange, IsNodeReady, IsClassReady, HasFewChildren, HaveFewChildren, IsAccepted, max_levels}
 use Rattle.resolve_defs.specs.Names.{Name}
 use Rattle.resolve_defs.specs.Clauses.{has_catch_all_behind}

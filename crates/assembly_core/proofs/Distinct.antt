@@ -1,5 +1,5 @@
 -- Where no name is declared again, the classes are apart.
-use Rattle.std.proofs.Common.{◌≡◌, ◌≢◌, ◌⊎◌, ℕ, zero, suc, ◌+◌, ◌<◌, ◌≤◌, ◌∙◌, Bool, true, false, not, ◌||◌, cond, List, [], ◌∷◌, ◌++◌, length, take, drop, filter, get_or, refl, sym, ap, subst, arith, inl, inr, true≢false, nat_lt, nat_eq, le-ltb, lt-ltb, Option, Some, None, append-nil, count_by}
+use Rattle.std.proofs.Common.{◌≡◌, ◌≢◌, ◌⊎◌, ℕ, zero, suc, ◌+◌, ◌<◌, ◌≤◌, ◌∙◌, Bool, true, false, not, ◌||◌, cond, List, [], ◌∷◌, ◌++◌, length, take, drop, filter, get_or, refl, sym, ap, subst, arith, inl, inr, true≢false, nat_lt, le-ltb, lt-ltb, Option, Some, None, append-nil}
 use Rattle.std.proofs.lemmas.Bool.{cases_eq, cases_order, eqb-true, cases_Bool}
 use Rattle.std.proofs.lemmas.List.{take-append-drop, length-take, take_more, get_or_default, get_or-take, get_or-drop, length-drop}
 use Rattle.std.proofs.lemmas.List.Elements.{filter_map-append, filter-append}
@@ -8,7 +8,7 @@ use Rattle.std.proofs.lemmas.List.Sums.{sum_by-cons}
 use Rattle.std.proofs.lemmas.Map.Keys.{IsDistinct-push, apart_from_distinct}
 use Rattle.std.proofs.lemmas.Slice.Eq.{bytes_eq-Decides}
 use Rattle.std.specs.Cmp.Lexicographic.{nat_list_eq_equiv}
-use Rattle.std.specs.List.{IsDistinct, cons_option, list_any, AllByRecursion}
+use Rattle.std.specs.List.{IsDistinct, cons_option, AllByRecursion}
 use Rattle.std.specs.Option.{option_map_or}
 use Rattle.std.specs.Str.{bytes_eq}
 use Rattle.policy_text_defs.specs.Sense.{Sense, Entry, version, transaction, keep, each, push, pop, class, leaf, node}
@@ -17,7 +17,6 @@ use Rattle.resolve_defs.specs.Clauses.{NoLine, is_declared, IsAgain, is_stray}
 use Rattle.resolve_defs.specs.Entries.{AreRising}
 use Rattle.resolve_defs.specs.Programs.{place}
 use Rattle.assembly_core.proofs.NamePlaces.{place-within, at-place}
-use Rattle.assembly_core.proofs.Programs.{none-some, some-same}
 
 filter_all : (p : Entry → Bool) (xs : List Entry) → ((k : ℕ) (d : Entry) → k < length xs → p (get_or xs k d) ≡ true) → filter p xs ≡ xs
 filter_all p [] h = refl

@@ -1,5 +1,5 @@
 -- The leaf of each class, after all statements.
-use Rattle.std.proofs.Common.{◌≡◌, ℕ, zero, suc, ◌<◌, ◌≤◌, ◌∙◌, true, List, [], ◌∷◌, length, map, take, get_or, slice_index, refl, sym, ap, subst, arith}
+use Rattle.std.proofs.Common.{◌≡◌, ℕ, zero, suc, ◌<◌, ◌≤◌, ◌∙◌, true, List, [], ◌∷◌, length, take, get_or, slice_index, refl, sym, ap, subst, arith}
 use Rattle.std.proofs.lemmas.List.Elements.{recursion_from_All}
 use Rattle.std.specs.List.{AllZip, IsDistinct}
 use Rattle.std.specs.Str.{bytes_eq}
@@ -9,10 +9,9 @@ use Rattle.policy_defs.specs.Policy.{Node}
 use Rattle.resolve_defs.specs.Names.{Name, has, declared, class_name, listed, leaf_classes}
 use Rattle.resolve_defs.specs.Clauses.{NoLine, IsAgain, IsStray, is_stray}
 use Rattle.resolve_defs.specs.Entries.{entries_of, AreRising}
-use Rattle.resolve_defs.specs.Accepted.{HaveLeaves, AreNew}
 use Rattle.resolve_defs.specs.Programs.{place}
 use Rattle.resolve_defs.specs.Graph.{graph_of, nodes_in}
-use Rattle.lineage_core.specs.Row.{Row, row_at}
+use Rattle.lineage_core.specs.Row.{Row}
 use Rattle.names_core.proofs.Texts.{length-map}
 use Rattle.assembly_core.specs.Numbers.{ArePlaces}
 use Rattle.assembly_core.specs.Homes.{IsLeafWith, IsHome, AreHomes}
@@ -43,20 +42,17 @@ home-of es rows places a k size are leaf_place =
       leaf = subst (λ (n : ℕ). IsLeafWith es a n) (sym (are.node leaf_place.number within)) leaf_place.leaf;
     })
 
-pub homes-all : (lines : List (ℕ × Statement)) (rows : List Row) (classes : List Name) (places leaves : List ℕ) (i node : ℕ) → AreRising (entries_of lines) → HaveLeaves (entries_of lines) → classes ≡ declared class_name (entries_of lines)
+pub homes-all : (lines : List (ℕ × Statement)) (rows : List Row) (classes : List Name) (places leaves : List ℕ) (i node : ℕ) → AreRising (entries_of lines) → NoLine (IsAgain (entries_of lines)) (entries_of lines) → NoLine (IsStray (entries_of lines)) (entries_of lines) → classes ≡ declared class_name (entries_of lines)
     → length rows ≡ length (graph_of (entries_of lines)) → ArePlaces rows places → length lines ≤ i → IsPassing lines classes places i node leaves → AreHomes (entries_of lines) rows leaves
-homes-all lines rows classes places leaves i node rising clear are size all over passed =
+homes-all lines rows classes places leaves i node rising fresh listed_once are size all over passed =
     subst (λ (names : List Name). AllZip (IsHome (entries_of lines) rows) names leaves) are
     (zip-by (IsHome (entries_of lines) rows) classes leaves [] 0 (sym passed.len) each)
   where
-    fresh : NoLine (IsAgain (entries_of lines)) (entries_of lines)
-    fresh = (let new : AreNew (entries_of lines) = clear.0.0.0.0.0.0.0.0 in new.1)
-
     listed-all : (k : ℕ) → k < length classes → has (listed leaf_classes (entries_of (take i lines))) (get_or classes k []) ≡ true
     listed-all k l =
         subst (λ (ls : List (ℕ × Statement)). has (listed leaf_classes (entries_of ls)) (get_or classes k []) ≡ true) (sym (take-all lines i over))
         (subst (λ (names : List Name). has (listed leaf_classes (entries_of lines)) (get_or names k []) ≡ true) (sym are)
-        (classes-listed (listed leaf_classes (entries_of lines)) (entries_of lines) (recursion_from_All (λ (e : Entry). is_stray (listed leaf_classes (entries_of lines)) e.1 ≡ true → ⊥) (entries_of lines) clear.1) k [] (omega (arith, ap length are, l))))
+        (classes-listed (listed leaf_classes (entries_of lines)) (entries_of lines) (recursion_from_All (λ (e : Entry). is_stray (listed leaf_classes (entries_of lines)) e.1 ≡ true → ⊥) (entries_of lines) listed_once) k [] (omega (arith, ap length are, l))))
 
     each : (k : ℕ) → k < length classes → IsHome (entries_of lines) rows (get_or classes k []) (get_or leaves k 0)
     each k l =

@@ -12,3 +12,4 @@ pub mod Distinct
 pub mod Homing
 pub mod Acceptable
 pub mod Shape
+pub mod Agreement

@@ -1,5 +1,5 @@
 -- Places of names.
-use Rattle.std.proofs.Common.{◌≡◌, ℕ, zero, suc, ◌+◌, ◌<◌, ◌||◌, ◌∙◌, Bool, true, false, not, cond, List, [], ◌∷◌, length, map, get_or, refl, sym, ap, subst, arith, inl, inr, true≢false, IsTrue, position, unwrap_or, Some, None, lt-ltb}
+use Rattle.std.proofs.Common.{◌≡◌, ◌+◌, ◌<◌, ◌||◌, ◌∙◌, Bool, true, not, cond, List, [], ◌∷◌, length, map, get_or, refl, sym, ap, arith, inl, inr, true≢false, IsTrue, position, unwrap_or, Some, None, lt-ltb}
 use Rattle.std.proofs.lemmas.Bool.{cases_Bool, and_parts}
 use Rattle.std.proofs.lemmas.Slice.Eq.{bytes_eq-Decides}
 use Rattle.std.proofs.lemmas.List.Sums.{passes_at_first}
@@ -22,7 +22,6 @@ found names a h = some ∙ ap Some (sym (ap (λ o. unwrap_or o 0) some))
   where
     some : position (bytes_eq a) names ≡ Some (position_or_len (bytes_eq a) names)
     some = ap (λ b. cond b (Some (position_or_len (bytes_eq a) names)) None) (lt-ltb _ _ (first-within (bytes_eq a) names h))
-
 
 place-first : (names : List Name) (a : Name) → has names a ≡ true → place names a ≡ position_or_len (bytes_eq a) names
 place-first names a h = ap (λ b. unwrap_or (cond b (Some (position_or_len (bytes_eq a) names)) None) 0) (lt-ltb _ _ (first-within (bytes_eq a) names h))

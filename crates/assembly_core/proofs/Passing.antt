@@ -1,5 +1,5 @@
 -- A pass over statements that gives each class that leaves list its leaf.
-use Rattle.std.proofs.Common.{◌≡◌, ◌⊎◌, ℕ, zero, suc, ◌+◌, ◌<◌, ◌||◌, ◌∙◌, Bool, true, false, List, [], ◌∷◌, ◌++◌, length, map, take, drop, get_or, slice_index, refl, sym, ap, subst, arith, inl, inr, true≢false, Some, None, Any, Contains, append-nil, append_assoc, Option, length-append, flat_map, filter_map, if◌then◌else◌}
+use Rattle.std.proofs.Common.{◌≡◌, ◌⊎◌, ℕ, zero, suc, ◌+◌, ◌<◌, ◌||◌, ◌∙◌, true, false, List, [], ◌∷◌, ◌++◌, length, map, take, drop, get_or, slice_index, refl, sym, ap, subst, arith, inl, inr, true≢false, Some, None, Contains, append-nil, append_assoc, Option, length-append, if◌then◌else◌}
 use Rattle.std.proofs.lemmas.Bool.{cases_Bool}
 use Rattle.std.proofs.lemmas.Slice.Eq.{bytes_eq-Decides}
 use Rattle.std.proofs.lemmas.List.{take_more}
@@ -17,8 +17,6 @@ use Rattle.resolve_defs.specs.Names.{Name, has, declared, class_name, node_name,
 use Rattle.resolve_defs.specs.Entries.{entries_of}
 use Rattle.resolve_defs.specs.Programs.{place}
 use Rattle.resolve_defs.specs.Graph.{family, graph_of, nodes_in}
-use Rattle.resolve_defs.specs.Resolved.{ListsClass}
-use Rattle.lineage_core.specs.Descent.{children}
 use Rattle.assembly_core.specs.Labels.{node_numbered}
 use Rattle.assembly_core.specs.Homes.{IsLeafWith}
 use Rattle.assembly_core.proofs.Putting.{ArePut, or_false}
@@ -35,7 +33,6 @@ split-at (y ∷ ys) (suc i) x l e = ap (λ l. y ∷ l) (split-at ys i x (omega a
 at-seam : {X : Type 0} (xs : List X) (y : X) (ys : List X) (d : X) → get_or (xs ++ y ∷ ys) (length xs) d ≡ y
 at-seam [] y ys d = refl
 at-seam (x ∷ xs) y ys d = at-seam xs y ys d
-
 
 entries-more : (lines : List (ℕ × Statement)) (i : ℕ) (l : ℕ × Statement) → i < length lines → l ≡ get_or lines i l → entries_of (take (i + 1) lines) ≡ entries_of (take i lines) ++ entry l.0 (sense_of l.1) ∷ []
 entries-more lines i l short is =
@@ -140,6 +137,11 @@ pass-start lines classes places leaves size = record {
     take-zero : (ls : List (ℕ × Statement)) → take 0 ls ≡ []
     take-zero [] = refl
     take-zero (x ∷ xs) = refl
+
+-- the node that comes next has a place
+pub node-within : (lines : List (ℕ × Statement)) (classes : List Name) (places leaves : List ℕ) (i node : ℕ) (l : ℕ × Statement) (a : Name) → i < length lines → l ≡ get_or lines i l
+    → node_name (sense_of l.1) ≡ Some a → length places ≡ length (graph_of (entries_of lines)) → IsPassing lines classes places i node leaves → node < length places
+node-within lines classes places leaves i node l a short is declares size so_far = omega (arith, counted-within node_name lines i l a short is declares, length-graph (entries_of lines), size, so_far.node_is)
 
 pub pass-leaf : (lines : List (ℕ × Statement)) (classes : List Name) (places leaves leaves' : List ℕ) (i node leaf : ℕ) (l : ℕ × Statement) (m u : Name) (at : Attrs) (ns : List Name) → i < length lines → l ≡ get_or lines i l
     → l.1 ≡ statement.Leaf m u at ns → leaf ≡ slice_index places node → ArePut classes ns leaf leaves leaves' → IsPassing lines classes places i node leaves → IsPassing lines classes places (i + 1) (node + 1) leaves'

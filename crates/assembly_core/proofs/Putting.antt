@@ -1,6 +1,6 @@
 -- A leaf at the places of the classes that it lists.
-use Rattle.std.proofs.Common.{◌≡◌, ◌≢◌, ◌⊎◌, ℕ, ◌+◌, ◌<◌, ◌||◌, ◌∙◌, Bool, true, false, cond, List, [], ◌∷◌, length, take, set, get_or, slice_index, refl, sym, ap, subst, arith, inl, inr, true≢false, position, Some, None, if◌then◌else◌}
-use Rattle.std.proofs.lemmas.Bool.{cases_Bool, cases_eq}
+use Rattle.std.proofs.Common.{◌≡◌, ◌≢◌, ◌⊎◌, ℕ, ◌+◌, ◌<◌, ◌||◌, ◌∙◌, Bool, true, false, List, [], length, take, set, get_or, slice_index, refl, sym, ap, subst, arith, inl, inr, true≢false, position, Some, None, if◌then◌else◌}
+use Rattle.std.proofs.lemmas.Bool.{cases_Bool}
 use Rattle.std.proofs.lemmas.Slice.Eq.{bytes_eq-Decides}
 use Rattle.std.proofs.lemmas.List.{length-set, get_or-set_same, get_or-set_other}
 use Rattle.std.proofs.lemmas.List.Folds.{list_any_more, list_any_at}

@@ -1,10 +1,9 @@
 -- The tree of nodes that statements declare, from the tree of their numbers.
-use Rattle.std.proofs.Common.{◌≡◌, ℕ, zero, suc, ◌+◌, ◌<◌, ◌&&◌, ◌∙◌, Bool, true, List, [], ◌∷◌, length, map, get_or, refl, sym, ap, subst, arith, IsTrue, Some, Contains, All, Any}
+use Rattle.std.proofs.Common.{◌≡◌, ℕ, suc, ◌<◌, ◌∙◌, true, List, [], ◌∷◌, length, map, get_or, refl, sym, ap, subst, arith, IsTrue, Some, All}
 use Rattle.std.proofs.lemmas.Bool.{and_parts}
 use Rattle.std.specs.List.{list_all, AllByRecursion}
 use Rattle.std.proofs.Math.ListN.{get_or-map}
-use Rattle.std.proofs.lemmas.List.Elements.{Contains-get_or, Contains-append_right, All-contains}
-use Rattle.tree_defs.specs.Tree.{Tree, leaf as leaf_of, inner, Trees, none, more, HasChild, root_of}
+use Rattle.tree_defs.specs.Tree.{Tree, leaf as leaf_of, inner, Trees, none, more, root_of}
 use Rattle.policy_text_defs.specs.declared.attribute.Attrs.{Attrs}
 use Rattle.policy_text_defs.specs.Sense.{Sense, Entry, version, transaction, keep, each, push, pop, class, leaf, node}
 use Rattle.policy_text_defs.specs.Valid.{IsValid}
@@ -111,9 +110,10 @@ mutual
       let own : labels (more t ts) ≡ map (place (declared node_name es)) ns = h.1 ∙ children-at es i in
       let there : list_all (has (declared node_name es)) ns ≡ true = family-known es (before s.entry.0 es) ns s.entry.1 (s.family []) (known-of es i known s) in
       let names : names_of (map_trees (node_numbered es) (more t ts)) ≡ ns = names-labels es (more t ts) ∙ ap (map (λ j. get_or (declared node_name es) j [])) own ∙ at-places (declared node_name es) [] ns there in
-      let lower : AllByRecursion (λ j. j < count es) (labels (more t ts)) = subst (AllByRecursion (λ j. j < count es)) (sym own) (places-within (declared node_name es) ns there) in
-      ((s.place, s.entry, s.within, s.at s.entry, is-inner es (before s.entry.0 es) (node_numbered es i) _ ns s.entry.1 (map-some _ ns _ _ own) names (s.family []) (s.node _) (known-of es i known s)),
-       (tree-in es t known valid h.2.0 lower.0, trees-in es ts known valid h.2.1 lower.1))
+      let lower : AllByRecursion (λ j. j < count es) (labels (more t ts)) = subst (AllByRecursion (λ j. j < count es)) (sym own) (places-within (declared node_name es) ns there) in (
+        (s.place, s.entry, s.within, s.at s.entry, is-inner es (before s.entry.0 es) (node_numbered es i) _ ns s.entry.1 (map-some _ ns _ _ own) names (s.family []) (s.node _) (known-of es i known s)),
+        (tree-in es t known valid h.2.0 lower.0, trees-in es ts known valid h.2.1 lower.1),
+      )
 
   trees-in : (es : List Entry) (ts : Trees ℕ) → NoLine (IsUnknown es) es → All (λ (e : Entry). IsValid e.1) es → AreTreesOf (graph_of es) ts → AllByRecursion (λ i. i < count es) (labels ts) → AreTreesIn es (map_trees (node_numbered es) ts)
   trees-in es none known valid h lower = tt

@@ -1,12 +1,11 @@
 -- The nodes and leaves at the addresses of rows.
-use Rattle.std.proofs.Common.{◌≡◌, ℕ, zero, suc, ◌+◌, ◌-◌, ◌<◌, ◌≤◌, ◌∙◌, List, [], ◌∷◌, ◌++◌, length, refl, sym, ap, subst, arith, inl, inr, append_assoc, append-nil, length-append, Some}
+use Rattle.std.proofs.Common.{◌≡◌, ℕ, zero, suc, ◌+◌, ◌-◌, ◌<◌, ◌∙◌, List, [], ◌∷◌, ◌++◌, length, refl, sym, ap, subst, arith, inl, inr, append_assoc, append-nil, length-append, Some}
 use Rattle.std.proofs.lemmas.Bool.{cases_lt}
-use Rattle.tree_defs.specs.Tree.{Tree, leaf, inner, Trees, none, more, Address, root_of, nodes, LeadsToLeaf, LeadsBelow}
+use Rattle.tree_defs.specs.Tree.{Tree, leaf, inner, Trees, none, more, Address, nodes, LeadsToLeaf, LeadsBelow}
 use Rattle.policy_defs.specs.Policy.{Node, node_at, node_below}
 use Rattle.lineage_core.specs.Descent.{Graph, children}
-use Rattle.lineage_core.specs.Row.{Row, row, row_at}
-use Rattle.lineage_core.specs.Preorder.{labels, IsTreeOf, AreTreesOf, starts, rows, rows_below}
-use Rattle.lineage_core.proofs.Growing.{length-rows}
+use Rattle.lineage_core.specs.Row.{Row, row_at}
+use Rattle.lineage_core.specs.Preorder.{labels, IsTreeOf, AreTreesOf, rows, rows_below}
 use Rattle.assembly_core.specs.Labels.{map_tree, map_trees}
 
 at-first : (xs ys : List Row) (k : ℕ) → k < length xs → row_at (xs ++ ys) k ≡ row_at xs k
@@ -32,6 +31,12 @@ record IsNodeRowBelow (g : Graph) (f : ℕ → Node) (ts : Trees ℕ) (a : Addre
   node : node_below (map_trees f ts) digit rest ≡ Some (f r.node)
   childless : children g r.node ≡ [] → LeadsBelow (map_trees f ts) digit rest
 
+-- a row below the first child on stands below their parent
+below-first : (g : Graph) (f : ℕ → Node) (i : ℕ) (t : Tree ℕ) (ts : Trees ℕ) (a : Address) (r : Row) → IsNodeRowBelow g f (more t ts) a 0 r → IsNodeRow g f (inner i (more t ts)) a r
+below-first g f i t ts a r p =
+    let digit : 0 + p.digit ≡ p.digit = omega arith in
+    record { rest = p.digit ∷ p.rest; address = p.address ∙ ap (λ d. a ++ d ∷ p.rest) digit; node = p.node; childless = p.childless }
+
 mutual
   pub node-row : (g : Graph) (f : ℕ → Node) (n : ℕ) (a : Address) (t : Tree ℕ) (k : ℕ) → IsTreeOf g t → k < length (rows n a t) → IsNodeRow g f t a (row_at (rows n a t) k)
   node-row g f n a (leaf i) zero h short = record { rest = []; address = sym (append-nil a); node = refl; childless = λ _. tt }
@@ -39,10 +44,7 @@ mutual
   node-row g f n a (inner i none) k h short = absurd h.0
   node-row g f n a (inner i (more t ts)) zero h short =
       record { rest = []; address = sym (append-nil a); node = refl; childless = λ none. (let e : suc (length (labels ts)) ≡ 0 = ap length (h.1 ∙ none) in absurd (omega arith)) }
-  node-row g f n a (inner i (more t ts)) (suc k) h short =
-      let p : IsNodeRowBelow g f (more t ts) a 0 (row_at (rows_below (n + 1) a 0 (more t ts)) k) = node-row_below g f (n + 1) a 0 (more t ts) k h.2 (omega arith) in
-      let digit : 0 + p.digit ≡ p.digit = omega arith in
-      record { rest = p.digit ∷ p.rest; address = p.address ∙ ap (λ d. a ++ d ∷ p.rest) digit; node = p.node; childless = p.childless }
+  node-row g f n a (inner i (more t ts)) (suc k) h short = below-first g f i t ts a _ (node-row_below g f (n + 1) a 0 (more t ts) k h.2 (omega arith))
 
   node-row_below : (g : Graph) (f : ℕ → Node) (n : ℕ) (a : Address) (e : ℕ) (ts : Trees ℕ) (k : ℕ) → AreTreesOf g ts → k < length (rows_below n a e ts) → IsNodeRowBelow g f ts a e (row_at (rows_below n a e ts) k)
   node-row_below g f n a e none k h short = absurd (omega arith)

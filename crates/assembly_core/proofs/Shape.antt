@@ -1,5 +1,5 @@
 -- A tree keeps its shape where what stands at its nodes changes.
-use Rattle.std.proofs.Common.{◌≡◌, ℕ, ◌+◌, max, refl, ap, ap₂}
+use Rattle.std.proofs.Common.{◌≡◌, ◌+◌, max, refl, ap, ap₂}
 use Rattle.tree_defs.specs.Tree.{Tree, leaf, inner, Trees, none, more, nodes, nodes_below, depth, depth_below}
 use Rattle.tree_defs.specs.Topology.{topology_of, topologies_of}
 use Rattle.assembly_core.specs.Labels.{map_tree, map_trees}

@@ -1,5 +1,5 @@
 -- The statements of nodes and leaves, by number.
-use Rattle.std.proofs.Common.{◌≡◌, ℕ, zero, suc, ◌+◌, ◌<◌, ◌∙◌, List, [], ◌∷◌, length, get_or, refl, sym, ap, subst, arith, Option, Some, None, filter_map, map}
+use Rattle.std.proofs.Common.{◌≡◌, ℕ, zero, suc, ◌<◌, ◌∙◌, List, [], ◌∷◌, length, get_or, refl, sym, ap, arith, Some, None, filter_map, map}
 use Rattle.std.specs.List.{cons_option}
 use Rattle.policy_text_defs.specs.Sense.{Sense, Entry, version, transaction, keep, each, push, pop, class, leaf, node}
 use Rattle.policy_defs.specs.Policy.{Node}

@@ -5,7 +5,7 @@ use Rattle.policy_text_defs.specs.Sense.{Entry}
 use Rattle.policy_defs.specs.Policy.{Class}
 use Rattle.resolve_defs.specs.Names.{Name, class_name, declared}
 use Rattle.resolve_defs.specs.Graph.{graph_of, nodes_in}
-use Rattle.resolve_defs.specs.Resolved.{Declared, ListsClass, classes_in}
+use Rattle.resolve_defs.specs.Resolved.{Declared, ListsClass}
 use Rattle.lineage_core.specs.Descent.{children}
 use Rattle.lineage_core.specs.Row.{Row, row_at}
 use Rattle.assembly_core.specs.Labels.{node_numbered}

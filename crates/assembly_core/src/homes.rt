@@ -2,7 +2,7 @@
 ghost use Rattle.std.specs.Prelude.{◌≡◌, ℕ, ◌<◌, true, length, slice_index, if◌then◌else◌, IfOk};
 ghost use Rattle.resolve_defs.specs.Names.{Name as Bytes, has, declared, class_name};
 ghost use Rattle.resolve_defs.specs.Entries.{entries_of, AreRising};
-ghost use Rattle.resolve_defs.specs.Accepted.{HaveLeaves};
+ghost use Rattle.resolve_defs.specs.Clauses.{NoLine, IsAgain, IsStray};
 ghost use Rattle.resolve_defs.specs.Graph.{graph_of};
 ghost use Rattle.resolve_defs.specs.Programs.{place};
 ghost use Rattle.lineage_core.specs.Descent.{times};
@@ -50,7 +50,8 @@ pub fn leaves(
     tree: &Preorder,
 ) -> Result<Vec<u32>, AllocError>
     requires rising { AreRising (entries_of lines.now) }
-    requires leaves { HaveLeaves (entries_of lines.now) }
+    requires apart { NoLine (IsAgain (entries_of lines.now)) (entries_of lines.now) }
+    requires listed { NoLine (IsStray (entries_of lines.now)) (entries_of lines.now) }
     requires classes { classes.now ≡ declared class_name (entries_of lines.now) }
     requires count { length tree.now.rows ≡ length (graph_of (entries_of lines.now)) }
     requires once { (a : ℕ) → a < length tree.now.rows → times a (nodes_of tree.now.rows) ≡ 1 }
@@ -62,7 +63,12 @@ pub fn leaves(
     for (_, statement) in lines {
         match statement {
             Statement::Leaf(_, _, _, listed) => {
-                put(leaves.as_mut_slice(), classes, listed.as_slice(), places[node]);
+                put(
+                    leaves.as_mut_slice(),
+                    classes,
+                    listed.as_slice(),
+                    places[node],
+                );
                 node += 1;
             }
             Statement::Node(_, _, _, _) => node += 1,

@@ -1,37 +1,43 @@
-use Rattle.std.proofs.Common.{◌≡◌, ℕ, ◌+◌, ◌<◌, List, length, ◌∙◌, ap, sym, subst, arith, Vec, Global, take, drop, ◌++◌, slice_index}
+use Rattle.std.proofs.Common.{◌≡◌, ℕ, ◌+◌, ◌<◌, List, length, ◌∙◌, ap, sym, subst, arith, Vec, Global}
 use Rattle.std.proofs.lemmas.List.{get_or_default}
 use Rattle.policy_text_defs.specs.Sense.{sense_of}
 use Rattle.resolve_defs.specs.Names.{Name, node_name}
-use Rattle.resolve_defs.specs.Entries.{entries_of}
 use Rattle.lineage_core.proofs.Marking.{given_back}
 use Rattle.assembly_core.proofs.Putting.{ArePut}
-use Rattle.assembly_core.proofs.Passing.{IsPassing, counted-within, length-graph, pass-start, pass-leaf, pass-node, pass-other, neither}
+use Rattle.assembly_core.proofs.Passing.{IsPassing, node-within, pass-leaf, pass-node, pass-other, neither}
 use Rattle.assembly_core.proofs.Homing.{homes-all}
 use Rattle.assembly_core.proofs.homes.leaves.Goals.{in-Leaf, in-Node, in_default}
 use Rattle.assembly_core.proofs.homes.leaves.Goals as goal
 
 pub index-requires : goal.index-requires
 index-requires c =
-    omega (arith, counted-within node_name c.args.lines.now c.loop-statement.statement-index c.loop-statement-item.result c.in-Leaf.field-0 c.loop-statement-test.true c.loop-statement-item.is (ap (λ s. node_name (sense_of s)) c.in-Leaf.is),
-      length-graph (entries_of c.args.lines.now), c.requires.count, c.in_ok-places.ensures.places.len, c.in_ok-places.places.ok, c.loop-statement.invariant.node_is)
+    let within : c.loop-statement.node < length c.in_ok-places.places.items =
+    node-within c.args.lines.now c.args.classes.now c.in_ok-places.places.items c.loop-statement.leaves.items c.loop-statement.statement-index c.loop-statement.node c.loop-statement-item.result c.in-Leaf.field-0
+    c.loop-statement-test.true c.loop-statement-item.is (ap (λ s. node_name (sense_of s)) c.in-Leaf.is) (c.in_ok-places.ensures.places.len ∙ c.requires.count) c.loop-statement.invariant in
+    omega (arith, within, c.in_ok-places.places.ok)
 
 pub overflow_add-node : goal.overflow_add-node
 overflow_add-node c =
-    omega (arith, counted-within node_name c.args.lines.now c.loop-statement.statement-index c.loop-statement-item.result c.in-Leaf.field-0 c.loop-statement-test.true c.loop-statement-item.is (ap (λ s. node_name (sense_of s)) c.in-Leaf.is),
-      length-graph (entries_of c.args.lines.now), c.requires.count, c.in_ok-places.ensures.places.len, c.in_ok-places.places.ok, c.loop-statement.invariant.node_is)
+    let within : c.loop-statement.node < length c.in_ok-places.places.items =
+    node-within c.args.lines.now c.args.classes.now c.in_ok-places.places.items c.loop-statement.leaves.items c.loop-statement.statement-index c.loop-statement.node c.loop-statement-item.result c.in-Leaf.field-0
+    c.loop-statement-test.true c.loop-statement-item.is (ap (λ s. node_name (sense_of s)) c.in-Leaf.is) (c.in_ok-places.ensures.places.len ∙ c.requires.count) c.loop-statement.invariant in
+    omega (arith, within, c.in_ok-places.places.ok)
 
 pub overflow_add-node-in-Node : goal.overflow_add-node-in-Node
 overflow_add-node-in-Node c =
-    omega (arith, counted-within node_name c.args.lines.now c.loop-statement.statement-index c.loop-statement-item.result c.in-Node.field-0 c.loop-statement-test.true c.loop-statement-item.is (ap (λ s. node_name (sense_of s)) c.in-Node.is),
-      length-graph (entries_of c.args.lines.now), c.requires.count, c.in_ok-places.ensures.places.len, c.in_ok-places.places.ok, c.loop-statement.invariant.node_is)
+    let within : c.loop-statement.node < length c.in_ok-places.places.items =
+    node-within c.args.lines.now c.args.classes.now c.in_ok-places.places.items c.loop-statement.leaves.items c.loop-statement.statement-index c.loop-statement.node c.loop-statement-item.result c.in-Node.field-0
+    c.loop-statement-test.true c.loop-statement-item.is (ap (λ s. node_name (sense_of s)) c.in-Node.is) (c.in_ok-places.ensures.places.len ∙ c.requires.count) c.loop-statement.invariant in
+    omega (arith, within, c.in_ok-places.places.ok)
 
 pub loop-statement-preserved : goal.loop-statement-preserved
 loop-statement-preserved c = elim c.match-statement.branch [
   | in-Leaf w ↦ (
       let within : c.loop-statement.node < length c.in_ok-places.places.items =
-      omega (arith, counted-within node_name c.args.lines.now c.loop-statement.statement-index c.loop-statement-item.result w.in-Leaf.field-0 c.loop-statement-test.true c.loop-statement-item.is (ap (λ s. node_name (sense_of s)) w.in-Leaf.is),
-        length-graph (entries_of c.args.lines.now), c.requires.count, c.in_ok-places.ensures.places.len, c.loop-statement.invariant.node_is) in
-      let back : c.match-statement.leaves.items ≡ w.put.new.leaves = ap (λ (v : Vec ℕ Global). v.items) w.leaves-is
+      node-within c.args.lines.now c.args.classes.now c.in_ok-places.places.items c.loop-statement.leaves.items c.loop-statement.statement-index c.loop-statement.node c.loop-statement-item.result w.in-Leaf.field-0
+      c.loop-statement-test.true c.loop-statement-item.is (ap (λ s. node_name (sense_of s)) w.in-Leaf.is) (c.in_ok-places.ensures.places.len ∙ c.requires.count) c.loop-statement.invariant in
+      let back : c.match-statement.leaves.items ≡ w.put.new.leaves =
+      ap (λ (v : Vec ℕ Global). v.items) w.leaves-is
       ∙ given_back c.loop-statement.leaves.len w.put.new.leaves c.loop-statement.leaves.items (omega (arith, w.put.ensures.len, ap length w.as_mut_slice.ensures.value, c.loop-statement.leaves.ok)) (omega (arith, c.loop-statement.leaves.ok)) in
       let put : ArePut c.args.classes.now w.in-Leaf.listed w.index.result.now c.loop-statement.leaves.items w.put.new.leaves =
       subst (λ (old : List ℕ). ArePut c.args.classes.now w.in-Leaf.listed w.index.result.now old w.put.new.leaves) w.as_mut_slice.ensures.value
@@ -55,5 +61,5 @@ loop-statement-preserved c = elim c.match-statement.branch [
 pub returns : goal.returns
 returns c = record {
   homes = homes-all c.args.lines.now c.args.tree.now.rows c.args.classes.now c.in_ok-places.places.items c.loop-statement.leaves.items c.loop-statement.statement-index c.loop-statement.node
-  c.requires.rising c.requires.leaves c.requires.classes c.requires.count c.in_ok-places.ensures.places (omega (arith, c.loop-statement-test.false)) c.loop-statement.invariant;
+      c.requires.rising c.requires.apart c.requires.listed c.requires.classes c.requires.count c.in_ok-places.ensures.places (omega (arith, c.loop-statement-test.false)) c.loop-statement.invariant;
 }

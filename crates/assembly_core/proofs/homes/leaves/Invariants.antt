@@ -1,5 +1,4 @@
 use Rattle.assembly_core.proofs.Passing.{IsPassing}
-use Rattle.resolve_defs.specs.Entries.{entries_of}
 use Rattle.assembly_core.proofs.homes.leaves.Given as goal
 
 abbrev pub invariant-loop-statement : goal.invariant-loop-statement

@@ -1,4 +1,4 @@
-use Rattle.std.proofs.Common.{◌≡◌, ◌∙◌, ℕ, ◌+◌, List, Option, Some, None, position, subst, sym, ap, take, length}
+use Rattle.std.proofs.Common.{◌≡◌, ◌∙◌, ℕ, ◌+◌, List, position, subst, sym, ap, take}
 use Rattle.std.specs.Str.{bytes_eq}
 use Rattle.assembly_core.proofs.Putting.{ArePut, put-some, put-none}
 use Rattle.assembly_core.proofs.homes.put.Goals.{in-Some, in_default}

@@ -1,4 +1,4 @@
-use Rattle.std.proofs.Common.{ℕ, ◌+◌, ◌∷◌, [], ◌∙◌, ap, sym, length, Vec, Global}
+use Rattle.std.proofs.Common.{ℕ, ◌+◌, ◌∙◌, ap, sym, length, Vec, Global}
 use Rattle.std.proofs.lemmas.List.{length_push}
 use Rattle.policy_text_defs.specs.Sense.{sense_of}
 use Rattle.resolve_defs.specs.Names.{class_name}

@@ -1,5 +1,5 @@
 use Rattle.std.proofs.Common.{ℕ, ◌+◌, sym, subst, arith, set}
-use Rattle.assembly_core.proofs.Inverse.{ArePlacesTo, node-within, places-start, places-more, places-all}
+use Rattle.assembly_core.proofs.Inverse.{ArePlacesTo, node-within, places-more, places-all}
 use Rattle.assembly_core.proofs.numbers.places.Goals as goal
 
 pub index_mut-requires : goal.index_mut-requires
