@@ -1,0 +1,15 @@
+pub mod NamePlaces
+pub mod Stated
+pub mod Programs
+pub mod Accepting
+pub mod Resolving
+pub mod Rows
+pub mod Classes
+pub mod Putting
+pub mod Inverse
+pub mod Passing
+pub mod Distinct
+pub mod Homing
+pub mod Acceptable
+pub mod Shape
+pub mod Agreement

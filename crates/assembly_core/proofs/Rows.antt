@@ -1,0 +1,78 @@
+-- The nodes and leaves at the addresses of rows.
+use Rattle.std.proofs.Common.{◌≡◌, ℕ, zero, suc, ◌+◌, ◌-◌, ◌<◌, ◌∙◌, List, [], ◌∷◌, ◌++◌, length, refl, sym, ap, subst, arith, inl, inr, append_assoc, append-nil, length-append, Some}
+use Rattle.std.proofs.lemmas.Bool.{cases_lt}
+use Rattle.tree_defs.specs.Tree.{Tree, leaf, inner, Trees, none, more, Address, nodes, LeadsToLeaf, LeadsBelow}
+use Rattle.policy_defs.specs.Policy.{Node, node_at, node_below}
+use Rattle.lineage_core.specs.Descent.{Graph, children}
+use Rattle.lineage_core.specs.Row.{Row, row_at}
+use Rattle.lineage_core.specs.Preorder.{labels, IsTreeOf, AreTreesOf, rows, rows_below}
+use Rattle.assembly_core.specs.Labels.{map_tree, map_trees}
+
+at-first : (xs ys : List Row) (k : ℕ) → k < length xs → row_at (xs ++ ys) k ≡ row_at xs k
+at-first [] ys k l = absurd (omega arith)
+at-first (x ∷ xs) ys zero l = refl
+at-first (x ∷ xs) ys (suc k) l = at-first xs ys k (omega arith)
+
+at-second : (xs ys : List Row) (k : ℕ) → row_at (xs ++ ys) (length xs + k) ≡ row_at ys k
+at-second [] ys k = (let e : 0 + k ≡ k = omega arith in ap (row_at ys) e)
+at-second (x ∷ xs) ys k = (let e : suc (length xs) + k ≡ suc (length xs + k) = omega arith in ap (row_at ((x ∷ xs) ++ ys)) e ∙ at-second xs ys k)
+
+-- a row's address leads from a node to the row's own, which is a leaf where the graph gives it no children
+pub record IsNodeRow (g : Graph) (f : ℕ → Node) (t : Tree ℕ) (a : Address) (r : Row) : Type 0 where
+  pub rest : Address
+  pub address : r.address ≡ a ++ rest
+  pub node : node_at (map_tree f t) rest ≡ Some (f r.node)
+  pub childless : children g r.node ≡ [] → LeadsToLeaf (map_tree f t) rest
+
+record IsNodeRowBelow (g : Graph) (f : ℕ → Node) (ts : Trees ℕ) (a : Address) (e : ℕ) (r : Row) : Type 0 where
+  digit : ℕ
+  rest : Address
+  address : r.address ≡ a ++ (e + digit) ∷ rest
+  node : node_below (map_trees f ts) digit rest ≡ Some (f r.node)
+  childless : children g r.node ≡ [] → LeadsBelow (map_trees f ts) digit rest
+
+-- a row below the first child on stands below their parent
+below-first : (g : Graph) (f : ℕ → Node) (i : ℕ) (t : Tree ℕ) (ts : Trees ℕ) (a : Address) (r : Row) → IsNodeRowBelow g f (more t ts) a 0 r → IsNodeRow g f (inner i (more t ts)) a r
+below-first g f i t ts a r p =
+    let digit : 0 + p.digit ≡ p.digit = omega arith in
+    record { rest = p.digit ∷ p.rest; address = p.address ∙ ap (λ d. a ++ d ∷ p.rest) digit; node = p.node; childless = p.childless }
+
+mutual
+  pub node-row : (g : Graph) (f : ℕ → Node) (n : ℕ) (a : Address) (t : Tree ℕ) (k : ℕ) → IsTreeOf g t → k < length (rows n a t) → IsNodeRow g f t a (row_at (rows n a t) k)
+  node-row g f n a (leaf i) zero h short = record { rest = []; address = sym (append-nil a); node = refl; childless = λ _. tt }
+  node-row g f n a (leaf i) (suc k) h short = absurd (omega arith)
+  node-row g f n a (inner i none) k h short = absurd h.0
+  node-row g f n a (inner i (more t ts)) zero h short =
+      record { rest = []; address = sym (append-nil a); node = refl; childless = λ none. (let e : suc (length (labels ts)) ≡ 0 = ap length (h.1 ∙ none) in absurd (omega arith)) }
+  node-row g f n a (inner i (more t ts)) (suc k) h short = below-first g f i t ts a _ (node-row_below g f (n + 1) a 0 (more t ts) k h.2 (omega arith))
+
+  node-row_below : (g : Graph) (f : ℕ → Node) (n : ℕ) (a : Address) (e : ℕ) (ts : Trees ℕ) (k : ℕ) → AreTreesOf g ts → k < length (rows_below n a e ts) → IsNodeRowBelow g f ts a e (row_at (rows_below n a e ts) k)
+  node-row_below g f n a e none k h short = absurd (omega arith)
+  node-row_below g f n a e (more t ts) k h short = elim (cases_lt k (length (rows n (a ++ e ∷ []) t))) [
+    | inl first ↦ (
+        let p : IsNodeRow g f t (a ++ e ∷ []) (row_at (rows n (a ++ e ∷ []) t) k) = node-row g f n (a ++ e ∷ []) t k h.0 first in
+        let digit : e ≡ e + 0 = omega arith in
+        subst (λ (r : Row). IsNodeRowBelow g f (more t ts) a e r) (sym (at-first (rows n (a ++ e ∷ []) t) (rows_below (n + nodes t) a (e + 1) ts) k first))
+        (record { digit = 0; rest = p.rest; address = p.address ∙ append_assoc a (e ∷ []) p.rest ∙ ap (λ d. a ++ d ∷ p.rest) digit; node = p.node; childless = p.childless }))
+    | inr second ↦ (
+        let k' : ℕ = k - length (rows n (a ++ e ∷ []) t) in
+        let here : k ≡ length (rows n (a ++ e ∷ []) t) + k' = omega (arith, second) in
+        let short' : k' < length (rows_below (n + nodes t) a (e + 1) ts) = omega (arith, here, short, length-append (rows n (a ++ e ∷ []) t) (rows_below (n + nodes t) a (e + 1) ts)) in
+        let p : IsNodeRowBelow g f ts a (e + 1) (row_at (rows_below (n + nodes t) a (e + 1) ts) k') = node-row_below g f (n + nodes t) a (e + 1) ts k' h.1 short' in
+        let digit : e + 1 + p.digit ≡ e + suc p.digit = omega arith in
+        subst (λ (r : Row). IsNodeRowBelow g f (more t ts) a e r) (sym (ap (row_at (rows n (a ++ e ∷ []) t ++ rows_below (n + nodes t) a (e + 1) ts)) here ∙ at-second (rows n (a ++ e ∷ []) t) (rows_below (n + nodes t) a (e + 1) ts) k'))
+        (record { digit = suc p.digit; rest = p.rest; address = p.address ∙ ap (λ d. a ++ d ∷ p.rest) digit; node = p.node; childless = p.childless }))
+  ]
+
+-- the row of a whole tree
+pub record IsNodeAt (g : Graph) (f : ℕ → Node) (t : Tree ℕ) (r : Row) : Type 0 where
+  pub node : node_at (map_tree f t) r.address ≡ Some (f r.node)
+  pub childless : children g r.node ≡ [] → LeadsToLeaf (map_tree f t) r.address
+
+pub node-of_row : (g : Graph) (f : ℕ → Node) (t : Tree ℕ) (k : ℕ) → IsTreeOf g t → k < length (rows 0 [] t) → IsNodeAt g f t (row_at (rows 0 [] t) k)
+node-of_row g f t k h short =
+    let p : IsNodeRow g f t [] (row_at (rows 0 [] t) k) = node-row g f 0 [] t k h short in
+    record {
+      node = ap (node_at (map_tree f t)) p.address ∙ p.node;
+      childless = λ none. subst (LeadsToLeaf (map_tree f t)) (sym p.address) (p.childless none);
+    }

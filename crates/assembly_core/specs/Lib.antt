@@ -1,0 +1,5 @@
+pub mod Labels
+pub mod Homes
+pub mod Numbers
+pub mod Laws
+pub mod Samples

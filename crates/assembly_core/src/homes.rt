@@ -1,0 +1,79 @@
+//! The leaves that list classes.
+ghost use Rattle.std.specs.Prelude.{◌≡◌, ℕ, ◌<◌, true, length, slice_index, if◌then◌else◌, IfOk};
+ghost use Rattle.resolve_defs.specs.Names.{Name as Bytes, has, declared, class_name};
+ghost use Rattle.resolve_defs.specs.Entries.{entries_of, AreRising};
+ghost use Rattle.resolve_defs.specs.Clauses.{NoLine, IsAgain, IsStray};
+ghost use Rattle.resolve_defs.specs.Graph.{graph_of};
+ghost use Rattle.resolve_defs.specs.Programs.{place};
+ghost use Rattle.lineage_core.specs.Descent.{times};
+ghost use Rattle.lineage_core.specs.Row.{nodes_of};
+ghost use Rattle.assembly_core.specs.Homes.{AreHomes};
+
+use crate::numbers::places;
+use lineage_core::Preorder;
+use list_core::Name;
+use names_core::Names;
+use policy_text_defs::Statement;
+use std::alloc::{AllocError, Global};
+
+/// Puts a leaf at the places of the classes that it lists.
+fn put(leaves: &mut [u32], classes: &Names<'_>, listed: &[Name], leaf: u32)
+    requires len { length leaves.old ≡ length classes.now }
+    ensures len { length leaves.new ≡ length leaves.old }
+    ensures put { (a : Bytes) → has classes.now a ≡ true → slice_index leaves.new (place classes.now a) ≡ (if has listed.now a then leaf else slice_index leaves.old (place classes.now a)) }
+{
+    for name in listed {
+        if let Some(place) = classes.place(name.as_str()) {
+            leaves[place] = leaf;
+        }
+    }
+}
+
+/// A number for each class.
+fn unplaced(alloc: Global, lines: &[(u32, Statement)]) -> Result<Vec<u32>, AllocError>
+    ensures len { IfOk result (λ l. length l.items ≡ length (declared class_name (entries_of lines.now))) }
+{
+    let mut leaves = Vec::new(alloc);
+    for (_, statement) in lines {
+        if let Statement::Class(_, _, _) = statement {
+            leaves.push(0)?;
+        }
+    }
+    Ok(leaves)
+}
+
+/// For each class, in the order of the statements, the number in preorder of the leaf that lists it. The error is want of memory.
+pub fn leaves(
+    alloc: Global,
+    lines: &[(u32, Statement)],
+    classes: &Names<'_>,
+    tree: &Preorder,
+) -> Result<Vec<u32>, AllocError>
+    requires rising { AreRising (entries_of lines.now) }
+    requires apart { NoLine (IsAgain (entries_of lines.now)) (entries_of lines.now) }
+    requires listed { NoLine (IsStray (entries_of lines.now)) (entries_of lines.now) }
+    requires classes { classes.now ≡ declared class_name (entries_of lines.now) }
+    requires count { length tree.now.rows ≡ length (graph_of (entries_of lines.now)) }
+    requires once { (a : ℕ) → a < length tree.now.rows → times a (nodes_of tree.now.rows) ≡ 1 }
+    ensures homes { IfOk result (λ l. AreHomes (entries_of lines.now) tree.now.rows l.items) }
+{
+    let places = places(alloc, tree)?;
+    let mut leaves = unplaced(alloc, lines)?;
+    let mut node = 0;
+    for (_, statement) in lines {
+        match statement {
+            Statement::Leaf(_, _, _, listed) => {
+                put(
+                    leaves.as_mut_slice(),
+                    classes,
+                    listed.as_slice(),
+                    places[node],
+                );
+                node += 1;
+            }
+            Statement::Node(_, _, _, _) => node += 1,
+            _ => {}
+        }
+    }
+    Ok(leaves)
+}
