@@ -1,0 +1,4 @@
+pub mod Words
+pub mod Sound
+pub mod Lines
+pub mod Joins
