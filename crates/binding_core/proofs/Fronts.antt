@@ -1,8 +1,8 @@
 -- The lines with which some lines begin.
-use Rattle.std.proofs.Common.{◌≡◌, ℕ, zero, suc, ◌+◌, ◌<◌, Bool, true, false, cond, not, List, [], ◌∷◌, ◌++◌, length, take, map, position, Option, Some, None, is_some, nat_lt, sym, ap, ◌∙◌, refl}
+use Rattle.std.proofs.Common.{◌≡◌, ℕ, zero, suc, ◌+◌, ◌<◌, ◌≤◌, Bool, true, false, cond, not, List, [], ◌∷◌, ◌++◌, length, take, map, position, Option, Some, None, is_some, nat_lt, sym, ap, ◌∙◌, refl, arith}
 use Rattle.std.specs.List.{prefix_len, position_or_len, take_while}
-use Rattle.std.proofs.lemmas.List.{take_all, take-map}
-use Rattle.std.proofs.lemmas.List.Sums.{prefix_len-le-length}
+use Rattle.std.proofs.lemmas.List.{take_all, take-map, length-map}
+use Rattle.std.proofs.lemmas.Bool.{ltb-false}
 
 not_not : (b : Bool) → not (not b) ≡ b
 not_not true = refl
@@ -28,7 +28,8 @@ module _ {X Y : Type 0} (q : Y → Bool) (f : X → Y) (xs : List X) where
       here false e = absurd cc
 
   pub front_none : position (λ x. not (q (f x))) xs ≡ None → map f xs ≡ take_while q (map f xs)
-  front_none none = sym (take_all (prefix_len q (map f xs)) (map f xs) long)
+  front_none none = sym (take_all (prefix_len q (map f xs)) (map f xs) (omega (arith, same_place, length-map xs f, long (nat_lt (position_or_len (λ x. not (q (f x))) xs) (length xs)) refl none)))
     where
-      long : length (map f xs) ≤ prefix_len q (map f xs)
-      long = ?
+      long : (b : Bool) → nat_lt (position_or_len (λ x. not (q (f x))) xs) (length xs) ≡ b → cond b (Some (position_or_len (λ x. not (q (f x))) xs)) None ≡ None → length xs ≤ position_or_len (λ x. not (q (f x))) xs
+      long true is e = absurd cc
+      long false is e = ltb-false _ _ is
