@@ -5,3 +5,5 @@ pub mod Joins
 pub mod Fronts
 pub mod Ready
 pub mod Written
+pub mod Shaped
+pub mod Known

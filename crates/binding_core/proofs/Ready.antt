@@ -13,7 +13,7 @@ use Rattle.policy_text_defs.specs.Words.{is_variable}
 use Rattle.policy_text_defs.specs.Sense.{Sense, Entry, version, transaction, keep, each, push, pop, class, leaf, node}
 use Rattle.policy_text_defs.specs.Valid.{IsValid}
 use Rattle.resolve_defs.specs.Names.{Name, before}
-use Rattle.resolve_defs.specs.Bodies.{is_transaction, is_body, open_body, Body, opened}
+use Rattle.resolve_defs.specs.Bodies.{is_transaction, is_body, open_body, Body, opened, bodies}
 use Rattle.resolve_defs.specs.Clauses.{is_declared, is_known, is_beyond}
 use Rattle.resolve_defs.specs.Accepted.{AreFew}
 use Rattle.resolve_defs.specs.Entries.{AreRising}
@@ -149,6 +149,10 @@ module _ (es pre rest : List Entry) (e : Entry) (is : es ≡ pre ++ e ∷ rest) 
       not_false true other = refl
       not_false false other = absurd (other refl)
 
+pub all_append : {X : Type 0} (P : X → Type 0) (xs ys : List X) → AllByRecursion P xs → AllByRecursion P ys → AllByRecursion P (xs ++ ys)
+all_append P [] ys left right = right
+all_append P (x ∷ xs) ys left right = (left.0, all_append P xs ys left.1 right)
+
 front_case : (earlier rest : List Entry) (e : Entry) (b : Bool) → (b ≡ true → IsSoundLine earlier e) → (b ≡ true → AreSoundBehind (earlier ++ e ∷ []) (take_while (λ f. is_body f.1) rest))
     → AreSoundBehind earlier (cond b (e ∷ take_while (λ f. is_body f.1) rest) [])
 front_case earlier rest e true first later = (first refl, later refl)
@@ -177,3 +181,11 @@ module _ (es : List Entry) (rising : AreRising es) (few : AreFew es) (valid : Al
   -- the body that a line begins
   pub sound_begun : (i : ℕ) (e : Entry) → i < length es → get_or es i e ≡ e → AllByRecursion (λ b. IsSoundBody b.lines) (opened e.1 (drop (i + 1) es))
   sound_begun i e within is = sound_opened (take i es) (drop (i + 1) es) e (sym (take-append-drop i es) ∙ ap (λ (l : List Entry). take i es ++ l) (drop_more es i e within ∙ ap (λ (f : Entry). f ∷ drop (i + 1) es) is))
+
+  sound_bodies : (pre rest : List Entry) → es ≡ pre ++ rest → AllByRecursion (λ b. IsSoundBody b.lines) (bodies rest)
+  sound_bodies pre [] is = tt
+  sound_bodies pre (e ∷ rest) is = all_append (λ b. IsSoundBody b.lines) (opened e.1 rest) (bodies rest) (sound_opened pre rest e is) (sound_bodies (pre ++ e ∷ []) rest (is ∙ sym (append_assoc pre (e ∷ []) rest)))
+
+  -- all bodies
+  pub all_sound : AllByRecursion (λ b. IsSoundBody b.lines) (bodies es)
+  all_sound = sound_bodies [] es refl
