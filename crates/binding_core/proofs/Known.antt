@@ -1,6 +1,6 @@
 -- All programs that names mean: shaped, and refused where those that are written are.
 use Rattle.std.proofs.Common.{◌≡◌, ◌⊎◌, inl, inr, ℕ, List, [], ◌∷◌, ◌++◌, map, refl, sym, ap, subst, ◌∙◌}
-use Rattle.std.specs.Prelude.{All}
+use Rattle.std.specs.Prelude.{All, Result, Ok, Err, MatchResult, IsErrAnd, IfErr}
 use Rattle.std.specs.List.{AllByRecursion}
 use Rattle.std.proofs.lemmas.List.{append_assoc}
 use Rattle.rank_defs.specs.Programs.{Program, assignments}
@@ -14,6 +14,7 @@ use Rattle.policy_text_defs.specs.Sense.{Entry}
 use Rattle.policy_text_defs.specs.Valid.{IsValid}
 use Rattle.range_core.specs.declared.fault.RangeFault.{RangeFault}
 use Rattle.range_core.specs.declared.fault.RangeFault.TheVariants as range
+use Rattle.resolve_defs.specs.declared.fault.PolicyFault.{PolicyFault}
 use Rattle.resolve_defs.specs.Accepted.{AreFew, IsFault}
 use Rattle.resolve_defs.specs.Bodies.{Body, bodies}
 use Rattle.resolve_defs.specs.Entries.{AreRising}
@@ -94,3 +95,12 @@ fault_written es ps are few (range.TypeClash n) clash wide zero = (few, clash_wr
 fault_written es ps are few (range.Wide n) clash wide zero = (few, wide_written es n (subst (λ (l : List Program). IsWideFirstAt l n) are (wide n refl)))
 fault_written es ps are few (range.DivZero n) clash wide zero = (few, zero_written es n (subst (λ (l : List Program). DividesByZeroFirstAt l n) are (zero n refl)))
 fault_written es ps are few range.NoMemory clash wide zero = tt
+
+-- the same of what is answered
+pub fault_answered : {X : Type 0} (es : List Entry) (ps : List Program) → ps ≡ known_programs es → AreFew es → (checked : Result X RangeFault) (result : Result X PolicyFault)
+    → MatchResult checked (λ x. result ≡ Ok x) (λ e. IsErrAnd result (λ f. f ≡ fault_of e))
+    → ((line : ℕ) → checked ≡ Err (range.TypeClash line) → ClashesFirstAt ps line) → ((line : ℕ) → checked ≡ Err (range.Wide line) → IsWideFirstAt ps line) → ((line : ℕ) → checked ≡ Err (range.DivZero line) → DividesByZeroFirstAt ps line) → IfErr result (IsFault es)
+fault_answered es ps are few (Ok x) result cases clash wide zero = subst (λ r. IfErr r (IsFault es)) (sym cases) tt
+fault_answered es ps are few (Err e) (Ok x) cases clash wide zero = tt
+fault_answered es ps are few (Err e) (Err f) cases clash wide zero =
+    subst (IsFault es) (sym cases) (fault_written es ps are few e (λ line is. clash line (ap Err is)) (λ line is. wide line (ap Err is)) (λ line is. zero line (ap Err is)))
