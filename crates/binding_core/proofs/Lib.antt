@@ -7,3 +7,4 @@ pub mod Ready
 pub mod Written
 pub mod Shaped
 pub mod Known
+pub mod Named

@@ -1,5 +1,6 @@
 //! The places of transactions in the list of all, by name.
-ghost use Rattle.std.specs.Prelude.{◌≡◌, map, slice_get, is_some, option_and_then, IfOk};
+ghost use Rattle.std.specs.Prelude.{◌≡◌, map, position, slice_get, is_some, option_and_then, IfOk};
+ghost use Rattle.std.specs.Str.{bytes_eq};
 ghost use Rattle.rank_defs.specs.Builtins.{builtins};
 ghost use Rattle.rank_defs.specs.Programs.{program_of};
 ghost use Rattle.resolve_defs.specs.Accepted.{AreFew};
@@ -31,13 +32,20 @@ pub fn builtin_transactions(alloc: Global) -> Result<List<Transaction>, AllocErr
     Ok(transactions)
 }
 
+/// The place of a built-in transaction.
+fn builtin_place(name: &str) -> Option<usize>
+    ensures { result ≡ position (bytes_eq name.now) (map (λ b. b.name) builtins) }
+{
+    BUILTINS.iter().position(|builtin| name == *builtin)
+}
+
 /// The place of the transaction with this name among all transactions, where `transactions` are the names of those that
 /// are written.
 pub fn program_place(transactions: &Names<'_>, name: &str) -> Option<usize>
     ensures place { (es : _) → AreRising es → AreFew es → transactions.now ≡ declared transaction_name es → option_and_then (λ place. slice_get (known_programs es) place) result ≡ program_named es name.now }
     ensures known { (es : _) → AreRising es → AreFew es → transactions.now ≡ declared transaction_name es → is_some result ≡ is_transaction_known es name.now }
 {
-    match BUILTINS.iter().position(|builtin| *builtin == name) {
+    match builtin_place(name) {
         Some(place) => Some(place),
         None => transactions.place(name)?.checked_add(BUILTINS.len()),
     }
