@@ -1,0 +1,10 @@
+pub mod Words
+pub mod Sound
+pub mod Lines
+pub mod Joins
+pub mod Fronts
+pub mod Ready
+pub mod Written
+pub mod Shaped
+pub mod Known
+pub mod Named

@@ -1,0 +1,12 @@
+//! The transactions that the statements of a policy use: built in or written, their names bound to variables, and
+//! checked.
+#![tactic(auto)]
+
+mod bodies;
+mod checked;
+mod places;
+mod transaction;
+mod variables;
+
+pub use checked::checked_transactions;
+pub use places::program_place;

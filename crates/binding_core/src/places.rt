@@ -1,0 +1,52 @@
+//! The places of transactions in the list of all, by name.
+ghost use Rattle.std.specs.Prelude.{◌≡◌, map, position, slice_get, is_some, option_and_then, IfOk};
+ghost use Rattle.std.specs.Str.{bytes_eq};
+ghost use Rattle.rank_defs.specs.Builtins.{builtins};
+ghost use Rattle.rank_defs.specs.Programs.{program_of};
+ghost use Rattle.resolve_defs.specs.Accepted.{AreFew};
+ghost use Rattle.resolve_defs.specs.Clauses.{is_transaction_known};
+ghost use Rattle.resolve_defs.specs.Entries.{AreRising};
+ghost use Rattle.resolve_defs.specs.Names.{declared, transaction_name};
+ghost use Rattle.resolve_defs.specs.Programs.{program_named};
+ghost use Rattle.binding_core.specs.Known.{known_programs};
+
+use list_core::List;
+use names_core::Names;
+use rank_core::builtin;
+use rank_defs::Transaction;
+use std::alloc::{AllocError, Global};
+
+/// The names of the built-in transactions, in the order in which they stand before those that are written.
+const BUILTINS: [&str; 6] = ["fifo", "strict", "shortest", "lstf", "rr", "stfq"];
+
+/// The built-in transactions. The error is want of memory.
+pub fn builtin_transactions(alloc: Global) -> Result<List<Transaction>, AllocError>
+    ensures { IfOk result (λ ts. map program_of ts ≡ map (λ b. b.program) builtins) }
+{
+    let mut transactions = List::from_vec(Vec::new(alloc));
+    for name in &BUILTINS {
+        if let Some(transaction) = builtin(alloc, name.as_bytes())? {
+            transactions.push(transaction)?;
+        }
+    }
+    Ok(transactions)
+}
+
+/// The place of a built-in transaction.
+fn builtin_place(name: &str) -> Option<usize>
+    ensures { result ≡ position (bytes_eq name.now) (map (λ b. b.name) builtins) }
+{
+    BUILTINS.iter().position(|builtin| name == *builtin)
+}
+
+/// The place of the transaction with this name among all transactions, where `transactions` are the names of those that
+/// are written.
+pub fn program_place(transactions: &Names<'_>, name: &str) -> Option<usize>
+    ensures place { (es : _) → AreRising es → AreFew es → transactions.now ≡ declared transaction_name es → option_and_then (λ place. slice_get (known_programs es) place) result ≡ program_named es name.now }
+    ensures known { (es : _) → AreRising es → AreFew es → transactions.now ≡ declared transaction_name es → is_some result ≡ is_transaction_known es name.now }
+{
+    match builtin_place(name) {
+        Some(place) => Some(place),
+        None => transactions.place(name)?.checked_add(BUILTINS.len()),
+    }
+}
