@@ -1,4 +1,5 @@
 pub mod Numbers
 pub mod Rows
+pub mod Told
 pub mod Whole
 pub mod Samples
