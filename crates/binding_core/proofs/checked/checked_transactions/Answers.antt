@@ -1,10 +1,10 @@
-use Rattle.std.proofs.Common.{◌≡◌, ◌++◌, ◌∙◌, sym, ap, subst, List}
+use Rattle.std.proofs.Common.{◌++◌, ◌∙◌, sym, ap, subst, List}
 use Rattle.std.specs.List.{AllByRecursion}
 use Rattle.rank_defs.specs.Programs.{Program}
 use Rattle.rank_defs.specs.Shapes.{IsShaped}
 use Rattle.resolve_defs.specs.Entries.{entries_of}
 use Rattle.resolve_defs.specs.Programs.{programs}
-use Rattle.binding_core.proofs.Known.{shaped_known, checked_written, fault_answered}
+use Rattle.binding_core.proofs.Known.{shaped_known, fault_answered}
 use Rattle.binding_core.proofs.checked.checked_transactions.Goals as goal
 
 pub check-requires : goal.check-requires

@@ -1,6 +1,5 @@
-use Rattle.std.proofs.Common.{◌≡◌, ◌≤◌, ◌∙◌, List, ℕ, length, take, sym, subst}
-use Rattle.std.proofs.lemmas.List.{take_all, length-map}
-use Rattle.resolve_defs.specs.Names.{Name, declared, keep_name, each_name}
+use Rattle.std.proofs.Common.{◌≤◌, List, length, sym, subst}
+use Rattle.resolve_defs.specs.Names.{Name}
 use Rattle.resolve_defs.specs.Clauses.{most_variables}
 use Rattle.resolve_defs.specs.Entries.{entries_of}
 use Rattle.binding_core.proofs.Lines.{keeps_line, eaches_line}
