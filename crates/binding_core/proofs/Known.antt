@@ -40,7 +40,7 @@ checked_built_in = over_map (λ (b : Builtin). b.program) (λ b. IsShaped b.prog
 pub shaped_known : (es : List Entry) → AreRising es → AreFew es → All (λ e. IsValid e.1) es → AllByRecursion IsShaped (known_programs es)
 shaped_known es rising few valid =
     all_append IsShaped built_in (programs es) shaped_built_in
-      (over_map (λ (b : Body). program_in b.lines) (λ b. IsSoundBody b.lines) IsShaped (λ b sound. shaped b.lines sound) (bodies es) (all_sound es rising few valid))
+    (over_map (λ (b : Body). program_in b.lines) (λ b. IsSoundBody b.lines) IsShaped (λ b sound. shaped b.lines sound) (bodies es) (all_sound es rising few valid))
 
 pub checked_known : (es : List Entry) → AreChecked (programs es) → AreChecked (known_programs es)
 checked_known es written = all_append IsChecked built_in (programs es) checked_built_in written

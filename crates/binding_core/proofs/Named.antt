@@ -105,7 +105,7 @@ module _ (es : List Entry) (rising : AreRising es) (few : AreFew es) where
   few_from pre (e ∷ rest) is so_far =
       let fine : is_beyond pre e.1 ≡ false = ap (λ (l : List Entry). is_beyond l e.1) (sym (before_is es pre rest e is rising)) ∙ not_true _ (here es pre rest e is (λ f. ¬ (is_beyond (before f.0 es) f.1 ≡ true)) few.1) in
       few_from (pre ++ e ∷ []) rest (is ∙ sym (append_assoc pre (e ∷ []) rest))
-        (subst (λ (l : List Name). length l ≤ most_transactions) (sym (declared-push transaction_name pre e)) (few_push pre e so_far fine))
+      (subst (λ (l : List Name). length l ≤ most_transactions) (sym (declared-push transaction_name pre e)) (few_push pre e so_far fine))
 
   pub few_transactions : length (declared transaction_name es) ≤ most_transactions
   few_transactions = few_from [] es refl (omega arith)

@@ -160,9 +160,9 @@ module _ (es : List Entry) (rising : AreRising es) (few : AreFew es) (valid : Al
   sound_front pre [] earlier is all own = tt
   sound_front pre (e ∷ rest) earlier is all own =
       subst (AreSoundBehind earlier) (sym (take_while-cons (λ f. is_body f.1) e rest))
-        (front_case earlier rest e (is_body e.1)
-          (λ body. sound_line es pre rest e is earlier rising few valid all own body)
-          (λ body. sound_front (pre ++ e ∷ []) rest (earlier ++ e ∷ []) (is ∙ sym (append_assoc pre (e ∷ []) rest)) (AreBody-push earlier e all body) (open_push pre e (body_line e body) ∙ ap (λ (l : List Entry). l ++ e ∷ []) own)))
+      (front_case earlier rest e (is_body e.1)
+      (λ body. sound_line es pre rest e is earlier rising few valid all own body)
+      (λ body. sound_front (pre ++ e ∷ []) rest (earlier ++ e ∷ []) (is ∙ sym (append_assoc pre (e ∷ []) rest)) (AreBody-push earlier e all body) (open_push pre e (body_line e body) ∙ ap (λ (l : List Entry). l ++ e ∷ []) own)))
 
   sound_opened : (pre rest : List Entry) (e : Entry) → es ≡ pre ++ e ∷ rest → AllByRecursion (λ b. IsSoundBody b.lines) (opened e.1 rest)
   sound_opened pre rest (n, transaction a) is = (sound_front (pre ++ (n, transaction a) ∷ []) rest [] (is ∙ sym (append_assoc pre ((n, transaction a) ∷ []) rest)) refl (open_transaction pre (n, transaction a) refl), tt)

@@ -211,7 +211,8 @@ module _ (all : List Entry) where
   pushes_shaped earlier [] is body sound = tt
   pushes_shaped earlier ((n, push a t) ∷ es) is body sound = (
     assignment_shaped earlier ((n, push a t) ∷ es) n a t is (subst (λ (l : List Entry). ((bytes_eq a (codes "rank") || has (declared variable_name l) a) && are_operands_known (declared variable_name l) t) ≡ true) (open_own earlier body) sound.0.known) sound.0.valid.1.low,
-    pushes_shaped (earlier ++ (n, push a t) ∷ []) es (append_assoc earlier ((n, push a t) ∷ []) es ∙ is) (AreBody-push earlier (n, push a t) body sound.0.body) sound.1)
+    pushes_shaped (earlier ++ (n, push a t) ∷ []) es (append_assoc earlier ((n, push a t) ∷ []) es ∙ is) (AreBody-push earlier (n, push a t) body sound.0.body) sound.1,
+  )
   pushes_shaped earlier ((n, keep a s) ∷ es) is body sound = pushes_shaped (earlier ++ (n, keep a s) ∷ []) es (append_assoc earlier ((n, keep a s) ∷ []) es ∙ is) (AreBody-push earlier (n, keep a s) body sound.0.body) sound.1
   pushes_shaped earlier ((n, each a s) ∷ es) is body sound = pushes_shaped (earlier ++ (n, each a s) ∷ []) es (append_assoc earlier ((n, each a s) ∷ []) es ∙ is) (AreBody-push earlier (n, each a s) body sound.0.body) sound.1
   pushes_shaped earlier ((n, pop a t) ∷ es) is body sound = pushes_shaped (earlier ++ (n, pop a t) ∷ []) es (append_assoc earlier ((n, pop a t) ∷ []) es ∙ is) (AreBody-push earlier (n, pop a t) body sound.0.body) sound.1
@@ -229,10 +230,10 @@ module _ (all : List Entry) where
   pops_shaped earlier [] is body sound = tt
   pops_shaped earlier ((n, pop a t) ∷ es) is body sound =
       let known : (has (declared variable_name earlier) a && are_operands_known (declared variable_name earlier) t) ≡ true = subst (λ (l : List Entry). (has (declared variable_name l) a && are_operands_known (declared variable_name l) t) ≡ true) (open_own earlier body) sound.0.known in
-      let parts = and_true _ _ known in
-      (
+      let parts = and_true _ _ known in (
         assignment_shaped earlier ((n, pop a t) ∷ es) n a t is (rw (with_rank (bytes_eq a (codes "rank")) (has (declared variable_name earlier) a) parts.0) parts.1) sound.0.valid.1.low,
-        pops_shaped (earlier ++ (n, pop a t) ∷ []) es (append_assoc earlier ((n, pop a t) ∷ []) es ∙ is) (AreBody-push earlier (n, pop a t) body sound.0.body) sound.1)
+        pops_shaped (earlier ++ (n, pop a t) ∷ []) es (append_assoc earlier ((n, pop a t) ∷ []) es ∙ is) (AreBody-push earlier (n, pop a t) body sound.0.body) sound.1,
+      )
   pops_shaped earlier ((n, keep a s) ∷ es) is body sound = pops_shaped (earlier ++ (n, keep a s) ∷ []) es (append_assoc earlier ((n, keep a s) ∷ []) es ∙ is) (AreBody-push earlier (n, keep a s) body sound.0.body) sound.1
   pops_shaped earlier ((n, each a s) ∷ es) is body sound = pops_shaped (earlier ++ (n, each a s) ∷ []) es (append_assoc earlier ((n, each a s) ∷ []) es ∙ is) (AreBody-push earlier (n, each a s) body sound.0.body) sound.1
   pops_shaped earlier ((n, push a t) ∷ es) is body sound = pops_shaped (earlier ++ (n, push a t) ∷ []) es (append_assoc earlier ((n, push a t) ∷ []) es ∙ is) (AreBody-push earlier (n, push a t) body sound.0.body) sound.1

@@ -213,7 +213,7 @@ few_eaches es sound = omega (arith, few_eaches-variables es, few_variables es so
 shorter : (space : Sense → Option Name) (es : List Entry) (i : ℕ) → length (declared space (take i es)) ≤ length (declared space es)
 shorter space es i = subst (λ (l : List Entry). length (declared space (take i es)) ≤ length (declared space l)) (take-append-drop i es)
     (subst (λ (l : List Name). length (declared space (take i es)) ≤ length l) (sym (filter_map-append (λ f. space f.1) (take i es) (drop i es)))
-      (omega (arith, length-append (declared space (take i es)) (declared space (drop i es)))))
+    (omega (arith, length-append (declared space (take i es)) (declared space (drop i es)))))
 
 pub few_keeps_at : (es : List Entry) (i : ℕ) → IsSoundBody es → length (declared keep_name (take i es)) ≤ most_variables
 few_keeps_at es i sound = omega (arith, shorter keep_name es i, few_keeps es sound)

@@ -84,9 +84,18 @@ fn transactions_are_bound_and_checked(rt: HostRuntime) -> Result<(), Fail> {
 #[test]
 fn faults_are_told_with_their_lines(rt: HostRuntime) -> Result<(), Fail> {
     let alloc = rt.alloc();
-    assert_eq!(rt; fault(alloc, Op::Less, "n", "m")?, Some(PolicyFault::TypeClash(5)));
-    assert_eq!(rt; fault(alloc, Op::Mul, "now", "now")?, Some(PolicyFault::Wide(5)));
-    assert_eq!(rt; fault(alloc, Op::Div, "n", "m")?, Some(PolicyFault::DivZero(5)));
+    assert_eq!(rt;
+        fault(alloc, Op::Less, "n", "m")?,
+        Some(PolicyFault::TypeClash(5))
+    );
+    assert_eq!(rt;
+        fault(alloc, Op::Mul, "now", "now")?,
+        Some(PolicyFault::Wide(5))
+    );
+    assert_eq!(rt;
+        fault(alloc, Op::Div, "n", "m")?,
+        Some(PolicyFault::DivZero(5))
+    );
     assert_eq!(rt; fault(alloc, Op::Max, "n", "m")?, None);
     Ok(())
 }

@@ -15,4 +15,4 @@ check-requires c = record {
 pub returns-clause-fault : goal.returns-clause-fault
 returns-clause-fault c =
     fault_answered (entries_of c.args.lines.now) _ (c.in_ok-add_written.ensures ∙ ap (λ (l : List Program). l ++ programs (entries_of c.args.lines.now)) c.in_ok-transactions.ensures) c.requires.few c.check.result c.map_err.result c.map_err.ensures.cases
-      (λ line. (c.check.ensures.clash line).0) (λ line. (c.check.ensures.wide line).0) (λ line. (c.check.ensures.zero line).0)
+    (λ line. (c.check.ensures.clash line).0) (λ line. (c.check.ensures.wide line).0) (λ line. (c.check.ensures.zero line).0)
