@@ -1,5 +1,5 @@
 -- Packets that come in turn, and arrive.
-use Rattle.std.proofs.Common.{◌≡◌, ◌<◌, ◌≤◌, ◌^◌, ℕ, ◌+◌, Option, None, Some, List, [], ◌∷◌, ◌++◌, map, length, refl, sym, ap, ◌∙◌, subst, arith, append_assoc, length-append, is_some, true, false}
+use Rattle.std.proofs.Common.{◌≡◌, ◌<◌, ◌≤◌, ◌^◌, ℕ, ◌+◌, ◌-◌, Option, None, Some, List, [], ◌∷◌, ◌++◌, map, length, refl, sym, ap, ◌∙◌, subst, arith, append_assoc, length-append, is_some, true, false}
 use Rattle.std.proofs.lemmas.List.{map-append}
 use Rattle.packet_defs.specs.declared.packet.Packet.{Packet}
 use Rattle.policy_defs.specs.Policy.{Policy}
@@ -24,6 +24,10 @@ some_is (Some x) e = (x, refl)
 pub none_is : {X : Type 0} (o : Option X) → is_some o ≡ false → o ≡ None
 none_is None e = refl
 none_is (Some x) e = cc
+
+-- fewer packets may come after one more
+pub fewer_left : (given before : ℕ) → given ≡ before + 1 → given ≤ 4294967295 → 4294967296 - given < 4294967296 - before
+fewer_left given before one few = omega (arith, one, few)
 
 pub none_first : (before : Option Left) → WereFirst before []
 none_first None = tt

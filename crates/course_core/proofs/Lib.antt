@@ -1,2 +1,4 @@
 pub mod Making
 pub mod Coming
+pub mod Counting
+pub mod Turning

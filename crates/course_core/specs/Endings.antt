@@ -1,4 +1,5 @@
 -- How a run tells its ending.
+use Rattle.std.specs.Prelude.{Option, None, Some}
 use Rattle.capture_defs.specs.Fault.{code, place}
 use Rattle.schedule_defs.specs.Script as script
 use Rattle.run_core.specs.declared.stop.Stop as lines
@@ -12,6 +13,12 @@ abbrev pub ended : script.Ending → Ending
 ended (script.Whole unsent) = Whole unsent
 ended (script.BadCapture fault) = BadCapture (code fault) (place fault)
 ended (script.PastLast event) = PastLast event
+
+-- the ending, if it is at a fault of the capture
+abbrev pub at_fault : Ending → Option Ending
+at_fault (BadCapture c p) = Some (BadCapture c p)
+at_fault (Whole unsent) = None
+at_fault (PastLast event) = None
 
 -- what a stop within the lines of an event becomes
 abbrev pub stopped : lines.Stop → Stop

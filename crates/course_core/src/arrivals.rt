@@ -171,12 +171,11 @@ pub(crate) fn arrive_rest<C: Scheduler, N: Names, P: Packets, K: Sink>(
     ensures origin { C.origin scheduler.new ≡ C.origin scheduler.old }
 {
     loop {
-        match arrive_next(
+        let ending = arrive_next(
             names, scheduler, under, trace, report, sink, packets, source, tally,
-        )? {
-            None => {}
-            Some(Ending::PastLast(_)) => return Ok(None),
-            ending => return Ok(ending),
+        )?;
+        if let Some(ending) = ending {
+            return Ok(ending.at_fault());
         }
     }
 }

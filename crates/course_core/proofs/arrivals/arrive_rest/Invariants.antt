@@ -5,8 +5,8 @@ use Rattle.course_core.specs.Stages.{stage}
 use Rattle.course_core.specs.Turns.{Arrives}
 use Rattle.course_core.proofs.arrivals.arrive_rest.Given as goal
 
-abbrev pub invariant-loop : goal.invariant-loop
-invariant-loop g l =
+abbrev pub invariant-loop-ending : goal.invariant-loop-ending
+invariant-loop-ending g l =
     let S = g.C.Scheduler in
     let P = g.P.Packets in
     let written = g.K.Sink.written in
@@ -27,5 +27,5 @@ invariant-loop g l =
       origin : S.origin l.scheduler ≡ S.origin l.fn.scheduler;
     }
 
-abbrev pub decreases-loop : goal.decreases-loop
-decreases-loop g l = 4294967296 - g.P.Packets.given l.packets
+abbrev pub decreases-loop-ending : goal.decreases-loop-ending
+decreases-loop-ending g l = 4294967296 - g.P.Packets.given l.packets
