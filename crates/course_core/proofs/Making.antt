@@ -1,5 +1,5 @@
 -- Events that are made in a row.
-use Rattle.std.proofs.Common.{◌≡◌, ◌<◌, ◌≤◌, ◌^◌, ℕ, ◌+◌, Option, None, Some, List, [], ◌∷◌, ◌++◌, map, length, replicate, refl, sym, ap, ◌∙◌, subst, arith, append-nil, inl, inr}
+use Rattle.std.proofs.Common.{◌≡◌, ◌<◌, ◌≤◌, ◌^◌, ℕ, zero, suc, ◌+◌, Option, None, Some, List, [], ◌∷◌, ◌++◌, map, length, replicate, refl, sym, ap, ◌∙◌, subst, arith, append-nil, inl, inr}
 use Rattle.std.specs.List.{AllByRecursion}
 use Rattle.outside_core.specs.Written.{Appended}
 use Rattle.outside_core.proofs.WrittenLaws.{appended_nothing}
@@ -16,8 +16,9 @@ use Rattle.schedule_defs.specs.Sound.{IsSound}
 use Rattle.schedule_defs.specs.Events.{Event, Arrive, Depart, CanMake, after, arrivals_in, departures_in}
 use Rattle.schedule_defs.specs.Numbered.{AreNumberedFrom, IsSendable, IsHeldBelow}
 use Rattle.schedule_defs.proofs.Soundness.{with_packet-is, without-is}
-use Rattle.schedule_defs.proofs.Runs.{sound_after, after-append, arrivals_in-append, departures_in-append}
+use Rattle.schedule_defs.proofs.Runs.{sound_after, after-append, arrivals_in-append, departures_in-append, arrivals_in-departures, departures_in-departures}
 use Rattle.sched_core.specs.declared.scheduler.Scheduler.{Ghosts}
+use Rattle.sched_core.specs.Standing.{ForEachState}
 use Rattle.run_core.specs.Played.{told, Plays, StopsIn}
 use Rattle.run_core.proofs.Runs.{plays_both, stops_second, cut_unwritten}
 use Rattle.course_core.specs.Stages.{Stage, stage, event_of, FromEach, packets_in, AreNext, Makes, Stops}
@@ -154,3 +155,25 @@ module _ {C U : Type 0} (S : Ghosts C U) (policy : Policy) where
               (IsCut-append old.text (text_of written report) written text [] played.lines (cut_unwritten written report.unwritten []));
         };
   }
+
+-- ---- departures in a row
+pub packets_in-departures : (n : ℕ) → packets_in (replicate n Depart) ≡ []
+packets_in-departures zero = refl
+packets_in-departures (suc n) = packets_in-departures n
+
+next_departures : (policy : Policy) (given n : ℕ) → AreNext policy given (packets_in (replicate n Depart))
+next_departures policy given n = subst (AreNext policy given) (sym (packets_in-departures n)) (record { numbered = tt; sendable = tt })
+
+module _ {C U : Type 0} (S : Ghosts C U) (policy : Policy) where
+  pub makes_departures : (n : ℕ) (old new : Stage C U) → new.tally.pushed ≡ old.tally.pushed → new.tally.asked ≡ old.tally.asked + n →
+      ForEachState S.stands policy old.scheduler old.under (λ s. Plays S policy (event_of old.tally) (replicate n Depart) s old.scheduler new.scheduler new.under old.text new.text) → Makes S policy (replicate n Depart) old new
+  makes_departures n old new pushed asked played = record {
+    next = next_departures policy old.given n;
+    pushed = omega (arith, pushed, arrivals_in-departures n);
+    asked = omega (arith, asked, departures_in-departures n);
+    played = λ s sound stood below. played s sound stood;
+  }
+
+  pub stops_departures : (n : ℕ) (old : Stage C U) (c : C) (u : U) (written : Option (List ℕ)) →
+      ForEachState S.stands policy old.scheduler old.under (λ s. StopsIn S policy (event_of old.tally) (replicate n Depart) s old.scheduler c u old.text written) → Stops S policy (replicate n Depart) old c u written
+  stops_departures n old c u written stopped = record { next = next_departures policy old.given n; stopped = λ s sound stood below. stopped s sound stood }
