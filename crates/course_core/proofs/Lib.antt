@@ -2,3 +2,4 @@ pub mod Making
 pub mod Coming
 pub mod Counting
 pub mod Turning
+pub mod Running

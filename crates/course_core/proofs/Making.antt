@@ -81,7 +81,7 @@ next_both policy es fs given mid e first second = record {
   sendable = sendable_both policy es fs first.sendable second.sendable;
 }
 
-length-events : (es : List Event) → length es ≡ arrivals_in es + departures_in es
+pub length-events : (es : List Event) → length es ≡ arrivals_in es + departures_in es
 length-events [] = refl
 length-events (Arrive p ∷ es) = omega (arith, length-events es)
 length-events (Depart ∷ es) = omega (arith, length-events es)

@@ -32,6 +32,10 @@ pub on_err_turned : {T E : Type 0} (r : Result T E) (P Q : Type 0) → (P → Q)
 on_err_turned (Ok t) P Q f h = tt
 on_err_turned (Err e) P Q f h = f h
 
+pub on_err_given : {T E : Type 0} (r : Result T E) (P : Type 0) → P → OnErr r P
+on_err_given (Ok t) P p = tt
+on_err_given (Err e) P p = p
+
 take_behind : (n : ℕ) (xs ys : List Packet) → length xs ≤ n → take n (xs ++ ys) ≡ xs ++ take (n - length xs) ys
 take_behind n xs ys most =
     let e : n ≡ length xs + (n - length xs) = omega arith in

@@ -21,12 +21,16 @@ use Rattle.course_core.specs.Stages.{Stage, event_of, FromEach, Makes}
 abbrev pub course_of : Policy → List line.Step → Left → SourceState → ℕ → Course
 course_of policy steps left s event = course policy (map step_of steps) left.packets left.fault s event
 
--- all events of a course were made, and the run ends as it does
+-- these are the events of a course, and this tells how it ends
+pub record IsCourse (events : List Event) (ending : Ending) (run : Course) : Type 0 where
+  pub are : events ≡ run.events
+  pub ends : ending ≡ ended run.ending
+
+-- all events of the course over what was left were made
 pub record Courses {C U : Type 0} (S : Ghosts C U) (policy : Policy) (steps : List line.Step) (ending : Ending) (before : Option Left) (old new : Stage C U) : Type 0 where
   pub events : List Event
   pub made : Makes S policy events old new
-  pub told : IfSome before (λ l. FromEach S policy old (λ s. course_of policy steps l s (event_of old.tally) ≡ record { events = events; ending = (course_of policy steps l s (event_of old.tally)).ending }))
-  pub ends : IfSome before (λ l. FromEach S policy old (λ s. ending ≡ ended (course_of policy steps l s (event_of old.tally)).ending))
+  pub told : IfSome before (λ l. FromEach S policy old (λ s. IsCourse events ending (course_of policy steps l s (event_of old.tally))))
 
 -- P holds of each state for which they stand and in which no packet yet to come is held, with the course from there
 -- over what is left, where that is told

@@ -36,6 +36,11 @@ pub record IsReady (given : ℕ) (tally : Tally) (s : SourceState) : Type 0 wher
   pub held : IsHeldBelow (given + 1) s.held
   pub few : tally.asked + size s.tree ≤ 2 ^ 34
 
+-- no packet yet to come is held, and not too many are
+pub record CanBegin (given : ℕ) (s : SourceState) : Type 0 where
+  pub held : IsHeldBelow (given + 1) s.held
+  pub few : size s.tree ≤ 2 ^ 32
+
 -- the counts have room for all packets that may come
 pub record HasRoom (arrivals departures given : ℕ) (tally : Tally) : Type 0 where
   pub arrivals_fit : arrivals < 2 ^ 60 + tally.pushed

@@ -4,10 +4,12 @@
 mod arrivals;
 mod ending;
 mod packets;
+mod play;
 mod steps;
 mod stop;
 mod tally;
 
 pub use ending::Ending;
 pub use packets::{Halt, Packets};
+pub use play::play;
 pub use stop::Stop;
