@@ -3,3 +3,4 @@ pub mod Coming
 pub mod Counting
 pub mod Turning
 pub mod Running
+pub mod Closing

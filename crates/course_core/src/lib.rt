@@ -2,14 +2,16 @@
 #![tactic(auto)]
 
 mod arrivals;
+mod course;
 mod ending;
 mod packets;
-mod play;
+
 mod steps;
 mod stop;
 mod tally;
 
+pub use course::play;
 pub use ending::Ending;
 pub use packets::{Halt, Packets};
-pub use play::play;
+
 pub use stop::Stop;

@@ -1,7 +1,7 @@
 use Rattle.std.proofs.Common.{◌≡◌, ◌≤◌, ◌+◌, ◌-◌, List, length}
 use Rattle.packet_defs.specs.declared.packet.Packet.{Packet}
 use Rattle.course_core.specs.Packets.{Came}
-use Rattle.course_core.proofs.play.count_unsent.Given as goal
+use Rattle.course_core.proofs.course.count_unsent.Given as goal
 
 abbrev pub invariant-loop-unsent : goal.invariant-loop-unsent
 invariant-loop-unsent g l =

@@ -3,7 +3,7 @@ use Rattle.report_defs.specs.Text.{Begins}
 use Rattle.report_core.specs.Gathered.{text_of}
 use Rattle.course_core.specs.Stages.{stage}
 use Rattle.course_core.proofs.Running.{HasRun}
-use Rattle.course_core.proofs.play.play_steps.Given as goal
+use Rattle.course_core.proofs.course.play_steps.Given as goal
 
 abbrev pub invariant-loop-step : goal.invariant-loop-step
 invariant-loop-step g l =

@@ -5,7 +5,7 @@ use Rattle.report_core.proofs.TextLaws.{Begins-same, Begins-trans}
 use Rattle.events_core.specs.declared.step.Step.TheVariants.{Arrive}
 use Rattle.course_core.proofs.Turning.{if_ok_turned, on_err_given}
 use Rattle.course_core.proofs.Running.{run_none, run_over, run_halts, run_goes, run_ends, run_stops, run_ready, run_room}
-use Rattle.course_core.proofs.play.play_steps.Goals as goal
+use Rattle.course_core.proofs.course.play_steps.Goals as goal
 
 pub loop-step-init : goal.loop-step-init
 loop-step-init g c = record {

@@ -1,6 +1,6 @@
 use Rattle.std.proofs.Common.{[], ◌∷◌, ◌++◌, ◌∙◌, arith, length-append}
 use Rattle.course_core.proofs.Coming.{came_both}
-use Rattle.course_core.proofs.play.count_unsent.Goals as goal
+use Rattle.course_core.proofs.course.count_unsent.Goals as goal
 
 pub loop-unsent-preserved : goal.loop-unsent-preserved
 loop-unsent-preserved g c =
