@@ -54,6 +54,7 @@ pub(crate) fn arrive_next<C: Scheduler, N: Names, P: Packets, K: Sink>(
     ensures ready { IfOk result (λ e. GoesOn e (P.ready packets.new source.new)) }
     ensures given { IfOk result (λ e. GoesOn e (P.given packets.new + tally.old.pushed ≡ P.given packets.old + tally.new.pushed)) }
     ensures few { IfOk result (λ e. GoesOn e (P.given packets.new ≤ 4294967295)) }
+    ensures pushed { tally.new.pushed ≤ 4294967295 }
     ensures live { OnOk result (IsTrue report.new.live) }
     ensures room { trace.new.room ≡ trace.old.room }
     ensures policy { C.policy scheduler.new ≡ C.policy scheduler.old }
@@ -112,6 +113,7 @@ pub(crate) fn arrive_some<C: Scheduler, N: Names, P: Packets, K: Sink>(
     ensures ready { IfOk result (λ e. IfNone e (P.ready packets.new source.new)) }
     ensures given { IfOk result (λ e. IfNone e (P.given packets.new + tally.old.pushed ≡ P.given packets.old + tally.new.pushed)) }
     ensures few { IfOk result (λ e. IfNone e (P.given packets.new ≤ 4294967295)) }
+    ensures pushed { tally.new.pushed ≤ 4294967295 }
     ensures live { OnOk result (IsTrue report.new.live) }
     ensures room { trace.new.room ≡ trace.old.room }
     ensures policy { C.policy scheduler.new ≡ C.policy scheduler.old }
@@ -164,6 +166,7 @@ pub(crate) fn arrive_rest<C: Scheduler, N: Names, P: Packets, K: Sink>(
     ensures ready { IfOk result (λ e. IfNone e (P.ready packets.new source.new)) }
     ensures given { IfOk result (λ e. IfNone e (P.given packets.new + tally.old.pushed ≡ P.given packets.old + tally.new.pushed)) }
     ensures few { IfOk result (λ e. IfNone e (P.given packets.new ≤ 4294967295)) }
+    ensures pushed { tally.new.pushed ≤ 4294967295 }
     ensures live { OnOk result (IsTrue report.new.live) }
     ensures room { trace.new.room ≡ trace.old.room }
     ensures policy { C.policy scheduler.new ≡ C.policy scheduler.old }

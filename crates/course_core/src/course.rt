@@ -82,6 +82,7 @@ fn play_steps<C: Scheduler, N: Names, P: Packets, K: Sink>(
     ensures cause_source { IsErrOf result Stop.Source → Rose (P.faults source.old) (P.faults source.new) }
     ensures later { K.faults sink.old ≤ K.faults sink.new }
     ensures later_source { P.faults source.old ≤ P.faults source.new }
+    ensures pushed { tally.new.pushed ≤ 4294967295 }
     ensures live { OnOk result (IsTrue report.new.live) }
     ensures room { trace.new.room ≡ trace.old.room }
     ensures policy { C.policy scheduler.new ≡ C.policy scheduler.old }
@@ -98,6 +99,32 @@ fn play_steps<C: Scheduler, N: Names, P: Packets, K: Sink>(
     count_unsent(packets, source)
 }
 
+/// Puts the last line to the others.
+fn last<K: Sink>(
+    report: &mut Report,
+    sink: &mut K,
+    ending: Ending,
+    pushed: u64,
+    popped: u64,
+    empty: u64,
+    held: u64,
+) -> Result<(), WriteFault>
+    requires live { IsTrue report.old.live }
+
+    ensures ok { OnOk result (Appended (text_of (K.written sink.old) report.old) (text_of (K.written sink.new) report.new) (last_line pushed popped empty held ending)) }
+    ensures cut { OnErr result (IsCut (text_of (K.written sink.old) report.old) (last_line pushed popped empty held ending) (K.written sink.new)) }
+    ensures begins { Begins (K.written sink.old) (K.written sink.new) }
+    ensures cause { OnErr result (Rose (K.faults sink.old) (K.faults sink.new)) }
+    ensures later { K.faults sink.old ≤ K.faults sink.new }
+    ensures live { OnOk result (IsTrue report.new.live) }
+{
+    match ending {
+        Ending::Whole(unsent) => report.end(sink, pushed, popped, empty, held, unsent),
+        Ending::BadCapture(code, place) => report.fault(sink, FaultKind::Capture, code, place),
+        Ending::PastLast(event) => report.fault(sink, FaultKind::Script, 3, event),
+    }
+}
+
 /// Writes the last line, and what the report holds.
 fn close<K: Sink>(
     report: &mut Report,
@@ -111,18 +138,14 @@ fn close<K: Sink>(
     requires live { IsTrue report.old.live }
 
     ensures ok { OnOk result (Appended (text_of (K.written sink.old) report.old) (K.written sink.new) (last_line pushed popped empty held ending)) }
-    ensures err { OnErr result (IsCut (text_of (K.written sink.old) report.old) (last_line pushed popped empty held ending) (K.written sink.new)) }
+    ensures cut { OnErr result (IsCut (text_of (K.written sink.old) report.old) (last_line pushed popped empty held ending) (K.written sink.new)) }
     ensures begins { Begins (K.written sink.old) (K.written sink.new) }
     ensures cause { OnErr result (Rose (K.faults sink.old) (K.faults sink.new)) }
     ensures later { K.faults sink.old ≤ K.faults sink.new }
     ensures live { OnOk result (IsTrue report.new.live) }
     ensures none_left { OnOk result (report.new.unwritten ≡ []) }
 {
-    match ending {
-        Ending::Whole(unsent) => report.end(sink, pushed, popped, empty, held, unsent)?,
-        Ending::BadCapture(code, place) => report.fault(sink, FaultKind::Capture, code, place)?,
-        Ending::PastLast(event) => report.fault(sink, FaultKind::Script, 3, event)?,
-    }
+    last(report, sink, ending, pushed, popped, empty, held)?;
     report.finish(sink)
 }
 

@@ -5,7 +5,6 @@ mod arrivals;
 mod course;
 mod ending;
 mod packets;
-
 mod steps;
 mod stop;
 mod tally;
@@ -13,5 +12,4 @@ mod tally;
 pub use course::play;
 pub use ending::Ending;
 pub use packets::{Halt, Packets};
-
 pub use stop::Stop;
