@@ -1,5 +1,5 @@
 -- The report of a course, and how it ends.
-use Rattle.std.proofs.Common.{◌≡◌, ◌≤◌, ◌^◌, ℕ, ◌+◌, ◌-◌, Option, None, Some, List, [], ◌∷◌, ◌++◌, length, refl, sym, ap, ◌∙◌, subst, arith, append_assoc, append-nil}
+use Rattle.std.proofs.Common.{◌≡◌, ◌≤◌, ℕ, ◌+◌, ◌-◌, Option, None, Some, List, [], ◌++◌, length, refl, sym, ap, ◌∙◌, subst, arith, append_assoc, append-nil}
 use Rattle.std.specs.Prelude.{IfSome}
 use Rattle.outside_core.specs.Written.{Appended}
 use Rattle.outside_core.proofs.WrittenLaws.{appended_in_turn}
@@ -27,7 +27,7 @@ use Rattle.course_core.specs.Endings.{ended, last_line}
 use Rattle.course_core.specs.Stages.{Stage, event_of, FromEach, CanBegin, Makes}
 use Rattle.course_core.specs.Turns.{StopsAmid}
 use Rattle.course_core.specs.Courses.{course_of, IsCourse, Courses, OnCourse, Runs, Breaks}
-use Rattle.course_core.proofs.Making.{Stands, can_make, stands_after}
+use Rattle.course_core.proofs.Making.{can_make, stands_after}
 use Rattle.course_core.proofs.Counting.{pushed_in-outcomes, popped_or_held, popped_or_empty}
 
 -- the numbers of the last line

@@ -1,20 +1,19 @@
 -- Packets that come in turn, and arrive.
-use Rattle.std.proofs.Common.{◌≡◌, ◌<◌, ◌≤◌, ◌^◌, ℕ, ◌+◌, ◌-◌, Option, None, Some, List, [], ◌∷◌, ◌++◌, map, length, refl, sym, ap, ◌∙◌, subst, arith, append_assoc, length-append, is_some, true, false}
+use Rattle.std.proofs.Common.{◌≡◌, ◌<◌, ◌≤◌, ◌^◌, ℕ, ◌+◌, ◌-◌, Option, None, Some, List, [], ◌++◌, map, refl, sym, ap, ◌∙◌, subst, arith, append_assoc, length-append, is_some, true, false}
 use Rattle.std.proofs.lemmas.List.{map-append}
 use Rattle.packet_defs.specs.declared.packet.Packet.{Packet}
 use Rattle.policy_defs.specs.Policy.{Policy}
 use Rattle.policy_defs.specs.Accepted.{IsAccepted}
-use Rattle.schedule_defs.specs.Events.{Event, Arrive, arrivals_in, departures_in}
+use Rattle.schedule_defs.specs.Events.{Event, Arrive, departures_in}
 use Rattle.schedule_defs.specs.Numbered.{IsHeldBelow}
-use Rattle.schedule_defs.proofs.Runs.{arrivals_in-arrivals, departures_in-arrivals}
 use Rattle.sched_core.specs.declared.scheduler.Scheduler.{Ghosts}
 use Rattle.sched_core.specs.Standing.{StandForOne}
 use Rattle.course_core.specs.declared.ending.Ending.{Ending}
 use Rattle.course_core.specs.declared.ending.Ending.TheVariants.{Whole, BadCapture, PastLast}
 use Rattle.course_core.specs.declared.tally.Tally.{Tally}
-use Rattle.course_core.specs.Packets.{Left, Came, IsOver, IsFaultOf}
+use Rattle.course_core.specs.Packets.{Left, Came, IsFaultOf}
 use Rattle.course_core.specs.Stages.{Stage, stage, event_of, HasRoom, Makes, Stops}
-use Rattle.course_core.specs.Turns.{CameUntil, CameOf, Arrives, WereFirst, ArrivalsStop}
+use Rattle.course_core.specs.Turns.{CameUntil, Arrives, WereFirst, ArrivalsStop}
 use Rattle.course_core.proofs.Making.{stands_after, makes_none, makes_both, stops_later}
 
 pub some_is : {X : Type 0} (o : Option X) → is_some o ≡ true → (x : X) × (o ≡ Some x)

@@ -1,12 +1,12 @@
 -- How many packets arrive, leave and are found missing.
-use Rattle.std.proofs.Common.{◌≡◌, ◌≤◌, ℕ, zero, suc, ◌+◌, ◌-◌, Option, None, Some, List, [], ◌∷◌, map, length, replicate, refl, sym, ap, ◌∙◌, subst, arith}
+use Rattle.std.proofs.Common.{◌≡◌, ◌≤◌, ℕ, zero, suc, ◌+◌, ◌-◌, Option, None, Some, List, [], ◌∷◌, map, replicate, refl, ◌∙◌, arith}
 use Rattle.tree_defs.specs.SourceTree.{size}
 use Rattle.packet_defs.specs.declared.packet.Packet.{Packet}
 use Rattle.policy_defs.specs.Policy.{Policy}
 use Rattle.policy_defs.specs.Accepted.{IsAccepted}
 use Rattle.schedule_defs.specs.SourceState.{SourceState, Leaver, arrived, departed, leaver}
 use Rattle.schedule_defs.specs.Sound.{IsSound}
-use Rattle.schedule_defs.specs.Events.{Event, Arrive, Depart, Outcome, CanMake, after, step, departure, outcomes, arrivals_in, departures_in}
+use Rattle.schedule_defs.specs.Events.{Event, Arrive, Depart, Outcome, CanMake, after, departure, outcomes, arrivals_in, departures_in}
 use Rattle.schedule_defs.specs.Report.{pushed_in, popped_in, empty_in}
 use Rattle.schedule_defs.proofs.Soundness.{sound_arrived, sound_departed}
 use Rattle.schedule_defs.proofs.Leaving.{size_arrived, size_departed, leaver-none}

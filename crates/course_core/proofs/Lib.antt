@@ -4,3 +4,4 @@ pub mod Counting
 pub mod Turning
 pub mod Running
 pub mod Closing
+pub mod Beginning

@@ -1,9 +1,8 @@
 -- Events that are made in a row.
-use Rattle.std.proofs.Common.{◌≡◌, ◌<◌, ◌≤◌, ◌^◌, ℕ, zero, suc, ◌+◌, Option, None, Some, List, [], ◌∷◌, ◌++◌, map, length, replicate, refl, sym, ap, ◌∙◌, subst, arith, append-nil, inl, inr}
+use Rattle.std.proofs.Common.{◌≡◌, ◌<◌, ℕ, zero, suc, ◌+◌, Option, None, Some, List, [], ◌∷◌, ◌++◌, length, replicate, refl, sym, ap, ◌∙◌, subst, arith, append-nil, inl, inr}
 use Rattle.std.specs.List.{AllByRecursion}
-use Rattle.outside_core.specs.Written.{Appended}
 use Rattle.outside_core.proofs.WrittenLaws.{appended_nothing}
-use Rattle.report_defs.specs.Text.{IsCut, appended}
+use Rattle.report_defs.specs.Text.{IsCut}
 use Rattle.report_core.specs.Gathered.{text_of, Gathered}
 use Rattle.report_core.proofs.TextLaws.{IsCut-append}
 use Rattle.tree_defs.specs.Tree.{Popping}
@@ -16,12 +15,12 @@ use Rattle.schedule_defs.specs.Sound.{IsSound}
 use Rattle.schedule_defs.specs.Events.{Event, Arrive, Depart, CanMake, after, arrivals_in, departures_in}
 use Rattle.schedule_defs.specs.Numbered.{AreNumberedFrom, IsSendable, IsHeldBelow}
 use Rattle.schedule_defs.proofs.Soundness.{with_packet-is, without-is}
-use Rattle.schedule_defs.proofs.Runs.{sound_after, after-append, arrivals_in-append, departures_in-append, arrivals_in-departures, departures_in-departures}
+use Rattle.schedule_defs.proofs.Runs.{sound_after, arrivals_in-append, departures_in-append, arrivals_in-departures, departures_in-departures}
 use Rattle.sched_core.specs.declared.scheduler.Scheduler.{Ghosts}
 use Rattle.sched_core.specs.Standing.{ForEachState}
 use Rattle.run_core.specs.Played.{told, Plays, StopsIn}
 use Rattle.run_core.proofs.Runs.{plays_both, stops_second, cut_unwritten}
-use Rattle.course_core.specs.Stages.{Stage, stage, event_of, FromEach, packets_in, AreNext, Makes, Stops}
+use Rattle.course_core.specs.Stages.{Stage, stage, event_of, packets_in, AreNext, Makes, Stops}
 
 -- ---- packets and their numbers
 held_none : (held : Held) (n : ℕ) → IsHeldBelow n held → held n ≡ None

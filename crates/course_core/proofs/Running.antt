@@ -1,19 +1,17 @@
 -- The course of a script, step by step.
-use Rattle.std.proofs.Common.{◌≡◌, ◌<◌, ◌≤◌, ◌^◌, ℕ, ◌+◌, Option, None, Some, List, [], ◌∷◌, ◌++◌, map, length, refl, sym, ap, ◌∙◌, subst, arith, append_assoc, append-nil}
-use Rattle.std.specs.Prelude.{option_map, IfSome, IfNone}
+use Rattle.std.proofs.Common.{◌≡◌, ◌≤◌, ◌^◌, ℕ, ◌+◌, Option, None, Some, List, [], ◌∷◌, ◌++◌, map, length, refl, sym, ap, ◌∙◌, subst, arith, append_assoc, append-nil}
+use Rattle.std.specs.Prelude.{option_map, IfSome}
 use Rattle.report_core.specs.Gathered.{Gathered, text_of}
-use Rattle.capture_defs.specs.Fault.{Fault}
 use Rattle.tree_defs.specs.SourceTree.{size}
-use Rattle.packet_defs.specs.declared.packet.Packet.{Packet}
 use Rattle.policy_defs.specs.Policy.{Policy}
 use Rattle.policy_defs.specs.Accepted.{IsAccepted}
 use Rattle.schedule_defs.specs.SourceState.{SourceState}
 use Rattle.schedule_defs.specs.Sound.{IsSound}
-use Rattle.schedule_defs.specs.Events.{Event, Outcome, Arrived, Departed, Empty, after, outcomes, arrivals_in, departures_in}
+use Rattle.schedule_defs.specs.Events.{Event, Outcome, Arrived, Departed, Empty, after, outcomes, arrivals_in}
 use Rattle.schedule_defs.specs.Script as script
 use Rattle.schedule_defs.specs.Script.{Step, Course, course, behind, stopped_or, step_events, left_by, stop_at, at_end}
 use Rattle.schedule_defs.specs.Numbered.{IsHeldBelow}
-use Rattle.schedule_defs.specs.Report.{popped_in, empty_in}
+use Rattle.schedule_defs.specs.Report.{empty_in}
 use Rattle.schedule_defs.proofs.Runs.{after-append, outcomes-append}
 use Rattle.sched_core.specs.declared.scheduler.Scheduler.{Ghosts}
 use Rattle.sched_core.specs.Standing.{StandForOne}
@@ -25,7 +23,7 @@ use Rattle.course_core.specs.declared.tally.Tally.{Tally}
 use Rattle.course_core.specs.Packets.{Left}
 use Rattle.course_core.specs.Endings.{ended}
 use Rattle.course_core.specs.Steps.{step_of, asked_by}
-use Rattle.course_core.specs.Stages.{Stage, stage, event_of, FromEach, CanBegin, IsReady, HasRoom, Makes, Stops}
+use Rattle.course_core.specs.Stages.{Stage, stage, event_of, FromEach, CanBegin, IsReady, HasRoom, Makes}
 use Rattle.course_core.specs.Turns.{IsTurn, Turns, AreFirst, StopsAmid}
 use Rattle.course_core.specs.Courses.{course_of, IsCourse, Courses}
 use Rattle.course_core.proofs.Making.{Stands, can_make, length-events, stands_after, makes_none, makes_both, stops_here, stops_later}
@@ -176,8 +174,14 @@ module _ {C U : Type 0} (S : Ghosts C U) (policy : Policy) (accepted : IsAccepte
       made = makes_both S policy accepted run.events turns.events old mid new mid_given run.made turns.made;
       few = λ s sound stood below.
           let at = mid_at s sound stood below in
-          omega (arith, run.few s sound stood below, turns.few (after policy run.events s) at.sound at.stood at.below, asked_is step,
-          ap empty_in (outcomes-append policy run.events turns.events s), empty_in-append (outcomes policy run.events s) (outcomes policy turns.events (after policy run.events s)));
+          omega (
+            arith,
+            run.few s sound stood below,
+            turns.few (after policy run.events s) at.sound at.stood at.below,
+            asked_is step,
+            ap empty_in (outcomes-append policy run.events turns.events s),
+            empty_in-append (outcomes policy run.events s) (outcomes policy turns.events (after policy run.events s)),
+          );
       told = by_left a run.told;
     }
       where
@@ -242,8 +246,8 @@ module _ {C U : Type 0} (S : Ghosts C U) (policy : Policy) (accepted : IsAccepte
             let begins = course_begins policy (step_of step) (map step_of rest) w.left s' (event_of mid.tally) in (
               first.0 ++ begins.0,
               append_assoc run.events amid.events (first.0 ++ begins.0)
-              ∙ ap (λ (x : List Event). run.events ++ x) (sym (append_assoc amid.events first.0 begins.0) ∙ ap (λ (x : List Event). x ++ begins.0) first.1 ∙ begins.1)
-              ∙ sym (ap (λ (z : Course). z.events) w.joined),
+                  ∙ ap (λ (x : List Event). run.events ++ x) (sym (append_assoc amid.events first.0 begins.0) ∙ ap (λ (x : List Event). x ++ begins.0) first.1 ∙ begins.1)
+                  ∙ sym (ap (λ (z : Course). z.events) w.joined),
             )
 
   -- ---- what the next step needs

@@ -1,18 +1,17 @@
 -- What each step of a script leaves.
-use Rattle.std.proofs.Common.{◌≡◌, ◌<◌, ◌≤◌, ℕ, ◌+◌, ◌-◌, nat_lt, Bool, length-append, Option, None, Some, List, [], ◌∷◌, ◌++◌, map, length, take, drop, replicate, refl, sym, ap, ◌∙◌, subst, arith, append-nil, true, false}
+use Rattle.std.proofs.Common.{◌≡◌, ◌<◌, ◌≤◌, ℕ, ◌+◌, ◌-◌, nat_lt, Bool, length-append, Option, None, Some, List, [], ◌++◌, map, length, take, drop, replicate, refl, sym, ap, ◌∙◌, arith, append-nil, true, false}
 use Rattle.std.specs.Prelude.{option_map, IfSome, IfNone, IfOk, OnErr, Result, Ok, Err}
 use Rattle.std.proofs.lemmas.List.{map-append, take_all}
 use Rattle.std.proofs.lemmas.Bool.{ltb-true, lt-ltb}
 use Rattle.std.proofs.Math.Seq.{take-append_seam, drop-append_seam, take-append-add}
-use Rattle.capture_defs.specs.Fault.{Fault, code, place}
+use Rattle.capture_defs.specs.Fault.{Fault}
 use Rattle.tree_defs.specs.SourceTree.{size}
 use Rattle.packet_defs.specs.declared.packet.Packet.{Packet}
 use Rattle.policy_defs.specs.Policy.{Policy}
 use Rattle.policy_defs.specs.Accepted.{IsAccepted}
 use Rattle.schedule_defs.specs.SourceState.{SourceState}
-use Rattle.schedule_defs.specs.Events.{Event, Arrive, Depart, outcomes}
-use Rattle.schedule_defs.specs.Script.{Step, Arrivals, Departures, Rest, Drain, step_events, left_by, stop_at, at_fault}
-use Rattle.schedule_defs.specs.Report.{empty_in}
+use Rattle.schedule_defs.specs.Events.{Event, Arrive, Depart}
+use Rattle.schedule_defs.specs.Script.{Step, Arrivals, Departures, Rest, Drain, step_events, left_by, stop_at}
 use Rattle.sched_core.specs.declared.scheduler.Scheduler.{Ghosts}
 use Rattle.sched_core.specs.Standing.{ForEachState}
 use Rattle.course_core.specs.declared.ending.Ending.{Ending}

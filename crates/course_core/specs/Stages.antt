@@ -4,7 +4,7 @@ use Rattle.std.specs.List.{AllByRecursion}
 use Rattle.tree_defs.specs.SourceTree.{size}
 use Rattle.packet_defs.specs.declared.packet.Packet.{Packet}
 use Rattle.policy_defs.specs.Policy.{Policy}
-use Rattle.schedule_defs.specs.SourceState.{SourceState}
+use Rattle.schedule_defs.specs.SourceState.{SourceState, start}
 use Rattle.schedule_defs.specs.Events.{Event, Arrive, Depart, arrivals_in, departures_in}
 use Rattle.schedule_defs.specs.Numbered.{AreNumberedFrom, IsSendable, IsHeldBelow}
 use Rattle.sched_core.specs.declared.scheduler.Scheduler.{Ghosts}
@@ -40,6 +40,10 @@ pub record IsReady (given : ℕ) (tally : Tally) (s : SourceState) : Type 0 wher
 pub record CanBegin (given : ℕ) (s : SourceState) : Type 0 where
   pub held : IsHeldBelow (given + 1) s.held
   pub few : size s.tree ≤ 2 ^ 32
+
+-- which is so at the start
+abbrev pub StartsCanBegin : Type 0
+StartsCanBegin = (policy : Policy) (given : ℕ) → CanBegin given (start policy)
 
 -- the counts have room for all packets that may come
 pub record HasRoom (arrivals departures given : ℕ) (tally : Tally) : Type 0 where

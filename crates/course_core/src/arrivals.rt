@@ -64,9 +64,7 @@ pub(crate) fn arrive_next<C: Scheduler, N: Names, P: Packets, K: Sink>(
     match packets.next(source) {
         Ok(Some(packet)) => {
             let event = tally.event();
-            arrive_line(
-                names, scheduler, under, trace, report, sink, event, &packet,
-            )?;
+            arrive_line(names, scheduler, under, trace, report, sink, event, &packet)?;
             tally.pushed += 1;
             Ok(None)
         }

@@ -197,16 +197,7 @@ pub fn play<C: Scheduler, N: Names, P: Packets, K: Sink>(
         asked: 0,
     };
     let ending = play_steps(
-        names,
-        scheduler,
-        under,
-        trace,
-        report,
-        sink,
-        packets,
-        source,
-        &mut tally,
-        steps,
+        names, scheduler, under, trace, report, sink, packets, source, &mut tally, steps,
     )?;
     let held = scheduler.held();
     let popped = first + tally.pushed - held;

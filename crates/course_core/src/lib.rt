@@ -4,6 +4,7 @@
 mod arrivals;
 mod course;
 mod ending;
+mod laws;
 mod packets;
 mod steps;
 mod stop;
@@ -11,5 +12,6 @@ mod tally;
 
 pub use course::play;
 pub use ending::Ending;
+pub use laws::runs_begin_at_the_start;
 pub use packets::{Halt, Packets};
 pub use stop::Stop;

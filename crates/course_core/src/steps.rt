@@ -57,9 +57,7 @@ fn depart_some<C: Scheduler, N: Names, K: Sink>(
     ensures origin { C.origin scheduler.new ≡ C.origin scheduler.old }
 {
     let event = tally.event();
-    depart_lines(
-        names, scheduler, under, trace, report, sink, event, count,
-    )?;
+    depart_lines(names, scheduler, under, trace, report, sink, event, count)?;
     tally.asked += count;
     Ok(())
 }

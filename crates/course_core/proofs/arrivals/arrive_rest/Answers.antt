@@ -1,15 +1,10 @@
-use Rattle.std.proofs.Common.{◌<◌, ◌+◌, ℕ, Option, None, Some, refl, sym, subst, ◌∙◌, arith, map}
+use Rattle.std.proofs.Common.{◌+◌, refl, ◌∙◌, arith, map}
 use Rattle.std.proofs.lemmas.Result.{err_from_is_err_and}
-use Rattle.report_core.specs.Gathered.{text_of}
 use Rattle.report_core.proofs.TextLaws.{Begins-same, Begins-trans}
-use Rattle.policy_defs.specs.Policy.{Policy}
 use Rattle.schedule_defs.specs.Events.{Arrive}
-use Rattle.schedule_defs.specs.Numbered.{IsHeldBelow}
 use Rattle.schedule_defs.proofs.Runs.{arrivals_in-arrivals, departures_in-arrivals}
-use Rattle.sched_core.specs.Standing.{StandForOne}
-use Rattle.course_core.specs.Stages.{stage}
 use Rattle.course_core.proofs.Coming.{fewer_left, one_after, room_after, arrives_none, arrives_more, arrives_end, arrivals_stop}
-use Rattle.course_core.proofs.Turning.{rest_done, rest_stops, goes_on_unbroken}
+use Rattle.course_core.proofs.Turning.{rest_done, rest_stops}
 use Rattle.course_core.proofs.arrivals.arrive_rest.Goals as goal
 
 pub loop-ending-init : goal.loop-ending-init

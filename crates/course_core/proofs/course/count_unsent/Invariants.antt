@@ -1,4 +1,4 @@
-use Rattle.std.proofs.Common.{◌≡◌, ◌≤◌, ◌+◌, ◌-◌, List, length}
+use Rattle.std.proofs.Common.{◌≡◌, ◌≤◌, ◌-◌, List, length}
 use Rattle.packet_defs.specs.declared.packet.Packet.{Packet}
 use Rattle.course_core.specs.Packets.{Came}
 use Rattle.course_core.proofs.course.count_unsent.Given as goal

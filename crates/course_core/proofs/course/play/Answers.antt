@@ -1,8 +1,5 @@
-use Rattle.std.proofs.Common.{◌≡◌, ◌≤◌, ℕ, ◌+◌, ◌-◌, Option, None, Some, refl, sym, subst, ◌∙◌, arith}
+use Rattle.std.proofs.Common.{refl, arith}
 use Rattle.std.proofs.lemmas.Result.{err_from_is_err_and}
-use Rattle.tree_defs.specs.SourceTree.{size}
-use Rattle.schedule_defs.specs.Events.{after}
-use Rattle.course_core.proofs.Making.{stands_after}
 use Rattle.course_core.proofs.Closing.{Fitting, fitting, runs_told, breaks_told, breaks_amid}
 use Rattle.course_core.proofs.course.play.Given.{Over}
 use Rattle.course_core.proofs.course.play.Goals.{After-held-held}

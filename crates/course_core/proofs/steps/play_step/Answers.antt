@@ -1,4 +1,3 @@
-use Rattle.std.proofs.Common.{refl}
 use Rattle.std.proofs.lemmas.Result.{err_from_is_err_and}
 use Rattle.course_core.proofs.Turning.{if_ok_turned, on_err_turned, some_done, some_stops, departures_done, departures_stop, drain_done, drain_stops}
 use Rattle.course_core.proofs.steps.play_step.Goals as goal
