@@ -25,6 +25,9 @@ use run_core::Names;
 use sched_core::Scheduler;
 use tree_core::Taken;
 
+/// The code of a script that asks for a packet past the last.
+const PAST_LAST: u32 = 3;
+
 /// Reads the packets that are left, and answers how the run ends behind them.
 fn count_unsent<P: Packets>(packets: &mut P, source: &mut P::Source) -> Result<Ending, Stop>
     requires ready { P.ready packets.old source.old }
@@ -121,7 +124,7 @@ fn last<K: Sink>(
     match ending {
         Ending::Whole(unsent) => report.end(sink, pushed, popped, empty, held, unsent),
         Ending::BadCapture(code, place) => report.fault(sink, FaultKind::Capture, code, place),
-        Ending::PastLast(event) => report.fault(sink, FaultKind::Script, 3, event),
+        Ending::PastLast(event) => report.fault(sink, FaultKind::Script, PAST_LAST, event),
     }
 }
 
