@@ -1,0 +1,56 @@
+-- What a run leaves.
+use Rattle.std.specs.Prelude.{◌≡◌, ℕ, ◌+◌, Option, List, ◌++◌, map, IfSome}
+use Rattle.outside_core.specs.Written.{Appended}
+use Rattle.report_defs.specs.Text.{IsCut}
+use Rattle.policy_defs.specs.Policy.{Policy}
+use Rattle.schedule_defs.specs.SourceState.{SourceState}
+use Rattle.schedule_defs.specs.Events.{Event, after, arrivals_in, departures_in}
+use Rattle.schedule_defs.specs.Script.{Course, course}
+use Rattle.schedule_defs.specs.Numbered.{IsHeldBelow}
+use Rattle.schedule_defs.specs.Report.{course_report}
+use Rattle.sched_core.specs.declared.scheduler.Scheduler.{Ghosts}
+use Rattle.sched_core.specs.Standing.{ForEachState}
+use Rattle.events_core.specs.declared.step.Step as line
+use Rattle.course_core.specs.declared.ending.Ending.{Ending}
+use Rattle.course_core.specs.Packets.{Left}
+use Rattle.course_core.specs.Endings.{ended}
+use Rattle.course_core.specs.Steps.{step_of}
+use Rattle.course_core.specs.Stages.{Stage, event_of, FromEach, Makes}
+
+-- the course of the lines of a script over what is left, from a state
+abbrev pub course_of : Policy → List line.Step → Left → SourceState → ℕ → Course
+course_of policy steps left s event = course policy (map step_of steps) left.packets left.fault s event
+
+-- these are the events of a course, and this tells how it ends
+pub record IsCourse (events : List Event) (ending : Ending) (run : Course) : Type 0 where
+  pub are : events ≡ run.events
+  pub ends : ending ≡ ended run.ending
+
+-- all events of the course over what was left were made
+pub record Courses {C U : Type 0} (S : Ghosts C U) (policy : Policy) (steps : List line.Step) (ending : Ending) (before : Option Left) (old new : Stage C U) : Type 0 where
+  pub events : List Event
+  pub made : Makes S policy events old new
+  pub told : IfSome before (λ l. FromEach S policy old (λ s. IsCourse events ending (course_of policy steps l s (event_of old.tally))))
+
+-- P holds of each state for which they stand and in which no packet yet to come is held, with the course from there
+-- over what is left, where that is told
+abbrev pub OnCourse : {C U : Type 0} → (C → U → SourceState → Type 0) → Policy → C → U → ℕ → Option Left → List line.Step → (SourceState → Course → Type 0) → Type 0
+OnCourse stands policy c u given left steps P =
+    IfSome left (λ l. ForEachState stands policy c u (λ s. IsHeldBelow (given + 1) s.held → P s (course_of policy steps l s 1)))
+
+-- all events of the course were made, and its report is written behind the text
+pub record Runs {C U : Type 0} (S : Ghosts C U) (policy : Policy) (run : Course) (from : SourceState) (old new : C) (under : U) (text written : Option (List ℕ)) : Type 0 where
+  pub state : S.stands new under (after policy run.events from)
+  pub arrived : S.arrivals new ≡ S.arrivals old + arrivals_in run.events
+  pub departed : S.departures new ≡ S.departures old + departures_in run.events
+  pub report : Appended text written (course_report policy run from)
+
+-- the first of its events were made, and a first part of the text with its report is written
+pub record Breaks {C U : Type 0} (S : Ghosts C U) (policy : Policy) (run : Course) (from : SourceState) (old new : C) (under : U) (text written : Option (List ℕ)) : Type 0 where
+  pub made : List Event
+  pub unmade : List Event
+  pub whole : made ++ unmade ≡ run.events
+  pub state : S.stands new under (after policy made from)
+  pub arrived : S.arrivals new ≡ S.arrivals old + arrivals_in made
+  pub departed : S.departures new ≡ S.departures old + departures_in made
+  pub report : IsCut text (course_report policy run from) written

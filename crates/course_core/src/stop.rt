@@ -1,0 +1,35 @@
+ghost use Rattle.std.specs.Prelude.{◌≡◌};
+ghost use Rattle.course_core.specs.Endings.{stopped};
+ghost use Rattle.course_core.specs.declared.stop.Stop.TheVariants.{Sink};
+
+use report_core::WriteFault;
+
+/// Why a run stops before its report is written.
+#[derive(Clone, Copy, PartialEq, Eq, Debug)]
+pub enum Stop {
+    /// The text can't be written.
+    Sink,
+    /// The packets can't be read.
+    Source,
+    /// There is no memory.
+    Memory,
+}
+
+impl From<WriteFault> for Stop {
+    ghost from_gives = { λ _ stop. stop ≡ Sink };
+
+    fn from(_fault: WriteFault) -> Stop {
+        Stop::Sink
+    }
+}
+
+impl From<run_core::Stop> for Stop {
+    ghost from_gives = { λ cause stop. stop ≡ stopped cause };
+
+    fn from(cause: run_core::Stop) -> Stop {
+        match cause {
+            run_core::Stop::Sink => Stop::Sink,
+            run_core::Stop::Memory => Stop::Memory,
+        }
+    }
+}
