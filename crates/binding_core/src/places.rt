@@ -39,11 +39,11 @@ fn builtin_place(name: &str) -> Option<usize>
     BUILTINS.iter().position(|builtin| name == *builtin)
 }
 
-/// The place of the transaction with this name among all transactions, where `transactions` are the names of those that
-/// are written.
+/// The place of the transaction with this name among all, as `checked_transactions` lists them. `transactions` are the
+/// names of those that are written, in the order of their lines.
 pub fn program_place(transactions: &Names<'_>, name: &str) -> Option<usize>
-    ensures place { (es : _) → AreRising es → AreFew es → transactions.now ≡ declared transaction_name es → option_and_then (λ place. slice_get (known_programs es) place) result ≡ program_named es name.now }
-    ensures known { (es : _) → AreRising es → AreFew es → transactions.now ≡ declared transaction_name es → is_some result ≡ is_transaction_known es name.now }
+    ensures place { (entries : _) → AreRising entries → AreFew entries → transactions.now ≡ declared transaction_name entries → option_and_then (λ place. slice_get (known_programs entries) place) result ≡ program_named entries name.now }
+    ensures known { (entries : _) → AreRising entries → AreFew entries → transactions.now ≡ declared transaction_name entries → is_some result ≡ is_transaction_known entries name.now }
 {
     match builtin_place(name) {
         Some(place) => Some(place),
