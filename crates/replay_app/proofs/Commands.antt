@@ -59,9 +59,6 @@ pub early-answer : (inputs : Inputs) → plain_course inputs ≡ None → course
 early-answer inputs e = ap course_answer e
 
 -- an answer that is known is the one that was given
-pub on_ok-answer : {T E : Type 0} (r : Result T E) (a b : Answer) (old new : Option (List ℕ)) → a ≡ b → OnOk r (Appended old new b.text) → OnOk r (Appended old new a.text)
-on_ok-answer r a b old new e h = subst (λ (c : Answer). OnOk r (Appended old new c.text)) (sym e) h
-
 pub appended-answer : (a b : Answer) (old new : Option (List ℕ)) → a ≡ b → Appended old new b.text → Appended old new a.text
 appended-answer a b old new e h = subst (λ (c : Answer). Appended old new c.text) (sym e) h
 
