@@ -140,18 +140,37 @@ clauses entries =
     next with_leaves (has_catch_all entries ≡ true) (AsWhole (has_catch_all entries) NoCatchAll)
 
 clauses-sharp : (entries : List Entry) → AreSharp (clauses entries)
-clauses-sharp entries = ((((((((((
-    line-sharp (IsMisplaced entries) entries Misplaced,
-    line-sharp (IsAgain entries) entries Twice),
-    line-sharp (IsUnknown entries) entries Unknown),
-    line-sharp (IsBeyond entries) entries TooMany),
-    record { one = programs-one (programs entries); none = programs-none (programs entries) }),
-    line-sharp (IsOrphan entries) entries Parents),
-    whole-sharp (has_root entries) NoRoot),
-    line-sharp (IsCyclic entries) entries Cycle),
-    line-sharp (IsTooDeep entries) entries Deep),
-    line-sharp (IsStray entries) entries ClassLeaf),
-    whole-sharp (has_catch_all entries) NoCatchAll)
+clauses-sharp entries = (
+  (
+    (
+      (
+        (
+          (
+            (
+              (
+                (
+                  (
+                    line-sharp (IsMisplaced entries) entries Misplaced,
+                    line-sharp (IsAgain entries) entries Twice,
+                  ),
+                  line-sharp (IsUnknown entries) entries Unknown,
+                ),
+                line-sharp (IsBeyond entries) entries TooMany,
+              ),
+              record { one = programs-one (programs entries); none = programs-none (programs entries) },
+            ),
+            line-sharp (IsOrphan entries) entries Parents,
+          ),
+          whole-sharp (has_root entries) NoRoot,
+        ),
+        line-sharp (IsCyclic entries) entries Cycle,
+      ),
+      line-sharp (IsTooDeep entries) entries Deep,
+    ),
+    line-sharp (IsStray entries) entries ClassLeaf,
+  ),
+  whole-sharp (has_catch_all entries) NoCatchAll,
+)
 
 -- a fault is that of the first clause to fail
 fault-first : (entries : List Entry) (f : PolicyFault) → f ≢ NoMemory → IsFault entries f → FailFirst (clauses entries) f
@@ -168,7 +187,7 @@ fault-first entries (DivZero n) some h = inl (inl (inl (inl (inl (inl (inr h))))
 fault-first entries (TooMany n) some h = inl (inl (inl (inl (inl (inl (inl (inr (h.0, (n, h.1, refl)))))))))
 fault-first entries (Unknown n) some h = inl (inl (inl (inl (inl (inl (inl (inl (inr (h.0, (n, h.1, refl))))))))))
 fault-first entries (Twice n) some h = inl (inl (inl (inl (inl (inl (inl (inl (inl (inr (h.0, (n, h.1, refl)))))))))))
-fault-first entries (Misplaced n) some h = inl (inl (inl (inl (inl (inl (inl (inl (inl (inl (n, h, refl)))))))))) 
+fault-first entries (Misplaced n) some h = inl (inl (inl (inl (inl (inl (inl (inl (inl (inl (n, h, refl))))))))))
 
 pub one-fault : HaveOneFault
 one-fault entries f g some other h k = one-fails (clauses entries) f g (clauses-sharp entries) (fault-first entries f some h) (fault-first entries g other k)
