@@ -15,40 +15,36 @@ use Rattle.resolve_defs.specs.declared.fault.PolicyFault.TheVariants.{Misplaced,
 
 -- ---- clauses in a row: what each says, and how it fails
 
-data Clauses : Type 1 where
-  first : (Says : Type 0) → (PolicyFault → Type 0) → Clauses
-  next : Clauses → (Says : Type 0) → (PolicyFault → Type 0) → Clauses
-
--- all of them hold
-abbrev Hold : Clauses → Type 0
-Hold (first Says Fails) = Says
-Hold (next earlier Says Fails) = Hold earlier × Says
-
--- the first to fail fails so
-abbrev FailFirst : Clauses → PolicyFault → Type 0
-FailFirst (first Says Fails) f = Fails f
-FailFirst (next earlier Says Fails) f = FailFirst earlier f ⊎ (Hold earlier × Fails f)
-
 -- a clause fails in one way, and not where it holds
 record IsSharp (Says : Type 0) (Fails : PolicyFault → Type 0) : Type 0 where
   one : (f g : PolicyFault) → Fails f → Fails g → f ≡ g
   none : (f : PolicyFault) → Fails f → Says → ⊥
 
-abbrev AreSharp : Clauses → Type 0
-AreSharp (first Says Fails) = IsSharp Says Fails
-AreSharp (next earlier Says Fails) = AreSharp earlier × IsSharp Says Fails
+data Clauses : Type 1 where
+  first : (Says : Type 0) (Fails : PolicyFault → Type 0) → IsSharp Says Fails → Clauses
+  next : Clauses → (Says : Type 0) (Fails : PolicyFault → Type 0) → IsSharp Says Fails → Clauses
 
-none-fails : (clauses : Clauses) (f : PolicyFault) → AreSharp clauses → FailFirst clauses f → Hold clauses → ⊥
-none-fails (first Says Fails) f sharp h hold = sharp.none f h hold
-none-fails (next earlier Says Fails) f sharp (inl h) hold = none-fails earlier f sharp.0 h hold.0
-none-fails (next earlier Says Fails) f sharp (inr h) hold = sharp.1.none f h.1 hold.1
+-- all of them hold
+abbrev Hold : Clauses → Type 0
+Hold (first Says Fails sharp) = Says
+Hold (next earlier Says Fails sharp) = Hold earlier × Says
 
-one-fails : (clauses : Clauses) (f g : PolicyFault) → AreSharp clauses → FailFirst clauses f → FailFirst clauses g → f ≡ g
-one-fails (first Says Fails) f g sharp h k = sharp.one f g h k
-one-fails (next earlier Says Fails) f g sharp (inl h) (inl k) = one-fails earlier f g sharp.0 h k
-one-fails (next earlier Says Fails) f g sharp (inl h) (inr k) = absurd (none-fails earlier f sharp.0 h k.0)
-one-fails (next earlier Says Fails) f g sharp (inr h) (inl k) = absurd (none-fails earlier g sharp.0 k h.0)
-one-fails (next earlier Says Fails) f g sharp (inr h) (inr k) = sharp.1.one f g h.1 k.1
+-- the first to fail fails so
+abbrev FailFirst : Clauses → PolicyFault → Type 0
+FailFirst (first Says Fails sharp) f = Fails f
+FailFirst (next earlier Says Fails sharp) f = FailFirst earlier f ⊎ (Hold earlier × Fails f)
+
+none-fails : (clauses : Clauses) (f : PolicyFault) → FailFirst clauses f → Hold clauses → ⊥
+none-fails (first Says Fails sharp) f h hold = sharp.none f h hold
+none-fails (next earlier Says Fails sharp) f (inl h) hold = none-fails earlier f h hold.0
+none-fails (next earlier Says Fails sharp) f (inr h) hold = sharp.none f h.1 hold.1
+
+one-fails : (clauses : Clauses) (f g : PolicyFault) → FailFirst clauses f → FailFirst clauses g → f ≡ g
+one-fails (first Says Fails sharp) f g h k = sharp.one f g h k
+one-fails (next earlier Says Fails sharp) f g (inl h) (inl k) = one-fails earlier f g h k
+one-fails (next earlier Says Fails sharp) f g (inl h) (inr k) = absurd (none-fails earlier f h k.0)
+one-fails (next earlier Says Fails sharp) f g (inr h) (inl k) = absurd (none-fails earlier g k h.0)
+one-fails (next earlier Says Fails sharp) f g (inr h) (inr k) = sharp.one f g h.1 k.1
 
 -- ---- a clause that a line fails
 
@@ -123,54 +119,27 @@ programs-none ps (Wide n) h checked = (checked-faultless ps checked).narrow n h.
 programs-none ps (DivZero n) h checked = (checked-faultless ps checked).divides n h.zero.here
 programs-none ps f h checked = h
 
+programs-sharp : (ps : List Program) → IsSharp (AreChecked ps) (ProgramsFail ps)
+programs-sharp ps = record { one = programs-one ps; none = programs-none ps }
+
 -- ---- the clauses of a policy
+
+-- one clause more, which some line may fail
+abbrev more : Clauses → (Entry → Type 0) → List Entry → (ℕ → PolicyFault) → Clauses
+more earlier Fails entries fault = next earlier (NoLine Fails entries) (AtLine Fails entries fault) (line-sharp Fails entries fault)
+
+abbrev more_whole : Clauses → Bool → PolicyFault → Clauses
+more_whole earlier holds fault = next earlier (holds ≡ true) (AsWhole holds fault) (whole-sharp holds fault)
 
 abbrev clauses : List Entry → Clauses
 clauses entries =
-    let placed = first (NoLine (IsMisplaced entries) entries) (AtLine (IsMisplaced entries) entries Misplaced) in
-    let new = next placed (NoLine (IsAgain entries) entries) (AtLine (IsAgain entries) entries Twice) in
-    let known = next new (NoLine (IsUnknown entries) entries) (AtLine (IsUnknown entries) entries Unknown) in
-    let few = next known (NoLine (IsBeyond entries) entries) (AtLine (IsBeyond entries) entries TooMany) in
-    let computable = next few (AreChecked (programs entries)) (ProgramsFail (programs entries)) in
-    let with_parents = next computable (NoLine (IsOrphan entries) entries) (AtLine (IsOrphan entries) entries Parents) in
-    let with_root = next with_parents (has_root entries ≡ true) (AsWhole (has_root entries) NoRoot) in
-    let acyclic = next with_root (NoLine (IsCyclic entries) entries) (AtLine (IsCyclic entries) entries Cycle) in
-    let shallow = next acyclic (NoLine (IsTooDeep entries) entries) (AtLine (IsTooDeep entries) entries Deep) in
-    let with_leaves = next shallow (NoLine (IsStray entries) entries) (AtLine (IsStray entries) entries ClassLeaf) in
-    next with_leaves (has_catch_all entries ≡ true) (AsWhole (has_catch_all entries) NoCatchAll)
-
-clauses-sharp : (entries : List Entry) → AreSharp (clauses entries)
-clauses-sharp entries = (
-  (
-    (
-      (
-        (
-          (
-            (
-              (
-                (
-                  (
-                    line-sharp (IsMisplaced entries) entries Misplaced,
-                    line-sharp (IsAgain entries) entries Twice,
-                  ),
-                  line-sharp (IsUnknown entries) entries Unknown,
-                ),
-                line-sharp (IsBeyond entries) entries TooMany,
-              ),
-              record { one = programs-one (programs entries); none = programs-none (programs entries) },
-            ),
-            line-sharp (IsOrphan entries) entries Parents,
-          ),
-          whole-sharp (has_root entries) NoRoot,
-        ),
-        line-sharp (IsCyclic entries) entries Cycle,
-      ),
-      line-sharp (IsTooDeep entries) entries Deep,
-    ),
-    line-sharp (IsStray entries) entries ClassLeaf,
-  ),
-  whole-sharp (has_catch_all entries) NoCatchAll,
-)
+    let placed = first (NoLine (IsMisplaced entries) entries) (AtLine (IsMisplaced entries) entries Misplaced) (line-sharp (IsMisplaced entries) entries Misplaced) in
+    let known = more (more placed (IsAgain entries) entries Twice) (IsUnknown entries) entries Unknown in
+    let few = more known (IsBeyond entries) entries TooMany in
+    let computable = next few (AreChecked (programs entries)) (ProgramsFail (programs entries)) (programs-sharp (programs entries)) in
+    let with_root = more_whole (more computable (IsOrphan entries) entries Parents) (has_root entries) NoRoot in
+    let shallow = more (more with_root (IsCyclic entries) entries Cycle) (IsTooDeep entries) entries Deep in
+    more_whole (more shallow (IsStray entries) entries ClassLeaf) (has_catch_all entries) NoCatchAll
 
 -- a fault is that of the first clause to fail
 fault-first : (entries : List Entry) (f : PolicyFault) → f ≢ NoMemory → IsFault entries f → FailFirst (clauses entries) f
@@ -190,7 +159,7 @@ fault-first entries (Twice n) some h = inl (inl (inl (inl (inl (inl (inl (inl (i
 fault-first entries (Misplaced n) some h = inl (inl (inl (inl (inl (inl (inl (inl (inl (inl (n, h, refl))))))))))
 
 pub one-fault : HaveOneFault
-one-fault entries f g some other h k = one-fails (clauses entries) f g (clauses-sharp entries) (fault-first entries f some h) (fault-first entries g other k)
+one-fault entries f g some other h k = one-fails (clauses entries) f g (fault-first entries f some h) (fault-first entries g other k)
 
 pub accepted-fault : AcceptedHaveNoFault
-accepted-fault entries f some h accepted = none-fails (clauses entries) f (clauses-sharp entries) (fault-first entries f some h) accepted
+accepted-fault entries f some h accepted = none-fails (clauses entries) f (fault-first entries f some h) accepted
