@@ -16,7 +16,7 @@ use Rattle.replay_app.specs.Inputs.{AreInputs}
 use Rattle.replay_app.specs.Named.{form_in}
 use Rattle.replay_app.specs.Others.{AreOthers}
 use Rattle.replay_app.specs.Output.{course_answer, inputs_of, IsOutput, IsAnswered, IsBegun}
-use Rattle.replay_app.specs.Policies.{entries_in, senses_of, policy_refusal, IsAcceptedAs}
+use Rattle.replay_app.specs.Policies.{check_answer, entries_in, senses_of, policy_refusal, IsAcceptedAs}
 use Rattle.replay_app.specs.Words.{Form, AreTold}
 use Rattle.replay_app.specs.declared.files.Files.{Files}
 use Rattle.replay_app.specs.declared.files.Others.{Others}
@@ -59,9 +59,6 @@ pub early-answer : (inputs : Inputs) → plain_course inputs ≡ None → course
 early-answer inputs e = ap course_answer e
 
 -- an answer that is known is the one that was given
-pub on_ok-answer : {T E : Type 0} (r : Result T E) (a b : Answer) (old new : Option (List ℕ)) → a ≡ b → OnOk r (Appended old new b.text) → OnOk r (Appended old new a.text)
-on_ok-answer r a b old new e h = subst (λ (c : Answer). OnOk r (Appended old new c.text)) (sym e) h
-
 pub appended-answer : (a b : Answer) (old new : Option (List ℕ)) → a ≡ b → Appended old new b.text → Appended old new a.text
 appended-answer a b old new e h = subst (λ (c : Answer). Appended old new c.text) (sym e) h
 
@@ -80,9 +77,6 @@ inputs_with f contents es = inputs_of (canonical_text (senses_of es)) f.target.n
 
 abbrev pub run_answer : Files → (List ℕ → List ℕ) → List Entry → Answer
 run_answer f contents es = course_answer (plain_course (inputs_with f contents es))
-
-abbrev pub check_answer : List Entry → Answer
-check_answer es = record { status = 0; text = canonical_text (senses_of es) }
 
 pub senses-held : (xs : List Numbered) → map sense_at xs ≡ senses_of (map entry_of xs)
 senses-held [] = refl

@@ -1,19 +1,18 @@
 -- How a capture's records are counted.
-use Rattle.std.proofs.Common.{◌≡◌, ◌≤◌, ◌+◌, ℕ, Bool, true, false, Option, Some, None, List, [], ◌∷◌, ◌++◌, length, refl, ap, sym, subst, ◌∙◌, arith, append_assoc, append-nil, length-append}
-use Rattle.std.specs.Prelude.{IfSome, option_map, ◌||◌, Result, Ok, Err, IfOk}
+use Rattle.std.proofs.Common.{◌≡◌, ◌≤◌, ◌+◌, ℕ, Bool, false, Option, Some, None, List, [], ◌∷◌, ◌++◌, length, refl, ap, sym, subst, ◌∙◌, arith, append_assoc, append-nil, length-append}
+use Rattle.std.specs.Prelude.{IfSome, option_map, Result, Ok, Err, IfOk}
 use Rattle.capture_defs.specs.declared.head.Head.{Head}
 use Rattle.capture_defs.specs.Fault.{Fault}
 use Rattle.capture_defs.specs.Header.{IsHeader, IsHeaderFault}
 use Rattle.capture_defs.specs.Record.{Record, IsSpelling, AreSpellings, IsRecordFault, most_records}
 use Rattle.capture_defs.specs.Capture.{EndsWith, IsCapture}
-use Rattle.capture_defs.specs.Reading.{packets}
 use Rattle.capture_defs.proofs.ReadingLaws.{reads_captures, reads_refusals}
 use Rattle.std.specs.Option.{option_map_or}
 use Rattle.pcap_core.specs.Readers.{head_of, is_big}
 use Rattle.pcap_core.specs.declared.reader.Reader.{Reader}
 use Rattle.pcap_core.specs.Rest.{TakesHeader, TakesRecord, IsWhole}
 use Rattle.replay_app.specs.FirstPath.{plain_packets}
-use Rattle.replay_app.specs.Counted.{HasPassed, Passed, HasRecords, IsCounted, packet_count}
+use Rattle.replay_app.specs.Counted.{HasPassed, Passed, HasRecords, packet_count}
 use Rattle.replay_app.proofs.LeafRuns.{length-packets_from}
 
 pub passed-none : (big : Bool) (rest : Option (List ℕ)) → Passed big rest rest 0
@@ -65,12 +64,17 @@ capture-is : (head : Head) (file after header : List ℕ) (fault : Option Fault)
     → IsCapture head h.records fault file
 capture-is head file after header fault n is joined h = record { header = header; after = after; file_is = joined; header_is = is; records_are = h.are }
 
+-- the packets of a whole capture
+count-of : (head : Head) (records : List Record) (n : ℕ) (file : List ℕ) → IsCapture head records None file → length records ≡ n → packet_count file ≡ Some n
+count-of head records n file is counted =
+    ap (λ c. option_map length (plain_packets c)) ((reads_captures head records None file).0 is) ∙ ap Some (length-packets_from head 1 records ∙ counted)
+
 pub counted-whole : (head : Head) (file rest : Option (List ℕ)) (n : ℕ) → TakesHeader head file rest → IfSome rest (λ after. HasRecords head.big after None n)
-    → IfSome file (IsCounted head n)
+    → IfSome file (λ f. packet_count f ≡ Some n)
 counted-whole head None rest n t h = tt
 counted-whole head (Some file) None n (header, is, taken) h = absurd taken
 counted-whole head (Some file) (Some after) n (header, is, taken) h =
-    record { records = h.records; is = capture-is head file after header None n is taken h; counted = h.counted }
+    count-of head h.records n file (capture-is head file after header None n is taken h) h.counted
 
 no_count : (head : Head) (records : List Record) (fault : Fault) (file : List ℕ) → IsCapture head records (Some fault) file → packet_count file ≡ None
 no_count head records fault file is = ap (λ c. option_map length (plain_packets c)) ((reads_captures head records (Some fault) file).0 is)
@@ -85,21 +89,6 @@ counted-broken head (Some file) (Some after) fault (header, is, taken) (n, h) =
 pub counted-refused : (file : Option (List ℕ)) (fault : Fault) → IfSome file (λ f. IsHeaderFault f fault) → IfSome file (λ f. packet_count f ≡ None)
 counted-refused None fault h = tt
 counted-refused (Some file) fault h = ap (λ c. option_map length (plain_packets c)) ((reads_refusals fault file).0 h)
-
--- the packets of a whole capture, by its byte order and its time unit
-count-of : (head : Head) (records : List Record) → (head.big || head.nano) ≡ false → option_map length (plain_packets (packets head records None)) ≡ Some (length records)
-count-of head records little = rw little (ap Some (length-packets_from head 1 records))
-
-no_count-of : (head : Head) (records : List Record) → (head.big || head.nano) ≡ true → option_map length (plain_packets (packets head records None)) ≡ None
-no_count-of head records other = rw other refl
-
-pub counted-little : (head : Head) (n : ℕ) (file : List ℕ) → (head.big || head.nano) ≡ false → IsCounted head n file → packet_count file ≡ Some n
-counted-little head n file little c =
-    ap (λ q. option_map length (plain_packets q)) ((reads_captures head c.records None file).0 c.is) ∙ count-of head c.records little ∙ ap Some c.counted
-
-pub counted-other : (head : Head) (n : ℕ) (file : List ℕ) → (head.big || head.nano) ≡ true → IsCounted head n file → packet_count file ≡ None
-counted-other head n file other c =
-    ap (λ q. option_map length (plain_packets q)) ((reads_captures head c.records None file).0 c.is) ∙ no_count-of head c.records other
 
 pub option_is : {X : Type 0} (o : Option X) (x : X) (P : X → Type 0) → o ≡ Some x → IfSome o P → P x
 option_is None x P e h = cc
@@ -147,19 +136,7 @@ broken-content head flag content left rest fault e same t h =
     (subst (λ (b : Bool). IfSome rest (λ after. (n : ℕ) × HasRecords b after (Some fault) n)) same h)
 
 pub whole-content : (head : Head) (flag : Bool) (content left rest : Option (List ℕ)) (n : ℕ) → left ≡ content → flag ≡ head.big → TakesHeader head left rest
-    → IfSome rest (λ after. HasRecords flag after None n) → IfSome content (IsCounted head n)
+    → IfSome rest (λ after. HasRecords flag after None n) → IfSome content (λ f. packet_count f ≡ Some n)
 whole-content head flag content left rest n e same t h =
     counted-whole head content rest n (subst (λ (o : Option (List ℕ)). TakesHeader head o rest) e t)
     (subst (λ (b : Bool). IfSome rest (λ after. HasRecords b after None n)) same h)
-
-counted-flags : (head : Head) → head.big ≡ false → head.nano ≡ false → (head.big || head.nano) ≡ false
-counted-flags head big nano = rw big nano
-
-pub counted-plain : (head : Head) (n : ℕ) (file : List ℕ) → head.big ≡ false → head.nano ≡ false → IsCounted head n file → Some n ≡ packet_count file
-counted-plain head n file big nano c = sym (counted-little head n file (counted-flags head big nano) c)
-
-pub counted-big : (head : Head) (n : ℕ) (file : List ℕ) → head.big ≡ true → IsCounted head n file → None ≡ packet_count file
-counted-big head n file big c = let other : (head.big || head.nano) ≡ true = rw big refl in sym (counted-other head n file other c)
-
-pub counted-nano : (head : Head) (n : ℕ) (file : List ℕ) → head.big ≡ false → head.nano ≡ true → IsCounted head n file → None ≡ packet_count file
-counted-nano head n file big nano c = let other : (head.big || head.nano) ≡ true = rw big nano in sym (counted-other head n file other c)

@@ -8,3 +8,4 @@ pub mod Reports
 pub mod PlainCourses
 pub mod PolicyReads
 pub mod Commands
+pub mod OneAnswer

@@ -1,9 +1,9 @@
 -- The course of a plain run is what its turns say.
 use Rattle.std.proofs.Common.{◌≡◌, ◌≤◌, ◌+◌, ◌-◌, ℕ, zero, suc, true, Some, None, List, [], ◌∷◌, ◌++◌, length, map, refl, ap, sym, ◌∙◌, arith, inl, inr}
-use Rattle.std.specs.Prelude.{option_map, ◌||◌, ◌&&◌, if◌then◌else◌, nat_le}
+use Rattle.std.specs.Prelude.{option_map, ◌&&◌, if◌then◌else◌, nat_le}
 use Rattle.std.specs.Option.{option_and_then}
 use Rattle.std.specs.Str.{bytes_eq}
-use Rattle.std.proofs.lemmas.Bool.{cases_lt, cases_Bool, and_from, le-leb}
+use Rattle.std.proofs.lemmas.Bool.{cases_lt, and_from, le-leb}
 use Rattle.tree_defs.specs.SourceTree.{size}
 use Rattle.tree_defs.specs.Packets.{queue_at}
 use Rattle.capture_defs.specs.declared.head.Head.{Head}
@@ -33,23 +33,12 @@ record AreSent (k : Capture) (n : ℕ) : Type 0 where
   sent : plain_packets k ≡ Some (packets_from head 1 records)
   counted : length records ≡ n
 
-sent-plain : (head : Head) (records : List Record) (n : ℕ) → option_map length (plain_packets (packets head records None)) ≡ Some n → AreSent (packets head records None) n
-sent-plain head records n e = elim (cases_Bool (head.big || head.nano)) [
-  | inl other ↦
-      let none : option_map length (plain_packets (packets head records None)) ≡ None = rw other refl in
-      let both : None ≡ Some n = sym none ∙ e in
-      cc
-  | inr little ↦
-      let some : plain_packets (packets head records None) ≡ Some (packets_from head 1 records) = rw little refl in
-      let both : Some (length (packets_from head 1 records)) ≡ Some n = ap (option_map length) (sym some) ∙ e in
-      let same : length (packets_from head 1 records) ≡ n = cc in
-      record { head = head; records = records; sent = some; counted = sym (length-packets_from head 1 records) ∙ same }
-]
-
 are-sent : (k : Capture) (n : ℕ) → option_map length (plain_packets k) ≡ Some n → AreSent k n
 are-sent (refused fault) n e = cc
 are-sent (packets head records (Some fault)) n e = cc
-are-sent (packets head records None) n e = sent-plain head records n e
+are-sent (packets head records None) n e =
+    let same : length (packets_from head 1 records) ≡ n = cc in
+    record { head = head; records = records; sent = refl; counted = sym (length-packets_from head 1 records) ∙ same }
 
 -- what the outcome of a departure adds to the counts
 left-pushed : (t : Totals) (os : List Outcome) → pushed_in (told turn.Depart t ∷ os) ≡ pushed_in os

@@ -1,9 +1,8 @@
 -- How many packets a capture has.
 use Rattle.std.specs.Prelude.{◌≡◌, ◌++◌, ℕ, Bool, Option, None, Some, option_map, List, length, ⊤}
-use Rattle.capture_defs.specs.declared.head.Head.{Head}
 use Rattle.capture_defs.specs.Fault.{Fault}
 use Rattle.capture_defs.specs.Record.{Record, AreSpellings}
-use Rattle.capture_defs.specs.Capture.{AreRecords, IsCapture}
+use Rattle.capture_defs.specs.Capture.{AreRecords}
 use Rattle.capture_defs.specs.Reading.{capture_of}
 use Rattle.replay_app.specs.FirstPath.{plain_packets}
 
@@ -26,12 +25,6 @@ pub record HasRecords (big : Bool) (bytes : List ℕ) (fault : Option Fault) (n 
   pub are : AreRecords big records fault bytes
   pub counted : length records ≡ n
 
--- so many packets, where the capture is one that can be replayed so far
+-- so many packets, where the capture is whole
 abbrev pub packet_count : List ℕ → Option ℕ
 packet_count file = option_map length (plain_packets (capture_of file))
-
--- the file is a capture with this head and so many records
-pub record IsCounted (head : Head) (n : ℕ) (file : List ℕ) : Type 0 where
-  pub records : List Record
-  pub is : IsCapture head records None file
-  pub counted : length records ≡ n

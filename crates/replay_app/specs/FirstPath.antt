@@ -1,6 +1,6 @@
 -- The inputs that can be replayed so far: one leaf for all packets, a target that is a single leaf, a script of single
--- arrivals and departures, and a whole little-endian capture in microseconds with enough packets for the script.
-use Rattle.std.specs.Prelude.{ℕ, ◌+◌, nat_le, ◌==◌, ◌&&◌, ◌||◌, if◌then◌else◌, Option, None, Some, option_map, List, [], ◌∷◌, length, codes}
+-- arrivals and departures, and a whole capture with enough packets for the script.
+use Rattle.std.specs.Prelude.{ℕ, ◌+◌, nat_le, ◌==◌, ◌&&◌, if◌then◌else◌, Option, None, Some, option_map, List, [], ◌∷◌, length, codes}
 use Rattle.std.specs.Option.{option_and_then}
 use Rattle.std.specs.Str.{bytes_eq}
 use Rattle.capture_defs.specs.declared.head.Head.{Head}
@@ -57,9 +57,9 @@ abbrev pub packets_from : Head → ℕ → List Record → List Packet
 packets_from head n [] = []
 packets_from head n (r ∷ records) = packet_of head n r ∷ packets_from head (n + 1) records
 
--- the packets of a capture that is whole, little-endian and in microseconds
+-- the packets of a capture that is whole
 abbrev pub plain_packets : Capture → Option (List Packet)
-plain_packets (packets head records None) = if head.big || head.nano then None else Some (packets_from head 1 records)
+plain_packets (packets head records None) = Some (packets_from head 1 records)
 plain_packets capture = None
 
 abbrev pub arrivals_of : List Step → ℕ

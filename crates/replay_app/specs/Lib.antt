@@ -14,3 +14,4 @@ pub mod Answer
 pub mod Policies
 pub mod Others
 pub mod Inputs
+pub mod Laws

@@ -1,11 +1,16 @@
 -- How a policy text is answered.
-use Rattle.std.specs.Prelude.{◌≡◌, ◌<◌, ℕ, List, length, map, codes}
+use Rattle.std.specs.Prelude.{◌≡◌, ◌≢◌, ◌<◌, ℕ, List, length, map, codes}
 use Rattle.report_defs.specs.Report.{fault_line}
+use Rattle.policy_text_defs.specs.Canonical.{canonical_text}
 use Rattle.policy_text_defs.specs.Ranges.{most_text}
 use Rattle.policy_text_defs.specs.Sense.{Sense, Entry}
 use Rattle.policy_text_defs.specs.Text.{Fault, not_text, shaping, syntax_fault, HasEntries, IsFirstFault}
 use Rattle.policy_text.specs.declared.lines.Lines.{Lines}
 use Rattle.policy_text.specs.Entries.{entry_of}
+use Rattle.resolve_defs.specs.Accepted.{AreAccepted, IsFault}
+use Rattle.resolve_defs.specs.Codes.{code_of, line_of}
+use Rattle.resolve_defs.specs.declared.fault.PolicyFault.{PolicyFault}
+use Rattle.resolve_defs.specs.declared.fault.PolicyFault.TheVariants.{NoMemory}
 use Rattle.replay_app.specs.Answer.{Answer}
 use Rattle.replay_app.specs.declared.policies.Refusal.{Refusal}
 use Rattle.replay_app.specs.declared.policies.Policy.{Policy}
@@ -37,6 +42,17 @@ policy_refusal code line = record { status = 3; text = fault_line (codes "policy
 pub data IsPolicyAnswer (text : List ℕ) (after : List Entry → Answer) : Answer → Type 0 where
   accepted : (es : List Entry) → HasEntries text es → IsPolicyAnswer text after (after es)
   refused : (code line : ℕ) → IsRefused text code line → IsPolicyAnswer text after (policy_refusal code line)
+
+-- the canonical text of statements, as an answer
+abbrev pub check_answer : List Entry → Answer
+check_answer es = record { status = 0; text = canonical_text (senses_of es) }
+
+-- the answer to a check that looks behind the grammar: the text is refused, or its statements are by the first clause that they
+-- fail, or they are an accepted policy
+pub data IsCheckAnswer (text : List ℕ) : Answer → Type 0 where
+  text_refused : (code line : ℕ) → IsRefused text code line → IsCheckAnswer text (policy_refusal code line)
+  statements_refused : (es : List Entry) (f : PolicyFault) → HasEntries text es → f ≢ NoMemory → IsFault es f → IsCheckAnswer text (policy_refusal (code_of f) (line_of f))
+  all_accepted : (es : List Entry) → HasEntries text es → AreAccepted es → IsCheckAnswer text (check_answer es)
 
 -- the one answer to a text that is read so
 abbrev pub policy_answer : (List Entry → Answer) → Policy → Answer

@@ -4,14 +4,14 @@ ghost use Rattle.outside_core.specs.Faults.{Rose};
 ghost use Rattle.outside_core.specs.Files.{KeepsFiles};
 ghost use Rattle.pcap_core.specs.Faults.{fault_in};
 ghost use Rattle.pcap_core.specs.Readers.{head_of, is_big, is_live, records_given, rest_left};
-ghost use Rattle.replay_app.specs.Counted.{HasRecords, IsCounted, packet_count};
+ghost use Rattle.replay_app.specs.Counted.{HasRecords, packet_count};
 ghost use Rattle.replay_app.specs.FirstPath.{steps_of, script_steps};
 ghost use Rattle.replay_app.specs.OneLeaf.{step_for};
 
 use crate::stop::Stop;
 use crate::turn::Turn;
 use outside_core::{LoadError, Shelf, ShelfError, load};
-use pcap_core::{CaptureFault, Head, Reader};
+use pcap_core::{CaptureFault, Reader};
 use std::alloc::{AllocError, Global};
 
 /// The most bytes of a script.
@@ -90,15 +90,11 @@ fn count_records<S: Shelf>(
     Ok(count)
 }
 
-/// Reads a capture whole, and answers its head and how many records it has.
-fn read_capture<S: Shelf>(
-    alloc: Global,
-    shelf: &mut S,
-    name: &str,
-) -> Result<(Head, u64), CaptureFault>
+/// Reads a capture whole, and answers how many records it has.
+fn read_capture<S: Shelf>(alloc: Global, shelf: &mut S, name: &str) -> Result<u64, CaptureFault>
     requires lent { IsTrue (S.lends shelf.old name.now) }
 
-    ensures whole { IfOk result (λ r. IfSome (S.content shelf.old name.now) (IsCounted r.0 r.1)) }
+    ensures whole { IfOk result (λ n. IfSome (S.content shelf.old name.now) (λ file. packet_count file ≡ Some n)) }
     ensures broken { IfErr result (λ e. IfSome (fault_in e) (λ _. IfSome (S.content shelf.old name.now) (λ file. packet_count file ≡ None))) }
     ensures files { KeepsFiles S.lends S.content shelf.old shelf.new }
     ensures later { S.faults shelf.old ≤ S.faults shelf.new }
@@ -106,26 +102,11 @@ fn read_capture<S: Shelf>(
 {
     shelf.begin(name)?;
     let mut reader = Reader::new(alloc);
-    let head = reader.start(shelf)?;
-    let count = count_records(alloc, &mut reader, shelf)?;
-    Ok((head, count))
+    reader.start(shelf)?;
+    count_records(alloc, &mut reader, shelf)
 }
 
-/// The number of packets of a capture with this head and so many records, if it can be replayed
-/// so far.
-fn counted(head: Head, count: u64) -> Option<u64>
-    ensures { (file : List ℕ) → IsCounted head count file → result ≡ packet_count file }
-{
-    if head.big {
-        return None;
-    }
-    if head.nano {
-        return None;
-    }
-    Some(count)
-}
-
-/// How many packets a capture has, if it can be replayed so far.
+/// How many packets a capture has, if it is whole.
 pub fn count_packets<S: Shelf>(
     alloc: Global,
     shelf: &mut S,
@@ -140,7 +121,7 @@ pub fn count_packets<S: Shelf>(
     ensures writes_nothing { IsErrOf result Stop.Sink → ⊥ }
 {
     match read_capture(alloc, shelf, name) {
-        Ok((head, count)) => Ok(counted(head, count)),
+        Ok(count) => Ok(Some(count)),
         Err(CaptureFault::ReadFault) => Err(Stop::Shelf),
         Err(CaptureFault::NoMemory) => Err(Stop::Memory),
         Err(_) => Ok(None),

@@ -5,6 +5,7 @@ mod command;
 mod ending;
 mod files;
 mod inputs;
+mod laws;
 mod plain;
 mod policies;
 mod replay;
@@ -17,6 +18,7 @@ mod words;
 
 pub use command::run;
 pub use ending::Ending;
+pub use laws::words_have_one_answer;
 pub use plain::Plain;
 pub use stop::Stop;
 pub use turn::{Totals, Turn};

@@ -17,6 +17,12 @@ const CAPTURE: &[u8] = b"\xd4\xc3\xb2\xa1\x02\0\x04\0\0\0\0\0\0\0\0\0\0\0\x04\0\
     \x01\0\0\0\0\0\0\0\x04\0\0\0\x04\0\0\0\0\0\0\x01\
     \x01\0\0\0\x01\0\0\0\x04\0\0\0\x04\0\0\0\0\0\0\x02";
 
+/// A header with the highest byte first and in nanoseconds, and two records: no bytes and one byte
+/// of 46 each.
+const EXACT: &[u8] = b"\xa1\xb2\x3c\x4d\0\x02\0\x04\0\0\0\0\0\0\0\0\0\x04\0\0\0\0\0\x01\
+    \0\0\0\x0a\0\0\0\x05\0\0\0\0\0\0\0\x2e\
+    \0\0\0\x0a\0\0\0\x06\0\0\0\x01\0\0\0\x2e\xff";
+
 /// The words of a run.
 fn replay_words(alloc: Global) -> Result<Vec<String>, Fail> {
     let mut words = Vec::new(alloc);
@@ -59,7 +65,7 @@ fn files(
 fn runs_over_memory(rt: HostRuntime) -> Result<(), Fail> {
     let alloc = rt.alloc();
     let words = replay_words(alloc)?;
-    let table: [(&[u8], &[u8], &[u8], u8, &[u8]); 6] = [
+    let table: [(&[u8], &[u8], &[u8], u8, &[u8]); 8] = [
         (
             POLICY,
             CAPTURE,
@@ -81,6 +87,14 @@ fn runs_over_memory(rt: HostRuntime) -> Result<(), Fail> {
             0,
             b"a 1 1 root 0\nend pushed 1 popped 0 empty 0 held 1 unsent 1\n",
         ),
+        (
+            POLICY,
+            EXACT,
+            b"a\nd\n",
+            0,
+            b"a 1 1 root 0\nd 2 1 root 0\nend pushed 1 popped 1 empty 0 held 0 unsent 1\n",
+        ),
+        (POLICY, EXACT, b"a\na\na\n", 11, b"fault early 1 0\n"),
         (POLICY, CAPTURE, b"rest\n", 11, b"fault early 1 0\n"),
         (POLICY, &CAPTURE[..60], b"a\n", 11, b"fault early 1 0\n"),
         (b"policy 2\n", CAPTURE, b"a\n", 3, b"fault policy 23 1\n"),

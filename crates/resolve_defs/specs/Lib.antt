@@ -9,3 +9,4 @@ pub mod Resolved
 pub mod Graph
 pub mod Entries
 pub mod Rows
+pub mod Laws

@@ -2,5 +2,7 @@
 #![tactic(auto)]
 
 mod fault;
+mod laws;
 
 pub use fault::PolicyFault;
+pub use laws::statements_have_one_fault;

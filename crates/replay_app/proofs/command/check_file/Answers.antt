@@ -1,9 +1,9 @@
 use Rattle.std.proofs.Common.{◌∙◌, sym, refl}
 use Rattle.std.proofs.lemmas.Result.{err_from_is_err_and}
-use Rattle.replay_app.specs.Policies.{entries_in, policy_refusal}
+use Rattle.replay_app.specs.Policies.{check_answer, entries_in, policy_refusal}
 use Rattle.replay_app.specs.Words.{check}
 use Rattle.replay_app.specs.declared.policies.Policy.TheVariants.{Accepted, Refused}
-use Rattle.replay_app.proofs.Commands.{check_answer, checked-answer, appended-answer, part-answer, given-of, begun-of, ends-badly}
+use Rattle.replay_app.proofs.Commands.{checked-answer, appended-answer, part-answer, given-of, begun-of, ends-badly}
 use Rattle.replay_app.proofs.PolicyReads.{answer-is, answer-only}
 use Rattle.replay_app.proofs.command.check_file.Goals as goal
 

@@ -1,0 +1,9 @@
+-- What holds of the answers to words.
+use Rattle.std.specs.Prelude.{◌≡◌, ℕ, List}
+use Rattle.replay_app.specs.Answer.{Answer}
+use Rattle.replay_app.specs.Output.{IsOutput}
+use Rattle.replay_app.specs.Words.{Form}
+
+-- words have at most one answer for what their names contain
+abbrev pub HaveOneAnswer : Type 0
+HaveOneAnswer = (form : Form) (contents : List ℕ → List ℕ) (a b : Answer) → IsOutput form contents a → IsOutput form contents b → a ≡ b
