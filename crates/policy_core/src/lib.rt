@@ -4,6 +4,7 @@
 mod laws;
 mod parts;
 mod policy;
+mod stations;
 
 pub use laws::{addresses_undo_numbers, numbers_undo_addresses};
 pub use parts::{Class, Marks, Station};
