@@ -1,5 +1,6 @@
 pub mod Numbers
 pub mod Rows
+pub mod Told
 pub mod Whole
 pub mod Samples
 pub mod Programs

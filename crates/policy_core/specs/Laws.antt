@@ -1,9 +1,12 @@
--- Numbers and addresses give each other.
-use Rattle.std.specs.Prelude.{ℕ, ◌≡◌, ◌<◌}
+-- Numbers and addresses give each other, and rows tell the tree that they come from.
+use Rattle.std.specs.Prelude.{ℕ, ◌≡◌, ◌<◌, []}
 use Rattle.tree_defs.specs.Tree.{Tree, Address, IsAddressOf, nodes}
+use Rattle.tree_defs.specs.Topology.{topology_of}
+use Rattle.lineage_core.specs.Row.{row_at}
+use Rattle.lineage_core.specs.Preorder.{rows}
 use Rattle.policy_defs.specs.Policy.{Node}
 use Rattle.policy_defs.specs.Numbers.{number_at}
-use Rattle.policy_core.specs.Numbering.{address_at}
+use Rattle.policy_core.specs.Numbering.{address_at, nodes_from, map_tree}
 
 -- the number at an address stands for it
 pub record IsNumberOf (tree : Tree Node) (a : Address) (n : ℕ) : Type 0 where
@@ -20,3 +23,7 @@ pub record IsAddressFor (tree : Tree Node) (n : ℕ) (a : Address) : Type 0 wher
 
 abbrev pub NumbersUndoAddresses : Type 0
 NumbersUndoAddresses = (tree : Tree Node) (n : ℕ) → n < nodes tree → IsAddressFor tree n (address_at tree n)
+
+-- a tree that is made of what stands in the rows of a tree has it where that tree has it
+abbrev pub RowsTellTheTree : Type 0
+RowsTellTheTree = (f : ℕ → Node) (t : Tree ℕ) → nodes_from (λ n. f (row_at (rows 0 [] t) n).node) 0 (topology_of t) ≡ map_tree f t

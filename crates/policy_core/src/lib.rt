@@ -6,7 +6,7 @@ mod parts;
 mod policy;
 mod stations;
 
-pub use laws::{addresses_undo_numbers, numbers_undo_addresses};
+pub use laws::{addresses_undo_numbers, numbers_undo_addresses, rows_tell_the_tree};
 pub use parts::{Class, Marks, Station};
 pub use policy::Policy;
 
