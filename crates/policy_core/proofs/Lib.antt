@@ -4,3 +4,5 @@ pub mod Told
 pub mod Whole
 pub mod Samples
 pub mod Programs
+pub mod Passing
+pub mod Making

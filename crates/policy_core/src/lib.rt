@@ -1,6 +1,7 @@
 //! A policy that can be run: a tree of numbered nodes, each with its transaction, and classes of packets, each with its leaf.
 #![tactic(auto)]
 
+mod classes;
 mod laws;
 mod parts;
 mod policy;
