@@ -1,5 +1,5 @@
 -- The lines with which some lines begin.
-use Rattle.std.proofs.Common.{◌≡◌, ℕ, zero, suc, ◌+◌, ◌<◌, ◌≤◌, Bool, true, false, cond, not, List, [], ◌∷◌, ◌++◌, length, take, map, position, Option, Some, None, is_some, nat_lt, sym, ap, ◌∙◌, refl, arith}
+use Rattle.std.proofs.Common.{◌≡◌, ℕ, ◌≤◌, Bool, true, false, cond, not, List, [], ◌∷◌, length, take, map, position, Some, None, nat_lt, sym, ap, ◌∙◌, refl, arith}
 use Rattle.std.specs.List.{prefix_len, position_or_len, take_while}
 use Rattle.std.proofs.lemmas.List.{take_all, take-map, length-map}
 use Rattle.std.proofs.lemmas.Bool.{ltb-false}

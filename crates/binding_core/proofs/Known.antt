@@ -1,5 +1,5 @@
 -- All programs that names mean: shaped, and refused where those that are written are.
-use Rattle.std.proofs.Common.{◌≡◌, ◌⊎◌, inl, inr, ℕ, List, [], ◌∷◌, ◌++◌, map, refl, sym, ap, subst, ◌∙◌}
+use Rattle.std.proofs.Common.{◌≡◌, inl, inr, ℕ, List, [], ◌∷◌, ◌++◌, map, refl, sym, ap, subst, ◌∙◌}
 use Rattle.std.specs.Prelude.{All, Result, Ok, Err, MatchResult, IsErrAnd, IfErr}
 use Rattle.std.specs.List.{AllByRecursion}
 use Rattle.std.proofs.lemmas.List.{append_assoc}
@@ -28,10 +28,6 @@ over_map : {X Y : Type 0} (f : X → Y) (P : X → Type 0) (Q : Y → Type 0) �
 over_map f P Q each [] all = tt
 over_map f P Q each (x ∷ xs) all = (each x all.0, over_map f P Q each xs all.1)
 
-right_part : {X : Type 0} (P : X → Type 0) (xs ys : List X) → AllByRecursion P (xs ++ ys) → AllByRecursion P ys
-right_part P [] ys all = all
-right_part P (x ∷ xs) ys all = right_part P xs ys all.1
-
 abbrev built_in : List Program
 built_in = map (λ b. b.program) builtins
 
@@ -44,10 +40,10 @@ checked_built_in = over_map (λ (b : Builtin). b.program) (λ b. IsShaped b.prog
 pub shaped_known : (es : List Entry) → AreRising es → AreFew es → All (λ e. IsValid e.1) es → AllByRecursion IsShaped (known_programs es)
 shaped_known es rising few valid =
     all_append IsShaped built_in (programs es) shaped_built_in
-      (over_map (λ (b : Body). program_in b.lines) (λ b. IsSoundBody b.lines) IsShaped (λ b sound. shaped b.lines sound) (bodies es) (all_sound es rising few valid))
+    (over_map (λ (b : Body). program_in b.lines) (λ b. IsSoundBody b.lines) IsShaped (λ b sound. shaped b.lines sound) (bodies es) (all_sound es rising few valid))
 
-pub checked_written : (es : List Entry) → AreChecked (known_programs es) → AreChecked (programs es)
-checked_written es all = right_part IsChecked built_in (programs es) all
+pub checked_known : (es : List Entry) → AreChecked (programs es) → AreChecked (known_programs es)
+checked_known es written = all_append IsChecked built_in (programs es) checked_built_in written
 
 -- ---- faults
 

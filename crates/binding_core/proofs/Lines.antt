@@ -1,8 +1,8 @@
 -- Lines as they are kept.
-use Rattle.std.proofs.Common.{◌≡◌, ℕ, ◌+◌, ◌<◌, List, [], ◌∷◌, ◌++◌, length, take, drop, get_or, map, sym, ap, subst, ◌∙◌, arith}
+use Rattle.std.proofs.Common.{◌≡◌, ℕ, ◌+◌, ◌<◌, List, [], ◌∷◌, ◌++◌, length, take, drop, get_or, sym, ap, subst, ◌∙◌}
 use Rattle.std.proofs.lemmas.List.{length-map, get_or-map, take_more, drop_more}
 use Rattle.policy_text_defs.specs.declared.statement.Statement.{Statement}
-use Rattle.policy_text_defs.specs.Sense.{Sense, Entry, entry, sense_of}
+use Rattle.policy_text_defs.specs.Sense.{Entry, entry, sense_of}
 use Rattle.resolve_defs.specs.Names.{Name, declared, keep_name, each_name}
 use Rattle.resolve_defs.specs.Entries.{entries_of}
 use Rattle.binding_core.specs.Bodies.{with_names, IsSoundBody}

@@ -1,15 +1,15 @@
 -- The place of a name's program among all programs.
-use Rattle.std.proofs.Common.{◌≡◌, ◌≢◌, inl, inr, ℕ, zero, suc, ◌+◌, ◌<◌, ◌≤◌, ◌^◌, nat_lt, nat_eq, Bool, true, false, cond, not, ◌&&◌, ◌||◌, List, [], ◌∷◌, ◌++◌, length, map, position, Option, Some, None, is_some, refl, sym, ap, subst, ◌∙◌, arith, rules, true≢false, Bor}
+use Rattle.std.proofs.Common.{◌≡◌, ◌≢◌, ℕ, zero, suc, ◌+◌, ◌<◌, ◌≤◌, ◌^◌, nat_lt, nat_eq, Bool, true, false, cond, ◌||◌, List, [], ◌∷◌, ◌++◌, length, map, position, Option, Some, None, is_some, refl, sym, ap, subst, ◌∙◌, arith, rules, true≢false}
 use Rattle.std.specs.Prelude.{find, option_map, option_and_then, slice_get, SomeIff}
 use Rattle.std.specs.List.{list_any, position_or_len, cons_option}
 use Rattle.std.specs.Str.{bytes_eq}
-use Rattle.std.proofs.lemmas.Bool.{cases_Bool, eqb-false}
+use Rattle.std.proofs.lemmas.Bool.{eqb-false}
 use Rattle.std.proofs.lemmas.List.{append-nil, append_assoc, length-append}
 use Rattle.std.proofs.lemmas.List.Folds.{find_at}
 use Rattle.std.proofs.lemmas.List.Quantifiers.{position-Some}
 use Rattle.rank_defs.specs.Programs.{Program}
 use Rattle.rank_defs.specs.Builtins.{Builtin, builtin, builtins, same_name}
-use Rattle.policy_text_defs.specs.Sense.{Sense, Entry, version, transaction, keep, each, push, pop, class, leaf, node}
+use Rattle.policy_text_defs.specs.Sense.{Entry, version, transaction, keep, each, push, pop, class, leaf, node}
 use Rattle.resolve_defs.specs.Names.{Name, has, declared, transaction_name, before}
 use Rattle.resolve_defs.specs.Bodies.{Body, bodies}
 use Rattle.resolve_defs.specs.Clauses.{is_beyond, is_transaction_known, most_transactions}
@@ -105,7 +105,7 @@ module _ (es : List Entry) (rising : AreRising es) (few : AreFew es) where
   few_from pre (e ∷ rest) is so_far =
       let fine : is_beyond pre e.1 ≡ false = ap (λ (l : List Entry). is_beyond l e.1) (sym (before_is es pre rest e is rising)) ∙ not_true _ (here es pre rest e is (λ f. ¬ (is_beyond (before f.0 es) f.1 ≡ true)) few.1) in
       few_from (pre ++ e ∷ []) rest (is ∙ sym (append_assoc pre (e ∷ []) rest))
-        (subst (λ (l : List Name). length l ≤ most_transactions) (sym (declared-push transaction_name pre e)) (few_push pre e so_far fine))
+      (subst (λ (l : List Name). length l ≤ most_transactions) (sym (declared-push transaction_name pre e)) (few_push pre e so_far fine))
 
   pub few_transactions : length (declared transaction_name es) ≤ most_transactions
   few_transactions = few_from [] es refl (omega arith)

@@ -1,19 +1,16 @@
 -- Statements that no clause up to the limits refuses have sound bodies.
-use Rattle.std.proofs.Common.{◌≡◌, ◌≢◌, ◌⊎◌, ℕ, zero, suc, ◌+◌, ◌≤◌, ◌<◌, nat_lt, inl, inr, Bool, true, false, cond, not, ◌&&◌, ◌||◌, if◌then◌else◌, List, [], ◌∷◌, ◌++◌, length, take, drop, get_or, filter, refl, sym, ap, subst, ◌∙◌, arith, true≢false}
+use Rattle.std.proofs.Common.{◌≡◌, ◌≢◌, ◌⊎◌, ℕ, suc, ◌+◌, ◌<◌, nat_lt, inl, inr, Bool, true, false, cond, not, ◌||◌, List, [], ◌∷◌, ◌++◌, length, take, drop, get_or, filter, refl, sym, ap, subst, ◌∙◌, arith, true≢false}
 use Rattle.std.specs.Prelude.{All, take_while}
-use Rattle.std.specs.List.{list_any, list_all, AllByRecursion}
-use Rattle.std.specs.Str.{bytes_eq}
-use Rattle.std.proofs.lemmas.Bool.{cases_Bool, cases_eq, lt-ltb, le-ltb}
+use Rattle.std.specs.List.{list_any, AllByRecursion}
+use Rattle.std.proofs.lemmas.Bool.{cases_eq, lt-ltb, le-ltb}
 use Rattle.std.proofs.lemmas.List.{append-nil, append_assoc, length-append, length-take, length-drop, take-append-drop, get_or_default, get_or-take, get_or-drop, get_or_at, take_at, drop_more}
 use Rattle.std.proofs.lemmas.List.Elements.{filter-append}
 use Rattle.std.proofs.lemmas.List.Folds.{list_any-append}
 use Rattle.std.proofs.lemmas.List.Sums.{take_while-cons}
-use Rattle.rank_defs.specs.Builtins.{builtin}
-use Rattle.policy_text_defs.specs.Words.{is_variable}
 use Rattle.policy_text_defs.specs.Sense.{Sense, Entry, version, transaction, keep, each, push, pop, class, leaf, node}
 use Rattle.policy_text_defs.specs.Valid.{IsValid}
-use Rattle.resolve_defs.specs.Names.{Name, before}
-use Rattle.resolve_defs.specs.Bodies.{is_transaction, is_body, open_body, Body, opened, bodies}
+use Rattle.resolve_defs.specs.Names.{before}
+use Rattle.resolve_defs.specs.Bodies.{is_transaction, is_body, open_body, opened, bodies}
 use Rattle.resolve_defs.specs.Clauses.{is_declared, is_known, is_beyond}
 use Rattle.resolve_defs.specs.Accepted.{AreFew}
 use Rattle.resolve_defs.specs.Entries.{AreRising}
@@ -163,9 +160,9 @@ module _ (es : List Entry) (rising : AreRising es) (few : AreFew es) (valid : Al
   sound_front pre [] earlier is all own = tt
   sound_front pre (e ∷ rest) earlier is all own =
       subst (AreSoundBehind earlier) (sym (take_while-cons (λ f. is_body f.1) e rest))
-        (front_case earlier rest e (is_body e.1)
-          (λ body. sound_line es pre rest e is earlier rising few valid all own body)
-          (λ body. sound_front (pre ++ e ∷ []) rest (earlier ++ e ∷ []) (is ∙ sym (append_assoc pre (e ∷ []) rest)) (AreBody-push earlier e all body) (open_push pre e (body_line e body) ∙ ap (λ (l : List Entry). l ++ e ∷ []) own)))
+      (front_case earlier rest e (is_body e.1)
+      (λ body. sound_line es pre rest e is earlier rising few valid all own body)
+      (λ body. sound_front (pre ++ e ∷ []) rest (earlier ++ e ∷ []) (is ∙ sym (append_assoc pre (e ∷ []) rest)) (AreBody-push earlier e all body) (open_push pre e (body_line e body) ∙ ap (λ (l : List Entry). l ++ e ∷ []) own)))
 
   sound_opened : (pre rest : List Entry) (e : Entry) → es ≡ pre ++ e ∷ rest → AllByRecursion (λ b. IsSoundBody b.lines) (opened e.1 rest)
   sound_opened pre rest (n, transaction a) is = (sound_front (pre ++ (n, transaction a) ∷ []) rest [] (is ∙ sym (append_assoc pre ((n, transaction a) ∷ []) rest)) refl (open_transaction pre (n, transaction a) refl), tt)

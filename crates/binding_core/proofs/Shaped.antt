@@ -1,5 +1,5 @@
 -- Programs of sound bodies are shaped.
-use Rattle.std.proofs.Common.{◌≡◌, ◌≢◌, ◌≤◌, ◌<◌, inl, inr, ℕ, suc, max, Bool, true, false, ◌&&◌, ◌||◌, if◌then◌else◌, List, [], ◌∷◌, ◌++◌, length, map, position, Option, Some, None, is_some, unwrap_or, refl, sym, ap, subst, ◌∙◌, arith, true≢false, codes}
+use Rattle.std.proofs.Common.{◌≡◌, ◌≢◌, ◌≤◌, ◌<◌, inl, inr, ℕ, suc, Bool, true, false, ◌&&◌, ◌||◌, if◌then◌else◌, List, [], ◌∷◌, ◌++◌, length, position, Option, Some, None, is_some, unwrap_or, refl, sym, ap, subst, ◌∙◌, true≢false, codes}
 use Rattle.std.specs.Prelude.{filter_map}
 use Rattle.std.specs.List.{AllByRecursion}
 use Rattle.std.specs.Str.{bytes_eq}
@@ -17,15 +17,14 @@ use Rattle.rank_defs.specs.Programs.{Assignment, Program}
 use Rattle.rank_defs.specs.Shapes.{IsSpan, IsDeclared, AreDeclared, IsAim, IsShapedAssignment, IsShaped}
 use Rattle.policy_text_defs.specs.Words.{is_name, is_variable}
 use Rattle.policy_text_defs.specs.Phrase.{Phrase, number, word, two, negation, choice, depth}
-use Rattle.policy_text_defs.specs.Sense.{Sense, Entry, version, transaction, keep, each, push, pop, class, leaf, node}
+use Rattle.policy_text_defs.specs.Sense.{Entry, version, transaction, keep, each, push, pop, class, leaf, node}
 use Rattle.policy_text_defs.specs.Valid.{IsValidSpan}
 use Rattle.resolve_defs.specs.Names.{Name, has, declared, keep_name, each_name, variable_name}
-use Rattle.resolve_defs.specs.Bodies.{open_body}
 use Rattle.resolve_defs.specs.Clauses.{are_operands_known}
 use Rattle.resolve_defs.specs.Programs.{place, variable_of, formula_in, aim_of, keep_span, each_span, push_in, pop_in, program_in}
-use Rattle.binding_core.specs.Bodies.{IsSoundLine, AreSoundBehind, IsSoundBody}
+use Rattle.binding_core.specs.Bodies.{AreSoundBehind, IsSoundBody}
 use Rattle.binding_core.proofs.Words.{any_position}
-use Rattle.binding_core.proofs.Sound.{and_true, AreBody, AreBody-push, open_own, declared-push}
+use Rattle.binding_core.proofs.Sound.{and_true, AreBody, AreBody-push, open_own}
 
 -- ---- spans
 
@@ -212,7 +211,8 @@ module _ (all : List Entry) where
   pushes_shaped earlier [] is body sound = tt
   pushes_shaped earlier ((n, push a t) ∷ es) is body sound = (
     assignment_shaped earlier ((n, push a t) ∷ es) n a t is (subst (λ (l : List Entry). ((bytes_eq a (codes "rank") || has (declared variable_name l) a) && are_operands_known (declared variable_name l) t) ≡ true) (open_own earlier body) sound.0.known) sound.0.valid.1.low,
-    pushes_shaped (earlier ++ (n, push a t) ∷ []) es (append_assoc earlier ((n, push a t) ∷ []) es ∙ is) (AreBody-push earlier (n, push a t) body sound.0.body) sound.1)
+    pushes_shaped (earlier ++ (n, push a t) ∷ []) es (append_assoc earlier ((n, push a t) ∷ []) es ∙ is) (AreBody-push earlier (n, push a t) body sound.0.body) sound.1,
+  )
   pushes_shaped earlier ((n, keep a s) ∷ es) is body sound = pushes_shaped (earlier ++ (n, keep a s) ∷ []) es (append_assoc earlier ((n, keep a s) ∷ []) es ∙ is) (AreBody-push earlier (n, keep a s) body sound.0.body) sound.1
   pushes_shaped earlier ((n, each a s) ∷ es) is body sound = pushes_shaped (earlier ++ (n, each a s) ∷ []) es (append_assoc earlier ((n, each a s) ∷ []) es ∙ is) (AreBody-push earlier (n, each a s) body sound.0.body) sound.1
   pushes_shaped earlier ((n, pop a t) ∷ es) is body sound = pushes_shaped (earlier ++ (n, pop a t) ∷ []) es (append_assoc earlier ((n, pop a t) ∷ []) es ∙ is) (AreBody-push earlier (n, pop a t) body sound.0.body) sound.1
@@ -230,10 +230,10 @@ module _ (all : List Entry) where
   pops_shaped earlier [] is body sound = tt
   pops_shaped earlier ((n, pop a t) ∷ es) is body sound =
       let known : (has (declared variable_name earlier) a && are_operands_known (declared variable_name earlier) t) ≡ true = subst (λ (l : List Entry). (has (declared variable_name l) a && are_operands_known (declared variable_name l) t) ≡ true) (open_own earlier body) sound.0.known in
-      let parts = and_true _ _ known in
-      (
+      let parts = and_true _ _ known in (
         assignment_shaped earlier ((n, pop a t) ∷ es) n a t is (rw (with_rank (bytes_eq a (codes "rank")) (has (declared variable_name earlier) a) parts.0) parts.1) sound.0.valid.1.low,
-        pops_shaped (earlier ++ (n, pop a t) ∷ []) es (append_assoc earlier ((n, pop a t) ∷ []) es ∙ is) (AreBody-push earlier (n, pop a t) body sound.0.body) sound.1)
+        pops_shaped (earlier ++ (n, pop a t) ∷ []) es (append_assoc earlier ((n, pop a t) ∷ []) es ∙ is) (AreBody-push earlier (n, pop a t) body sound.0.body) sound.1,
+      )
   pops_shaped earlier ((n, keep a s) ∷ es) is body sound = pops_shaped (earlier ++ (n, keep a s) ∷ []) es (append_assoc earlier ((n, keep a s) ∷ []) es ∙ is) (AreBody-push earlier (n, keep a s) body sound.0.body) sound.1
   pops_shaped earlier ((n, each a s) ∷ es) is body sound = pops_shaped (earlier ++ (n, each a s) ∷ []) es (append_assoc earlier ((n, each a s) ∷ []) es ∙ is) (AreBody-push earlier (n, each a s) body sound.0.body) sound.1
   pops_shaped earlier ((n, push a t) ∷ es) is body sound = pops_shaped (earlier ++ (n, push a t) ∷ []) es (append_assoc earlier ((n, push a t) ∷ []) es ∙ is) (AreBody-push earlier (n, push a t) body sound.0.body) sound.1

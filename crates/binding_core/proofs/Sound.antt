@@ -1,16 +1,15 @@
 -- The lines of one body.
-use Rattle.std.proofs.Common.{◌≡◌, ◌≢◌, ℕ, zero, suc, ◌+◌, ◌≤◌, ◌<◌, nat_eq, inl, inr, Bool, true, false, cond, not, ◌&&◌, ◌||◌, if◌then◌else◌, List, [], ◌∷◌, ◌++◌, length, take, drop, get_or, map, Option, Some, None, refl, sym, ap, subst, ◌∙◌, arith, true≢false}
-use Rattle.std.specs.List.{list_any, list_all, cons_option, AllByRecursion}
+use Rattle.std.proofs.Common.{◌≡◌, ◌≢◌, ℕ, zero, suc, ◌+◌, ◌≤◌, ◌<◌, nat_eq, Bool, true, false, ◌&&◌, ◌||◌, List, [], ◌∷◌, ◌++◌, length, take, drop, get_or, Option, Some, None, refl, sym, ap, subst, ◌∙◌, arith, true≢false}
+use Rattle.std.specs.List.{list_any, list_all, cons_option}
 use Rattle.std.specs.Str.{bytes_eq}
-use Rattle.std.proofs.lemmas.Bool.{cases_Bool, eqb-false}
+use Rattle.std.proofs.lemmas.Bool.{eqb-false}
 use Rattle.std.proofs.lemmas.List.{append-nil, append_assoc, length-append, take_more, take-append-drop}
-use Rattle.std.proofs.lemmas.List.Folds.{list_any-append, list_all-append}
+use Rattle.std.proofs.lemmas.List.Folds.{list_all-append}
 use Rattle.std.proofs.lemmas.List.Elements.{filter_map-append}
 use Rattle.policy_text_defs.specs.Sense.{Sense, Entry, version, transaction, keep, each, push, pop, class, leaf, node}
 use Rattle.resolve_defs.specs.Names.{Name, has, declared, keep_name, each_name, variable_name}
 use Rattle.resolve_defs.specs.Bodies.{is_transaction, is_body, open_body}
 use Rattle.resolve_defs.specs.Clauses.{is_declared, is_beyond, most_variables}
-use Rattle.names_core.specs.Names.{with_name}
 use Rattle.binding_core.specs.Bodies.{with_names, IsSoundLine, AreSoundBehind, IsSoundBody}
 
 pub and_true : (a b : Bool) → (a && b) ≡ true → (a ≡ true) × (b ≡ true)
@@ -214,7 +213,7 @@ few_eaches es sound = omega (arith, few_eaches-variables es, few_variables es so
 shorter : (space : Sense → Option Name) (es : List Entry) (i : ℕ) → length (declared space (take i es)) ≤ length (declared space es)
 shorter space es i = subst (λ (l : List Entry). length (declared space (take i es)) ≤ length (declared space l)) (take-append-drop i es)
     (subst (λ (l : List Name). length (declared space (take i es)) ≤ length l) (sym (filter_map-append (λ f. space f.1) (take i es) (drop i es)))
-      (omega (arith, length-append (declared space (take i es)) (declared space (drop i es)))))
+    (omega (arith, length-append (declared space (take i es)) (declared space (drop i es)))))
 
 pub few_keeps_at : (es : List Entry) (i : ℕ) → IsSoundBody es → length (declared keep_name (take i es)) ≤ most_variables
 few_keeps_at es i sound = omega (arith, shorter keep_name es i, few_keeps es sound)

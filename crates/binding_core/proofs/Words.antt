@@ -1,5 +1,5 @@
 -- The variable of a word.
-use Rattle.std.proofs.Common.{◌≡◌, ◌≢◌, ◌+◌, inl, inr, ℕ, suc, ◌<◌, Bool, true, false, cond, not, ◌||◌, List, [], ◌∷◌, length, Option, Some, None, is_some, nat_lt, refl, sym, ap, ◌∙◌, arith, position, unwrap_or, codes}
+use Rattle.std.proofs.Common.{◌≡◌, ◌≢◌, ◌+◌, inl, inr, ℕ, suc, Bool, true, false, cond, not, List, [], ◌∷◌, length, Some, None, is_some, nat_lt, refl, sym, ap, ◌∙◌, arith, position, unwrap_or, codes}
 use Rattle.std.specs.List.{list_any, position_or_len}
 use Rattle.std.specs.Str.{bytes_eq}
 use Rattle.std.proofs.lemmas.Bool.{cases_Bool, lt-ltb}

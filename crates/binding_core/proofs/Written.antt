@@ -1,5 +1,5 @@
 -- The transactions that lines begin, line by line.
-use Rattle.std.proofs.Common.{◌≡◌, ℕ, ◌+◌, ◌-◌, ◌<◌, List, ◌∷◌, ◌++◌, length, take, drop, get_or, map, sym, ap, subst, ◌∙◌}
+use Rattle.std.proofs.Common.{◌≡◌, ℕ, ◌+◌, ◌-◌, ◌<◌, List, ◌++◌, length, take, drop, get_or, map, sym, ap, subst, ◌∙◌}
 use Rattle.std.specs.Prelude.{All}
 use Rattle.std.specs.List.{AllByRecursion}
 use Rattle.std.proofs.lemmas.List.{append_assoc, take_rest, drop-map, map-append}
@@ -23,7 +23,7 @@ module _ (lines : List Line) (i : ℕ) (x : Line) (within : i < length lines) (i
       → AllByRecursion (λ b. IsSoundBody b.lines) (opened (sense_of x.1) (entries_of (take (length lines - (i + 1)) (drop (i + 1) lines))))
   begun_requires rising few valid =
       subst (λ (l : List Entry). AllByRecursion (λ (b : Body). IsSoundBody b.lines) (opened (sense_of x.1) l)) (sym (behind lines (i + 1)))
-        (sound_begun (entries_of lines) rising few valid i (entry_of x) (within_entries lines i within) (line_at lines i x within is))
+      (sound_begun (entries_of lines) rising few valid i (entry_of x) (within_entries lines i within) (line_at lines i x within is))
 
   pub begun_more : (old new all : List Program) → old ++ programs (drop i (entries_of lines)) ≡ all
       → new ≡ old ++ map (λ b. program_in b.lines) (opened (sense_of x.1) (entries_of (take (length lines - (i + 1)) (drop (i + 1) lines)))) → new ++ programs (drop (i + 1) (entries_of lines)) ≡ all

@@ -4,9 +4,14 @@
 
 mod bodies;
 mod checked;
+mod laws;
 mod places;
 mod transaction;
 mod variables;
 
 pub use checked::checked_transactions;
+pub use laws::known_programs_are_checked;
 pub use places::program_place;
+
+#[cfg(test)]
+mod tests;

@@ -15,11 +15,7 @@ use policy_text_defs::{Statement, Term};
 use rank_defs::{Assign, Expr, Transaction};
 use std::alloc::{AllocError, Global};
 
-fn expression(
-    alloc: Global,
-    variables: &Variables<'_>,
-    term: &Term,
-) -> Result<Expr, AllocError>
+fn expression(alloc: Global, variables: &Variables<'_>, term: &Term) -> Result<Expr, AllocError>
     requires few_keeps { length variables.now.keeps ≤ most_variables }
     requires few_eaches { length variables.now.eaches ≤ most_variables }
     ensures { IfOk result (λ e. formula_of e ≡ formula_in variables.now.keeps variables.now.eaches (phrase_of term.now)) }
@@ -60,7 +56,7 @@ fn assign(
     })
 }
 
-fn none(alloc: Global) -> Transaction
+fn empty(alloc: Global) -> Transaction
     ensures { program_of result ≡ program_over [] [] [] }
 {
     Transaction {
@@ -86,8 +82,12 @@ fn add(
     match statement {
         Statement::Keep(_, span) => transaction.keeps.push(*span)?,
         Statement::Each(_, span) => transaction.eaches.push(*span)?,
-        Statement::Push(name, value) => transaction.push.push(assign(alloc, variables, line, name, value)?)?,
-        Statement::Pop(name, value) => transaction.pop.push(assign(alloc, variables, line, name, value)?)?,
+        Statement::Push(name, value) => transaction
+            .push
+            .push(assign(alloc, variables, line, name, value)?)?,
+        Statement::Pop(name, value) => transaction
+            .pop
+            .push(assign(alloc, variables, line, name, value)?)?,
         _ => {}
     }
     Ok(())
@@ -99,7 +99,7 @@ pub fn transaction(alloc: Global, body: &[(u32, Statement)]) -> Result<Transacti
     ensures { IfOk result (λ t. program_of t ≡ program_in (entries_of body.now)) }
 {
     let variables = Variables::declared(alloc, body)?;
-    let mut transaction = none(alloc);
+    let mut transaction = empty(alloc);
     for (line, statement) in body {
         add(alloc, &mut transaction, &variables, *line, statement)?;
     }

@@ -20,7 +20,7 @@ pub struct Variables<'a> {
 }
 
 impl<'a> Variables<'a> {
-    fn none(alloc: Global) -> Variables<'a>
+    fn empty(alloc: Global) -> Variables<'a>
         ensures keeps { result.keeps ≡ [] }
         ensures eaches { result.eaches ≡ [] }
     {
@@ -41,7 +41,7 @@ impl<'a> Variables<'a> {
         ensures few_keeps { IfOk result (λ v. length v.keeps ≤ most_variables) }
         ensures few_eaches { IfOk result (λ v. length v.eaches ≤ most_variables) }
     {
-        let mut variables = Variables::none(alloc);
+        let mut variables = Variables::empty(alloc);
         for (_, statement) in body {
             variables.declare(statement)?;
         }

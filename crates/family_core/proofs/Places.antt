@@ -1,5 +1,5 @@
 -- Places of names.
-use Rattle.std.proofs.Common.{◌≡◌, ℕ, zero, suc, ◌+◌, ◌<◌, Bool, true, false, not, cond, ◌||◌, List, [], ◌∷◌, length, refl, sym, ap, subst, ◌∙◌, arith, inl, inr, true≢false, Contains, get_or, map, Option, None, Some, position, unwrap_or}
+use Rattle.std.proofs.Common.{◌≡◌, ℕ, zero, suc, ◌+◌, ◌<◌, Bool, true, false, not, cond, ◌||◌, List, [], ◌∷◌, length, refl, sym, ap, subst, ◌∙◌, arith, inl, inr, true≢false, Contains, get_or, map, None, Some, position, unwrap_or}
 use Rattle.std.proofs.lemmas.Bool.{cases_Bool, lt-ltb, and_parts}
 use Rattle.std.proofs.lemmas.Slice.Eq.{bytes_eq-Decides}
 use Rattle.std.proofs.lemmas.Map.Keys.{IsDistinct-tail, apart_from_distinct}
@@ -55,9 +55,6 @@ not-found names a none h = none-some (sym (position-is names a h) ∙ none)
   where
     none-some : {n : ℕ} → Some n ≡ None → ⊥
     none-some e = cc
-
-pub found : (names : List Name) (a : Name) (p : ℕ) (o : Option ℕ) → o ≡ Some p → o ≡ position (bytes_eq a) names → p ≡ place names a
-found names a p o is told = ap (λ r. unwrap_or r 0) (sym is ∙ told)
 
 pub all-at : (p : Name → Bool) (xs : List Name) (k : ℕ) (x : Name) → list_all p xs ≡ true → k < length xs → x ≡ get_or xs k x → p x ≡ true
 all-at p [] k x h l is = absurd (omega arith)

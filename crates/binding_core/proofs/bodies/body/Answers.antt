@@ -1,4 +1,4 @@
-use Rattle.std.proofs.Common.{rules, tests, ◌≡◌, ◌∙◌, ℕ, Option, position, not, sym}
+use Rattle.std.proofs.Common.{rules, tests, ◌≡◌, ◌∙◌, position, not, sym}
 use Rattle.std.proofs.lemmas.Iterator.{YieldsList-from_slice}
 use Rattle.std.proofs.lemmas.Iterator.Search.{position_from_yields_List}
 use Rattle.policy_text_defs.specs.Sense.{sense_of}

@@ -1,10 +1,10 @@
-use Rattle.std.proofs.Common.{◌≡◌, ◌++◌, ◌∙◌, sym, ap, subst, List}
+use Rattle.std.proofs.Common.{◌++◌, ◌∙◌, sym, ap, subst, List}
 use Rattle.std.specs.List.{AllByRecursion}
 use Rattle.rank_defs.specs.Programs.{Program}
 use Rattle.rank_defs.specs.Shapes.{IsShaped}
 use Rattle.resolve_defs.specs.Entries.{entries_of}
 use Rattle.resolve_defs.specs.Programs.{programs}
-use Rattle.binding_core.proofs.Known.{shaped_known, checked_written, fault_answered}
+use Rattle.binding_core.proofs.Known.{shaped_known, fault_answered}
 use Rattle.binding_core.proofs.checked.checked_transactions.Goals as goal
 
 pub check-requires : goal.check-requires
@@ -15,4 +15,4 @@ check-requires c = record {
 pub returns-clause-fault : goal.returns-clause-fault
 returns-clause-fault c =
     fault_answered (entries_of c.args.lines.now) _ (c.in_ok-add_written.ensures ∙ ap (λ (l : List Program). l ++ programs (entries_of c.args.lines.now)) c.in_ok-transactions.ensures) c.requires.few c.check.result c.map_err.result c.map_err.ensures.cases
-      (λ line. (c.check.ensures.clash line).0) (λ line. (c.check.ensures.wide line).0) (λ line. (c.check.ensures.zero line).0)
+    (λ line. (c.check.ensures.clash line).0) (λ line. (c.check.ensures.wide line).0) (λ line. (c.check.ensures.zero line).0)

@@ -1,8 +1,7 @@
-use Rattle.std.proofs.Common.{rules, tests, ◌≡◌, ◌∙◌, Option, List, ℕ, Bor, position, map, ap}
+use Rattle.std.proofs.Common.{rules, tests, ◌≡◌, ◌∙◌, List, ℕ, Bor, position, map, ap}
 use Rattle.std.specs.Str.{bytes_eq}
 use Rattle.std.proofs.lemmas.Iterator.{YieldsList-from_slice}
 use Rattle.std.proofs.lemmas.Iterator.Search.{position_from_yields_List}
-use Rattle.rank_defs.specs.Builtins.{builtins}
 use Rattle.names_core.proofs.Texts.{position-map}
 use Rattle.binding_core.proofs.places.builtin_place.Goals as goal
 

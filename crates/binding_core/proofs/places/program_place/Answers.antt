@@ -1,4 +1,4 @@
-use Rattle.std.proofs.Common.{◌∙◌, sym}
+use Rattle.std.proofs.Common.{sym}
 use Rattle.binding_core.proofs.Named.{absent, absent_known, placed, placed_known}
 use Rattle.binding_core.proofs.places.program_place.Goals as goal
 

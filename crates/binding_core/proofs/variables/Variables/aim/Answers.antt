@@ -1,4 +1,4 @@
-use Rattle.std.proofs.Common.{◌≡◌, ◌∙◌, sym, ap, unwrap_or}
+use Rattle.std.proofs.Common.{◌∙◌, sym, ap, unwrap_or}
 use Rattle.binding_core.proofs.Words.{aim_kept, aim_each}
 use Rattle.binding_core.proofs.variables.Variables.aim.Goals as goal
 

@@ -1,6 +1,5 @@
-use Rattle.std.proofs.Common.{◌≡◌, ◌≤◌, ◌∙◌, List, ℕ, length, take, sym, subst}
-use Rattle.std.proofs.lemmas.List.{take_all, length-map}
-use Rattle.resolve_defs.specs.Names.{Name, declared, keep_name, each_name}
+use Rattle.std.proofs.Common.{◌≤◌, List, length, sym, subst}
+use Rattle.resolve_defs.specs.Names.{Name}
 use Rattle.resolve_defs.specs.Clauses.{most_variables}
 use Rattle.resolve_defs.specs.Entries.{entries_of}
 use Rattle.binding_core.proofs.Lines.{keeps_line, eaches_line}
@@ -10,7 +9,7 @@ use Rattle.binding_core.proofs.variables.Variables.declared.Goals as goal
 pub loop-statement-preserved : goal.loop-statement-preserved
 loop-statement-preserved c = (
   keeps_line c.args.body.now c.loop-statement.statement-index c.loop-statement-item.result c.requires c.loop-statement-test.true c.loop-statement-item.is _ _ c.loop-statement.invariant.0 c.in_ok-declare.ensures.keeps,
-  eaches_line c.args.body.now c.loop-statement.statement-index c.loop-statement-item.result c.requires c.loop-statement-test.true c.loop-statement-item.is _ _ c.loop-statement.invariant.1 c.in_ok-declare.ensures.eaches
+  eaches_line c.args.body.now c.loop-statement.statement-index c.loop-statement-item.result c.requires c.loop-statement-test.true c.loop-statement-item.is _ _ c.loop-statement.invariant.1 c.in_ok-declare.ensures.eaches,
 )
 
 pub returns-clause-few_keeps : goal.returns-clause-few_keeps

@@ -1,4 +1,4 @@
-use Rattle.std.proofs.Common.{◌≡◌, ◌∙◌, sym, ap, unwrap_or}
+use Rattle.std.proofs.Common.{◌∙◌, sym, ap, unwrap_or}
 use Rattle.binding_core.proofs.Words.{variable_kept, variable_each}
 use Rattle.binding_core.proofs.variables.Variables.variable.Goals as goal
 
