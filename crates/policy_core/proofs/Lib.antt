@@ -6,3 +6,5 @@ pub mod Samples
 pub mod Programs
 pub mod Passing
 pub mod Making
+pub mod FewClasses
+pub mod Assembled
