@@ -10,22 +10,22 @@ use Rattle.rank_defs.specs.Shapes.{IsShaped}
 use Rattle.rank_defs.specs.Programs.{Program}
 use Rattle.policy_text_defs.specs.declared.condition.Condition.{Condition}
 use Rattle.policy_text_defs.specs.Sense.{Entry}
-use Rattle.policy_defs.specs.Policy.{Node, Policy, Class as Aimed}
+use Rattle.policy_defs.specs.Policy.{Node, Class as Aimed}
 use Rattle.policy_defs.specs.Accepted.{IsAccepted}
 use Rattle.resolve_defs.specs.Names.{Name, declared, class_name, node_name}
 use Rattle.resolve_defs.specs.Clauses.{root}
 use Rattle.resolve_defs.specs.Programs.{place, programs}
 use Rattle.resolve_defs.specs.Accepted.{AreAccepted}
 use Rattle.resolve_defs.specs.Graph.{graph_of, nodes_in}
-use Rattle.resolve_defs.specs.Resolved.{Resolved, Declared, IsResolved, IsTreeIn, AreClassesOf, classes_in}
+use Rattle.resolve_defs.specs.Resolved.{Declared, IsResolved, IsTreeIn, AreClassesOf, classes_in}
 use Rattle.tree_defs.proofs.Shapes.{nodes-topology, depth-topology}
 use Rattle.resolve_defs.specs.Entries.{AreRising}
 use Rattle.lineage_core.specs.Descent.{times}
 use Rattle.lineage_core.specs.Row.{Row, row, row_at, nodes_of}
-use Rattle.lineage_core.specs.Preorder.{Numbered, rows, IsTreeOf, IsTreeBelow, IsSound}
+use Rattle.lineage_core.specs.Preorder.{Numbered, rows, IsTreeBelow, IsSound}
 use Rattle.lineage_core.proofs.Growing.{length-rows}
 use Rattle.names_core.proofs.Texts.{length-map}
-use Rattle.assembly_core.specs.Labels.{node_numbered, nodes_at, map_tree}
+use Rattle.assembly_core.specs.Labels.{node_numbered, nodes_at}
 use Rattle.assembly_core.specs.Homes.{IsHome, AreHomes, classes_at}
 use Rattle.assembly_core.specs.Laws.{AreValid, IsNodeTree}
 use Rattle.assembly_core.proofs.Agreement.{nodes-agree}
@@ -42,7 +42,7 @@ use Rattle.family_core.proofs.Named.{named}
 use Rattle.policy_core.specs.declared.parts.Station.{Station}
 use Rattle.policy_core.specs.declared.parts.Class.{Class}
 use Rattle.policy_core.specs.Numbering.{nodes_from, address_at}
-use Rattle.policy_core.specs.Parts.{resolved, tree_of, node_of, station_at, no_station, class_in, told, HaveLeaves, HaveStations, HasCatchAll, most_classes}
+use Rattle.policy_core.specs.Parts.{resolved, tree_of, node_of, station_at, no_station, class_in, HaveLeaves, HaveStations, HasCatchAll, most_classes}
 use Rattle.policy_core.specs.Made.{Made, made, made_of, nodes_told}
 use Rattle.policy_core.proofs.FewClasses.{few-classes, catch-all}
 use Rattle.policy_core.proofs.Numbers.{address_at-topology, topology_of-nodes}
@@ -62,7 +62,6 @@ homes-count es rows ms homes = zip-length es rows (declared class_name es) ms ho
 module _ (es : List Entry) (accepted : AreAccepted es) (tree : Numbered) (below : IsTreeBelow (graph_of es) (place (declared node_name es) root) tree)
     (ss : List Station) (ps : List Program) (stations : nodes_told ps ss ≡ nodes_in es) (ns : List ℕ) (homes : AreHomes es tree.rows ns)
     (cs : List Class) (classes : map made cs ≡ made_of (classes_in es) ns) where
-
   at-place : (i : ℕ) → i < length (nodes_in es) → node_of ps (station_at ss i) ≡ node_numbered es i
   at-place i within =
       let there : i < length ss = omega (arith, within, ap length stations, length-map (node_of ps) ss) in
@@ -134,7 +133,7 @@ module _ (es : List Entry) (accepted : AreAccepted es) (tree : Numbered) (below 
         root_is = ap (λ (u : Tree Node). (root_of u).name) tree-made ∙ t.root_is;
         tree = subst (λ (u : Tree Node). IsTreeIn es u) (sym tree-made) t.tree;
         classes = subst (λ (u : Tree Node). AreClassesOf es u (classes_in es) (map (class_in u) cs)) (sym tree-made)
-          (subst (λ (all : List Aimed). AreClassesOf es (nodes_at es below.tree) (classes_in es) all) (sym classes-made) (classes-of es below.tree ns below.is_tree homes-below));
+            (subst (λ (all : List Aimed). AreClassesOf es (nodes_at es below.tree) (classes_in es) all) (sym classes-made) (classes-of es below.tree ns below.is_tree homes-below));
         conditions = conditions-made;
       }
 

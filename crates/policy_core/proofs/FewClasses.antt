@@ -1,17 +1,15 @@
 -- How many classes accepted statements declare, and what the last of them is.
-use Rattle.std.proofs.Common.{◌≡◌, ◌≢◌, ◌<◌, ◌≤◌, ◌+◌, ℕ, zero, suc, Bool, true, false, true≢false, List, [], ◌∷◌, ◌++◌, refl, sym, ap, subst, ◌∙◌, length, map, take, get_or, append-nil, append_assoc, length-append, arith}
-use Rattle.std.specs.Prelude.{filter_map}
+use Rattle.std.proofs.Common.{◌≡◌, ◌≢◌, ◌≤◌, ◌+◌, ℕ, zero, suc, Bool, true, false, true≢false, List, [], ◌∷◌, ◌++◌, refl, sym, ap, subst, ◌∙◌, length, map, take, get_or, append-nil, append_assoc, length-append, arith}
 use Rattle.std.specs.List.{cons_option}
 use Rattle.std.proofs.lemmas.Bool.{false_from_ne_true, eqb-false}
 use Rattle.std.proofs.lemmas.List.{take_more}
 use Rattle.std.proofs.lemmas.List.Elements.{filter_map-append}
-use Rattle.policy_text_defs.specs.declared.attribute.Attrs.{Attrs}
 use Rattle.policy_text_defs.specs.declared.condition.Condition.{Condition}
 use Rattle.policy_text_defs.specs.Sense.{Sense, Entry, version, transaction, keep, each, push, pop, class, leaf, node}
-use Rattle.resolve_defs.specs.Names.{Name, declared, class_name, before}
+use Rattle.resolve_defs.specs.Names.{Name, declared, class_name}
 use Rattle.resolve_defs.specs.Entries.{AreRising}
 use Rattle.resolve_defs.specs.Clauses.{NoLine, IsBeyond, is_beyond, most_classes, has_catch_all, has_catch_all_behind}
-use Rattle.resolve_defs.specs.Resolved.{Declared, class_in, classes_in}
+use Rattle.resolve_defs.specs.Resolved.{Declared, classes_in}
 use Rattle.declaration_core.proofs.Earlier.{before-take}
 use Rattle.policy_core.specs.Parts.{HasCatchAll}
 
@@ -44,9 +42,9 @@ few-front es rising fine (suc i) l =
     let e : Entry = get_or es i no-entry in
     let next : suc i ≡ i + 1 = omega arith in
     let more : declared class_name (take (suc i) es) ≡ declared class_name (take i es) ++ cons_option (class_name e.1) [] =
-        ap (λ k. declared class_name (take k es)) next ∙ ap (declared class_name) (take_more es i no-entry (omega arith)) ∙ filter_map-append (λ (f : Entry). class_name f.1) (take i es) (e ∷ []) in
+    ap (λ k. declared class_name (take k es)) next ∙ ap (declared class_name) (take_more es i no-entry (omega arith)) ∙ filter_map-append (λ (f : Entry). class_name f.1) (take i es) (e ∷ []) in
     let room : is_beyond (take i es) e.1 ≡ false =
-        subst (λ (ls : List Entry). is_beyond ls e.1 ≡ false) (before-take es i no-entry rising (omega arith)) (false_from_ne_true _ (fine i no-entry (omega arith))) in
+    subst (λ (ls : List Entry). is_beyond ls e.1 ≡ false) (before-take es i no-entry rising (omega arith)) (false_from_ne_true _ (fine i no-entry (omega arith))) in
     subst (λ (ns : List Name). length ns ≤ most_classes) (sym more) (one-more (take i es) e.1 room (few-front es rising fine i (omega arith)))
 
 names-classes : (es : List Entry) → length (classes_in es) ≡ length (declared class_name es)

@@ -8,3 +8,4 @@ pub mod Passing
 pub mod Making
 pub mod FewClasses
 pub mod Assembled
+pub mod Written

@@ -1,5 +1,5 @@
 -- Classes that are made of statements, one by one.
-use Rattle.std.proofs.Common.{◌≡◌, ◌<◌, ◌+◌, ℕ, suc, List, [], ◌∷◌, ◌++◌, Some, None, refl, sym, ap, ◌∙◌, length, map, take, get_or, slice_index, append-nil, length-append, arith}
+use Rattle.std.proofs.Common.{◌≡◌, ◌<◌, ◌+◌, ℕ, List, [], ◌∷◌, ◌++◌, Some, None, refl, sym, ap, ◌∙◌, length, map, take, get_or, slice_index, append-nil, length-append, arith}
 use Rattle.std.specs.List.{cons_option}
 use Rattle.policy_text_defs.specs.declared.attribute.Attrs.{Attrs}
 use Rattle.policy_text_defs.specs.declared.condition.Condition.{Condition}
@@ -42,9 +42,9 @@ class-more lines i l n a cs leaves old new c k within is class len before more t
     let place : k ≡ length ds = at ∙ before.counted in
     record {
       made_so_far = ap (map made) more ∙ map-more made old c ∙ ap (λ all. all ++ made c ∷ []) before.made_so_far
-        ∙ ap (λ m. made_of ds leaves ++ m ∷ []) (this ∙ ap (λ j. made_with d (slice_index leaves j)) place)
-        ∙ sym (made_of-more ds d leaves (omega (arith, few, len)))
-        ∙ ap (λ all. made_of all leaves) (sym given);
+          ∙ ap (λ m. made_of ds leaves ++ m ∷ []) (this ∙ ap (λ j. made_with d (slice_index leaves j)) place)
+          ∙ sym (made_of-more ds d leaves (omega (arith, few, len)))
+          ∙ ap (λ all. made_of all leaves) (sym given);
       counted = ap length more ∙ length-append old (c ∷ []) ∙ ap (λ j. j + 1) before.counted ∙ sym (length-append ds (d ∷ [])) ∙ ap length (sym given);
     }
 
@@ -52,7 +52,7 @@ pub class-same : (lines : List (ℕ × Statement)) (i : ℕ) (l : ℕ × Stateme
     → i < length lines → l ≡ get_or lines i l → class_in (sense_of l.1) ≡ None → AreMade lines i leaves old → new ≡ old → AreMade lines (i + 1) leaves new
 class-same lines i l leaves old new within is none before same =
     let given : classes_in (entries_of (take (i + 1) lines)) ≡ classes_in (entries_of (take i lines)) =
-        given-more class_in lines i l within is ∙ ap (λ o. classes_in (entries_of (take i lines)) ++ cons_option o []) none ∙ append-nil (classes_in (entries_of (take i lines))) in
+    given-more class_in lines i l within is ∙ ap (λ o. classes_in (entries_of (take i lines)) ++ cons_option o []) none ∙ append-nil (classes_in (entries_of (take i lines))) in
     record {
       made_so_far = ap (map made) same ∙ before.made_so_far ∙ ap (λ all. made_of all leaves) (sym given);
       counted = ap length same ∙ before.counted ∙ ap length (sym given);

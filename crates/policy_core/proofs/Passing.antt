@@ -7,15 +7,10 @@ use Rattle.std.proofs.lemmas.List.Elements.{filter_map-append}
 use Rattle.policy_text_defs.specs.declared.statement.Statement.{Statement}
 use Rattle.policy_text_defs.specs.Sense.{Sense, Entry, entry, sense_of}
 use Rattle.resolve_defs.specs.Entries.{entries_of}
-use Rattle.resolve_defs.specs.Graph.{node_in}
-use Rattle.binding_core.specs.Known.{known_programs}
 use Rattle.names_core.proofs.Texts.{map-append, length-map}
 use Rattle.resolve_defs.specs.Names.{before}
 use Rattle.resolve_defs.specs.Clauses.{NoLine, IsUnknown, is_known}
 use Rattle.assembly_core.proofs.Accepting.{known-at}
-use Rattle.policy_core.specs.declared.parts.Station.{Station}
-use Rattle.policy_core.specs.Made.{nodes_told, AreMore}
-use Rattle.policy_core.specs.Parts.{HavePrograms}
 
 -- a line as an entry
 abbrev entry_of : ℕ × Statement → Entry
@@ -52,9 +47,9 @@ pub given-within : {X : Type 0} (f : Sense → Option X) (lines : List (ℕ × S
 given-within f lines i l x within is some =
     let g : Entry → Option _ = λ (e : Entry). f e.1 in
     let all : filter_map g (entries_of lines) ≡ filter_map g (entries_of (take (i + 1) lines)) ++ filter_map g (entries_of (drop (i + 1) lines)) =
-        ap (λ ls. filter_map g (entries_of ls)) (sym (take-append-drop (i + 1) lines))
-        ∙ ap (filter_map g) (map-append entry_of (take (i + 1) lines) (drop (i + 1) lines))
-        ∙ filter_map-append g (entries_of (take (i + 1) lines)) (entries_of (drop (i + 1) lines)) in
+    ap (λ ls. filter_map g (entries_of ls)) (sym (take-append-drop (i + 1) lines))
+    ∙ ap (filter_map g) (map-append entry_of (take (i + 1) lines) (drop (i + 1) lines))
+    ∙ filter_map-append g (entries_of (take (i + 1) lines)) (entries_of (drop (i + 1) lines)) in
     let more : filter_map g (entries_of (take (i + 1) lines)) ≡ filter_map g (entries_of (take i lines)) ++ x ∷ [] =
-        given-more f lines i l within is ∙ ap (λ o. filter_map g (entries_of (take i lines)) ++ cons_option o []) some in
+    given-more f lines i l within is ∙ ap (λ o. filter_map g (entries_of (take i lines)) ++ cons_option o []) some in
     omega (arith, ap length all, ap length more, length-append (filter_map g (entries_of (take (i + 1) lines))) (filter_map g (entries_of (drop (i + 1) lines))), length-append (filter_map g (entries_of (take i lines))) (x ∷ []))

@@ -1,8 +1,7 @@
 -- The program at the place that a name has.
-use Rattle.std.proofs.Common.{◌≡◌, ◌<◌, ℕ, zero, suc, Bool, true, false, true≢false, Option, Some, None, List, [], ◌∷◌, refl, sym, ap, subst, ◌∙◌, length, slice_index_or, arith}
+use Rattle.std.proofs.Common.{◌≡◌, ◌<◌, ℕ, zero, suc, true, true≢false, Option, Some, None, List, [], ◌∷◌, sym, ◌∙◌, length, slice_index_or, arith}
 use Rattle.std.specs.Prelude.{slice_get, is_some, unwrap_or}
 use Rattle.std.specs.Option.{option_and_then}
-use Rattle.rank_defs.specs.Programs.{Program}
 use Rattle.rank_defs.specs.Builtins.{fifo}
 use Rattle.policy_text_defs.specs.Sense.{Entry}
 use Rattle.resolve_defs.specs.Names.{Name}

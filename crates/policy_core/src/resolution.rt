@@ -49,6 +49,23 @@ fn assemble(
     Ok(Policy::new(tree, stations, programs, classes))
 }
 
+/// The policy that statements give, or the first clause that they fail.
+fn accept(alloc: Global, lines: &[(u32, Statement)]) -> Result<Policy, PolicyFault>
+    requires rising { AreRising (entries_of lines.now) }
+    requires valid { AreValid (entries_of lines.now) }
+    ensures accepts { OnOk result (AreAccepted (entries_of lines.now)) }
+    ensures policy { IfOk result (IsResolved (entries_of lines.now)) }
+    ensures refuses { IfErr result (IsFault (entries_of lines.now)) }
+{
+    let spaces = declarations(alloc, lines)?;
+    let programs = checked_transactions(alloc, lines)?;
+    check_parents(alloc, lines)?;
+    let graph = graph(alloc, lines, &spaces.nodes)?;
+    check_family(alloc, lines, &spaces.nodes, graph.as_slice())?;
+    check_leaves(alloc, lines)?;
+    Ok(assemble(alloc, lines, &spaces, programs, graph.as_slice())?)
+}
+
 /// The policy that statements give, or the first clause that they fail, with its least line. Names may be used before the
 /// line that declares them. The work grows with the text: names are looked up in maps.
 pub fn resolve(alloc: Global, lines: &Lines) -> Result<Policy, PolicyFault>
@@ -56,12 +73,5 @@ pub fn resolve(alloc: Global, lines: &Lines) -> Result<Policy, PolicyFault>
     ensures policy { IfOk result (IsResolved (entries_of lines.now.held)) }
     ensures refuses { IfErr result (IsFault (entries_of lines.now.held)) }
 {
-    let entries = lines.entries();
-    let spaces = declarations(alloc, entries)?;
-    let programs = checked_transactions(alloc, entries)?;
-    check_parents(alloc, entries)?;
-    let graph = graph(alloc, entries, &spaces.nodes)?;
-    check_family(alloc, entries, &spaces.nodes, graph.as_slice())?;
-    check_leaves(alloc, entries)?;
-    Ok(assemble(alloc, entries, &spaces, programs, graph.as_slice())?)
+    accept(alloc, lines.entries())
 }

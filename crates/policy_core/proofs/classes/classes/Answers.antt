@@ -1,10 +1,6 @@
-use Rattle.std.proofs.Common.{◌≡◌, ◌<◌, ◌∙◌, ◌++◌, ◌∷◌, ℕ, Some, ap, sym, subst, List, [], length, map, take, slice_index, append-nil, length-append, arith}
-use Rattle.std.specs.List.{cons_option}
+use Rattle.std.proofs.Common.{◌∙◌, ap, List, slice_index, arith}
 use Rattle.policy_text_defs.specs.Sense.{sense_of}
-use Rattle.resolve_defs.specs.Entries.{entries_of}
-use Rattle.resolve_defs.specs.Resolved.{Declared, class_in, classes_in, marks_of}
-use Rattle.policy_core.specs.declared.parts.Class.{Class}
-use Rattle.policy_core.specs.Made.{Made, made, made_of}
+use Rattle.resolve_defs.specs.Resolved.{class_in, marks_of}
 use Rattle.policy_core.proofs.Passing.{given-within}
 use Rattle.policy_core.proofs.Making.{class-more, class-same, no-class}
 use Rattle.policy_text_defs.specs.declared.condition.Condition.{Condition}

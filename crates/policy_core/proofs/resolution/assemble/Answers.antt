@@ -1,22 +1,15 @@
-use Rattle.std.proofs.Common.{◌≡◌, ◌<◌, ◌∙◌, ℕ, List, ap, sym, subst, length, arith}
-use Rattle.policy_defs.specs.Accepted.{IsAccepted}
-use Rattle.policy_defs.specs.Policy.{Node}
+use Rattle.std.proofs.Common.{◌≡◌, ◌∙◌, ℕ, List, ap, sym, subst, length, arith}
 use Rattle.rank_defs.specs.Programs.{Program}
 use Rattle.resolve_defs.specs.Entries.{entries_of}
 use Rattle.resolve_defs.specs.Graph.{graph_of, nodes_in}
-use Rattle.resolve_defs.specs.Names.{declared, node_name}
-use Rattle.resolve_defs.specs.Clauses.{root}
-use Rattle.resolve_defs.specs.Programs.{place}
-use Rattle.resolve_defs.specs.Resolved.{Resolved, IsResolved, classes_in}
+use Rattle.resolve_defs.specs.Resolved.{Resolved, IsResolved}
 use Rattle.lineage_core.specs.Descent.{Graph, lists, IsForest, IsDeep}
 use Rattle.lineage_core.specs.Preorder.{Numbered, IsSound}
 use Rattle.names_core.proofs.Texts.{length-map}
-use Rattle.binding_core.specs.Known.{known_programs}
 use Rattle.binding_core.proofs.Known.{shaped_known}
 use Rattle.family_core.proofs.Verdicts.{is-forest, is-shallow}
 use Rattle.assembly_core.specs.Homes.{AreHomes}
-use Rattle.policy_core.specs.Parts.{resolved}
-use Rattle.policy_core.specs.Made.{Made, made, made_of, nodes_told}
+use Rattle.policy_core.specs.Made.{nodes_told}
 use Rattle.policy_core.proofs.Assembled.{root-is, root-small, graph-small, homes-count, below-is, leaves-there, few-made, catch-all-made, stations-there, accepted-made, resolved-made}
 use Rattle.policy_core.proofs.resolution.assemble.Goals as goal
 
@@ -46,7 +39,7 @@ new-requires-clause-small c =
 pub classes-requires : goal.classes-requires
 classes-requires c = record {
   len = homes-count (entries_of c.args.lines.now) c.in_ok-tree.tree.rows c.as_slice.result.now
-    (subst (λ (ns : List ℕ). AreHomes (entries_of c.args.lines.now) c.in_ok-tree.tree.rows ns) (sym c.as_slice.ensures.value) c.in_ok-leaves.ensures.homes);
+      (subst (λ (ns : List ℕ). AreHomes (entries_of c.args.lines.now) c.in_ok-tree.tree.rows ns) (sym c.as_slice.ensures.value) c.in_ok-leaves.ensures.homes);
 }
 
 pub new-requires-2-clause-stations : goal.new-requires-2-clause-stations

@@ -1,4 +1,4 @@
-use Rattle.std.proofs.Common.{◌≡◌, List, take}
+use Rattle.std.proofs.Common.{◌≡◌, take}
 use Rattle.std.specs.Prelude.{filter_map}
 use Rattle.resolve_defs.specs.Entries.{entries_of}
 use Rattle.resolve_defs.specs.Graph.{node_in}
