@@ -3,3 +3,9 @@ pub mod Rows
 pub mod Told
 pub mod Whole
 pub mod Samples
+pub mod Programs
+pub mod Passing
+pub mod Making
+pub mod FewClasses
+pub mod Assembled
+pub mod Written

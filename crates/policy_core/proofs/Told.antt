@@ -7,7 +7,8 @@ use Rattle.tree_defs.proofs.Shapes.{nodes-topology}
 use Rattle.lineage_core.specs.Row.{Row, row, row_at}
 use Rattle.lineage_core.specs.Preorder.{rows, rows_below}
 use Rattle.lineage_core.proofs.Growing.{length-rows}
-use Rattle.policy_core.specs.Numbering.{nodes_from, nodes_from_below, map_tree, map_trees}
+use Rattle.policy_core.specs.Numbering.{nodes_from, nodes_from_below}
+use Rattle.assembly_core.specs.Labels.{map_tree, map_trees}
 
 -- a function of numbers agrees with one of nodes on rows, the first of which has number n
 abbrev Agrees : {Q : Type 0} → (ℕ → Q) → (ℕ → Q) → ℕ → List Row → ℕ → Type 0

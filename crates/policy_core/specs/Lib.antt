@@ -3,3 +3,4 @@ pub mod Parts
 pub mod Codes
 pub mod Laws
 pub mod Samples
+pub mod Made

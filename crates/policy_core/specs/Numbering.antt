@@ -13,16 +13,6 @@ abbrev mutual
   nodes_from_below f n none = none
   nodes_from_below f n (more t ts) = more (nodes_from f n t) (nodes_from_below f (n + nodes t) ts)
 
--- a tree of the same shape, with at each node what a function gives for what stands there
-abbrev mutual
-  pub map_tree : {P Q : Type 0} → (P → Q) → Tree P → Tree Q
-  map_tree f (leaf p) = leaf (f p)
-  map_tree f (inner p ts) = inner (f p) (map_trees f ts)
-
-  pub map_trees : {P Q : Type 0} → (P → Q) → Trees P → Trees Q
-  map_trees f none = none
-  map_trees f (more t ts) = more (map_tree f t) (map_trees f ts)
-
 -- the sibling below which a node stands, counted in preorder from the first sibling
 abbrev pub sibling_of : {Q : Type 0} → Trees Q → ℕ → ℕ
 sibling_of none n = 0
@@ -51,6 +41,3 @@ address_at-last_leaf = refl
 
 pub nodes_from-office : nodes_from (λ n. n) 0 office ≡ inner 0 (more (leaf 1) (more (inner 2 (more (leaf 3) (more (leaf 4) none))) none))
 nodes_from-office = refl
-
-pub map_tree-two : map_tree (λ n. n + 5) (inner 0 (more (leaf 1) none)) ≡ inner 5 (more (leaf 6) none)
-map_tree-two = refl

@@ -1,13 +1,18 @@
 //! A policy that can be run: a tree of numbered nodes, each with its transaction, and classes of packets, each with its leaf.
 #![tactic(auto)]
 
+mod classes;
 mod laws;
 mod parts;
 mod policy;
+mod resolution;
+mod stations;
 
 pub use laws::{addresses_undo_numbers, numbers_undo_addresses, rows_tell_the_tree};
 pub use parts::{Class, Marks, Station};
 pub use policy::Policy;
+pub use resolution::resolve;
+pub use resolve_defs::PolicyFault;
 
 #[cfg(test)]
 mod tests;

@@ -14,7 +14,7 @@ pub struct Marks {
 #[derive(Drop)]
 pub struct Station {
     pub name: Name,
-    pub program: u32,
+    pub program: usize,
     pub marks: Marks,
 }
 

@@ -133,7 +133,7 @@ impl Policy {
         ensures program { IsSomeAnd (node_at self.now.policy.tree (address_at self.now.policy.tree node)) (λ n. result.now ≡ n.program) }
     {
         let station = station_of(&self.tree, self.stations.as_slice(), node);
-        &self.programs.as_slice()[station.program as usize]
+        &self.programs.as_slice()[station.program]
     }
 
     /// The marks of a node or leaf.

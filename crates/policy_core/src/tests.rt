@@ -55,7 +55,7 @@ fn programs(alloc: Global) -> Result<List<Checked>, RangeFault>
     check(transactions(alloc)?)
 }
 
-fn station(alloc: Global, name: &str, program: u32, marks: Marks) -> Result<Station, AllocError>
+fn station(alloc: Global, name: &str, program: usize, marks: Marks) -> Result<Station, AllocError>
     ensures { IfOk result (λ s. s ≡ station name.now program marks) }
 {
     Ok(Station {

@@ -1,0 +1,199 @@
+-- The parts that are made of accepted statements are the parts of their policy.
+use Rattle.std.proofs.Common.{◌≡◌, ◌<◌, ◌≤◌, ℕ, suc, Option, List, [], ◌∷◌, refl, sym, ap, subst, ◌∙◌, length, map, get_or, position, arith}
+use Rattle.std.specs.Prelude.{unwrap_or}
+use Rattle.std.specs.Str.{bytes_eq}
+use Rattle.std.specs.List.{AllByRecursion, AllZip}
+use Rattle.std.proofs.lemmas.List.{get_or-map, get_or_default}
+use Rattle.tree_defs.specs.Tree.{Tree, Address, root_of, nodes, depth}
+use Rattle.tree_defs.specs.Topology.{Topology, topology_of}
+use Rattle.rank_defs.specs.Shapes.{IsShaped}
+use Rattle.rank_defs.specs.Programs.{Program}
+use Rattle.policy_text_defs.specs.declared.condition.Condition.{Condition}
+use Rattle.policy_text_defs.specs.Sense.{Entry}
+use Rattle.policy_defs.specs.Policy.{Node, Class as Aimed}
+use Rattle.policy_defs.specs.Accepted.{IsAccepted}
+use Rattle.resolve_defs.specs.Names.{Name, declared, class_name, node_name}
+use Rattle.resolve_defs.specs.Clauses.{root}
+use Rattle.resolve_defs.specs.Programs.{place, programs}
+use Rattle.resolve_defs.specs.Accepted.{AreAccepted}
+use Rattle.resolve_defs.specs.Graph.{graph_of, nodes_in}
+use Rattle.resolve_defs.specs.Resolved.{Declared, IsResolved, IsTreeIn, AreClassesOf, classes_in}
+use Rattle.tree_defs.proofs.Shapes.{nodes-topology, depth-topology}
+use Rattle.resolve_defs.specs.Entries.{AreRising}
+use Rattle.lineage_core.specs.Descent.{times}
+use Rattle.lineage_core.specs.Row.{Row, row, row_at, nodes_of}
+use Rattle.lineage_core.specs.Preorder.{Numbered, rows, IsTreeBelow, IsSound}
+use Rattle.lineage_core.proofs.Growing.{length-rows}
+use Rattle.names_core.proofs.Texts.{length-map}
+use Rattle.assembly_core.specs.Labels.{node_numbered, nodes_at}
+use Rattle.assembly_core.specs.Homes.{IsHome, AreHomes, classes_at}
+use Rattle.assembly_core.specs.Laws.{AreValid, IsNodeTree}
+use Rattle.assembly_core.proofs.Agreement.{nodes-agree}
+use Rattle.assembly_core.proofs.Classes.{classes-of, names-classes}
+use Rattle.assembly_core.proofs.Resolving.{node-tree}
+use Rattle.assembly_core.proofs.Shape.{topology-map}
+use Rattle.assembly_core.proofs.Acceptable.{acceptable}
+use Rattle.assembly_core.proofs.Accepting.{root-there}
+use Rattle.assembly_core.proofs.NamePlaces.{found, place-within}
+use Rattle.assembly_core.proofs.Passing.{length-graph}
+use Rattle.assembly_core.proofs.Homing.{length-nodes}
+use Rattle.assembly_core.proofs.Inverse.{node-within}
+use Rattle.family_core.proofs.Named.{named}
+use Rattle.policy_core.specs.declared.parts.Station.{Station}
+use Rattle.policy_core.specs.declared.parts.Class.{Class}
+use Rattle.policy_core.specs.Numbering.{nodes_from, address_at}
+use Rattle.policy_core.specs.Parts.{resolved, tree_of, node_of, station_at, no_station, class_in, HaveLeaves, HaveStations, HasCatchAll, most_classes}
+use Rattle.policy_core.specs.Made.{Made, made, made_of, nodes_told}
+use Rattle.policy_core.proofs.FewClasses.{few-classes, catch-all}
+use Rattle.policy_core.proofs.Numbers.{address_at-topology, topology_of-nodes}
+use Rattle.policy_core.proofs.Rows.{row-numbered}
+use Rattle.policy_core.proofs.Told.{rows-told}
+
+zip-length : (es : List Entry) (rows : List Row) (names : List Name) (ms : List ℕ) → AllZip (IsHome es rows) names ms → length ms ≡ length names
+zip-length es rows [] [] h = refl
+zip-length es rows [] (m ∷ ms) h = absurd h
+zip-length es rows (n ∷ names) [] h = absurd h
+zip-length es rows (n ∷ names) (m ∷ ms) h = ap suc (zip-length es rows names ms h.1)
+
+-- as many leaves as classes
+pub homes-count : (es : List Entry) (rows : List Row) (ms : List ℕ) → AreHomes es rows ms → length ms ≡ length (classes_in es)
+homes-count es rows ms homes = zip-length es rows (declared class_name es) ms homes ∙ ap length (sym (names-classes es)) ∙ length-map (λ (d : Declared). d.name) (classes_in es)
+
+module _ (es : List Entry) (accepted : AreAccepted es) (tree : Numbered) (below : IsTreeBelow (graph_of es) (place (declared node_name es) root) tree)
+    (ss : List Station) (ps : List Program) (stations : nodes_told ps ss ≡ nodes_in es) (ns : List ℕ) (homes : AreHomes es tree.rows ns)
+    (cs : List Class) (classes : map made cs ≡ made_of (classes_in es) ns) where
+  at-place : (i : ℕ) → i < length (nodes_in es) → node_of ps (station_at ss i) ≡ node_numbered es i
+  at-place i within =
+      let there : i < length ss = omega (arith, within, ap length stations, length-map (node_of ps) ss) in
+      sym (get_or-map (node_of ps) ss i no_station (node_numbered es i) there)
+      ∙ ap (λ (all : List Node). get_or all i (node_numbered es i)) stations
+      ∙ get_or_default (nodes_in es) i _ _ within
+
+  -- the tree
+  pub tree-made : tree_of tree ss ps ≡ nodes_at es below.tree
+  tree-made =
+      ap (λ (all : List Row). nodes_from (λ n. node_of ps (station_at ss (row_at all n).node)) 0 tree.topology) below.numbered.rows_are
+      ∙ ap (λ (u : Topology). nodes_from (λ n. node_of ps (station_at ss (row_at (rows 0 [] below.tree) n).node)) 0 u) below.numbered.topology_is
+      ∙ rows-told (λ i. node_of ps (station_at ss i)) below.tree
+      ∙ nodes-agree es below.tree (λ i. node_of ps (station_at ss i)) accepted below.is_tree below.root_is at-place
+
+  homes-below : AreHomes es (rows 0 [] below.tree) ns
+  homes-below = subst (λ (all : List Row). AreHomes es all ns) below.numbered.rows_are homes
+
+  -- the row of a number has the address of the number
+  address-there : (k : ℕ) → k < length (rows 0 [] below.tree) → address_at (nodes_at es below.tree) k ≡ (row_at (rows 0 [] below.tree) k).address
+  address-there k within =
+      sym (address_at-topology (nodes_at es below.tree) k)
+      ∙ ap (λ (u : Topology). address_at u k) (topology-map (node_numbered es) below.tree)
+      ∙ address_at-topology below.tree k
+      ∙ sym (row-numbered 0 [] below.tree k (omega (arith, within, length-rows 0 [] below.tree))).address
+
+  -- the classes, each with the address of its leaf
+  abbrev aimed : Made → Aimed
+  aimed m = record { marks = m.marks; leaf = address_at (nodes_at es below.tree) m.leaf }
+
+  aimed-at : (ds : List Declared) (ms : List ℕ) → AllZip (IsHome es (rows 0 [] below.tree)) (map (λ (d : Declared). d.name) ds) ms → map aimed (made_of ds ms) ≡ classes_at (rows 0 [] below.tree) ds ms
+  aimed-at [] [] h = refl
+  aimed-at [] (m ∷ ms) h = absurd h
+  aimed-at (d ∷ ds) [] h = absurd h
+  aimed-at (d ∷ ds) (m ∷ ms) h =
+      ap (λ (a : Address). record { marks = d.marks; leaf = a } ∷ map aimed (made_of ds ms)) (address-there m h.0.within)
+      ∙ ap (λ (all : List Aimed). record { marks = d.marks; leaf = (row_at (rows 0 [] below.tree) m).address } ∷ all) (aimed-at ds ms h.1)
+
+  map-made : (all : List Class) → map (class_in (nodes_at es below.tree)) all ≡ map aimed (map made all)
+  map-made [] = refl
+  map-made (c ∷ all) = ap (λ (rest : List Aimed). class_in (nodes_at es below.tree) c ∷ rest) (map-made all)
+
+  pub classes-made : map (class_in (nodes_at es below.tree)) cs ≡ classes_at (rows 0 [] below.tree) (classes_in es) ns
+  classes-made =
+      map-made cs ∙ ap (map aimed) classes
+      ∙ aimed-at (classes_in es) ns (subst (λ (names : List Name). AllZip (IsHome es (rows 0 [] below.tree)) names ns) (sym (names-classes es)) homes-below)
+
+  -- the conditions
+  told-of : (ds : List Declared) (ms : List ℕ) → length ms ≡ length ds → map (λ (m : Made). m.conditions) (made_of ds ms) ≡ map (λ (d : Declared). d.conditions) ds
+  told-of [] ms same = refl
+  told-of (d ∷ ds) [] same = absurd (omega arith)
+  told-of (d ∷ ds) (m ∷ ms) same = ap (λ (rest : List (List Condition)). d.conditions ∷ rest) (told-of ds ms (omega arith))
+
+  conditions-of : (all : List Class) → map (λ (c : Class). c.conditions) all ≡ map (λ (m : Made). m.conditions) (map made all)
+  conditions-of [] = refl
+  conditions-of (c ∷ all) = ap (λ (rest : List (List Condition)). c.conditions ∷ rest) (conditions-of all)
+
+  leaves-count : length ns ≡ length (classes_in es)
+  leaves-count = homes-count es tree.rows ns homes
+
+  pub conditions-made : map (λ (c : Class). c.conditions) cs ≡ map (λ (d : Declared). d.conditions) (classes_in es)
+  conditions-made = conditions-of cs ∙ ap (map (λ (m : Made). m.conditions)) classes ∙ told-of (classes_in es) ns leaves-count
+
+  -- what was made is the policy of the statements
+  pub resolved-made : AreValid es → IsResolved es (resolved tree ss ps cs)
+  resolved-made valid =
+      let t : IsNodeTree es below.tree = node-tree es below.tree accepted valid below.is_tree below.root_is in
+      record {
+        root_is = ap (λ (u : Tree Node). (root_of u).name) tree-made ∙ t.root_is;
+        tree = subst (λ (u : Tree Node). IsTreeIn es u) (sym tree-made) t.tree;
+        classes = subst (λ (u : Tree Node). AreClassesOf es u (classes_in es) (map (class_in u) cs)) (sym tree-made)
+            (subst (λ (all : List Aimed). AreClassesOf es (nodes_at es below.tree) (classes_in es) all) (sym classes-made) (classes-of es below.tree ns below.is_tree homes-below));
+        conditions = conditions-made;
+      }
+
+  -- ---- the conditions under which a policy may be made of them
+  home-leaves : (ds : List Declared) (names : List Name) (ms : List ℕ) → AllZip (IsHome es tree.rows) names ms → AllByRecursion (λ (m : Made). m.leaf < length tree.rows) (made_of ds ms)
+  home-leaves [] names ms h = tt
+  home-leaves (d ∷ ds) names [] h = tt
+  home-leaves (d ∷ ds) [] (m ∷ ms) h = absurd h
+  home-leaves (d ∷ ds) (n ∷ names) (m ∷ ms) h = (h.0.within, home-leaves ds names ms h.1)
+
+  leaves-back : (all : List Class) → AllByRecursion (λ (m : Made). m.leaf < length tree.rows) (map made all) → AllByRecursion (λ (c : Class). c.leaf < length tree.rows) all
+  leaves-back [] h = tt
+  leaves-back (c ∷ all) h = (h.0, leaves-back all h.1)
+
+  pub leaves-there : HaveLeaves tree cs
+  leaves-there = leaves-back cs (subst (λ (all : List Made). AllByRecursion (λ (m : Made). m.leaf < length tree.rows) all) (sym classes) (home-leaves (classes_in es) (declared class_name es) ns homes))
+
+  made-count : (ds : List Declared) (ms : List ℕ) → length ms ≡ length ds → length (made_of ds ms) ≡ length ds
+  made-count [] ms same = refl
+  made-count (d ∷ ds) [] same = absurd (omega arith)
+  made-count (d ∷ ds) (m ∷ ms) same = ap suc (made-count ds ms (omega arith))
+
+  pub few-made : AreRising es → length cs ≤ most_classes
+  few-made rising =
+      (let few : length (classes_in es) ≤ most_classes = few-classes es rising accepted.0.0.0.0.0.0.0.1 in
+      omega (arith, few, length-map made cs, ap length classes, made-count (classes_in es) ns leaves-count))
+
+  pub catch-all-made : HasCatchAll (map (λ (c : Class). c.conditions) cs)
+  catch-all-made = subst (λ (all : List (List Condition)). HasCatchAll all) (sym conditions-made) (catch-all es accepted.1)
+
+  each-of : {X : Type 0} (P : X → Type 0) (xs : List X) (d : X) → ((k : ℕ) → k < length xs → P (get_or xs k d)) → AllByRecursion P xs
+  each-of P [] d h = tt
+  each-of P (x ∷ xs) d h = (h 0 (omega arith), each-of P xs d (λ k l. h (suc k) (omega arith)))
+
+  pub stations-there : length tree.rows ≡ length (graph_of es) → ((a : ℕ) → a < length tree.rows → times a (nodes_of tree.rows) ≡ 1) → HaveStations tree ss
+  stations-there count once =
+      each-of (λ (r : Row). r.node < length ss) tree.rows (row 0 [] [])
+      (λ k l. (let within : (row_at tree.rows k).node < length tree.rows = node-within tree.rows k once l in omega (arith, within, count, length-nodes es, ap length stations, length-map (node_of ps) ss)))
+
+  topology-made : topology_of (tree_of tree ss ps) ≡ tree.topology
+  topology-made = topology_of-nodes _ 0 tree.topology
+
+  pub accepted-made : AreRising es → AreValid es → AllByRecursion IsShaped (programs es) → IsSound tree.rows tree.topology → IsAccepted (resolved tree ss ps cs).policy
+  accepted-made rising valid shaped sound =
+      let made_topology : topology_of (tree_of tree ss ps) ≡ topology_of sound.tree = topology-made ∙ sound.numbered.topology_is in
+      acceptable es (resolved tree ss ps cs) accepted valid shaped (resolved-made valid)
+      (omega (arith, sound.levels, depth-topology (tree_of tree ss ps), ap (λ (u : Topology). depth u) made_topology, depth-topology sound.tree))
+      (omega (arith, sound.few, nodes-topology (tree_of tree ss ps), ap (λ (u : Topology). nodes u) made_topology, nodes-topology sound.tree))
+
+-- the place of the root
+pub root-is : (es : List Entry) (nodes : List Name) (r : Option ℕ) (n : ℕ) → AreAccepted es → nodes ≡ declared node_name es → r ≡ position (bytes_eq root) nodes → n ≡ unwrap_or r 0 → n ≡ place (declared node_name es) root
+root-is es nodes r n accepted names at is =
+    is ∙ ap (λ o. unwrap_or o 0) (at ∙ ap (λ (all : List Name). position (bytes_eq root) all) names ∙ found (declared node_name es) root (root-there es accepted))
+
+pub root-small : (es : List Entry) → AreRising es → AreAccepted es → place (declared node_name es) root < 4294967296
+root-small es rising accepted = omega (arith, place-within (declared node_name es) root (root-there es accepted), (named es rising accepted.0.0.0.0.0.0.0).few)
+
+pub graph-small : (es : List Entry) (g : List (List ℕ)) → AreRising es → AreAccepted es → g ≡ graph_of es → length g < 4294967296
+graph-small es g rising accepted is = omega (arith, ap length is, length-graph es, (named es rising accepted.0.0.0.0.0.0.0).few)
+
+-- the tree below the root of the graph
+pub below-is : (es : List Entry) (g : List (List ℕ)) (r : ℕ) (p : Numbered) → g ≡ graph_of es → r ≡ place (declared node_name es) root → IsTreeBelow g r p → IsTreeBelow (graph_of es) (place (declared node_name es) root) p
+below-is es g r p graph at below = subst (λ (h : List (List ℕ)). IsTreeBelow h (place (declared node_name es) root) p) graph (subst (λ (n : ℕ). IsTreeBelow g n p) at below)

@@ -1,0 +1,31 @@
+-- The program at the place that a name has.
+use Rattle.std.proofs.Common.{◌≡◌, ◌<◌, ℕ, zero, suc, true, true≢false, Option, Some, None, List, [], ◌∷◌, sym, ◌∙◌, length, slice_index_or, arith}
+use Rattle.std.specs.Prelude.{slice_get, is_some, unwrap_or}
+use Rattle.std.specs.Option.{option_and_then}
+use Rattle.rank_defs.specs.Builtins.{fifo}
+use Rattle.policy_text_defs.specs.Sense.{Entry}
+use Rattle.resolve_defs.specs.Names.{Name}
+use Rattle.resolve_defs.specs.Clauses.{is_transaction_known}
+use Rattle.resolve_defs.specs.Programs.{program_named}
+use Rattle.binding_core.specs.Known.{known_programs}
+use Rattle.assembly_core.proofs.Programs.{program-there}
+use Rattle.policy_core.specs.Made.{IsPlaceOf}
+use Rattle.policy_core.specs.Parts.{no_program}
+
+-- what is got stands there
+record IsGot {X : Type 0} (xs : List X) (i : ℕ) (d x : X) : Type 0 where
+  within : i < length xs
+  there : slice_index_or xs i d ≡ x
+
+got : {X : Type 0} (xs : List X) (i : ℕ) (d x : X) → slice_get xs i ≡ Some x → IsGot xs i d x
+got [] i d x h = absurd cc
+got (y ∷ ys) zero d x h = record { within = omega arith; there = (let e : y ≡ x = cc in e) }
+got (y ∷ ys) (suc i) d x h = (let rest : IsGot ys i d x = got ys i d x h in record { within = omega (arith, rest.within); there = rest.there })
+
+-- a place that is told gives the program of a name that is known
+pub place-of : (es : List Entry) (used : Name) (r : Option ℕ) → option_and_then (λ place. slice_get (known_programs es) place) r ≡ program_named es used → is_some r ≡ true → is_transaction_known es used ≡ true
+    → IsPlaceOf es used (unwrap_or r 0)
+place-of es used None at some known = absurd (true≢false (sym some))
+place-of es used (Some place) at some known =
+    let here : IsGot (known_programs es) place no_program (unwrap_or (program_named es used) fifo) = got (known_programs es) place no_program (unwrap_or (program_named es used) fifo) (at ∙ program-there es used known) in
+    record { within = here.within; program_is = here.there }

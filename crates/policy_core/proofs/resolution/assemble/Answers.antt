@@ -1,0 +1,107 @@
+use Rattle.std.proofs.Common.{◌≡◌, ◌∙◌, ℕ, List, ap, sym, subst, length, arith}
+use Rattle.rank_defs.specs.Programs.{Program}
+use Rattle.resolve_defs.specs.Entries.{entries_of}
+use Rattle.resolve_defs.specs.Graph.{graph_of, nodes_in}
+use Rattle.resolve_defs.specs.Resolved.{Resolved, IsResolved}
+use Rattle.lineage_core.specs.Descent.{Graph, lists, IsForest, IsDeep}
+use Rattle.lineage_core.specs.Preorder.{Numbered, IsSound}
+use Rattle.names_core.proofs.Texts.{length-map}
+use Rattle.binding_core.proofs.Known.{shaped_known}
+use Rattle.family_core.proofs.Verdicts.{is-forest, is-shallow}
+use Rattle.assembly_core.specs.Homes.{AreHomes}
+use Rattle.policy_core.specs.Made.{nodes_told}
+use Rattle.policy_core.proofs.Assembled.{root-is, root-small, graph-small, homes-count, below-is, leaves-there, few-made, catch-all-made, stations-there, accepted-made, resolved-made}
+use Rattle.policy_core.proofs.resolution.assemble.Goals as goal
+
+pub overflow_cast-root : goal.overflow_cast-root
+overflow_cast-root c =
+    let es = entries_of c.args.lines.now in
+    omega (arith, root-small es c.requires.rising c.requires.accepted, root-is es c.args.spaces.now.nodes c.place.result c.unwrap_or-root.result c.requires.accepted c.requires.spaces.nodes_are c.place.ensures c.unwrap_or-root.ensures)
+
+pub new-requires-clause-forest : goal.new-requires-clause-forest
+new-requires-clause-forest c =
+    let es = entries_of c.args.lines.now in
+    subst (λ (g : Graph). IsForest g c.unwrap_or-root.result) (sym c.requires.graph)
+    (subst (λ (r : ℕ). IsForest (graph_of es) r) (sym (root-is es c.args.spaces.now.nodes c.place.result c.unwrap_or-root.result c.requires.accepted c.requires.spaces.nodes_are c.place.ensures c.unwrap_or-root.ensures))
+    (is-forest es c.requires.rising c.requires.accepted.0.0.0))
+
+pub new-requires-clause-shallow : goal.new-requires-clause-shallow
+new-requires-clause-shallow c = λ a _ deep.
+    let es = entries_of c.args.lines.now in
+    is-shallow es c.requires.rising c.requires.accepted.0.0 a
+    (subst (λ (r : ℕ). IsDeep (graph_of es) r a) (root-is es c.args.spaces.now.nodes c.place.result c.unwrap_or-root.result c.requires.accepted c.requires.spaces.nodes_are c.place.ensures c.unwrap_or-root.ensures)
+    (subst (λ (g : Graph). IsDeep g c.unwrap_or-root.result a) c.requires.graph deep))
+
+pub new-requires-clause-small : goal.new-requires-clause-small
+new-requires-clause-small c =
+    omega (arith, graph-small (entries_of c.args.lines.now) (lists c.args.graph.now) c.requires.rising c.requires.accepted c.requires.graph, length-map (λ v. v.items) c.args.graph.now)
+
+pub classes-requires : goal.classes-requires
+classes-requires c = record {
+  len = homes-count (entries_of c.args.lines.now) c.in_ok-tree.tree.rows c.as_slice.result.now
+      (subst (λ (ns : List ℕ). AreHomes (entries_of c.args.lines.now) c.in_ok-tree.tree.rows ns) (sym c.as_slice.ensures.value) c.in_ok-leaves.ensures.homes);
+}
+
+pub new-requires-2-clause-stations : goal.new-requires-2-clause-stations
+new-requires-2-clause-stations c =
+    let es = entries_of c.args.lines.now in
+    let tree = c.in_ok-tree.tree in
+    let at = root-is es c.args.spaces.now.nodes c.place.result c.unwrap_or-root.result c.requires.accepted c.requires.spaces.nodes_are c.place.ensures c.unwrap_or-root.ensures in
+    let below = below-is es (lists c.args.graph.now) c.unwrap_or-root.result tree c.requires.graph at c.in_ok-tree.ensures.tree in
+    let stations : nodes_told c.args.programs c.in_ok-stations.stations ≡ nodes_in es = subst (λ (ps : List Program). nodes_told ps c.in_ok-stations.stations ≡ nodes_in es) (sym c.requires.programs) c.in_ok-stations.ensures.nodes in
+    let homes : AreHomes es tree.rows c.as_slice.result.now = subst (λ (ns : List ℕ). AreHomes es tree.rows ns) (sym c.as_slice.ensures.value) c.in_ok-leaves.ensures.homes in
+    stations-there es c.requires.accepted tree below c.in_ok-stations.stations c.args.programs stations c.as_slice.result.now homes c.in_ok-classes.classes c.in_ok-classes.ensures.classes
+    (c.in_ok-tree.ensures.count ∙ sym (length-map (λ v. v.items) c.args.graph.now) ∙ ap length c.requires.graph)
+    (λ a l. c.in_ok-tree.ensures.once a (omega (arith, l, c.in_ok-tree.ensures.count)))
+
+pub new-requires-2-clause-leaves : goal.new-requires-2-clause-leaves
+new-requires-2-clause-leaves c =
+    let es = entries_of c.args.lines.now in
+    let tree = c.in_ok-tree.tree in
+    let at = root-is es c.args.spaces.now.nodes c.place.result c.unwrap_or-root.result c.requires.accepted c.requires.spaces.nodes_are c.place.ensures c.unwrap_or-root.ensures in
+    let below = below-is es (lists c.args.graph.now) c.unwrap_or-root.result tree c.requires.graph at c.in_ok-tree.ensures.tree in
+    let stations : nodes_told c.args.programs c.in_ok-stations.stations ≡ nodes_in es = subst (λ (ps : List Program). nodes_told ps c.in_ok-stations.stations ≡ nodes_in es) (sym c.requires.programs) c.in_ok-stations.ensures.nodes in
+    let homes : AreHomes es tree.rows c.as_slice.result.now = subst (λ (ns : List ℕ). AreHomes es tree.rows ns) (sym c.as_slice.ensures.value) c.in_ok-leaves.ensures.homes in
+    leaves-there es c.requires.accepted tree below c.in_ok-stations.stations c.args.programs stations c.as_slice.result.now homes c.in_ok-classes.classes c.in_ok-classes.ensures.classes
+
+pub new-requires-2-clause-few : goal.new-requires-2-clause-few
+new-requires-2-clause-few c =
+    let es = entries_of c.args.lines.now in
+    let tree = c.in_ok-tree.tree in
+    let at = root-is es c.args.spaces.now.nodes c.place.result c.unwrap_or-root.result c.requires.accepted c.requires.spaces.nodes_are c.place.ensures c.unwrap_or-root.ensures in
+    let below = below-is es (lists c.args.graph.now) c.unwrap_or-root.result tree c.requires.graph at c.in_ok-tree.ensures.tree in
+    let stations : nodes_told c.args.programs c.in_ok-stations.stations ≡ nodes_in es = subst (λ (ps : List Program). nodes_told ps c.in_ok-stations.stations ≡ nodes_in es) (sym c.requires.programs) c.in_ok-stations.ensures.nodes in
+    let homes : AreHomes es tree.rows c.as_slice.result.now = subst (λ (ns : List ℕ). AreHomes es tree.rows ns) (sym c.as_slice.ensures.value) c.in_ok-leaves.ensures.homes in
+    few-made es c.requires.accepted tree below c.in_ok-stations.stations c.args.programs stations c.as_slice.result.now homes c.in_ok-classes.classes c.in_ok-classes.ensures.classes c.requires.rising
+
+pub new-requires-2-clause-catch_all : goal.new-requires-2-clause-catch_all
+new-requires-2-clause-catch_all c =
+    let es = entries_of c.args.lines.now in
+    let tree = c.in_ok-tree.tree in
+    let at = root-is es c.args.spaces.now.nodes c.place.result c.unwrap_or-root.result c.requires.accepted c.requires.spaces.nodes_are c.place.ensures c.unwrap_or-root.ensures in
+    let below = below-is es (lists c.args.graph.now) c.unwrap_or-root.result tree c.requires.graph at c.in_ok-tree.ensures.tree in
+    let stations : nodes_told c.args.programs c.in_ok-stations.stations ≡ nodes_in es = subst (λ (ps : List Program). nodes_told ps c.in_ok-stations.stations ≡ nodes_in es) (sym c.requires.programs) c.in_ok-stations.ensures.nodes in
+    let homes : AreHomes es tree.rows c.as_slice.result.now = subst (λ (ns : List ℕ). AreHomes es tree.rows ns) (sym c.as_slice.ensures.value) c.in_ok-leaves.ensures.homes in
+    catch-all-made es c.requires.accepted tree below c.in_ok-stations.stations c.args.programs stations c.as_slice.result.now homes c.in_ok-classes.classes c.in_ok-classes.ensures.classes
+
+pub new-requires-2-clause-accepted : goal.new-requires-2-clause-accepted
+new-requires-2-clause-accepted c =
+    let es = entries_of c.args.lines.now in
+    let tree = c.in_ok-tree.tree in
+    let at = root-is es c.args.spaces.now.nodes c.place.result c.unwrap_or-root.result c.requires.accepted c.requires.spaces.nodes_are c.place.ensures c.unwrap_or-root.ensures in
+    let below = below-is es (lists c.args.graph.now) c.unwrap_or-root.result tree c.requires.graph at c.in_ok-tree.ensures.tree in
+    let stations : nodes_told c.args.programs c.in_ok-stations.stations ≡ nodes_in es = subst (λ (ps : List Program). nodes_told ps c.in_ok-stations.stations ≡ nodes_in es) (sym c.requires.programs) c.in_ok-stations.ensures.nodes in
+    let homes : AreHomes es tree.rows c.as_slice.result.now = subst (λ (ns : List ℕ). AreHomes es tree.rows ns) (sym c.as_slice.ensures.value) c.in_ok-leaves.ensures.homes in
+    accepted-made es c.requires.accepted tree below c.in_ok-stations.stations c.args.programs stations c.as_slice.result.now homes c.in_ok-classes.classes c.in_ok-classes.ensures.classes c.requires.rising c.requires.valid
+    (shaped_known es c.requires.rising c.requires.accepted.0.0.0.0.0.0.0 c.requires.valid).1.1.1.1.1.1
+    (subst (λ (p : Numbered). IsSound p.rows p.topology) c.tree.view_is c.tree.invariant)
+
+pub returns : goal.returns
+returns c =
+    let es = entries_of c.args.lines.now in
+    let tree = c.in_ok-tree.tree in
+    let at = root-is es c.args.spaces.now.nodes c.place.result c.unwrap_or-root.result c.requires.accepted c.requires.spaces.nodes_are c.place.ensures c.unwrap_or-root.ensures in
+    let below = below-is es (lists c.args.graph.now) c.unwrap_or-root.result tree c.requires.graph at c.in_ok-tree.ensures.tree in
+    let stations : nodes_told c.args.programs c.in_ok-stations.stations ≡ nodes_in es = subst (λ (ps : List Program). nodes_told ps c.in_ok-stations.stations ≡ nodes_in es) (sym c.requires.programs) c.in_ok-stations.ensures.nodes in
+    let homes : AreHomes es tree.rows c.as_slice.result.now = subst (λ (ns : List ℕ). AreHomes es tree.rows ns) (sym c.as_slice.ensures.value) c.in_ok-leaves.ensures.homes in
+    record { policy = subst (λ (r : Resolved). IsResolved es r) (sym c.new-2.ensures.policy) (resolved-made es c.requires.accepted tree below c.in_ok-stations.stations c.args.programs stations c.as_slice.result.now homes c.in_ok-classes.classes c.in_ok-classes.ensures.classes c.requires.valid) }

@@ -1,0 +1,51 @@
+-- What is made of statements: the stations of nodes and leaves, and the classes.
+use Rattle.std.specs.Prelude.{◌≡◌, ◌<◌, ℕ, List, [], ◌∷◌, ◌++◌, map, length, slice_index_or, unwrap_or}
+use Rattle.std.specs.List.{cons_option}
+use Rattle.rank_defs.specs.Builtins.{fifo}
+use Rattle.rank_defs.specs.Programs.{Program}
+use Rattle.policy_text_defs.specs.declared.condition.Condition.{Condition}
+use Rattle.policy_defs.specs.Policy.{Node, Marks as Told}
+use Rattle.policy_text_defs.specs.declared.attribute.Attrs.{Attrs}
+use Rattle.policy_text_defs.specs.Sense.{Sense, Entry}
+use Rattle.resolve_defs.specs.Names.{Name}
+use Rattle.resolve_defs.specs.Programs.{program_named}
+use Rattle.resolve_defs.specs.Graph.{node_in, said}
+use Rattle.resolve_defs.specs.Resolved.{Declared}
+use Rattle.binding_core.specs.Known.{known_programs}
+use Rattle.policy_core.specs.declared.parts.Station.{Station}
+use Rattle.policy_core.specs.declared.parts.Class.{Class}
+use Rattle.policy_core.specs.Parts.{told, node_of, no_program, HavePrograms}
+
+-- the nodes of stations
+abbrev pub nodes_told : List Program → List Station → List Node
+nodes_told programs stations = map (node_of programs) stations
+
+-- the place of the program that a name means
+pub record IsPlaceOf (es : List Entry) (used : Name) (place : ℕ) : Type 0 where
+  pub within : place < length (known_programs es)
+  pub program_is : slice_index_or (known_programs es) place no_program ≡ unwrap_or (program_named es used) fifo
+
+-- the station has a program, and is what is said of the node
+pub record IsStationOf (es : List Entry) (name used : Name) (a : Attrs) (s : Station) : Type 0 where
+  pub within : s.program < length (known_programs es)
+  pub node_is : node_of (known_programs es) s ≡ said es name used a
+
+-- the stations got one more, where the statement declares a node or leaf
+pub record AreMore (es : List Entry) (s : Sense) (old new : List Station) : Type 0 where
+  pub nodes : nodes_told (known_programs es) new ≡ nodes_told (known_programs es) old ++ cons_option (node_in es s) []
+  pub programs : HavePrograms new (known_programs es)
+
+-- what a class says, with the number of its leaf
+pub record Made : Type 0 where
+  pub marks : Told
+  pub conditions : List Condition
+  pub leaf : ℕ
+
+abbrev pub made : Class → Made
+made c = record { marks = told c.marks; conditions = c.conditions; leaf = c.leaf }
+
+-- classes that are declared, each with a leaf
+abbrev pub made_of : List Declared → List ℕ → List Made
+made_of [] leaves = []
+made_of (d ∷ ds) [] = []
+made_of (d ∷ ds) (n ∷ leaves) = record { marks = d.marks; conditions = d.conditions; leaf = n } ∷ made_of ds leaves

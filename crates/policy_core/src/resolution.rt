@@ -1,0 +1,77 @@
+//! The policy that statements give.
+ghost use Rattle.std.specs.Prelude.{◌≡◌, IfOk, IfErr, OnOk};
+ghost use Rattle.resolve_defs.specs.Accepted.{AreAccepted, IsFault};
+ghost use Rattle.resolve_defs.specs.Entries.{entries_of, AreRising};
+ghost use Rattle.resolve_defs.specs.Graph.{graph_of};
+ghost use Rattle.resolve_defs.specs.Resolved.{IsResolved};
+ghost use Rattle.lineage_core.specs.Descent.{lists};
+ghost use Rattle.binding_core.specs.Known.{known_programs};
+ghost use Rattle.declaration_core.specs.Kept.{AreSpaces};
+ghost use Rattle.assembly_core.specs.Laws.{AreValid};
+
+use crate::classes::classes;
+use crate::policy::Policy;
+use crate::stations::stations;
+use assembly_core::leaves;
+use binding_core::checked_transactions;
+use declaration_core::{Spaces, declarations};
+use family_core::{check_family, graph};
+use lineage_core::Preorder;
+use list_core::List;
+use listing_core::{check_leaves, check_parents};
+use policy_text::Lines;
+use policy_text_defs::Statement;
+use range_core::Checked;
+use resolve_defs::PolicyFault;
+use std::alloc::{AllocError, Global};
+
+/// Puts the parts of accepted statements together. The error is want of memory.
+fn assemble(
+    alloc: Global,
+    lines: &[(u32, Statement)],
+    spaces: &Spaces<'_>,
+    programs: List<Checked>,
+    graph: &[Vec<u32>],
+) -> Result<Policy, AllocError>
+    requires rising { AreRising (entries_of lines.now) }
+    requires valid { AreValid (entries_of lines.now) }
+    requires accepted { AreAccepted (entries_of lines.now) }
+    requires spaces { AreSpaces (entries_of lines.now) spaces.now }
+    requires programs { programs ≡ known_programs (entries_of lines.now) }
+    requires graph { lists graph.now ≡ graph_of (entries_of lines.now) }
+    ensures policy { IfOk result (IsResolved (entries_of lines.now)) }
+{
+    let root = spaces.nodes.place("root").unwrap_or(0) as u32;
+    let tree = Preorder::new(alloc, graph, root)?;
+    let stations = stations(alloc, lines, &spaces.transactions)?;
+    let leaves = leaves(alloc, lines, &spaces.classes, &tree)?;
+    let classes = classes(alloc, lines, leaves.as_slice())?;
+    Ok(Policy::new(tree, stations, programs, classes))
+}
+
+/// The policy that statements give, or the first clause that they fail.
+fn accept(alloc: Global, lines: &[(u32, Statement)]) -> Result<Policy, PolicyFault>
+    requires rising { AreRising (entries_of lines.now) }
+    requires valid { AreValid (entries_of lines.now) }
+    ensures accepts { OnOk result (AreAccepted (entries_of lines.now)) }
+    ensures policy { IfOk result (IsResolved (entries_of lines.now)) }
+    ensures refuses { IfErr result (IsFault (entries_of lines.now)) }
+{
+    let spaces = declarations(alloc, lines)?;
+    let programs = checked_transactions(alloc, lines)?;
+    check_parents(alloc, lines)?;
+    let graph = graph(alloc, lines, &spaces.nodes)?;
+    check_family(alloc, lines, &spaces.nodes, graph.as_slice())?;
+    check_leaves(alloc, lines)?;
+    Ok(assemble(alloc, lines, &spaces, programs, graph.as_slice())?)
+}
+
+/// The policy that statements give, or the first clause that they fail, with its least line. Names may be used before the
+/// line that declares them. The work grows with the text: names are looked up in maps.
+pub fn resolve(alloc: Global, lines: &Lines) -> Result<Policy, PolicyFault>
+    ensures accepts { OnOk result (AreAccepted (entries_of lines.now.held)) }
+    ensures policy { IfOk result (IsResolved (entries_of lines.now.held)) }
+    ensures refuses { IfErr result (IsFault (entries_of lines.now.held)) }
+{
+    accept(alloc, lines.entries())
+}
