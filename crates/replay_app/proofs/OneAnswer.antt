@@ -1,4 +1,4 @@
--- Words and contents have one answer, and so has a check that looks behind the grammar.
+-- Words and contents have one answer.
 use Rattle.std.proofs.Common.{◌≡◌, ◌≢◌, ◌≤◌, ℕ, List, length, refl, ap, sym, subst, ◌∙◌, arith}
 use Rattle.policy_text_defs.specs.Ranges.{most_text}
 use Rattle.policy_text_defs.specs.Canonical.{canonical_text}
@@ -37,13 +37,7 @@ one-policy-answer text after a b (accepted es h) (refused code line k) = absurd 
 one-policy-answer text after a b (refused code line h) (accepted es k) = absurd (none-refused text es code line k h)
 one-policy-answer text after a b (refused code line h) (refused d m k) = one-refusal text code line d m h k
 
-pub one-answer : HaveOneAnswer
-one-answer (replay p t c e) contents a b x y =
-    one-policy-answer (contents p) (λ es. course_answer (plain_course (inputs_of (canonical_text (senses_of es)) t c e contents))) a b x y
-one-answer (check p) contents a b x y = one-policy-answer (contents p) check_answer a b x y
-one-answer no_form contents a b x y = x ∙ sym y
-
--- ---- a check that looks behind the grammar
+-- ---- a check
 
 -- statements that are accepted aren't refused
 none-faulty : (text : List ℕ) (es fs : List Entry) (f : PolicyFault) → HasEntries text es → AreAccepted es → HasEntries text fs → f ≢ NoMemory → IsFault fs f → ⊥
@@ -57,7 +51,7 @@ one-fault-answer text es fs f g has some is has' some' is' =
     let same : es ≡ fs = Entries-one 1 _ es fs has.entries has'.entries in
     ap (λ h. policy_refusal (code_of h) (line_of h)) (one-fault fs f g some some' (subst (λ xs. IsFault xs f) same is) is')
 
--- a policy text has at most one answer of this kind
+-- a policy text has at most one answer to a check
 pub one-check-answer : (text : List ℕ) (a b : Answer) → IsCheckAnswer text a → IsCheckAnswer text b → a ≡ b
 one-check-answer text a b (text_refused code line h) (text_refused d m k) = one-refusal text code line d m h k
 one-check-answer text a b (text_refused code line h) (statements_refused fs g k some is) = absurd (none-refused text fs code line k h)
@@ -68,3 +62,10 @@ one-check-answer text a b (statements_refused es f h some is) (all_accepted fs k
 one-check-answer text a b (all_accepted es h are) (text_refused d m k) = absurd (none-refused text es d m h k)
 one-check-answer text a b (all_accepted es h are) (statements_refused fs g k some is) = absurd (none-faulty text es fs g h are k some is)
 one-check-answer text a b (all_accepted es h are) (all_accepted fs k are') = ap check_answer (Entries-one 1 _ es fs h.entries k.entries)
+
+-- ---- words and contents
+pub one-answer : HaveOneAnswer
+one-answer (replay p t c e) contents a b x y =
+    one-policy-answer (contents p) (λ es. course_answer (plain_course (inputs_of (canonical_text (senses_of es)) t c e contents))) a b x y
+one-answer (check p) contents a b x y = one-check-answer (contents p) a b x y
+one-answer no_form contents a b x y = x ∙ sym y

@@ -8,7 +8,7 @@ use Rattle.schedule_defs.specs.Script.{Course}
 use Rattle.schedule_defs.specs.Report.{course_report}
 use Rattle.policy_text_defs.specs.Canonical.{canonical_text}
 use Rattle.replay_app.specs.Answer.{Answer}
-use Rattle.replay_app.specs.Policies.{IsPolicyAnswer, check_answer, senses_of}
+use Rattle.replay_app.specs.Policies.{IsPolicyAnswer, senses_of, IsCheckAnswer}
 use Rattle.replay_app.specs.Words.{Form, replay, check, no_form}
 use Rattle.replay_app.specs.FirstPath.{Inputs, plain_course}
 
@@ -25,7 +25,7 @@ inputs_of policy t c e contents = record { policy = policy; target = contents t;
 abbrev pub IsOutput : Form → (List ℕ → List ℕ) → Answer → Type 0
 IsOutput (replay p t c e) contents a =
     IsPolicyAnswer (contents p) (λ es. course_answer (plain_course (inputs_of (canonical_text (senses_of es)) t c e contents))) a
-IsOutput (check p) contents a = IsPolicyAnswer (contents p) check_answer a
+IsOutput (check p) contents a = IsCheckAnswer (contents p) a
 IsOutput no_form contents a = a ≡ record { status = 2; text = fault_line (codes "words") 0 0 }
 
 -- reading failed, writing failed, or there was no memory

@@ -47,8 +47,8 @@ pub data IsPolicyAnswer (text : List ℕ) (after : List Entry → Answer) : Answ
 abbrev pub check_answer : List Entry → Answer
 check_answer es = record { status = 0; text = canonical_text (senses_of es) }
 
--- the answer to a check that looks behind the grammar: the text is refused, or its statements are by the first clause that they
--- fail, or they are an accepted policy
+-- the answer to a check: the text is refused, or its statements are by the first clause that they fail, or they are an
+-- accepted policy
 pub data IsCheckAnswer (text : List ℕ) : Answer → Type 0 where
   text_refused : (code line : ℕ) → IsRefused text code line → IsCheckAnswer text (policy_refusal code line)
   statements_refused : (es : List Entry) (f : PolicyFault) → HasEntries text es → f ≢ NoMemory → IsFault es f → IsCheckAnswer text (policy_refusal (code_of f) (line_of f))

@@ -11,7 +11,7 @@ ghost use Rattle.replay_app.specs.Words.{AreLent, AreTold, check, file_words, fo
 
 use crate::ending::Ending;
 use crate::files::{Files, Others, is_plain, plain_run, read_others};
-use crate::policies::{Policy, Refusal, read_policy};
+use crate::policies::{Policy, Refusal, read_policy, resolved};
 use crate::replay::{refuse, refuse_early, replay, write};
 use crate::stop::Stop;
 use crate::words::{Command, command_of};
@@ -103,7 +103,7 @@ fn replay_files<S: Shelf, K: Sink, F: Fabric>(
     }
 }
 
-/// Writes the canonical text of a policy's file.
+/// Writes the canonical text of a policy's file, if it is accepted.
 fn check_file<S: Shelf, K: Sink>(
     alloc: Global,
     name: &str,
@@ -118,7 +118,8 @@ fn check_file<S: Shelf, K: Sink>(
     ensures shelf_cause { IsErrOf result Stop.Shelf → Rose (S.faults shelf.old) (S.faults shelf.new) }
     ensures sink_cause { IsErrOf result Stop.Sink → Rose (K.faults sink.old) (K.faults sink.new) }
 {
-    match read_policy(alloc, shelf, name)? {
+    let policy = read_policy(alloc, shelf, name)?;
+    match resolved(alloc, policy)? {
         Policy::Accepted(lines) => {
             let text = print(alloc, &lines)?;
             write(alloc, text.as_slice(), sink)?;

@@ -1,11 +1,13 @@
-ghost use Rattle.std.specs.Prelude.{◌≡◌, ◌≤◌, IfOk, IfSome, IsTrue, IsErrOf};
-ghost use Rattle.replay_app.specs.Policies.{IsRead};
+ghost use Rattle.std.specs.Prelude.{◌≡◌, ◌≢◌, ◌≤◌, ℕ, List, IfOk, OnOk, IfSome, IsTrue, IsErrOf};
+ghost use Rattle.replay_app.specs.Policies.{IsRead, IsCheckAnswer, check_answer, policy_answer};
+ghost use Rattle.resolve_defs.specs.Codes.{code_of, line_of};
 ghost use Rattle.outside_core.specs.Faults.{Rose};
 ghost use Rattle.outside_core.specs.Files.{KeepsFiles};
 
 use crate::inputs::load_short;
 use crate::stop::Stop;
 use outside_core::Shelf;
+use policy_core::{PolicyFault, resolve};
 use policy_text::{Lines, TextFault, parse};
 use std::alloc::{AllocError, Global};
 
@@ -19,7 +21,7 @@ pub struct Refusal {
     pub line: u32,
 }
 
-/// A policy text that is read.
+/// A policy text that is read: its statements, or why it is refused.
 #[derive(Drop)]
 pub enum Policy {
     Accepted(Lines),
@@ -53,5 +55,32 @@ pub fn read_policy<S: Shelf>(alloc: Global, shelf: &mut S, name: &str) -> Result
     match load_short(alloc, shelf, name, MOST_POLICY)? {
         Some(text) => Ok(read_text(alloc, &text)?),
         None => Ok(Policy::Refused(Refusal { code: 21, line: 0 })),
+    }
+}
+
+/// The refusal for a clause that statements fail. The error is want of memory.
+fn refusal_of(fault: PolicyFault) -> Result<Refusal, AllocError>
+    ensures memory { OnOk result (fault ≢ PolicyFault.NoMemory) }
+    ensures told { IfOk result (λ r. r ≡ record { code = code_of fault; line = line_of fault }) }
+{
+    if fault == PolicyFault::NoMemory {
+        return Err(AllocError);
+    }
+    Ok(Refusal {
+        code: fault.code(),
+        line: fault.line(),
+    })
+}
+
+/// Refuses statements too that aren't an accepted policy. The error is want of memory.
+pub fn resolved(alloc: Global, policy: Policy) -> Result<Policy, AllocError>
+    ensures { (text : List ℕ) → IsRead text policy → IfOk result (λ p. IsCheckAnswer text (policy_answer check_answer p)) }
+{
+    match policy {
+        Policy::Accepted(lines) => match resolve(alloc, &lines) {
+            Ok(_) => Ok(Policy::Accepted(lines)),
+            Err(fault) => Ok(Policy::Refused(refusal_of(fault)?)),
+        },
+        Policy::Refused(refusal) => Ok(Policy::Refused(refusal)),
     }
 }

@@ -1,0 +1,16 @@
+use Rattle.std.proofs.Common.{sym, subst}
+use Rattle.replay_app.specs.declared.policies.Refusal.{Refusal}
+use Rattle.replay_app.specs.Policies.{entries_in, policy_refusal, IsCheckAnswer, all_accepted, statements_refused, text_refused}
+use Rattle.replay_app.proofs.policies.resolved.Goals as goal
+
+pub returns-in-Ok : goal.returns-in-Ok
+returns-in-Ok c = λ text read. (let is = rw c.in-Accepted.is at read in all_accepted (entries_in c.in-Accepted.lines) is.has c.in-Ok.ensures.accepts)
+
+pub returns-in_ok-refusal_of-in-Err : goal.returns-in_ok-refusal_of-in-Err
+returns-in_ok-refusal_of-in-Err c = λ text read.
+    let is = rw c.in-Accepted.is at read in
+    subst (λ (r : Refusal). IsCheckAnswer text (policy_refusal r.code r.line)) (sym c.in_ok-refusal_of-in-Err.ensures.told)
+    (statements_refused (entries_in c.in-Accepted.lines) c.in-Err.fault is.has c.in_ok-refusal_of-in-Err.ensures.memory c.in-Err.ensures.refuses)
+
+pub returns-in-Refused : goal.returns-in-Refused
+returns-in-Refused c = λ text read. (let is = rw c.in-Refused.is at read in text_refused c.in-Refused.refusal.code c.in-Refused.refusal.line is.refused)
