@@ -1,19 +1,19 @@
 -- The way from the root.
 use Rattle.std.proofs.Common.{◌≡◌, ◌<◌, ◌≤◌, ◌+◌, ℕ, List, [], ◌∷◌, ◌++◌, refl, sym, ap, ◌∙◌, subst, arith}
 use Rattle.tree_defs.specs.Tree.{Tree, leaf, inner, Address, LeadsToLeaf, nodes}
-use Rattle.rank_defs.specs.declared.environment.Who.TheVariants.{Flow}
+use Rattle.rank_defs.specs.declared.environment.Who.{Who}
 use Rattle.rank_defs.specs.Programs.{max_rank}
 use Rattle.rank_core.specs.declared.node.NodeState.{NodeState}
 use Rattle.packet_defs.specs.declared.packet.Packet.{Packet}
 use Rattle.policy_defs.specs.Policy.{Policy, Node, Class}
 use Rattle.policy_defs.specs.Accepted.{IsAccepted, IsClassReady, AreMarksInRange}
 use Rattle.policy_core.specs.Numbering.{address_at}
-use Rattle.schedule_defs.specs.Visits.{Visit, visits_from}
-use Rattle.schedule_defs.specs.SourceState.{class_of, way_in, way_out}
+use Rattle.schedule_defs.specs.Visits.{visits_from}
+use Rattle.schedule_defs.specs.SourceState.{class_of}
 use Rattle.schedule_defs.specs.Sound.{IsKnown}
 use Rattle.stations_core.specs.declared.passage.Passage.{Passage}
 use Rattle.stations_core.specs.Kept.{part_at, HasRoomAt}
-use Rattle.stations_core.specs.Ways.{IsReady, IsOnTheWay, tree_for, class_for, place, part, way}
+use Rattle.stations_core.specs.Ways.{IsReady, IsOnTheWay, tree_for, class_for, part}
 use Rattle.stations_core.proofs.Parts.{root-part, part-known}
 
 root-address : {Q : Type 0} (t : Tree Q) → address_at t 0 ≡ []
@@ -39,16 +39,15 @@ module _ (e : Passage) where
     moment = moment;
   }
 
-  pub whole-way : (digits : List ℕ) → class_for e ≡ class_of e.policy.now.policy e.packet.now → way e 0 digits ≡ way_out e.policy.now.policy e.packet.now digits e.moment
-  whole-way digits is =
-      ap (λ (t : Tree Node). visits_from t (place e 0) digits (class_for e) e.packet.now e.moment) whole-part
-      ∙ ap (λ (a : Address). visits_from (tree_for e) a digits (class_for e) e.packet.now e.moment) (root-address (tree_for e))
-      ∙ ap (λ (c : Class). visits_from (tree_for e) [] digits c e.packet.now e.moment) is
+-- ---- in the terms of the tree
+module _ (tree : Tree Node) where
+  pub whole-way : (c d : Class) (digits : List ℕ) (p : Packet) (moment : ℕ) → c ≡ d → visits_from (part_at tree (address_at tree 0)) (address_at tree 0) digits c p moment ≡ visits_from tree [] digits d p moment
+  whole-way c d digits p moment is =
+      ap (λ (t : Tree Node). visits_from t (address_at tree 0) digits c p moment) (ap (part_at tree) (root-address tree) ∙ part-known tree [] tree (root-part tree))
+      ∙ ap (λ (a : Address). visits_from tree a digits c p moment) (root-address tree)
+      ∙ ap (λ (k : Class). visits_from tree [] digits k p moment) is
 
-  pub whole-way_in : (digits : List ℕ) → digits ≡ (class_of e.policy.now.policy e.packet.now).leaf → class_for e ≡ class_of e.policy.now.policy e.packet.now → way e 0 digits ≡ way_in e.policy.now.policy e.packet.now e.moment
-  whole-way_in digits to is = whole-way digits is ∙ ap (λ (ds : List ℕ). way_out e.policy.now.policy e.packet.now ds e.moment) to
-
-  pub room-from_root : (states : List NodeState) (digits : List ℕ) → digits ≡ (class_of e.policy.now.policy e.packet.now).leaf → HasRoomAt (tree_for e) states (class_of e.policy.now.policy e.packet.now).leaf (Flow e.packet.now.flow)
-      → HasRoomAt (tree_for e) states (place e 0 ++ digits) (Flow e.packet.now.flow)
-  room-from_root states digits to room =
-      subst (λ (a : Address). HasRoomAt (tree_for e) states a (Flow e.packet.now.flow)) (sym (ap (λ (a : Address). a ++ digits) (root-address (tree_for e)) ∙ to)) room
+  pub room-from_root : (states start : List NodeState) (digits leaf : List ℕ) (who : Who) → start ≡ states → digits ≡ leaf → HasRoomAt tree states leaf who → HasRoomAt tree start (address_at tree 0 ++ digits) who
+  room-from_root states start digits leaf who same to room =
+      subst (λ (a : Address). HasRoomAt tree start a who) (sym (ap (λ (a : Address). a ++ digits) (root-address tree) ∙ to))
+      (subst (λ (l : List NodeState). HasRoomAt tree l leaf who) (sym same) room)
