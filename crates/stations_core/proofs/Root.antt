@@ -47,7 +47,10 @@ module _ (tree : Tree Node) where
       ∙ ap (λ (a : Address). visits_from tree a digits c p moment) (root-address tree)
       ∙ ap (λ (k : Class). visits_from tree [] digits k p moment) is
 
-  pub room-from_root : (states start : List NodeState) (digits leaf : List ℕ) (who : Who) → start ≡ states → digits ≡ leaf → HasRoomAt tree states leaf who → HasRoomAt tree start (address_at tree 0 ++ digits) who
-  room-from_root states start digits leaf who same to room =
+  pub room-from_root : (states start : List NodeState) (digits last : List ℕ) (who : Who) → start ≡ states → digits ≡ last → HasRoomAt tree states last who → HasRoomAt tree start (address_at tree 0 ++ digits) who
+  room-from_root states start digits last who same to room =
       subst (λ (a : Address). HasRoomAt tree start a who) (sym (ap (λ (a : Address). a ++ digits) (root-address tree) ∙ to))
-      (subst (λ (l : List NodeState). HasRoomAt tree l leaf who) (sym same) room)
+      (subst (λ (l : List NodeState). HasRoomAt tree l last who) (sym same) room)
+
+pub begun : (before after xs : List ℕ) → before ≡ [] → after ≡ before ++ xs → after ≡ xs
+begun before after xs none all = all ∙ ap (λ (l : List ℕ). l ++ xs) none

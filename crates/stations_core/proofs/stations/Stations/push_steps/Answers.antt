@@ -1,4 +1,4 @@
-use Rattle.std.proofs.Common.{◌≡◌, ◌∙◌, ◌≤◌, List, length, ap, sym, subst, arith, ◌++◌, []}
+use Rattle.std.proofs.Common.{◌≡◌, ◌∙◌, ◌≤◌, List, length, ap, sym, subst, arith, []}
 use Rattle.tree_defs.specs.Tree.{LeadsToLeaf, depth}
 use Rattle.rank_core.specs.declared.node.NodeState.{NodeState}
 use Rattle.rank_core.proofs.Lists.{refilled}
@@ -9,7 +9,7 @@ use Rattle.schedule_defs.specs.SourceState.{class_of, way_in}
 use Rattle.stations_core.specs.Kept.{HaveValues, HasRoomAt}
 use Rattle.stations_core.specs.Agreement.{policy_of}
 use Rattle.stations_core.proofs.Leaves.{class-within, class-is, class-prepared, leaf-depth}
-use Rattle.stations_core.proofs.Root.{from-root, ready, whole-way, room-from_root}
+use Rattle.stations_core.proofs.Root.{from-root, ready, whole-way, room-from_root, begun}
 use Rattle.stations_core.proofs.stations.Stations.push_steps.Goals as goal
 
 pub push_from-requires-clause-ready : goal.push_from-requires-clause-ready
@@ -51,7 +51,7 @@ returns-clause-digits c =
     ap (class_in (policy_of c.args.self.now).tree) c.index-classes-packet.is
     ∙ class-is (policy_of c.args.self.now) c.classes.result.now c.classes.ensures.classes c.args.packet.now c.requires.known.class c.index-classes-packet.result (class-within (policy_of c.args.self.now) c.classes.result.now c.classes.ensures.classes c.args.packet.now c.requires.known.class) in
     let to : c.address-digits.result.now ≡ (class_of (policy_of c.args.self.now) c.args.packet.now).leaf = c.address-digits.ensures.address ∙ ap (λ (k : Class). k.leaf) is in
-    c.push_from.ensures.digits ∙ ap (λ before. before ++ c.address-digits.result.now) c.clear.ensures.digits ∙ to
+    begun c.clear.new.self.digits c.push_from.new.trace.digits c.address-digits.result.now c.clear.ensures.digits c.push_from.ensures.digits ∙ to
 
 pub returns-clause-ranks : goal.returns-clause-ranks
 returns-clause-ranks c =
@@ -60,8 +60,8 @@ returns-clause-ranks c =
     ∙ class-is (policy_of c.args.self.now) c.classes.result.now c.classes.ensures.classes c.args.packet.now c.requires.known.class c.index-classes-packet.result (class-within (policy_of c.args.self.now) c.classes.result.now c.classes.ensures.classes c.args.packet.now c.requires.known.class) in
     let to : c.address-digits.result.now ≡ (class_of (policy_of c.args.self.now) c.args.packet.now).leaf = c.address-digits.ensures.address ∙ ap (λ (k : Class). k.leaf) is in
     λ values h.
-    c.push_from.ensures.ranks values (subst (λ (l : List NodeState). HaveValues (policy_of c.args.self.now).tree l values) (sym c.as_mut_slice.ensures.value) h)
-    ∙ ap (λ before. before ++ _) c.clear.ensures.ranks
+    begun c.clear.new.self.ranks c.push_from.new.trace.ranks _ c.clear.ensures.ranks
+    (c.push_from.ensures.ranks values (subst (λ (l : List NodeState). HaveValues (policy_of c.args.self.now).tree l values) (sym c.as_mut_slice.ensures.value) h))
     ∙ ap (ranks_pushed values) (whole-way (policy_of c.args.self.now).tree _ _ c.address-digits.result.now c.args.packet.now c.args.moment is ∙ ap (λ ds. visits_from (policy_of c.args.self.now).tree [] ds (class_of (policy_of c.args.self.now) c.args.packet.now) c.args.packet.now c.args.moment) to)
 
 pub returns-clause-states : goal.returns-clause-states
