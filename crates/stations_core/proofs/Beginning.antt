@@ -1,9 +1,9 @@
 -- The states of the nodes at the start.
-use Rattle.std.proofs.Common.{◌≡◌, ◌<◌, ◌≤◌, ◌^◌, ◌+◌, ℕ, zero, suc, List, [], ◌∷◌, ◌++◌, length, Option, Some, None, refl, sym, ap, ◌∙◌, subst, arith}
+use Rattle.std.proofs.Common.{◌≡◌, ◌<◌, ◌^◌, ◌+◌, ℕ, zero, suc, List, [], ◌∷◌, ◌++◌, length, Option, Some, None, refl, sym, ap, ◌∙◌, subst}
 use Rattle.std.specs.Prelude.{slice_get, IsSomeAnd, IfOk, Result, Ok, Err}
 use Rattle.std.specs.Option.{option_map_or}
 use Rattle.std.proofs.lemmas.List.{length-append}
-use Rattle.tree_defs.specs.Tree.{Tree, Address, IsAddressOf, subtree, root_of, nodes}
+use Rattle.tree_defs.specs.Tree.{Tree, Address, IsAddressOf, root_of, nodes}
 use Rattle.tree_defs.specs.Topology.{Topology, topology_of}
 use Rattle.rank_defs.specs.declared.environment.Who.TheVariants.{Child}
 use Rattle.rank_defs.specs.Programs.{Program}

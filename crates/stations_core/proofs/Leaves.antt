@@ -1,6 +1,6 @@
 -- The classes of a policy and their leaves.
-use Rattle.std.proofs.Common.{◌≡◌, ◌<◌, ◌≤◌, ◌+◌, ℕ, zero, suc, List, [], ◌∷◌, ◌++◌, length, map, Option, Some, None, refl, sym, ap, ◌∙◌, subst, arith, get_or}
-use Rattle.std.specs.Prelude.{slice_get, option_map, unwrap_or, max}
+use Rattle.std.proofs.Common.{◌≡◌, ◌<◌, ◌≤◌, ◌+◌, ℕ, zero, suc, List, [], ◌∷◌, length, map, Option, Some, None, refl, sym, ap, ◌∙◌, subst, arith, get_or}
+use Rattle.std.specs.Prelude.{slice_get, option_map, unwrap_or}
 use Rattle.std.proofs.lemmas.Option.{slice_get-map, slice_get-get_or}
 use Rattle.tree_defs.specs.Tree.{Tree, leaf, inner, Trees, none, more, Address, LeadsToLeaf, LeadsBelow, subtree, subtree_in, depth, depth_below, nodes}
 use Rattle.packet_defs.specs.declared.packet.Packet.{Packet}
@@ -14,7 +14,7 @@ use Rattle.policy_core.specs.Parts.{class_in}
 use Rattle.schedule_defs.specs.SourceState.{class_of}
 use Rattle.schedule_defs.proofs.Visits.{class_ready}
 use Rattle.stations_core.specs.Kept.{part_at, arity}
-use Rattle.stations_core.proofs.Parts.{root-part, part-known}
+use Rattle.stations_core.proofs.Parts.{part-known}
 
 record EndsAtLeaf {Q : Type 0} (part : Option (Tree Q)) : Type 0 where
   here : Q

@@ -1,5 +1,5 @@
 -- Room that is made at one node.
-use Rattle.std.proofs.Common.{◌≡◌, ◌<◌, ℕ, List, length, Some, None, sym, ap, ◌∙◌, subst, get_or}
+use Rattle.std.proofs.Common.{◌≡◌, ◌<◌, ℕ, List, length, Some, sym, ap, ◌∙◌, subst, get_or}
 use Rattle.std.specs.Prelude.{slice_get, slice_set}
 use Rattle.std.proofs.lemmas.Option.{slice_get-get_or}
 use Rattle.tree_defs.specs.Tree.{Tree, Address, LeadsToLeaf, nodes}
@@ -15,7 +15,7 @@ use Rattle.policy_defs.specs.Numbers.{number_at}
 use Rattle.policy_core.specs.Numbering.{address_at}
 use Rattle.policy_core.proofs.Numbers.{address-undone}
 use Rattle.schedule_defs.specs.Visits.{States}
-use Rattle.stations_core.specs.Kept.{part_at, Keeps, IsStationOf, AreStations, HaveValues, HasRoomAt}
+use Rattle.stations_core.specs.Kept.{part_at, IsStationOf, AreStations, HaveValues, HasRoomAt}
 use Rattle.stations_core.proofs.Parts.{part-is}
 use Rattle.stations_core.proofs.Sets.{set-cases, stations-set, room-set}
 use Rattle.stations_core.proofs.Leaves.{leaf-arity}

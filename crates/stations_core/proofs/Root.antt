@@ -1,11 +1,11 @@
 -- The way from the root.
-use Rattle.std.proofs.Common.{◌≡◌, ◌<◌, ◌≤◌, ◌+◌, ℕ, List, [], ◌∷◌, ◌++◌, refl, sym, ap, ◌∙◌, subst, arith}
+use Rattle.std.proofs.Common.{◌≡◌, ◌<◌, ◌≤◌, ℕ, List, [], ◌++◌, refl, sym, ap, ◌∙◌, subst, arith}
 use Rattle.tree_defs.specs.Tree.{Tree, leaf, inner, Address, LeadsToLeaf, nodes}
 use Rattle.rank_defs.specs.declared.environment.Who.{Who}
 use Rattle.rank_defs.specs.Programs.{max_rank}
 use Rattle.rank_core.specs.declared.node.NodeState.{NodeState}
 use Rattle.packet_defs.specs.declared.packet.Packet.{Packet}
-use Rattle.policy_defs.specs.Policy.{Policy, Node, Class}
+use Rattle.policy_defs.specs.Policy.{Node, Class}
 use Rattle.policy_defs.specs.Accepted.{IsAccepted, IsClassReady, AreMarksInRange}
 use Rattle.policy_core.specs.Numbering.{address_at}
 use Rattle.schedule_defs.specs.Visits.{visits_from}

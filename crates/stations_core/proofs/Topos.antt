@@ -1,7 +1,7 @@
 -- The number of children of a node, as its shape tells it.
 use Rattle.std.proofs.Common.{◌≡◌, ◌<◌, ◌≤◌, ◌^◌, ℕ, zero, suc, List, [], ◌∷◌, length, map, Option, Some, None, refl, sym, ap, ◌∙◌, subst, arith, get_or}
 use Rattle.std.specs.Prelude.{unwrap_or}
-use Rattle.tree_defs.specs.Tree.{Tree, leaf, inner, Trees, none, more, Address, IsAddressOf, subtree, subtree_in, trees_of, count_of, nodes}
+use Rattle.tree_defs.specs.Tree.{Tree, leaf, inner, Trees, none, more, Address, IsAddressOf, subtree, subtree_in, trees_of, count_of}
 use Rattle.tree_defs.specs.Topology.{Topology, topology_of, topologies_of}
 use Rattle.tree_core.specs.declared.topo.Topo.{Topo}
 use Rattle.tree_core.specs.Shape.{topology}

@@ -1,4 +1,4 @@
-use Rattle.std.proofs.Common.{◌≡◌, ◌<◌, ◌^◌, ◌∙◌, sym, arith}
+use Rattle.std.proofs.Common.{◌<◌, ◌^◌, ◌∙◌, sym, arith}
 use Rattle.policy_core.specs.Numbering.{address_at}
 use Rattle.stations_core.specs.Kept.{part_at}
 use Rattle.stations_core.proofs.Beginning.{program-of, shape-has, arity-is, fits, inner-station, leaf-station, first-values}

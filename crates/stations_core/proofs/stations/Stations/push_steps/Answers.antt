@@ -1,12 +1,12 @@
-use Rattle.std.proofs.Common.{◌≡◌, ◌∙◌, ◌≤◌, List, length, ap, sym, subst, arith, []}
-use Rattle.tree_defs.specs.Tree.{LeadsToLeaf, depth}
+use Rattle.std.proofs.Common.{◌≡◌, ◌∙◌, List, length, ap, sym, subst, arith, []}
+use Rattle.tree_defs.specs.Tree.{LeadsToLeaf}
 use Rattle.rank_core.specs.declared.node.NodeState.{NodeState}
 use Rattle.rank_core.proofs.Lists.{refilled}
 use Rattle.policy_defs.specs.Policy.{Class}
 use Rattle.policy_core.specs.Parts.{class_in}
 use Rattle.schedule_defs.specs.Visits.{Visit, visits_from, ranks_pushed, after_pushes}
 use Rattle.schedule_defs.specs.SourceState.{class_of, way_in}
-use Rattle.stations_core.specs.Kept.{HaveValues, HasRoomAt}
+use Rattle.stations_core.specs.Kept.{HaveValues}
 use Rattle.stations_core.specs.Agreement.{policy_of}
 use Rattle.stations_core.proofs.Leaves.{class-within, class-is, class-prepared, leaf-depth}
 use Rattle.stations_core.proofs.Root.{from-root, ready, whole-way, room-from_root, begun}

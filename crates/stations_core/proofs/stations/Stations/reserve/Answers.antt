@@ -1,4 +1,4 @@
-use Rattle.std.proofs.Common.{◌≡◌, ◌<◌, length, arith, get_or}
+use Rattle.std.proofs.Common.{◌<◌, arith, get_or}
 use Rattle.std.proofs.lemmas.Result.{on_ok_weaker}
 use Rattle.tree_defs.specs.Tree.{nodes}
 use Rattle.policy_core.proofs.Whole.{all-at}
