@@ -7,3 +7,4 @@ pub mod Topos
 pub mod Reserving
 pub mod Beginning
 pub mod Root
+pub mod Fair

@@ -4,6 +4,7 @@ use Rattle.tree_defs.specs.Tree.{leaf, inner, none, more}
 use Rattle.tree_defs.specs.Topology.{topology_of}
 use Rattle.rank_defs.specs.Programs.{Program}
 use Rattle.rank_defs.specs.Builtins.{stfq}
+use Rattle.packet_defs.specs.declared.packet.Packet.{Packet}
 use Rattle.resolve_defs.specs.Resolved.{Resolved}
 use Rattle.lineage_core.specs.Preorder.{Numbered, numbered, rows, three_levels}
 use Rattle.policy_core.specs.declared.parts.Station.{Station}
@@ -34,3 +35,7 @@ fair = record {
 
 pub resolved-fair : resolved tree stations one_program classes ≡ fair
 resolved-fair = refl
+
+-- a packet of the second class
+abbrev pub deep : Packet
+deep = record { number = 1; class = 1; len = 100; moment = 5; flow = record { version = 4; source = 1; target = 2; proto = 17; sport = 3; dport = 4 } }
