@@ -1,0 +1,10 @@
+pub mod Parts
+pub mod Sets
+pub mod Stops
+pub mod Onward
+pub mod Leaves
+pub mod Topos
+pub mod Reserving
+pub mod Beginning
+pub mod Root
+pub mod Fair
