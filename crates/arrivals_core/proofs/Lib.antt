@@ -1,0 +1,3 @@
+pub mod Sending
+pub mod Coming
+pub mod Naming

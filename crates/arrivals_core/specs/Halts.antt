@@ -1,0 +1,12 @@
+-- Why no packet of a capture comes.
+use Rattle.pcap_core.specs.declared.fault.CaptureFault.{CaptureFault}
+use Rattle.pcap_core.specs.declared.fault.CaptureFault.TheVariants.{ReadFault, NoMemory}
+use Rattle.pcap_core.specs.Faults.{code_in, place_in}
+use Rattle.course_core.specs.declared.packets.Halt.{Halt}
+use Rattle.course_core.specs.declared.packets.Halt.TheVariants as halt
+
+-- what a reader's refusal becomes
+abbrev pub halt_of : CaptureFault → Halt
+halt_of ReadFault = halt.Source
+halt_of NoMemory = halt.Memory
+halt_of fault = halt.Fault (code_in fault) (place_in fault)

@@ -1,0 +1,14 @@
+//! The packets of a capture, read record by record, each with the class that a policy gives it and with its flow.
+#![tactic(auto)]
+
+mod arrivals;
+mod halts;
+mod names;
+mod packets;
+#[cfg(test)]
+mod tests;
+
+pub use arrivals::Arrivals;
+pub use course_core::{Halt, Packets};
+pub use names::PolicyNames;
+pub use run_core::Names;
