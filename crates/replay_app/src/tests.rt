@@ -114,9 +114,51 @@ fn runs_over_memory(rt: HostRuntime) -> Result<(), Fail> {
 fn checks_over_memory(rt: HostRuntime) -> Result<(), Fail> {
     let alloc = rt.alloc();
     let words = check_words(alloc)?;
-    let table: [(&[u8], u8, &[u8]); 5] = [
+    let table: [(&[u8], u8, &[u8]); 15] = [
         (SPELLED, 0, POLICY),
-        (b"policy 1\n", 0, b"policy 1\n"),
+        (&POLICY[9..], 3, b"fault policy 1 1\n"),
+        (
+            b"policy 1\nclass all\nleaf root using fifo classes all\nclass all\n",
+            3,
+            b"fault policy 2 4\n",
+        ),
+        (
+            b"policy 1\nclass all\nleaf root using drr classes all\n",
+            3,
+            b"fault policy 3 3\n",
+        ),
+        (
+            b"policy 1\nclass all\nleaf root using fifo classes all\ntransaction t\npush rank = len < 3\n",
+            3,
+            b"fault policy 5 5\n",
+        ),
+        (
+            b"policy 1\ntransaction t\npush rank = len / (weight - 1)\nclass all\nleaf root using t classes all\n",
+            3,
+            b"fault policy 7 3\n",
+        ),
+        (
+            b"policy 1\nclass all\nleaf root using fifo classes all\nleaf lone using fifo classes all\n",
+            3,
+            b"fault policy 8 4\n",
+        ),
+        (b"policy 1\n", 3, b"fault policy 9 0\n"),
+        (b"", 3, b"fault policy 9 0\n"),
+        (
+            b"policy 1\nclass all\nleaf root using fifo classes all\nnode p using fifo children q\nnode q using fifo children p\n",
+            3,
+            b"fault policy 10 4\n",
+        ),
+        (
+            b"policy 1\nclass spare\nclass all\nleaf root using fifo classes all\n",
+            3,
+            b"fault policy 12 2\n",
+        ),
+        (
+            b"policy 1\nclass all when len 0..9\nleaf root using fifo classes all\n",
+            3,
+            b"fault policy 13 0\n",
+        ),
         (
             b"policy 1\nclass\nleaf root using fifo classes all\n",
             3,
