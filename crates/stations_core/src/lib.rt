@@ -1,0 +1,9 @@
+//! The variables of a policy's nodes, and the push and pop steps along a packet's way.
+#![tactic(auto)]
+
+mod first;
+mod passage;
+mod stations;
+mod walk;
+
+pub use stations::Stations;
