@@ -1,17 +1,20 @@
 -- The classes of a policy and their leaves.
-use Rattle.std.proofs.Common.{◌≡◌, ◌<◌, ◌≤◌, ◌+◌, ℕ, zero, suc, List, [], ◌∷◌, ◌++◌, length, map, Option, Some, None, refl, sym, ap, ◌∙◌, subst, arith, get_or}
-use Rattle.std.specs.Prelude.{slice_get, option_map, unwrap_or, max}
+use Rattle.std.proofs.Common.{◌≡◌, ◌<◌, ◌≤◌, ◌+◌, ℕ, zero, suc, List, [], ◌∷◌, length, map, Option, Some, None, refl, sym, ap, ◌∙◌, subst, arith, get_or}
+use Rattle.std.specs.Prelude.{slice_get, option_map, unwrap_or}
 use Rattle.std.proofs.lemmas.Option.{slice_get-map, slice_get-get_or}
-use Rattle.tree_defs.specs.Tree.{Tree, leaf, inner, Trees, none, more, Address, LeadsToLeaf, LeadsBelow, subtree, subtree_in, depth, depth_below}
+use Rattle.tree_defs.specs.Tree.{Tree, leaf, inner, Trees, none, more, Address, LeadsToLeaf, LeadsBelow, subtree, subtree_in, depth, depth_below, nodes}
 use Rattle.packet_defs.specs.declared.packet.Packet.{Packet}
 use Rattle.policy_defs.specs.Policy.{Policy, Node, Class as Aimed, no_marks}
 use Rattle.policy_defs.specs.Accepted.{IsAccepted, IsClassReady}
+use Rattle.policy_defs.specs.Numbers.{number_at}
 use Rattle.policy_core.specs.declared.parts.Class.{Class}
+use Rattle.policy_core.specs.Numbering.{address_at}
+use Rattle.policy_core.proofs.Numbers.{address-undone}
 use Rattle.policy_core.specs.Parts.{class_in}
 use Rattle.schedule_defs.specs.SourceState.{class_of}
 use Rattle.schedule_defs.proofs.Visits.{class_ready}
 use Rattle.stations_core.specs.Kept.{part_at, arity}
-use Rattle.stations_core.proofs.Parts.{root-part, part-known}
+use Rattle.stations_core.proofs.Parts.{part-known}
 
 record EndsAtLeaf {Q : Type 0} (part : Option (Tree Q)) : Type 0 where
   here : Q
@@ -53,3 +56,16 @@ module _ (policy : Policy) (classes : List Class) (same : map (class_in policy.t
 
   pub class-prepared : IsAccepted policy → IsClassReady policy.tree (class_of policy p)
   class-prepared accepted = class_ready (IsClassReady policy.tree) (record { marks = no_marks; leaf = [] }) policy.classes p.class accepted.classes within
+
+  pub class-within : p.class < length classes
+  class-within = omega (arith, within, ap length same, count-mapped classes)
+    where
+      count-mapped : (cs : List Class) → length (map (class_in policy.tree) cs) ≡ length cs
+      count-mapped [] = refl
+      count-mapped (c ∷ cs) = ap suc (count-mapped cs)
+
+  pub leaf-leads : IsAccepted policy → (d : Class) → LeadsToLeaf policy.tree (address_at policy.tree (get_or classes p.class d).leaf)
+  leaf-leads accepted d = subst (λ (c : Aimed). LeadsToLeaf policy.tree c.leaf) (sym (class-is d class-within)) (class-prepared accepted).leaf_address
+
+  pub leaf-number : (d : Class) → (get_or classes p.class d).leaf < nodes policy.tree → number_at policy.tree (class_of policy p).leaf ≡ (get_or classes p.class d).leaf
+  leaf-number d l = ap (λ (c : Aimed). number_at policy.tree c.leaf) (sym (class-is d class-within)) ∙ (address-undone policy.tree (get_or classes p.class d).leaf l).number

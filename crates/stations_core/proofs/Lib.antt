@@ -4,3 +4,6 @@ pub mod Stops
 pub mod Onward
 pub mod Leaves
 pub mod Topos
+pub mod Reserving
+pub mod Beginning
+pub mod Root

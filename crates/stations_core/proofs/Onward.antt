@@ -1,17 +1,14 @@
 -- The way on from a node to the child that the first digit names.
-use Rattle.std.proofs.Common.{◌≡◌, ◌<◌, ◌≤◌, ℕ, zero, suc, ◌+◌, List, [], ◌∷◌, ◌++◌, length, map, drop, Some, refl, sym, ap, ◌∙◌, subst, arith, get_or, append_assoc, append-nil}
+use Rattle.std.proofs.Common.{◌≡◌, ◌<◌, ◌≤◌, ℕ, zero, suc, ◌+◌, List, [], ◌∷◌, ◌++◌, length, refl, sym, ap, ◌∙◌, subst, arith, get_or, append_assoc}
 use Rattle.std.specs.List.{AllByRecursion}
 use Rattle.std.proofs.lemmas.List.{length-append}
-use Rattle.tree_defs.specs.Tree.{Tree, leaf, inner, Trees, none, more, Address, LeadsToLeaf, subtree, root_of, nodes}
-use Rattle.rank_defs.specs.declared.environment.Who.TheVariants.{Child}
-use Rattle.rank_defs.specs.Programs.{max_rank}
+use Rattle.tree_defs.specs.Tree.{Tree, leaf, inner, Trees, none, more, Address, LeadsToLeaf, subtree, nodes}
 use Rattle.rank_defs.specs.States.{State}
 use Rattle.packet_defs.specs.declared.packet.Packet.{Packet}
 use Rattle.policy_defs.specs.Policy.{Node, Class}
-use Rattle.policy_core.specs.Numbering.{address_at}
-use Rattle.schedule_defs.specs.Visits.{States, Visit, visit, env_for, visits_from, visits_below, with_state, rank_at, ranks_pushed}
+use Rattle.schedule_defs.specs.Visits.{States, Visit, visits_from, visits_below, with_state, rank_at, ranks_pushed}
 use Rattle.stations_core.specs.declared.passage.Passage.{Passage}
-use Rattle.stations_core.specs.Ways.{IsOnTheWay, tree_for, class_for, place, part, marks_on, stop, way}
+use Rattle.stations_core.specs.Ways.{IsOnTheWay, tree_for, class_for, place, part, stop, way}
 use Rattle.stations_core.proofs.Parts.{later, later-cons, part-known, next, ends}
 use Rattle.stations_core.proofs.Sets.{with-apart}
 use Rattle.stations_core.proofs.Stops.{there}

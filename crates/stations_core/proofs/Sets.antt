@@ -1,5 +1,5 @@
 -- Another state at one node.
-use Rattle.std.proofs.Common.{◌≡◌, ◌≢◌, ◌<◌, ℕ, zero, suc, List, [], ◌∷◌, length, true, false, Bool, Some, None, refl, sym, ap, ◌∙◌, subst, arith, bytes_eq}
+use Rattle.std.proofs.Common.{◌≡◌, ◌≢◌, ◌<◌, ℕ, zero, suc, List, [], ◌∷◌, true, false, Bool, Some, None, refl, sym, ap, ◌∙◌, subst, arith, bytes_eq}
 use Rattle.std.specs.Prelude.{slice_get, slice_set, if◌then◌else◌}
 use Rattle.std.proofs.lemmas.List.{length-set}
 use Rattle.std.proofs.lemmas.Slice.Eq.{bytes_eq-Decides}
@@ -46,8 +46,8 @@ module _ (tree : Tree Node) (states : List NodeState) (k : ℕ) (x' : NodeState)
       each : (b : Address) (t : Tree Node) (y : NodeState) → subtree tree b ≡ Some t → Keeps tree (slice_set states k x') b y → IsStationOf t y
       each b t y e keeps = set-cases states k (number_at tree b) x' y keeps
           (λ same is.
-              let t-is : part_at tree (address_at tree k) ≡ t = ap (part_at tree) (sym (same-address b (t, e) same)) ∙ part-known tree b t e in
-              subst (λ (u : Tree Node). IsStationOf u y) t-is (subst (λ (z : NodeState). IsStationOf (part_at tree (address_at tree k)) z) (sym is) station))
+          let t-is : part_at tree (address_at tree k) ≡ t = ap (part_at tree) (sym (same-address b (t, e) same)) ∙ part-known tree b t e in
+          subst (λ (u : Tree Node). IsStationOf u y) t-is (subst (λ (z : NodeState). IsStationOf (part_at tree (address_at tree k)) z) (sym is) station))
           (λ _ old. h.each b t y e old)
 
   pub values-set : (values : States) (s : State) → k < nodes tree → SameState (state_of x') s → HaveValues tree states values → HaveValues tree (slice_set states k x') (with_state values (address_at tree k) s)

@@ -1,7 +1,7 @@
 -- A step of one node on the way.
-use Rattle.std.proofs.Common.{◌≡◌, ◌<◌, ◌≤◌, ℕ, List, [], ◌∷◌, ◌++◌, length, Some, refl, sym, ap, ◌∙◌, subst, arith, get_or, append-nil}
+use Rattle.std.proofs.Common.{◌≡◌, ◌≤◌, ℕ, List, [], ◌∷◌, ◌++◌, length, Some, sym, ap, ◌∙◌, subst, arith, get_or, append-nil}
 use Rattle.std.specs.Prelude.{◌↔◌, slice_get, slice_set, slice_index, IsSomeAnd}
-use Rattle.tree_defs.specs.Tree.{Tree, Address, IsAddressOf, subtree, root_of}
+use Rattle.tree_defs.specs.Tree.{Address, IsAddressOf, subtree, root_of}
 use Rattle.rank_defs.specs.declared.environment.Env.{Env}
 use Rattle.rank_defs.specs.declared.environment.Who.{Who}
 use Rattle.rank_defs.specs.declared.environment.Who.TheVariants.{Child, Flow}
@@ -12,17 +12,16 @@ use Rattle.rank_defs.specs.Steps.{push_rank, after_push, after_pop}
 use Rattle.rank_defs.proofs.Same.{same-trans, push_step-same, after_push-same, after_pop-same}
 use Rattle.rank_core.specs.declared.node.NodeState.{NodeState}
 use Rattle.rank_core.specs.Node.{state_of, children_of, HasRoom}
-use Rattle.policy_defs.specs.Policy.{Node, Marks, node_at}
+use Rattle.policy_defs.specs.Policy.{Marks, node_at}
 use Rattle.policy_defs.specs.Accepted.{AreMarksInRange}
 use Rattle.policy_core.specs.Numbering.{address_at}
 use Rattle.policy_core.proofs.Numbers.{address-undone}
-use Rattle.schedule_defs.specs.Visits.{States, Visit, with_state, rank_at, after_pushes, after_pops}
+use Rattle.schedule_defs.specs.Visits.{States, Visit, rank_at, after_pushes, after_pops}
 use Rattle.stations_core.specs.declared.passage.Passage.{Passage}
 use Rattle.stations_core.specs.Kept.{Keeps, IsStationOf, AreStations, HaveValues, HasRoomAt}
 use Rattle.stations_core.specs.Ways.{IsReady, IsOnTheWay, tree_for, class_for, place, part, who_on, marks_on, stop}
-use Rattle.stations_core.proofs.Parts.{some-and, part-is, part-down, node-of_part, IsNext, next}
+use Rattle.stations_core.proofs.Parts.{some-and, part-is, part-down, node-of_part, next}
 use Rattle.stations_core.proofs.Sets.{stations-set, values-set, room-set}
-
 
 pub here : (e : Passage) (node : ℕ) (digits : List ℕ) → IsOnTheWay e node digits → subtree (tree_for e) (place e node) ≡ Some (part e node)
 here e node digits w = part-is (tree_for e) (place e node) (address-undone (tree_for e) node w.there).there

@@ -1,5 +1,4 @@
 -- What a policy's stations say of the values of its variables, and for which flows they have room.
-use Rattle.std.specs.Prelude.{ℕ}
 use Rattle.rank_defs.specs.declared.environment.Who.TheVariants.{Flow}
 use Rattle.packet_defs.specs.declared.packet.Packet.{Packet}
 use Rattle.policy_defs.specs.Policy.{Policy}

@@ -1,5 +1,5 @@
 -- The states that are kept for the nodes of a tree, each at its node's number.
-use Rattle.std.specs.Prelude.{◌≡◌, ◌≤◌, ℕ, List, [], ◌∷◌, Option, Some, None, length, slice_get, unwrap_or}
+use Rattle.std.specs.Prelude.{◌≡◌, ℕ, List, [], ◌∷◌, Option, Some, None, length, slice_get, unwrap_or}
 use Rattle.std.specs.Coded.{Coded-set, coded_ℕ, coded_bool, coded_option, Unit-prop, le_prop}
 use Rattle.tree_defs.specs.Tree.{Tree, leaf, inner, Address, IsAddressOf, subtree, root_of, nodes, count_of}
 use Rattle.rank_defs.specs.declared.environment.Who.{Who}

@@ -1,5 +1,5 @@
 -- The way of a packet from a node down to its leaf.
-use Rattle.std.specs.Prelude.{◌≡◌, ◌≤◌, ◌<◌, ℕ, List, [], ◌∷◌}
+use Rattle.std.specs.Prelude.{◌≤◌, ◌<◌, ℕ, List, [], ◌∷◌}
 use Rattle.tree_defs.specs.Tree.{Tree, leaf, inner, Address, LeadsToLeaf, root_of, nodes}
 use Rattle.rank_defs.specs.declared.environment.Who.{Who}
 use Rattle.rank_defs.specs.declared.environment.Who.TheVariants.{Child, Flow}
@@ -9,7 +9,7 @@ use Rattle.packet_defs.specs.declared.packet.Packet.{Packet}
 use Rattle.policy_defs.specs.Policy.{Node, Class, Marks}
 use Rattle.policy_defs.specs.Accepted.{IsAccepted, AreMarksInRange}
 use Rattle.policy_core.specs.Numbering.{address_at}
-use Rattle.policy_core.specs.Parts.{class_in, told}
+use Rattle.policy_core.specs.Parts.{class_in}
 use Rattle.schedule_defs.specs.Visits.{Visit, visit, env_for, child_marks, visits_from}
 use Rattle.stations_core.specs.declared.passage.Passage.{Passage}
 use Rattle.stations_core.specs.Kept.{part_at}

@@ -7,3 +7,6 @@ mod stations;
 mod walk;
 
 pub use stations::Stations;
+
+#[cfg(test)]
+mod tests;

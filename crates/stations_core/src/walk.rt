@@ -45,13 +45,7 @@ fn pop_at(states: &mut [NodeState], passage: &Passage, node: u32, digits: &[u32]
     let transaction = passage.policy.checked(node).transaction();
     let who = passage.who(digits);
     let env = passage.env(node, digits);
-    run_pop(
-        transaction,
-        &mut states[node as usize],
-        &who,
-        rank,
-        &env,
-    );
+    run_pop(transaction, &mut states[node as usize], &who, rank, &env);
 }
 
 /// The push steps from a node down to the leaf. `trace` gets the digits and the ranks, last.

@@ -1,4 +1,5 @@
+use Rattle.std.proofs.Common.{length}
 use Rattle.stations_core.proofs.first.+arity.Given as goal
 
 abbrev pub decreases-arity : goal.decreases-arity
-decreases-arity l = goal.size-arity l
+decreases-arity l = length l.address.now

@@ -1,4 +1,4 @@
-use Rattle.std.proofs.Common.{rules, ◌≡◌, ◌∷◌, [], List, ℕ, sym, subst}
+use Rattle.std.proofs.Common.{rules, ◌∷◌, [], List, ℕ, sym, subst}
 use Rattle.tree_defs.specs.Tree.{Address}
 use Rattle.rank_defs.specs.declared.environment.Who.TheVariants.{Flow}
 use Rattle.schedule_defs.specs.Visits.{Visit, after_pops}
@@ -14,12 +14,22 @@ pub child-child-requires-clause-child : goal.child-child-requires-clause-child
 child-child-requires-clause-child t c = child-there c.args.passage.now c.args.node c.args.digits.now c.in-len1-up.len_at_least c.requires.way
 
 pub pop_from-requires : goal.pop_from-requires
-pop_from-requires t c =
-    (search rules, (c.requires.ready,
-    (still-on_the_way c.args.passage.now c.args.node c.child-child.result c.args.digits.now c.in-len1-up.len_at_least c.requires.way c.child-child.ensures.address c.child-child.ensures.within,
-    (c.pop_at.ensures.kept,
-    (subst (λ (a : Address). HasRoomAt (tree_for c.args.passage.now) c.pop_at.new.states a (Flow c.args.passage.now.packet.now.flow)) (sym (place-on c.args.passage.now c.args.node c.child-child.result c.args.digits.now c.in-len1-up.len_at_least c.requires.way c.child-child.ensures.address)) (c.pop_at.ensures.room _ _ c.requires.room),
-    (later-ranks c.args.digits.now c.args.ranks.now c.in-len1-up.len_at_least c.requires.even, subst AreLow (sym (later-is c.args.ranks.now)) (rest_low c.args.ranks.now c.requires.limit)))))))
+pop_from-requires t c = (
+  search rules,
+  (
+    c.requires.ready,
+    (
+      still-on_the_way c.args.passage.now c.args.node c.child-child.result c.args.digits.now c.in-len1-up.len_at_least c.requires.way c.child-child.ensures.address c.child-child.ensures.within,
+      (
+        c.pop_at.ensures.kept,
+        (
+          subst (λ (a : Address). HasRoomAt (tree_for c.args.passage.now) c.pop_at.new.states a (Flow c.args.passage.now.packet.now.flow)) (sym (place-on c.args.passage.now c.args.node c.child-child.result c.args.digits.now c.in-len1-up.len_at_least c.requires.way c.child-child.ensures.address)) (c.pop_at.ensures.room _ _ c.requires.room),
+          (later-ranks c.args.digits.now c.args.ranks.now c.in-len1-up.len_at_least c.requires.even, subst AreLow (sym (later-is c.args.ranks.now)) (rest_low c.args.ranks.now c.requires.limit)),
+        ),
+      ),
+    ),
+  ),
+)
 
 pub returns-in_default-clause-values : goal.returns-in_default-clause-values
 returns-in_default-clause-values t c = λ values h.

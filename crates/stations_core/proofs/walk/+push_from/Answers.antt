@@ -17,12 +17,22 @@ pub push_from-requires : goal.push_from-requires
 push_from-requires t c =
     let one : length c.step.new.self.digits ≡ length c.args.trace.now.digits + 1 = ap length c.step.ensures.digits ∙ length-append c.args.trace.now.digits _ in
     let other : length c.step.new.self.ranks ≡ length c.args.trace.now.ranks + 1 = ap length c.step.ensures.ranks ∙ length-append c.args.trace.now.ranks _ in
-    let less : _ = later-length c.args.passage.now c.args.node c.child-child.result c.args.digits.now c.in-len1-up.len_at_least c.requires.way c.child-child.ensures.address in
-    (search rules, (c.requires.ready,
-    (still-on_the_way c.args.passage.now c.args.node c.child-child.result c.args.digits.now c.in-len1-up.len_at_least c.requires.way c.child-child.ensures.address c.child-child.ensures.within,
-    (c.push_at-rank.ensures.kept,
-    (subst (λ (a : Address). HasRoomAt (tree_for c.args.passage.now) c.push_at-rank.new.states a (Flow c.args.passage.now.packet.now.flow)) (sym (place-on c.args.passage.now c.args.node c.child-child.result c.args.digits.now c.in-len1-up.len_at_least c.requires.way c.child-child.ensures.address)) (c.push_at-rank.ensures.room _ _ c.requires.room),
-    (omega (arith, one, less, c.step.ensures.room, c.requires.levels), omega (arith, one, other, c.requires.even)))))))
+    let less : _ = later-length c.args.passage.now c.args.node c.child-child.result c.args.digits.now c.in-len1-up.len_at_least c.requires.way c.child-child.ensures.address in (
+      search rules,
+      (
+        c.requires.ready,
+        (
+          still-on_the_way c.args.passage.now c.args.node c.child-child.result c.args.digits.now c.in-len1-up.len_at_least c.requires.way c.child-child.ensures.address c.child-child.ensures.within,
+          (
+            c.push_at-rank.ensures.kept,
+            (
+              subst (λ (a : Address). HasRoomAt (tree_for c.args.passage.now) c.push_at-rank.new.states a (Flow c.args.passage.now.packet.now.flow)) (sym (place-on c.args.passage.now c.args.node c.child-child.result c.args.digits.now c.in-len1-up.len_at_least c.requires.way c.child-child.ensures.address)) (c.push_at-rank.ensures.room _ _ c.requires.room),
+              (omega (arith, one, less, c.step.ensures.room, c.requires.levels), omega (arith, one, other, c.requires.even)),
+            ),
+          ),
+        ),
+      ),
+    )
 
 pub returns-in-empty-clause-ranks : goal.returns-in-empty-clause-ranks
 returns-in-empty-clause-ranks t c = λ values h.

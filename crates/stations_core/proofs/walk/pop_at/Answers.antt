@@ -1,4 +1,4 @@
-use Rattle.std.proofs.Common.{◌∷◌, [], ◌≡◌, ◌<◌, Some, length, arith, get_or, sym, ap, ◌∙◌}
+use Rattle.std.proofs.Common.{◌∷◌, [], ◌≡◌, ◌<◌, Some, length, arith}
 use Rattle.std.specs.Prelude.{slice_get}
 use Rattle.std.proofs.lemmas.Option.{slice_get-get_or}
 use Rattle.stations_core.proofs.Stops.{program-here, in_range-here, room-on_the_way, popped-here, still-station, still-room}
