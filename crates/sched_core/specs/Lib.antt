@@ -1,3 +1,6 @@
 pub mod Standing
 pub mod Origins
 pub mod Departures
+pub mod Held
+pub mod Own
+pub mod Direct

@@ -1,6 +1,11 @@
 //! Schedulers of packets, by a policy, over queues that another owns.
 #![tactic(auto)]
 
+mod direct;
+mod held;
+mod own;
 mod scheduler;
 
+pub use direct::Direct;
+pub use own::Own;
 pub use scheduler::Scheduler;

@@ -8,10 +8,10 @@ use Rattle.tree_core.specs.Places.{without_places, without_places_below, HasNoFe
 use Rattle.tree_core.proofs.Along.{later, later-cons, child_within}
 
 -- ---- push
-one_less : (m n : ℕ) → m + 1 ≡ n → m ≡ n - 1
+pub one_less : (m n : ℕ) → m + 1 ≡ n → m ≡ n - 1
 one_less m n e = omega (arith, e)
 
-spares-used : (ks : List TreeContents) (i : ℕ) (digits : List ℕ) (k k' : TreeContents) → k ≡ get_or ks i k → i < length ks → k'.spare ≡ without_places k.spare digits
+pub spares-used : (ks : List TreeContents) (i : ℕ) (digits : List ℕ) (k k' : TreeContents) → k ≡ get_or ks i k → i < length ks → k'.spare ≡ without_places k.spare digits
     → spares (set ks i k') ≡ without_places_below (spares ks) i digits
 spares-used [] i digits k k' e l p = absurd (omega arith)
 spares-used (j ∷ ks) zero digits k k' e l p =
@@ -19,7 +19,7 @@ spares-used (j ∷ ks) zero digits k k' e l p =
     ap (λ (t : Tree ℕ). more t (spares ks)) q
 spares-used (j ∷ ks) (suc i) digits k k' e l p = ap (more j.spare) (spares-used ks i digits k k' e (omega arith) p)
 
-branch-used : (n : ℕ) (t : Tree ℕ) (ts : Trees ℕ) (i : ℕ) (digits : List ℕ) → branch n (without_places_below (more t ts) i digits) ≡ inner n (without_places_below (more t ts) i digits)
+pub branch-used : (n : ℕ) (t : Tree ℕ) (ts : Trees ℕ) (i : ℕ) (digits : List ℕ) → branch n (without_places_below (more t ts) i digits) ≡ inner n (without_places_below (more t ts) i digits)
 branch-used n t ts zero digits = refl
 branch-used n t ts (suc i) digits = refl
 

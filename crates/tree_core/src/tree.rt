@@ -93,6 +93,28 @@ impl SourceTree {
         self.push_along(path.steps.as_slice(), path.last, value);
     }
 
+    /// Pushes a packet's number to the leaf at an address, with a rank for each node on the way to it. Takes no memory.
+    pub fn push_to(&mut self, address: &[u32], ranks: &[u64], value: u64)
+        requires leaf { LeadsToLeaf self.old.tree address.now }
+        requires ranks { length ranks.now ≡ length address.now + 1 }
+        requires room { HasRoom self.old.spare address.now }
+        requires few { self.old.pushes < 2 ^ 62 }
+        ensures tree { self.new.tree ≡ push self.old.tree address.now ranks.now value }
+        ensures pushes { self.new.pushes ≡ self.old.pushes + 1 }
+        ensures spare { self.new.spare ≡ without_places self.old.spare address.now }
+    {
+        let [rank, lower @ ..] = ranks else {
+            unreachable!()
+        };
+        match address {
+            [] => self.queue.push(*rank, value),
+            [digit, deeper @ ..] => {
+                self.queue.push(*rank, u64::from(*digit));
+                self.children[*digit as usize].push_to(deeper, lower, value);
+            }
+        }
+    }
+
     /// Takes a packet's number, and sets `taken` to the digits and the ranks taken on the way to it. Takes no memory.
     pub fn pop(&mut self, taken: &mut Taken) -> Option<u64>
         requires room { depth self.old.tree ≤ taken.old.room }

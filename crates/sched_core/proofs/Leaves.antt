@@ -1,0 +1,17 @@
+-- The number of the leaf of a class.
+use Rattle.std.proofs.Common.{◌≡◌, ℕ, zero, suc, ◌<◌, List, [], ◌∷◌, length, map, slice_get, slice_index_or, unwrap_or, sym, arith}
+use Rattle.std.specs.List.{AllByRecursion}
+use Rattle.tree_defs.specs.Tree.{Tree, nodes}
+use Rattle.policy_defs.specs.Policy.{Node, Class as Aimed}
+use Rattle.policy_defs.specs.Numbers.{number_at}
+use Rattle.policy_core.specs.declared.parts.Class.{Class}
+use Rattle.policy_core.specs.Numbering.{address_at}
+use Rattle.policy_core.specs.Parts.{class_in}
+use Rattle.policy_core.proofs.Numbers.{IsAddress, address-undone}
+
+-- it is the number at its address
+pub leaf-number : (tree : Tree Node) (all : List Class) (i : ℕ) (c : Class) (d : Aimed) → i < length all → AllByRecursion (λ x. x.leaf < nodes tree) all
+    → (slice_index_or all i c).leaf ≡ number_at tree (unwrap_or (slice_get (map (class_in tree) all) i) d).leaf
+leaf-number tree [] i c d l h = absurd (omega arith)
+leaf-number tree (x ∷ all) zero c d l h = let a : IsAddress tree x.leaf (address_at tree x.leaf) = address-undone tree x.leaf h.0 in sym a.number
+leaf-number tree (x ∷ all) (suc i) c d l h = leaf-number tree all i c d (omega arith) h.1

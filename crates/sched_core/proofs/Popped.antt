@@ -1,0 +1,28 @@
+-- The packet that is popped next.
+use Rattle.std.proofs.Common.{◌≡◌, ℕ, List, Some, refl}
+use Rattle.tree_defs.specs.Tree.{Popping}
+use Rattle.tree_defs.specs.SourceTree.{SourceTree}
+use Rattle.packet_defs.specs.declared.packet.Packet.{Packet}
+use Rattle.policy_defs.specs.Policy.{Policy}
+use Rattle.schedule_defs.specs.SourceState.{SourceState, departed, leaver, leaving, left_with}
+use Rattle.schedule_defs.specs.Sound.{IsSound, IsAtItsLeaf}
+use Rattle.schedule_defs.specs.Laws.{LeavesItsLeaf}
+use Rattle.schedule_defs.proofs.Soundness.{popped_is_held}
+use Rattle.schedule_defs.proofs.Leaving.{pop_leaves}
+use Rattle.sched_core.specs.Own.{PopsNext}
+
+module _ (policy : Policy) (s : SourceState) (number : ℕ) (digits ranks : List ℕ) (next : PopsNext s number digits ranks) where
+  abbrev pub taken : Popping SourceTree
+  taken = record { value = number; digits = digits; ranks = ranks; left = next.left }
+
+  pub is_held : IsSound policy s → (p : Packet) × (s.held number ≡ Some p)
+  is_held sound = let at : IsAtItsLeaf policy s (digits, number) = popped_is_held policy s taken sound next.popped in (at.packet, at.held)
+
+  pub leaves : IsSound policy s → (p : Packet) → s.held number ≡ Some p → LeavesItsLeaf policy s (leaving taken p)
+  leaves sound p h = pop_leaves policy s taken p sound next.popped h
+
+  pub leaver-popped : (p : Packet) → s.held number ≡ Some p → leaver s ≡ Some (leaving taken p)
+  leaver-popped p h = rw (next.popped, h) refl
+
+  pub departed-popped : (p : Packet) → s.held number ≡ Some p → departed policy s ≡ left_with policy s taken (Some p)
+  departed-popped p h = rw (next.popped, h) refl

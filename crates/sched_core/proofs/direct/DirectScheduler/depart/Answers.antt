@@ -1,0 +1,57 @@
+use Rattle.std.proofs.Common.{◌≡◌, None, Some, sym, ap, ◌∙◌, refl, arith}
+use Rattle.tree_defs.specs.Tree.{depth}
+use Rattle.tree_defs.specs.Topology.{Topology}
+use Rattle.tree_defs.specs.SourceTree.{SourceTree, pop, size}
+use Rattle.tree_defs.proofs.Shapes.{topology_of-same, depth-topology}
+use Rattle.policy_defs.specs.Policy.{Policy}
+use Rattle.schedule_defs.specs.SourceState.{leaver}
+use Rattle.schedule_defs.proofs.Leaving.{pop_size, leaver-none}
+use Rattle.sched_core.specs.Own.{policy_in}
+use Rattle.sched_core.proofs.direct.DirectScheduler.depart.Goals as goal
+
+pub pop-requires : goal.pop-requires
+pop-requires c =
+    let policy : Policy = policy_in c.args.self.now.own in
+    let r = c.requires.stands in
+    let levels : depth c.args.under.now.tree ≡ depth policy.tree
+    = ap (λ (t : SourceTree). depth t) (sym r.stood.tree) ∙ sym (depth-topology r.state.tree) ∙ ap (λ (t : Topology). depth t) (topology_of-same r.state.tree policy.tree r.sound.shape) ∙ depth-topology policy.tree in
+    record { room = omega (arith, levels, c.requires.room) }
+
+pub release-requires-clause-stands : goal.release-requires-clause-stands
+release-requires-clause-stands c =
+    let r = c.requires.stands in
+    record {
+      state = r.state;
+      sound = r.sound;
+      stood = r.stood.own;
+      has = record {
+        left = c.pop.new.self.tree;
+        popped = ap pop r.stood.tree ∙ c.in-Some.ensures.popped
+            ∙ (λ i. Some (record { value = c.in-Some.number; digits = sym c.digits.ensures.digits i; ranks = sym c.ranks.ensures.ranks i; left = c.pop.new.self.tree }));
+      };
+    }
+
+pub returns-in-None-clause-state : goal.returns-in-None-clause-state
+returns-in-None-clause-state c = λ s sound stood.
+    let policy : Policy = policy_in c.args.self.now.own in
+    let empty : size s.tree ≡ 0 = ap (λ (t : SourceTree). size t) stood.tree ∙ c.in-None.ensures.empty.0 refl in
+    let nothing : pop s.tree ≡ None = (pop_size policy s sound).1 empty in
+    rw nothing record {
+      own = c.find_none.ensures.state s stood.own;
+      tree = stood.tree ∙ ap (λ g. g.tree) (sym c.in-None.ensures.unchanged);
+      pushes = c.pop.ensures.pushes ∙ stood.pushes ∙ sym c.find_none.ensures.arrivals;
+    }
+
+pub returns-in-None-clause-value : goal.returns-in-None-clause-value
+returns-in-None-clause-value c = λ s sound stood.
+    let policy : Policy = policy_in c.args.self.now.own in
+    let empty : size s.tree ≡ 0 = ap (λ (t : SourceTree). size t) stood.tree ∙ c.in-None.ensures.empty.0 refl in
+    let nothing : leaver s ≡ None = (leaver-none policy s sound).1 empty in
+    rw nothing refl
+
+pub returns-in-None-clause-taken : goal.returns-in-None-clause-taken
+returns-in-None-clause-taken c = λ s sound stood.
+    let policy : Policy = policy_in c.args.self.now.own in
+    let empty : size s.tree ≡ 0 = ap (λ (t : SourceTree). size t) stood.tree ∙ c.in-None.ensures.empty.0 refl in
+    let nothing : leaver s ≡ None = (leaver-none policy s sound).1 empty in
+    rw nothing tt

@@ -1,0 +1,57 @@
+use Rattle.std.proofs.Common.{◌≡◌, ℕ, None, Option, Some, if◌then◌else◌, ◌==◌, sym, ap, ◌∙◌, subst, List, refl}
+use Rattle.packet_defs.specs.declared.packet.Packet.{Packet}
+use Rattle.policy_defs.specs.Policy.{Policy}
+use Rattle.policy_defs.specs.Numbers.{number_at}
+use Rattle.schedule_defs.specs.Visits.{after_pops}
+use Rattle.schedule_defs.specs.SourceState.{class_of, way_out}
+use Rattle.schedule_defs.specs.Laws.{LeavesItsLeaf}
+use Rattle.schedule_defs.proofs.Soundness.{without-is}
+use Rattle.stations_core.specs.Agreement.{AreStates}
+use Rattle.sched_core.specs.Own.{policy_in}
+use Rattle.sched_core.proofs.Popped.{is_held, leaves, leaver-popped, departed-popped}
+use Rattle.sched_core.proofs.own.Own.release.Goals as goal
+
+pub unreachable-requires : goal.unreachable-requires
+unreachable-requires c =
+    let r = c.requires.stands in
+    let held = is_held (policy_in c.args.self.now) r.state c.args.number c.args.digits.now c.args.ranks.now r.has r.sound in
+    let none : c.take.result ≡ Some held.0 = c.take.ensures.value ∙ r.stood.held c.args.number ∙ held.1 in
+    c.in_default.not-Some held.0 none
+
+pub pop_steps-requires-clause-leaf_address : goal.pop_steps-requires-clause-leaf_address
+pop_steps-requires-clause-leaf_address c =
+    let r = c.requires.stands in
+    (leaves (policy_in c.args.self.now) r.state c.args.number c.args.digits.now c.args.ranks.now r.has r.sound c.in-Some.packet (sym (r.stood.held c.args.number) ∙ sym c.take.ensures.value ∙ c.in-Some.is)).leaf_is
+
+pub pop_steps-requires-clause-even : goal.pop_steps-requires-clause-even
+pop_steps-requires-clause-even c =
+    let r = c.requires.stands in
+    (leaves (policy_in c.args.self.now) r.state c.args.number c.args.digits.now c.args.ranks.now r.has r.sound c.in-Some.packet (sym (r.stood.held c.args.number) ∙ sym c.take.ensures.value ∙ c.in-Some.is)).ranks.count
+
+pub pop_steps-requires-clause-limit : goal.pop_steps-requires-clause-limit
+pop_steps-requires-clause-limit c =
+    let r = c.requires.stands in
+    (leaves (policy_in c.args.self.now) r.state c.args.number c.args.digits.now c.args.ranks.now r.has r.sound c.in-Some.packet (sym (r.stood.held c.args.number) ∙ sym c.take.ensures.value ∙ c.in-Some.is)).ranks.low
+
+pub returns-clause-state : goal.returns-clause-state
+returns-clause-state c = λ s sound own next.
+    let p : Packet = c.in-Some.packet in
+    let held : s.held c.args.number ≡ Some p = sym (own.held c.args.number) ∙ sym c.take.ensures.value ∙ c.in-Some.is in
+    rw (departed-popped (policy_in c.args.self.now) s c.args.number c.args.digits.now c.args.ranks.now next p held) record {
+      nodes = subst (λ (m : ℕ). AreStates c.pop_steps.new.self (after_pops (way_out (policy_in c.args.self.now) p c.args.digits.now m) c.args.ranks.now s.nodes)) (sym own.now)
+          (c.pop_steps.ensures.states s.nodes own.nodes);
+      held = λ n. c.take.ensures.rest n ∙ ap (λ (o : Option Packet). if n == c.args.number then None else o) (own.held n);
+      room = λ n q h. c.pop_steps.ensures.kept q (own.room n q (without-is s.held c.args.number n q h).1);
+      now = own.now;
+    }
+
+pub returns-clause-value : goal.returns-clause-value
+returns-clause-value c = λ s sound own next.
+    let policy : Policy = policy_in c.args.self.now in
+    let p : Packet = c.in-Some.packet in
+    let held : s.held c.args.number ≡ Some p = sym (own.held c.args.number) ∙ sym c.take.ensures.value ∙ c.in-Some.is in
+    let l : LeavesItsLeaf policy s (record { packet = p; digits = c.args.digits.now; ranks = c.args.ranks.now }) = leaves policy s c.args.number c.args.digits.now c.args.ranks.now next sound p held in
+    let number : p.number ≡ c.args.number = sound.numbered c.args.number p held in
+    let leaf : number_at policy.tree c.args.digits.now ≡ c.leaf.result
+    = ap (λ (a : List ℕ). number_at policy.tree a) l.leaf_is ∙ ap (λ (z : Policy). number_at z.tree (class_of z p).leaf) (sym c.pop_steps.ensures.policy) ∙ sym c.leaf.ensures.number in
+    rw (leaver-popped policy s c.args.number c.args.digits.now c.args.ranks.now next p held, number, leaf) refl

@@ -1,0 +1,12 @@
+-- Which source states a scheduler over a source tree stands for.
+use Rattle.std.specs.Prelude.{◌≡◌}
+use Rattle.tree_core.specs.TreeContents.{TreeContents}
+use Rattle.schedule_defs.specs.SourceState.{SourceState}
+use Rattle.sched_core.specs.declared.direct.Direct.{Direct}
+use Rattle.sched_core.specs.Own.{IsOwn}
+
+-- the queues are those of the tree under it, which was pushed once for each arrival
+pub record DirectStands (c : Direct) (under : TreeContents) (s : SourceState) : Type 0 where
+  pub own : IsOwn c.own s
+  pub tree : s.tree ≡ under.tree
+  pub pushes : under.pushes ≡ c.own.arrivals

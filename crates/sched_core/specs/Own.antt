@@ -1,0 +1,37 @@
+-- What a scheduler keeps itself of a source state: all but its queues.
+use Rattle.std.specs.Prelude.{◌≡◌, ℕ, List, Some}
+use Rattle.tree_defs.specs.SourceTree.{SourceTree, pop}
+use Rattle.packet_defs.specs.declared.packet.Packet.{Packet}
+use Rattle.policy_defs.specs.Policy.{Policy}
+use Rattle.schedule_defs.specs.SourceState.{SourceState}
+use Rattle.stations_core.specs.Agreement.{policy_of, AreStates, HasFlowRoom}
+use Rattle.sched_core.specs.declared.own.Own.{Own}
+use Rattle.sched_core.specs.Held.{held_at}
+use Rattle.sched_core.specs.Standing.{StandForOne, ForEachState}
+
+abbrev pub policy_in : Own → Policy
+policy_in own = policy_of own.stations
+
+-- the variables, the packets held and the greatest moment are those of the state, and each held packet's flow has room
+pub record IsOwn (own : Own) (s : SourceState) : Type 0 where
+  pub nodes : AreStates own.stations s.nodes
+  pub held : (n : ℕ) → held_at own.held n ≡ s.held n
+  pub room : (n : ℕ) (p : Packet) → s.held n ≡ Some p → HasFlowRoom own.stations p
+  pub now : s.now ≡ own.moment
+
+-- whatever holds the queues
+abbrev pub owns : Own → Unit {0} → SourceState → Type 0
+owns own queues s = IsOwn own s
+
+-- it is that of a sound state that has P
+abbrev pub IsOfOne : Own → (SourceState → Type 0) → Type 0
+IsOfOne own P = StandForOne owns (policy_in own) own tt P
+
+-- P holds of each sound state whose it is
+abbrev pub IsOfEach : Own → (SourceState → Type 0) → Type 0
+IsOfEach own P = ForEachState owns (policy_in own) own tt P
+
+-- this is popped next
+pub record PopsNext (s : SourceState) (number : ℕ) (digits ranks : List ℕ) : Type 0 where
+  pub left : SourceTree
+  pub popped : pop s.tree ≡ Some (record { value = number; digits = digits; ranks = ranks; left = left })

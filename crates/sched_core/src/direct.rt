@@ -1,0 +1,80 @@
+ghost use Rattle.std.specs.Prelude.{◌≡◌, IfOk};
+ghost use Rattle.schedule_defs.specs.SourceState.{start};
+
+use crate::own::Own;
+use crate::scheduler::Scheduler;
+use packet_defs::{Departed, Packet};
+use policy_core::Policy;
+use std::alloc::{AllocError, Global};
+use tree_core::{SourceTree, Taken};
+
+/// A scheduler over the source tree itself.
+#[derive(Drop)]
+pub struct Direct<'a> {
+    own: Own<'a>,
+}
+
+impl<'a> Direct<'a> {
+    ghost use Rattle.sched_core.specs.Own.{policy_in};
+    ghost use Rattle.sched_core.specs.Direct.{DirectStands};
+
+    /// A scheduler that saw no event yet, and the empty tree of the policy's topology. The error is want of memory.
+    pub fn new(alloc: Global, policy: &'a Policy) -> Result<(Direct<'a>, SourceTree), AllocError>
+        ensures stands { IfOk result (λ r. DirectStands r.0 r.1 (start policy.now.policy)) }
+        ensures policy { IfOk result (λ r. policy_in r.0.own ≡ policy.now.policy) }
+        ensures arrivals { IfOk result (λ r. r.0.own.arrivals ≡ 0) }
+        ensures departures { IfOk result (λ r. r.0.own.departures ≡ 0) }
+    {
+        let own = Own::new(alloc, policy)?;
+        let tree = SourceTree::new(alloc, policy.topo())?;
+        Ok((Direct { own }, tree))
+    }
+}
+
+impl<'a> Scheduler for Direct<'a> {
+    type Under = SourceTree;
+
+    ghost use Rattle.std.specs.Prelude.{None};
+    ghost use Rattle.sched_core.specs.Own.{policy_in};
+    ghost use Rattle.sched_core.specs.Direct.{DirectStands};
+
+    ghost stands = { DirectStands };
+
+    ghost arrivals = { λ c. c.own.arrivals };
+
+    ghost departures = { λ c. c.own.departures };
+
+    ghost policy = { λ c. policy_in c.own };
+
+    ghost origin = { λ _. None };
+
+    fn arrive(
+        &mut self,
+        under: &mut SourceTree,
+        packet: &Packet,
+        trace: &mut Taken,
+    ) -> Result<u32, AllocError> {
+        under.reserve(self.own.address(packet))?;
+        let leaf = self.own.admit(packet, trace)?;
+        under.push_to(trace.digits(), trace.ranks(), packet.number);
+        Ok(leaf)
+    }
+
+    fn depart(&mut self, under: &mut SourceTree, trace: &mut Taken) -> Option<Departed> {
+        match under.pop(trace) {
+            None => {
+                self.own.find_none();
+                None
+            }
+            Some(number) => Some(self.own.release(number, trace.digits(), trace.ranks())),
+        }
+    }
+
+    fn held(&self) -> u64 {
+        self.own.held()
+    }
+
+    fn now(&self) -> u64 {
+        self.own.now()
+    }
+}

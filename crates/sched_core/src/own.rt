@@ -1,0 +1,140 @@
+ghost use Rattle.std.specs.Prelude.{◌≡◌, ◌<◌, ◌≤◌, ◌+◌, ◌^◌, Some, option_map, is_ok, if◌then◌else◌, OnOk, OnErr, IfOk};
+ghost use Rattle.tree_defs.specs.Tree.{depth};
+ghost use Rattle.tree_defs.specs.SourceTree.{size};
+ghost use Rattle.policy_defs.specs.Accepted.{IsAccepted};
+ghost use Rattle.policy_defs.specs.Numbers.{number_at};
+ghost use Rattle.schedule_defs.specs.SourceState.{SourceState, start, class_of, arrival_ranks, arrived, departed, leaver};
+ghost use Rattle.schedule_defs.specs.Sound.{IsKnown};
+ghost use Rattle.schedule_defs.specs.Events.{CanArrive};
+ghost use Rattle.sched_core.specs.Departures.{departed_packet};
+
+use crate::held::Held;
+use packet_defs::{Departed, Packet};
+use policy_core::Policy;
+use stations_core::Stations;
+use std::alloc::{AllocError, Global};
+use tree_core::Taken;
+
+/// What a scheduler keeps itself, whatever holds its queues: the nodes' variables, the held packets and the greatest moment.
+#[derive(Drop)]
+pub struct Own<'a> {
+    stations: Stations<'a>,
+    held: Held,
+    moment: u64,
+    arrivals: u64,
+    departures: u64,
+}
+
+impl<'a> Own<'a> {
+    ghost use Rattle.sched_core.specs.Own.{policy_in, IsOwn, IsOfOne, IsOfEach, PopsNext};
+
+    /// No packet came yet. The error is want of memory.
+    pub fn new(alloc: Global, policy: &'a Policy) -> Result<Own<'a>, AllocError>
+        ensures start { IfOk result (λ own. IsOwn own (start policy.now.policy)) }
+        ensures policy { IfOk result (λ own. policy_in own ≡ policy.now.policy) }
+        ensures arrivals { IfOk result (λ own. own.arrivals ≡ 0) }
+        ensures departures { IfOk result (λ own. own.departures ≡ 0) }
+    {
+        Ok(Own {
+            stations: Stations::new(alloc, policy)?,
+            held: Held::new(alloc),
+            moment: 0,
+            arrivals: 0,
+            departures: 0,
+        })
+    }
+
+    /// The number of the leaf of a packet's class.
+    fn leaf(&self, packet: &Packet) -> u32
+        requires known { IsKnown (policy_in self.now) packet.now }
+        ensures number { result ≡ number_at (policy_in self.now).tree (class_of (policy_in self.now) packet.now).leaf }
+    {
+        self.stations.policy().classes()[packet.class as usize].leaf
+    }
+
+    /// The address of the leaf of a packet's class.
+    pub fn address(&self, packet: &Packet) -> &[u32]
+        requires known { IsKnown (policy_in self.now) packet.now }
+        ensures address { result.now ≡ (class_of (policy_in self.now) packet.now).leaf }
+    {
+        let policy = self.stations.policy();
+        policy.address(policy.classes()[packet.class as usize].leaf)
+    }
+
+    /// Takes in a packet: the push steps run on its way, and `trace` gets the digits and the ranks. The answer is the number of
+    /// its leaf. The error is want of memory.
+    pub fn admit(&mut self, packet: &Packet, trace: &mut Taken) -> Result<u32, AllocError>
+        requires accepted { IsAccepted (policy_in self.old) }
+        requires stands { IsOfOne self.old (λ s. CanArrive (policy_in self.old) s packet.now) }
+        requires room { depth (policy_in self.old).tree ≤ trace.old.room }
+        requires few { self.old.arrivals < 2 ^ 61 }
+
+        ensures ok { OnOk result (IsOfEach self.old (λ s. IsOwn self.new (arrived (policy_in self.old) packet.now s))) }
+        ensures leaf { IfOk result (λ leaf. leaf ≡ number_at (policy_in self.old).tree (class_of (policy_in self.old) packet.now).leaf) }
+        ensures digits { OnOk result (trace.new.digits ≡ (class_of (policy_in self.old) packet.now).leaf) }
+        ensures ranks { OnOk result (IsOfEach self.old (λ s. trace.new.ranks ≡ arrival_ranks (policy_in self.old) packet.now s)) }
+        ensures err { OnErr result (IsOfEach self.old (λ s. IsOwn self.new s)) }
+        ensures trace { OnErr result (trace.new ≡ trace.old) }
+        ensures room { trace.new.room ≡ trace.old.room }
+        ensures arrivals { self.new.arrivals ≡ (if is_ok result then self.old.arrivals + 1 else self.old.arrivals) }
+        ensures departures { self.new.departures ≡ self.old.departures }
+        ensures policy { policy_in self.new ≡ policy_in self.old }
+    {
+        self.stations.reserve(packet)?;
+        self.held.put(packet)?;
+        self.moment = self.moment.max(packet.moment);
+        self.stations.push_steps(packet, self.moment, trace);
+        self.arrivals += 1;
+        Ok(self.leaf(packet))
+    }
+
+    /// Lets go of the packet that was popped with these digits and ranks: the pop steps run on its way. Takes no memory.
+    pub fn release(&mut self, number: u64, digits: &[u32], ranks: &[u64]) -> Departed
+        requires accepted { IsAccepted (policy_in self.old) }
+        requires stands { IsOfOne self.old (λ s. PopsNext s number digits.now ranks.now) }
+        requires few { self.old.departures < 2 ^ 61 }
+
+        ensures state { IsOfEach self.old (λ s. PopsNext s number digits.now ranks.now → IsOwn self.new (departed (policy_in self.old) s)) }
+        ensures value { IsOfEach self.old (λ s. PopsNext s number digits.now ranks.now → option_map (departed_packet (policy_in self.old)) (leaver s) ≡ Some result) }
+        ensures arrivals { self.new.arrivals ≡ self.old.arrivals }
+        ensures departures { self.new.departures ≡ self.old.departures + 1 }
+        ensures policy { policy_in self.new ≡ policy_in self.old }
+    {
+        self.departures += 1;
+        let Some(packet) = self.held.take(number) else {
+            unreachable!()
+        };
+        self.stations.pop_steps(&packet, digits, ranks, self.moment);
+        Departed {
+            packet: number,
+            class: packet.class,
+            leaf: self.leaf(&packet),
+            len: packet.len,
+        }
+    }
+
+    /// Counts a departure of nothing.
+    pub fn find_none(&mut self)
+        requires few { self.old.departures < 2 ^ 61 }
+        ensures state { (s : SourceState) → IsOwn self.old s → IsOwn self.new s }
+        ensures arrivals { self.new.arrivals ≡ self.old.arrivals }
+        ensures departures { self.new.departures ≡ self.old.departures + 1 }
+        ensures policy { policy_in self.new ≡ policy_in self.old }
+    {
+        self.departures += 1;
+    }
+
+    /// How many packets are held.
+    pub fn held(&self) -> u64
+        ensures { IsOfEach self.now (λ s. result ≡ size s.tree) }
+    {
+        self.held.len()
+    }
+
+    /// The greatest moment of the packets so far, in nanoseconds.
+    pub fn now(&self) -> u64
+        ensures { (s : SourceState) → IsOwn self.now s → result ≡ s.now }
+    {
+        self.moment
+    }
+}
