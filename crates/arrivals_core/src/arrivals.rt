@@ -29,11 +29,7 @@ impl<'a, S: Shelf> Arrivals<'a, S> {
     ghost use Rattle.arrivals_core.specs.Arrivals.{policy_of, given_by, left_of, IsReady, Begins, Refuses};
 
     /// Reads the header of the begun file.
-    pub fn start(
-        alloc: Global,
-        policy: &'a Policy,
-        shelf: &mut S,
-    ) -> Result<Arrivals<'a, S>, Halt>
+    pub fn start(alloc: Global, policy: &'a Policy, shelf: &mut S) -> Result<Arrivals<'a, S>, Halt>
         requires begun { IsTrue (S.begun shelf.old) }
 
         ensures begins { IfOk result (λ a. IfSome (S.left shelf.old) (λ file.
