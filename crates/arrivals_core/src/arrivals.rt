@@ -13,8 +13,8 @@ use policy_core::Policy;
 use std::alloc::Global;
 use std::marker::PhantomData;
 
-/// The packets of a capture, in their order. Each has the class that a policy gives it. The bytes of one record are held at a
-/// time, 262,144 at most.
+/// The packets of a capture, in their order, each with the class that a policy gives it. The bytes of one record are held at
+/// a time, 262,144 at most, and behind the end of the capture nothing more is read.
 #[derive(Drop)]
 pub struct Arrivals<'a, S> {
     policy: &'a Policy,

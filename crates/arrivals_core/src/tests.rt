@@ -104,7 +104,8 @@ fn names_by_number(rt: HostRuntime) -> Result<(), Fail> {
     let names = PolicyNames::new(&policy);
     let mut text = String::new(alloc);
     for node in 0..policy.count() {
-        write!(text, "{} ", names.name(node))?;
+        text.push_str(names.name(node))?;
+        text.push(' ')?;
     }
     assert_eq!(rt; text.as_str(), "root names other ");
     Ok(())

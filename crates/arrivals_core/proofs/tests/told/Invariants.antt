@@ -1,4 +1,3 @@
-use Rattle.std.proofs.Common.{IsTrue}
 use Rattle.outside_core.specs.Memory.{is_begun}
 use Rattle.arrivals_core.specs.Arrivals.{IsReady}
 use Rattle.arrivals_core.proofs.tests.told.Given as goal
