@@ -14,7 +14,7 @@ use Rattle.policy_text_defs.specs.declared.condition.Condition.TheVariants.{Fiel
 use Rattle.policy_defs.specs.Policy.{one_leaf}
 use Rattle.resolve_defs.specs.Resolved.{Resolved}
 
--- the class of a packet of this original length: the first all of whose conditions it meets
+-- the class of a packet of this original length: the first all of whose conditions it meets. There is one, since the last class has none
 abbrev pub class_given : Resolved → Fields → ℕ → ℕ
 class_given policy fields length = unwrap_or (class_of (conditions_of policy.conditions) fields length) 0
 
