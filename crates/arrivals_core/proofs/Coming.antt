@@ -1,9 +1,9 @@
 -- What a reader takes from a capture, as packets that come.
-use Rattle.std.proofs.Common.{◌≡◌, ◌<◌, ◌+◌, ℕ, false, Option, Some, None, List, [], ◌∷◌, refl, ap, sym, ◌∙◌, arith}
+use Rattle.std.proofs.Common.{◌≡◌, ◌<◌, ◌+◌, ℕ, false, Option, Some, None, List, [], ◌∷◌, refl, ap, ◌∙◌}
 use Rattle.std.specs.Prelude.{IfSome, option_map}
 use Rattle.std.specs.Option.{option_map_or}
 use Rattle.capture_defs.specs.declared.head.Head.{Head}
-use Rattle.capture_defs.specs.Fault.{Fault, code, place}
+use Rattle.capture_defs.specs.Fault.{code, place}
 use Rattle.capture_defs.specs.Header.{IsHeaderFault}
 use Rattle.capture_defs.specs.Record.{Record, IsRecordFault, most_records}
 use Rattle.capture_defs.specs.Reading.{capture_of, records_left, with_first}
@@ -14,7 +14,7 @@ use Rattle.pcap_core.specs.declared.fault.CaptureFault.{CaptureFault}
 use Rattle.pcap_core.specs.declared.fault.CaptureFault.TheVariants.{HeaderCut, BadMagic, PcapNg, Version, RecordCut, DataCut, RecordLong, TooMany, ReadFault, NoMemory}
 use Rattle.packet_defs.specs.declared.packet.Packet.{Packet}
 use Rattle.resolve_defs.specs.Resolved.{Resolved}
-use Rattle.course_core.specs.Packets.{Left, Came, IsHalt}
+use Rattle.course_core.specs.Packets.{Came, IsHalt}
 use Rattle.course_core.specs.declared.packets.Halt.{Halt}
 use Rattle.course_core.specs.declared.packets.Halt.TheVariants as halt
 use Rattle.arrivals_core.specs.Packets.{packet_of, packets_from}

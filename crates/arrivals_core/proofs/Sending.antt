@@ -7,7 +7,6 @@ use Rattle.capture_defs.specs.Record.{Record, moment}
 use Rattle.pcap_core.specs.declared.frame.Frame.{Frame}
 use Rattle.pcap_core.specs.Frames.{IsFrameOf}
 use Rattle.packet_defs.specs.declared.fields.Fields.{Fields}
-use Rattle.packet_defs.specs.declared.packet.Packet.{Packet}
 use Rattle.packet_defs.specs.Condition.{class_of}
 use Rattle.packet_defs.specs.Flow.{flow_of}
 use Rattle.packet_defs.specs.Headers.{fields_of}

@@ -3,4 +3,4 @@ use Rattle.policy_defs.specs.Policy.{Policy}
 use Rattle.arrivals_core.specs.declared.names.PolicyNames.{PolicyNames}
 
 abbrev pub named_policy : PolicyNames → Policy
-named_policy names = names.0.now.policy
+named_policy names = names.policy.now.policy

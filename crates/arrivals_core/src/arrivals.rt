@@ -13,8 +13,8 @@ use policy_core::Policy;
 use std::alloc::Global;
 use std::marker::PhantomData;
 
-/// The packets of a capture, in their order. Each has the class that a policy gives it. The bytes of one record are held at a
-/// time, 262,144 at most.
+/// The packets of a capture, in their order, each with the class that a policy gives it. The bytes of one record are held at
+/// a time, 262,144 at most, and behind the end of the capture nothing more is read.
 #[derive(Drop)]
 pub struct Arrivals<'a, S> {
     policy: &'a Policy,
@@ -29,11 +29,7 @@ impl<'a, S: Shelf> Arrivals<'a, S> {
     ghost use Rattle.arrivals_core.specs.Arrivals.{policy_of, given_by, left_of, IsReady, Begins, Refuses};
 
     /// Reads the header of the begun file.
-    pub fn start(
-        alloc: Global,
-        policy: &'a Policy,
-        shelf: &mut S,
-    ) -> Result<Arrivals<'a, S>, Halt>
+    pub fn start(alloc: Global, policy: &'a Policy, shelf: &mut S) -> Result<Arrivals<'a, S>, Halt>
         requires begun { IsTrue (S.begun shelf.old) }
 
         ensures begins { IfOk result (λ a. IfSome (S.left shelf.old) (λ file.

@@ -1,0 +1,112 @@
+use crate::{Arrivals, Names, Packets, PolicyNames};
+use outside_core::{MemShelf, Shelf};
+use policy_core::{Policy, resolve};
+use policy_text::parse;
+use std::alloc::{AllocError, Global};
+use std::test::Fail;
+
+const NAME_SERVERS_FIRST: &[u8] = b"policy 1\nclass names when dport 53\nclass other\n\
+    leaf names using fifo classes names\nleaf other using fifo classes other\nnode root using fifo children names other\n";
+/// Big-endian, nanoseconds, link type 1.
+const HEADER: &[u8] = b"\xa1\xb2\x3c\x4d\0\x02\0\x04\0\0\0\0\0\0\0\0\0\x04\0\0\0\0\0\x01";
+/// The same with link type 147, of which no headers are read.
+const OTHER_LINK: &[u8] = b"\xa1\xb2\x3c\x4d\0\x02\0\x04\0\0\0\0\0\0\0\0\0\x04\0\0\0\0\0\x93";
+/// UDP from port 4096 of 10.0.0.1 to port 53 of 10.0.0.2, in a frame with VLAN 7.
+const TAGGED: &[u8] =
+    b"\0\0\0\x0a\0\0\0\x05\0\0\0\x2e\0\0\0\x2e\0\0\0\0\0\0\0\0\0\0\0\0\x81\0\0\x07\x08\0\
+    \x45\0\0\x1c\0\0\0\0\x40\x11\0\0\x0a\0\0\x01\x0a\0\0\x02\x10\0\0\x35\0\x08\0\0";
+/// A later fragment, captured before the first record.
+const FRAGMENT: &[u8] = b"\0\0\0\x09\0\0\0\0\0\0\0\x2a\0\0\0\x2a\0\0\0\0\0\0\0\0\0\0\0\0\x08\0\
+    \x45\0\0\x1c\0\0\0\x01\x40\x11\0\0\x0a\0\0\x01\x0a\0\0\x02\x10\0\0\x35\0\x08\0\0";
+/// Of 1,500 bytes 42 are captured.
+const CLIPPED: &[u8] = b"\0\0\0\x0a\0\0\0\x06\0\0\0\x2a\0\0\x05\xdc\0\0\0\0\0\0\0\0\0\0\0\0\x08\0\
+    \x45\0\0\x1c\0\0\0\0\x40\x11\0\0\x0a\0\0\x01\x0a\0\0\x02\x10\0\0\x35\0\x08\0\0";
+/// A record that lacks its four captured bytes.
+const CUT: &[u8] = b"\0\0\0\x0b\0\0\0\0\0\0\0\x04\0\0\0\x04";
+
+fn policy(alloc: Global) -> Result<Policy, Fail> {
+    let lines = parse(alloc, NAME_SERVERS_FIRST).ok().ok_or("parse")?;
+    Ok(resolve(alloc, &lines).ok().ok_or("resolve")?)
+}
+
+/// A shelf with these pieces as its one file, of which a call fails.
+fn shelf_of(alloc: Global, pieces: &[&[u8]], fail: u64) -> Result<MemShelf, AllocError> {
+    let mut bytes = Vec::new(alloc);
+    for piece in pieces {
+        bytes.extend_from_slice(piece)?;
+    }
+    let name = String::from_str(alloc, "c")?;
+    let files = vec![in alloc; (name, bytes)]?;
+    Ok(MemShelf::new(files, 64, vec![in alloc; fail]?))
+}
+
+/// The packets of a capture in a text: each one's number, class, length, moment and destination port, then how it ends.
+fn told(alloc: Global, policy: &Policy, shelf: &mut MemShelf) -> Result<String, Fail> {
+    shelf.begin("c").ok().ok_or("begin")?;
+    let mut arrivals = match Arrivals::start(alloc, policy, shelf) {
+        Ok(arrivals) => arrivals,
+        Err(halt) => return Ok(format!(in alloc; "{halt:?}")?),
+    };
+    let mut text = String::new(alloc);
+    for _ in 0..5 {
+        match arrivals.next(shelf) {
+            Ok(Some(p)) => write!(
+                text,
+                "{} {} {} {} {}, ",
+                p.number, p.class, p.len, p.moment, p.flow.dport
+            )?,
+            Ok(None) => text.push_str("none, ")?,
+            Err(halt) => {
+                write!(text, "{halt:?}")?;
+                break;
+            }
+        }
+    }
+    Ok(text)
+}
+
+#[test]
+fn packets_of_two_classes(rt: HostRuntime) -> Result<(), Fail> {
+    let alloc = rt.alloc();
+    let policy = policy(alloc)?;
+    let table: [(&[&[u8]], u64, &str); 6] = [
+        (
+            &[HEADER, TAGGED, FRAGMENT, CLIPPED],
+            0,
+            "1 0 46 10000000005 53, 2 1 42 9000000000 0, 3 0 1500 10000000006 53, none, none, ",
+        ),
+        (
+            &[OTHER_LINK, TAGGED],
+            0,
+            "1 1 46 10000000005 0, none, none, none, none, ",
+        ),
+        (
+            &[HEADER, CLIPPED, CUT],
+            0,
+            "1 0 1500 10000000006 53, Fault(6, 2)",
+        ),
+        (&[CUT, HEADER], 0, "Fault(2, 0)"),
+        (&[HEADER, TAGGED], 2, "Source"),
+        (&[HEADER, TAGGED], 4, "1 0 46 10000000005 53, Source"),
+    ];
+    for (pieces, fail, want) in table {
+        let mut shelf = shelf_of(alloc, pieces, fail)?;
+        let text = told(alloc, &policy, &mut shelf)?;
+        assert_eq!(rt; text.as_str(), want);
+    }
+    Ok(())
+}
+
+#[test]
+fn names_by_number(rt: HostRuntime) -> Result<(), Fail> {
+    let alloc = rt.alloc();
+    let policy = policy(alloc)?;
+    let names = PolicyNames::new(&policy);
+    let mut text = String::new(alloc);
+    for node in 0..policy.count() {
+        text.push_str(names.name(node))?;
+        text.push(' ')?;
+    }
+    assert_eq!(rt; text.as_str(), "root names other ");
+    Ok(())
+}

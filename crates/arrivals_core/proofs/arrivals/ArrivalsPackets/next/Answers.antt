@@ -1,4 +1,4 @@
-use Rattle.std.proofs.Common.{rules, ◌≤◌, ◌<◌, ◌∙◌, refl, ap, arith}
+use Rattle.std.proofs.Common.{◌≡◌, ◌+◌, ◌<◌, refl, arith}
 use Rattle.capture_defs.specs.Record.{most_records}
 use Rattle.pcap_core.specs.Readers.{head_of, records_given, rest_left}
 use Rattle.arrivals_core.specs.Packets.{packet_of}
@@ -15,8 +15,8 @@ returns-in-Ok-Some-clause-came g c =
     let number = rw c.in-Ok-Some.field-0-is at e.number in
     let low = rw c.in-Ok-Some.field-0-is at e.few in
     let few : n < most_records = omega (arith, number, low) in
-    let packet = c.packet_in.ensures.packet (head_in a) found.0 refl (rw (c.deref.ensures.value) found.1)
-    ∙ ap (λ k. packet_of a.policy.now (head_in a) k found.0) number in
+    let read = c.packet_in.ensures.packet (head_in a) found.0 refl (rw (c.deref.ensures.value) found.1) in
+    let packet : c.packet_in.result ≡ packet_of a.policy.now (head_in a) (n + 1) found.0 = rw number at read in
     rw (c.if-self.false) (comes-at a.policy.now a.link (head_of a.reader) (head_of c.next.new.self) n (records_given c.next.new.self)
     (rest_left a.reader (g.S.Shelf.left c.args.source.now)) (rest_left c.next.new.self (g.S.Shelf.left c.next.new.shelf)) found.0 c.packet_in.result
     e.head (rw c.in-Ok-Some.field-0-is at e.given) few found.2 packet)
