@@ -1,23 +1,25 @@
 -- The answer to a plain run, and what it leaves in the fabric.
-use Rattle.std.proofs.Common.{◌≡◌, ℕ, Bool, Option, None, List, [], ◌∷◌, map, refl, ap, sym, subst, ◌∙◌, arith, inl, inr}
+use Rattle.std.proofs.Common.{◌≡◌, ◌<◌, ℕ, Bool, Option, None, List, [], ◌∷◌, map, refl, ap, sym, subst, ◌∙◌, arith, inl, inr}
 use Rattle.std.specs.Str.{bytes_eq}
 use Rattle.std.specs.Prelude.{Result, Ok, Err, OnOk, OnErr, IfOk}
 use Rattle.outside_core.specs.Written.{Appended, AppendedPrefix}
 use Rattle.fabric_defs.specs.Family.{Family}
 use Rattle.schedule_defs.specs.Script.{Course}
 use Rattle.replay_app.specs.declared.ending.Ending.{Ending}
-use Rattle.replay_app.specs.declared.ending.Ending.TheVariants.{Replayed, Checked, NoForm, BadPolicy, Early}
-use Rattle.replay_app.specs.Endings.{ending_status, HoldsAfter, Leaves, LeavesCourse, IsLeftBehind}
+use Rattle.replay_app.specs.declared.ending.Ending.TheVariants.{Replayed, Checked, Run, NoForm, BadPolicy, BadScript, Early}
+use Rattle.course_core.specs.declared.ending.Ending.TheVariants as run
+use Rattle.replay_app.specs.Endings.{ending_status, HoldsAfter, Leaves, LeavesCourse, UsesNoFabric, IsLeftBehind}
 use Rattle.replay_app.specs.FirstPath.{Inputs, plain_course, plain_policy}
 use Rattle.replay_app.specs.Fabrics.{HoldsLeaf, HoldsLeafOf, IsAsItWas}
 use Rattle.replay_app.specs.OneLeaf.{no_totals, turned_all}
-use Rattle.replay_app.specs.Answer.{Answer}
+use Rattle.replay_app.specs.Answer.{Answer, IsWritten, IsPartWritten}
+use Rattle.replay_app.specs.Directed.{script_refusal}
 use Rattle.replay_app.specs.Inputs.{AreInputs}
 use Rattle.replay_app.specs.Named.{form_in}
 use Rattle.replay_app.specs.Others.{AreOthers}
-use Rattle.replay_app.specs.Output.{course_answer, inputs_of, IsOutput, IsAnswered, IsBegun}
+use Rattle.replay_app.specs.Output.{course_answer, inputs_of}
 use Rattle.replay_app.specs.Policies.{check_answer, entries_in, senses_of, policy_refusal, IsAcceptedAs}
-use Rattle.replay_app.specs.Words.{Form, AreTold}
+use Rattle.replay_app.specs.Words.{Form, replay, check, direct, no_form, AreTold}
 use Rattle.replay_app.specs.declared.files.Files.{Files}
 use Rattle.replay_app.specs.declared.files.Others.{Others}
 use Rattle.replay_app.specs.declared.stop.Stop.{Stop}
@@ -86,19 +88,29 @@ pub inputs-read : (f : Files) (contents : List ℕ → List ℕ) (lines : Lines)
 inputs-read f contents lines o h = record { policy = ap canonical_text (sym (senses-held lines.held)); target = h.target; packets = h.packets; turns = h.turns }
 
 -- a whole answer, and the first part of one
-pub given-of : (r : Result Ending Stop) (form : Form) (contents : List ℕ → List ℕ) (a : Answer) (old new : Option (List ℕ)) → IsOutput form contents a
-    → IfOk r (λ e. ending_status e ≡ a.status) → OnOk r (Appended old new a.text) → IfOk r (λ e. IsAnswered form contents (ending_status e) old new)
-given-of (Ok e) form contents a old new is status text = record { answer = a; is = is; status_is = status; text = text }
-given-of (Err e) form contents a old new is status text = tt
+pub given-of : (r : Result Ending Stop) (output : Answer → Type 0) (a : Answer) (old new : Option (List ℕ)) → output a
+    → IfOk r (λ e. ending_status e ≡ a.status) → OnOk r (Appended old new a.text) → IfOk r (λ e. IsWritten output (ending_status e) old new)
+given-of (Ok e) output a old new is status text = record { answer = a; is = is; status_is = status; text = text }
+given-of (Err e) output a old new is status text = tt
 
-pub begun-of : (r : Result Ending Stop) (form : Form) (contents : List ℕ → List ℕ) (a : Answer) (old new : Option (List ℕ)) → ((b : Answer) → IsOutput form contents b → a ≡ b)
-    → OnErr r (AppendedPrefix old new a.text) → OnErr r (IsBegun form contents old new)
-begun-of (Ok e) form contents a old new only part = tt
-begun-of (Err e) form contents a old new only part = λ b is. subst (λ (x : Answer). AppendedPrefix old new x.text) (only b is) part
+pub begun-of : (r : Result Ending Stop) (output : Answer → Type 0) (a : Answer) (old new : Option (List ℕ)) → ((b : Answer) → output b → a ≡ b)
+    → OnErr r (AppendedPrefix old new a.text) → OnErr r (IsPartWritten output old new)
+begun-of (Ok e) output a old new only part = tt
+begun-of (Err e) output a old new only part = λ b is. subst (λ (x : Answer). AppendedPrefix old new x.text) (only b is) part
+
+-- an answer that is one of some is one of others
+pub given-for : (r : Result Ending Stop) (some others : Answer → Type 0) (old new : Option (List ℕ)) → ((a : Answer) → some a → others a)
+    → IfOk r (λ e. IsWritten some (ending_status e) old new) → IfOk r (λ e. IsWritten others (ending_status e) old new)
+given-for (Ok e) some others old new into given = record { answer = given.answer; is = into given.answer given.is; status_is = given.status_is; text = given.text }
+given-for (Err e) some others old new into given = tt
 
 pub ends-badly : (r : Result Ending Stop) (code line : ℕ) → IfOk r (λ e. e ≡ BadPolicy) → IfOk r (λ e. ending_status e ≡ (policy_refusal code line).status)
 ends-badly (Ok e) code line same = ap ending_status same
 ends-badly (Err e) code line same = tt
+
+pub script-ends-badly : (r : Result Ending Stop) (code line : ℕ) → IfOk r (λ e. e ≡ BadScript) → IfOk r (λ e. ending_status e ≡ (script_refusal code line).status)
+script-ends-badly (Ok e) code line same = ap ending_status same
+script-ends-badly (Err e) code line same = tt
 
 -- what the replay of accepted statements leaves, the words' form leaves
 pub leaves-of : {F : Type 0} (queues : F → Family) (pushed popped : F → ℕ) (f : Files) (contents : List ℕ → List ℕ) (es : List Entry) (old new : F) (r : Result Ending Stop)
@@ -108,11 +120,37 @@ leaves-of queues pushed popped f contents es old new (Err e) is h = tt
 leaves-of queues pushed popped f contents es old new (Ok Replayed) is h =
     λ others has. subst (λ (xs : List Entry). HoldsLeafOf queues pushed popped (plain_course (inputs_with f contents xs)) old new) (is.only others has) h
 leaves-of queues pushed popped f contents es old new (Ok Checked) is h = absurd h
+leaves-of queues pushed popped f contents es old new (Ok (Run e)) is h = absurd h
 leaves-of queues pushed popped f contents es old new (Ok NoForm) is h = h
 leaves-of queues pushed popped f contents es old new (Ok BadPolicy) is h = h
+leaves-of queues pushed popped f contents es old new (Ok BadScript) is h = h
 leaves-of queues pushed popped f contents es old new (Ok Early) is h = h
 
--- a check leaves the fabric as it was
+-- words that use no fabric leave it as it was
+as-it-was : {F : Type 0} (queues : F → Family) (pushed popped : F → ℕ) (fabric : F) → IsAsItWas queues pushed popped fabric fabric
+as-it-was queues pushed popped fabric = record { queues_stay = λ a. refl; pushes_stay = refl; pops_stay = refl }
+
+holds-unused : {F : Type 0} (queues : F → Family) (pushed popped : F → ℕ) (form : Form) (contents : List ℕ → List ℕ) (fabric : F) → UsesNoFabric form → HoldsAfter queues pushed popped form contents fabric fabric
+holds-unused queues pushed popped (replay p t c e) contents fabric none = absurd none
+holds-unused queues pushed popped (check p) contents fabric none = as-it-was queues pushed popped fabric
+holds-unused queues pushed popped (direct p c e) contents fabric none = as-it-was queues pushed popped fabric
+holds-unused queues pushed popped no_form contents fabric none = as-it-was queues pushed popped fabric
+
+leaves-unused : {F : Type 0} (queues : F → Family) (pushed popped : F → ℕ) (form : Form) (contents : List ℕ → List ℕ) (fabric : F) (ending : Ending) → UsesNoFabric form → Leaves queues pushed popped form contents fabric fabric ending
+leaves-unused queues pushed popped form contents fabric Replayed none = holds-unused queues pushed popped form contents fabric none
+leaves-unused queues pushed popped form contents fabric Checked none = holds-unused queues pushed popped form contents fabric none
+leaves-unused queues pushed popped form contents fabric (Run e) none = holds-unused queues pushed popped form contents fabric none
+leaves-unused queues pushed popped form contents fabric NoForm none = as-it-was queues pushed popped fabric
+leaves-unused queues pushed popped form contents fabric BadPolicy none = as-it-was queues pushed popped fabric
+leaves-unused queues pushed popped form contents fabric BadScript none = as-it-was queues pushed popped fabric
+leaves-unused queues pushed popped form contents fabric Early none = as-it-was queues pushed popped fabric
+
+pub each-leaves-unused : {F : Type 0} (queues : F → Family) (pushed popped : F → ℕ) (form : Form) (contents : List ℕ → List ℕ) (fabric : F) (r : Result Ending Stop) → UsesNoFabric form
+    → IfOk r (λ e. Leaves queues pushed popped form contents fabric fabric e)
+each-leaves-unused queues pushed popped form contents fabric (Ok e) none = leaves-unused queues pushed popped form contents fabric e none
+each-leaves-unused queues pushed popped form contents fabric (Err e) none = tt
+
+-- what is left behind after an ending
 stays-behind : {F : Type 0} (queues : F → Family) (pushed popped : F → ℕ) (form : Form) (contents : List ℕ → List ℕ) (old new : F) (status : ℕ) → (status ≡ 0 → ⊥)
     → IsAsItWas queues pushed popped old new → IsLeftBehind queues pushed popped form contents old new status
 stays-behind queues pushed popped form contents old new status none h = record { holds = λ e. absurd (none e); stays = λ _. h }
@@ -124,12 +162,24 @@ whole-behind queues pushed popped form contents old new status e h = record {
   stays = λ s. elim s [ inl two ↦ absurd (omega arith) | inr more ↦ elim more [ inl three ↦ absurd (omega arith) | inr eleven ↦ absurd (omega arith) ] ];
 }
 
+-- a run that met a fault has neither of these statuses
+broken-behind : {F : Type 0} (queues : F → Family) (pushed popped : F → ℕ) (form : Form) (contents : List ℕ → List ℕ) (old new : F) (status broken : ℕ) → status ≡ broken → (5 < broken) × (broken < 8)
+    → IsLeftBehind queues pushed popped form contents old new status
+broken-behind queues pushed popped form contents old new status broken e between = record {
+  holds = λ zero. absurd (omega (arith, between.0));
+  stays = λ s. elim s [ inl two ↦ absurd (omega (arith, between.0)) | inr more ↦ elim more [ inl three ↦ absurd (omega (arith, between.0)) | inr eleven ↦ absurd (omega (arith, between.1)) ] ];
+}
+
 pub left-behind : {F : Type 0} (queues : F → Family) (pushed popped : F → ℕ) (form : Form) (contents : List ℕ → List ℕ) (old new : F) (ending : Ending) (status : ℕ)
     → status ≡ ending_status ending → Leaves queues pushed popped form contents old new ending → IsLeftBehind queues pushed popped form contents old new status
 left-behind queues pushed popped form contents old new Replayed status e h = whole-behind queues pushed popped form contents old new status e h
 left-behind queues pushed popped form contents old new Checked status e h = whole-behind queues pushed popped form contents old new status e h
+left-behind queues pushed popped form contents old new (Run (run.Whole n)) status e h = whole-behind queues pushed popped form contents old new status e h
+left-behind queues pushed popped form contents old new (Run (run.BadCapture c p)) status e h = broken-behind queues pushed popped form contents old new status 7 e (omega arith, omega arith)
+left-behind queues pushed popped form contents old new (Run (run.PastLast n)) status e h = broken-behind queues pushed popped form contents old new status 6 e (omega arith, omega arith)
 left-behind queues pushed popped form contents old new NoForm status e h = stays-behind queues pushed popped form contents old new status (λ zero. absurd (omega arith)) h
 left-behind queues pushed popped form contents old new BadPolicy status e h = stays-behind queues pushed popped form contents old new status (λ zero. absurd (omega arith)) h
+left-behind queues pushed popped form contents old new BadScript status e h = stays-behind queues pushed popped form contents old new status (λ zero. absurd (omega arith)) h
 left-behind queues pushed popped form contents old new Early status e h = stays-behind queues pushed popped form contents old new status (λ zero. absurd (omega arith)) h
 
 -- a printed text is compared with the text of the plain policy

@@ -9,3 +9,4 @@ pub mod PlainCourses
 pub mod PolicyReads
 pub mod Commands
 pub mod OneAnswer
+pub mod Directing

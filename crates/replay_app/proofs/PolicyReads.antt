@@ -11,8 +11,8 @@ use Rattle.policy_text.specs.Parsing.{IsCause, IsWant, AcceptsAll, RefusesAll}
 use Rattle.replay_app.specs.Answer.{Answer}
 use Rattle.replay_app.specs.Policies.{entries_in, fault_code, IsRefused, too_long, at_fault, IsPolicyAnswer, accepted, refused, policy_refusal, policy_answer, IsAcceptedAs, IsRefusedAs, IsRead}
 use Rattle.replay_app.specs.declared.policies.Refusal.{Refusal}
-use Rattle.replay_app.specs.declared.policies.Policy.{Policy}
-use Rattle.replay_app.specs.declared.policies.Policy.TheVariants.{Accepted, Refused}
+use Rattle.replay_app.specs.declared.policies.PolicyText.{PolicyText}
+use Rattle.replay_app.specs.declared.policies.PolicyText.TheVariants.{Accepted, Refused}
 
 abbrev pub refusal : ℕ → ℕ → Refusal
 refusal code line = record { code = code; line = line }
@@ -77,12 +77,12 @@ fault-read text f n is accepts refuses = record {
 }
 
 -- the answer to a text that is read
-pub answer-is : (text : List ℕ) (after : List Entry → Answer) (p : Policy) → IsRead text p → IsPolicyAnswer text after (policy_answer after p)
+pub answer-is : (text : List ℕ) (after : List Entry → Answer) (p : PolicyText) → IsRead text p → IsPolicyAnswer text after (policy_answer after p)
 answer-is text after (Accepted lines) r = accepted (entries_in lines) r.has
 answer-is text after (Refused r) h = refused r.code r.line h.refused
 
 -- and there is no other
-pub answer-only : (text : List ℕ) (after : List Entry → Answer) (p : Policy) (a : Answer) → IsRead text p → IsPolicyAnswer text after a → policy_answer after p ≡ a
+pub answer-only : (text : List ℕ) (after : List Entry → Answer) (p : PolicyText) (a : Answer) → IsRead text p → IsPolicyAnswer text after a → policy_answer after p ≡ a
 answer-only text after (Accepted lines) a r (accepted es h) = ap after (r.only es h)
 answer-only text after (Accepted lines) a r (refused code line h) = absurd (r.sound code line h)
 answer-only text after (Refused r) a h (accepted es has) = absurd (h.none es has)

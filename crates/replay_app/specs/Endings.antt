@@ -1,5 +1,5 @@
 -- How a run that doesn't stop ends.
-use Rattle.std.specs.Prelude.{◌≡◌, ◌⊎◌, ℕ, Option, List, ⊤}
+use Rattle.std.specs.Prelude.{◌≡◌, ◌⊎◌, ℕ, Option, List}
 use Rattle.fabric_defs.specs.Family.{Family}
 use Rattle.schedule_defs.specs.Script.{Course}
 use Rattle.policy_text_defs.specs.Canonical.{canonical_text}
@@ -8,16 +8,21 @@ use Rattle.policy_text_defs.specs.Text.{HasEntries}
 use Rattle.replay_app.specs.FirstPath.{plain_course}
 use Rattle.replay_app.specs.Output.{inputs_of}
 use Rattle.replay_app.specs.Policies.{senses_of}
-use Rattle.replay_app.specs.Words.{Form, replay, check, no_form}
+use Rattle.replay_app.specs.Words.{Form, replay, check, direct, no_form}
 use Rattle.replay_app.specs.Fabrics.{HoldsLeafOf, IsAsItWas}
 use Rattle.replay_app.specs.declared.ending.Ending.{Ending}
-use Rattle.replay_app.specs.declared.ending.Ending.TheVariants.{Replayed, Checked, NoForm, BadPolicy, Early}
+use Rattle.replay_app.specs.declared.ending.Ending.TheVariants.{Replayed, Checked, Run, NoForm, BadPolicy, BadScript, Early}
+use Rattle.course_core.specs.declared.ending.Ending.TheVariants as run
 
 abbrev pub ending_status : Ending → ℕ
 ending_status Replayed = 0
 ending_status Checked = 0
+ending_status (Run (run.Whole unsent)) = 0
+ending_status (Run (run.BadCapture c p)) = 7
+ending_status (Run (run.PastLast event)) = 6
 ending_status NoForm = 2
 ending_status BadPolicy = 3
+ending_status BadScript = 6
 ending_status Early = 11
 
 -- What a whole run leaves in the fabric: `replay` the queue of its course, and other words what was there.
@@ -25,25 +30,27 @@ abbrev pub HoldsAfter : {F : Type 0} → (F → Family) → (F → ℕ) → (F �
 HoldsAfter queues pushed popped (replay p t c e) contents old new =
     (es : List Entry) → HasEntries (contents p) es → HoldsLeafOf queues pushed popped (plain_course (inputs_of (canonical_text (senses_of es)) t c e contents)) old new
 HoldsAfter queues pushed popped (check p) contents old new = IsAsItWas queues pushed popped old new
+HoldsAfter queues pushed popped (direct p c e) contents old new = IsAsItWas queues pushed popped old new
 HoldsAfter queues pushed popped no_form contents old new = IsAsItWas queues pushed popped old new
 
 -- what the replay of a course leaves
 abbrev pub LeavesCourse : {F : Type 0} → (F → Family) → (F → ℕ) → (F → ℕ) → Option Course → F → F → Ending → Type 0
 LeavesCourse queues pushed popped c old new Replayed = HoldsLeafOf queues pushed popped c old new
 LeavesCourse queues pushed popped c old new Checked = ⊥
+LeavesCourse queues pushed popped c old new (Run e) = ⊥
 LeavesCourse queues pushed popped c old new ending = IsAsItWas queues pushed popped old new
 
 -- what an ending leaves in the fabric
 abbrev pub Leaves : {F : Type 0} → (F → Family) → (F → ℕ) → (F → ℕ) → Form → (List ℕ → List ℕ) → F → F → Ending → Type 0
 Leaves queues pushed popped form contents old new Replayed = HoldsAfter queues pushed popped form contents old new
 Leaves queues pushed popped form contents old new Checked = HoldsAfter queues pushed popped form contents old new
+Leaves queues pushed popped form contents old new (Run e) = HoldsAfter queues pushed popped form contents old new
 Leaves queues pushed popped form contents old new ending = IsAsItWas queues pushed popped old new
 
--- how a check ends
-abbrev pub IsCheckEnding : Ending → Type 0
-IsCheckEnding Checked = ⊤
-IsCheckEnding BadPolicy = ⊤
-IsCheckEnding ending = ⊥
+-- only `replay` uses the fabric
+abbrev pub UsesNoFabric : Form → Type 0
+UsesNoFabric (replay p t c e) = ⊥
+UsesNoFabric form = Unit {0}
 
 -- At status 0 the fabric holds what a whole run leaves; after a refusal it is as it was.
 pub record IsLeftBehind {F : Type 0} (queues : F → Family) (pushed popped : F → ℕ) (form : Form) (contents : List ℕ → List ℕ) (old new : F) (status : ℕ) : Type 0 where

@@ -1,12 +1,17 @@
 -- The files that words name.
-use Rattle.replay_app.specs.Words.{Form, replay, check}
+use Rattle.replay_app.specs.Words.{Form, replay, check, direct}
 use Rattle.replay_app.specs.declared.files.Files.{Files}
+use Rattle.replay_app.specs.declared.direct.DirectFiles.{DirectFiles}
 use Rattle.replay_app.specs.declared.words.Command.{Command}
-use Rattle.replay_app.specs.declared.words.Command.TheVariants.{Replay, Check}
+use Rattle.replay_app.specs.declared.words.Command.TheVariants.{Replay, Check, Direct}
 
 abbrev pub form_in : Files → Form
 form_in f = replay f.policy.now f.target.now f.capture.now f.script.now
 
+abbrev pub direct_form : DirectFiles → Form
+direct_form f = direct f.policy.now f.capture.now f.script.now
+
 abbrev pub command_form : Command → Form
 command_form (Replay f) = form_in f
 command_form (Check p) = check p.now
+command_form (Direct f) = direct_form f

@@ -1,15 +1,15 @@
 -- What the program answers to its words and files.
 use Rattle.std.specs.Prelude.{◌≡◌, ◌⊎◌, ℕ, Option, None, Some, List, codes}
-use Rattle.outside_core.specs.Written.{Appended, AppendedPrefix}
 use Rattle.report_defs.specs.Report.{fault_line}
 use Rattle.policy_defs.specs.Policy.{one_leaf}
 use Rattle.schedule_defs.specs.SourceState.{start}
 use Rattle.schedule_defs.specs.Script.{Course}
 use Rattle.schedule_defs.specs.Report.{course_report}
 use Rattle.policy_text_defs.specs.Canonical.{canonical_text}
-use Rattle.replay_app.specs.Answer.{Answer}
+use Rattle.replay_app.specs.Answer.{Answer, IsWritten, IsPartWritten}
 use Rattle.replay_app.specs.Policies.{IsPolicyAnswer, senses_of, IsCheckAnswer}
-use Rattle.replay_app.specs.Words.{Form, replay, check, no_form}
+use Rattle.replay_app.specs.Directed.{IsDirectAnswer}
+use Rattle.replay_app.specs.Words.{Form, replay, check, direct, no_form}
 use Rattle.replay_app.specs.FirstPath.{Inputs, plain_course}
 
 -- the report of a run, and the refusal of inputs that can't be replayed so far
@@ -26,6 +26,7 @@ abbrev pub IsOutput : Form → (List ℕ → List ℕ) → Answer → Type 0
 IsOutput (replay p t c e) contents a =
     IsPolicyAnswer (contents p) (λ es. course_answer (plain_course (inputs_of (canonical_text (senses_of es)) t c e contents))) a
 IsOutput (check p) contents a = IsCheckAnswer (contents p) a
+IsOutput (direct p c e) contents a = IsDirectAnswer (contents p) (contents c) (contents e) a
 IsOutput no_form contents a = a ≡ record { status = 2; text = fault_line (codes "words") 0 0 }
 
 -- reading failed, writing failed, or there was no memory
@@ -33,15 +34,12 @@ abbrev pub IsStop : ℕ → Type 0
 IsStop status = (status ≡ 8) ⊎ (status ≡ 9) ⊎ (status ≡ 10)
 
 -- an answer to the words was written whole, and this is its status
-pub record IsAnswered (form : Form) (contents : List ℕ → List ℕ) (status : ℕ) (old new : Option (List ℕ)) : Type 0 where
-  pub answer : Answer
-  pub is : IsOutput form contents answer
-  pub status_is : status ≡ answer.status
-  pub text : Appended old new answer.text
+abbrev pub IsAnswered : Form → (List ℕ → List ℕ) → ℕ → Option (List ℕ) → Option (List ℕ) → Type 0
+IsAnswered form contents = IsWritten (IsOutput form contents)
 
 -- of each answer to the words a first part was written
 abbrev pub IsBegun : Form → (List ℕ → List ℕ) → Option (List ℕ) → Option (List ℕ) → Type 0
-IsBegun form contents old new = (a : Answer) → IsOutput form contents a → AppendedPrefix old new a.text
+IsBegun form contents = IsPartWritten (IsOutput form contents)
 
 pub record IsStopped (form : Form) (contents : List ℕ → List ℕ) (status : ℕ) (old new : Option (List ℕ)) : Type 0 where
   pub stop : IsStop status

@@ -1,4 +1,4 @@
--- How a policy text is answered.
+-- How a policy's file is answered.
 use Rattle.std.specs.Prelude.{◌≡◌, ◌≢◌, ◌<◌, ℕ, List, length, map, codes}
 use Rattle.report_defs.specs.Report.{fault_line}
 use Rattle.policy_text_defs.specs.Canonical.{canonical_text}
@@ -9,12 +9,15 @@ use Rattle.policy_text.specs.declared.lines.Lines.{Lines}
 use Rattle.policy_text.specs.Entries.{entry_of}
 use Rattle.resolve_defs.specs.Accepted.{AreAccepted, IsFault}
 use Rattle.resolve_defs.specs.Codes.{code_of, line_of}
+use Rattle.resolve_defs.specs.Resolved.{Resolved, IsResolved}
 use Rattle.resolve_defs.specs.declared.fault.PolicyFault.{PolicyFault}
 use Rattle.resolve_defs.specs.declared.fault.PolicyFault.TheVariants.{NoMemory}
 use Rattle.replay_app.specs.Answer.{Answer}
 use Rattle.replay_app.specs.declared.policies.Refusal.{Refusal}
-use Rattle.replay_app.specs.declared.policies.Policy.{Policy}
-use Rattle.replay_app.specs.declared.policies.Policy.TheVariants.{Accepted, Refused}
+use Rattle.replay_app.specs.declared.policies.PolicyText.{PolicyText}
+use Rattle.replay_app.specs.declared.policies.PolicyText.TheVariants as read
+use Rattle.replay_app.specs.declared.policies.Verdict.{Verdict}
+use Rattle.replay_app.specs.declared.policies.Verdict.TheVariants as verdict
 
 -- the statements, without the numbers of their lines
 abbrev pub senses_of : List Entry → List Sense
@@ -43,21 +46,34 @@ pub data IsPolicyAnswer (text : List ℕ) (after : List Entry → Answer) : Answ
   accepted : (es : List Entry) → HasEntries text es → IsPolicyAnswer text after (after es)
   refused : (code line : ℕ) → IsRefused text code line → IsPolicyAnswer text after (policy_refusal code line)
 
+-- the code and the line with which a policy is refused: its text is, or its statements are by the first clause that they fail
+pub data IsPolicyRefused (text : List ℕ) : ℕ → ℕ → Type 0 where
+  text_refused : (code line : ℕ) → IsRefused text code line → IsPolicyRefused text code line
+  statements_refused : (es : List Entry) (f : PolicyFault) → HasEntries text es → f ≢ NoMemory → IsFault es f → IsPolicyRefused text (code_of f) (line_of f)
+
+-- the text's statements are accepted, and give this policy
+pub record IsPolicy (text : List ℕ) (es : List Entry) (r : Resolved) : Type 0 where
+  pub has : HasEntries text es
+  pub accepted : AreAccepted es
+  pub gives : IsResolved es r
+
+-- what follows from a policy's text: its refusal, or what follows from its statements and the policy that they give
+pub data IsAnswerUnder (text : List ℕ) (after : List Entry → Resolved → Answer → Type 0) : Answer → Type 0 where
+  refused_policy : (code line : ℕ) → IsPolicyRefused text code line → IsAnswerUnder text after (policy_refusal code line)
+  under_policy : (es : List Entry) (r : Resolved) (a : Answer) → IsPolicy text es r → after es r a → IsAnswerUnder text after a
+
 -- the canonical text of statements, as an answer
 abbrev pub check_answer : List Entry → Answer
 check_answer es = record { status = 0; text = canonical_text (senses_of es) }
 
--- the answer to a check: the text is refused, or its statements are by the first clause that they fail, or they are an
--- accepted policy
-pub data IsCheckAnswer (text : List ℕ) : Answer → Type 0 where
-  text_refused : (code line : ℕ) → IsRefused text code line → IsCheckAnswer text (policy_refusal code line)
-  statements_refused : (es : List Entry) (f : PolicyFault) → HasEntries text es → f ≢ NoMemory → IsFault es f → IsCheckAnswer text (policy_refusal (code_of f) (line_of f))
-  all_accepted : (es : List Entry) → HasEntries text es → AreAccepted es → IsCheckAnswer text (check_answer es)
+-- the answer to a check: the policy is refused, or its canonical text is written
+abbrev pub IsCheckAnswer : List ℕ → Answer → Type 0
+IsCheckAnswer text = IsAnswerUnder text (λ es r a. a ≡ check_answer es)
 
 -- the one answer to a text that is read so
-abbrev pub policy_answer : (List Entry → Answer) → Policy → Answer
-policy_answer after (Accepted lines) = after (entries_in lines)
-policy_answer after (Refused r) = policy_refusal r.code r.line
+abbrev pub policy_answer : (List Entry → Answer) → PolicyText → Answer
+policy_answer after (read.Accepted lines) = after (entries_in lines)
+policy_answer after (read.Refused r) = policy_refusal r.code r.line
 
 -- the text has these statements, and no others
 pub record IsAcceptedAs (text : List ℕ) (es : List Entry) : Type 0 where
@@ -72,6 +88,11 @@ pub record IsRefusedAs (text : List ℕ) (r : Refusal) : Type 0 where
   pub none : (es : List Entry) → HasEntries text es → ⊥
 
 -- what is read of a text
-abbrev pub IsRead : List ℕ → Policy → Type 0
-IsRead text (Accepted lines) = IsAcceptedAs text (entries_in lines)
-IsRead text (Refused r) = IsRefusedAs text r
+abbrev pub IsRead : List ℕ → PolicyText → Type 0
+IsRead text (read.Accepted lines) = IsAcceptedAs text (entries_in lines)
+IsRead text (read.Refused r) = IsRefusedAs text r
+
+-- what is decided of a text
+abbrev pub IsVerdict : List ℕ → Verdict → Type 0
+IsVerdict text (verdict.Accepted lines policy) = IsPolicy text (entries_in lines) policy
+IsVerdict text (verdict.Refused r) = IsPolicyRefused text r.code r.line

@@ -1,18 +1,19 @@
 ghost use Rattle.std.specs.Prelude.{◌≡◌, ◌≢◌, ◌≤◌, ◌<◌, ◌^◌, ℕ, List, [], length, IfOk, IfSome, OnOk, OnErr, IsErrOf, IsTrue};
 ghost use Rattle.outside_core.specs.Faults.{Rose};
 ghost use Rattle.outside_core.specs.Written.{Appended, AppendedPrefix};
-ghost use Rattle.replay_app.specs.Endings.{IsCheckEnding, IsLeftBehind, Leaves, LeavesCourse, ending_status};
+ghost use Rattle.replay_app.specs.Endings.{IsLeftBehind, Leaves, LeavesCourse, UsesNoFabric, ending_status};
+ghost use Rattle.replay_app.specs.Fabrics.{IsAsItWas};
 ghost use Rattle.replay_app.specs.FirstPath.{Inputs, plain_course};
 ghost use Rattle.replay_app.specs.Inputs.{AreInputs};
 ghost use Rattle.replay_app.specs.Named.{form_in};
 ghost use Rattle.replay_app.specs.Output.{Answers, IsAnswered, IsBegun, course_answer};
-ghost use Rattle.replay_app.specs.Policies.{policy_refusal};
 ghost use Rattle.replay_app.specs.Words.{AreLent, AreTold, check, file_words, form_of, texts};
 
+use crate::direct::direct_files;
 use crate::ending::Ending;
 use crate::files::{Files, Others, is_plain, plain_run, read_others};
-use crate::policies::{Policy, Refusal, read_policy, resolved};
-use crate::replay::{refuse, refuse_early, replay, write};
+use crate::policies::{PolicyText, Verdict, judge_policy, read_policy};
+use crate::replay::{refuse, refuse_early, refuse_policy, replay, write};
 use crate::stop::Stop;
 use crate::words::{Command, command_of};
 use fabric_core::Fabric;
@@ -20,24 +21,6 @@ use outside_core::{Shelf, Sink};
 use policy_text::{Lines, print};
 use report_core::FaultKind;
 use std::alloc::Global;
-
-/// Writes why a policy is refused.
-fn refuse_policy<K: Sink>(alloc: Global, refusal: Refusal, sink: &mut K) -> Result<Ending, Stop>
-    ensures status { IfOk result (λ e. e ≡ Ending.BadPolicy) }
-    ensures text { OnOk result (Appended (K.written sink.old) (K.written sink.new) (policy_refusal refusal.code refusal.line).text) }
-    ensures part { OnErr result (AppendedPrefix (K.written sink.old) (K.written sink.new) (policy_refusal refusal.code refusal.line).text) }
-    ensures sink_cause { IsErrOf result Stop.Sink → Rose (K.faults sink.old) (K.faults sink.new) }
-    ensures reads_nothing { IsErrOf result Stop.Shelf → ⊥ }
-{
-    refuse(
-        alloc,
-        sink,
-        FaultKind::Policy,
-        refusal.code,
-        u64::from(refusal.line),
-    )?;
-    Ok(Ending::BadPolicy)
-}
 
 /// Replays a policy's statements over what the other files say.
 fn replay_lines<K: Sink, F: Fabric>(
@@ -98,8 +81,8 @@ fn replay_files<S: Shelf, K: Sink, F: Fabric>(
     let policy = read_policy(alloc, shelf, files.policy)?;
     let others = read_others(alloc, shelf, files)?;
     match policy {
-        Policy::Accepted(lines) => replay_lines(alloc, &lines, others, sink, fabric),
-        Policy::Refused(refusal) => refuse_policy(alloc, refusal, sink),
+        PolicyText::Accepted(lines) => replay_lines(alloc, &lines, others, sink, fabric),
+        PolicyText::Refused(refusal) => refuse_policy(alloc, refusal, sink),
     }
 }
 
@@ -114,18 +97,16 @@ fn check_file<S: Shelf, K: Sink>(
 
     ensures given { (contents : List ℕ → List ℕ) → AreTold (S.content shelf.old) contents (file_words (check name.now)) → IfOk result (λ e. IsAnswered (check name.now) contents (ending_status e) (K.written sink.old) (K.written sink.new)) }
     ensures part { (contents : List ℕ → List ℕ) → AreTold (S.content shelf.old) contents (file_words (check name.now)) → OnErr result (IsBegun (check name.now) contents (K.written sink.old) (K.written sink.new)) }
-    ensures ends { IfOk result (λ e. IsCheckEnding e) }
     ensures shelf_cause { IsErrOf result Stop.Shelf → Rose (S.faults shelf.old) (S.faults shelf.new) }
     ensures sink_cause { IsErrOf result Stop.Sink → Rose (K.faults sink.old) (K.faults sink.new) }
 {
-    let policy = read_policy(alloc, shelf, name)?;
-    match resolved(alloc, policy)? {
-        Policy::Accepted(lines) => {
+    match judge_policy(alloc, shelf, name)? {
+        Verdict::Accepted(lines, _) => {
             let text = print(alloc, &lines)?;
             write(alloc, text.as_slice(), sink)?;
             Ok(Ending::Checked)
         }
-        Policy::Refused(refusal) => refuse_policy(alloc, refusal, sink),
+        Verdict::Refused(refusal) => refuse_policy(alloc, refusal, sink),
     }
 }
 
@@ -144,6 +125,7 @@ fn answer<S: Shelf, K: Sink, F: Fabric>(
     ensures given { (contents : List ℕ → List ℕ) → AreTold (S.content shelf.old) contents (file_words (form_of (texts words.now))) → IfOk result (λ e. IsAnswered (form_of (texts words.now)) contents (ending_status e) (K.written sink.old) (K.written sink.new)) }
     ensures part { (contents : List ℕ → List ℕ) → AreTold (S.content shelf.old) contents (file_words (form_of (texts words.now))) → OnErr result (IsBegun (form_of (texts words.now)) contents (K.written sink.old) (K.written sink.new)) }
     ensures fabric { (contents : List ℕ → List ℕ) → AreTold (S.content shelf.old) contents (file_words (form_of (texts words.now))) → IfOk result (λ e. Leaves F.queues F.pushed F.popped (form_of (texts words.now)) contents fabric.old fabric.new e) }
+    ensures untouched { UsesNoFabric (form_of (texts words.now)) → IsAsItWas F.queues F.pushed F.popped fabric.old fabric.new }
     ensures no_files { file_words (form_of (texts words.now)) ≡ [] → IsErrOf result Stop.Shelf → ⊥ }
     ensures shelf_cause { IsErrOf result Stop.Shelf → Rose (S.faults shelf.old) (S.faults shelf.new) }
     ensures sink_cause { IsErrOf result Stop.Sink → Rose (K.faults sink.old) (K.faults sink.new) }
@@ -151,6 +133,7 @@ fn answer<S: Shelf, K: Sink, F: Fabric>(
     match command_of(words) {
         Some(Command::Replay(files)) => replay_files(alloc, &files, shelf, sink, fabric),
         Some(Command::Check(policy)) => check_file(alloc, policy, shelf, sink),
+        Some(Command::Direct(files)) => direct_files(alloc, &files, shelf, sink),
         None => {
             refuse(alloc, sink, FaultKind::Words, 0, 0)?;
             Ok(Ending::NoForm)
@@ -160,7 +143,8 @@ fn answer<S: Shelf, K: Sink, F: Fabric>(
 
 /// Does what the words say, and answers the status with which the program ends. The words are those
 /// behind the program's name: so far `replay` and the names of a policy, a target, a capture and a
-/// script, and `check` and the name of a policy.
+/// script, `check` and the name of a policy, and `direct` and the names of a policy, a capture and a
+/// script.
 pub fn run<S: Shelf, K: Sink, F: Fabric>(
     alloc: Global,
     words: &[String],
@@ -175,6 +159,7 @@ pub fn run<S: Shelf, K: Sink, F: Fabric>(
     // The answer is written whole with its status, or a first part of it with 8, 9 or 10.
     ensures answer { (contents : List ℕ → List ℕ) → AreTold (S.content shelf.old) contents (file_words (form_of (texts words.now))) → Answers (form_of (texts words.now)) contents result (K.written sink.old) (K.written sink.new) }
     ensures fabric { (contents : List ℕ → List ℕ) → AreTold (S.content shelf.old) contents (file_words (form_of (texts words.now))) → IsLeftBehind F.queues F.pushed F.popped (form_of (texts words.now)) contents fabric.old fabric.new result }
+    ensures untouched { UsesNoFabric (form_of (texts words.now)) → IsAsItWas F.queues F.pushed F.popped fabric.old fabric.new }
     ensures shelf_cause { result ≡ 8 → Rose (S.faults shelf.old) (S.faults shelf.new) }
     ensures no_files { file_words (form_of (texts words.now)) ≡ [] → result ≢ 8 }
     ensures sink_cause { result ≡ 9 → Rose (K.faults sink.old) (K.faults sink.new) }

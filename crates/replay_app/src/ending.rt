@@ -1,5 +1,7 @@
 ghost use Rattle.std.specs.Prelude.{◌≡◌};
 
+use direct_core::Ending as RunEnding;
+
 /// How a run that doesn't stop ends.
 #[derive(Clone, Copy, PartialEq, Eq, Debug)]
 pub enum Ending {
@@ -7,10 +9,14 @@ pub enum Ending {
     Replayed,
     /// The canonical text of the policy was written whole.
     Checked,
+    /// A script ran over a capture through the policy's own tree, and ended so.
+    Run(RunEnding),
     /// The words are in no form.
     NoForm,
-    /// The policy text is refused.
+    /// The policy is refused.
     BadPolicy,
+    /// The script is refused.
+    BadScript,
     /// The inputs can't be replayed so far.
     Early,
 }
@@ -23,9 +29,11 @@ impl Ending {
         ensures { result ≡ ending_status self }
     {
         match self {
-            Ending::Replayed | Ending::Checked => 0,
+            Ending::Replayed | Ending::Checked | Ending::Run(RunEnding::Whole(_)) => 0,
             Ending::NoForm => 2,
             Ending::BadPolicy => 3,
+            Ending::BadScript | Ending::Run(RunEnding::PastLast(_)) => 6,
+            Ending::Run(RunEnding::BadCapture(_, _)) => 7,
             Ending::Early => 11,
         }
     }

@@ -2,6 +2,7 @@
 #![tactic(auto)]
 
 mod command;
+mod direct;
 mod ending;
 mod files;
 mod inputs;
@@ -9,6 +10,7 @@ mod laws;
 mod plain;
 mod policies;
 mod replay;
+mod script;
 mod stop;
 #[cfg(test)]
 mod tests;
@@ -20,5 +22,6 @@ pub use command::run;
 pub use ending::Ending;
 pub use laws::words_have_one_answer;
 pub use plain::Plain;
+pub use run_core::depart_line;
 pub use stop::Stop;
 pub use turn::{Totals, Turn};

@@ -7,7 +7,11 @@ ghost use Rattle.replay_app.specs.FirstPath.{arrivals_of};
 ghost use Rattle.replay_app.specs.OneLeaf.{no_totals, turned_all, step_for};
 ghost use Rattle.replay_app.specs.Turns.{Holds, CountsAlike};
 ghost use Rattle.replay_app.specs.PlainRuns.{plain_text};
+ghost use Rattle.replay_app.specs.Directed.{script_refusal};
+ghost use Rattle.replay_app.specs.Policies.{policy_refusal};
 
+use crate::ending::Ending;
+use crate::policies::Refusal;
 use crate::stop::Stop;
 use crate::turn::{Totals, Turn};
 use crate::turns::play;
@@ -33,6 +37,42 @@ pub fn refuse<K: Sink>(
     report.fault(sink, kind, code, place)?;
     report.finish(sink)?;
     Ok(())
+}
+
+/// Writes why a policy is refused.
+pub fn refuse_policy<K: Sink>(alloc: Global, refusal: Refusal, sink: &mut K) -> Result<Ending, Stop>
+    ensures status { IfOk result (λ e. e ≡ Ending.BadPolicy) }
+    ensures text { OnOk result (Appended (K.written sink.old) (K.written sink.new) (policy_refusal refusal.code refusal.line).text) }
+    ensures part { OnErr result (AppendedPrefix (K.written sink.old) (K.written sink.new) (policy_refusal refusal.code refusal.line).text) }
+    ensures sink_cause { IsErrOf result Stop.Sink → Rose (K.faults sink.old) (K.faults sink.new) }
+    ensures reads_nothing { IsErrOf result Stop.Shelf → ⊥ }
+{
+    refuse(
+        alloc,
+        sink,
+        FaultKind::Policy,
+        refusal.code,
+        u64::from(refusal.line),
+    )?;
+    Ok(Ending::BadPolicy)
+}
+
+/// Writes why a script is refused.
+pub fn refuse_script<K: Sink>(alloc: Global, refusal: Refusal, sink: &mut K) -> Result<Ending, Stop>
+    ensures status { IfOk result (λ e. e ≡ Ending.BadScript) }
+    ensures text { OnOk result (Appended (K.written sink.old) (K.written sink.new) (script_refusal refusal.code refusal.line).text) }
+    ensures part { OnErr result (AppendedPrefix (K.written sink.old) (K.written sink.new) (script_refusal refusal.code refusal.line).text) }
+    ensures sink_cause { IsErrOf result Stop.Sink → Rose (K.faults sink.old) (K.faults sink.new) }
+    ensures reads_nothing { IsErrOf result Stop.Shelf → ⊥ }
+{
+    refuse(
+        alloc,
+        sink,
+        FaultKind::Script,
+        refusal.code,
+        u64::from(refusal.line),
+    )?;
+    Ok(Ending::BadScript)
 }
 
 /// Writes the whole text.

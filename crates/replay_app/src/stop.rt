@@ -1,7 +1,8 @@
 ghost use Rattle.std.specs.Prelude.{◌≡◌};
-ghost use Rattle.replay_app.specs.Stops.{stop_status};
+ghost use Rattle.replay_app.specs.Stops.{stop_status, stop_of, unread};
 ghost use Rattle.replay_app.specs.declared.stop.Stop.TheVariants.{Sink, Memory};
 
+use outside_core::ShelfError;
 use report_core::WriteFault;
 use std::alloc::AllocError;
 
@@ -42,5 +43,28 @@ impl From<AllocError> for Stop {
 
     fn from(_error: AllocError) -> Stop {
         Stop::Memory
+    }
+}
+
+impl From<ShelfError> for Stop {
+    ghost from_gives = { λ error stop. stop ≡ unread error };
+
+    fn from(error: ShelfError) -> Stop {
+        match error {
+            ShelfError::Failed => Stop::Shelf,
+            ShelfError::NoMemory => Stop::Memory,
+        }
+    }
+}
+
+impl From<direct_core::Stop> for Stop {
+    ghost from_gives = { λ cause stop. stop ≡ stop_of cause };
+
+    fn from(cause: direct_core::Stop) -> Stop {
+        match cause {
+            direct_core::Stop::Source => Stop::Shelf,
+            direct_core::Stop::Sink => Stop::Sink,
+            direct_core::Stop::Memory => Stop::Memory,
+        }
     }
 }

@@ -23,19 +23,10 @@ const EXACT: &[u8] = b"\xa1\xb2\x3c\x4d\0\x02\0\x04\0\0\0\0\0\0\0\0\0\x04\0\0\0\
     \0\0\0\x0a\0\0\0\x05\0\0\0\0\0\0\0\x2e\
     \0\0\0\x0a\0\0\0\x06\0\0\0\x01\0\0\0\x2e\xff";
 
-/// The words of a run.
-fn replay_words(alloc: Global) -> Result<Vec<String>, Fail> {
+/// Words in memory.
+fn words(alloc: Global, list: &[&str]) -> Result<Vec<String>, Fail> {
     let mut words = Vec::new(alloc);
-    for word in ["replay", "p", "t", "c", "e"] {
-        words.push(String::from_str(alloc, word)?)?;
-    }
-    Ok(words)
-}
-
-/// The words of a check.
-fn check_words(alloc: Global) -> Result<Vec<String>, Fail> {
-    let mut words = Vec::new(alloc);
-    for word in ["check", "p"] {
+    for word in list {
         words.push(String::from_str(alloc, word)?)?;
     }
     Ok(words)
@@ -64,7 +55,7 @@ fn files(
 #[test]
 fn runs_over_memory(rt: HostRuntime) -> Result<(), Fail> {
     let alloc = rt.alloc();
-    let words = replay_words(alloc)?;
+    let words = words(alloc, &["replay", "p", "t", "c", "e"])?;
     let table: [(&[u8], &[u8], &[u8], u8, &[u8]); 8] = [
         (
             POLICY,
@@ -113,7 +104,7 @@ fn runs_over_memory(rt: HostRuntime) -> Result<(), Fail> {
 #[test]
 fn checks_over_memory(rt: HostRuntime) -> Result<(), Fail> {
     let alloc = rt.alloc();
-    let words = check_words(alloc)?;
+    let words = words(alloc, &["check", "p"])?;
     let table: [(&[u8], u8, &[u8]); 15] = [
         (SPELLED, 0, POLICY),
         (&POLICY[9..], 3, b"fault policy 1 1\n"),
@@ -185,32 +176,76 @@ fn checks_over_memory(rt: HostRuntime) -> Result<(), Fail> {
 }
 
 #[test]
+fn directs_over_memory(rt: HostRuntime) -> Result<(), Fail> {
+    let alloc = rt.alloc();
+    let words = words(alloc, &["direct", "p", "c", "e"])?;
+    let table: [(&[u8], &[u8], &[u8], u8, &[u8]); 7] = [
+        (
+            POLICY,
+            CAPTURE,
+            b"a\na\nd\nd\nd\n",
+            0,
+            b"a 1 1 root 0\na 2 2 root 0\nd 3 1 root 0\nd 4 2 root 0\ne 5\nend pushed 2 popped 2 empty 1 held 0 unsent 0\n",
+        ),
+        (
+            POLICY,
+            CAPTURE,
+            b"a 3\n",
+            6,
+            b"a 1 1 root 0\na 2 2 root 0\nfault script 3 3\n",
+        ),
+        (
+            POLICY,
+            &CAPTURE[..62],
+            b"rest\n",
+            7,
+            b"a 1 1 root 0\nfault capture 6 2\n",
+        ),
+        (POLICY, CAPTURE, b"drain\ne\n", 6, b"fault script 1 2\n"),
+        // The policy comes before the script, and the script before the capture.
+        (b"policy 1\n", b"", b"e\n", 3, b"fault policy 9 0\n"),
+        (POLICY, b"", b"e\n", 6, b"fault script 1 1\n"),
+        (POLICY, b"", b"drain\n", 7, b"fault capture 1 0\n"),
+    ];
+    for (policy, capture, script, status, text) in table {
+        let mut shelf = PlainShelf::new(files(alloc, policy, capture, script)?);
+        let mut sink = PlainSink::new(alloc, 200)?;
+        let mut fabric = FlatFabric::new(alloc)?;
+        let answer = run(alloc, &words, &mut shelf, &mut sink, &mut fabric);
+        assert_eq!(rt; answer, status);
+        assert_eq!(rt; sink.bytes(), text);
+    }
+    Ok(())
+}
+
+#[test]
 fn a_fault_ends_the_run(rt: HostRuntime) -> Result<(), Fail> {
     let alloc = rt.alloc();
-    let words = replay_words(alloc)?;
-    let mut shelf = PlainShelf::new(files(alloc, POLICY, CAPTURE, b"a\n")?);
-    let mut fabric = FlatFabric::new(alloc)?;
-    let mut second_write_fails = Vec::new(alloc);
-    second_write_fails.push(2)?;
-    let mut sink = MemSink::new(alloc, 200, 1, second_write_fails)?;
-    let answer = run(alloc, &words, &mut shelf, &mut sink, &mut fabric);
-    assert_eq!(rt; (answer, sink.bytes()), (9, b"a".as_slice()));
+    let replayed = words(alloc, &["replay", "p", "t", "c", "e"])?;
+    let directed = words(alloc, &["direct", "p", "c", "e"])?;
+    for words in [&replayed, &directed] {
+        let mut shelf = PlainShelf::new(files(alloc, POLICY, CAPTURE, b"a\n")?);
+        let mut fabric = FlatFabric::new(alloc)?;
+        let mut second_write_fails = Vec::new(alloc);
+        second_write_fails.push(2)?;
+        let mut sink = MemSink::new(alloc, 200, 1, second_write_fails)?;
+        let answer = run(alloc, words, &mut shelf, &mut sink, &mut fabric);
+        assert_eq!(rt; (answer, sink.bytes()), (9, b"a".as_slice()));
 
-    // The policy and the target take three calls each: `begin`, a read that finds all of the file,
-    // and one that finds its end. The capture is begun by the seventh, and first read by the eighth.
-    let mut eighth_call_fails = Vec::new(alloc);
-    eighth_call_fails.push(8)?;
-    let held = files(alloc, POLICY, CAPTURE, b"a\n")?;
-    let mut capture_fails = MemShelf::new(held, 1000, eighth_call_fails);
-    let mut sink = PlainSink::new(alloc, 200)?;
-    let mut fabric = FlatFabric::new(alloc)?;
-    let answer = run(alloc, &words, &mut capture_fails, &mut sink, &mut fabric);
-    assert_eq!(rt; (answer, sink.bytes().len()), (8, 0));
+        // The two files before the capture take three calls each: `begin`, a read that finds all of the
+        // file, and one that finds its end. The capture is begun by the seventh, and first read by the
+        // eighth.
+        let mut eighth_call_fails = Vec::new(alloc);
+        eighth_call_fails.push(8)?;
+        let held = files(alloc, POLICY, CAPTURE, b"a\n")?;
+        let mut capture_fails = MemShelf::new(held, 1000, eighth_call_fails);
+        let mut sink = PlainSink::new(alloc, 200)?;
+        let answer = run(alloc, words, &mut capture_fails, &mut sink, &mut fabric);
+        assert_eq!(rt; (answer, sink.bytes().len()), (8, 0));
 
-    let mut fabric = FlatFabric::new(alloc)?;
-    let mut no_files = MemShelf::new(Vec::new(alloc), 7, Vec::new(alloc));
-    let mut sink = PlainSink::new(alloc, 200)?;
-    let answer = run(alloc, &words, &mut no_files, &mut sink, &mut fabric);
-    assert_eq!(rt; (answer, sink.bytes().len()), (8, 0));
+        let mut no_files = MemShelf::new(Vec::new(alloc), 7, Vec::new(alloc));
+        let answer = run(alloc, words, &mut no_files, &mut sink, &mut fabric);
+        assert_eq!(rt; (answer, sink.bytes().len()), (8, 0));
+    }
     Ok(())
 }

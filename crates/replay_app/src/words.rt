@@ -2,15 +2,18 @@ ghost use Rattle.std.specs.Prelude.{◌≡◌, MatchOption};
 ghost use Rattle.replay_app.specs.Words.{form_of, no_form, texts};
 ghost use Rattle.replay_app.specs.Named.{command_form};
 
+use crate::direct::DirectFiles;
 use crate::files::Files;
 
 /// What the words ask for.
 #[derive(Clone, Copy, Debug)]
 pub enum Command<'a> {
-    /// A run over these files.
+    /// A run over these files, through the fabric.
     Replay(Files<'a>),
     /// The canonical text of a policy's file.
     Check(&'a str),
+    /// A run over these files, through the policy's own tree.
+    Direct(DirectFiles<'a>),
 }
 
 /// The command that the words spell, if they are in a form.
@@ -21,6 +24,17 @@ pub fn command_of(words: &[String]) -> Option<Command<'_>>
         [command, policy] => {
             if command.as_str() == "check" {
                 Some(Command::Check(policy.as_str()))
+            } else {
+                None
+            }
+        }
+        [command, policy, capture, script] => {
+            if command.as_str() == "direct" {
+                Some(Command::Direct(DirectFiles {
+                    policy: policy.as_str(),
+                    capture: capture.as_str(),
+                    script: script.as_str(),
+                }))
             } else {
                 None
             }

@@ -1,7 +1,6 @@
 use Rattle.replay_app.specs.Policies.{entries_in, policy_refusal}
-use Rattle.replay_app.specs.Named.{form_in}
 use Rattle.replay_app.specs.Others.{other_words}
-use Rattle.replay_app.specs.declared.policies.Policy.TheVariants.{Accepted, Refused}
+use Rattle.replay_app.specs.declared.policies.PolicyText.TheVariants.{Accepted, Refused}
 use Rattle.replay_app.proofs.Commands.{run_answer, told-later, inputs-read, given-of, begun-of, leaves-of, ends-badly}
 use Rattle.replay_app.proofs.PolicyReads.{answer-is, answer-only}
 use Rattle.replay_app.proofs.command.replay_files.Goals as goal
@@ -13,7 +12,7 @@ returns-in-Accepted-clause-given g c = λ contents told.
     let read = rw c.in-Accepted.is at (rw (told.0) at c.in_ok-policy.ensures.read) in
     let others = c.in_ok-others.ensures.read contents (told-later _ _ _ _ contents (other_words f) c.in_ok-policy.ensures.files told.1) in
     let inputs = inputs-read f contents l c.in_ok-others.others others in
-    given-of c.replay_lines.result (form_in f) contents (run_answer f contents (entries_in l)) _ _
+    given-of c.replay_lines.result _ (run_answer f contents (entries_in l)) _ _
     (answer-is (contents f.policy.now) (run_answer f contents) (Accepted l) read)
     (c.replay_lines.ensures.status _ inputs) (c.replay_lines.ensures.text _ inputs)
 
@@ -24,7 +23,7 @@ returns-in-Accepted-clause-part g c = λ contents told.
     let read = rw c.in-Accepted.is at (rw (told.0) at c.in_ok-policy.ensures.read) in
     let others = c.in_ok-others.ensures.read contents (told-later _ _ _ _ contents (other_words f) c.in_ok-policy.ensures.files told.1) in
     let inputs = inputs-read f contents l c.in_ok-others.others others in
-    begun-of c.replay_lines.result (form_in f) contents (run_answer f contents (entries_in l)) _ _
+    begun-of c.replay_lines.result _ (run_answer f contents (entries_in l)) _ _
     (λ b is. answer-only (contents f.policy.now) (run_answer f contents) (Accepted l) b read is)
     (c.replay_lines.ensures.part _ inputs)
 
@@ -42,7 +41,7 @@ returns-in-Refused-clause-given g c = λ contents told.
     let f = c.args.files.now in
     let r = c.in-Refused.refusal in
     let read = rw c.in-Refused.is at (rw (told.0) at c.in_ok-policy.ensures.read) in
-    given-of c.refuse_policy.result (form_in f) contents (policy_refusal r.code r.line) _ _
+    given-of c.refuse_policy.result _ (policy_refusal r.code r.line) _ _
     (answer-is (contents f.policy.now) (run_answer f contents) (Refused r) read)
     (ends-badly _ r.code r.line c.refuse_policy.ensures.status) c.refuse_policy.ensures.text
 
@@ -51,6 +50,6 @@ returns-in-Refused-clause-part g c = λ contents told.
     let f = c.args.files.now in
     let r = c.in-Refused.refusal in
     let read = rw c.in-Refused.is at (rw (told.0) at c.in_ok-policy.ensures.read) in
-    begun-of c.refuse_policy.result (form_in f) contents (policy_refusal r.code r.line) _ _
+    begun-of c.refuse_policy.result _ (policy_refusal r.code r.line) _ _
     (λ b is. answer-only (contents f.policy.now) (run_answer f contents) (Refused r) b read is)
     c.refuse_policy.ensures.part

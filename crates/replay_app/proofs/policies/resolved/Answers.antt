@@ -1,15 +1,15 @@
 use Rattle.std.proofs.Common.{sym, subst}
 use Rattle.replay_app.specs.declared.policies.Refusal.{Refusal}
-use Rattle.replay_app.specs.Policies.{entries_in, policy_refusal, IsCheckAnswer, all_accepted, statements_refused, text_refused}
+use Rattle.replay_app.specs.Policies.{entries_in, IsPolicyRefused, statements_refused, text_refused}
 use Rattle.replay_app.proofs.policies.resolved.Goals as goal
 
 pub returns-in-Ok : goal.returns-in-Ok
-returns-in-Ok c = λ text read. (let is = rw c.in-Accepted.is at read in all_accepted (entries_in c.in-Accepted.lines) is.has c.in-Ok.ensures.accepts)
+returns-in-Ok c = λ text read. (let is = rw c.in-Accepted.is at read in record { has = is.has; accepted = c.in-Ok.ensures.accepts; gives = c.in-Ok.ensures.policy })
 
 pub returns-in_ok-refusal_of-in-Err : goal.returns-in_ok-refusal_of-in-Err
 returns-in_ok-refusal_of-in-Err c = λ text read.
     let is = rw c.in-Accepted.is at read in
-    subst (λ (r : Refusal). IsCheckAnswer text (policy_refusal r.code r.line)) (sym c.in_ok-refusal_of-in-Err.ensures.told)
+    subst (λ (r : Refusal). IsPolicyRefused text r.code r.line) (sym c.in_ok-refusal_of-in-Err.ensures.told)
     (statements_refused (entries_in c.in-Accepted.lines) c.in-Err.fault is.has c.in_ok-refusal_of-in-Err.ensures.memory c.in-Err.ensures.refuses)
 
 pub returns-in-Refused : goal.returns-in-Refused
