@@ -11,7 +11,7 @@ ghost use Rattle.tree_core.specs.TreeContents.{PopsOnto};
 use crate::path::Path;
 use crate::taken::Taken;
 use crate::topo::Topo;
-use pifo_core::{Pifo, SortedPifo};
+use pifo_core::{HeapPifo, Pifo};
 use std::alloc::{AllocError, Global};
 use std::marker::Model;
 
@@ -19,7 +19,7 @@ use std::marker::Model;
 /// always well formed.
 #[derive(Drop)]
 pub struct SourceTree {
-    queue: SortedPifo,
+    queue: HeapPifo,
     children: Vec<SourceTree>,
 }
 
@@ -50,7 +50,7 @@ impl SourceTree {
     {
         match topo {
             Topo::Leaf => Ok(SourceTree {
-                queue: SortedPifo::new(alloc),
+                queue: HeapPifo::new(alloc),
                 children: Vec::new(alloc),
             }),
             Topo::Inner(inner) => {
@@ -59,7 +59,7 @@ impl SourceTree {
                     children.push(SourceTree::new(alloc, child)?)?;
                 }
                 Ok(SourceTree {
-                    queue: SortedPifo::new(alloc),
+                    queue: HeapPifo::new(alloc),
                     children,
                 })
             }
