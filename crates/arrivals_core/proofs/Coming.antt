@@ -2,6 +2,7 @@
 use Rattle.std.proofs.Common.{◌≡◌, ◌<◌, ◌+◌, ℕ, false, Option, Some, None, List, [], ◌∷◌, refl, ap, ◌∙◌}
 use Rattle.std.specs.Prelude.{IfSome, option_map}
 use Rattle.std.specs.Option.{option_map_or}
+use Rattle.std.proofs.lemmas.Option.{IfSome_then}
 use Rattle.capture_defs.specs.declared.head.Head.{Head}
 use Rattle.capture_defs.specs.Fault.{code, place}
 use Rattle.capture_defs.specs.Header.{IsHeaderFault}
@@ -20,10 +21,6 @@ use Rattle.course_core.specs.declared.packets.Halt.TheVariants as halt
 use Rattle.arrivals_core.specs.Packets.{packet_of, packets_from}
 use Rattle.arrivals_core.specs.Halts.{halt_of}
 use Rattle.arrivals_core.specs.Arrivals.{left_in, nothing_left, Begins, Refuses}
-
-some-weaker : {X : Type 0} (o : Option X) (P Q : X → Type 0) → ((x : X) → P x → Q x) → IfSome o P → IfSome o Q
-some-weaker None P Q f h = tt
-some-weaker (Some x) P Q f h = f x h
 
 -- what holds of the halt at each fault of the file, and of the others, holds of what a refusal becomes
 halt-by : (P : Halt → Type 0) (fault : CaptureFault) → P halt.Source → P halt.Memory → IfSome (fault_in fault) (λ f. P (halt.Fault (code f) (place f))) → P (halt_of fault)
@@ -65,7 +62,7 @@ pub refuses : (fault : CaptureFault) (file : Option (List ℕ)) → IfSome (faul
 refuses fault None h = tt
 refuses fault (Some bytes) h =
     halt-by (λ e. Refuses e (capture_of bytes)) fault tt tt
-    (some-weaker (fault_in fault) _ _ (λ f is. record { found = f; is = capture_of-fault f bytes is; same_code = refl; same_place = refl }) h)
+    (IfSome_then (fault_in fault) h (λ f is. record { found = f; is = capture_of-fault f bytes is; same_code = refl; same_place = refl }))
 
 -- a record is the next packet
 comes : (policy : Resolved) (head : Head) (n : ℕ) (old new : Option (List ℕ)) (r : Record) → n < most_records → TakesRecord head.big r old new
@@ -91,9 +88,9 @@ ends policy head n (Some old) whole =
 
 pub halts : (policy : Resolved) (head : Head) (n : ℕ) (fault : CaptureFault) (rest : Option (List ℕ))
     → IfSome (fault_in fault) (λ f. IfSome rest (λ left. IsRecordFault head.big n left f)) → IsHalt (option_map (left_in policy head n) rest) (halt_of fault)
-halts policy head n fault None h = halt-by (IsHalt None) fault tt tt (some-weaker (fault_in fault) _ _ (λ f is. tt) h)
+halts policy head n fault None h = halt-by (IsHalt None) fault tt tt (IfSome_then (fault_in fault) h (λ f is. tt))
 halts policy head n fault (Some rest) h =
     halt-by (IsHalt (Some (left_in policy head n rest))) fault tt tt
-    (some-weaker (fault_in fault) _ _
+    (IfSome_then (fault_in fault) h
     (λ f is. (let e = records_left-fault head.big n rest f is in
-    (ap (λ run. packets_from policy head (n + 1) run.0) e, record { found = f; is = ap (λ run. run.1) e; same_code = refl; same_place = refl }))) h)
+    (ap (λ run. packets_from policy head (n + 1) run.0) e, record { found = f; is = ap (λ run. run.1) e; same_code = refl; same_place = refl }))))

@@ -1,4 +1,3 @@
 pub mod Packets
 pub mod Halts
 pub mod Arrivals
-pub mod Names

@@ -3,12 +3,9 @@
 
 mod arrivals;
 mod halts;
-mod names;
 mod packets;
 #[cfg(test)]
 mod tests;
 
 pub use arrivals::Arrivals;
 pub use course_core::{Halt, Packets};
-pub use names::PolicyNames;
-pub use run_core::Names;

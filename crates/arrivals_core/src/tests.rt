@@ -1,4 +1,4 @@
-use crate::{Arrivals, Names, Packets, PolicyNames};
+use crate::{Arrivals, Packets};
 use outside_core::{MemShelf, Shelf};
 use policy_core::{Policy, resolve};
 use policy_text::parse;
@@ -94,19 +94,5 @@ fn packets_of_two_classes(rt: HostRuntime) -> Result<(), Fail> {
         let text = told(alloc, &policy, &mut shelf)?;
         assert_eq!(rt; text.as_str(), want);
     }
-    Ok(())
-}
-
-#[test]
-fn names_by_number(rt: HostRuntime) -> Result<(), Fail> {
-    let alloc = rt.alloc();
-    let policy = policy(alloc)?;
-    let names = PolicyNames::new(&policy);
-    let mut text = String::new(alloc);
-    for node in 0..policy.count() {
-        text.push_str(names.name(node))?;
-        text.push(' ')?;
-    }
-    assert_eq!(rt; text.as_str(), "root names other ");
     Ok(())
 }

@@ -7,7 +7,8 @@ use Rattle.resolve_defs.specs.Clauses.{NoLine, IsUnknown, is_known, IsStray, has
 use Rattle.resolve_defs.specs.Programs.{programs}
 use Rattle.resolve_defs.specs.Accepted.{AreAccepted, AreKnown, HaveRoot}
 
-holds : (b : Bool) → (not b ≡ true → ⊥) → b ≡ true
+-- what is refused where it fails holds
+pub holds : (b : Bool) → (not b ≡ true → ⊥) → b ≡ true
 holds true h = refl
 holds false h = absurd (h refl)
 

@@ -1,5 +1,5 @@
 -- Trees of nodes that agree where a number stands.
-use Rattle.std.proofs.Common.{◌≡◌, ℕ, ◌<◌, ◌∙◌, ◌++◌, List, [], ◌∷◌, length, map, refl, sym, ap, ap₂, subst, arith, true, get_or}
+use Rattle.std.proofs.Common.{◌≡◌, ℕ, ◌<◌, ◌∙◌, List, [], length, map, refl, sym, ap, ap₂, subst, arith, true, get_or}
 use Rattle.std.specs.List.{AllByRecursion, list_all}
 use Rattle.tree_defs.specs.Tree.{Tree, leaf, inner, Trees, none, more, root_of}
 use Rattle.policy_text_defs.specs.Sense.{Entry}
@@ -11,28 +11,13 @@ use Rattle.resolve_defs.specs.Accepted.{AreAccepted}
 use Rattle.resolve_defs.specs.Graph.{graph_of, nodes_in}
 use Rattle.lineage_core.specs.Preorder.{IsTreeOf, AreTreesOf, labels, preorder, preorder_below}
 use Rattle.assembly_core.specs.Labels.{map_tree, map_trees, node_numbered, nodes_at}
-use Rattle.assembly_core.proofs.NamePlaces.{place-within}
+use Rattle.resolve_defs.proofs.Places.{place-within}
+use Rattle.resolve_defs.proofs.Lists.{all-append, all-first, all-second, all-weaker}
 use Rattle.assembly_core.proofs.Stated.{families, IsStated, stated}
 use Rattle.assembly_core.proofs.Resolving.{children-at, known-of, family-known, places-within}
 use Rattle.assembly_core.proofs.Accepting.{known-there, root-there}
 use Rattle.assembly_core.proofs.Homing.{length-nodes}
 use Rattle.assembly_core.proofs.Passing.{length-graph}
-
-all-append : {X : Type 0} (P : X → Type 0) (xs ys : List X) → AllByRecursion P xs → AllByRecursion P ys → AllByRecursion P (xs ++ ys)
-all-append P [] ys first second = second
-all-append P (x ∷ xs) ys first second = (first.0, all-append P xs ys first.1 second)
-
-all-first : {X : Type 0} (P : X → Type 0) (xs ys : List X) → AllByRecursion P (xs ++ ys) → AllByRecursion P xs
-all-first P [] ys all = tt
-all-first P (x ∷ xs) ys all = (all.0, all-first P xs ys all.1)
-
-all-second : {X : Type 0} (P : X → Type 0) (xs ys : List X) → AllByRecursion P (xs ++ ys) → AllByRecursion P ys
-all-second P [] ys all = all
-all-second P (x ∷ xs) ys all = all-second P xs ys all.1
-
-all-weaker : {X : Type 0} (P Q : X → Type 0) (xs : List X) → ((x : X) → P x → Q x) → AllByRecursion P xs → AllByRecursion Q xs
-all-weaker P Q [] to all = tt
-all-weaker P Q (x ∷ xs) to all = (to x all.0, all-weaker P Q xs to all.1)
 
 -- functions that agree at the numbers of a tree give one tree
 mutual

@@ -1,8 +1,9 @@
 -- The leaf of each class, after all statements.
-use Rattle.std.proofs.Common.{◌≡◌, ℕ, zero, suc, ◌<◌, ◌≤◌, ◌∙◌, true, List, [], ◌∷◌, length, take, get_or, slice_index, refl, sym, ap, subst, arith}
+use Rattle.std.proofs.Common.{◌≡◌, ℕ, suc, ◌<◌, ◌≤◌, ◌∙◌, true, List, [], ◌∷◌, length, take, get_or, slice_index, sym, ap, subst, arith}
 use Rattle.std.proofs.lemmas.List.Elements.{recursion_from_All}
 use Rattle.std.specs.List.{AllZip, IsDistinct}
 use Rattle.std.specs.Str.{bytes_eq}
+use Rattle.std.proofs.lemmas.List.{length-map, take_all}
 use Rattle.policy_text_defs.specs.declared.statement.Statement.{Statement}
 use Rattle.policy_text_defs.specs.Sense.{Entry}
 use Rattle.policy_defs.specs.Policy.{Node}
@@ -12,11 +13,11 @@ use Rattle.resolve_defs.specs.Entries.{entries_of, AreRising}
 use Rattle.resolve_defs.specs.Programs.{place}
 use Rattle.resolve_defs.specs.Graph.{graph_of, nodes_in}
 use Rattle.lineage_core.specs.Row.{Row}
-use Rattle.names_core.proofs.Texts.{length-map}
 use Rattle.assembly_core.specs.Numbers.{ArePlaces}
 use Rattle.assembly_core.specs.Homes.{IsLeafWith, IsHome, AreHomes}
 use Rattle.assembly_core.proofs.Stated.{names-nodes}
-use Rattle.assembly_core.proofs.Distinct.{distinct-classes, has-at, place-at, classes-listed}
+use Rattle.resolve_defs.proofs.Places.{has-at, place-at}
+use Rattle.assembly_core.proofs.Distinct.{distinct-classes, classes-listed}
 use Rattle.assembly_core.proofs.Passing.{IsLeafPlace, IsPassing, length-graph}
 
 zip-by : {X Y : Type 0} (R : X → Y → Type 0) (xs : List X) (ys : List Y) (d : X) (e : Y) → length xs ≡ length ys → ((k : ℕ) → k < length xs → R (get_or xs k d) (get_or ys k e)) → AllZip R xs ys
@@ -26,13 +27,7 @@ zip-by R (x ∷ xs) [] d e size each = absurd (omega arith)
 zip-by R (x ∷ xs) (y ∷ ys) d e size each = (each 0 (omega arith), zip-by R xs ys d e (omega arith) (λ k l. each (suc k) (omega arith)))
 
 pub length-nodes : (es : List Entry) → length (nodes_in es) ≡ length (graph_of es)
-length-nodes es = sym (length-map (λ (n : Node). n.name) (nodes_in es)) ∙ ap length (names-nodes es es) ∙ sym (length-graph es)
-
-take-all : {X : Type 0} (xs : List X) (n : ℕ) → length xs ≤ n → take n xs ≡ xs
-take-all [] zero l = refl
-take-all [] (suc n) l = refl
-take-all (x ∷ xs) zero l = absurd (omega arith)
-take-all (x ∷ xs) (suc n) l = ap (λ m. x ∷ m) (take-all xs n (omega arith))
+length-nodes es = sym (length-map (nodes_in es) (λ (n : Node). n.name)) ∙ ap length (names-nodes es es) ∙ sym (length-graph es)
 
 home-of : (es : List Entry) (rows : List Row) (places : List ℕ) (a : Name) (k : ℕ) → length rows ≡ length (graph_of es) → ArePlaces rows places → IsLeafPlace es places a k → IsHome es rows a k
 home-of es rows places a k size are leaf_place =
@@ -50,7 +45,7 @@ homes-all lines rows classes places leaves i node rising fresh listed_once are s
   where
     listed-all : (k : ℕ) → k < length classes → has (listed leaf_classes (entries_of (take i lines))) (get_or classes k []) ≡ true
     listed-all k l =
-        subst (λ (ls : List (ℕ × Statement)). has (listed leaf_classes (entries_of ls)) (get_or classes k []) ≡ true) (sym (take-all lines i over))
+        subst (λ (ls : List (ℕ × Statement)). has (listed leaf_classes (entries_of ls)) (get_or classes k []) ≡ true) (sym (take_all i lines over))
         (subst (λ (names : List Name). has (listed leaf_classes (entries_of lines)) (get_or names k []) ≡ true) (sym are)
         (classes-listed (listed leaf_classes (entries_of lines)) (entries_of lines) (recursion_from_All (λ (e : Entry). is_stray (listed leaf_classes (entries_of lines)) e.1 ≡ true → ⊥) (entries_of lines) listed_once) k [] (omega (arith, ap length are, l))))
 

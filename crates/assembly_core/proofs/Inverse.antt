@@ -1,11 +1,12 @@
 -- The numbers of nodes in preorder, from the nodes of the numbers.
-use Rattle.std.proofs.Common.{◌≡◌, ◌≢◌, ◌⊎◌, ◌||◌, ℕ, zero, suc, ◌+◌, ◌<◌, ◌≤◌, ◌∙◌, Bool, true, false, List, [], ◌∷◌, length, set, get_or, slice_index, replicate, refl, sym, ap, arith, inl, inr, cond, nat_eq}
+use Rattle.std.proofs.Common.{◌≡◌, ◌≢◌, ◌⊎◌, ◌||◌, ℕ, zero, suc, ◌+◌, ◌<◌, ◌≤◌, ◌∙◌, true, List, [], ◌∷◌, length, set, get_or, slice_index, replicate, refl, sym, ap, arith, inl, inr, cond, nat_eq}
 use Rattle.std.proofs.lemmas.Bool.{cases_Bool, cases_eq, cases_lt, eq-eqb, eqb-true}
-use Rattle.std.proofs.lemmas.List.{length-set, get_or-set_same, get_or-set_other}
+use Rattle.std.proofs.lemmas.List.{length-replicate, length-set, get_or-set_same, get_or-set_other}
 use Rattle.std.proofs.lemmas.List.Sums.{sum_by-cons}
 use Rattle.std.proofs.lemmas.List.Folds.{list_any_at}
 use Rattle.std.proofs.lemmas.Map.Steps.{le-length_from_below}
 use Rattle.std.proofs.Math.ListN.{get_or-map}
+use Rattle.std.proofs.Math.Bool.{or-true}
 use Rattle.std.specs.List.{list_any}
 use Rattle.lineage_core.specs.Descent.{times}
 use Rattle.lineage_core.specs.Row.{Row, row, row_at, nodes_of}
@@ -14,10 +15,6 @@ use Rattle.assembly_core.specs.Numbers.{ArePlaces}
 -- each number below n occurs once
 abbrev pub IsEachOnce : ℕ → List ℕ → Type 0
 IsEachOnce n xs = (a : ℕ) → a < n → times a xs ≡ 1
-
-or_true : (b : Bool) → (b || true) ≡ true
-or_true true = refl
-or_true false = refl
 
 -- one for the same number
 abbrev same : ℕ → ℕ → ℕ
@@ -76,7 +73,7 @@ still-there i q (x ∷ xs) other found = at i found.place other found.within fou
     at zero zero other l is rest = absurd (other is)
     at zero (suc k) other l is rest = list_any_at (nat_eq q) xs k 0 (omega arith) (eq-eqb q _ (sym is))
     at (suc i) zero other l is rest = ap (λ b. b || list_any (nat_eq q) (without i xs)) (eq-eqb q x (sym is))
-    at (suc i) (suc k) other l is rest = ap (λ b. nat_eq q x || b) (rest i other (record { place = k; within = omega arith; is = is })) ∙ or_true (nat_eq q x)
+    at (suc i) (suc k) other l is rest = ap (λ b. nat_eq q x || b) (rest i other (record { place = k; within = omega arith; is = is })) ∙ or-true (nat_eq q x)
 
 -- where each number below the length occurs, no other does
 pub each-within : (n : ℕ) (xs : List ℕ) (i : ℕ) → length xs ≡ n → IsEachOnce n xs → i < n → get_or xs i 0 < n
@@ -102,11 +99,7 @@ pub node-within : (rows : List Row) (k : ℕ) → IsEachOnce (length rows) (node
 node-within rows k once l = omega (arith, node-at rows k, each-within (length rows) (nodes_of rows) k (length-nodes rows) once l)
 
 pub places-start : (rows : List Row) (n : ℕ) → n ≡ length rows → ArePlacesTo rows 0 (replicate n zero)
-places-start rows n size = record { len = length-zeros n ∙ size; each = λ k l. absurd (omega arith) }
-  where
-    length-zeros : (n : ℕ) → length (replicate n zero) ≡ n
-    length-zeros zero = refl
-    length-zeros (suc n) = ap suc (length-zeros n)
+places-start rows n size = record { len = length-replicate n zero ∙ size; each = λ k l. absurd (omega arith) }
 
 pub places-more : (rows : List Row) (number : ℕ) (places : List ℕ) → IsEachOnce (length rows) (nodes_of rows) → number < length rows → ArePlacesTo rows number places
     → ArePlacesTo rows (number + 1) (set places (row_at rows number).node number)

@@ -1,4 +1,3 @@
-pub mod NamePlaces
 pub mod Stated
 pub mod Programs
 pub mod Accepting

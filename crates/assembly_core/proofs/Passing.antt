@@ -1,59 +1,38 @@
 -- A pass over statements that gives each class that leaves list its leaf.
-use Rattle.std.proofs.Common.{◌≡◌, ◌⊎◌, ℕ, zero, suc, ◌+◌, ◌<◌, ◌||◌, ◌∙◌, true, false, List, [], ◌∷◌, ◌++◌, length, map, take, drop, get_or, slice_index, refl, sym, ap, subst, arith, inl, inr, true≢false, Some, None, Contains, append-nil, append_assoc, Option, length-append, if◌then◌else◌}
+use Rattle.std.proofs.Common.{◌≡◌, ◌⊎◌, ℕ, suc, ◌+◌, ◌<◌, ◌||◌, ◌∙◌, true, false, List, [], ◌∷◌, ◌++◌, length, map, take, drop, get_or, slice_index, refl, sym, ap, subst, arith, inl, inr, true≢false, Some, None, Contains, append-nil, append_assoc, Option, length-append, if◌then◌else◌}
 use Rattle.std.proofs.lemmas.Bool.{cases_Bool}
 use Rattle.std.proofs.lemmas.Slice.Eq.{bytes_eq-Decides}
-use Rattle.std.proofs.lemmas.List.{take_more}
+use Rattle.std.proofs.Math.Bool.{or-false}
+use Rattle.std.proofs.Math.Seq.{get_or-append_seam, split_at}
+use Rattle.std.proofs.lemmas.List.{length-map, map-append}
 use Rattle.std.proofs.lemmas.List.Elements.{filter_map-append}
 use Rattle.std.proofs.lemmas.List.Folds.{list_any-append, Any-from_list_any}
 use Rattle.std.specs.List.{cons_option}
 use Rattle.std.specs.Str.{bytes_eq}
 use Rattle.policy_text_defs.specs.declared.attribute.Attrs.{Attrs}
-use Rattle.policy_text_defs.specs.declared.condition.Condition.{Condition}
 use Rattle.policy_text_defs.specs.declared.statement.Statement.{Statement}
 use Rattle.policy_text_defs.specs.declared.statement.Statement.TheVariants as statement
 use Rattle.policy_text_defs.specs.Sense.{Sense, Entry, entry, sense_of, leaf}
 use Rattle.policy_defs.specs.Policy.{Node}
-use Rattle.resolve_defs.specs.Names.{Name, has, declared, class_name, node_name, listed, leaf_classes}
+use Rattle.resolve_defs.specs.Names.{Name, has, declared, node_name, listed, leaf_classes}
 use Rattle.resolve_defs.specs.Entries.{entries_of}
 use Rattle.resolve_defs.specs.Programs.{place}
 use Rattle.resolve_defs.specs.Graph.{family, graph_of, nodes_in}
+use Rattle.resolve_defs.proofs.Lines.{Line, entry_of, entries-more, given-more, given-within}
 use Rattle.assembly_core.specs.Labels.{node_numbered}
 use Rattle.assembly_core.specs.Homes.{IsLeafWith}
-use Rattle.assembly_core.proofs.Putting.{ArePut, or_false}
-use Rattle.names_core.proofs.Texts.{length-map, map-append}
+use Rattle.assembly_core.proofs.Putting.{ArePut}
 use Rattle.assembly_core.proofs.Stated.{families, length-families, names-nodes}
 use Rattle.assembly_core.proofs.Resolving.{name-at, children-at}
 
--- ---- lists in two parts
-split-at : {X : Type 0} (xs : List X) (i : ℕ) (x : X) → i < length xs → x ≡ get_or xs i x → xs ≡ take i xs ++ x ∷ drop (suc i) xs
-split-at [] i x l e = absurd (omega arith)
-split-at (y ∷ ys) zero x l e = ap (λ z. z ∷ ys) (sym e)
-split-at (y ∷ ys) (suc i) x l e = ap (λ l. y ∷ l) (split-at ys i x (omega arith) e)
-
-at-seam : {X : Type 0} (xs : List X) (y : X) (ys : List X) (d : X) → get_or (xs ++ y ∷ ys) (length xs) d ≡ y
-at-seam [] y ys d = refl
-at-seam (x ∷ xs) y ys d = at-seam xs y ys d
-
-entries-more : (lines : List (ℕ × Statement)) (i : ℕ) (l : ℕ × Statement) → i < length lines → l ≡ get_or lines i l → entries_of (take (i + 1) lines) ≡ entries_of (take i lines) ++ entry l.0 (sense_of l.1) ∷ []
-entries-more lines i l short is =
-    ap entries_of (take_more lines i l short) ∙ map-append (λ (m : ℕ × Statement). entry m.0 (sense_of m.1)) (take i lines) (get_or lines i l ∷ [])
-    ∙ ap (λ (m : ℕ × Statement). entries_of (take i lines) ++ entry m.0 (sense_of m.1) ∷ []) (sym is)
-
 entries-split : (lines : List (ℕ × Statement)) (i : ℕ) (l : ℕ × Statement) → i < length lines → l ≡ get_or lines i l → entries_of lines ≡ entries_of (take i lines) ++ entry l.0 (sense_of l.1) ∷ entries_of (drop (suc i) lines)
-entries-split lines i l short is = ap entries_of (split-at lines i l short is) ∙ map-append (λ (m : ℕ × Statement). entry m.0 (sense_of m.1)) (take i lines) (l ∷ drop (suc i) lines)
-
-declared-step : (space : Sense → Option Name) (es : List Entry) (e : Entry) → declared space (es ++ e ∷ []) ≡ declared space es ++ cons_option (space e.1) []
-declared-step space es e = filter_map-append (λ (f : Entry). space f.1) es (e ∷ [])
+entries-split lines i l short is = ap entries_of (split_at lines i l short ∙ ap (λ (k : Line). take i lines ++ k ∷ drop (suc i) lines) (sym is)) ∙ map-append entry_of (take i lines) (l ∷ drop (suc i) lines)
 
 listed-step : (names : Sense → List Name) (es : List Entry) (e : Entry) → listed names (es ++ e ∷ []) ≡ listed names es ++ names e.1
 listed-step names [] e = append-nil (names e.1)
 listed-step names (f ∷ es) e = ap (λ l. names f.1 ++ l) (listed-step names es e) ∙ sym (append_assoc (names f.1) (listed names es) (names e.1))
 
 -- ---- counts of what is declared
-pub declared-more : (space : Sense → Option Name) (lines : List (ℕ × Statement)) (i : ℕ) (l : ℕ × Statement) → i < length lines → l ≡ get_or lines i l
-    → declared space (entries_of (take (i + 1) lines)) ≡ declared space (entries_of (take i lines)) ++ cons_option (space (sense_of l.1)) []
-declared-more space lines i l short is = ap (declared space) (entries-more lines i l short is) ∙ declared-step space (entries_of (take i lines)) (entry l.0 (sense_of l.1))
-
 listed-more : (lines : List (ℕ × Statement)) (i : ℕ) (l : ℕ × Statement) → i < length lines → l ≡ get_or lines i l
     → listed leaf_classes (entries_of (take (i + 1) lines)) ≡ listed leaf_classes (entries_of (take i lines)) ++ leaf_classes (sense_of l.1)
 listed-more lines i l short is = ap (listed leaf_classes) (entries-more lines i l short is) ∙ listed-step leaf_classes (entries_of (take i lines)) (entry l.0 (sense_of l.1))
@@ -66,24 +45,14 @@ no-more names o is = ap (λ p. length (names ++ cons_option p [])) is ∙ ap len
 
 pub counted-more : (space : Sense → Option Name) (lines : List (ℕ × Statement)) (i : ℕ) (l : ℕ × Statement) (a : Name) → i < length lines → l ≡ get_or lines i l → space (sense_of l.1) ≡ Some a
     → length (declared space (entries_of (take (i + 1) lines))) ≡ length (declared space (entries_of (take i lines))) + 1
-counted-more space lines i l a short is declares = ap length (declared-more space lines i l short is) ∙ one-more (declared space (entries_of (take i lines))) (space (sense_of l.1)) a declares
+counted-more space lines i l a short is declares = ap length (given-more space lines i l short is) ∙ one-more (declared space (entries_of (take i lines))) (space (sense_of l.1)) a declares
 
 pub counted-same : (space : Sense → Option Name) (lines : List (ℕ × Statement)) (i : ℕ) (l : ℕ × Statement) → i < length lines → l ≡ get_or lines i l → space (sense_of l.1) ≡ None
     → length (declared space (entries_of (take (i + 1) lines))) ≡ length (declared space (entries_of (take i lines)))
-counted-same space lines i l short is declares = ap length (declared-more space lines i l short is) ∙ no-more (declared space (entries_of (take i lines))) (space (sense_of l.1)) declares
-
-pub counted-within : (space : Sense → Option Name) (lines : List (ℕ × Statement)) (i : ℕ) (l : ℕ × Statement) (a : Name) → i < length lines → l ≡ get_or lines i l → space (sense_of l.1) ≡ Some a
-    → length (declared space (entries_of (take i lines))) < length (declared space (entries_of lines))
-counted-within space lines i l a short is declares =
-    let before : List Entry = entries_of (take i lines) in
-    let after : List Entry = entries_of (drop (suc i) lines) in
-    let all : declared space (entries_of lines) ≡ declared space before ++ cons_option (space (sense_of l.1)) (declared space after) =
-    ap (declared space) (entries-split lines i l short is) ∙ filter_map-append (λ (f : Entry). space f.1) before (entry l.0 (sense_of l.1) ∷ after) in
-    let own : length (cons_option (space (sense_of l.1)) (declared space after)) ≡ suc (length (declared space after)) = ap (λ o. length (cons_option o (declared space after))) declares in
-    omega (arith, ap length all, own, length-append (declared space before) (cons_option (space (sense_of l.1)) (declared space after)))
+counted-same space lines i l short is declares = ap length (given-more space lines i l short is) ∙ no-more (declared space (entries_of (take i lines))) (space (sense_of l.1)) declares
 
 pub length-graph : (es : List Entry) → length (graph_of es) ≡ length (declared node_name es)
-length-graph es = length-map (λ names. map (place (declared node_name es)) names) (families es) ∙ length-families es
+length-graph es = length-map (families es) (λ names. map (place (declared node_name es)) names) ∙ length-families es
 
 -- ---- the leaf that a statement declares
 contained : (ns : List Name) (a : Name) → has ns a ≡ true → Contains ns a
@@ -94,9 +63,9 @@ contained ns a there =
 leaf-with : (es before after : List Entry) (n : ℕ) (m u : Name) (at : Attrs) (ns : List Name) (a : Name) → es ≡ before ++ entry n (leaf m u at ns) ∷ after → has ns a ≡ true
     → IsLeafWith es a (length (declared node_name before))
 leaf-with es before after n m u at ns a split there = record {
-  within = omega (arith, ap length names, length-append (declared node_name before) (m ∷ declared node_name after), sym (length-map (λ (d : Node). d.name) (nodes_in es)), ap length (names-nodes es es));
+  within = omega (arith, ap length names, length-append (declared node_name before) (m ∷ declared node_name after), sym (length-map (nodes_in es) (λ (d : Node). d.name)), ap length (names-nodes es es));
   childless = children-at es i ∙ ap (map (place (declared node_name es))) none;
-  lists = (length before, entry n (leaf m u at ns), omega (arith, ap length split, length-append before (entry n (leaf m u at ns) ∷ after)), ap (λ l. get_or l (length before) (entry n (leaf m u at ns))) split ∙ at-seam before (entry n (leaf m u at ns)) after _, (own, contained ns a there));
+  lists = (length before, entry n (leaf m u at ns), omega (arith, ap length split, length-append before (entry n (leaf m u at ns) ∷ after)), ap (λ l. get_or l (length before) (entry n (leaf m u at ns))) split ∙ get_or-append_seam before (entry n (leaf m u at ns)) after _, (own, contained ns a there));
 }
   where
     i : ℕ
@@ -109,10 +78,10 @@ leaf-with es before after n m u at ns a split there = record {
     kin = ap families split ∙ filter_map-append (λ (f : Entry). family f.1) before (entry n (leaf m u at ns) ∷ after)
 
     none : get_or (families es) i [] ≡ []
-    none = ap (λ l. get_or l i []) kin ∙ ap (λ k. get_or (families before ++ [] ∷ families after) k []) (sym (length-families before)) ∙ at-seam (families before) [] (families after) []
+    none = ap (λ l. get_or l i []) kin ∙ ap (λ k. get_or (families before ++ [] ∷ families after) k []) (sym (length-families before)) ∙ get_or-append_seam (families before) [] (families after) []
 
     own : m ≡ (node_numbered es i).name
-    own = sym (name-at es i ∙ ap (λ l. get_or l i []) names ∙ at-seam (declared node_name before) m (declared node_name after) [])
+    own = sym (name-at es i ∙ ap (λ l. get_or l i []) names ∙ get_or-append_seam (declared node_name before) m (declared node_name after) [])
 
 -- ---- the pass
 -- a leaf that lists the class has this place
@@ -129,19 +98,15 @@ pub record IsPassing (lines : List (ℕ × Statement)) (classes : List Name) (pl
 
 pub pass-start : (lines : List (ℕ × Statement)) (classes : List Name) (places leaves : List ℕ) → length leaves ≡ length classes → IsPassing lines classes places 0 0 leaves
 pass-start lines classes places leaves size = record {
-  node_is = sym (ap (λ l. length (declared node_name (entries_of l))) (take-zero lines));
+  node_is = refl;
   len = size;
-  placed = λ a there known. absurd (true≢false (sym there ∙ ap (λ l. has (listed leaf_classes (entries_of l)) a) (take-zero lines)));
+  placed = λ a there known. absurd (true≢false (sym there));
 }
-  where
-    take-zero : (ls : List (ℕ × Statement)) → take 0 ls ≡ []
-    take-zero [] = refl
-    take-zero (x ∷ xs) = refl
 
 -- the node that comes next has a place
 pub node-within : (lines : List (ℕ × Statement)) (classes : List Name) (places leaves : List ℕ) (i node : ℕ) (l : ℕ × Statement) (a : Name) → i < length lines → l ≡ get_or lines i l
     → node_name (sense_of l.1) ≡ Some a → length places ≡ length (graph_of (entries_of lines)) → IsPassing lines classes places i node leaves → node < length places
-node-within lines classes places leaves i node l a short is declares size so_far = omega (arith, counted-within node_name lines i l a short is declares, length-graph (entries_of lines), size, so_far.node_is)
+node-within lines classes places leaves i node l a short is declares size so_far = omega (arith, given-within node_name lines i l a short is declares, length-graph (entries_of lines), size, so_far.node_is)
 
 pub pass-leaf : (lines : List (ℕ × Statement)) (classes : List Name) (places leaves leaves' : List ℕ) (i node leaf : ℕ) (l : ℕ × Statement) (m u : Name) (at : Attrs) (ns : List Name) → i < length lines → l ≡ get_or lines i l
     → l.1 ≡ statement.Leaf m u at ns → leaf ≡ slice_index places node → ArePut classes ns leaf leaves leaves' → IsPassing lines classes places i node leaves → IsPassing lines classes places (i + 1) (node + 1) leaves'
@@ -166,7 +131,7 @@ pass-leaf lines classes places leaves leaves' i node home l m u at ns short is o
       at = put.put a known ∙ ap (λ b. if b then home else slice_index leaves (place classes a)) here ∙ there ∙ ap (slice_index places) so_far.node_is;
     }
     by a listed_now known (inr other) =
-        let earlier : has (listed leaf_classes (entries_of (take i lines))) a ≡ true = sym (ap (λ b. has (listed leaf_classes (entries_of (take i lines))) a || b) other ∙ or_false (has (listed leaf_classes (entries_of (take i lines))) a)) ∙ sym (more a) ∙ listed_now in
+        let earlier : has (listed leaf_classes (entries_of (take i lines))) a ≡ true = sym (ap (λ b. has (listed leaf_classes (entries_of (take i lines))) a || b) other ∙ or-false (has (listed leaf_classes (entries_of (take i lines))) a)) ∙ sym (more a) ∙ listed_now in
         subst (λ (k : ℕ). IsLeafPlace (entries_of lines) places a k) (sym (put.put a known ∙ ap (λ b. if b then home else slice_index leaves (place classes a)) other)) (so_far.placed a earlier known)
 
 -- a statement that lists no classes
@@ -197,17 +162,6 @@ neither (statement.Pop n t) no_leaf no_node = record { unnamed = refl; unlisted 
 neither (statement.Class n a cs) no_leaf no_node = record { unnamed = refl; unlisted = refl }
 neither (statement.Leaf n u a ns) no_leaf no_node = absurd (no_leaf n u a ns refl)
 neither (statement.Node n u a ns) no_leaf no_node = absurd (no_node n u a ns refl)
-
-pub no-class : (s : Statement) → ((n : Name) (a : Attrs) (cs : List Condition) → s ≡ statement.Class n a cs → ⊥) → class_name (sense_of s) ≡ None
-no-class (statement.Version v) other = refl
-no-class (statement.Transaction n) other = refl
-no-class (statement.Keep n s) other = refl
-no-class (statement.Each n s) other = refl
-no-class (statement.Push n t) other = refl
-no-class (statement.Pop n t) other = refl
-no-class (statement.Class n a cs) other = absurd (other n a cs refl)
-no-class (statement.Leaf n u a ns) other = refl
-no-class (statement.Node n u a ns) other = refl
 
 pub pass-other : (lines : List (ℕ × Statement)) (classes : List Name) (places leaves : List ℕ) (i node : ℕ) (l : ℕ × Statement) → i < length lines → l ≡ get_or lines i l → IsNeither l.1
     → IsPassing lines classes places i node leaves → IsPassing lines classes places (i + 1) node leaves

@@ -18,7 +18,7 @@ use Rattle.lineage_core.specs.Preorder.{labels, IsTreeOf, AreTreesOf}
 use Rattle.resolve_defs.specs.Accepted.{AreAccepted}
 use Rattle.assembly_core.specs.Laws.{AreValid, IsNodeTree}
 use Rattle.assembly_core.specs.Labels.{map_tree, map_trees, node_numbered, nodes_at}
-use Rattle.assembly_core.proofs.NamePlaces.{place-within, at-place, at-places}
+use Rattle.resolve_defs.proofs.Places.{place-within, at-place, at-places}
 use Rattle.assembly_core.proofs.Stated.{families, IsStated, stated, names-nodes}
 use Rattle.assembly_core.proofs.Programs.{none-some, some-same, program-there}
 use Rattle.assembly_core.proofs.Accepting.{known-at, known-there, root-there}

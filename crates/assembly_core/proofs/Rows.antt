@@ -1,21 +1,13 @@
 -- The nodes and leaves at the addresses of rows.
-use Rattle.std.proofs.Common.{◌≡◌, ℕ, zero, suc, ◌+◌, ◌-◌, ◌<◌, ◌∙◌, List, [], ◌∷◌, ◌++◌, length, refl, sym, ap, subst, arith, inl, inr, append_assoc, append-nil, length-append, Some}
+use Rattle.std.proofs.Common.{◌≡◌, ℕ, zero, suc, ◌+◌, ◌-◌, ◌<◌, ◌∙◌, [], ◌∷◌, ◌++◌, length, refl, sym, ap, subst, arith, inl, inr, append_assoc, append-nil, length-append, Some}
 use Rattle.std.proofs.lemmas.Bool.{cases_lt}
 use Rattle.tree_defs.specs.Tree.{Tree, leaf, inner, Trees, none, more, Address, nodes, LeadsToLeaf, LeadsBelow}
 use Rattle.policy_defs.specs.Policy.{Node, node_at, node_below}
 use Rattle.lineage_core.specs.Descent.{Graph, children}
 use Rattle.lineage_core.specs.Row.{Row, row_at}
 use Rattle.lineage_core.specs.Preorder.{labels, IsTreeOf, AreTreesOf, rows, rows_below}
+use Rattle.lineage_core.proofs.PreorderLaws.{at-first, at-second}
 use Rattle.assembly_core.specs.Labels.{map_tree, map_trees}
-
-at-first : (xs ys : List Row) (k : ℕ) → k < length xs → row_at (xs ++ ys) k ≡ row_at xs k
-at-first [] ys k l = absurd (omega arith)
-at-first (x ∷ xs) ys zero l = refl
-at-first (x ∷ xs) ys (suc k) l = at-first xs ys k (omega arith)
-
-at-second : (xs ys : List Row) (k : ℕ) → row_at (xs ++ ys) (length xs + k) ≡ row_at ys k
-at-second [] ys k = (let e : 0 + k ≡ k = omega arith in ap (row_at ys) e)
-at-second (x ∷ xs) ys k = (let e : suc (length xs) + k ≡ suc (length xs + k) = omega arith in ap (row_at ((x ∷ xs) ++ ys)) e ∙ at-second xs ys k)
 
 -- a row's address leads from a node to the row's own, which is a leaf where the graph gives it no children
 pub record IsNodeRow (g : Graph) (f : ℕ → Node) (t : Tree ℕ) (a : Address) (r : Row) : Type 0 where

@@ -29,19 +29,6 @@ fn put(leaves: &mut [u32], classes: &Names<'_>, listed: &[Name], leaf: u32)
     }
 }
 
-/// A number for each class.
-fn unplaced(alloc: Global, lines: &[(u32, Statement)]) -> Result<Vec<u32>, AllocError>
-    ensures len { IfOk result (λ l. length l.items ≡ length (declared class_name (entries_of lines.now))) }
-{
-    let mut leaves = Vec::new(alloc);
-    for (_, statement) in lines {
-        if let Statement::Class(_, _, _) = statement {
-            leaves.push(0)?;
-        }
-    }
-    Ok(leaves)
-}
-
 /// For each class, in the order of the statements, the number in preorder of the leaf that lists it. The error is want of memory.
 pub fn leaves(
     alloc: Global,
@@ -58,7 +45,7 @@ pub fn leaves(
     ensures homes { IfOk result (λ l. AreHomes (entries_of lines.now) tree.now.rows l.items) }
 {
     let places = places(alloc, tree)?;
-    let mut leaves = unplaced(alloc, lines)?;
+    let mut leaves = vec![in alloc; 0; classes.len()]?;
     let mut node = 0;
     for (_, statement) in lines {
         match statement {

@@ -7,8 +7,8 @@ use Rattle.policy_text_defs.specs.Sense.{Entry}
 use Rattle.resolve_defs.specs.Names.{Name}
 use Rattle.resolve_defs.specs.Entries.{entries_of}
 use Rattle.resolve_defs.specs.Programs.{keep_span, each_span, push_in, pop_in}
+use Rattle.resolve_defs.proofs.Lines.{Line, entry_of, take-line}
 use Rattle.binding_core.specs.Bodies.{program_over, joined}
-use Rattle.binding_core.proofs.Lines.{Line, entry_of, take_line}
 
 abbrev of_parts : List Span → List Span → List Assignment → List Assignment → Program
 of_parts ks es push pop = record { keeps = ks; eaches = es; push = push; pop = pop }
@@ -29,4 +29,4 @@ pub program_line : (keeps eaches : List Name) (lines : List Line) (i : ℕ) (x :
 program_line keeps eaches lines i x old new within is before after =
     after ∙ ap (λ (p : Program). joined p (program_over keeps eaches (entry_of x ∷ []))) before
     ∙ sym (program_over-append keeps eaches (take i (entries_of lines)) (entry_of x ∷ []))
-    ∙ ap (program_over keeps eaches) (sym (take_line lines i x within is))
+    ∙ ap (program_over keeps eaches) (sym (take-line lines i x within is))

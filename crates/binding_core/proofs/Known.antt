@@ -19,9 +19,10 @@ use Rattle.resolve_defs.specs.Accepted.{AreFew, IsFault}
 use Rattle.resolve_defs.specs.Bodies.{Body, bodies}
 use Rattle.resolve_defs.specs.Entries.{AreRising}
 use Rattle.resolve_defs.specs.Programs.{program_in, programs}
+use Rattle.resolve_defs.proofs.Lists.{all-append}
 use Rattle.binding_core.specs.Bodies.{IsSoundBody}
 use Rattle.binding_core.specs.Known.{known_programs, fault_of}
-use Rattle.binding_core.proofs.Ready.{all_append, all_sound}
+use Rattle.binding_core.proofs.Ready.{all_sound}
 use Rattle.binding_core.proofs.Shaped.{shaped}
 
 over_map : {X Y : Type 0} (f : X → Y) (P : X → Type 0) (Q : Y → Type 0) → ((x : X) → P x → Q (f x)) → (xs : List X) → AllByRecursion P xs → AllByRecursion Q (map f xs)
@@ -39,11 +40,11 @@ checked_built_in = over_map (λ (b : Builtin). b.program) (λ b. IsShaped b.prog
 
 pub shaped_known : (es : List Entry) → AreRising es → AreFew es → All (λ e. IsValid e.1) es → AllByRecursion IsShaped (known_programs es)
 shaped_known es rising few valid =
-    all_append IsShaped built_in (programs es) shaped_built_in
+    all-append IsShaped built_in (programs es) shaped_built_in
     (over_map (λ (b : Body). program_in b.lines) (λ b. IsSoundBody b.lines) IsShaped (λ b sound. shaped b.lines sound) (bodies es) (all_sound es rising few valid))
 
 pub checked_known : (es : List Entry) → AreChecked (programs es) → AreChecked (known_programs es)
-checked_known es written = all_append IsChecked built_in (programs es) checked_built_in written
+checked_known es written = all-append IsChecked built_in (programs es) checked_built_in written
 
 -- ---- faults
 

@@ -4,23 +4,22 @@ use Rattle.std.specs.Prelude.{find, option_map, option_and_then, slice_get, Some
 use Rattle.std.specs.List.{list_any, position_or_len, cons_option}
 use Rattle.std.specs.Str.{bytes_eq}
 use Rattle.std.proofs.lemmas.Bool.{eqb-false}
-use Rattle.std.proofs.lemmas.List.{append-nil, append_assoc, length-append}
+use Rattle.std.proofs.lemmas.List.{append-nil, length-append}
 use Rattle.std.proofs.lemmas.List.Folds.{find_at}
 use Rattle.std.proofs.lemmas.List.Quantifiers.{position-Some}
 use Rattle.rank_defs.specs.Programs.{Program}
 use Rattle.rank_defs.specs.Builtins.{Builtin, builtin, builtins, same_name}
-use Rattle.policy_text_defs.specs.Sense.{Entry, version, transaction, keep, each, push, pop, class, leaf, node}
-use Rattle.resolve_defs.specs.Names.{Name, has, declared, transaction_name, before}
+use Rattle.policy_text_defs.specs.Sense.{Sense, Entry, version, transaction, keep, each, push, pop, class, leaf, node}
+use Rattle.resolve_defs.specs.Names.{Name, has, declared, transaction_name}
 use Rattle.resolve_defs.specs.Bodies.{Body, bodies}
 use Rattle.resolve_defs.specs.Clauses.{is_beyond, is_transaction_known, most_transactions}
 use Rattle.resolve_defs.specs.Accepted.{AreFew}
 use Rattle.resolve_defs.specs.Entries.{AreRising}
 use Rattle.resolve_defs.specs.Programs.{program_in, programs, body_named, or_written, program_named}
+use Rattle.resolve_defs.proofs.Spaces.{declared-few}
 use Rattle.names_core.proofs.Texts.{position-map}
 use Rattle.binding_core.specs.Known.{known_programs}
 use Rattle.binding_core.proofs.Words.{any_position}
-use Rattle.binding_core.proofs.Sound.{declared-push}
-use Rattle.binding_core.proofs.Ready.{not_true, here, before_is}
 
 -- ---- built-in names
 
@@ -88,27 +87,19 @@ behind_six es i = (let six : i + 6 ≡ suc (suc (suc (suc (suc (suc i))))) = ome
 room : (n : ℕ) → n ≤ most_transactions → nat_eq n most_transactions ≡ false → n + 1 ≤ most_transactions
 room n few other = (let differs : n ≢ most_transactions = eqb-false n most_transactions other in omega (arith, few, differs))
 
-few_push : (pre : List Entry) (e : Entry) → length (declared transaction_name pre) ≤ most_transactions → is_beyond pre e.1 ≡ false → length (declared transaction_name pre ++ cons_option (transaction_name e.1) []) ≤ most_transactions
-few_push pre (n, transaction a) few beyond = subst (λ (k : ℕ). k ≤ most_transactions) (sym (length-append (declared transaction_name pre) (a ∷ []))) (room (length (declared transaction_name pre)) few beyond)
-few_push pre (n, version v) few beyond = subst (λ (l : List Name). length l ≤ most_transactions) (sym (append-nil (declared transaction_name pre))) few
-few_push pre (n, keep a s) few beyond = subst (λ (l : List Name). length l ≤ most_transactions) (sym (append-nil (declared transaction_name pre))) few
-few_push pre (n, each a s) few beyond = subst (λ (l : List Name). length l ≤ most_transactions) (sym (append-nil (declared transaction_name pre))) few
-few_push pre (n, push a t) few beyond = subst (λ (l : List Name). length l ≤ most_transactions) (sym (append-nil (declared transaction_name pre))) few
-few_push pre (n, pop a t) few beyond = subst (λ (l : List Name). length l ≤ most_transactions) (sym (append-nil (declared transaction_name pre))) few
-few_push pre (n, class a c cs) few beyond = subst (λ (l : List Name). length l ≤ most_transactions) (sym (append-nil (declared transaction_name pre))) few
-few_push pre (n, leaf a u c ns) few beyond = subst (λ (l : List Name). length l ≤ most_transactions) (sym (append-nil (declared transaction_name pre))) few
-few_push pre (n, node a u c ns) few beyond = subst (λ (l : List Name). length l ≤ most_transactions) (sym (append-nil (declared transaction_name pre))) few
+few_push : (pre : List Entry) (s : Sense) → is_beyond pre s ≡ false → length (declared transaction_name pre) ≤ most_transactions → length (declared transaction_name pre ++ cons_option (transaction_name s) []) ≤ most_transactions
+few_push pre (transaction a) beyond few = subst (λ (k : ℕ). k ≤ most_transactions) (sym (length-append (declared transaction_name pre) (a ∷ []))) (room (length (declared transaction_name pre)) few beyond)
+few_push pre (version v) beyond few = subst (λ (l : List Name). length l ≤ most_transactions) (sym (append-nil (declared transaction_name pre))) few
+few_push pre (keep a r) beyond few = subst (λ (l : List Name). length l ≤ most_transactions) (sym (append-nil (declared transaction_name pre))) few
+few_push pre (each a r) beyond few = subst (λ (l : List Name). length l ≤ most_transactions) (sym (append-nil (declared transaction_name pre))) few
+few_push pre (push a t) beyond few = subst (λ (l : List Name). length l ≤ most_transactions) (sym (append-nil (declared transaction_name pre))) few
+few_push pre (pop a t) beyond few = subst (λ (l : List Name). length l ≤ most_transactions) (sym (append-nil (declared transaction_name pre))) few
+few_push pre (class a c cs) beyond few = subst (λ (l : List Name). length l ≤ most_transactions) (sym (append-nil (declared transaction_name pre))) few
+few_push pre (leaf a u c ns) beyond few = subst (λ (l : List Name). length l ≤ most_transactions) (sym (append-nil (declared transaction_name pre))) few
+few_push pre (node a u c ns) beyond few = subst (λ (l : List Name). length l ≤ most_transactions) (sym (append-nil (declared transaction_name pre))) few
 
-module _ (es : List Entry) (rising : AreRising es) (few : AreFew es) where
-  few_from : (pre rest : List Entry) → es ≡ pre ++ rest → length (declared transaction_name pre) ≤ most_transactions → length (declared transaction_name es) ≤ most_transactions
-  few_from pre [] is so_far = subst (λ (l : List Entry). length (declared transaction_name l) ≤ most_transactions) (sym (is ∙ append-nil pre)) so_far
-  few_from pre (e ∷ rest) is so_far =
-      let fine : is_beyond pre e.1 ≡ false = ap (λ (l : List Entry). is_beyond l e.1) (sym (before_is es pre rest e is rising)) ∙ not_true _ (here es pre rest e is (λ f. ¬ (is_beyond (before f.0 es) f.1 ≡ true)) few.1) in
-      few_from (pre ++ e ∷ []) rest (is ∙ sym (append_assoc pre (e ∷ []) rest))
-      (subst (λ (l : List Name). length l ≤ most_transactions) (sym (declared-push transaction_name pre e)) (few_push pre e so_far fine))
-
-  pub few_transactions : length (declared transaction_name es) ≤ most_transactions
-  few_transactions = few_from [] es refl (omega arith)
+pub few_transactions : (es : List Entry) → AreRising es → AreFew es → length (declared transaction_name es) ≤ most_transactions
+few_transactions es rising few = declared-few transaction_name es rising most_transactions few_push few.1
 
 -- ---- the place of a name that isn't built in
 

@@ -1,13 +1,12 @@
 -- Programs of sound bodies are shaped.
-use Rattle.std.proofs.Common.{◌≡◌, ◌≢◌, ◌≤◌, ◌<◌, inl, inr, ℕ, suc, Bool, true, false, ◌&&◌, ◌||◌, if◌then◌else◌, List, [], ◌∷◌, ◌++◌, length, position, Option, Some, None, is_some, unwrap_or, refl, sym, ap, subst, ◌∙◌, true≢false, codes}
+use Rattle.std.proofs.Common.{◌≡◌, ◌≢◌, ◌≤◌, ◌<◌, inl, inr, ℕ, suc, Bool, true, false, ◌&&◌, ◌||◌, if◌then◌else◌, List, [], ◌∷◌, ◌++◌, length, refl, sym, ap, subst, ◌∙◌, true≢false, codes}
 use Rattle.std.specs.Prelude.{filter_map}
 use Rattle.std.specs.List.{AllByRecursion}
 use Rattle.std.specs.Str.{bytes_eq}
-use Rattle.std.proofs.lemmas.Bool.{cases_Bool}
+use Rattle.std.proofs.lemmas.Bool.{and_parts, cases_Bool}
 use Rattle.std.proofs.lemmas.List.{append_assoc}
 use Rattle.std.proofs.lemmas.List.Elements.{filter_map-append}
 use Rattle.std.proofs.lemmas.List.Folds.{list_any-append}
-use Rattle.std.proofs.lemmas.List.Quantifiers.{position-Some}
 use Rattle.std.proofs.lemmas.Slice.Eq.{bytes_eq-Decides}
 use Rattle.rank_defs.specs.declared.expression.Var.TheVariants as var
 use Rattle.rank_defs.specs.declared.transaction.Aim.TheVariants as aim
@@ -22,9 +21,9 @@ use Rattle.policy_text_defs.specs.Valid.{IsValidSpan}
 use Rattle.resolve_defs.specs.Names.{Name, has, declared, keep_name, each_name, variable_name}
 use Rattle.resolve_defs.specs.Clauses.{are_operands_known}
 use Rattle.resolve_defs.specs.Programs.{place, variable_of, formula_in, aim_of, keep_span, each_span, push_in, pop_in, program_in}
+use Rattle.resolve_defs.proofs.Places.{place-within}
 use Rattle.binding_core.specs.Bodies.{AreSoundBehind, IsSoundBody}
-use Rattle.binding_core.proofs.Words.{any_position}
-use Rattle.binding_core.proofs.Sound.{and_true, AreBody, AreBody-push, open_own}
+use Rattle.binding_core.proofs.Sound.{AreBody, AreBody-push, open_own}
 
 -- ---- spans
 
@@ -115,21 +114,14 @@ still a earlier lines is =
     ∙ list_any-append (bytes_eq a) (declared variable_name earlier) (declared variable_name lines)
     ∙ or_more _ (has (declared variable_name lines) a) is
 
-place_case : (names : List Name) (a : Name) (o : Option ℕ) → position (bytes_eq a) names ≡ o → is_some o ≡ true → unwrap_or o 0 < length names
-place_case names a None at is = absurd (true≢false (sym is))
-place_case names a (Some i) at is = (position-Some (bytes_eq a) names i a at).0
-
-pub place_within : (names : List Name) (a : Name) → has names a ≡ true → place names a < length names
-place_within names a is = place_case names a (position (bytes_eq a) names) refl (sym (any_position (bytes_eq a) names) ∙ is)
-
 -- ---- variables and aims
 
 module _ (p : Program) (keeps eaches : List Name) (as_keeps : length keeps ≡ length p.keeps) (as_eaches : length eaches ≡ length p.eaches) where
   keep_within : (a : Name) → has keeps a ≡ true → place keeps a < length p.keeps
-  keep_within a is = subst (λ (n : ℕ). place keeps a < n) as_keeps (place_within keeps a is)
+  keep_within a is = subst (λ (n : ℕ). place keeps a < n) as_keeps (place-within keeps a is)
 
   each_within : (a : Name) → has eaches a ≡ true → place eaches a < length p.eaches
-  each_within a is = subst (λ (n : ℕ). place eaches a < n) as_eaches (place_within eaches a is)
+  each_within a is = subst (λ (n : ℕ). place eaches a < n) as_eaches (place-within eaches a is)
 
   aim_case : (rank k e : Bool) (i j : ℕ) → (rank || (k || e)) ≡ true → (k ≡ true → i < length p.keeps) → (e ≡ true → j < length p.eaches) → IsAim p (if rank then aim.Rank else if k then aim.Keep i else aim.Each j)
   aim_case true k e i j known keep_in each_in = tt
@@ -161,9 +153,9 @@ module _ (p : Program) (keeps eaches : List Name) (as_keeps : length keeps ≡ l
       wider : (a b c : Bool) → (a || b) ≡ true → (b ≡ true → c ≡ true) → (a || c) ≡ true
       wider true b c is later = refl
       wider false b c is later = later is
-  formula_shaped variables found (two op a b) known = (let parts = and_true _ _ known in (formula_shaped variables found a parts.0, formula_shaped variables found b parts.1))
+  formula_shaped variables found (two op a b) known = (let parts = and_parts _ _ known in (formula_shaped variables found a parts.0, formula_shaped variables found b parts.1))
   formula_shaped variables found (negation a) known = formula_shaped variables found a known
-  formula_shaped variables found (choice c a b) known = (let parts = and_true _ _ known in let others = and_true _ _ parts.1 in (formula_shaped variables found c parts.0, formula_shaped variables found a others.0, formula_shaped variables found b others.1))
+  formula_shaped variables found (choice c a b) known = (let parts = and_parts _ _ known in let others = and_parts _ _ parts.1 in (formula_shaped variables found c parts.0, formula_shaped variables found a others.0, formula_shaped variables found b others.1))
 
 pub same_depth : (keeps eaches : List Name) (t : Phrase) → depth_of (formula_in keeps eaches t) ≡ depth t
 same_depth keeps eaches (number n) = refl
@@ -200,7 +192,7 @@ module _ (all : List Entry) where
   assignment_shaped : (earlier lines : List Entry) (n : ℕ) (a : Name) (t : Phrase) → earlier ++ lines ≡ all → ((bytes_eq a (codes "rank") || has (declared variable_name earlier) a) && are_operands_known (declared variable_name earlier) t) ≡ true → depth t ≤ 64
       → IsShapedAssignment (program_in all) (record { line = n; aim = aim_of (declared keep_name all) (declared each_name all) a; formula = formula_in (declared keep_name all) (declared each_name all) t })
   assignment_shaped earlier lines n a t is known low =
-      let parts = and_true _ _ known in
+      let parts = and_parts _ _ known in
       record {
         aim = aim_shaped (program_in all) (declared keep_name all) (declared each_name all) (as_many_keeps all) (as_many_eaches all) a (wide (bytes_eq a (codes "rank")) (has (declared variable_name earlier) a) (has (declared keep_name all) a || has (declared each_name all) a) parts.0 (found earlier lines is a));
         variables = formula_shaped (program_in all) (declared keep_name all) (declared each_name all) (as_many_keeps all) (as_many_eaches all) (declared variable_name earlier) (found earlier lines is) t parts.1;
@@ -230,7 +222,7 @@ module _ (all : List Entry) where
   pops_shaped earlier [] is body sound = tt
   pops_shaped earlier ((n, pop a t) ∷ es) is body sound =
       let known : (has (declared variable_name earlier) a && are_operands_known (declared variable_name earlier) t) ≡ true = subst (λ (l : List Entry). (has (declared variable_name l) a && are_operands_known (declared variable_name l) t) ≡ true) (open_own earlier body) sound.0.known in
-      let parts = and_true _ _ known in (
+      let parts = and_parts _ _ known in (
         assignment_shaped earlier ((n, pop a t) ∷ es) n a t is (rw (with_rank (bytes_eq a (codes "rank")) (has (declared variable_name earlier) a) parts.0) parts.1) sound.0.valid.1.low,
         pops_shaped (earlier ++ (n, pop a t) ∷ []) es (append_assoc earlier ((n, pop a t) ∷ []) es ∙ is) (AreBody-push earlier (n, pop a t) body sound.0.body) sound.1,
       )

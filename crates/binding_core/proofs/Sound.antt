@@ -1,8 +1,8 @@
 -- The lines of one body.
-use Rattle.std.proofs.Common.{◌≡◌, ◌≢◌, ℕ, zero, suc, ◌+◌, ◌≤◌, ◌<◌, nat_eq, Bool, true, false, ◌&&◌, ◌||◌, List, [], ◌∷◌, ◌++◌, length, take, drop, get_or, Option, Some, None, refl, sym, ap, subst, ◌∙◌, arith, true≢false}
+use Rattle.std.proofs.Common.{◌≡◌, ◌≢◌, ℕ, zero, suc, ◌+◌, ◌≤◌, ◌<◌, nat_eq, Bool, true, false, ◌||◌, List, [], ◌∷◌, ◌++◌, length, take, drop, get_or, Option, Some, None, refl, sym, ap, subst, ◌∙◌, arith, true≢false}
 use Rattle.std.specs.List.{list_any, list_all, cons_option}
 use Rattle.std.specs.Str.{bytes_eq}
-use Rattle.std.proofs.lemmas.Bool.{eqb-false}
+use Rattle.std.proofs.lemmas.Bool.{and_parts, eqb-false}
 use Rattle.std.proofs.lemmas.List.{append-nil, append_assoc, length-append, take_more, take-append-drop}
 use Rattle.std.proofs.lemmas.List.Folds.{list_all-append}
 use Rattle.std.proofs.lemmas.List.Elements.{filter_map-append}
@@ -10,11 +10,8 @@ use Rattle.policy_text_defs.specs.Sense.{Sense, Entry, version, transaction, kee
 use Rattle.resolve_defs.specs.Names.{Name, has, declared, keep_name, each_name, variable_name}
 use Rattle.resolve_defs.specs.Bodies.{is_transaction, is_body, open_body}
 use Rattle.resolve_defs.specs.Clauses.{is_declared, is_beyond, most_variables}
+use Rattle.resolve_defs.proofs.Lines.{declared-push}
 use Rattle.binding_core.specs.Bodies.{with_names, IsSoundLine, AreSoundBehind, IsSoundBody}
-
-pub and_true : (a b : Bool) → (a && b) ≡ true → (a ≡ true) × (b ≡ true)
-and_true true b both = (refl, both)
-and_true false b both = absurd (true≢false (sym both))
 
 -- ---- what is open behind the lines of a body
 
@@ -35,13 +32,13 @@ body_line (n, node a u b ns) is = refl
 body_lines : (lines : List Entry) → AreBody lines → list_any is_transaction lines ≡ false
 body_lines [] all = refl
 body_lines (e ∷ es) all =
-    let parts = and_true (is_body e.1) (list_all (λ f. is_body f.1) es) all in
+    let parts = and_parts (is_body e.1) (list_all (λ f. is_body f.1) es) all in
     rw (body_line e parts.0) (body_lines es parts.1)
 
 pub open_own : (lines : List Entry) → AreBody lines → open_body lines ≡ lines
 open_own [] all = refl
 open_own (e ∷ es) all =
-    let parts = and_true (is_body e.1) (list_all (λ f. is_body f.1) es) all in
+    let parts = and_parts (is_body e.1) (list_all (λ f. is_body f.1) es) all in
     rw (body_lines es parts.1, body_line e parts.0) refl
 
 pub AreBody-push : (lines : List Entry) (e : Entry) → AreBody lines → is_body e.1 ≡ true → AreBody (lines ++ e ∷ [])
@@ -63,13 +60,10 @@ pub front_body : (es : List Entry) (i : ℕ) → AreBody es → AreBody (take i 
 front_body es zero all = refl
 front_body [] (suc i) all = refl
 front_body (e ∷ es) (suc i) all =
-    let parts = and_true (is_body e.1) (list_all (λ f. is_body f.1) es) all in
+    let parts = and_parts (is_body e.1) (list_all (λ f. is_body f.1) es) all in
     rw parts.0 (front_body es i parts.1)
 
 -- ---- names of variables
-
-pub declared-push : (space : Sense → Option Name) (lines : List Entry) (e : Entry) → declared space (lines ++ e ∷ []) ≡ declared space lines ++ cons_option (space e.1) []
-declared-push space lines e = filter_map-append (λ f. space f.1) lines (e ∷ [])
 
 or_right : (a b : Bool) → (a || b) ≡ false → b ≡ false
 or_right true b e = absurd (true≢false e)

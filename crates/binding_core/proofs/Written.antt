@@ -10,8 +10,9 @@ use Rattle.resolve_defs.specs.Accepted.{AreFew}
 use Rattle.resolve_defs.specs.Bodies.{Body, opened, bodies}
 use Rattle.resolve_defs.specs.Entries.{entries_of, AreRising}
 use Rattle.resolve_defs.specs.Programs.{program_in, programs}
+use Rattle.resolve_defs.proofs.Lines.{Line, entry_of, within-entries, entry-at}
 use Rattle.binding_core.specs.Bodies.{IsSoundBody}
-use Rattle.binding_core.proofs.Lines.{Line, entry_of, line_at, within_entries, drop_line}
+use Rattle.binding_core.proofs.Lines.{drop_line}
 use Rattle.binding_core.proofs.Ready.{sound_begun}
 
 -- the entries behind a line
@@ -23,7 +24,7 @@ module _ (lines : List Line) (i : ℕ) (x : Line) (within : i < length lines) (i
       → AllByRecursion (λ b. IsSoundBody b.lines) (opened (sense_of x.1) (entries_of (take (length lines - (i + 1)) (drop (i + 1) lines))))
   begun_requires rising few valid =
       subst (λ (l : List Entry). AllByRecursion (λ (b : Body). IsSoundBody b.lines) (opened (sense_of x.1) l)) (sym (behind lines (i + 1)))
-      (sound_begun (entries_of lines) rising few valid i (entry_of x) (within_entries lines i within) (line_at lines i x within is))
+      (sound_begun (entries_of lines) rising few valid i (entry_of x) (within-entries lines i within) (entry-at lines i x (entry_of x) within is))
 
   pub begun_more : (old new all : List Program) → old ++ programs (drop i (entries_of lines)) ≡ all
       → new ≡ old ++ map (λ b. program_in b.lines) (opened (sense_of x.1) (entries_of (take (length lines - (i + 1)) (drop (i + 1) lines)))) → new ++ programs (drop (i + 1) (entries_of lines)) ≡ all

@@ -14,10 +14,8 @@ use list_core::List;
 use names_core::Names;
 use rank_core::builtin;
 use rank_defs::Transaction;
+use resolve_defs::BUILTINS;
 use std::alloc::{AllocError, Global};
-
-/// The names of the built-in transactions, in the order in which they stand before those that are written.
-const BUILTINS: [&str; 6] = ["fifo", "strict", "shortest", "lstf", "rr", "stfq"];
 
 /// The built-in transactions. The error is want of memory.
 pub fn builtin_transactions(alloc: Global) -> Result<List<Transaction>, AllocError>

@@ -1,5 +1,5 @@
 -- How many packets arrive, leave and are found missing.
-use Rattle.std.proofs.Common.{◌≡◌, ◌≤◌, ℕ, zero, suc, ◌+◌, ◌-◌, Option, None, Some, List, [], ◌∷◌, map, replicate, refl, ◌∙◌, arith}
+use Rattle.std.proofs.Common.{◌≡◌, ◌≤◌, ℕ, zero, suc, ◌+◌, Option, None, Some, List, [], ◌∷◌, map, replicate, refl, ◌∙◌, arith}
 use Rattle.tree_defs.specs.SourceTree.{size}
 use Rattle.packet_defs.specs.declared.packet.Packet.{Packet}
 use Rattle.policy_defs.specs.Policy.{Policy}
@@ -11,6 +11,7 @@ use Rattle.schedule_defs.specs.Report.{pushed_in, popped_in, empty_in}
 use Rattle.schedule_defs.proofs.Soundness.{sound_arrived, sound_departed}
 use Rattle.schedule_defs.proofs.Leaving.{size_arrived, size_departed, leaver-none}
 use Rattle.schedule_defs.proofs.Runs.{departures_in-departures, arrivals_in-departures, CanMake-departures}
+use Rattle.schedule_defs.proofs.Courses.{size_departures}
 
 pub empty_in-arrivals : (policy : Policy) (ps : List Packet) (s : SourceState) → empty_in (outcomes policy (map Arrive ps) s) ≡ 0
 empty_in-arrivals policy [] s = refl
@@ -61,13 +62,6 @@ popped_or_held policy (Arrive p ∷ es) s accepted sound can =
 popped_or_held policy (Depart ∷ es) s accepted sound can =
     let one = popped_one policy s (outcomes policy es (departed policy s)) sound in
     let more = popped_or_held policy es (departed policy s) accepted (sound_departed policy s accepted sound) can in
-    omega arith
-
-pub size_departures : (policy : Policy) (n : ℕ) (s : SourceState) → IsAccepted policy → IsSound policy s → size (after policy (replicate n Depart) s).tree ≡ size s.tree - n
-size_departures policy zero s accepted sound = omega arith
-size_departures policy (suc n) s accepted sound =
-    let one = size_departed policy s sound in
-    let more = size_departures policy n (departed policy s) accepted (sound_departed policy s accepted sound) in
     omega arith
 
 -- of so many departures at most so many find nothing

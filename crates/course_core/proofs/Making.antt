@@ -1,20 +1,17 @@
 -- Events that are made in a row.
-use Rattle.std.proofs.Common.{◌≡◌, ◌<◌, ℕ, zero, suc, ◌+◌, Option, None, Some, List, [], ◌∷◌, ◌++◌, length, replicate, refl, sym, ap, ◌∙◌, subst, arith, append-nil, inl, inr}
+use Rattle.std.proofs.Common.{◌≡◌, ℕ, zero, suc, ◌+◌, Option, List, [], ◌∷◌, ◌++◌, length, replicate, refl, sym, ap, ◌∙◌, subst, arith, append-nil}
 use Rattle.std.specs.List.{AllByRecursion}
 use Rattle.outside_core.proofs.WrittenLaws.{appended_nothing}
 use Rattle.report_defs.specs.Text.{IsCut}
 use Rattle.report_core.specs.Gathered.{text_of, Gathered}
 use Rattle.report_core.proofs.TextLaws.{IsCut-append}
-use Rattle.tree_defs.specs.Tree.{Popping}
-use Rattle.tree_defs.specs.SourceTree.{SourceTree, pop}
-use Rattle.packet_defs.specs.declared.packet.Packet.{Packet}
 use Rattle.policy_defs.specs.Policy.{Policy}
 use Rattle.policy_defs.specs.Accepted.{IsAccepted}
-use Rattle.schedule_defs.specs.SourceState.{Held, SourceState, arrived, departed, left_from, left_with}
+use Rattle.schedule_defs.specs.SourceState.{SourceState, arrived, departed}
 use Rattle.schedule_defs.specs.Sound.{IsSound}
 use Rattle.schedule_defs.specs.Events.{Event, Arrive, Depart, CanMake, after, arrivals_in, departures_in}
 use Rattle.schedule_defs.specs.Numbered.{AreNumberedFrom, IsSendable, IsHeldBelow}
-use Rattle.schedule_defs.proofs.Soundness.{with_packet-is, without-is}
+use Rattle.schedule_defs.proofs.Courses.{held_none, held_arrived, held_departed}
 use Rattle.schedule_defs.proofs.Runs.{sound_after, arrivals_in-append, departures_in-append, arrivals_in-departures, departures_in-departures}
 use Rattle.sched_core.specs.declared.scheduler.Scheduler.{Ghosts}
 use Rattle.sched_core.specs.Standing.{ForEachState}
@@ -23,31 +20,6 @@ use Rattle.run_core.proofs.Runs.{plays_both, stops_second, cut_unwritten}
 use Rattle.course_core.specs.Stages.{Stage, stage, event_of, packets_in, AreNext, Makes, Stops}
 
 -- ---- packets and their numbers
-held_none : (held : Held) (n : ℕ) → IsHeldBelow n held → held n ≡ None
-held_none held n below = by_held (held n) refl
-  where
-    by_held : (o : Option Packet) → held n ≡ o → held n ≡ None
-    by_held None e = e
-    by_held (Some p) e = let l : n < n = below n p e in absurd (omega arith)
-
-held_arrived : (policy : Policy) (p : Packet) (s : SourceState) (n : ℕ) → p.number ≡ n → IsHeldBelow n s.held → IsHeldBelow (n + 1) (arrived policy p s).held
-held_arrived policy p s n e below m q h =
-    elim (with_packet-is s.held p m q h) [
-      | inl w ↦ let k = w.0 in omega arith
-      | inr w ↦ let k = below m q w in omega arith
-    ]
-
-held_departed : (policy : Policy) (s : SourceState) (n : ℕ) → IsHeldBelow n s.held → IsHeldBelow n (departed policy s).held
-held_departed policy s n below = by_pop (pop s.tree)
-  where
-    by_packet : (taken : Popping SourceTree) (o : Option Packet) → IsHeldBelow n (left_with policy s taken o).held
-    by_packet taken None = below
-    by_packet taken (Some p) = λ m q h. below m q (without-is s.held taken.value m q h).1
-
-    by_pop : (o : Option (Popping SourceTree)) → IsHeldBelow n (left_from policy s o).held
-    by_pop None = below
-    by_pop (Some taken) = by_packet taken (s.held taken.value)
-
 -- events whose packets come next can be made
 pub can_make : (policy : Policy) (es : List Event) (n : ℕ) (s : SourceState) → AreNumberedFrom n (packets_in es) → AllByRecursion (IsSendable policy) (packets_in es) → IsHeldBelow n s.held → CanMake policy es s
 can_make policy [] n s numbered sendable below = tt

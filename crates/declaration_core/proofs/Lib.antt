@@ -1,4 +1,3 @@
-pub mod Earlier
 pub mod Turns
 pub mod Bodies
 pub mod OpenVariables

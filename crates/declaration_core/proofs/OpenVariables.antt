@@ -1,5 +1,7 @@
 -- The variables of the open transaction after one more statement.
-use Rattle.std.proofs.Common.{◌≡◌, ℕ, Bool, true, false, ◌||◌, List, [], ◌∷◌, ◌++◌, refl, sym, ap, ◌∙◌, Some, None}
+use Rattle.std.proofs.Common.{◌≡◌, ℕ, true, false, ◌||◌, List, [], ◌∷◌, ◌++◌, sym, ap, ◌∙◌, Some, None}
+use Rattle.std.proofs.Math.Bool.{or-false}
+use Rattle.std.proofs.lemmas.List.{append-nil}
 use Rattle.std.proofs.lemmas.List.Folds.{list_any-append}
 use Rattle.std.specs.List.{cons_option}
 use Rattle.std.specs.Str.{bytes_eq}
@@ -7,15 +9,11 @@ use Rattle.policy_text_defs.specs.declared.statement.Statement.{Statement}
 use Rattle.policy_text_defs.specs.Sense.{Entry, entry, sense_of}
 use Rattle.resolve_defs.specs.Names.{Name, has, declared, variable_name}
 use Rattle.resolve_defs.specs.Bodies.{is_transaction, open_body}
+use Rattle.resolve_defs.proofs.Lines.{declared-push}
+use Rattle.resolve_defs.proofs.Open.{open_body-line, open_body-opened}
 use Rattle.names_core.specs.Names.{with_name}
 use Rattle.names_core.proofs.Tallies.{has-with_name}
 use Rattle.declaration_core.specs.Kept.{AreVariables, open_variables}
-use Rattle.declaration_core.proofs.Bodies.{declared-push, open_body-line, open_body-opened}
-use Rattle.declaration_core.proofs.Earlier.{append-nil}
-
-or_false : (b : Bool) → (b || false) ≡ b
-or_false true = refl
-or_false false = refl
 
 -- a transaction begins with none
 pub variables-opened : (earlier : List Entry) (e : Entry) (vs : List Name) → is_transaction e ≡ true → vs ≡ [] → AreVariables (earlier ++ e ∷ []) vs
@@ -29,7 +27,7 @@ pub variables-added : (earlier : List Entry) (e : Entry) (a : Name) (vs vs' : Li
 variables-added earlier e a vs vs' other names kept after = λ n.
     ap (λ l. has l n) after ∙ has-with_name vs a n ∙ ap (λ b. b || bytes_eq n a) (kept n)
     ∙ sym (ap (λ l. has l n) (open_variables-line earlier e other ∙ ap (λ o. open_variables earlier ++ cons_option o []) names)
-    ∙ list_any-append (bytes_eq n) (open_variables earlier) (a ∷ []) ∙ ap (λ b. has (open_variables earlier) n || b) (or_false (bytes_eq n a)))
+    ∙ list_any-append (bytes_eq n) (open_variables earlier) (a ∷ []) ∙ ap (λ b. has (open_variables earlier) n || b) (or-false (bytes_eq n a)))
 
 pub variables-same : (earlier : List Entry) (e : Entry) (vs : List Name) → is_transaction e ≡ false → variable_name e.1 ≡ None → AreVariables earlier vs → AreVariables (earlier ++ e ∷ []) vs
 variables-same earlier e vs other names kept = λ n.

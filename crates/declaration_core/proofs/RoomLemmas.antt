@@ -7,9 +7,10 @@ use Rattle.policy_text_defs.specs.Sense.{Sense, Entry, entry}
 use Rattle.resolve_defs.specs.Names.{Name, declared, transaction_name, class_name, node_name, variable_name}
 use Rattle.resolve_defs.specs.Bodies.{is_transaction, is_assignment, open_body}
 use Rattle.resolve_defs.specs.Clauses.{assignments_in, most_variables, most_assignments}
+use Rattle.resolve_defs.proofs.Lines.{declared-push}
+use Rattle.resolve_defs.proofs.Open.{open_body-line, open_body-opened}
 use Rattle.declaration_core.specs.declared.room.Room.{Room}
 use Rattle.declaration_core.specs.Kept.{IsRoom, open_variables}
-use Rattle.declaration_core.proofs.Bodies.{declared-push, open_body-line, open_body-opened}
 use Rattle.declaration_core.proofs.OpenVariables.{open_variables-line}
 
 -- how many names an answer has

@@ -1,5 +1,6 @@
 -- The three spaces after one more statement.
 use Rattle.std.proofs.Common.{◌≡◌, ℕ, Bool, true, false, ◌||◌, List, [], ◌∷◌, ◌++◌, refl, sym, ap, ◌∙◌, ◌⊎◌, inl, inr, Option, Some, None, if◌then◌else◌, true≢false}
+use Rattle.std.proofs.lemmas.List.{append-nil}
 use Rattle.std.specs.List.{cons_option}
 use Rattle.rank_defs.specs.declared.transaction.Span.{Span}
 use Rattle.policy_text_defs.specs.declared.attribute.Attrs.{Attrs}
@@ -10,11 +11,10 @@ use Rattle.policy_text_defs.specs.declared.term.Term.{Term}
 use Rattle.policy_text_defs.specs.Sense.{Sense, Entry, entry, sense_of, transaction, class}
 use Rattle.resolve_defs.specs.Names.{Name, has, declared, transaction_name, class_name, node_name}
 use Rattle.resolve_defs.specs.Clauses.{is_declared}
+use Rattle.resolve_defs.proofs.Lines.{declared-push}
 use Rattle.names_core.specs.Names.{with_name}
 use Rattle.declaration_core.specs.declared.spaces.Spaces.{Spaces}
 use Rattle.declaration_core.specs.Kept.{AreSpaces}
-use Rattle.declaration_core.proofs.Bodies.{declared-push}
-use Rattle.declaration_core.proofs.Earlier.{append-nil}
 
 added : (names : List Name) (a : Name) → has names a ≡ false → with_name names a ≡ names ++ a ∷ []
 added names a new = ap (λ b. if b then names else names ++ a ∷ []) new

@@ -1,27 +1,14 @@
 -- One turn of a pass over the statements as they are kept.
 use Rattle.std.proofs.Common.{◌≡◌, ℕ, ◌+◌, ◌<◌, ◌≤◌, Bool, true, false, List, [], ◌∷◌, ◌++◌, sym, ap, subst, ◌∙◌, length, take, get_or, true≢false}
-use Rattle.std.proofs.lemmas.List.{length-map, get_or-map, take_more}
 use Rattle.std.proofs.lemmas.List.Elements.{AllWithin-none, AllWithin-upto, All-from_all_within}
 use Rattle.policy_text_defs.specs.declared.statement.Statement.{Statement}
-use Rattle.policy_text_defs.specs.Sense.{Sense, Entry, entry, sense_of}
+use Rattle.policy_text_defs.specs.Sense.{Sense, Entry, sense_of}
 use Rattle.resolve_defs.specs.Names.{before}
 use Rattle.resolve_defs.specs.Clauses.{IsLeastLine, NoLine}
 use Rattle.resolve_defs.specs.Entries.{entries_of, AreRising}
+use Rattle.resolve_defs.proofs.Earlier.{before-take}
+use Rattle.resolve_defs.proofs.Lines.{entry_of, length-entries, within-entries, entry-at, take-line, least-line, fine-line}
 use Rattle.declaration_core.specs.Passes.{Fails, Passed}
-use Rattle.declaration_core.proofs.Earlier.{before-take, least_here, fine-more}
-
-abbrev pub entry_of : ℕ × Statement → Entry
-entry_of l = entry l.0 (sense_of l.1)
-
-pub length-entries : (lines : List (ℕ × Statement)) → length (entries_of lines) ≡ length lines
-length-entries lines = length-map lines entry_of
-
--- a line at its place is an entry at this place
-pub entry_here : (lines : List (ℕ × Statement)) (i : ℕ) (l : ℕ × Statement) → i < length lines → l ≡ get_or lines i l → entry_of l ≡ get_or (entries_of lines) i (entry_of l)
-entry_here lines i l within is = ap entry_of is ∙ sym (get_or-map entry_of lines i l (entry_of l) within)
-
-pub within_entries : (lines : List (ℕ × Statement)) (i : ℕ) → i < length lines → i < length (entries_of lines)
-within_entries lines i within = subst (λ n. i < n) (sym (length-entries lines)) within
 
 -- what a pass says of nothing
 pub Passed-none : (Keeps : List Entry → Type 0) (test : List Entry → Sense → Bool) (entries : List Entry) → Keeps [] → Passed Keeps test entries 0
@@ -30,18 +17,18 @@ Passed-none Keeps test entries kept = record { keeps = kept; fine = AllWithin-no
 module _ (Keeps : List Entry → Type 0) (test : List Entry → Sense → Bool) (lines : List (ℕ × Statement)) (i : ℕ) (l : ℕ × Statement)
     (rising : AreRising (entries_of lines)) (within : i < length lines) (is : l ≡ get_or lines i l) (so_far : Passed Keeps test (entries_of lines) i) where
   earlier : before l.0 (entries_of lines) ≡ take i (entries_of lines)
-  earlier = ap (λ (e : Entry). before e.0 (entries_of lines)) (entry_here lines i l within is) ∙ before-take (entries_of lines) i (entry_of l) rising (within_entries lines i within)
+  earlier = ap (λ (e : Entry). before e.0 (entries_of lines)) (sym (entry-at lines i l (entry_of l) within is)) ∙ before-take (entries_of lines) i (entry_of l) rising (within-entries lines i within)
 
   -- the statement fails, and is the first
   pub ends_here : test (take i (entries_of lines)) (sense_of l.1) ≡ true → IsLeastLine (Fails test (entries_of lines)) (entries_of lines) l.0
-  ends_here fails = least_here (Fails test (entries_of lines)) (entries_of lines) i (entry_of l) rising (within_entries lines i within) (entry_here lines i l within is) so_far.fine
+  ends_here fails = least-line (Fails test (entries_of lines)) lines i l rising within is so_far.fine
       (ap (λ b. test b (sense_of l.1)) earlier ∙ fails)
 
   -- it doesn't fail
   pub goes_on : (Keeps' : List Entry → Type 0) → test (take i (entries_of lines)) (sense_of l.1) ≡ false → Keeps' (take i (entries_of lines) ++ entry_of l ∷ []) → Passed Keeps' test (entries_of lines) (i + 1)
   goes_on Keeps' passes kept = record {
-    keeps = subst (λ (done : List Entry). Keeps' done) (sym (take_more (entries_of lines) i (entry_of l) (within_entries lines i within) ∙ ap (λ (e : Entry). take i (entries_of lines) ++ e ∷ []) (sym (entry_here lines i l within is)))) kept;
-    fine = fine-more (Fails test (entries_of lines)) (entries_of lines) i (entry_of l) (within_entries lines i within) (entry_here lines i l within is) so_far.fine
+    keeps = subst (λ (done : List Entry). Keeps' done) (sym (take-line lines i l within is)) kept;
+    fine = fine-line (Fails test (entries_of lines)) lines i l within is so_far.fine
         (λ bad. true≢false (sym bad ∙ ap (λ b. test b (sense_of l.1)) earlier ∙ passes));
   }
 

@@ -11,10 +11,10 @@ ghost use Rattle.declaration_core.specs.Kept.{AreSpaces, AreVariables};
 
 use crate::spaces::Spaces;
 use crate::variables::variables_after;
-use crate::words::{is_builtin, is_packet_number};
+use crate::words::is_builtin;
 use list_core::Name;
 use names_core::Names;
-use policy_text_defs::{Statement, Term};
+use policy_text_defs::{Statement, Term, is_variable};
 use std::alloc::{AllocError, Global};
 
 /// Whether each word of an expression is a number of the packet or a variable.
@@ -23,7 +23,9 @@ fn are_operands_known(variables: &Names, term: &Term) -> bool
 {
     match term {
         Term::Number(_) => true,
-        Term::Word(word) => { is_packet_number(word.as_str()) || variables.contains(word.as_str()) }
+        Term::Word(word) => {
+            is_variable(word.as_str().as_bytes()) || variables.contains(word.as_str())
+        }
         Term::Two(_, left, right) => {
             are_operands_known(variables, left) && are_operands_known(variables, right)
         }

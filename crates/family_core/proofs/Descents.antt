@@ -8,9 +8,10 @@ use Rattle.resolve_defs.specs.Names.{Name, has, node_name, children, declared}
 use Rattle.resolve_defs.specs.Programs.{place}
 use Rattle.resolve_defs.specs.Graph.{graph_of}
 use Rattle.resolve_defs.specs.Families.{ListsChild, NamesLead, IsDescendant}
+use Rattle.resolve_defs.proofs.Places.{place-within, at-place}
 use Rattle.lineage_core.specs.Descent.{IsChild, Leads, IsBelow, AreInRange, children as kids}
 use Rattle.family_core.specs.Lines.{node_entries}
-use Rattle.family_core.proofs.Places.{place-within, place-at, at-place, all-at, Contains-map, Contains-map_back}
+use Rattle.family_core.proofs.Places.{only-place, all-at, Contains-map, Contains-map_back}
 use Rattle.family_core.proofs.Kinship.{IsNodeAt, node-of, node-was, node-at, name-at, name_of, kids-at, some-name, length-names, length-graph}
 use Rattle.family_core.proofs.Named.{IsNamed, some-entry}
 
@@ -20,7 +21,7 @@ use Rattle.family_core.proofs.Named.{IsNamed, some-entry}
 pub own-place : (es : List Entry) (i : ℕ) (e : Entry) (a : Name) → IsNamed es → IsNodeAt es i e → node_name e.1 ≡ Some a → place (declared node_name es) a ≡ i
 own-place es i e a named at name =
     let inside : i < length (node_entries es) = at.within in
-    place-at (declared node_name es) i a named.distinct (omega (arith, inside, length-names es)) (name-at es i e a at ∙ (some-name e a name).1)
+    only-place (declared node_name es) i a named.distinct (omega (arith, inside, length-names es)) (name-at es i e a at ∙ (some-name e a name).1)
 
 child-up : (es : List Entry) (a b : Name) → IsNamed es → ListsChild es a b → IsChild (graph_of es) (place (declared node_name es) a) (place (declared node_name es) b)
 child-up es a b named h =

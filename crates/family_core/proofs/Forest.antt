@@ -16,10 +16,11 @@ use Rattle.resolve_defs.specs.Names.{Name, has, node_name, children, declared, l
 use Rattle.resolve_defs.specs.Clauses.{NoLine, IsOrphan, is_orphan, has_root, root}
 use Rattle.resolve_defs.specs.Programs.{place}
 use Rattle.resolve_defs.specs.Graph.{graph_of}
+use Rattle.resolve_defs.proofs.Places.{at-place, place-within}
 use Rattle.lineage_core.specs.Descent.{Graph, IsChild, IsBelow, IsForest, HasOneParent, times, children as kids}
 use Rattle.lineage_core.proofs.Once.{is}
 use Rattle.family_core.specs.Lines.{node_entries}
-use Rattle.family_core.proofs.Places.{place-at, at-place, place-within}
+use Rattle.family_core.proofs.Places.{only-place}
 use Rattle.family_core.proofs.Kinship.{IsNodeAt, node-at, node-was, name-at, name_of, length-names, length-graph, families-of-nodes}
 use Rattle.family_core.proofs.Named.{IsNamed, some-entry}
 use Rattle.family_core.proofs.Descents.{graph-in-range, own-place}
@@ -106,7 +107,7 @@ module _ (names : List Name) (c : ℕ) (distinct : IsDistinct bytes_eq names) (w
   same_test b known = elim (cases_Bool (bytes_eq (get_or names c []) b)) [
     | inl same ↦ (let is_b : get_or names c [] ≡ b = (bytes_eq-Decides (get_or names c []) b).0 same in
         let at : get_or names c b ≡ b = own b is_b in
-        eq-eqb c (place names b) (sym (place-at names c b distinct within at)) ∙ sym same)
+        eq-eqb c (place names b) (sym (only-place names c b distinct within at)) ∙ sym same)
     | inr other ↦ ne_eqb c (place names b) (λ e. true≢false (sym ((bytes_eq-Decides (get_or names c []) b).1 (ap (λ k. get_or names k []) e ∙ at-place names b [] known)) ∙ other)) ∙ sym other
   ]
     where

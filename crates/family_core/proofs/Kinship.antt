@@ -2,16 +2,16 @@
 use Rattle.std.proofs.Common.{◌≡◌, ℕ, zero, suc, ◌+◌, ◌<◌, ◌≤◌, Bool, true, false, cond, List, [], ◌∷◌, ◌++◌, length, refl, sym, ap, subst, ◌∙◌, arith, Contains, get_or, map, take, filter, filter_map, Option, None, Some, is_some, unwrap_or, Vec}
 use Rattle.std.specs.Option.{option_to_list}
 use Rattle.std.specs.List.{cons_option}
-use Rattle.std.proofs.lemmas.List.{take_more, take_all, get_or-map, get_or_default, map-append}
+use Rattle.std.proofs.lemmas.List.{take_all, get_or-map, get_or_default, map-append, length-map}
 use Rattle.std.proofs.lemmas.List.Elements.{filter_map-append, filter_passes, Contains-append_right}
 use Rattle.std.proofs.lemmas.Simd.{map-map}
-use Rattle.names_core.proofs.Texts.{length-map}
 use Rattle.policy_text_defs.specs.Sense.{Sense, Entry, version, transaction, keep, each, push, pop, class, leaf, node, entry, sense_of}
 use Rattle.policy_text_defs.specs.declared.statement.Statement.{Statement}
 use Rattle.resolve_defs.specs.Names.{Name, node_name, children, declared}
 use Rattle.resolve_defs.specs.Programs.{place}
 use Rattle.resolve_defs.specs.Graph.{family, graph_of}
 use Rattle.resolve_defs.specs.Entries.{entries_of}
+use Rattle.resolve_defs.proofs.Lines.{entries-more}
 use Rattle.std.specs.declared.alloc.Global.{Global}
 use Rattle.lineage_core.specs.Descent.{Graph, lists, children as kids}
 use Rattle.lineage_core.proofs.Marking.{length-lists}
@@ -35,8 +35,7 @@ graph-more names lines i l old new within is so_far step =
     ∙ sym (map-append numbered (filter_map (λ e. family e.1) front) (option_to_list (family (sense_of l.1))))
     ∙ ap (λ ps. map numbered (filter_map (λ e. family e.1) front ++ ps)) (sym (one (family (sense_of l.1))))
     ∙ ap (map numbered) (sym (filter_map-append (λ e. family e.1) front (entry l.0 (sense_of l.1) ∷ [])))
-    ∙ ap (by_numbers names) (sym (map-append (λ k. entry k.0 (sense_of k.1)) (take i lines) (l ∷ [])))
-    ∙ ap (λ (ls : List (ℕ × Statement)). by_numbers names (entries_of ls)) (sym (take_more lines i l within ∙ ap (λ (k : ℕ × Statement). take i lines ++ k ∷ []) (sym is)))
+    ∙ ap (by_numbers names) (sym (entries-more lines i l within is))
 
 -- ---- the statements of nodes and leaves
 
@@ -127,10 +126,10 @@ pub node-was : (es : List Entry) (i : ℕ) (e : Entry) → IsNodeAt es i e → C
 node-was es i e n = (was-there is_node es i e n.within n.at, name-is e (subst (λ (f : Entry). is_node f ≡ true) n.at (filter_passes is_node es i e n.within)))
 
 pub length-names : (es : List Entry) → length (declared node_name es) ≡ length (node_entries es)
-length-names es = ap length (names-of-nodes es) ∙ length-map name_of (node_entries es)
+length-names es = ap length (names-of-nodes es) ∙ length-map (node_entries es) name_of
 
 pub length-graph : (es : List Entry) → length (graph_of es) ≡ length (node_entries es)
-length-graph es = ap length (graph-of-nodes es) ∙ length-map (λ (e : Entry). map (place (declared node_name es)) (children e.1)) (node_entries es)
+length-graph es = ap length (graph-of-nodes es) ∙ length-map (node_entries es) (λ (e : Entry). map (place (declared node_name es)) (children e.1))
 
 pub name-at : (es : List Entry) (i : ℕ) (e : Entry) (d : Name) → IsNodeAt es i e → get_or (declared node_name es) i d ≡ name_of e
 name-at es i e d n = ap (λ ns. get_or ns i d) (names-of-nodes es) ∙ get_or-map name_of (node_entries es) i e d n.within ∙ ap name_of n.at

@@ -9,10 +9,10 @@ use Rattle.resolve_defs.specs.Entries.{AreRising}
 use Rattle.resolve_defs.specs.Programs.{place}
 use Rattle.resolve_defs.specs.Graph.{graph_of}
 use Rattle.resolve_defs.specs.Accepted.{HaveRoot, AreAcyclic, AreShallow}
+use Rattle.resolve_defs.proofs.Places.{place-within}
 use Rattle.lineage_core.specs.Descent.{Graph, lists, AreInRange, IsLeast, IsBelow, IsDeep, IsForest, AreParents}
 use Rattle.lineage_core.proofs.Marking.{length-lists}
 use Rattle.family_core.specs.Lines.{node_entries, line_at}
-use Rattle.family_core.proofs.Places.{place-within}
 use Rattle.family_core.proofs.Kinship.{length-names, length-graph}
 use Rattle.family_core.proofs.Named.{IsNamed, named}
 use Rattle.family_core.proofs.Descents.{graph-in-range, leads-same, leads-inside, descendants-same, below-inside}

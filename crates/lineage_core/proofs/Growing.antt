@@ -1,7 +1,7 @@
 -- A tree that grows child by child.
 use Rattle.std.proofs.Common.{◌≡◌, ℕ, zero, suc, ◌+◌, ◌<◌, ◌≤◌, ◌-◌, List, [], ◌∷◌, ◌++◌, length, map, refl, sym, ap, subst, ◌∙◌, arith, take, drop, get_or, length-append, append_assoc, Contains, Vec}
 use Rattle.std.proofs.Math.ListN.{set}
-use Rattle.std.proofs.lemmas.List.{take_more, length-take}
+use Rattle.std.proofs.lemmas.List.{append-nil, take_more, take_all, length-take}
 use Rattle.std.proofs.Math.Seq.{take-append_seam}
 use Rattle.std.proofs.lemmas.List.Elements.{Contains-get_or}
 use Rattle.std.specs.declared.alloc.Global.{Global}
@@ -18,10 +18,6 @@ use Rattle.lineage_core.specs.Growth.{IsPartOf, ArePartsOf, HasRoom, HasGrown}
 abbrev pub snoc : {Q : Type 0} → Trees Q → Tree Q → Trees Q
 snoc none t = more t none
 snoc (more u us) t = more u (snoc us t)
-
-append-nil : {X : Type 0} (xs : List X) → xs ++ [] ≡ xs
-append-nil [] = refl
-append-nil (x ∷ xs) = ap (λ l. x ∷ l) (append-nil xs)
 
 length-labels : (us : Trees ℕ) → length (labels us) ≡ count_of us
 length-labels none = refl
@@ -111,17 +107,13 @@ pub record Growing (g : Graph) (i n : ℕ) (a : Address) (cs : List ℕ) (d : �
 pub growing-start : (g : Graph) (i n : ℕ) (a : Address) (cs : List ℕ) (old now : List Row) (address : Address) (places : List ℕ) (shapes : List Topology) → now ≡ old ++ row i a [] ∷ [] → places ≡ [] → address ≡ a → shapes ≡ [] → Growing g i n a cs 0 old now address places shapes
 growing-start g i n a cs old now address places shapes stood no_places same no_shapes = record {
   done = none;
-  labels_are = sym (take-zero cs);
+  labels_are = refl;
   are_trees = tt;
   rows_are = stood;
   places_are = no_places;
   address_is = same;
   shapes_are = ap trees_of no_shapes;
 }
-  where
-    take-zero : (xs : List ℕ) → take 0 xs ≡ []
-    take-zero [] = refl
-    take-zero (x ∷ xs) = refl
 
 -- where the next row comes
 growing-place : (g : Graph) (i n : ℕ) (a : Address) (cs : List ℕ) (d : ℕ) (old now : List Row) (address : Address) (places : List ℕ) (shapes : List Topology) → n ≡ length old → (so_far : Growing g i n a cs d old now address places shapes) → length now ≡ n + 1 + nodes_below so_far.done
@@ -161,18 +153,12 @@ growing-end : (g : Graph) (i n : ℕ) (a : Address) (cs : List ℕ) (d : ℕ) (o
 growing-end g i n a cs d old now address places shapes shape at over are so_far made = record {
   tree = branch i so_far.done;
   root_is = root-branch i so_far.done;
-  is_tree = tree-branch g i so_far.done (so_far.labels_are ∙ take-all d cs over ∙ are) so_far.are_trees;
+  is_tree = tree-branch g i so_far.done (so_far.labels_are ∙ take_all d cs over ∙ are) so_far.are_trees;
   rows_are = ap (λ l. set l n (row i a places)) so_far.rows_are ∙ ap (λ k. set (old ++ (row i a [] ∷ rows_below (n + 1) a 0 so_far.done)) k (row i a places)) at
       ∙ set-middle old (row i a []) (row i a places) (rows_below (n + 1) a 0 so_far.done) ∙ ap (λ l. old ++ (row i a l ∷ rows_below (n + 1) a 0 so_far.done)) so_far.places_are
       ∙ ap (λ l. old ++ l) (sym (rows-branch n a i so_far.done));
   topology_is = made ∙ ap (λ (us : Trees (Unit {0})). branch tt us) so_far.shapes_are ∙ topology-branch i so_far.done;
 }
-  where
-    take-all : (n : ℕ) (xs : List ℕ) → length xs ≤ n → take n xs ≡ xs
-    take-all zero [] l = refl
-    take-all (suc n) [] l = refl
-    take-all zero (x ∷ xs) l = absurd (omega arith)
-    take-all (suc n) (x ∷ xs) l = ap (λ k. x ∷ k) (take-all n xs (omega arith))
 
 -- the limit at a child
 pub within-child : (g : Graph) (i c limit above : ℕ) → IsWithin g i limit above → IsChild g i c → IsWithin g c limit (suc above)

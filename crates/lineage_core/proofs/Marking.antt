@@ -1,7 +1,7 @@
 -- Marking the descendants of a node.
 use Rattle.std.proofs.Common.{◌≡◌, ◌≢◌, ℕ, zero, suc, ◌+◌, ◌<◌, ◌≤◌, ◌⊎◌, Bool, true, false, not, cond, List, [], ◌∷◌, ◌++◌, length, refl, sym, ap, subst, ◌∙◌, arith, inl, inr, true≢false, Contains, All, get_or, replicate, IsTrue, ◌↔◌, Vec, length-append, take, drop}
 use Rattle.std.proofs.Math.ListN.{set, length-set}
-use Rattle.std.proofs.lemmas.List.{take_more}
+use Rattle.std.proofs.lemmas.List.{append-nil, take_more, take_all}
 use Rattle.std.proofs.lemmas.List.Sums.{sum_by-cons}
 use Rattle.std.specs.declared.alloc.Global.{Global}
 use Rattle.std.proofs.lemmas.Bool.{cases_eq}
@@ -162,23 +162,13 @@ length-lists (v ∷ g) = ap suc (length-lists g)
 pub given_back : {X : Type 0} (n : ℕ) (new old : List X) → length new ≡ n → length old ≡ n → take n (new ++ drop (length new) old) ≡ new
 given_back n new old a b =
     let none : drop (length new) old ≡ [] = drop-all old (length new) (omega arith) in
-    ap (λ l. take n (new ++ l)) none ∙ ap (λ l. take n l) (append-nil new) ∙ take_all' n new (omega arith)
+    ap (λ l. take n (new ++ l)) none ∙ ap (λ l. take n l) (append-nil new) ∙ take_all n new (omega arith)
   where
-    append-nil : {X : Type 0} (xs : List X) → xs ++ [] ≡ xs
-    append-nil [] = refl
-    append-nil (x ∷ xs) = ap (λ l. x ∷ l) (append-nil xs)
-
     drop-all : {X : Type 0} (xs : List X) (n : ℕ) → length xs ≤ n → drop n xs ≡ []
     drop-all [] zero l = refl
     drop-all [] (suc n) l = refl
     drop-all (x ∷ xs) zero l = absurd (omega arith)
     drop-all (x ∷ xs) (suc n) l = drop-all xs n (omega arith)
-
-    take_all' : {X : Type 0} (n : ℕ) (xs : List X) → length xs ≤ n → take n xs ≡ xs
-    take_all' zero [] l = refl
-    take_all' (suc n) [] l = refl
-    take_all' zero (x ∷ xs) l = absurd (omega arith)
-    take_all' (suc n) (x ∷ xs) l = ap (λ l. x ∷ l) (take_all' n xs (omega arith))
 
 -- one node of the list, in the terms of the loop
 pub seen-at : (ns : List ℕ) (i : ℕ) (m m' m'' : List Bool) (w : List ℕ) (work' work'' : Vec ℕ Global) → i < length ns → MarksMore (take i ns) m w m' work'.items → is_marked m' (get_or ns i 0) ≡ true → m'' ≡ m' → work'' ≡ work'

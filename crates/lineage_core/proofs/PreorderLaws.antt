@@ -1,6 +1,7 @@
 -- The rows of a tree: addresses, children's places, and leaves.
 use Rattle.std.proofs.Common.{◌≡◌, ℕ, zero, suc, ◌+◌, ◌<◌, ◌≤◌, ◌-◌, ◌↔◌, List, [], ◌∷◌, ◌++◌, length, refl, sym, ap, subst, ◌∙◌, arith, inl, inr, slice_index, append_assoc, length-append}
 use Rattle.std.proofs.lemmas.Bool.{cases_lt}
+use Rattle.std.proofs.lemmas.List.{get_or_append_left, get_or-append-add}
 use Rattle.tree_defs.specs.Tree.{Tree, leaf, inner, Trees, none, more, Address, nodes, count_of, LeadsToLeaf, LeadsBelow}
 use Rattle.tree_defs.specs.Topology.{topology_of, topologies_of, IsBranched, AreBranched}
 use Rattle.lineage_core.specs.Row.{Row, row, row_at, nodes_of}
@@ -23,14 +24,11 @@ mutual
       ∙ ap (λ l. l ++ nodes_of (rows_below (n + nodes t) a (d + 1) ts)) (nodes_of-rows n (a ++ d ∷ []) t) ∙ ap (λ l. preorder t ++ l) (nodes_of-rows_below (n + nodes t) a (d + 1) ts)
 
 -- a row in the first or the second of two lists
-at-first : (xs ys : List Row) (k : ℕ) → k < length xs → row_at (xs ++ ys) k ≡ row_at xs k
-at-first [] ys k l = absurd (omega arith)
-at-first (x ∷ xs) ys zero l = refl
-at-first (x ∷ xs) ys (suc k) l = at-first xs ys k (omega arith)
+pub at-first : (xs ys : List Row) (k : ℕ) → k < length xs → row_at (xs ++ ys) k ≡ row_at xs k
+at-first xs ys k within = get_or_append_left xs ys (row 0 [] []) k within
 
-at-second : (xs ys : List Row) (k : ℕ) → row_at (xs ++ ys) (length xs + k) ≡ row_at ys k
-at-second [] ys k = (let e : 0 + k ≡ k = omega arith in ap (row_at ys) e)
-at-second (x ∷ xs) ys k = (let e : suc (length xs) + k ≡ suc (length xs + k) = omega arith in ap (row_at ((x ∷ xs) ++ ys)) e ∙ at-second xs ys k)
+pub at-second : (xs ys : List Row) (k : ℕ) → row_at (xs ++ ys) (length xs + k) ≡ row_at ys k
+at-second xs ys k = get_or-append-add xs ys k (row 0 [] [])
 
 -- the places of siblings: each within their rows, with its digit behind the address
 record IsStart (n : ℕ) (a : Address) (d : ℕ) (all : List Row) (e m : ℕ) : Type 0 where

@@ -9,7 +9,7 @@ use Rattle.policy_text_defs.specs.Sense.{Entry, sense_of, version, transaction, 
 use Rattle.resolve_defs.specs.Entries.{entries_of}
 use Rattle.resolve_defs.specs.Clauses.{has_catch_all, has_catch_all_behind}
 use Rattle.listing_core.specs.Statements.{is_catch_all}
-use Rattle.listing_core.proofs.Lines.{Line, entry_of, entries-more}
+use Rattle.resolve_defs.proofs.Lines.{Line, entry_of, entries-more}
 
 behind-cons : (found : Bool) (e : Entry) (es : List Entry) → has_catch_all_behind found (e ∷ es) ≡ has_catch_all_behind (is_catch_all found e.1) es
 behind-cons found (n, version v) es = refl

@@ -1,4 +1,3 @@
-pub mod Lines
 pub mod Roots
 pub mod CatchAlls
 pub mod Orphans

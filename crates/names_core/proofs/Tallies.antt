@@ -1,5 +1,6 @@
 -- One more name of a tally.
 use Rattle.std.proofs.Common.{◌≡◌, ℕ, ◌+◌, ◌<◌, ◌≤◌, inl, inr, Bool, true, false, not, ◌||◌, ◌&&◌, List, [], ◌∷◌, ◌++◌, refl, sym, ap, subst, ◌∙◌, cond, nat_lt, nat_eq, count_by, arith, if◌then◌else◌}
+use Rattle.std.proofs.Math.Bool.{or-false, or-true}
 use Rattle.std.proofs.lemmas.Bool.{cases_Bool, ltb-true, ltb-false}
 use Rattle.std.proofs.lemmas.Bool.Decides.{nat_tests}
 use Rattle.std.proofs.lemmas.List.Sums.{sum_by-append}
@@ -17,29 +18,21 @@ times a all = count_by (bytes_eq a) all
 pub times-push : (a x : List ℕ) (all : List (List ℕ)) → times a (all ++ x ∷ []) ≡ times a all + cond (bytes_eq a x) 1 0
 times-push a x all = sum_by-append (λ y. cond (bytes_eq a y) 1 0) all (x ∷ []) ∙ ap (λ n. times a all + n) (omega arith)
 
-or_false : (b : Bool) → (b || false) ≡ b
-or_false true = refl
-or_false false = refl
-
-or_true : (b : Bool) → (b || true) ≡ true
-or_true true = refl
-or_true false = refl
-
 -- a name is among the names with x exactly where it was or is x
 pub has-with_name : (names : List (List ℕ)) (x a : List ℕ) → has (with_name names x) a ≡ (has names a || bytes_eq a x)
 has-with_name names x a = elim (cases_Bool (has names x)) [
   | inl there ↦ ap (λ b. has (if b then names else names ++ x ∷ []) a) there ∙ sym (elim (cases_Bool (bytes_eq a x)) [
     | inl same ↦ (let e : a ≡ x = (bytes_eq-Decides a x).0 same in
-        ap (λ b. has names a || b) same ∙ or_true (has names a) ∙ sym (subst (λ y. has names y ≡ true) (sym e) there))
-    | inr other ↦ ap (λ b. has names a || b) other ∙ or_false (has names a)
+        ap (λ b. has names a || b) same ∙ or-true (has names a) ∙ sym (subst (λ y. has names y ≡ true) (sym e) there))
+    | inr other ↦ ap (λ b. has names a || b) other ∙ or-false (has names a)
   ])
-  | inr new ↦ ap (λ b. has (if b then names else names ++ x ∷ []) a) new ∙ list_any-append (bytes_eq a) names (x ∷ []) ∙ ap (λ b. has names a || b) (or_false (bytes_eq a x))
+  | inr new ↦ ap (λ b. has (if b then names else names ++ x ∷ []) a) new ∙ list_any-append (bytes_eq a) names (x ∷ []) ∙ ap (λ b. has names a || b) (or-false (bytes_eq a x))
 ]
 
 -- counts under tests
 some-push : (h e : Bool) (n : ℕ) → h ≡ nat_lt 0 n → (h || e) ≡ nat_lt 0 (n + cond e 1 0)
-some-push h true n is = grind (arith, nat_tests, or_true h)
-some-push h false n is = grind (arith, nat_tests, or_false h)
+some-push h true n is = grind (arith, nat_tests, or-true h)
+some-push h false n is = grind (arith, nat_tests, or-false h)
 
 small : (n : ℕ) → n ≤ 0 → nat_lt 1 n ≡ nat_lt 1 (n + 1)
 small n h = grind (arith, nat_tests)
@@ -61,8 +54,8 @@ IsTally-new seen again all x t new = record {
     ]
 
 more-push : (h e s : Bool) (n : ℕ) → h ≡ nat_lt 1 n → (e ≡ true → nat_lt 0 n ≡ true) → (h || e) ≡ nat_lt 1 (n + cond e 1 0)
-more-push h true s n is there = (let p : 0 < n = ltb-true 0 n (there refl) in grind (arith, nat_tests, or_true h))
-more-push h false s n is there = grind (arith, nat_tests, or_false h)
+more-push h true s n is there = (let p : 0 < n = ltb-true 0 n (there refl) in grind (arith, nat_tests, or-true h))
+more-push h false s n is there = grind (arith, nat_tests, or-false h)
 
 -- a name that was seen
 pub IsTally-again : (seen again all : List (List ℕ)) (x : List ℕ) → IsTally seen again all → has seen x ≡ true → IsTally (with_name seen x) (with_name again x) (all ++ x ∷ [])

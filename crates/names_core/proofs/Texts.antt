@@ -1,8 +1,9 @@
 -- The names that a map under `&str` keys holds.
-use Rattle.std.proofs.Common.{◌≡◌, ℕ, ◌+◌, Bool, false, ◌||◌, List, [], ◌∷◌, ◌++◌, map, length, position, Option, None, Some, refl, sym, ap, ◌∙◌, is_some, cond, not, nat_lt, suc, if◌then◌else◌, Bor, true≢false}
+use Rattle.std.proofs.Common.{◌≡◌, ℕ, ◌+◌, Bool, false, ◌||◌, List, [], ◌∷◌, ◌++◌, map, length, position, Option, None, Some, refl, sym, ap, ◌∙◌, is_some, cond, not, nat_lt, if◌then◌else◌, Bor, true≢false}
 use Rattle.std.specs.List.{list_any, position_or_len}
 use Rattle.std.specs.Map.{keys_of, lookup}
 use Rattle.std.specs.Str.{bytes_eq}
+use Rattle.std.proofs.lemmas.List.{length-map}
 use Rattle.std.proofs.lemmas.Map.Made.{is_some-lookup}
 use Rattle.indexmap.specs.IndexMap.{IndexMap, insert_entry, get}
 use Rattle.indexmap.proofs.CallerLemmas.{insert_entry-new}
@@ -13,20 +14,12 @@ pub list_any-map : {X Y : Type 0} (f : X → Y) (t : Y → Bool) (xs : List X) �
 list_any-map f t [] = refl
 list_any-map f t (x ∷ xs) = ap (λ b. t (f x) || b) (list_any-map f t xs)
 
-pub map-append : {X Y : Type 0} (f : X → Y) (xs ys : List X) → map f (xs ++ ys) ≡ map f xs ++ map f ys
-map-append f [] ys = refl
-map-append f (x ∷ xs) ys = ap (λ l. f x ∷ l) (map-append f xs ys)
-
-pub length-map : {X Y : Type 0} (f : X → Y) (xs : List X) → length (map f xs) ≡ length xs
-length-map f [] = refl
-length-map f (x ∷ xs) = ap suc (length-map f xs)
-
 pub position_or_len-map : {X Y : Type 0} (f : X → Y) (t : Y → Bool) (xs : List X) → position_or_len t (map f xs) ≡ position_or_len (λ x. t (f x)) xs
 position_or_len-map f t [] = refl
 position_or_len-map f t (x ∷ xs) = ap (λ n. cond (not (t (f x))) (1 + n) 0) (position_or_len-map f t xs)
 
 pub position-map : {X Y : Type 0} (f : X → Y) (t : Y → Bool) (xs : List X) → position (λ x. t (f x)) xs ≡ position t (map f xs)
-position-map f t xs = ap (λ n. cond (nat_lt n (length xs)) (Some n) None) (sym (position_or_len-map f t xs)) ∙ ap (λ n. cond (nat_lt (position_or_len t (map f xs)) n) (Some (position_or_len t (map f xs))) None) (sym (length-map f xs))
+position-map f t xs = ap (λ n. cond (nat_lt n (length xs)) (Some n) None) (sym (position_or_len-map f t xs)) ∙ ap (λ n. cond (nat_lt (position_or_len t (map f xs)) n) (Some (position_or_len t (map f xs))) None) (sym (length-map xs f))
 
 -- the texts of the keys
 abbrev pub texts : {V : Type 0} → List (Bor (List ℕ) × V) → List (List ℕ)

@@ -31,6 +31,13 @@ impl<'a> Names<'a> {
         }
     }
 
+    /// How many names stand there.
+    pub fn len(&self) -> usize
+        ensures { result ≡ length self.now }
+    {
+        self.places.len()
+    }
+
     /// The place of a name.
     pub fn place(&self, name: &str) -> Option<usize>
         ensures { result ≡ position (bytes_eq name.now) self.now }

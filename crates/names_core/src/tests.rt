@@ -7,6 +7,7 @@ fn names_stand_once_in_their_order(rt: HostRuntime) -> Result<(), Fail> {
     assert_eq!(rt; names.add("b")?, true);
     assert_eq!(rt; names.add("a")?, true);
     assert_eq!(rt; names.add("b")?, false);
+    assert_eq!(rt; names.len(), 2);
     assert_eq!(rt; names.place("a"), Some(1));
     assert_eq!(rt; names.place("c"), None);
     assert_eq!(rt; names.contains("b"), true);

@@ -3,7 +3,7 @@ use Rattle.std.proofs.Common.{◌≡◌, ◌<◌, ◌≤◌, ℕ, suc, Option, L
 use Rattle.std.specs.Prelude.{unwrap_or}
 use Rattle.std.specs.Str.{bytes_eq}
 use Rattle.std.specs.List.{AllByRecursion, AllZip}
-use Rattle.std.proofs.lemmas.List.{get_or-map, get_or_default}
+use Rattle.std.proofs.lemmas.List.{get_or-map, get_or_default, length-map}
 use Rattle.tree_defs.specs.Tree.{Tree, Address, root_of, nodes, depth}
 use Rattle.tree_defs.specs.Topology.{Topology, topology_of}
 use Rattle.rank_defs.specs.Shapes.{IsShaped}
@@ -24,7 +24,6 @@ use Rattle.lineage_core.specs.Descent.{times}
 use Rattle.lineage_core.specs.Row.{Row, row, row_at, nodes_of}
 use Rattle.lineage_core.specs.Preorder.{Numbered, rows, IsTreeBelow, IsSound}
 use Rattle.lineage_core.proofs.Growing.{length-rows}
-use Rattle.names_core.proofs.Texts.{length-map}
 use Rattle.assembly_core.specs.Labels.{node_numbered, nodes_at}
 use Rattle.assembly_core.specs.Homes.{IsHome, AreHomes, classes_at}
 use Rattle.assembly_core.specs.Laws.{AreValid, IsNodeTree}
@@ -34,7 +33,7 @@ use Rattle.assembly_core.proofs.Resolving.{node-tree}
 use Rattle.assembly_core.proofs.Shape.{topology-map}
 use Rattle.assembly_core.proofs.Acceptable.{acceptable}
 use Rattle.assembly_core.proofs.Accepting.{root-there}
-use Rattle.assembly_core.proofs.NamePlaces.{found, place-within}
+use Rattle.resolve_defs.proofs.Places.{found, place-within}
 use Rattle.assembly_core.proofs.Passing.{length-graph}
 use Rattle.assembly_core.proofs.Homing.{length-nodes}
 use Rattle.assembly_core.proofs.Inverse.{node-within}
@@ -57,14 +56,14 @@ zip-length es rows (n ∷ names) (m ∷ ms) h = ap suc (zip-length es rows names
 
 -- as many leaves as classes
 pub homes-count : (es : List Entry) (rows : List Row) (ms : List ℕ) → AreHomes es rows ms → length ms ≡ length (classes_in es)
-homes-count es rows ms homes = zip-length es rows (declared class_name es) ms homes ∙ ap length (sym (names-classes es)) ∙ length-map (λ (d : Declared). d.name) (classes_in es)
+homes-count es rows ms homes = zip-length es rows (declared class_name es) ms homes ∙ ap length (sym (names-classes es)) ∙ length-map (classes_in es) (λ (d : Declared). d.name)
 
 module _ (es : List Entry) (accepted : AreAccepted es) (tree : Numbered) (below : IsTreeBelow (graph_of es) (place (declared node_name es) root) tree)
     (ss : List Station) (ps : List Program) (stations : nodes_told ps ss ≡ nodes_in es) (ns : List ℕ) (homes : AreHomes es tree.rows ns)
     (cs : List Class) (classes : map made cs ≡ made_of (classes_in es) ns) where
   at-place : (i : ℕ) → i < length (nodes_in es) → node_of ps (station_at ss i) ≡ node_numbered es i
   at-place i within =
-      let there : i < length ss = omega (arith, within, ap length stations, length-map (node_of ps) ss) in
+      let there : i < length ss = omega (arith, within, ap length stations, length-map ss (node_of ps)) in
       sym (get_or-map (node_of ps) ss i no_station (node_numbered es i) there)
       ∙ ap (λ (all : List Node). get_or all i (node_numbered es i)) stations
       ∙ get_or_default (nodes_in es) i _ _ within
@@ -159,7 +158,7 @@ module _ (es : List Entry) (accepted : AreAccepted es) (tree : Numbered) (below 
   pub few-made : AreRising es → length cs ≤ most_classes
   few-made rising =
       (let few : length (classes_in es) ≤ most_classes = few-classes es rising accepted.0.0.0.0.0.0.0.1 in
-      omega (arith, few, length-map made cs, ap length classes, made-count (classes_in es) ns leaves-count))
+      omega (arith, few, length-map cs made, ap length classes, made-count (classes_in es) ns leaves-count))
 
   pub catch-all-made : HasCatchAll (map (λ (c : Class). c.conditions) cs)
   catch-all-made = subst (λ (all : List (List Condition)). HasCatchAll all) (sym conditions-made) (catch-all es accepted.1)
@@ -171,7 +170,7 @@ module _ (es : List Entry) (accepted : AreAccepted es) (tree : Numbered) (below 
   pub stations-there : length tree.rows ≡ length (graph_of es) → ((a : ℕ) → a < length tree.rows → times a (nodes_of tree.rows) ≡ 1) → HaveStations tree ss
   stations-there count once =
       each-of (λ (r : Row). r.node < length ss) tree.rows (row 0 [] [])
-      (λ k l. (let within : (row_at tree.rows k).node < length tree.rows = node-within tree.rows k once l in omega (arith, within, count, length-nodes es, ap length stations, length-map (node_of ps) ss)))
+      (λ k l. (let within : (row_at tree.rows k).node < length tree.rows = node-within tree.rows k once l in omega (arith, within, count, length-nodes es, ap length stations, length-map ss (node_of ps))))
 
   topology-made : topology_of (tree_of tree ss ps) ≡ tree.topology
   topology-made = topology_of-nodes _ 0 tree.topology

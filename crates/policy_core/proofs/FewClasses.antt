@@ -1,16 +1,14 @@
 -- How many classes accepted statements declare, and what the last of them is.
-use Rattle.std.proofs.Common.{◌≡◌, ◌≢◌, ◌≤◌, ◌+◌, ℕ, zero, suc, Bool, true, false, true≢false, List, [], ◌∷◌, ◌++◌, refl, sym, ap, subst, ◌∙◌, length, map, take, get_or, append-nil, append_assoc, length-append, arith}
+use Rattle.std.proofs.Common.{◌≡◌, ◌≢◌, ◌≤◌, suc, Bool, true, false, true≢false, List, [], ◌∷◌, ◌++◌, refl, sym, ap, subst, length, map, append-nil, append_assoc, length-append, arith}
 use Rattle.std.specs.List.{cons_option}
-use Rattle.std.proofs.lemmas.Bool.{false_from_ne_true, eqb-false}
-use Rattle.std.proofs.lemmas.List.{take_more}
-use Rattle.std.proofs.lemmas.List.Elements.{filter_map-append}
+use Rattle.std.proofs.lemmas.Bool.{eqb-false}
 use Rattle.policy_text_defs.specs.declared.condition.Condition.{Condition}
 use Rattle.policy_text_defs.specs.Sense.{Sense, Entry, version, transaction, keep, each, push, pop, class, leaf, node}
-use Rattle.resolve_defs.specs.Names.{Name, declared, class_name}
+use Rattle.resolve_defs.specs.Names.{declared, class_name}
 use Rattle.resolve_defs.specs.Entries.{AreRising}
 use Rattle.resolve_defs.specs.Clauses.{NoLine, IsBeyond, is_beyond, most_classes, has_catch_all, has_catch_all_behind}
 use Rattle.resolve_defs.specs.Resolved.{Declared, classes_in}
-use Rattle.declaration_core.proofs.Earlier.{before-take}
+use Rattle.resolve_defs.proofs.Spaces.{declared-few}
 use Rattle.policy_core.specs.Parts.{HasCatchAll}
 
 -- ---- at most so many
@@ -24,28 +22,6 @@ one-more earlier (pop n t) h few = omega (arith, few, length-append (declared cl
 one-more earlier (class n a cs) h few = (let ne : length (declared class_name earlier) ≢ most_classes = eqb-false _ _ h in omega (arith, few, ne, length-append (declared class_name earlier) (n ∷ [])))
 one-more earlier (leaf n u a ns) h few = omega (arith, few, length-append (declared class_name earlier) [])
 one-more earlier (node n u a ns) h few = omega (arith, few, length-append (declared class_name earlier) [])
-
-no-entry : Entry
-no-entry = (0, version 1)
-
-take-none : (es : List Entry) → take 0 es ≡ []
-take-none [] = refl
-take-none (x ∷ xs) = refl
-
-take-whole : (es : List Entry) → take (length es) es ≡ es
-take-whole [] = refl
-take-whole (x ∷ xs) = ap (λ l. x ∷ l) (take-whole xs)
-
-few-front : (es : List Entry) → AreRising es → NoLine (IsBeyond es) es → (i : ℕ) → i ≤ length es → length (declared class_name (take i es)) ≤ most_classes
-few-front es rising fine zero l = (let none : length (declared class_name (take 0 es)) ≡ 0 = ap (λ ls. length (declared class_name ls)) (take-none es) in omega (arith, none))
-few-front es rising fine (suc i) l =
-    let e : Entry = get_or es i no-entry in
-    let next : suc i ≡ i + 1 = omega arith in
-    let more : declared class_name (take (suc i) es) ≡ declared class_name (take i es) ++ cons_option (class_name e.1) [] =
-    ap (λ k. declared class_name (take k es)) next ∙ ap (declared class_name) (take_more es i no-entry (omega arith)) ∙ filter_map-append (λ (f : Entry). class_name f.1) (take i es) (e ∷ []) in
-    let room : is_beyond (take i es) e.1 ≡ false =
-    subst (λ (ls : List Entry). is_beyond ls e.1 ≡ false) (before-take es i no-entry rising (omega arith)) (false_from_ne_true _ (fine i no-entry (omega arith))) in
-    subst (λ (ns : List Name). length ns ≤ most_classes) (sym more) (one-more (take i es) e.1 room (few-front es rising fine i (omega arith)))
 
 names-classes : (es : List Entry) → length (classes_in es) ≡ length (declared class_name es)
 names-classes [] = refl
@@ -61,7 +37,7 @@ names-classes ((n, node k u a ns) ∷ es) = names-classes es
 
 pub few-classes : (es : List Entry) → AreRising es → NoLine (IsBeyond es) es → length (classes_in es) ≤ most_classes
 few-classes es rising fine =
-    (let few : length (declared class_name es) ≤ most_classes = subst (λ (ls : List Entry). length (declared class_name ls) ≤ most_classes) (take-whole es) (few-front es rising fine (length es) (omega arith)) in
+    (let few : length (declared class_name es) ≤ most_classes = declared-few class_name es rising most_classes one-more fine in
     omega (arith, few, names-classes es))
 
 -- ---- the last class has no condition

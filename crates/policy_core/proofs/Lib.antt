@@ -2,6 +2,7 @@ pub mod Numbers
 pub mod Rows
 pub mod Told
 pub mod Whole
+pub mod Naming
 pub mod Samples
 pub mod Programs
 pub mod Passing

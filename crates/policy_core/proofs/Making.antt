@@ -1,6 +1,7 @@
 -- Classes that are made of statements, one by one.
 use Rattle.std.proofs.Common.{◌≡◌, ◌<◌, ◌+◌, ℕ, List, [], ◌∷◌, ◌++◌, Some, None, refl, sym, ap, ◌∙◌, length, map, take, get_or, slice_index, append-nil, length-append, arith}
 use Rattle.std.specs.List.{cons_option}
+use Rattle.std.proofs.lemmas.List.{map_push}
 use Rattle.policy_text_defs.specs.declared.attribute.Attrs.{Attrs}
 use Rattle.policy_text_defs.specs.declared.condition.Condition.{Condition}
 use Rattle.policy_text_defs.specs.declared.statement.Statement.{Statement}
@@ -8,7 +9,7 @@ use Rattle.policy_text_defs.specs.declared.statement.Statement.TheVariants as st
 use Rattle.policy_text_defs.specs.Sense.{sense_of}
 use Rattle.resolve_defs.specs.Entries.{entries_of}
 use Rattle.resolve_defs.specs.Resolved.{Declared, class_in, classes_in, marks_of}
-use Rattle.policy_core.proofs.Passing.{given-more, given-within}
+use Rattle.resolve_defs.proofs.Lines.{given-more, given-within}
 use Rattle.policy_core.specs.declared.parts.Class.{Class}
 use Rattle.policy_core.specs.Made.{Made, made, made_of}
 
@@ -20,10 +21,6 @@ made_of-more [] d [] within = absurd (omega arith)
 made_of-more [] d (n ∷ leaves) within = refl
 made_of-more (e ∷ ds) d [] within = absurd (omega arith)
 made_of-more (e ∷ ds) d (n ∷ leaves) within = ap (λ all. made_with e n ∷ all) (made_of-more ds d leaves (omega arith))
-
-pub map-more : {X Y : Type 0} (f : X → Y) (xs : List X) (x : X) → map f (xs ++ x ∷ []) ≡ map f xs ++ f x ∷ []
-map-more f [] x = refl
-map-more f (y ∷ ys) x = ap (λ all. f y ∷ all) (map-more f ys x)
 
 -- the classes that the first lines give, each with its leaf
 pub record AreMade (lines : List (ℕ × Statement)) (i : ℕ) (leaves : List ℕ) (all : List Class) : Type 0 where
@@ -41,7 +38,7 @@ class-more lines i l n a cs leaves old new c k within is class len before more t
     let few : length ds < length (classes_in (entries_of lines)) = given-within class_in lines i l d within is some in
     let place : k ≡ length ds = at ∙ before.counted in
     record {
-      made_so_far = ap (map made) more ∙ map-more made old c ∙ ap (λ all. all ++ made c ∷ []) before.made_so_far
+      made_so_far = ap (map made) more ∙ map_push made old c ∙ ap (λ all. all ++ made c ∷ []) before.made_so_far
           ∙ ap (λ m. made_of ds leaves ++ m ∷ []) (this ∙ ap (λ j. made_with d (slice_index leaves j)) place)
           ∙ sym (made_of-more ds d leaves (omega (arith, few, len)))
           ∙ ap (λ all. made_of all leaves) (sym given);

@@ -11,6 +11,7 @@ use Rattle.policy_defs.specs.Policy.{Node, node_at}
 use Rattle.policy_defs.specs.Accepted.{IsAccepted}
 use Rattle.policy_defs.specs.Numbers.{number_at}
 use Rattle.resolve_defs.specs.Resolved.{Resolved}
+use Rattle.resolve_defs.proofs.Lists.{all-weaker}
 use Rattle.lineage_core.specs.Row.{Row, row, row_at}
 use Rattle.lineage_core.specs.Preorder.{Numbered}
 use Rattle.lineage_core.proofs.Growing.{length-rows}
@@ -25,10 +26,6 @@ pub all-at : {X : Type 0} (P : X → Type 0) (xs : List X) (i : ℕ) (d : X) →
 all-at P [] i d h l = absurd (omega arith)
 all-at P (x ∷ xs) zero d h l = h.0
 all-at P (x ∷ xs) (suc i) d h l = all-at P xs i d h.1 (omega arith)
-
-pub all-more : {X : Type 0} (P Q : X → Type 0) (xs : List X) → ((x : X) → P x → Q x) → AllByRecursion P xs → AllByRecursion Q xs
-all-more P Q [] f h = tt
-all-more P Q (x ∷ xs) f h = (f x h.0, all-more P Q xs f h.1)
 
 pub some-and : {X : Type 0} (o : Option X) (x : X) (P : X → Type 0) → o ≡ Some x → P x → IsSomeAnd o P
 some-and {X} o x P is p = subst (λ (q : Option X). IsSomeAnd q P) (sym is) p
@@ -117,7 +114,7 @@ module _ (tree : Numbered) (ss : List Station) (ps : List Program) (cs : List Cl
   program-there k l = all-at (λ s. s.program < length ps) ss (row_at tree.rows k).node no_station w.programs (station-there k l)
 
   pub leaves-there : AllByRecursion (λ c. c.leaf < nodes r.policy.tree) cs
-  leaves-there = all-more (λ c. c.leaf < length tree.rows) (λ c. c.leaf < nodes r.policy.tree) cs (λ c l. omega (arith, l, count-is)) w.leaves
+  leaves-there = all-weaker (λ c. c.leaf < length tree.rows) (λ c. c.leaf < nodes r.policy.tree) cs (λ c l. omega (arith, l, count-is)) w.leaves
 
   -- ---- in the terms of the code
   pub own-station : (k : ℕ) (s : Station) (all : List Station) → all ≡ ss → s ≡ station_at all (row_at tree.rows k).node → s ≡ station_at ss (row_at tree.rows k).node

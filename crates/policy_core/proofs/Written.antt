@@ -3,28 +3,25 @@ use Rattle.std.proofs.Common.{◌≡◌, ◌<◌, ℕ, List, sym, ap, subst, len
 use Rattle.std.proofs.lemmas.List.{get_or-map}
 use Rattle.policy_text_defs.specs.declared.statement.Statement.{Statement}
 use Rattle.policy_text_defs.specs.declared.statement.Statement.TheVariants as statement
-use Rattle.policy_text_defs.specs.Sense.{Entry, entry, sense_of}
+use Rattle.policy_text_defs.specs.Sense.{Entry, sense_of}
 use Rattle.policy_text_defs.specs.Valid.{IsValid}
 use Rattle.policy_text_defs.proofs.ValidLaws.{IsWritten_IsValid}
 use Rattle.policy_text.specs.Entries.{IsRising, AreWritten}
-use Rattle.names_core.proofs.Texts.{length-map}
 use Rattle.resolve_defs.specs.Entries.{entries_of, AreRising}
+use Rattle.resolve_defs.proofs.Lines.{entry_of, length-entries}
 use Rattle.assembly_core.specs.Laws.{AreValid}
-
-abbrev entry_of : ℕ × Statement → Entry
-entry_of l = entry l.0 (sense_of l.1)
 
 no-line : ℕ × Statement
 no-line = (0, statement.Version 1)
 
 at : (ls : List (ℕ × Statement)) (i : ℕ) (d : Entry) → i < length (entries_of ls) → entry_of (get_or ls i no-line) ≡ get_or (entries_of ls) i d
-at ls i d within = sym (get_or-map entry_of ls i no-line d (omega (arith, within, length-map entry_of ls)))
+at ls i d within = sym (get_or-map entry_of ls i no-line d (omega (arith, within, length-entries ls)))
 
 pub rising : (ls : List (ℕ × Statement)) → IsRising ls → AreRising (entries_of ls)
 rising ls up = λ i j d before within.
-    let low : (get_or ls i no-line).0 < (get_or ls j no-line).0 = up i j no-line before (omega (arith, within, length-map entry_of ls)) in
+    let low : (get_or ls i no-line).0 < (get_or ls j no-line).0 = up i j no-line before (omega (arith, within, length-entries ls)) in
     omega (arith, low, ap (λ (e : Entry). e.0) (at ls i d (omega (arith, before, within))), ap (λ (e : Entry). e.0) (at ls j d within))
 
 pub valid : (ls : List (ℕ × Statement)) → AreWritten ls → AreValid (entries_of ls)
 valid ls written = λ k d within.
-    subst (λ (e : Entry). IsValid e.1) (at ls k d within) (IsWritten_IsValid (sense_of (get_or ls k no-line).1) (written k no-line (omega (arith, within, length-map entry_of ls))))
+    subst (λ (e : Entry). IsValid e.1) (at ls k d within) (IsWritten_IsValid (sense_of (get_or ls k no-line).1) (written k no-line (omega (arith, within, length-entries ls))))

@@ -13,6 +13,7 @@ ghost use Rattle.lineage_core.specs.Row.{row_at};
 use crate::parts::{Class, Marks, Station};
 use lineage_core::Preorder;
 use list_core::List;
+use policy_defs::Names;
 use range_core::Checked;
 use std::marker::Model;
 use tree_core::Topo;
@@ -154,6 +155,14 @@ impl Policy {
         ensures accepted { IsAccepted self.now.policy }
     {
         self.classes.as_slice()
+    }
+}
+
+impl Names for Policy {
+    ghost policy = { λ p. p.policy };
+
+    fn name(&self, node: u32) -> &str {
+        self.name(node)
     }
 }
 

@@ -1,4 +1,5 @@
-ghost use Rattle.std.specs.Prelude.{◌≡◌, [], map, IfOk};
+ghost use Rattle.std.specs.Prelude.{◌≡◌, ◌<◌, [], map, IfOk};
+ghost use Rattle.tree_defs.specs.Tree.{nodes};
 ghost use Rattle.rank_defs.specs.Programs.{program_of, assignment_of};
 ghost use Rattle.lineage_core.specs.Descent.{lists, two_below_a_root};
 ghost use Rattle.policy_core.specs.Samples.{station, two_programs, tree, stations, classes, of_three_levels, childless, lone_tree, lone_stations, lone_classes, of_one_leaf};
@@ -6,6 +7,7 @@ ghost use Rattle.policy_core.specs.Samples.{station, two_programs, tree, station
 use crate::{Class, Marks, Policy, Station};
 use lineage_core::Preorder;
 use list_core::{List, Name};
+use policy_defs::Names;
 use policy_text_defs::Condition;
 use range_core::{Checked, RangeFault, check};
 use rank_defs::{Aim, Assign, Expr, Transaction, Var};
@@ -156,6 +158,13 @@ fn one_leaf(alloc: Global, programs: List<Checked>) -> Result<Policy, AllocError
     Ok(Policy::new(tree, stations, programs, classes))
 }
 
+/// The name of a node, by the bound alone.
+fn name_by_bound<N: Names>(names: &N, node: u32) -> &str
+    requires node { node < nodes (N.policy names.now).tree }
+{
+    names.name(node)
+}
+
 #[test]
 fn nodes_of_three_levels_are_told(rt: HostRuntime) -> Result<(), Fail> {
     let alloc = rt.alloc();
@@ -174,6 +183,7 @@ fn nodes_of_three_levels_are_told(rt: HostRuntime) -> Result<(), Fail> {
     ] {
         if node < policy.count() {
             assert_eq!(rt; policy.name(node), name);
+            assert_eq!(rt; name_by_bound(&policy, node), name);
             assert_eq!(rt; policy.address(node).len(), levels);
             assert_eq!(rt; policy.is_leaf(node), leaf);
             assert_eq!(rt; policy.checked(node).transaction().push.len(), assignments);

@@ -1,5 +1,6 @@
 -- An accepted policy: a tree of nodes, each with a transaction, and classes of packets, each with a leaf.
 use Rattle.std.specs.Prelude.{ℕ, zero, suc, List, [], ◌∷◌, Option, Some, None, codes, slice_get}
+use Rattle.std.specs.Option.{option_map_or}
 use Rattle.tree_defs.specs.Tree.{Tree, leaf, inner, Trees, none, more, Address}
 use Rattle.rank_defs.specs.Programs.{Program}
 use Rattle.rank_defs.specs.Builtins.{fifo}
@@ -41,6 +42,10 @@ abbrev mutual
   node_below none i a = None
   node_below (more t ts) zero a = node_at t a
   node_below (more t ts) (suc i) a = node_below ts i a
+
+-- the name of the node or leaf at an address
+abbrev pub name_at : Policy → Address → List ℕ
+name_at policy a = option_map_or (λ n. n.name) (node_at policy.tree a) []
 
 -- the class of a number
 abbrev pub class_at : Policy → ℕ → Option Class

@@ -1,2 +1,6 @@
-//! What an accepted policy is.
+//! What an accepted policy is, and what tells the names of its nodes.
 #![tactic(auto)]
+
+mod names;
+
+pub use names::Names;

@@ -16,7 +16,7 @@ use Rattle.listing_core.proofs.ListedOnce.{class-one_leaf}
 use Rattle.assembly_core.proofs.Accepting.{strays-none}
 use Rattle.assembly_core.proofs.Programs.{some-same}
 use Rattle.assembly_core.proofs.Classes.{names-classes}
-use Rattle.assembly_core.proofs.Distinct.{has-at}
+use Rattle.resolve_defs.proofs.Places.{has-at}
 use Rattle.policy_laws.specs.Laws.{StatementsGiveOnePolicy}
 use Rattle.policy_laws.proofs.Statements.{at-one_place}
 use Rattle.policy_laws.proofs.OneTree.{one-tree}

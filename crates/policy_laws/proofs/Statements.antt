@@ -1,24 +1,21 @@
 -- No two statements declare one node or leaf.
-use Rattle.std.proofs.Common.{◌≡◌, ℕ, zero, suc, ◌<◌, ◌||◌, ◌∙◌, Bool, true, false, List, [], ◌∷◌, length, take, get_or, refl, sym, ap, subst, arith, inl, inr, Option, Some, None, Any}
+use Rattle.std.proofs.Common.{◌≡◌, ℕ, zero, suc, ◌<◌, ◌||◌, ◌∙◌, true, List, [], ◌∷◌, length, take, get_or, refl, sym, ap, subst, arith, inl, inr, Option, Some, None, Any}
 use Rattle.std.specs.List.{cons_option}
 use Rattle.std.specs.Str.{bytes_eq}
 use Rattle.std.proofs.lemmas.Bool.{cases_order}
 use Rattle.std.proofs.lemmas.List.{length-take, get_or-take, get_or_default}
 use Rattle.std.proofs.lemmas.Slice.Eq.{bytes_eq-Decides}
+use Rattle.std.proofs.Math.Bool.{or-true}
 use Rattle.policy_text_defs.specs.Sense.{Sense, Entry, version, transaction, keep, each, push, pop, class, leaf, node}
 use Rattle.resolve_defs.specs.Names.{Name, has, declared, node_name, before}
 use Rattle.resolve_defs.specs.Clauses.{NoLine, IsAgain, is_declared}
 use Rattle.resolve_defs.specs.Entries.{AreRising}
 use Rattle.assembly_core.proofs.Programs.{none-some, some-same}
-use Rattle.family_core.proofs.Named.{before-take}
-
-or_true : (b : Bool) → (b || true) ≡ true
-or_true true = refl
-or_true false = refl
+use Rattle.resolve_defs.proofs.Earlier.{before-take}
 
 later : (o : Option Name) (names : List Name) (a : Name) → has names a ≡ true → has (cons_option o names) a ≡ true
 later None names a there = there
-later (Some n) names a there = ap (λ b. bytes_eq a n || b) there ∙ or_true (bytes_eq a n)
+later (Some n) names a there = ap (λ b. bytes_eq a n || b) there ∙ or-true (bytes_eq a n)
 
 -- what a statement declares is declared
 pub declared-there : (space : Sense → Option Name) (es : List Entry) (k : ℕ) (d : Entry) (a : Name) → k < length es → space (get_or es k d).1 ≡ Some a → has (declared space es) a ≡ true

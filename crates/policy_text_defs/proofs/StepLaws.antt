@@ -3,9 +3,9 @@ use Rattle.std.proofs.Common.{◌≡◌, ℕ, List, [], ◌∷◌, Option, Some,
 use Rattle.std.specs.Str.{bytes_eq}
 use Rattle.std.proofs.lemmas.Slice.Eq.{bytes_eq-Decides}
 use Rattle.text_core.specs.declared.mark.Mark.{Mark}
-use Rattle.text_core.specs.declared.mark.Mark.TheVariants as m
 use Rattle.text_core.specs.Marks.{mark_text, mark_of}
 use Rattle.text_core.specs.Glyphs.{Glyph, text, sign}
+use Rattle.text_core.proofs.TextLaws.{mark_of-text}
 use Rattle.policy_text_defs.specs.Reading.{Outcome, Reader, and_then, pick, pure, refuse, ahead, with_rest, is_sign, is_text, expect, mark, literal}
 
 -- an outcome by two steps comes of two outcomes
@@ -57,24 +57,6 @@ taken_case test g gs left u false is e = absurd cc
 pub taken : (test : Glyph → Bool) (gs left : List Glyph) (u : Unit {0}) → expect test gs ≡ Some (u, left) → Taken test gs left
 taken test [] left u e = absurd cc
 taken test (g ∷ gs) left u e = taken_case test g gs left u (test g) refl e
-
-pub mark_of-text : (s : Mark) → mark_of (mark_text s) ≡ Some s
-mark_of-text m.DotDot = refl
-mark_of-text m.Dot = refl
-mark_of-text m.Slash = refl
-mark_of-text m.Plus = refl
-mark_of-text m.Minus = refl
-mark_of-text m.Star = refl
-mark_of-text m.Open = refl
-mark_of-text m.Close = refl
-mark_of-text m.Comma = refl
-mark_of-text m.Is = refl
-mark_of-text m.Equal = refl
-mark_of-text m.NotEqual = refl
-mark_of-text m.Less = refl
-mark_of-text m.LessEq = refl
-mark_of-text m.More = refl
-mark_of-text m.MoreEq = refl
 
 same_mark : (s t : Mark) → mark_text s ≡ mark_text t → s ≡ t
 same_mark s t e = let both : Some s ≡ Some t = sym (mark_of-text s) ∙ ap mark_of e ∙ mark_of-text t in ap (λ v. pick v s (λ u. u)) both

@@ -19,4 +19,4 @@ pub use function::Function;
 pub use keyword::Keyword;
 pub use statement::Statement;
 pub use term::Term;
-pub use word::{is, name_of, operand_of, target_of};
+pub use word::{is, is_among, is_variable, name_of, operand_of, target_of};

@@ -61,7 +61,7 @@ pub fn is(word: &[u8], text: &str) -> bool
 }
 
 /// Whether a word is one of the words.
-fn is_among(word: &[u8], words: &[&str]) -> bool
+pub fn is_among(word: &[u8], words: &[&str]) -> bool
     ensures { result ≡ list_any (λ w. bytes_eq word.now w.now) words.now }
 {
     words.iter().any(|other| word == other.as_bytes())
@@ -107,7 +107,8 @@ fn is_name(word: &[u8]) -> bool
     is_word(word) && word.len() <= MOST_NAME && !is_reserved(word)
 }
 
-fn is_variable(word: &[u8]) -> bool
+/// Whether a word is a number of the packet, its class or its way.
+pub fn is_variable(word: &[u8]) -> bool
     ensures { result ≡ is_variable word.now }
 {
     is_among(word, &VARIABLES)

@@ -7,13 +7,13 @@ use Rattle.tree_defs.proofs.Shapes.{topology_of-same, LeadsToLeaf-topology}
 use Rattle.tree_defs.proofs.Options.{option_map-some}
 use Rattle.packet_defs.specs.declared.packet.Packet.{Packet}
 use Rattle.packet_defs.specs.declared.packet.Departed.{Departed}
-use Rattle.policy_defs.specs.Policy.{Policy, Node, node_at}
+use Rattle.policy_defs.specs.Policy.{Policy, Node, node_at, name_at}
 use Rattle.policy_defs.specs.Accepted.{IsAccepted}
 use Rattle.policy_defs.specs.Numbers.{number_at, number_below}
 use Rattle.schedule_defs.specs.SourceState.{SourceState, Leaver, class_of, arrival_ranks, leaver}
 use Rattle.schedule_defs.specs.Sound.{IsSound}
 use Rattle.schedule_defs.specs.Events.{Arrive, Depart, CanArrive, outcome}
-use Rattle.schedule_defs.specs.Report.{name_at, outcome_line}
+use Rattle.schedule_defs.specs.Report.{outcome_line}
 use Rattle.schedule_defs.specs.Laws.{LeavesItsLeaf}
 use Rattle.schedule_defs.proofs.Leaving.{arrives_at_a_leaf, leaves_its_leaf}
 use Rattle.schedule_defs.proofs.Soundness.{class_is_ready}

@@ -2,11 +2,10 @@
 #![tactic(auto)]
 
 mod lines;
-mod names;
 mod several;
 mod stop;
 
 pub use lines::{arrive_line, depart_line};
-pub use names::Names;
+pub use policy_defs::Names;
 pub use several::{arrive_lines, depart_lines};
 pub use stop::Stop;

@@ -13,10 +13,10 @@ ghost use Rattle.sched_core.specs.Standing.{StandForOne, ForEachState};
 ghost use Rattle.sched_core.specs.Departures.{departed_packet, IsTaken};
 ghost use Rattle.run_core.specs.Played.{Plays, StopsIn};
 
-use crate::names::Names;
 use crate::stop::Stop;
 use outside_core::Sink;
 use packet_defs::{Departed, Packet};
+use policy_defs::Names;
 use report_core::{Report, WriteFault};
 use sched_core::Scheduler;
 use tree_core::Taken;

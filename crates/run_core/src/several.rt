@@ -9,10 +9,10 @@ ghost use Rattle.sched_core.specs.Standing.{StandForOne, ForEachState};
 ghost use Rattle.run_core.specs.Played.{Plays, StopsIn};
 
 use crate::lines::{arrive_line, depart_line};
-use crate::names::Names;
 use crate::stop::Stop;
 use outside_core::Sink;
 use packet_defs::Packet;
+use policy_defs::Names;
 use report_core::{Report, WriteFault};
 use sched_core::Scheduler;
 use tree_core::Taken;

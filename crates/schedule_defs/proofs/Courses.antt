@@ -17,21 +17,21 @@ use Rattle.schedule_defs.proofs.Runs.{sound_after, CanMake-departures, CanMake-j
 use Rattle.schedule_defs.proofs.Leaving.{size_arrived, size_departed}
 
 -- ---- numbers
-held_none : (held : Held) (n : ℕ) → IsHeldBelow n held → held n ≡ None
+pub held_none : (held : Held) (n : ℕ) → IsHeldBelow n held → held n ≡ None
 held_none held n below = by_held (held n) refl
   where
     by_held : (o : Option Packet) → held n ≡ o → held n ≡ None
     by_held None e = e
     by_held (Some p) e = let l : n < n = below n p e in absurd (omega arith)
 
-held_arrived : (policy : Policy) (p : Packet) (s : SourceState) (n : ℕ) → p.number ≡ n → IsHeldBelow n s.held → IsHeldBelow (n + 1) (arrived policy p s).held
+pub held_arrived : (policy : Policy) (p : Packet) (s : SourceState) (n : ℕ) → p.number ≡ n → IsHeldBelow n s.held → IsHeldBelow (n + 1) (arrived policy p s).held
 held_arrived policy p s n e below m q h =
     elim (with_packet-is s.held p m q h) [
       | inl w ↦ let k = w.0 in omega arith
       | inr w ↦ let k = below m q w in omega arith
     ]
 
-held_departed : (policy : Policy) (s : SourceState) (n : ℕ) → IsHeldBelow n s.held → IsHeldBelow n (departed policy s).held
+pub held_departed : (policy : Policy) (s : SourceState) (n : ℕ) → IsHeldBelow n s.held → IsHeldBelow n (departed policy s).held
 held_departed policy s n below = by_pop (pop s.tree)
   where
     by_packet : (taken : Popping SourceTree) (o : Option Packet) → IsHeldBelow n (left_with policy s taken o).held
@@ -109,7 +109,7 @@ size_arrivals policy (p ∷ packets) s accepted sound can =
     let more = size_arrivals policy packets (arrived policy p s) accepted (sound_arrived policy p s accepted sound can.0) can.1 in
     omega arith
 
-size_departures : (policy : Policy) (n : ℕ) (s : SourceState) → IsAccepted policy → IsSound policy s → size (after policy (replicate n Depart) s).tree ≡ size s.tree - n
+pub size_departures : (policy : Policy) (n : ℕ) (s : SourceState) → IsAccepted policy → IsSound policy s → size (after policy (replicate n Depart) s).tree ≡ size s.tree - n
 size_departures policy zero s accepted sound = omega arith
 size_departures policy (suc n) s accepted sound =
     let one = size_departed policy s sound in

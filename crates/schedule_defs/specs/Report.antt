@@ -1,19 +1,13 @@
 -- The report of a run.
 use Rattle.std.specs.Prelude.{ℕ, ◌+◌, Option, None, List, [], ◌∷◌, ◌++◌, codes}
-use Rattle.std.specs.Option.{option_map_or}
 use Rattle.tree_defs.specs.SourceTree.{size}
-use Rattle.tree_defs.specs.Tree.{Address}
 use Rattle.capture_defs.specs.Fault.{Fault, code, place}
 use Rattle.packet_defs.specs.declared.packet.Packet.{Packet}
-use Rattle.policy_defs.specs.Policy.{Policy, node_at}
+use Rattle.policy_defs.specs.Policy.{Policy, name_at}
 use Rattle.report_defs.specs.Report.{arrival_line, departure_line, empty_line, end_line, fault_line}
 use Rattle.schedule_defs.specs.SourceState.{SourceState, start}
 use Rattle.schedule_defs.specs.Events.{Outcome, Arrived, Departed, Empty, after, outcomes}
 use Rattle.schedule_defs.specs.Script.{Step, Ending, Whole, BadCapture, PastLast, Course, course}
-
--- the name of the node or leaf at an address
-abbrev pub name_at : Policy → Address → List ℕ
-name_at policy a = option_map_or (λ n. n.name) (node_at policy.tree a) []
 
 -- the line of an outcome, of the event with this number
 abbrev pub outcome_line : Policy → ℕ → Outcome → List ℕ

@@ -6,6 +6,7 @@ use Rattle.tree_defs.specs.Tree.{Tree, leaf, inner, Trees, none, more, Address, 
 use Rattle.rank_defs.specs.States.{State}
 use Rattle.packet_defs.specs.declared.packet.Packet.{Packet}
 use Rattle.policy_defs.specs.Policy.{Node, Class}
+use Rattle.resolve_defs.proofs.Lists.{all-weaker}
 use Rattle.schedule_defs.specs.Visits.{States, Visit, visits_from, visits_below, with_state, rank_at, ranks_pushed}
 use Rattle.stations_core.specs.declared.passage.Passage.{Passage}
 use Rattle.stations_core.specs.Ways.{IsOnTheWay, tree_for, class_for, place, part, stop, way}
@@ -16,10 +17,6 @@ use Rattle.stations_core.proofs.Stops.{there}
 -- ---- the addresses on the way are no shorter than that where it begins
 abbrev pub IsNoShorter : Address → Visit → Type 0
 IsNoShorter a v = length a ≤ length v.address
-
-all-weaker : {X : Type 0} (P Q : X → Type 0) (xs : List X) → ((x : X) → P x → Q x) → AllByRecursion P xs → AllByRecursion Q xs
-all-weaker P Q [] f h = tt
-all-weaker P Q (x ∷ xs) f h = (f x h.0, all-weaker P Q xs f h.1)
 
 module _ (c : Class) (p : Packet) (moment : ℕ) where
   mutual

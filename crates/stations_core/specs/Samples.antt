@@ -1,5 +1,5 @@
 -- The policy of the tests: a root above two nodes, of which one is above another, all served by start-time fair queueing.
-use Rattle.std.specs.Prelude.{◌≡◌, refl, ℕ, List, [], ◌∷◌, codes}
+use Rattle.std.specs.Prelude.{◌≡◌, refl, List, [], ◌∷◌, codes}
 use Rattle.tree_defs.specs.Tree.{leaf, inner, none, more}
 use Rattle.tree_defs.specs.Topology.{topology_of}
 use Rattle.rank_defs.specs.Programs.{Program}

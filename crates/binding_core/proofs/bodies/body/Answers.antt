@@ -3,7 +3,7 @@ use Rattle.std.proofs.lemmas.Iterator.{YieldsList-from_slice}
 use Rattle.std.proofs.lemmas.Iterator.Search.{position_from_yields_List}
 use Rattle.policy_text_defs.specs.Sense.{sense_of}
 use Rattle.resolve_defs.specs.Bodies.{is_body}
-use Rattle.binding_core.proofs.Lines.{Line, entry_of}
+use Rattle.resolve_defs.proofs.Lines.{Line, entry_of}
 use Rattle.binding_core.proofs.Fronts.{front_some, front_none}
 use Rattle.binding_core.proofs.bodies.body.Goals as goal
 

@@ -4,7 +4,8 @@ use Rattle.resolve_defs.specs.Clauses.{is_placed}
 use Rattle.resolve_defs.specs.Entries.{entries_of}
 use Rattle.declaration_core.specs.Kept.{last_sense, is_placed_behind}
 use Rattle.declaration_core.proofs.Bodies.{placed_behind, last_sense-push}
-use Rattle.declaration_core.proofs.Turns.{ends_here, goes_on, entry_of}
+use Rattle.resolve_defs.proofs.Lines.{entry_of}
+use Rattle.declaration_core.proofs.Turns.{ends_here, goes_on}
 use Rattle.declaration_core.proofs.placing.first_misplaced.Goals as goal
 
 pub returns-then-not-is_placed : goal.returns-then-not-is_placed

@@ -1,11 +1,11 @@
-use Rattle.std.proofs.Common.{◌≡◌, ◌<◌, ◌≤◌, ℕ, ◌+◌, List, [], ◌∷◌, ◌++◌, take, get_or, sym, ap, subst, ◌∙◌, arith}
-use Rattle.std.proofs.lemmas.List.{take_more, take_all}
+use Rattle.std.proofs.Common.{◌≡◌, ◌<◌, ◌≤◌, ℕ, ◌+◌, List, [], ◌∷◌, ◌++◌, take, get_or, sym, subst, arith}
+use Rattle.std.proofs.lemmas.List.{take_all}
 use Rattle.std.proofs.lemmas.List.Elements.{All-push, All-weaker}
 use Rattle.std.proofs.lemmas.List.Quantifiers.{all_pairs_push}
 use Rattle.std.specs.List.{All}
 use Rattle.policy_text_defs.specs.Sense.{Entry}
 use Rattle.resolve_defs.specs.Entries.{entries_of, AreRising}
-use Rattle.declaration_core.proofs.Turns.{entry_of, entry_here, within_entries, length-entries}
+use Rattle.resolve_defs.proofs.Lines.{entry_of, take-line, length-entries}
 use Rattle.declaration_core.proofs.tests.is_rising.Goals as goal
 
 -- a higher line comes last
@@ -20,8 +20,7 @@ loop-line-preserved c =
     let e : Entry = entry_of c.loop-line-item.result in
     let done : List Entry = take c.loop-line.line-index (entries_of c.args.lines.now) in
     let grown : take (c.loop-line.line-index + 1) (entries_of c.args.lines.now) ≡ done ++ e ∷ [] =
-    take_more (entries_of c.args.lines.now) c.loop-line.line-index e (within_entries c.args.lines.now c.loop-line.line-index c.loop-line-test.true)
-    ∙ ap (λ (k : Entry). done ++ k ∷ []) (sym (entry_here c.args.lines.now c.loop-line.line-index c.loop-line-item.result c.loop-line-test.true c.loop-line-item.is)) in
+    take-line c.args.lines.now c.loop-line.line-index c.loop-line-item.result c.loop-line-test.true c.loop-line-item.is in
     subst (λ (es : List Entry). AreRising es × All (λ k. k.0 ≤ c.loop-line-item.result.0) es) (sym grown)
     (one_more done e c.loop-line.last c.loop-line.invariant.0 c.loop-line.invariant.1 c.if-line-last.false)
 

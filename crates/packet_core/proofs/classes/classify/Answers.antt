@@ -1,4 +1,4 @@
-use Rattle.std.proofs.Common.{◌≡◌, ◌∙◌, ap, sym, subst, List}
+use Rattle.std.proofs.Common.{◌∙◌, ap, sym, subst, List}
 use Rattle.policy_text_defs.specs.declared.condition.Condition.{Condition}
 use Rattle.packet_defs.specs.Condition.{class_of}
 use Rattle.policy_core.specs.Parts.{HasCatchAll}

@@ -1,11 +1,11 @@
 use Rattle.std.proofs.Common.{◌≡◌, ◌∙◌, ℕ, List, ap, sym, subst, length, arith}
+use Rattle.std.proofs.lemmas.List.{length-map}
 use Rattle.rank_defs.specs.Programs.{Program}
 use Rattle.resolve_defs.specs.Entries.{entries_of}
 use Rattle.resolve_defs.specs.Graph.{graph_of, nodes_in}
 use Rattle.resolve_defs.specs.Resolved.{Resolved, IsResolved}
 use Rattle.lineage_core.specs.Descent.{Graph, lists, IsForest, IsDeep}
 use Rattle.lineage_core.specs.Preorder.{Numbered, IsSound}
-use Rattle.names_core.proofs.Texts.{length-map}
 use Rattle.binding_core.proofs.Known.{shaped_known}
 use Rattle.family_core.proofs.Verdicts.{is-forest, is-shallow}
 use Rattle.assembly_core.specs.Homes.{AreHomes}
@@ -34,7 +34,7 @@ new-requires-clause-shallow c = λ a _ deep.
 
 pub new-requires-clause-small : goal.new-requires-clause-small
 new-requires-clause-small c =
-    omega (arith, graph-small (entries_of c.args.lines.now) (lists c.args.graph.now) c.requires.rising c.requires.accepted c.requires.graph, length-map (λ v. v.items) c.args.graph.now)
+    omega (arith, graph-small (entries_of c.args.lines.now) (lists c.args.graph.now) c.requires.rising c.requires.accepted c.requires.graph, length-map c.args.graph.now (λ v. v.items))
 
 pub classes-requires : goal.classes-requires
 classes-requires c = record {
@@ -51,7 +51,7 @@ new-requires-2-clause-stations c =
     let stations : nodes_told c.args.programs c.in_ok-stations.stations ≡ nodes_in es = subst (λ (ps : List Program). nodes_told ps c.in_ok-stations.stations ≡ nodes_in es) (sym c.requires.programs) c.in_ok-stations.ensures.nodes in
     let homes : AreHomes es tree.rows c.as_slice.result.now = subst (λ (ns : List ℕ). AreHomes es tree.rows ns) (sym c.as_slice.ensures.value) c.in_ok-leaves.ensures.homes in
     stations-there es c.requires.accepted tree below c.in_ok-stations.stations c.args.programs stations c.as_slice.result.now homes c.in_ok-classes.classes c.in_ok-classes.ensures.classes
-    (c.in_ok-tree.ensures.count ∙ sym (length-map (λ v. v.items) c.args.graph.now) ∙ ap length c.requires.graph)
+    (c.in_ok-tree.ensures.count ∙ sym (length-map c.args.graph.now (λ v. v.items)) ∙ ap length c.requires.graph)
     (λ a l. c.in_ok-tree.ensures.once a (omega (arith, l, c.in_ok-tree.ensures.count)))
 
 pub new-requires-2-clause-leaves : goal.new-requires-2-clause-leaves

@@ -6,7 +6,8 @@ use Rattle.resolve_defs.specs.Names.{before}
 use Rattle.resolve_defs.specs.Entries.{entries_of}
 use Rattle.resolve_defs.specs.Graph.{node_in}
 use Rattle.policy_core.specs.Made.{AreMore}
-use Rattle.policy_core.proofs.Passing.{given-more, known-here}
+use Rattle.resolve_defs.proofs.Lines.{given-more}
+use Rattle.policy_core.proofs.Passing.{known-here}
 use Rattle.policy_core.proofs.stations.stations.Goals as goal
 
 pub loop-statement-preserved : goal.loop-statement-preserved

@@ -1,18 +1,13 @@
 -- Lines that rise: the statements before one are those on earlier lines, and the first at fault has the least line.
 use Rattle.std.proofs.Common.{◌≡◌, ℕ, ◌+◌, ◌<◌, ◌≤◌, ◌⊎◌, ◌≢◌, Bool, true, false, List, [], ◌∷◌, ◌++◌, refl, sym, ap, subst, ◌∙◌, cond, nat_lt, suc, arith, inl, inr, length, take, drop, get_or, filter}
-use Rattle.std.proofs.lemmas.Bool.{cases_eq, cases_order, lt-ltb, le-ltb}
+use Rattle.std.proofs.lemmas.Bool.{cases_eq, cases_order, lt-ltb, le-ltb, false_from_ne_true}
 use Rattle.std.proofs.lemmas.List.Elements.{filter-append, AllWithin-more, at_read}
-use Rattle.std.proofs.lemmas.List.{take-append-drop, length-take, get_or_default, get_or-take, get_or-drop}
-use Rattle.std.proofs.Math.ListN.{length-drop}
+use Rattle.std.proofs.lemmas.List.{append-nil, take-append-drop, length-take, length-drop, get_or_default, get_or-take, get_or-drop}
 use Rattle.std.specs.List.{AllWithin}
-use Rattle.policy_text_defs.specs.Sense.{Entry}
+use Rattle.policy_text_defs.specs.Sense.{Sense, Entry}
 use Rattle.resolve_defs.specs.Names.{before}
 use Rattle.resolve_defs.specs.Clauses.{IsLeastLine}
 use Rattle.resolve_defs.specs.Entries.{AreRising}
-
-pub append-nil : {X : Type 0} (xs : List X) → xs ++ [] ≡ xs
-append-nil [] = refl
-append-nil (x ∷ xs) = ap (λ l. x ∷ l) (append-nil xs)
 
 filter_all : (p : Entry → Bool) (xs : List Entry) → ((k : ℕ) (d : Entry) → k < length xs → p (get_or xs k d) ≡ true) → filter p xs ≡ xs
 filter_all p [] h = refl
@@ -43,6 +38,11 @@ before-take entries i d rising within =
         at_least : (k : ℕ) (e : Entry) → i + k < length entries → (k ≡ 0) ⊎ (k ≢ 0) → nat_lt (get_or entries (i + k) e).0 (get_or entries i e).0 ≡ false
         at_least k e l (inl z) = (let same : i + k ≡ i = omega arith in subst (λ (j : ℕ). nat_lt (get_or entries j e).0 (get_or entries i e).0 ≡ false) (sym same) (le-ltb _ _ (omega arith)))
         at_least k e l (inr nz) = (let above : (get_or entries i e).0 < (get_or entries (i + k) e).0 = rising i (i + k) e (omega arith) l in le-ltb _ _ (omega arith))
+
+-- a test of a statement over those on earlier lines is a test over those before it
+pub passes-at : (es : List Entry) → AreRising es → (test : List Entry → Sense → Bool) → ((k : ℕ) (d : Entry) → k < length es → test (before (get_or es k d).0 es) (get_or es k d).1 ≡ true → ⊥)
+    → (i : ℕ) (d : Entry) → i < length es → test (take i es) (get_or es i d).1 ≡ false
+passes-at es rising test none i d within = subst (λ (ls : List Entry). test ls (get_or es i d).1 ≡ false) (before-take es i d rising within) (false_from_ne_true _ (none i d within))
 
 -- the first at fault has the least line
 pub least_here : (Fails : Entry → Type 0) (entries : List Entry) (i : ℕ) (e : Entry) → AreRising entries → i < length entries → e ≡ get_or entries i e → AllWithin (λ k. ¬ Fails k) entries 0 i → Fails e → IsLeastLine Fails entries e.0

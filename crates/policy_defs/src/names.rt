@@ -1,8 +1,7 @@
 ghost use Rattle.std.specs.Prelude.{◌≡◌, ◌<◌};
 ghost use Rattle.tree_defs.specs.Tree.{Address, IsAddressOf, nodes};
-ghost use Rattle.policy_defs.specs.Policy.{Policy};
+ghost use Rattle.policy_defs.specs.Policy.{Policy, name_at};
 ghost use Rattle.policy_defs.specs.Numbers.{number_at};
-ghost use Rattle.schedule_defs.specs.Report.{name_at};
 
 /// What tells the names of a policy's nodes and leaves.
 pub trait Names {

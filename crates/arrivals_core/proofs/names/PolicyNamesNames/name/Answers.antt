@@ -1,5 +1,0 @@
-use Rattle.arrivals_core.proofs.Naming.{name-found}
-use Rattle.arrivals_core.proofs.names.PolicyNamesNames.name.Goals as goal
-
-pub returns : goal.returns
-returns c = record { name = λ a there is. name-found c.args.self.now.policy.now.policy a c.args.node c.name.result.now there is c.name.ensures.name }
