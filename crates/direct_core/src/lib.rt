@@ -2,6 +2,8 @@
 #![tactic(auto)]
 
 mod capture;
+#[cfg(test)]
+mod tests;
 
 pub use capture::direct;
 pub use course_core::{Ending, Stop};
