@@ -7,7 +7,7 @@ ghost use Rattle.course_core.specs.Endings.{ended};
 ghost use Rattle.arrivals_core.specs.Arrivals.{policy_of, given_by, left_of, IsReady};
 ghost use Rattle.direct_core.specs.Answers.{answer_of, direct_answer};
 
-use arrivals_core::{Arrivals, Halt, PolicyNames};
+use arrivals_core::{Arrivals, Halt};
 use course_core::{Ending, Stop, play};
 use events_core::Step;
 use outside_core::{Shelf, Sink};
@@ -66,7 +66,7 @@ fn run<S: Shelf, K: Sink>(
         return Err(Stop::Memory);
     };
     play(
-        &PolicyNames::new(policy),
+        policy,
         &mut scheduler,
         &mut tree,
         &mut trace,
