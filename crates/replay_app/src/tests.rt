@@ -240,10 +240,12 @@ fn a_fault_ends_the_run(rt: HostRuntime) -> Result<(), Fail> {
         let held = files(alloc, POLICY, CAPTURE, b"a\n")?;
         let mut capture_fails = MemShelf::new(held, 1000, eighth_call_fails);
         let mut sink = PlainSink::new(alloc, 200)?;
+        let mut fabric = FlatFabric::new(alloc)?;
         let answer = run(alloc, words, &mut capture_fails, &mut sink, &mut fabric);
         assert_eq!(rt; (answer, sink.bytes().len()), (8, 0));
 
         let mut no_files = MemShelf::new(Vec::new(alloc), 7, Vec::new(alloc));
+        let mut fabric = FlatFabric::new(alloc)?;
         let answer = run(alloc, words, &mut no_files, &mut sink, &mut fabric);
         assert_eq!(rt; (answer, sink.bytes().len()), (8, 0));
     }
