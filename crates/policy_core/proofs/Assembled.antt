@@ -13,7 +13,7 @@ use Rattle.policy_text_defs.specs.Sense.{Entry}
 use Rattle.policy_defs.specs.Policy.{Node, Class as Aimed}
 use Rattle.policy_defs.specs.Accepted.{IsAccepted}
 use Rattle.resolve_defs.specs.Names.{Name, declared, class_name, node_name}
-use Rattle.resolve_defs.specs.Clauses.{root}
+use Rattle.resolve_defs.specs.Clauses.{root, most_nodes}
 use Rattle.resolve_defs.specs.Programs.{place, programs}
 use Rattle.resolve_defs.specs.Accepted.{AreAccepted}
 use Rattle.resolve_defs.specs.Graph.{graph_of, nodes_in}
@@ -190,8 +190,8 @@ root-is es nodes r n accepted names at is =
 pub root-small : (es : List Entry) → AreRising es → AreAccepted es → place (declared node_name es) root < 4294967296
 root-small es rising accepted = omega (arith, place-within (declared node_name es) root (root-there es accepted), (named es rising accepted.0.0.0.0.0.0.0).few)
 
-pub graph-small : (es : List Entry) (g : List (List ℕ)) → AreRising es → AreAccepted es → g ≡ graph_of es → length g < 4294967296
-graph-small es g rising accepted is = omega (arith, ap length is, length-graph es, (named es rising accepted.0.0.0.0.0.0.0).few)
+pub graph-few : (es : List Entry) (g : List (List ℕ)) → AreRising es → AreAccepted es → g ≡ graph_of es → length g ≤ most_nodes
+graph-few es g rising accepted is = omega (arith, ap length is, length-graph es, (named es rising accepted.0.0.0.0.0.0.0).few)
 
 -- the tree below the root of the graph
 pub below-is : (es : List Entry) (g : List (List ℕ)) (r : ℕ) (p : Numbered) → g ≡ graph_of es → r ≡ place (declared node_name es) root → IsTreeBelow g r p → IsTreeBelow (graph_of es) (place (declared node_name es) root) p

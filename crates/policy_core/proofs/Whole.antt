@@ -18,6 +18,7 @@ use Rattle.lineage_core.proofs.Growing.{length-rows}
 use Rattle.policy_core.specs.declared.parts.Station.{Station}
 use Rattle.policy_core.specs.declared.parts.Class.{Class}
 use Rattle.policy_core.specs.Numbering.{address_at}
+use Rattle.resolve_defs.specs.Clauses.{most_nodes}
 use Rattle.policy_core.specs.Parts.{resolved, tree_of, node_of, station_at, no_station, no_program, told, AreNumbered, IsWhole}
 use Rattle.policy_core.proofs.Numbers.{IsAddress, address-undone, address_at-topology, address-down, address-up, topology_of-nodes, node_numbered}
 use Rattle.policy_core.proofs.Rows.{IsRowAt, row-numbered}
@@ -69,6 +70,9 @@ module _ (tree : Numbered) (ss : List Station) (ps : List Program) (cs : List Cl
 
   pub count-is : length tree.rows ≡ nodes r.policy.tree
   count-is = rows-count tree w.numbered ∙ ap (λ (u : Topology). nodes u) topology-is ∙ nodes-topology r.policy.tree
+
+  pub few-nodes : nodes (topology_of r.policy.tree) ≤ most_nodes
+  few-nodes = omega (arith, w.few_nodes, count-is, nodes-topology r.policy.tree)
 
   pub within : (k : ℕ) → k < nodes r.policy.tree → k < length tree.rows
   within k l = omega (arith, l, count-is)

@@ -6,6 +6,7 @@ use Rattle.rank_defs.specs.Programs.{Program}
 use Rattle.policy_text_defs.specs.declared.condition.Condition.{Condition}
 use Rattle.policy_defs.specs.Policy.{Node, Class as Aimed, Marks as Told}
 use Rattle.policy_defs.specs.Accepted.{IsAccepted}
+use Rattle.resolve_defs.specs.Clauses.{most_nodes}
 use Rattle.resolve_defs.specs.Resolved.{Resolved}
 use Rattle.lineage_core.specs.Row.{row_at}
 use Rattle.lineage_core.specs.Preorder.{Numbered, IsNumberedBy}
@@ -71,6 +72,7 @@ HasCatchAll conditions = (others : List (List Condition)) × (conditions ≡ oth
 
 pub record IsWhole (tree : Numbered) (ss : List Station) (ps : List Program) (cs : List Class) : Type 0 where
   pub numbered : AreNumbered tree
+  pub few_nodes : length tree.rows ≤ most_nodes
   pub stations : HaveStations tree ss
   pub programs : HavePrograms ss ps
   pub leaves : HaveLeaves tree cs

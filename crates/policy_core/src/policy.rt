@@ -9,6 +9,7 @@ ghost use Rattle.policy_defs.specs.Numbers.{number_at};
 ghost use Rattle.policy_core.specs.Numbering.{address_at};
 ghost use Rattle.policy_core.specs.Parts.{resolved, told, class_in, AreNumbered, HaveStations, HavePrograms, HaveLeaves, HasCatchAll, most_classes, station_at};
 ghost use Rattle.lineage_core.specs.Row.{row_at};
+ghost use Rattle.resolve_defs.specs.Clauses.{most_nodes};
 
 use crate::parts::{Class, Marks, Station};
 use lineage_core::Preorder;
@@ -50,6 +51,7 @@ impl Policy {
         classes: List<Class>,
     ) -> Policy
         requires numbered { AreNumbered tree }
+        requires few_nodes { length tree.rows ≤ most_nodes }
         requires stations { HaveStations tree stations }
         requires programs { HavePrograms stations programs }
         requires leaves { HaveLeaves tree classes }
@@ -70,6 +72,7 @@ impl Policy {
     pub fn topo(&self) -> &Topo
         ensures topology { topology result.now ≡ topology_of self.now.policy.tree }
         ensures branched { IsBranched (topology_of self.now.policy.tree) }
+        ensures few { nodes (topology_of self.now.policy.tree) ≤ most_nodes }
         ensures accepted { IsAccepted self.now.policy }
     {
         self.tree.topo()
@@ -84,9 +87,10 @@ impl Policy {
         self.tree.depth()
     }
 
-    /// The number of nodes and leaves.
+    /// The number of nodes and leaves, at most 1,024.
     pub fn count(&self) -> u32
         ensures count { result ≡ nodes self.now.policy.tree }
+        ensures limit { result ≤ most_nodes }
     {
         self.tree.count()
     }

@@ -10,7 +10,7 @@ use Rattle.binding_core.proofs.Known.{shaped_known}
 use Rattle.family_core.proofs.Verdicts.{is-forest, is-shallow}
 use Rattle.assembly_core.specs.Homes.{AreHomes}
 use Rattle.policy_core.specs.Made.{nodes_told}
-use Rattle.policy_core.proofs.Assembled.{root-is, root-small, graph-small, homes-count, below-is, leaves-there, few-made, catch-all-made, stations-there, accepted-made, resolved-made}
+use Rattle.policy_core.proofs.Assembled.{root-is, root-small, graph-few, homes-count, below-is, leaves-there, few-made, catch-all-made, stations-there, accepted-made, resolved-made}
 use Rattle.policy_core.proofs.resolution.assemble.Goals as goal
 
 pub overflow_cast-root : goal.overflow_cast-root
@@ -34,13 +34,17 @@ new-requires-clause-shallow c = λ a _ deep.
 
 pub new-requires-clause-small : goal.new-requires-clause-small
 new-requires-clause-small c =
-    omega (arith, graph-small (entries_of c.args.lines.now) (lists c.args.graph.now) c.requires.rising c.requires.accepted c.requires.graph, length-map c.args.graph.now (λ v. v.items))
+    omega (arith, graph-few (entries_of c.args.lines.now) (lists c.args.graph.now) c.requires.rising c.requires.accepted c.requires.graph, length-map c.args.graph.now (λ v. v.items))
 
 pub classes-requires : goal.classes-requires
 classes-requires c = record {
   len = homes-count (entries_of c.args.lines.now) c.in_ok-tree.tree.rows c.as_slice.result.now
       (subst (λ (ns : List ℕ). AreHomes (entries_of c.args.lines.now) c.in_ok-tree.tree.rows ns) (sym c.as_slice.ensures.value) c.in_ok-leaves.ensures.homes);
 }
+
+pub new-requires-2-clause-few_nodes : goal.new-requires-2-clause-few_nodes
+new-requires-2-clause-few_nodes c =
+    omega (arith, graph-few (entries_of c.args.lines.now) (lists c.args.graph.now) c.requires.rising c.requires.accepted c.requires.graph, length-map c.args.graph.now (λ v. v.items), c.in_ok-tree.ensures.count)
 
 pub new-requires-2-clause-stations : goal.new-requires-2-clause-stations
 new-requires-2-clause-stations c =

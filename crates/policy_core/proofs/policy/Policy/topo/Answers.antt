@@ -1,6 +1,6 @@
 use Rattle.std.proofs.Common.{◌∙◌, subst}
 use Rattle.tree_defs.specs.Topology.{Topology, IsBranched}
-use Rattle.policy_core.proofs.Whole.{topology-is}
+use Rattle.policy_core.proofs.Whole.{topology-is, few-nodes}
 use Rattle.policy_core.proofs.policy.Policy.topo.Goals as goal
 
 pub returns-clause-topology : goal.returns-clause-topology
@@ -8,3 +8,6 @@ returns-clause-topology c = c.topo.ensures.topology ∙ topology-is _ _ _ _ c.ar
 
 pub returns-clause-branched : goal.returns-clause-branched
 returns-clause-branched c = subst (λ (t : Topology). IsBranched t) (topology-is _ _ _ _ c.args.self.now c.self.view_is c.self.invariant) c.topo.ensures.branched
+
+pub returns-clause-few : goal.returns-clause-few
+returns-clause-few c = few-nodes _ _ _ _ c.args.self.now c.self.view_is c.self.invariant
