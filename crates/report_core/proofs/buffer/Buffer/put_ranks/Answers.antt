@@ -1,7 +1,7 @@
 use Rattle.std.proofs.Common.{[], ◌∷◌, ◌++◌, length, sym, ap, ◌∙◌, append_assoc, arith, get_or, decimal, take}
 use Rattle.std.proofs.lemmas.List.{length-append}
 use Rattle.report_defs.specs.Report.{ranks_text}
-use Rattle.report_core.proofs.Lines.{ranks_step}
+use Rattle.report_defs.proofs.Joined.{numbers_step}
 use Rattle.report_core.proofs.buffer.Buffer.put_ranks.Goals as goal
 
 pub loop-rank-preserved : goal.loop-rank-preserved
@@ -16,6 +16,6 @@ loop-rank-preserved c =
           ∙ ap (λ s. s ++ next) (c.put_bytes.ensures ∙ ap (λ s. s ++ 47 ∷ []) c.loop-rank.invariant.text)
           ∙ append_assoc (c.args.self.now ++ so_far) (47 ∷ []) next
           ∙ append_assoc c.args.self.now so_far (47 ∷ next)
-          ∙ ap (λ s. c.args.self.now ++ s) (sym (ranks_step xs rank i c.loop-rank-test.true));
+          ∙ ap (λ s. c.args.self.now ++ s) (sym (numbers_step 47 xs rank i c.loop-rank-test.true));
       short = omega (arith, ap length c.put_bytes.ensures, length-append c.loop-rank.self (47 ∷ []));
     }
