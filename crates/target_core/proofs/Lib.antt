@@ -1,0 +1,4 @@
+mod Faults
+mod ItemArities
+mod LeafCounts
+mod TableValues

@@ -1,0 +1,6 @@
+use Rattle.std.proofs.Common.{◌≡◌, ◌*◌, ◌≤◌, drop}
+use Rattle.target_defs.specs.Target.{leaves}
+use Rattle.target_core.proofs.leaves.has_few_leaves.Given as goal
+
+abbrev pub invariant-loop-arity : goal.invariant-loop-arity
+invariant-loop-arity l = record { counted : l.count * leaves (drop l.arity-index l.arities) ≡ leaves l.arities; few : l.count ≤ 65536 }

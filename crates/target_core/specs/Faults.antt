@@ -1,0 +1,16 @@
+-- Why a table is no target's.
+use Rattle.std.specs.Prelude.{◌≡◌, ℕ, List}
+use Rattle.toml.specs.Data.{Items, Members}
+use Rattle.target_text_defs.specs.TargetText.{AreArities, GivesArities}
+use Rattle.target_core.specs.declared.fault.TargetFault.{TargetFault}
+use Rattle.target_core.specs.declared.fault.TargetFault.TheVariants.{Key}
+
+-- the fault of items that aren't numbers from 2 to 64
+pub record IsArrayFault (fault : TargetFault) (items : Items) : Type 0 where
+  pub key : fault ≡ Key
+  pub none : (arities : List ℕ) → AreArities items arities → ⊥
+
+-- the fault of a table in neither form
+pub record IsKeyFault (fault : TargetFault) (table : Members) : Type 0 where
+  pub key : fault ≡ Key
+  pub none : (arities : List ℕ) (above : ℕ) → GivesArities table arities above → ⊥

@@ -1,0 +1,15 @@
+-- What follows from the definitions of targets.
+use Rattle.std.specs.Prelude.{◌≡◌, ℕ, ◌≤◌, List, length}
+use Rattle.target_defs.specs.Target.{IsInRange, lowest}
+use Rattle.target_defs.specs.Levels.{levels, down_from}
+
+-- counted by height, a target's arities are the lists of its lowest levels
+abbrev pub HeightsGiveTheLowestLevels : Type 0
+HeightsGiveTheLowestLevels = (arities : List ℕ) (above height : ℕ) → down_from (levels arities above) height ≡ lowest arities above height
+
+abbrev pub AllLevelsAreTheTarget : Type 0
+AllLevelsAreTheTarget = (arities : List ℕ) (above : ℕ) → lowest arities above (length arities) ≡ arities
+
+-- the nodes of each height have from 2 to 64 children
+abbrev pub HeightsAreInRange : Type 0
+HeightsAreInRange = (arities : List ℕ) (above : ℕ) → IsInRange arities above → (h : ℕ) → (2 ≤ levels arities above h) × (levels arities above h ≤ 64)

@@ -1,0 +1,25 @@
+-- The arities of a complete tree by height, counted from the leaves: a node then has the same height wherever it stands,
+-- and levels put above the root need no case of their own.
+use Rattle.std.specs.Prelude.{◌≡◌, refl, ℕ, zero, suc, ◌-◌, List, [], ◌∷◌, length, slice_index, nat_lt, if◌then◌else◌}
+
+-- at h, how many children a node of height h + 1 has
+abbrev pub Arities : Type 0
+Arities = ℕ → ℕ
+
+-- the arities from a node of this height down
+abbrev pub down_from : Arities → ℕ → List ℕ
+down_from a zero = []
+down_from a (suc h) = a h ∷ down_from a h
+
+-- those of a target: the lowest level's arity is the last of the list, and `above` is that of all levels above the root
+abbrev pub levels : List ℕ → ℕ → Arities
+levels arities above h = if nat_lt h (length arities) then slice_index arities (length arities - 1 - h) else above
+
+pub down_from-target : down_from (levels (3 ∷ 2 ∷ []) 5) 2 ≡ 3 ∷ 2 ∷ []
+down_from-target = refl
+
+pub down_from-above : down_from (levels (3 ∷ 2 ∷ []) 5) 4 ≡ 5 ∷ 5 ∷ 3 ∷ 2 ∷ []
+down_from-above = refl
+
+pub down_from-lowest : down_from (levels (3 ∷ 2 ∷ []) 5) 1 ≡ 2 ∷ []
+down_from-lowest = refl

@@ -1,0 +1,37 @@
+-- Targets: complete trees with an arity for each level (OOPSLA 2023).
+use Rattle.std.specs.Prelude.{◌≡◌, refl, ℕ, ◌≤◌, ◌*◌, ◌-◌, List, [], ◌∷◌, ◌++◌, length, drop, replicate}
+use Rattle.std.specs.List.{AllByRecursion}
+
+-- the number of leaves of the complete tree of these arities
+abbrev pub leaves : List ℕ → ℕ
+leaves [] = 1
+leaves (d ∷ arities) = d * leaves arities
+
+-- arities that a target may have: at most 16 levels, each of 2 to 64 children, and at most 65,536 leaves in all
+pub record IsTarget (arities : List ℕ) : Type 0 where
+  pub levels : length arities ≤ 16
+  pub narrow : AllByRecursion (λ d. (2 ≤ d) × (d ≤ 64)) arities
+  pub few : leaves arities ≤ 65536
+
+-- a target whose root may be put below further levels, each from 2 to 64 wide
+pub record IsInRange (arities : List ℕ) (above : ℕ) : Type 0 where
+  pub target : IsTarget arities
+  pub wide : 2 ≤ above
+  pub narrow : above ≤ 64
+
+-- The lowest levels of a target, so many as the height says. Where the target has fewer, all its levels stand below
+-- further ones of the arity `above`.
+abbrev pub lowest : List ℕ → ℕ → ℕ → List ℕ
+lowest arities above height = replicate (height - length arities) above ++ drop (length arities - height) arities
+
+pub leaves-of_binary_height_two : leaves (2 ∷ 2 ∷ []) ≡ 4
+leaves-of_binary_height_two = refl
+
+pub lowest-of_more : lowest (4 ∷ 3 ∷ 2 ∷ []) 5 2 ≡ 3 ∷ 2 ∷ []
+lowest-of_more = refl
+
+pub lowest-of_fewer : lowest (3 ∷ 2 ∷ []) 5 4 ≡ 5 ∷ 5 ∷ 3 ∷ 2 ∷ []
+lowest-of_fewer = refl
+
+pub lowest-all : lowest (3 ∷ 2 ∷ []) 5 2 ≡ 3 ∷ 2 ∷ []
+lowest-all = refl

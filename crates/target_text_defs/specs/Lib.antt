@@ -1,0 +1,2 @@
+pub mod TargetText
+pub mod Laws

@@ -1,0 +1,67 @@
+-- A target's text: a TOML document with the keys `arity` and `height`, or with the key `arities` alone.
+use Rattle.std.specs.Prelude.{◌≡◌, ℕ, suc, ◌≤◌, ◌<◌, pos, List, [], ◌∷◌, length, replicate, Some, codes, IsUtf8}
+use Rattle.toml.specs.Data.{integer, array, Items, no_items, item, Members, no_members, member, get_member}
+use Rattle.toml.specs.Parse.{parse_document}
+use Rattle.target_defs.specs.Target.{leaves}
+
+-- the table that TOML reads the bytes as
+pub record IsToml (bytes : List ℕ) (table : Members) : Type 0 where
+  pub text : IsUtf8 bytes
+  pub reads : parse_document bytes ≡ Some table
+
+abbrev pub keys : Members → ℕ
+keys no_members = 0
+keys (member k d ms) = suc (keys ms)
+
+-- the table has a whole number in this range at the key
+pub record HasNumber (table : Members) (key : List ℕ) (low high n : ℕ) : Type 0 where
+  pub stands : get_member key table ≡ Some (integer (pos n))
+  pub least : low ≤ n
+  pub most : n ≤ high
+
+-- each item is a whole number from 2 to 64
+abbrev pub AreArities : Items → List ℕ → Type 0
+AreArities no_items [] = Unit {0}
+AreArities no_items (n ∷ ns) = ⊥
+AreArities (item d ds) [] = ⊥
+AreArities (item d ds) (n ∷ ns) = (d ≡ integer (pos n)) × (2 ≤ n) × (n ≤ 64) × AreArities ds ns
+
+-- the first arity, and 2 where there is none
+abbrev pub first_arity : List ℕ → ℕ
+first_arity [] = 2
+first_arity (n ∷ ns) = n
+
+-- the arities from the root down that the table gives, and that of all levels above the root
+pub data GivesArities (table : Members) : List ℕ → ℕ → Type 0 where
+  one_arity : (arity height : ℕ) → keys table ≡ 2 → HasNumber table (codes "arity") 2 64 arity → HasNumber table (codes "height") 0 16 height → GivesArities table (replicate height arity) arity
+  each_arity : (items : Items) (arities : List ℕ) → keys table ≡ 1 → get_member (codes "arities") table ≡ Some (array items) → AreArities items arities → length arities ≤ 16 → GivesArities table arities (first_arity arities)
+
+-- the text is accepted, with these arities from the root down and this one above them
+pub record IsTargetText (bytes : List ℕ) (arities : List ℕ) (above : ℕ) : Type 0 where
+  pub short : length bytes ≤ 65536
+  pub table : Members
+  pub toml : IsToml bytes table
+  pub gives : GivesArities table arities above
+  pub few : leaves arities ≤ 65536
+
+-- the table doesn't have just the keys of a target, or a value at them isn't a whole number in its range
+pub record IsOffKeys (bytes : List ℕ) : Type 0 where
+  pub table : Members
+  pub toml : IsToml bytes table
+  pub none : (arities : List ℕ) (above : ℕ) → GivesArities table arities above → ⊥
+
+-- the table is that of a target with too many leaves
+pub record IsLarge (bytes : List ℕ) : Type 0 where
+  pub table : Members
+  pub arities : List ℕ
+  pub above : ℕ
+  pub toml : IsToml bytes table
+  pub gives : GivesArities table arities above
+  pub many : 65536 < leaves arities
+
+-- the number of the first fault that the text has, in the order: too long, no TOML, other keys or values, too many leaves
+pub data IsRefused (bytes : List ℕ) : ℕ → Type 0 where
+  too_long : 65536 < length bytes → IsRefused bytes 4
+  not_toml : length bytes ≤ 65536 → ((table : Members) → IsToml bytes table → ⊥) → IsRefused bytes 1
+  off_keys : length bytes ≤ 65536 → IsOffKeys bytes → IsRefused bytes 2
+  large : length bytes ≤ 65536 → IsLarge bytes → IsRefused bytes 3

@@ -1,0 +1,15 @@
+//! What a target's text is: a TOML document that gives the arity of each level.
+#![tactic(auto)]
+
+ghost use Rattle.target_text_defs.specs.Laws.{TextsHaveOneAnswer, AcceptedTargetsAreInRange};
+
+/// A text gives one target or has one fault, and not both.
+pub fn texts_have_one_answer()
+    ensures law { TextsHaveOneAnswer }
+{}
+
+/// What a text gives is a target: at most 16 levels, each from 2 to 64 wide, and at most 65,536 leaves. The levels above
+/// it are from 2 to 64 wide too.
+pub fn accepted_targets_are_in_range()
+    ensures law { AcceptedTargetsAreInRange }
+{}
