@@ -1,1 +1,11 @@
-mod FlatLemmas
+mod Contents
+mod FlatLaws
+mod FlowLaws
+mod NodeCounts
+mod PopLaws
+mod PopSteps
+mod PushLaws
+mod PushSteps
+mod Reading
+mod ReserveSteps
+mod Walks

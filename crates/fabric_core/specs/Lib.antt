@@ -1,1 +1,3 @@
+pub mod Array
+pub mod Flow
 pub mod Flat

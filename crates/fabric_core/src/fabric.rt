@@ -1,5 +1,7 @@
-ghost use Rattle.std.specs.Prelude.{◌≡◌, ◌+◌, ◌^◌, ◌<◌, ◌↔◌, ℕ, List, Option, [], length, OnOk, OnErr, IsNone, IfNone, IfSome};
-ghost use Rattle.fabric_defs.specs.Family.{Family, SameQueues, IsEmpty, IsTarget, IsLeafAddress, HasRoomAlong, AreRanks, Pops, push_along};
+ghost use Rattle.std.specs.Prelude.{◌≡◌, ◌+◌, ◌^◌, ◌<◌, ◌↔◌, ℕ, List, Option, [], length, option_map, OnOk, OnErr, IsNone, IfNone, IfSome};
+ghost use Rattle.fabric_defs.specs.Family.{Family, SameQueues, IsEmpty, IsLeafAddress, HasRoomAlong, AreRanks, Pops, push_along};
+ghost use Rattle.fabric_defs.specs.Spills.{spills_along};
+ghost use Rattle.target_defs.specs.Target.{IsTarget};
 
 use std::alloc::AllocError;
 
@@ -18,19 +20,22 @@ pub trait Fabric {
     /// How many pops there were, those of an empty tree included.
     ghost popped: { Self → ℕ };
 
+    /// How many pushes passed an entry of a greater rank of their own child on their way, where that is told.
+    ghost spilled: { Self → Option ℕ };
+
     /// For how many entries the queue at an address has room.
     ghost room: { Self → List ℕ → ℕ };
 
-    /// Takes another shape, with all queues empty. So far it is that of a single leaf.
+    /// Takes another shape, with all queues empty.
     fn configure(&mut self, arities: &[u32]) -> Result<(), AllocError>
         requires target { IsTarget arities.now }
-        requires one_leaf { arities.now ≡ [] }
         ensures shaped { OnOk result (shape self.new ≡ arities.now) }
         ensures emptied { OnOk result (IsEmpty (queues self.new)) }
         ensures shape_stays { OnErr result (shape self.new ≡ shape self.old) }
         ensures queues_stay { OnErr result (SameQueues (queues self.new) (queues self.old)) }
         ensures pushed { pushed self.new ≡ pushed self.old }
-        ensures popped { popped self.new ≡ popped self.old };
+        ensures popped { popped self.new ≡ popped self.old }
+        ensures spilled { spilled self.new ≡ spilled self.old };
 
     /// Makes room for one more entry at each node on the way to a leaf.
     fn reserve(&mut self, digits: &[u32]) -> Result<(), AllocError>
@@ -39,7 +44,8 @@ pub trait Fabric {
         ensures queues { SameQueues (queues self.new) (queues self.old) }
         ensures shape { shape self.new ≡ shape self.old }
         ensures pushed { pushed self.new ≡ pushed self.old }
-        ensures popped { popped self.new ≡ popped self.old };
+        ensures popped { popped self.new ≡ popped self.old }
+        ensures spilled { spilled self.new ≡ spilled self.old };
 
     /// Pushes a rank and the next digit at each inner node on the way to a leaf, and the last rank
     /// and the item at the leaf.
@@ -52,7 +58,8 @@ pub trait Fabric {
         ensures queues { SameQueues (queues self.new) (push_along digits.now ranks.now item (queues self.old)) }
         ensures shape { shape self.new ≡ shape self.old }
         ensures pushed { pushed self.new ≡ pushed self.old + 1 }
-        ensures popped { popped self.new ≡ popped self.old };
+        ensures popped { popped self.new ≡ popped self.old }
+        ensures spilled { spilled self.new ≡ option_map (λ n. n + spills_along digits.now ranks.now (queues self.old)) (spilled self.old) };
 
     /// Pops the root's queue, then the queue that each taken digit names, down to an item. The
     /// slices get the digits and the ranks taken.
@@ -67,7 +74,8 @@ pub trait Fabric {
         ensures ranks_stay { IfNone result (ranks.new ≡ ranks.old) }
         ensures shape { shape self.new ≡ shape self.old }
         ensures pushed { pushed self.new ≡ pushed self.old }
-        ensures popped { popped self.new ≡ popped self.old + 1 };
+        ensures popped { popped self.new ≡ popped self.old + 1 }
+        ensures spilled { spilled self.new ≡ spilled self.old };
 
     /// How many pushes there were.
     fn pushes(&self) -> u64

@@ -3,8 +3,10 @@
 
 mod fabric;
 mod flat;
+mod spot;
 #[cfg(test)]
 mod tests;
+mod walk;
 
 pub use fabric::Fabric;
 pub use flat::FlatFabric;

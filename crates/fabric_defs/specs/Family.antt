@@ -1,5 +1,5 @@
 -- A complete tree of queues as a family: one queue for each address.
-use Rattle.std.specs.Prelude.{◌≡◌, refl, ℕ, zero, suc, ◌<◌, ◌≤◌, ◌*◌, List, [], ◌∷◌, length, Option, Some, option_map, nat_eq, slice_index, drop, if◌then◌else◌}
+use Rattle.std.specs.Prelude.{◌≡◌, refl, ℕ, zero, suc, ◌<◌, ◌≤◌, List, [], ◌∷◌, Option, Some, option_map, nat_eq, slice_index, drop, if◌then◌else◌}
 use Rattle.std.specs.List.{AllByRecursion}
 use Rattle.queue_defs.specs.Queue.{Queue, put, take_least, Taking}
 use Rattle.tree_defs.specs.Tree.{Popping, option_bind}
@@ -66,17 +66,6 @@ IsLeafAddress [] [] = Unit {0}
 IsLeafAddress [] (x ∷ a) = ⊥
 IsLeafAddress (d ∷ arities) [] = ⊥
 IsLeafAddress (d ∷ arities) (x ∷ a) = (x < d) × IsLeafAddress arities a
-
--- the number of leaves of the complete tree of these arities
-abbrev pub leaves : List ℕ → ℕ
-leaves [] = 1
-leaves (d ∷ arities) = d * leaves arities
-
--- arities that a target may have: at most 16 levels, each of 2 to 64 children, and at most 65,536 leaves in all
-pub record IsTarget (arities : List ℕ) : Type 0 where
-  pub levels : length arities ≤ 16
-  pub narrow : AllByRecursion (λ d. (2 ≤ d) × (d ≤ 64)) arities
-  pub few : leaves arities ≤ 65536
 
 -- a free place at each node on the way to an address
 abbrev pub HasRoomAlong : (Address → ℕ) → Address → Type 0

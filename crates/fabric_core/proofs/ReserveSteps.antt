@@ -1,0 +1,80 @@
+-- The loop that makes room.
+use Rattle.std.proofs.Common.{◌≡◌, ℕ, ◌+◌, ◌*◌, ◌<◌, ◌≤◌, eqb, List, [], ◌∷◌, length, get_or, set, drop, sym, subst, arith, inl, inr, get_or-set_same, get_or-set_other}
+use Rattle.std.proofs.lemmas.List.{drop_more, drop_all}
+use Rattle.std.proofs.lemmas.Bool.{cases_Bool, eqb-true, eqb-false}
+use mathlib.Core.Path.{fun_ext}
+use Rattle.pifo_core.specs.Sorted.{Contents}
+use Rattle.fabric_defs.specs.Family.{Address, IsLeafAddress, HasRoomAlong}
+use Rattle.fabric_core.specs.Array.{room_at, spare_of}
+use Rattle.fabric_core.proofs.Reading.{read-below}
+use Rattle.fabric_core.proofs.Walks.{leaf_length, digit_below}
+use Rattle.fabric_core.proofs.Contents.{spare-at, spare-set, length-spare}
+
+-- what has at least these free places in each queue
+abbrev pub IsRoomier : List ℕ → List ℕ → Type 0
+IsRoomier spare now = (j : ℕ) → get_or spare j 0 ≤ get_or now j 0
+
+-- room at the rest of the way is room at the whole of it, also where free places become more
+abbrev pub HasRoomSoFar : List ℕ → List ℕ → ℕ → List ℕ → ℕ → ℕ → ℕ → Type 0
+HasRoomSoFar arities digits level spare begin width place =
+    (now : List ℕ) → IsRoomier spare now
+    → HasRoomAlong (room_at (drop level arities) now begin width place) (drop level digits) → HasRoomAlong (room_at arities now 0 1 0) digits
+
+roomier_before : (spare now : List ℕ) (n k : ℕ) → n < length spare → get_or spare n 0 ≤ k → IsRoomier (set spare n k) now → IsRoomier spare now
+roomier_before spare now n k l m r j =
+    elim (cases_Bool (eqb j n)) [
+      | inl t ↦ let e : j ≡ n = eqb-true j n t in subst (λ (z : ℕ). get_or spare z 0 ≤ get_or now z 0) (sym e) (omega (arith, m, r n, get_or-set_same spare n k 0 l))
+      | inr t ↦ omega (arith, r j, get_or-set_other spare n j k 0 (eqb-false j n t))
+    ]
+
+roomy_above : (d : ℕ) (ar now : List ℕ) (begin width place x : ℕ) (a : Address) → x < d → 0 < get_or now (begin + place) 0
+    → HasRoomAlong (room_at ar now (begin + width) (width * d) (place * d + x)) a → HasRoomAlong (room_at (d ∷ ar) now begin width place) (x ∷ a)
+roomy_above d ar now begin width place x a l m h =
+    (m, subst (λ (f : Address → ℕ). HasRoomAlong f a) (sym (fun_ext (λ b. read-below ar now 0 d begin width place x b l))) h)
+
+pub room_next : (arities digits spare : List ℕ) (level begin width place i k b w p : ℕ) → IsLeafAddress arities digits → level < length digits → begin + place < length spare
+    → HasRoomSoFar arities digits level spare begin width place → i ≡ begin + place → get_or spare (begin + place) 0 ≤ k → 1 ≤ k
+    → b ≡ begin + width → w ≡ width * get_or arities level 0 → p ≡ place * get_or arities level 0 + get_or digits level 0
+    → HasRoomSoFar arities digits (level + 1) (set spare i k) b w p
+room_next arities digits spare level begin width place i k b w p leaf l within s ei kept some eb ew ep now r h =
+    let la : level < length arities = omega (arith, leaf_length arities digits leaf) in
+    let m : get_or digits level 0 < get_or arities level 0 = digit_below level arities digits leaf l in
+    let r' : IsRoomier (set spare (begin + place) k) now = subst (λ (z : ℕ). IsRoomier (set spare z k) now) ei r in
+    let here : 0 < get_or now (begin + place) 0 = omega (arith, r' (begin + place), get_or-set_same spare (begin + place) k 0 within, some) in
+    let h' : HasRoomAlong (room_at (drop (level + 1) arities) now (begin + width) (width * get_or arities level 0) (place * get_or arities level 0 + get_or digits level 0)) (drop (level + 1) digits)
+    = subst (λ (z : ℕ). HasRoomAlong (room_at (drop (level + 1) arities) now z (width * get_or arities level 0) (place * get_or arities level 0 + get_or digits level 0)) (drop (level + 1) digits)) eb
+    (subst (λ (z : ℕ). HasRoomAlong (room_at (drop (level + 1) arities) now b z (place * get_or arities level 0 + get_or digits level 0)) (drop (level + 1) digits)) ew
+    (subst (λ (z : ℕ). HasRoomAlong (room_at (drop (level + 1) arities) now b w z) (drop (level + 1) digits)) ep h)) in
+    s now (roomier_before spare now (begin + place) k within kept r')
+    (subst (λ (z : List ℕ). HasRoomAlong (room_at z now begin width place) (drop level digits)) (sym (drop_more arities level 0 la))
+    (subst (λ (z : List ℕ). HasRoomAlong (room_at (get_or arities level 0 ∷ drop (level + 1) arities) now begin width place) z) (sym (drop_more digits level 0 l))
+    (roomy_above (get_or arities level 0) (drop (level + 1) arities) now begin width place (get_or digits level 0) (drop (level + 1) digits) m here h')))
+
+pub room_last : (arities digits spare : List ℕ) (level begin width place i k : ℕ) → IsLeafAddress arities digits → length digits ≤ level → begin + place < length spare
+    → HasRoomSoFar arities digits level spare begin width place → i ≡ begin + place → get_or spare (begin + place) 0 ≤ k → 1 ≤ k
+    → HasRoomAlong (room_at arities (set spare i k) 0 1 0) digits
+room_last arities digits spare level begin width place i k leaf l within s ei kept some =
+    subst (λ (z : ℕ). HasRoomAlong (room_at arities (set spare z k) 0 1 0) digits) (sym ei)
+    (s (set spare (begin + place) k) (roomier_before spare (set spare (begin + place) k) (begin + place) k within kept (λ j. omega arith))
+    (subst (λ (z : List ℕ). HasRoomAlong (room_at z (set spare (begin + place) k) begin width place) (drop level digits)) (sym (drop_all level arities (omega (arith, l, leaf_length arities digits leaf))))
+    (subst (λ (z : List ℕ). HasRoomAlong (room_at [] (set spare (begin + place) k) begin width place) z) (sym (drop_all level digits l))
+    (let here : 0 < get_or (set spare (begin + place) k) (begin + place) 0 = omega (arith, get_or-set_same spare (begin + place) k 0 within, some) in here))))
+
+-- ---- the same on the queues
+spare_kept : (qs : List Contents) (n i k : ℕ) (e : Contents) → n < length qs → i ≡ n → (get_or qs i e).spare ≤ k → get_or (spare_of qs) n 0 ≤ k
+spare_kept qs n i k e l ei m = let same : (get_or qs n e).spare ≤ k = subst (λ (z : ℕ). (get_or qs z e).spare ≤ k) ei m in omega (arith, spare-at qs n e l, same)
+
+pub room_next_queue : (arities digits : List ℕ) (qs : List Contents) (level begin width place i b w p : ℕ) (c e : Contents) → IsLeafAddress arities digits → level < length digits → begin + place < length qs
+    → HasRoomSoFar arities digits level (spare_of qs) begin width place → i ≡ begin + place → (get_or qs i e).spare ≤ c.spare → 1 ≤ c.spare
+    → b ≡ begin + width → w ≡ width * get_or arities level 0 → p ≡ place * get_or arities level 0 + get_or digits level 0
+    → HasRoomSoFar arities digits (level + 1) (spare_of (set qs i c)) b w p
+room_next_queue arities digits qs level begin width place i b w p c e leaf l within s ei kept some eb ew ep =
+    subst (λ (z : List ℕ). HasRoomSoFar arities digits (level + 1) z b w p) (sym (spare-set qs i c))
+    (room_next arities digits (spare_of qs) level begin width place i c.spare b w p leaf l (omega (arith, within, length-spare qs)) s ei (spare_kept qs (begin + place) i c.spare e within ei kept) some eb ew ep)
+
+pub room_last_queue : (arities digits : List ℕ) (qs : List Contents) (level begin width place i : ℕ) (c e : Contents) → IsLeafAddress arities digits → length digits ≤ level → begin + place < length qs
+    → HasRoomSoFar arities digits level (spare_of qs) begin width place → i ≡ begin + place → (get_or qs i e).spare ≤ c.spare → 1 ≤ c.spare
+    → HasRoomAlong (room_at arities (spare_of (set qs i c)) 0 1 0) digits
+room_last_queue arities digits qs level begin width place i c e leaf l within s ei kept some =
+    subst (λ (z : List ℕ). HasRoomAlong (room_at arities z 0 1 0) digits) (sym (spare-set qs i c))
+    (room_last arities digits (spare_of qs) level begin width place i c.spare leaf l (omega (arith, within, length-spare qs)) s ei (spare_kept qs (begin + place) i c.spare e within ei kept) some)

@@ -1,0 +1,65 @@
+-- How a walk from the root to a leaf goes down the levels.
+use Rattle.std.proofs.Common.{◌≡◌, ℕ, zero, suc, ◌+◌, ◌*◌, ◌<◌, ◌≤◌, List, [], ◌∷◌, length, get_or, drop, refl, sym, ap, subst, ◌∙◌, arith}
+use Rattle.std.proofs.lemmas.List.{drop_more}
+use Rattle.std.proofs.Math.Nat.{mul-le-mul_left}
+use Rattle.fabric_defs.specs.Family.{IsLeafAddress}
+use Rattle.fabric_core.specs.Array.{nodes}
+use Rattle.fabric_core.proofs.Reading.{child_place, next_nodes, place_within, some_nodes}
+
+-- the node that was come to, in an array of so many nodes
+pub record IsAt (arities : List ℕ) (count level begin width place : ℕ) : Type 0 where
+  pub within : place < width
+  pub counted : begin + width * nodes (drop level arities) ≡ count
+
+pub at_root : (arities : List ℕ) (count : ℕ) → nodes arities ≡ count → IsAt arities count 0 0 1 0
+at_root arities count e = record { within = omega arith; counted = omega (arith, e) }
+
+pub at_index : (arities : List ℕ) (count level begin width place : ℕ) → IsAt arities count level begin width place → begin + place < count
+at_index arities count level begin width place s = place_within (drop level arities) begin width place count s.within (omega (arith, s.counted))
+
+pub at_width : (arities : List ℕ) (count level begin width place : ℕ) → IsAt arities count level begin width place → begin + width ≤ count
+at_width arities count level begin width place s = omega (arith, s.counted, mul-le-mul_left width (some_nodes (drop level arities)))
+
+pub at_next : (arities : List ℕ) (count level begin width place : ℕ) → level < length arities → IsAt arities count level begin width place
+    → (begin + width) + (width * get_or arities level 0) * nodes (drop (level + 1) arities) ≡ count
+at_next arities count level begin width place l s =
+    sym (next_nodes (drop (level + 1) arities) (get_or arities level 0) begin width)
+    ∙ subst (λ (z : List ℕ). begin + width * nodes z ≡ count) (drop_more arities level 0 l) s.counted
+
+pub at_child_width : (arities : List ℕ) (count level begin width place : ℕ) → level < length arities → IsAt arities count level begin width place → begin + width + width * get_or arities level 0 ≤ count
+at_child_width arities count level begin width place l s =
+    omega (arith, at_next arities count level begin width place l s, mul-le-mul_left (width * get_or arities level 0) (some_nodes (drop (level + 1) arities)))
+
+pub at_child : (arities : List ℕ) (count level begin width place x b w p : ℕ) → level < length arities → x < get_or arities level 0 → IsAt arities count level begin width place
+    → b ≡ begin + width → w ≡ width * get_or arities level 0 → p ≡ place * get_or arities level 0 + x → IsAt arities count (level + 1) b w p
+at_child arities count level begin width place x b w p l m s eb ew ep = record {
+  within = omega (arith, ew, ep, child_place place (get_or arities level 0) x width s.within m);
+  counted =
+      subst (λ (z : ℕ). z + w * nodes (drop (level + 1) arities) ≡ count) (sym eb)
+      (subst (λ (z : ℕ). (begin + width) + z * nodes (drop (level + 1) arities) ≡ count) (sym ew) (at_next arities count level begin width place l s));
+}
+
+-- the place to which the walk has come, by what the code computed
+pub placed_as : (P : ℕ → ℕ → ℕ → Type 0) (b c w v p q : ℕ) → b ≡ c → w ≡ v → p ≡ q → P c v q → P b w p
+placed_as P b c w v p q e f g h = subst (λ (z : ℕ). P z w p) (sym e) (subst (λ (z : ℕ). P c z p) (sym f) (subst (λ (z : ℕ). P c v z) (sym g) h))
+
+-- ---- the address of a leaf, from a level on
+pub leaf_length : (arities digits : List ℕ) → IsLeafAddress arities digits → length digits ≡ length arities
+leaf_length [] [] l = refl
+leaf_length [] (x ∷ a) l = absurd l
+leaf_length (d ∷ arities) [] l = absurd l
+leaf_length (d ∷ arities) (x ∷ a) l = ap (λ (n : ℕ). suc n) (leaf_length arities a l.1)
+
+pub leaf_from : (level : ℕ) (arities digits : List ℕ) → IsLeafAddress arities digits → IsLeafAddress (drop level arities) (drop level digits)
+leaf_from zero arities digits l = l
+leaf_from (suc n) [] [] l = tt
+leaf_from (suc n) [] (x ∷ a) l = absurd l
+leaf_from (suc n) (d ∷ arities) [] l = absurd l
+leaf_from (suc n) (d ∷ arities) (x ∷ a) l = leaf_from n arities a l.1
+
+pub digit_below : (level : ℕ) (arities digits : List ℕ) → IsLeafAddress arities digits → level < length digits → get_or digits level 0 < get_or arities level 0
+digit_below level [] [] l m = absurd (omega arith)
+digit_below level [] (x ∷ a) l m = absurd l
+digit_below level (d ∷ arities) [] l m = absurd l
+digit_below zero (d ∷ arities) (x ∷ a) l m = l.0
+digit_below (suc n) (d ∷ arities) (x ∷ a) l m = digit_below n arities a l.1 (omega arith)

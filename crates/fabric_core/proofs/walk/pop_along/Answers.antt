@@ -1,0 +1,43 @@
+use Rattle.std.proofs.Common.{◌≡◌, ℕ, get_or, length, refl, ap, ◌∙◌, ◌+◌, ◌*◌, get_or-set_same, arith}
+use Rattle.fabric_core.proofs.Walks.{at_child_width}
+use Rattle.fabric_core.proofs.Contents.{pushes_stay}
+use Rattle.fabric_core.proofs.PopSteps.{popping_first, popping_next, popped_last, digit_taken}
+use Rattle.fabric_core.proofs.walk.pop_along.Goals as goal
+
+pub loop-level-init : goal.loop-level-init
+loop-level-init c = popping_first c.args.arities.now c.args.queues.now c.args.digits.now c.args.ranks.now _ _ _ c.requires.nodes c.requires.digits c.requires.ranks c.requires.flow c.requires.some c.root-spot.ensures.begin c.root-spot.ensures.width c.root-spot.ensures.place
+
+pub overflow_cast-digits : goal.overflow_cast-digits
+overflow_cast-digits c =
+    let l = c.loop-level in
+    omega (arith, c.type_inv.arities l.level, digit_taken c.args.arities.now c.args.queues.now l.queues l.digits l.ranks l.level l.spot.begin l.spot.width l.spot.place c.index.result (record { rank = c.pop_one-rank.result.0; value = c.pop_one-rank.result.1; rest = c.pop_one-rank.new.queue.entries }) c.index-queues-index.result c.loop-level-test.true l.invariant c.index.ensures c.pop_one-rank.ensures.taken)
+
+pub child-spot-requires-clause-few : goal.child-spot-requires-clause-few
+child-spot-requires-clause-few c =
+    let l = c.loop-level in
+    omega (arith, c.requires.small, l.invariant.count, at_child_width c.args.arities.now (length l.queues) l.level l.spot.begin l.spot.width l.spot.place c.loop-level-test.true l.invariant.here)
+
+pub child-spot-requires-clause-digit : goal.child-spot-requires-clause-digit
+child-spot-requires-clause-digit c =
+    let l = c.loop-level in
+    omega (arith, get_or-set_same l.digits l.level c.pop_one-rank.result.1 0 (omega (arith, c.loop-level-test.true, l.invariant.digits_long)), digit_taken c.args.arities.now c.args.queues.now l.queues l.digits l.ranks l.level l.spot.begin l.spot.width l.spot.place c.index.result (record { rank = c.pop_one-rank.result.0; value = c.pop_one-rank.result.1; rest = c.pop_one-rank.new.queue.entries }) c.index-queues-index.result c.loop-level-test.true l.invariant c.index.ensures c.pop_one-rank.ensures.taken)
+
+pub loop-level-preserved : goal.loop-level-preserved
+loop-level-preserved c =
+    let l = c.loop-level in
+    let place : c.child-spot.result.place ≡ l.spot.place * get_or c.args.arities.now l.level 0 + c.pop_one-rank.result.1
+    = c.child-spot.ensures.place ∙ ap (λ (z : ℕ). l.spot.place * get_or c.args.arities.now l.level 0 + z) (get_or-set_same l.digits l.level c.pop_one-rank.result.1 0 (omega (arith, c.loop-level-test.true, l.invariant.digits_long))) in
+    popping_next c.args.arities.now c.args.queues.now l.queues l.digits l.ranks l.level l.spot.begin l.spot.width l.spot.place c.index.result c.child-spot.result.begin c.child-spot.result.width c.child-spot.result.place (record { rank = c.pop_one-rank.result.0; value = c.pop_one-rank.result.1; rest = c.pop_one-rank.new.queue.entries }) c.pop_one-rank.new.queue c.index-queues-index.result
+    c.loop-level-test.true l.invariant c.index.ensures c.pop_one-rank.ensures.taken refl c.pop_one-rank.ensures.pushes c.child-spot.ensures.begin c.child-spot.ensures.width place
+
+pub returns-clause-popped : goal.returns-clause-popped
+returns-clause-popped c =
+    let l = c.loop-level in
+    let end : l.level ≡ length c.args.arities.now = omega (arith, c.loop-level-test.false, l.auto.level-end) in
+    popped_last c.args.arities.now c.args.queues.now l.queues l.digits l.ranks l.level l.spot.begin l.spot.width l.spot.place (length c.args.arities.now) c.index-2.result (record { rank = c.pop_one-rank-2.result.0; value = c.pop_one-rank-2.result.1; rest = c.pop_one-rank-2.new.queue.entries }) c.pop_one-rank-2.new.queue c.index-queues-index-2.result
+    end refl l.invariant c.index-2.ensures c.pop_one-rank-2.ensures.taken refl
+
+pub returns-clause-pushes : goal.returns-clause-pushes
+returns-clause-pushes c =
+    let l = c.loop-level in
+    pushes_stay c.args.queues.now l.queues c.index-2.result c.pop_one-rank-2.new.queue c.index-queues-index-2.result l.invariant.pushes c.pop_one-rank-2.ensures.pushes

@@ -1,0 +1,77 @@
+-- The queues of a complete tree in one array, level by level from the root. Child x of the node at a place of its level
+-- stands at that place times the level's arity, and x, of the level below.
+use Rattle.std.specs.Prelude.{◌≡◌, refl, ℕ, ◌+◌, ◌*◌, List, [], ◌∷◌, Option, option_map, map, nat_lt, slice_index, slice_index_or, slice_set, drop, if◌then◌else◌}
+use Rattle.queue_defs.specs.Queue.{Queue, Taking, put, take_least}
+use Rattle.tree_defs.specs.Tree.{Popping, option_bind}
+use Rattle.pifo_core.specs.Sorted.{Contents}
+use Rattle.fabric_defs.specs.Family.{Address, Family}
+
+-- the number of nodes of the complete tree of these arities
+abbrev pub nodes : List ℕ → ℕ
+nodes [] = 1
+nodes (d ∷ arities) = 1 + d * nodes arities
+
+-- what an array has for each address below a node: the node's level begins at an index, is so wide, and has the node at a place
+abbrev pub read : {A : Type 0} → List ℕ → List A → A → ℕ → ℕ → ℕ → Address → A
+read [] items none begin width place [] = slice_index_or items (begin + place) none
+read [] items none begin width place (x ∷ b) = none
+read (d ∷ arities) items none begin width place [] = slice_index_or items (begin + place) none
+read (d ∷ arities) items none begin width place (x ∷ b) = if nat_lt x d then read arities items none (begin + width) (width * d) (place * d + x) b else none
+
+abbrev pub queues_at : List ℕ → List Queue → ℕ → ℕ → ℕ → Family
+queues_at arities queues = read arities queues []
+
+abbrev pub room_at : List ℕ → List ℕ → ℕ → ℕ → ℕ → Address → ℕ
+room_at arities spare = read arities spare 0
+
+-- ---- the parts of an array of queues
+abbrev pub entries_of : List Contents → List Queue
+entries_of queues = map (λ q. q.entries) queues
+
+abbrev pub pushes_of : List Contents → List ℕ
+pushes_of queues = map (λ q. q.pushes) queues
+
+abbrev pub spare_of : List Contents → List ℕ
+spare_of queues = map (λ q. q.spare) queues
+
+-- ---- pushes
+abbrev pub put_at : List Queue → ℕ → ℕ → ℕ → List Queue
+put_at queues n rank value = slice_set queues n (put (slice_index_or queues n []) rank value)
+
+abbrev pub array_push : List ℕ → List Queue → ℕ → ℕ → ℕ → Address → List ℕ → ℕ → List Queue
+array_push [] queues begin width place a ranks item = put_at queues (begin + place) (slice_index ranks 0) item
+array_push (d ∷ arities) queues begin width place [] ranks item = queues
+array_push (d ∷ arities) queues begin width place (x ∷ a) ranks item =
+    array_push arities (put_at queues (begin + place) (slice_index ranks 0) x) (begin + width) (width * d) (place * d + x) a (drop 1 ranks) item
+
+-- ---- pops
+abbrev pub of_last : List Queue → ℕ → Taking → Popping (List Queue)
+of_last queues n e = record { value = e.value; digits = []; ranks = e.rank ∷ []; left = slice_set queues n e.rest }
+
+abbrev pub of_digit : Taking → Popping (List Queue) → Popping (List Queue)
+of_digit e p = record { value = p.value; digits = e.value ∷ p.digits; ranks = e.rank ∷ p.ranks; left = p.left }
+
+abbrev pub array_pop : List ℕ → List Queue → ℕ → ℕ → ℕ → Option (Popping (List Queue))
+array_pop [] queues begin width place = option_map (of_last queues (begin + place)) (take_least (slice_index_or queues (begin + place) []))
+array_pop (d ∷ arities) queues begin width place =
+    option_bind (take_least (slice_index_or queues (begin + place) []))
+    (λ e. option_map (of_digit e) (array_pop arities (slice_set queues (begin + place) e.rest) (begin + width) (width * d) (place * d + e.value)))
+
+-- ---- two children, and three below each
+pub nodes-two_by_three : nodes (2 ∷ 3 ∷ []) ≡ 9
+nodes-two_by_three = refl
+
+pub nodes-widest : nodes (64 ∷ 64 ∷ 16 ∷ []) ≡ 69697
+nodes-widest = refl
+
+abbrev pub numbered : List ℕ
+numbered = 0 ∷ 1 ∷ 2 ∷ 3 ∷ 4 ∷ 5 ∷ 6 ∷ 7 ∷ 8 ∷ []
+
+pub read-second_child : read (2 ∷ 3 ∷ []) numbered 99 0 1 0 (1 ∷ []) ≡ 2
+read-second_child = refl
+
+pub read-its_first_leaf : read (2 ∷ 3 ∷ []) numbered 99 0 1 0 (1 ∷ 0 ∷ []) ≡ 6
+read-its_first_leaf = refl
+
+pub read-no_such_leaf : read (2 ∷ 3 ∷ []) numbered 99 0 1 0 (0 ∷ 3 ∷ []) ≡ 99
+read-no_such_leaf = refl
