@@ -1,0 +1,62 @@
+-- The height that a topology needs.
+use Rattle.std.specs.Prelude.{◌≡◌, refl, ℕ, suc, ◌+◌, ◌≤◌, List, [], ◌∷◌, sum_by}
+use Rattle.tree_defs.specs.Tree.{Tree, leaf, inner, Trees, none, more, SameShape, root_of}
+use Rattle.tree_defs.specs.Topology.{Topology}
+use Rattle.target_defs.specs.Target.{leaves}
+use Rattle.target_defs.specs.Levels.{Arities, down_from}
+
+-- the number has the property, and no lower one has it
+pub record IsLeast (P : ℕ → Type 0) (n : ℕ) : Type 0 where
+  pub holds : P n
+  pub least : (m : ℕ) → P m → n ≤ m
+
+-- the leaves below a node of this height
+abbrev pub leaves_below : Arities → ℕ → ℕ
+leaves_below a h = leaves (down_from a h)
+
+abbrev pub AreLower : ℕ → List ℕ → Type 0
+AreLower h [] = Unit {0}
+AreLower h (n ∷ ns) = (n + 1 ≤ h) × AreLower h ns
+
+-- subtrees of heights ns fit side by side below a node of height h: each is lower, and there are leaves for all
+pub record FitsBelow (a : Arities) (ns : List ℕ) (h : ℕ) : Type 0 where
+  pub below : AreLower h ns
+  pub room : sum_by (leaves_below a) ns ≤ leaves_below a h
+
+-- a height below which subtrees of heights ns always fit: each takes one level more than its own
+abbrev pub enough : List ℕ → ℕ
+enough [] = 0
+enough (n ∷ ns) = suc (n + enough ns)
+
+abbrev pub needs_at : Trees ℕ → List ℕ
+needs_at none = []
+needs_at (more t ts) = root_of t ∷ needs_at ts
+
+-- the number at each node is its need: 0 at a leaf, and above children the least height below which they fit
+abbrev mutual
+  pub HoldsNeeds : Arities → Tree ℕ → Type 0
+  HoldsNeeds a (leaf n) = n ≡ 0
+  HoldsNeeds a (inner n ts) = IsLeast (FitsBelow a (needs_at ts)) n × HoldNeeds a ts
+
+  pub HoldNeeds : Arities → Trees ℕ → Type 0
+  HoldNeeds a none = Unit {0}
+  HoldNeeds a (more t ts) = HoldsNeeds a t × HoldNeeds a ts
+
+-- a tree of numbers holds the needs of the nodes of a topology
+pub record AreNeedsOf (a : Arities) (t : Topology) (m : Tree ℕ) : Type 0 where
+  pub shape : SameShape t m
+  pub needs : HoldsNeeds a m
+
+-- the need of a topology
+pub record IsNeed (a : Arities) (t : Topology) (n : ℕ) : Type 0 where
+  pub all : Tree ℕ
+  pub needs : AreNeedsOf a t all
+  pub root : root_of all ≡ n
+
+-- there is room in the complete tree of height h: for a single leaf where h is 0, else where h is at least the need
+abbrev pub HasHeight : ℕ → Tree ℕ → Type 0
+HasHeight h (leaf n) = h ≡ 0
+HasHeight h (inner n ts) = n ≤ h
+
+pub leaves_below-node_of_height_two : leaves_below (λ _. 3) 2 ≡ 9
+leaves_below-node_of_height_two = refl

@@ -1,0 +1,43 @@
+-- Placements: at each node the digits of its image behind its parent's.
+use Rattle.std.specs.Prelude.{◌≡◌, ◌≢◌, ℕ, zero, suc, None, [], ◌∷◌, ◌++◌}
+use Rattle.tree_defs.specs.Tree.{Tree, leaf, inner, Trees, none, more, Address, root_of}
+use Rattle.tree_defs.specs.Topology.{after}
+
+abbrev pub Placement : Type 0
+Placement = Tree Address
+
+abbrev pub Placements : Type 0
+Placements = Trees Address
+
+-- the digits of child i
+abbrev pub part : Placements → ℕ → Address
+part none i = []
+part (more p ps) zero = root_of p
+part (more p ps) (suc i) = part ps i
+
+-- the digits and those of each child are no prefixes of one another
+abbrev pub IsApartFrom : Address → Placements → Type 0
+IsApartFrom e none = Unit {0}
+IsApartFrom e (more p ps) = (after e (root_of p) ≡ None) × (after (root_of p) e ≡ None) × IsApartFrom e ps
+
+-- no child has its parent's image, and those of siblings are no prefixes of one another
+abbrev mutual
+  pub IsPlaced : Placement → Type 0
+  IsPlaced (leaf e) = Unit {0}
+  IsPlaced (inner e ps) = ArePlaced ps
+
+  pub ArePlaced : Placements → Type 0
+  ArePlaced none = Unit {0}
+  ArePlaced (more p ps) = (root_of p ≢ []) × IsApartFrom (root_of p) ps × IsPlaced p × ArePlaced ps
+
+-- the digits of an address's image behind the root's
+abbrev mutual
+  pub lift_digits : Placement → Address → Address
+  lift_digits (leaf e) digits = []
+  lift_digits (inner e ps) [] = []
+  lift_digits (inner e ps) (i ∷ digits) = part ps i ++ digits_below ps i digits
+
+  pub digits_below : Placements → ℕ → Address → Address
+  digits_below none i digits = []
+  digits_below (more p ps) zero digits = lift_digits p digits
+  digits_below (more p ps) (suc i) digits = digits_below ps i digits
