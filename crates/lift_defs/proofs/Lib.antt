@@ -1,0 +1,13 @@
+pub mod Addresses
+pub mod Passing
+pub mod Heights
+pub mod LiftPush
+pub mod LiftPop
+pub mod LiftLaw
+pub mod Parts
+pub mod Longest
+pub mod Agree
+pub mod CanonicalMaps
+pub mod Reading
+pub mod RanksInWords
+pub mod LawProofs

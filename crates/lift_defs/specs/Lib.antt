@@ -1,0 +1,4 @@
+pub mod Lift
+pub mod GoodMaps
+pub mod Lifting
+pub mod Laws
