@@ -1,0 +1,11 @@
+pub mod Range
+pub mod Climb
+pub mod Grown
+pub mod Children
+pub mod Skip
+pub mod Starts
+pub mod Placing
+pub mod Looking
+pub mod Lifting
+pub mod Picking
+pub mod Alike

@@ -1,0 +1,193 @@
+-- The child on whose side a leaf lies is found by its image.
+use Rattle.std.proofs.Common.{◌≡◌, ℕ, zero, suc, ◌+◌, ◌<◌, ◌≤◌, List, [], ◌∷◌, ◌++◌, length, get_or, drop, Option, None, refl, sym, ap, ◌∙◌, subst, arith, append_assoc, append-nil, length-append, inl, inr}
+use Rattle.std.proofs.lemmas.Bool.{cases_lt}
+use Rattle.std.specs.Prelude.{option_map, unwrap_or}
+use Rattle.tree_defs.specs.Tree.{Tree, leaf, inner, Trees, none, more, trees_of, root_of, Address, LeadsToLeaf, LeadsBelow, nodes, nodes_below, depth, depth_below, subtree_in}
+use Rattle.tree_defs.specs.Topology.{after, IsPrefixOf}
+use Rattle.tree_defs.proofs.TopologyLaws.{after-append, after-is}
+use Rattle.tree_core.specs.Paths.{Way}
+use Rattle.tree_core.specs.TreeContents.{branch}
+use Rattle.placement_defs.specs.Images.{image_map}
+use Rattle.placement_defs.specs.Placed.{IsApartFrom}
+use Rattle.placement_defs.proofs.Addresses.{one_prefix}
+use Rattle.lift_defs.specs.Lift.{picked_ranks, picked_ranks_below}
+use Rattle.lift_defs.specs.GoodMaps.{IsDeep, IsNested, AreNested}
+use Rattle.embed_core.specs.Picks.{LeadsToImage, IsLeafImage, PicksOnto}
+use Rattle.embed_core.proofs.Looking.{child-at}
+use Rattle.embed_core.proofs.Lifting.{IsDeeper, leads-index, leads-child, deep-child}
+
+prefix-append : (e c : Address) → IsPrefixOf e (e ++ c)
+prefix-append e c = (c, after-append e c)
+
+prefix-self : (e : Address) → IsPrefixOf e e
+prefix-self e = subst (IsPrefixOf e) (append-nil e) (prefix-append e [])
+
+prefix-trans : (e g f : Address) → IsPrefixOf e g → IsPrefixOf g f → IsPrefixOf e f
+prefix-trans e g f p q =
+    let a : g ≡ e ++ p.0 = after-is e g p.0 p.1 in
+    let b : f ≡ g ++ q.0 = after-is g f q.0 q.1 in
+    subst (IsPrefixOf e) (sym (b ∙ ap (λ (z : Address). z ++ q.0) a ∙ append_assoc e p.0 q.0)) (prefix-append e (p.0 ++ q.0))
+
+-- an image begins with those on the way to it
+mutual
+  image-begins : (m : Tree Address) (b : Address) → IsNested m → LeadsToLeaf m b → IsPrefixOf (root_of m) (image_map m b)
+  image-begins (leaf e) [] w l = prefix-self e
+  image-begins (leaf e) (i ∷ b) w l = absurd l
+  image-begins (inner e ts) [] w l = absurd l
+  image-begins (inner e ts) (i ∷ b) w l = image-begins_in e ts i b w l
+
+  image-begins_in : (e : Address) (ts : Trees Address) (i : ℕ) (b : Address) → AreNested e ts → LeadsBelow ts i b → IsPrefixOf e (unwrap_or (option_map root_of (subtree_in ts i b)) [])
+  image-begins_in e none i b w l = absurd l
+  image-begins_in e (more t ts) zero b w l = prefix-trans e (root_of t) (image_map t b) w.0 (image-begins t b w.2 l)
+  image-begins_in e (more t ts) (suc i) b w l = image-begins_in e ts i b w.3 l
+
+apart-at : (e : Address) (ks : List (Tree Address)) (i : ℕ) (k : Tree Address) → IsApartFrom e (trees_of ks) → i < length ks → k ≡ get_or ks i k → (after e (root_of k) ≡ None) × (after (root_of k) e ≡ None)
+apart-at e [] i k h l f = absurd (omega arith)
+apart-at e (j ∷ ks) zero k h l f = subst (λ (z : Tree Address). (after e (root_of z) ≡ None) × (after (root_of z) e ≡ None)) (sym f) (h.0, h.1)
+apart-at e (j ∷ ks) (suc i) k h l f = apart-at e ks i k h.2 (omega arith) f
+
+only-child : (e : Address) (ks : List (Tree Address)) (i j : ℕ) (k m : Tree Address) (f : Address) → AreNested e (trees_of ks) → i < length ks → j < length ks → k ≡ get_or ks i k → m ≡ get_or ks j m → IsPrefixOf (root_of k) f → IsPrefixOf (root_of m) f → i ≡ j
+only-child e [] i j k m f w l n p q x y = absurd (omega arith)
+only-child e (u ∷ ks) zero zero k m f w l n p q x y = refl
+only-child e (u ∷ ks) zero (suc j) k m f w l n p q x y =
+    let r : (after (root_of u) (root_of m) ≡ None) × (after (root_of m) (root_of u) ≡ None) = apart-at (root_of u) ks j m w.1 (omega arith) q in
+    let z : IsPrefixOf (root_of u) f = subst (λ (v : Tree Address). IsPrefixOf (root_of v) f) p x in
+    absurd (one_prefix (root_of u) (root_of m) f z.0 y.0 z.1 y.1 r.0 r.1)
+only-child e (u ∷ ks) (suc i) zero k m f w l n p q x y =
+    let r : (after (root_of u) (root_of k) ≡ None) × (after (root_of k) (root_of u) ≡ None) = apart-at (root_of u) ks i k w.1 (omega arith) p in
+    let z : IsPrefixOf (root_of u) f = subst (λ (v : Tree Address). IsPrefixOf (root_of v) f) q y in
+    absurd (one_prefix (root_of u) (root_of k) f z.0 x.0 z.1 x.1 r.0 r.1)
+only-child e (u ∷ ks) (suc i) (suc j) k m f w l n p q x y = ap suc (only-child e ks i j k m f w.3 (omega arith) (omega arith) p q x y)
+
+nested-child : (e : Address) (ks : List (Tree Address)) (i : ℕ) (k : Tree Address) → AreNested e (trees_of ks) → i < length ks → k ≡ get_or ks i k → IsNested k
+nested-child e [] i k w l f = absurd (omega arith)
+nested-child e (j ∷ ks) zero k w l f = subst IsNested (sym f) w.2
+nested-child e (j ∷ ks) (suc i) k w l f = nested-child e ks i k w.3 (omega arith) f
+
+sizes-child : (ks : List (Tree Address)) (i : ℕ) (k : Tree Address) → i < length ks → k ≡ get_or ks i k → (nodes k ≤ nodes_below (trees_of ks)) × (depth k + 1 ≤ depth_below (trees_of ks))
+sizes-child [] i k l f = absurd (omega arith)
+sizes-child (j ∷ ks) zero k l f = let a : nodes k ≡ nodes j = ap nodes f in let b : depth k ≡ depth j = ap depth f in (omega (arith, a), omega (arith, b))
+sizes-child (j ∷ ks) (suc i) k l f =
+    let r : (nodes k ≤ nodes_below (trees_of ks)) × (depth k + 1 ≤ depth_below (trees_of ks)) = sizes-child ks i k (omega arith) f in
+    (omega (arith, r.0), omega (arith, r.1))
+
+leads-below : (ks : List (Tree Address)) (i : ℕ) (k : Tree Address) (path : Address) → i < length ks → k ≡ get_or ks i k → LeadsToLeaf k path → LeadsBelow (trees_of ks) i path
+leads-below [] i k path l f g = absurd (omega arith)
+leads-below (j ∷ ks) zero k path l f g = subst (λ (z : Tree Address). LeadsToLeaf z path) f g
+leads-below (j ∷ ks) (suc i) k path l f g = leads-below ks i k path (omega arith) f g
+
+picked-child : (ks : List (Tree Address)) (i : ℕ) (k : Tree Address) (path ranks : List ℕ) → i < length ks → k ≡ get_or ks i k → picked_ranks_below (trees_of ks) i path ranks ≡ picked_ranks k path ranks
+picked-child [] i k path ranks l f = absurd (omega arith)
+picked-child (j ∷ ks) zero k path ranks l f = ap (λ (z : Tree Address). picked_ranks z path ranks) (sym f)
+picked-child (j ∷ ks) (suc i) k path ranks l f = picked-child ks i k path ranks (omega arith) f
+
+image-child : (ks : List (Tree Address)) (i : ℕ) (k : Tree Address) (path : Address) → i < length ks → k ≡ get_or ks i k → unwrap_or (option_map root_of (subtree_in (trees_of ks) i path)) [] ≡ image_map k path
+image-child ks i k path l f = ap (λ (o : Option (Tree Address)). unwrap_or (option_map root_of o) []) (child-at ks i k path l f)
+
+same_get : (xs : List (Tree Address)) (j : ℕ) (k : Tree Address) → j < length xs → get_or xs j k ≡ get_or xs j (get_or xs j k)
+same_get [] j k l = absurd (omega arith)
+same_get (x ∷ xs) zero k l = refl
+same_get (x ∷ xs) (suc j) k l = same_get xs j k (omega arith)
+
+-- what is known of the child whose image begins a leaf's
+pub record IsFound (m : Tree Address) (image : Address) (ranks : List ℕ) (i : ℕ) (k : Tree Address) : Type 0 where
+  pub nested : IsNested k
+  pub deep : IsDeep (length image) k
+  pub leaf_below : IsLeafImage k image
+  pub fewer : nodes k < nodes m
+  pub lower : depth k + 1 ≤ depth m
+  pub picks : (before here later : Way) → here.digits ≡ before.digits ++ i ∷ [] → here.ranks ≡ before.ranks ++ get_or ranks (length (root_of m)) 0 ∷ [] → here.room ≡ before.room → PicksOnto k image ranks here later → PicksOnto m image ranks before later
+
+found-at : (e : Address) (ks : List (Tree Address)) (image : Address) (ranks : List ℕ) (i : ℕ) (k : Tree Address) → i < length ks → k ≡ get_or ks i k → IsNested (branch e (trees_of ks)) → IsDeep (length image) (branch e (trees_of ks))
+    → IsLeafImage (branch e (trees_of ks)) image → IsPrefixOf (root_of k) image → IsFound (branch e (trees_of ks)) image ranks i k
+found-at e [] image ranks i k l f w m h x = absurd (omega arith)
+found-at e (u ∷ ks) image ranks i k l f w m h x =
+    let s : (nodes k ≤ nodes_below (trees_of (u ∷ ks))) × (depth k + 1 ≤ depth_below (trees_of (u ∷ ks))) = sizes-child (u ∷ ks) i k l f in
+    let c : IsDeeper (length image) e k = deep-child (length image) e (u ∷ ks) i k m l f in
+    record {
+      nested = nested-child e (u ∷ ks) i k w l f;
+      deep = c.deep;
+      leaf_below = under h.0 h.1;
+      fewer = omega (arith, s.0);
+      lower = omega (arith, s.1);
+      picks = λ before here later p q r t. record {
+        path = i ∷ t.path;
+        leads = record { leaf = leads-below (u ∷ ks) i k t.path l f t.leads.leaf; image_is = image-child (u ∷ ks) i k t.path l f ∙ t.leads.image_is };
+        digits = t.digits ∙ ap (λ (z : List ℕ). z ++ t.path) p ∙ append_assoc before.digits (i ∷ []) t.path;
+        ranks_are = t.ranks_are ∙ ap (λ (z : List ℕ). z ++ picked_ranks k t.path ranks) q ∙ append_assoc before.ranks (get_or ranks (length e) 0 ∷ []) (picked_ranks k t.path ranks)
+            ∙ ap (λ (z : List ℕ). before.ranks ++ get_or ranks (length e) 0 ∷ z) (sym (picked-child (u ∷ ks) i k t.path ranks l f));
+        room = t.room ∙ r;
+      };
+    }
+  where
+    under : (path : Address) → LeadsToImage (inner e (trees_of (u ∷ ks))) image path → IsLeafImage k image
+    under [] h = absurd h.leaf
+    under (j ∷ path) h =
+        let n : j < length (u ∷ ks) = leads-index (u ∷ ks) j path h.leaf in
+        let v : Tree Address = get_or (u ∷ ks) j k in
+        let g : v ≡ get_or (u ∷ ks) j v = same_get (u ∷ ks) j k n in
+        let a : LeadsToLeaf v path = leads-child (u ∷ ks) j v path h.leaf g in
+        let y : image_map v path ≡ image = sym (image-child (u ∷ ks) j v path n g) ∙ h.image_is in
+        let b : IsPrefixOf (root_of v) image = subst (IsPrefixOf (root_of v)) y (image-begins v path (nested-child e (u ∷ ks) j v w n g) a) in
+        let z : i ≡ j = only-child e (u ∷ ks) i j k v image w l n f g x b in
+        let q : k ≡ v = f ∙ ap (λ (t : ℕ). get_or (u ∷ ks) t k) z in
+        (path, record { leaf = subst (λ (t : Tree Address). LeadsToLeaf t path) (sym q) a; image_is = ap (λ (t : Tree Address). image_map t path) q ∙ y })
+
+pub found : (e : Address) (ks : List (Tree Address)) (m : Tree Address) (image : Address) (ranks : List ℕ) (i : ℕ) (k : Tree Address) → branch e (trees_of ks) ≡ m → i < length ks → k ≡ get_or ks i k → IsNested m → IsDeep (length image) m
+    → IsLeafImage m image → IsPrefixOf (root_of k) image → IsFound m image ranks i k
+found e ks m image ranks i k p l f w q h x =
+    subst (λ (z : Tree Address). IsFound z image ranks i k) p (found-at e ks image ranks i k l f (subst IsNested (sym p) w) (subst (IsDeep (length image)) (sym p) q) (subst (λ (z : Tree Address). IsLeafImage z image) (sym p) h) x)
+
+-- the images of the first children do not begin it
+abbrev pub NoneBegins : List (Tree Address) → ℕ → Address → Type 0
+NoneBegins ks n image = (j : ℕ) (k : Tree Address) → j < n → k ≡ get_or ks j k → IsPrefixOf (root_of k) image → ⊥
+
+-- where no child's image begins it, the root is the leaf
+pub at_leaf : (e : Address) (ks : List (Tree Address)) (m : Tree Address) (image : Address) (ranks : List ℕ) (before later : Way) → branch e (trees_of ks) ≡ m → IsNested m → NoneBegins ks (length ks) image
+    → IsLeafImage m image → later.digits ≡ before.digits → later.ranks ≡ before.ranks ++ get_or ranks (length (root_of m)) 0 ∷ [] → later.room ≡ before.room → PicksOnto m image ranks before later
+at_leaf e ks m image ranks before later p w bar h q r t =
+    subst (λ (z : Tree Address). PicksOnto z image ranks before later) p (here ks bar (subst IsNested (sym p) w) (subst (λ (z : Tree Address). IsLeafImage z image) (sym p) h)
+    (subst (λ (z : Tree Address). later.ranks ≡ before.ranks ++ get_or ranks (length (root_of z)) 0 ∷ []) (sym p) r))
+  where
+    here : (ks : List (Tree Address)) → NoneBegins ks (length ks) image → IsNested (branch e (trees_of ks)) → IsLeafImage (branch e (trees_of ks)) image
+        → later.ranks ≡ before.ranks ++ get_or ranks (length (root_of (branch e (trees_of ks)))) 0 ∷ [] → PicksOnto (branch e (trees_of ks)) image ranks before later
+    here [] bar w h r = bare h.0 h.1
+      where
+        bare : (path : Address) → LeadsToImage (leaf e) image path → PicksOnto (leaf e) image ranks before later
+        bare [] x = record { path = []; leads = x; digits = q ∙ sym (append-nil before.digits); ranks_are = r; room = t }
+        bare (i ∷ path) x = absurd x.leaf
+    here (u ∷ ks) bar w h r = absurd (below h.0 h.1)
+      where
+        below : (path : Address) → LeadsToImage (inner e (trees_of (u ∷ ks))) image path → ⊥
+        below [] x = absurd x.leaf
+        below (j ∷ path) x =
+            let n : j < length (u ∷ ks) = leads-index (u ∷ ks) j path x.leaf in
+            let v : Tree Address = get_or (u ∷ ks) j u in
+            let g : v ≡ get_or (u ∷ ks) j v = same_get (u ∷ ks) j u n in
+            let a : LeadsToLeaf v path = leads-child (u ∷ ks) j v path x.leaf g in
+            let y : image_map v path ≡ image = sym (image-child (u ∷ ks) j v path n g) ∙ x.image_is in
+            bar j v n g (subst (IsPrefixOf (root_of v)) y (image-begins v path (nested-child e (u ∷ ks) j v w n g) a))
+
+-- the root's image is no longer than a leaf's
+pub root-short : (m : Tree Address) (image : Address) → IsNested m → IsLeafImage m image → length (root_of m) ≤ length image
+root-short m image w h =
+    let p : IsPrefixOf (root_of m) image = subst (IsPrefixOf (root_of m)) h.1.image_is (image-begins m h.0 w h.1.leaf) in
+    let q : length image ≡ length (root_of m ++ p.0) = ap length (after-is (root_of m) image p.0 p.1) in
+    omega (arith, q, length-append (root_of m) p.0)
+
+pub begins-where : (e f : Address) → f ≡ e ++ drop (length e) f → IsPrefixOf e f
+begins-where e f p = subst (IsPrefixOf e) (sym p) (prefix-append e (drop (length e) f))
+
+pub begins-how : (e f : Address) → (c : IsPrefixOf e f) → f ≡ e ++ c.0
+begins-how e f c = after-is e f c.0 c.1
+
+same-place : (ks : List (Tree Address)) (i : ℕ) (m k : Tree Address) → i < length ks → m ≡ get_or ks i m → k ≡ get_or ks i k → m ≡ k
+same-place [] i m k w p e = absurd (omega arith)
+same-place (u ∷ ks) zero m k w p e = p ∙ sym e
+same-place (u ∷ ks) (suc i) m k w p e = same-place ks i m k (omega arith) p e
+
+pub passed-more : (ks : List (Tree Address)) (i : ℕ) (k : Tree Address) (image : Address) → i < length ks → k ≡ get_or ks i k → NoneBegins ks i image → (IsPrefixOf (root_of k) image → ⊥) → NoneBegins ks (i + 1) image
+passed-more ks i k image w e f g j m l p x = elim (cases_lt j i) [
+  | inl n ↦ f j m n p x
+  | inr n ↦ let q : j ≡ i = omega arith in g (subst (λ (z : Tree Address). IsPrefixOf (root_of z) image) (same-place ks i m k w (subst (λ (z : ℕ). m ≡ get_or ks z m) q p) e) x)
+]

@@ -1,0 +1,14 @@
+use Rattle.std.proofs.Common.{ℕ, ◌-◌, ◌≤◌, ◌≡◌}
+use Rattle.placement_defs.specs.Need.{FitsBelow, enough}
+use Rattle.embed_core.specs.Range.{levels_of}
+use Rattle.placement_defs.proofs.Carry.{carried}
+use Rattle.embed_core.proofs.needs.least_above.Given as goal
+
+abbrev pub invariant-loop-carried : goal.invariant-loop-carried
+invariant-loop-carried l = record {
+  counted : l.carried ≡ carried (levels_of l.target) l.needs l.height;
+  least : (m : ℕ) → FitsBelow (levels_of l.target) l.needs m → l.height ≤ m;
+}
+
+abbrev pub decreases-loop-carried : goal.decreases-loop-carried
+decreases-loop-carried l = enough l.needs - l.height

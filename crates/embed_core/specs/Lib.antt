@@ -1,0 +1,3 @@
+pub mod Range
+pub mod Shrinking
+pub mod Picks

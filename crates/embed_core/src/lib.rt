@@ -1,0 +1,12 @@
+//! Source trees laid into complete trees of queues.
+#![tactic(auto)]
+
+mod block;
+mod map;
+mod needs;
+
+pub use map::{EmbedFault, Map, embed, least_height, lift, pick};
+pub use target_core::{Target, TargetFault, read_target};
+
+#[cfg(test)]
+mod tests;

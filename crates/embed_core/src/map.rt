@@ -1,0 +1,273 @@
+//! The canonical map of a topology into a complete tree.
+ghost use Rattle.std.specs.Prelude.{◌≡◌, ◌+◌, ◌≤◌, ◌++◌, ◌↔◌, length, replicate, drop, IfOk, IsTrue, MatchOption, Some, None, Err};
+ghost use Rattle.tree_defs.specs.Tree.{nodes, depth as levels, root_of, LeadsToLeaf, SameShape};
+ghost use Rattle.tree_defs.specs.Topology.{IsBranched, IsPrefixOf, complete};
+ghost use Rattle.tree_core.specs.Paths.{digits as digits_on, ranks as ranks_on, digits_of, ranks_of};
+ghost use Rattle.tree_core.specs.Shape.{topology};
+ghost use Rattle.target_defs.specs.Target.{IsInRange, lowest};
+ghost use Rattle.placement_defs.specs.Embedding.{IsEmbedding, HasEmbedding};
+ghost use Rattle.placement_defs.specs.Need.{IsLeast, IsNeed, HoldsNeeds, HasHeight};
+ghost use Rattle.placement_defs.specs.Canonical.{canonical, IsCanonical};
+ghost use Rattle.placement_defs.specs.Images.{image_at, image_map};
+ghost use Rattle.lift_defs.specs.Lift.{lift_ranks, picked_ranks};
+ghost use Rattle.lift_defs.specs.GoodMaps.{IsGoodMap, IsDeep, IsNested};
+ghost use Rattle.embed_core.specs.Range.{levels_of};
+ghost use Rattle.embed_core.specs.Picks.{IsLeafImage, PicksOnto};
+
+use crate::block::block_start;
+use crate::needs::Needs;
+use std::alloc::{AllocError, Global};
+use std::marker::Model;
+use target_core::Target;
+use tree_core::{Path, Taken, Topo};
+
+/// The image of each node of a topology.
+#[derive(Drop)]
+pub struct Map {
+    image: Vec<u32>,
+    children: Vec<Map>,
+}
+
+impl Model for Map {
+    ghost use Rattle.std.specs.Coded.{coded_ℕ, coded_list};
+    ghost use Rattle.std.specs.Prelude.{◌≤◌, length};
+    ghost use Rattle.std.proofs.Common.{arith};
+    ghost use Rattle.tree_defs.specs.Tree.{Tree, Address, trees_of, nodes};
+    ghost use Rattle.tree_defs.specs.Codes.{tree_code};
+    ghost use Rattle.tree_core.specs.TreeContents.{branch};
+    ghost use Rattle.embed_core.specs.Shrinking.{most_le-nodes};
+
+    ghost Value = { Tree Address };
+
+    ghost coded = { tree_code (coded_list coded_ℕ) };
+
+    ghost view = { λ a. branch a.image.items (trees_of a.children.items) };
+
+    ghost invariant = { λ a. length a.children.items ≤ 1024 };
+
+    ghost size = { nodes };
+
+    ghost size_decreases = { λ a h. omega (arith, most_le-nodes a.image.items a.children.items) };
+}
+
+/// Why a topology has no map into a target.
+#[derive(Debug, Drop)]
+pub enum EmbedFault {
+    /// The target has no room for the topology, or the topology is a single leaf and the target isn't.
+    NoEmbedding,
+    NoMemory,
+}
+
+impl From<AllocError> for EmbedFault {
+    ghost use Rattle.std.specs.Prelude.{◌≡◌};
+    ghost use Rattle.embed_core.specs.declared.map.EmbedFault.{EmbedFault};
+
+    ghost from_gives = { λ _ e. e ≡ EmbedFault.NoMemory };
+
+    fn from(_error: AllocError) -> EmbedFault {
+        EmbedFault::NoMemory
+    }
+}
+
+impl Map {
+    /// The image of the node at an address.
+    pub fn image(&self, address: &[u32]) -> Option<&[u32]>
+        ensures image { MatchOption result (image_at self.now address.now ≡ None) (λ image. image_at self.now address.now ≡ Some image.now) }
+    {
+        match address {
+            [] => Some(&self.image),
+            [child, deeper @ ..] => match self.children.get(*child as usize) {
+                Some(below) => below.image(deeper),
+                None => None,
+            },
+        }
+    }
+
+    /// How many digits the root's image has.
+    fn depth(&self) -> usize
+        ensures depth { result ≡ length (root_of self.now) }
+    {
+        self.image.len()
+    }
+
+    /// Whether an address begins with the root's image.
+    fn begins(&self, digits: &[u32]) -> bool
+        ensures begins { IsTrue result ↔ IsPrefixOf (root_of self.now) digits.now }
+    {
+        digits.starts_with(&self.image)
+    }
+
+    /// Sets `digits` to the image of a leaf, and `ranks` to the lifted ranks from the root's image on.
+    fn lift_along(&self, steps: &[(u32, u64)], last: u64, digits: &mut [u32], ranks: &mut [u64])
+        requires leaf { LeadsToLeaf self.now (digits_of steps.now) }
+        requires deep { IsDeep (length digits.old) self.now }
+        requires ranks { length ranks.old + length (root_of self.now) ≡ length digits.old + 1 }
+        ensures digits { digits.new ≡ image_map self.now (digits_of steps.now) }
+        ensures ranks { ranks.new ≡ lift_ranks self.now (digits_of steps.now) (ranks_of steps.now last) }
+    {
+        match steps {
+            [] => {
+                digits.copy_from_slice(&self.image);
+                ranks[0] = last;
+            }
+            [(index, rank), deeper @ ..] => {
+                let child = &self.children[*index as usize];
+                let part = child.depth() - self.depth();
+                fill_front(ranks, part, *rank);
+                child.lift_along(deeper, last, digits, &mut ranks[part..]);
+            }
+        }
+    }
+
+    /// Sets `digits` to the image of the leaf at an address, and `lifted` to the rank at each depth, where there is one in
+    /// `ranks` for each node on the way to the leaf: that of the deepest one whose image is no deeper.
+    pub fn lift_to(&self, way: &[u32], ranks: &[u64], digits: &mut [u32], lifted: &mut [u64])
+        requires leaf { LeadsToLeaf self.now way.now }
+        requires good { IsGoodMap (length digits.old) self.now }
+        requires ranks { length ranks.now ≡ length way.now + 1 }
+        requires lifted { length lifted.old ≡ length digits.old + 1 }
+        ensures digits { digits.new ≡ image_map self.now way.now }
+        ensures lifted { lifted.new ≡ lift_ranks self.now way.now ranks.now }
+    {
+        self.lift_down(way, ranks, digits, lifted);
+    }
+
+    /// Sets `image` to that of a leaf, and `lifted` to the lifted ranks from the root's image on.
+    fn lift_down(&self, way: &[u32], ranks: &[u64], image: &mut [u32], lifted: &mut [u64])
+        requires leaf { LeadsToLeaf self.now way.now }
+        requires deep { IsDeep (length image.old) self.now }
+        requires ranks { length ranks.now ≡ length way.now + 1 }
+        requires lifted { length lifted.old + length (root_of self.now) ≡ length image.old + 1 }
+        ensures image { image.new ≡ image_map self.now way.now }
+        ensures lifted { lifted.new ≡ lift_ranks self.now way.now ranks.now }
+    {
+        let [rank, lower @ ..] = ranks else {
+            unreachable!()
+        };
+        match way {
+            [] => {
+                image.copy_from_slice(&self.image);
+                lifted[0] = *rank;
+            }
+            [index, deeper @ ..] => {
+                let child = &self.children[*index as usize];
+                let part = child.depth() - self.depth();
+                fill_front(lifted, part, *rank);
+                child.lift_down(deeper, lower, image, &mut lifted[part..]);
+            }
+        }
+    }
+
+    /// Appends the path to the leaf with an image, and for each node on it the rank at its image's depth.
+    fn pick_onto(&self, digits: &[u32], ranks: &[u64], taken: &mut Taken)
+        requires deep { IsDeep (length digits.now) self.now }
+        requires nested { IsNested self.now }
+        requires leaf { IsLeafImage self.now digits.now }
+        requires ranks { length ranks.now ≡ length digits.now + 1 }
+        requires room { length taken.old.digits + levels self.now ≤ taken.old.room }
+        requires even { length taken.old.ranks ≡ length taken.old.digits }
+        ensures picks { PicksOnto self.now digits.now ranks.now taken.old taken.new }
+    {
+        let rank = ranks[self.depth()];
+        for (index, child) in self.children.iter().enumerate() {
+            if child.begins(digits) {
+                taken.step(index as u32, rank);
+                child.pick_onto(digits, ranks, taken);
+                return;
+            }
+        }
+        taken.last(rank);
+    }
+
+    /// The map of what lies below a node that has this height and this image.
+    fn place(
+        alloc: Global,
+        needs: &Needs,
+        target: &Target,
+        height: usize,
+        image: Vec<u32>,
+    ) -> Result<Map, AllocError>
+        requires needs { HoldsNeeds (levels_of target.now) needs.now }
+        requires room { HasHeight height needs.now }
+        requires range { IsInRange target.now.arities target.now.above }
+        requires few { nodes needs.now ≤ 1024 }
+        ensures canonical { IfOk result (λ map. map ≡ canonical (levels_of target.now) height image.items needs.now) }
+    {
+        let siblings = needs.children();
+        let mut children = Vec::new(alloc);
+        for (index, child) in siblings.iter().enumerate() {
+            let need = child.need();
+            let start = block_start(alloc, siblings, (index, need), height, target)?;
+            let mut below = image.to_vec(alloc)?;
+            below.extend_from_slice(&start[..height - need as usize])?;
+            children.push(Map::place(alloc, child, target, need as usize, below)?)?;
+        }
+        Ok(Map { image, children })
+    }
+}
+
+fn fill_front(ranks: &mut [u64], count: usize, rank: u64)
+    requires count { count ≤ length ranks.old }
+    ensures filled { ranks.new ≡ replicate count rank ++ drop count ranks.old }
+{
+    ranks[..count].fill(rank);
+}
+
+/// Sets `digits` to the image of the leaf that a path leads to, and `ranks` to the rank at each depth: that of the deepest
+/// node on the path whose image is no deeper.
+pub fn lift(map: &Map, path: &Path, digits: &mut [u32], ranks: &mut [u64])
+    requires leaf { LeadsToLeaf map.now (digits_on path.now) }
+    requires good { IsGoodMap (length digits.old) map.now }
+    requires ranks { length ranks.old ≡ length digits.old + 1 }
+    ensures digits { digits.new ≡ image_map map.now (digits_on path.now) }
+    ensures ranks { ranks.new ≡ lift_ranks map.now (digits_on path.now) (ranks_on path.now) }
+{
+    map.lift_along(path.steps.as_slice(), path.last, digits, ranks);
+}
+
+/// Sets `taken` to the address of the leaf with an image, and for each node on the way to it the rank at its image's depth.
+pub fn pick(map: &Map, digits: &[u32], ranks: &[u64], taken: &mut Taken)
+    requires good { IsGoodMap (length digits.now) map.now }
+    requires leaf { IsLeafImage map.now digits.now }
+    requires ranks { length ranks.now ≡ length digits.now + 1 }
+    requires room { levels map.now ≤ taken.old.room }
+    ensures leaf { LeadsToLeaf map.now taken.new.digits }
+    ensures image { image_map map.now taken.new.digits ≡ digits.now }
+    ensures ranks { taken.new.ranks ≡ picked_ranks map.now taken.new.digits ranks.now }
+    ensures room { taken.new.room ≡ taken.old.room }
+{
+    taken.clear();
+    map.pick_onto(digits, ranks, taken);
+}
+
+/// The canonical map of a topology into a target's complete tree.
+pub fn embed(alloc: Global, topo: &Topo, target: &Target) -> Result<Map, EmbedFault>
+    requires branched { IsBranched (topology topo.now) }
+    requires few { nodes (topology topo.now) ≤ 1024 }
+    requires range { IsInRange target.now.arities target.now.above }
+    ensures canonical { IfOk result (λ map. IsCanonical (levels_of target.now) (length target.now.arities) (topology topo.now) map) }
+    ensures shape { IfOk result (λ map. SameShape (topology topo.now) map) }
+    ensures good { IfOk result (λ map. IsGoodMap (length target.now.arities) map) }
+    ensures embedding { IfOk result (λ map. IsEmbedding (topology topo.now) (complete target.now.arities) (image_map map)) }
+    ensures none { result ≡ Err EmbedFault.NoEmbedding → HasEmbedding (topology topo.now) (complete target.now.arities) → ⊥ }
+{
+    let needs = Needs::of(alloc, topo, target)?;
+    let height = target.height();
+    if !needs.fit(height) {
+        return Err(EmbedFault::NoEmbedding);
+    }
+    Ok(Map::place(alloc, &needs, target, height, Vec::new(alloc))?)
+}
+
+/// The least height of a complete tree into which the topology can be laid: of the target's lowest levels, and above them
+/// of further ones.
+pub fn least_height(alloc: Global, topo: &Topo, target: &Target) -> Result<u32, AllocError>
+    requires branched { IsBranched (topology topo.now) }
+    requires few { nodes (topology topo.now) ≤ 1024 }
+    requires range { IsInRange target.now.arities target.now.above }
+    ensures need { IfOk result (λ height. IsNeed (levels_of target.now) (topology topo.now) height) }
+    ensures least { IfOk result (λ height. IsLeast (λ h. HasEmbedding (topology topo.now) (complete (lowest target.now.arities target.now.above h))) height) }
+{
+    let needs = Needs::of(alloc, topo, target)?;
+    Ok(needs.need())
+}
