@@ -6,20 +6,19 @@ use Rattle.outside_core.specs.Written.{Appended, AppendedPrefix}
 use Rattle.fabric_defs.specs.Family.{Family}
 use Rattle.schedule_defs.specs.Script.{Course}
 use Rattle.replay_app.specs.declared.ending.Ending.{Ending}
-use Rattle.replay_app.specs.declared.ending.Ending.TheVariants.{Replayed, Checked, Run, NoForm, BadPolicy, BadScript, Early}
+use Rattle.replay_app.specs.declared.ending.Ending.TheVariants.{Replayed, Checked, Planned, Run, NoForm, BadPolicy, BadTarget, NoRoom, BadScript, Early}
 use Rattle.course_core.specs.declared.ending.Ending.TheVariants as run
 use Rattle.replay_app.specs.Endings.{ending_status, HoldsAfter, Leaves, LeavesCourse, UsesNoFabric, IsLeftBehind}
 use Rattle.replay_app.specs.FirstPath.{Inputs, plain_course, plain_policy}
 use Rattle.replay_app.specs.Fabrics.{HoldsLeaf, HoldsLeafOf, IsAsItWas}
 use Rattle.replay_app.specs.OneLeaf.{no_totals, turned_all}
 use Rattle.replay_app.specs.Answer.{Answer, IsWritten, IsPartWritten}
-use Rattle.replay_app.specs.Directed.{script_refusal}
 use Rattle.replay_app.specs.Inputs.{AreInputs}
 use Rattle.replay_app.specs.Named.{form_in}
 use Rattle.replay_app.specs.Others.{AreOthers}
 use Rattle.replay_app.specs.Output.{course_answer, inputs_of}
-use Rattle.replay_app.specs.Policies.{check_answer, entries_in, senses_of, policy_refusal, IsAcceptedAs}
-use Rattle.replay_app.specs.Words.{Form, replay, check, direct, no_form, AreTold}
+use Rattle.replay_app.specs.Policies.{check_answer, entries_in, senses_of, IsAcceptedAs}
+use Rattle.replay_app.specs.Words.{Form, replay, check, plan, direct, no_form, AreTold}
 use Rattle.replay_app.specs.declared.files.Files.{Files}
 use Rattle.replay_app.specs.declared.files.Others.{Others}
 use Rattle.replay_app.specs.declared.stop.Stop.{Stop}
@@ -104,13 +103,10 @@ pub given-for : (r : Result Ending Stop) (some others : Answer → Type 0) (old 
 given-for (Ok e) some others old new into given = record { answer = given.answer; is = into given.answer given.is; status_is = given.status_is; text = given.text }
 given-for (Err e) some others old new into given = tt
 
-pub ends-badly : (r : Result Ending Stop) (code line : ℕ) → IfOk r (λ e. e ≡ BadPolicy) → IfOk r (λ e. ending_status e ≡ (policy_refusal code line).status)
-ends-badly (Ok e) code line same = ap ending_status same
-ends-badly (Err e) code line same = tt
-
-pub script-ends-badly : (r : Result Ending Stop) (code line : ℕ) → IfOk r (λ e. e ≡ BadScript) → IfOk r (λ e. ending_status e ≡ (script_refusal code line).status)
-script-ends-badly (Ok e) code line same = ap ending_status same
-script-ends-badly (Err e) code line same = tt
+-- the status of an ending that is told
+pub ends-as : (r : Result Ending Stop) (ending : Ending) → IfOk r (λ e. e ≡ ending) → IfOk r (λ e. ending_status e ≡ ending_status ending)
+ends-as (Ok e) ending same = ap ending_status same
+ends-as (Err e) ending same = tt
 
 -- what the replay of accepted statements leaves, the words' form leaves
 pub leaves-of : {F : Type 0} (queues : F → Family) (pushed popped : F → ℕ) (f : Files) (contents : List ℕ → List ℕ) (es : List Entry) (old new : F) (r : Result Ending Stop)
@@ -120,9 +116,12 @@ leaves-of queues pushed popped f contents es old new (Err e) is h = tt
 leaves-of queues pushed popped f contents es old new (Ok Replayed) is h =
     λ others has. subst (λ (xs : List Entry). HoldsLeafOf queues pushed popped (plain_course (inputs_with f contents xs)) old new) (is.only others has) h
 leaves-of queues pushed popped f contents es old new (Ok Checked) is h = absurd h
+leaves-of queues pushed popped f contents es old new (Ok Planned) is h = absurd h
 leaves-of queues pushed popped f contents es old new (Ok (Run e)) is h = absurd h
 leaves-of queues pushed popped f contents es old new (Ok NoForm) is h = h
 leaves-of queues pushed popped f contents es old new (Ok BadPolicy) is h = h
+leaves-of queues pushed popped f contents es old new (Ok BadTarget) is h = h
+leaves-of queues pushed popped f contents es old new (Ok NoRoom) is h = h
 leaves-of queues pushed popped f contents es old new (Ok BadScript) is h = h
 leaves-of queues pushed popped f contents es old new (Ok Early) is h = h
 
@@ -133,15 +132,19 @@ as-it-was queues pushed popped fabric = record { queues_stay = λ a. refl; pushe
 holds-unused : {F : Type 0} (queues : F → Family) (pushed popped : F → ℕ) (form : Form) (contents : List ℕ → List ℕ) (fabric : F) → UsesNoFabric form → HoldsAfter queues pushed popped form contents fabric fabric
 holds-unused queues pushed popped (replay p t c e) contents fabric none = absurd none
 holds-unused queues pushed popped (check p) contents fabric none = as-it-was queues pushed popped fabric
+holds-unused queues pushed popped (plan p t) contents fabric none = as-it-was queues pushed popped fabric
 holds-unused queues pushed popped (direct p c e) contents fabric none = as-it-was queues pushed popped fabric
 holds-unused queues pushed popped no_form contents fabric none = as-it-was queues pushed popped fabric
 
 leaves-unused : {F : Type 0} (queues : F → Family) (pushed popped : F → ℕ) (form : Form) (contents : List ℕ → List ℕ) (fabric : F) (ending : Ending) → UsesNoFabric form → Leaves queues pushed popped form contents fabric fabric ending
 leaves-unused queues pushed popped form contents fabric Replayed none = holds-unused queues pushed popped form contents fabric none
 leaves-unused queues pushed popped form contents fabric Checked none = holds-unused queues pushed popped form contents fabric none
+leaves-unused queues pushed popped form contents fabric Planned none = holds-unused queues pushed popped form contents fabric none
 leaves-unused queues pushed popped form contents fabric (Run e) none = holds-unused queues pushed popped form contents fabric none
 leaves-unused queues pushed popped form contents fabric NoForm none = as-it-was queues pushed popped fabric
 leaves-unused queues pushed popped form contents fabric BadPolicy none = as-it-was queues pushed popped fabric
+leaves-unused queues pushed popped form contents fabric BadTarget none = as-it-was queues pushed popped fabric
+leaves-unused queues pushed popped form contents fabric NoRoom none = as-it-was queues pushed popped fabric
 leaves-unused queues pushed popped form contents fabric BadScript none = as-it-was queues pushed popped fabric
 leaves-unused queues pushed popped form contents fabric Early none = as-it-was queues pushed popped fabric
 
@@ -174,11 +177,14 @@ pub left-behind : {F : Type 0} (queues : F → Family) (pushed popped : F → �
     → status ≡ ending_status ending → Leaves queues pushed popped form contents old new ending → IsLeftBehind queues pushed popped form contents old new status
 left-behind queues pushed popped form contents old new Replayed status e h = whole-behind queues pushed popped form contents old new status e h
 left-behind queues pushed popped form contents old new Checked status e h = whole-behind queues pushed popped form contents old new status e h
+left-behind queues pushed popped form contents old new Planned status e h = whole-behind queues pushed popped form contents old new status e h
 left-behind queues pushed popped form contents old new (Run (run.Whole n)) status e h = whole-behind queues pushed popped form contents old new status e h
 left-behind queues pushed popped form contents old new (Run (run.BadCapture c p)) status e h = broken-behind queues pushed popped form contents old new status 7 e (omega arith, omega arith)
 left-behind queues pushed popped form contents old new (Run (run.PastLast n)) status e h = broken-behind queues pushed popped form contents old new status 6 e (omega arith, omega arith)
 left-behind queues pushed popped form contents old new NoForm status e h = stays-behind queues pushed popped form contents old new status (λ zero. absurd (omega arith)) h
 left-behind queues pushed popped form contents old new BadPolicy status e h = stays-behind queues pushed popped form contents old new status (λ zero. absurd (omega arith)) h
+left-behind queues pushed popped form contents old new BadTarget status e h = stays-behind queues pushed popped form contents old new status (λ zero. absurd (omega arith)) h
+left-behind queues pushed popped form contents old new NoRoom status e h = stays-behind queues pushed popped form contents old new status (λ zero. absurd (omega arith)) h
 left-behind queues pushed popped form contents old new BadScript status e h = stays-behind queues pushed popped form contents old new status (λ zero. absurd (omega arith)) h
 left-behind queues pushed popped form contents old new Early status e h = stays-behind queues pushed popped form contents old new status (λ zero. absurd (omega arith)) h
 

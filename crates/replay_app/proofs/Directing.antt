@@ -1,4 +1,4 @@
--- What is read of a script, and how a run ends.
+-- How a run ends.
 use Rattle.std.proofs.Common.{◌≡◌, ◌<◌, ℕ, Option, None, Some, List, length, refl, ap, ◌∙◌}
 use Rattle.std.specs.Prelude.{IfSome}
 use Rattle.schedule_defs.specs.Script as schedule
@@ -20,9 +20,3 @@ pub status_told : (e : RunEnding) (o : Option (List ℕ)) (ending : List ℕ →
     → IfSome o (λ file. ending_status (Run e) ≡ run_status (ending file))
 status_told e None ending is = tt
 status_told e (Some file) ending is = ap (λ x. ending_status (Run x)) is ∙ same_status (ending file)
-
--- a content that was too long to be loaded
-pub unloaded_script : {T : Type 0} (loaded : Option T) (content : Option (List ℕ)) → loaded ≡ None → IfSome content (λ text. loaded ≡ None → most_bytes < length text)
-    → IfSome content (λ text. IsScriptRead text (Refused (record { code = 4; line = 0 })))
-unloaded_script loaded None none h = tt
-unloaded_script loaded (Some text) none h = too_long (h none)

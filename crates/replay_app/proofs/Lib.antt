@@ -10,3 +10,4 @@ pub mod PolicyReads
 pub mod Commands
 pub mod OneAnswer
 pub mod Directing
+pub mod Loading

@@ -20,14 +20,19 @@ use Rattle.policy_laws.proofs.OnePolicy.{one-policy}
 use Rattle.events_core.specs.Script as script
 use Rattle.events_core.specs.declared.step.Step.{Step}
 use Rattle.events_core.proofs.ScriptLaws.{IsScript-one, IsFirstFault-one, IsScript-IsFirstFault}
+use Rattle.target_text_defs.specs.TargetText as target
+use Rattle.target_text_defs.proofs.OneAnswer.{one_answer-holds}
+use Rattle.plan_defs.proofs.Laws.{one_plan}
+use Rattle.policy_defs.specs.Policy.{Policy}
 use Rattle.replay_app.specs.Answer.{Answer, IsPartWritten}
 use Rattle.replay_app.specs.FirstPath.{plain_course}
 use Rattle.replay_app.specs.Directed as directed
 use Rattle.replay_app.specs.Directed.{IsScriptRefused, IsAnswerAlong, refused_script, along_script, script_refusal, run_answer}
 use Rattle.replay_app.specs.Laws.{HaveOneAnswer}
+use Rattle.replay_app.specs.Planned.{IsAnswerFor, refused_target, for_target, target_refusal, IsPlanned, planned, plan_answer}
 use Rattle.replay_app.specs.Output.{course_answer, inputs_of}
 use Rattle.replay_app.specs.Policies.{IsPolicyAnswer, accepted, refused, IsRefused, too_long, at_fault, fault_code, policy_refusal, senses_of, IsCheckAnswer, IsPolicyRefused, text_refused, statements_refused, IsPolicy, IsAnswerUnder, refused_policy, under_policy}
-use Rattle.replay_app.specs.Words.{replay, check, direct, no_form}
+use Rattle.replay_app.specs.Words.{replay, check, plan, direct, no_form}
 
 -- a text that is refused is refused in one way
 one-refusal : (text : List ℕ) (code line d m : ℕ) → IsRefused text code line → IsRefused text d m → policy_refusal code line ≡ policy_refusal d m
@@ -143,10 +148,36 @@ one-answer-along : (text : List ℕ) (after : List Step → Answer) (a b : Answe
 one-answer-along text after a b (refused_script code line h) k = script-refused-only text after code line b h k
 one-answer-along text after a b (along_script steps h) k = script-only text after steps b h k
 
+-- ---- a target
+one-target-refusal : (text : List ℕ) (code other : ℕ) → target.IsRefused text code → target.IsRefused text other → target_refusal code ≡ target_refusal other
+one-target-refusal text code other h k = ap target_refusal (one_answer-holds.one_fault text code other h k)
+
+-- what is refused, and what gives a target, has that answer alone
+module _ (text : List ℕ) (after : List ℕ → ℕ → Answer → Type 0) where
+  pub target-refused-only : (code : ℕ) (a : Answer) → target.IsRefused text code → IsAnswerFor text after a → target_refusal code ≡ a
+  target-refused-only code a h (refused_target other k) = one-target-refusal text code other h k
+  target-refused-only code a h (for_target arities above _ is k) = absurd (one_answer-holds.no_both text arities above code is h)
+
+  pub target-only : (arities : List ℕ) (above : ℕ) (a : Answer) → target.IsTargetText text arities above → IsAnswerFor text after a → after arities above a
+  target-only arities above a is (refused_target code k) = absurd (one_answer-holds.no_both text arities above code is k)
+  target-only arities above a is (for_target others over _ k h) =
+      let same = one_answer-holds.one_target text arities others above over is k in
+      subst (λ (n : ℕ). after arities n a) (sym same.1) (subst (λ (ns : List ℕ). after ns over a) (sym same.0) h)
+
+  one-answer-for : ((arities : List ℕ) (above : ℕ) (a b : Answer) → after arities above a → after arities above b → a ≡ b) → (a b : Answer) → IsAnswerFor text after a → IsAnswerFor text after b → a ≡ b
+  one-answer-for one a b (refused_target code h) k = target-refused-only code b h k
+  one-answer-for one a b (for_target arities above _ is h) k = one arities above a b h (target-only arities above b is k)
+
+pub one-planned : (policy : Policy) (arities : List ℕ) (above : ℕ) (a b : Answer) → IsPlanned policy arities above a → IsPlanned policy arities above b → a ≡ b
+one-planned policy arities above _ _ (planned fits text h) (planned others other k) =
+    let same = one_plan policy arities above fits others text other h k in
+    λ i. plan_answer (same.0 i) (same.1 i)
+
 -- ---- words and contents
 pub one-answer : HaveOneAnswer
 one-answer (replay p t c e) contents a b x y =
     one-policy-answer (contents p) (λ es. course_answer (plain_course (inputs_of (canonical_text (senses_of es)) t c e contents))) a b x y
 one-answer (check p) contents a b x y = one-check-answer (contents p) a b x y
+one-answer (plan p t) contents a b x y = one-answer-under (contents p) _ (λ es r. one-answer-for (contents t) _ (one-planned r.policy)) a b x y
 one-answer (direct p c e) contents a b x y = one-answer-under (contents p) _ (λ es r. one-answer-along (contents e) _) a b x y
 one-answer no_form contents a b x y = x ∙ sym y

@@ -89,9 +89,3 @@ answer-only text after (Refused r) a h (accepted es has) = absurd (h.none es has
 answer-only text after (Refused r) a h (refused code line is) =
     let same = h.only code line is in
     λ i. policy_refusal (same.0 i) (same.1 i)
-
--- a content that was too long to be loaded
-pub unloaded-read : {T : Type 0} (loaded : Option T) (content : Option (List ℕ)) → loaded ≡ None → IfSome content (λ text. loaded ≡ None → most_text < length text)
-    → IfSome content (λ text. IsRead text (Refused (refusal 21 0)))
-unloaded-read loaded None none h = tt
-unloaded-read loaded (Some text) none h = long-read text (h none)

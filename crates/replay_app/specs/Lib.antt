@@ -12,6 +12,7 @@ pub mod Played
 pub mod Endings
 pub mod Answer
 pub mod Policies
+pub mod Planned
 pub mod Directed
 pub mod Others
 pub mod Inputs

@@ -9,7 +9,8 @@ use Rattle.policy_text_defs.specs.Canonical.{canonical_text}
 use Rattle.replay_app.specs.Answer.{Answer, IsWritten, IsPartWritten}
 use Rattle.replay_app.specs.Policies.{IsPolicyAnswer, senses_of, IsCheckAnswer}
 use Rattle.replay_app.specs.Directed.{IsDirectAnswer}
-use Rattle.replay_app.specs.Words.{Form, replay, check, direct, no_form}
+use Rattle.replay_app.specs.Planned.{IsPlanAnswer}
+use Rattle.replay_app.specs.Words.{Form, replay, check, plan, direct, no_form}
 use Rattle.replay_app.specs.FirstPath.{Inputs, plain_course}
 
 -- the report of a run, and the refusal of inputs that can't be replayed so far
@@ -26,6 +27,7 @@ abbrev pub IsOutput : Form → (List ℕ → List ℕ) → Answer → Type 0
 IsOutput (replay p t c e) contents a =
     IsPolicyAnswer (contents p) (λ es. course_answer (plain_course (inputs_of (canonical_text (senses_of es)) t c e contents))) a
 IsOutput (check p) contents a = IsCheckAnswer (contents p) a
+IsOutput (plan p t) contents a = IsPlanAnswer (contents p) (contents t) a
 IsOutput (direct p c e) contents a = IsDirectAnswer (contents p) (contents c) (contents e) a
 IsOutput no_form contents a = a ≡ record { status = 2; text = fault_line (codes "words") 0 0 }
 

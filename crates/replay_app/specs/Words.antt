@@ -14,12 +14,15 @@ pub data Form : Type 0 where
   replay : List ℕ → List ℕ → List ℕ → List ℕ → Form
   -- a policy
   check : List ℕ → Form
+  -- a policy and a target
+  plan : List ℕ → List ℕ → Form
   -- a policy, a capture and a script
   direct : List ℕ → List ℕ → List ℕ → Form
   no_form : Form
 
 abbrev pub form_of : List (List ℕ) → Form
 form_of (w ∷ p ∷ []) = if bytes_eq w (codes "check") then check p else no_form
+form_of (w ∷ p ∷ t ∷ []) = if bytes_eq w (codes "plan") then plan p t else no_form
 form_of (w ∷ p ∷ c ∷ e ∷ []) = if bytes_eq w (codes "direct") then direct p c e else no_form
 form_of (w ∷ p ∷ t ∷ c ∷ e ∷ []) = if bytes_eq w (codes "replay") then replay p t c e else no_form
 form_of words = no_form
@@ -28,6 +31,7 @@ form_of words = no_form
 abbrev pub file_words : Form → List (List ℕ)
 file_words (replay p t c e) = p ∷ t ∷ c ∷ e ∷ []
 file_words (check p) = p ∷ []
+file_words (plan p t) = p ∷ t ∷ []
 file_words (direct p c e) = p ∷ c ∷ e ∷ []
 file_words no_form = []
 
@@ -47,6 +51,9 @@ form_of-replay_alone = refl
 
 pub form_of-check : form_of (codes "check" ∷ codes "p" ∷ []) ≡ check (codes "p")
 form_of-check = refl
+
+pub form_of-plan : form_of (codes "plan" ∷ codes "p" ∷ codes "t" ∷ []) ≡ plan (codes "p") (codes "t")
+form_of-plan = refl
 
 pub form_of-direct : form_of (codes "direct" ∷ codes "p" ∷ codes "c" ∷ codes "e" ∷ []) ≡ direct (codes "p") (codes "c") (codes "e")
 form_of-direct = refl

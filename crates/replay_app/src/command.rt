@@ -12,8 +12,9 @@ ghost use Rattle.replay_app.specs.Words.{AreLent, AreTold, check, file_words, fo
 use crate::direct::direct_files;
 use crate::ending::Ending;
 use crate::files::{Files, Others, is_plain, plain_run, read_others};
-use crate::policies::{PolicyText, Verdict, judge_policy, read_policy};
-use crate::replay::{refuse, refuse_early, refuse_policy, replay, write};
+use crate::plan::plan_files;
+use crate::policies::{PolicyText, Refusal, Verdict, judge_policy, read_policy};
+use crate::replay::{refuse, refuse_early, replay, write};
 use crate::stop::Stop;
 use crate::words::{Command, command_of};
 use fabric_core::Fabric;
@@ -82,7 +83,9 @@ fn replay_files<S: Shelf, K: Sink, F: Fabric>(
     let others = read_others(alloc, shelf, files)?;
     match policy {
         PolicyText::Accepted(lines) => replay_lines(alloc, &lines, others, sink, fabric),
-        PolicyText::Refused(refusal) => refuse_policy(alloc, refusal, sink),
+        PolicyText::Refused(refusal) => {
+            refuse(alloc, sink, FaultKind::Policy, refusal, Ending::BadPolicy)
+        }
     }
 }
 
@@ -106,7 +109,9 @@ fn check_file<S: Shelf, K: Sink>(
             write(alloc, text.as_slice(), sink)?;
             Ok(Ending::Checked)
         }
-        Verdict::Refused(refusal) => refuse_policy(alloc, refusal, sink),
+        Verdict::Refused(refusal) => {
+            refuse(alloc, sink, FaultKind::Policy, refusal, Ending::BadPolicy)
+        }
     }
 }
 
@@ -133,18 +138,19 @@ fn answer<S: Shelf, K: Sink, F: Fabric>(
     match command_of(words) {
         Some(Command::Replay(files)) => replay_files(alloc, &files, shelf, sink, fabric),
         Some(Command::Check(policy)) => check_file(alloc, policy, shelf, sink),
+        Some(Command::Plan(files)) => plan_files(alloc, &files, shelf, sink),
         Some(Command::Direct(files)) => direct_files(alloc, &files, shelf, sink),
         None => {
-            refuse(alloc, sink, FaultKind::Words, 0, 0)?;
-            Ok(Ending::NoForm)
+            let none = Refusal { code: 0, line: 0 };
+            refuse(alloc, sink, FaultKind::Words, none, Ending::NoForm)
         }
     }
 }
 
 /// Does what the words say, and answers the status with which the program ends. The words are those
 /// behind the program's name: so far `replay` and the names of a policy, a target, a capture and a
-/// script, `check` and the name of a policy, and `direct` and the names of a policy, a capture and a
-/// script.
+/// script, `check` and the name of a policy, `plan` and the names of a policy and a target, and
+/// `direct` and the names of a policy, a capture and a script.
 pub fn run<S: Shelf, K: Sink, F: Fabric>(
     alloc: Global,
     words: &[String],

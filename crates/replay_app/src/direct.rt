@@ -12,13 +12,14 @@ ghost use Rattle.replay_app.specs.Words.{AreLent, AreTold, file_words};
 
 use crate::ending::Ending;
 use crate::policies::{Verdict, judge_policy};
-use crate::replay::{refuse_policy, refuse_script};
+use crate::replay::refuse;
 use crate::script::{ScriptText, read_script};
 use crate::stop::Stop;
 use direct_core::direct;
 use events_core::Step;
 use outside_core::{Shelf, Sink};
 use policy_core::Policy;
+use report_core::FaultKind;
 use std::alloc::Global;
 
 /// The names of the files of a run through a policy's own tree.
@@ -72,7 +73,9 @@ fn run_script<S: Shelf, K: Sink>(
         ScriptText::Accepted(script) => {
             run_capture(alloc, policy, script.steps(), files.capture, shelf, sink)
         }
-        ScriptText::Refused(refusal) => refuse_script(alloc, refusal, sink),
+        ScriptText::Refused(refusal) => {
+            refuse(alloc, sink, FaultKind::Script, refusal, Ending::BadScript)
+        }
     }
 }
 
@@ -92,6 +95,8 @@ pub fn direct_files<S: Shelf, K: Sink>(
 {
     match judge_policy(alloc, shelf, files.policy)? {
         Verdict::Accepted(_, policy) => run_script(alloc, &policy, files, shelf, sink),
-        Verdict::Refused(refusal) => refuse_policy(alloc, refusal, sink),
+        Verdict::Refused(refusal) => {
+            refuse(alloc, sink, FaultKind::Policy, refusal, Ending::BadPolicy)
+        }
     }
 }

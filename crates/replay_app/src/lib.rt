@@ -8,10 +8,12 @@ mod files;
 mod inputs;
 mod laws;
 mod plain;
+mod plan;
 mod policies;
 mod replay;
 mod script;
 mod stop;
+mod targets;
 #[cfg(test)]
 mod tests;
 mod turn;

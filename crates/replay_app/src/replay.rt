@@ -7,8 +7,6 @@ ghost use Rattle.replay_app.specs.FirstPath.{arrivals_of};
 ghost use Rattle.replay_app.specs.OneLeaf.{no_totals, turned_all, step_for};
 ghost use Rattle.replay_app.specs.Turns.{Holds, CountsAlike};
 ghost use Rattle.replay_app.specs.PlainRuns.{plain_text};
-ghost use Rattle.replay_app.specs.Directed.{script_refusal};
-ghost use Rattle.replay_app.specs.Policies.{policy_refusal};
 
 use crate::ending::Ending;
 use crate::policies::Refusal;
@@ -20,59 +18,24 @@ use outside_core::Sink;
 use report_core::{FaultKind, Report};
 use std::alloc::Global;
 
-/// Writes the line of a refusal as the whole text.
+/// Writes the line of a refusal as the whole text, and answers the ending.
 pub fn refuse<K: Sink>(
     alloc: Global,
     sink: &mut K,
     kind: FaultKind,
-    code: u32,
-    place: u64,
-) -> Result<(), Stop>
-    ensures text { OnOk result (Appended (K.written sink.old) (K.written sink.new) (fault_line (word_of kind) code place)) }
-    ensures part { OnErr result (AppendedPrefix (K.written sink.old) (K.written sink.new) (fault_line (word_of kind) code place)) }
-    ensures cause { IsErrOf result Stop.Sink → Rose (K.faults sink.old) (K.faults sink.new) }
+    refusal: Refusal,
+    ending: Ending,
+) -> Result<Ending, Stop>
+    ensures ending { IfOk result (λ e. e ≡ ending) }
+    ensures text { OnOk result (Appended (K.written sink.old) (K.written sink.new) (fault_line (word_of kind) refusal.code refusal.line)) }
+    ensures part { OnErr result (AppendedPrefix (K.written sink.old) (K.written sink.new) (fault_line (word_of kind) refusal.code refusal.line)) }
+    ensures sink_cause { IsErrOf result Stop.Sink → Rose (K.faults sink.old) (K.faults sink.new) }
     ensures reads_nothing { IsErrOf result Stop.Shelf → ⊥ }
 {
     let mut report = Report::new(alloc)?;
-    report.fault(sink, kind, code, place)?;
+    report.fault(sink, kind, refusal.code, u64::from(refusal.line))?;
     report.finish(sink)?;
-    Ok(())
-}
-
-/// Writes why a policy is refused.
-pub fn refuse_policy<K: Sink>(alloc: Global, refusal: Refusal, sink: &mut K) -> Result<Ending, Stop>
-    ensures status { IfOk result (λ e. e ≡ Ending.BadPolicy) }
-    ensures text { OnOk result (Appended (K.written sink.old) (K.written sink.new) (policy_refusal refusal.code refusal.line).text) }
-    ensures part { OnErr result (AppendedPrefix (K.written sink.old) (K.written sink.new) (policy_refusal refusal.code refusal.line).text) }
-    ensures sink_cause { IsErrOf result Stop.Sink → Rose (K.faults sink.old) (K.faults sink.new) }
-    ensures reads_nothing { IsErrOf result Stop.Shelf → ⊥ }
-{
-    refuse(
-        alloc,
-        sink,
-        FaultKind::Policy,
-        refusal.code,
-        u64::from(refusal.line),
-    )?;
-    Ok(Ending::BadPolicy)
-}
-
-/// Writes why a script is refused.
-pub fn refuse_script<K: Sink>(alloc: Global, refusal: Refusal, sink: &mut K) -> Result<Ending, Stop>
-    ensures status { IfOk result (λ e. e ≡ Ending.BadScript) }
-    ensures text { OnOk result (Appended (K.written sink.old) (K.written sink.new) (script_refusal refusal.code refusal.line).text) }
-    ensures part { OnErr result (AppendedPrefix (K.written sink.old) (K.written sink.new) (script_refusal refusal.code refusal.line).text) }
-    ensures sink_cause { IsErrOf result Stop.Sink → Rose (K.faults sink.old) (K.faults sink.new) }
-    ensures reads_nothing { IsErrOf result Stop.Shelf → ⊥ }
-{
-    refuse(
-        alloc,
-        sink,
-        FaultKind::Script,
-        refusal.code,
-        u64::from(refusal.line),
-    )?;
-    Ok(Ending::BadScript)
+    Ok(ending)
 }
 
 /// Writes the whole text.

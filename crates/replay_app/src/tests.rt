@@ -10,6 +10,10 @@ const POLICY: &[u8] = b"policy 1\nclass all\nleaf root using fifo classes all\n"
 const SPELLED: &[u8] =
     b"policy 1\n# one class\n class  all\nleaf root using fifo classes all # one leaf\n";
 
+/// One leaf below a root.
+const BELOW_A_ROOT: &[u8] =
+    b"policy 1\nclass all\nleaf q using fifo classes all\nnode root using fifo children q\n";
+
 const TARGET: &[u8] = b"arity = 2\nheight = 0\n";
 
 /// A header and two records of four bytes each, as tcpdump writes them.
@@ -219,10 +223,54 @@ fn directs_over_memory(rt: HostRuntime) -> Result<(), Fail> {
 }
 
 #[test]
+fn plans_over_memory(rt: HostRuntime) -> Result<(), Fail> {
+    let alloc = rt.alloc();
+    let words = words(alloc, &["plan", "p", "t"])?;
+    let table: [(&[u8], &[u8], u8, &[u8]); 6] = [
+        (POLICY, TARGET, 0, b"least 0\nmap root - -\n"),
+        (
+            BELOW_A_ROOT,
+            b"arities = [3, 2]\n",
+            0,
+            b"least 1\nmap root - -\nmap q 0 0.0\n",
+        ),
+        (BELOW_A_ROOT, TARGET, 5, b"least 1\nfault size 1 0\n"),
+        (
+            POLICY,
+            b"arity = 2\nheight = 2\n",
+            5,
+            b"least 0\nfault size 1 0\n",
+        ),
+        (POLICY, b"arity =\n", 4, b"fault target 1 0\n"),
+        (b"policy 1\n", b"arity =\n", 3, b"fault policy 9 0\n"),
+    ];
+    for (policy, target, status, text) in table {
+        let mut files = Vec::new(alloc);
+        files.push(file(alloc, "p", policy)?)?;
+        files.push(file(alloc, "t", target)?)?;
+        let mut shelf = PlainShelf::new(files);
+        let mut sink = PlainSink::new(alloc, 200)?;
+        let mut fabric = FlatFabric::new(alloc)?;
+        let answer = run(alloc, &words, &mut shelf, &mut sink, &mut fabric);
+        assert_eq!(rt; answer, status);
+        assert_eq!(rt; sink.bytes(), text);
+    }
+    Ok(())
+}
+
+#[test]
 fn a_fault_ends_the_run(rt: HostRuntime) -> Result<(), Fail> {
     let alloc = rt.alloc();
     let replayed = words(alloc, &["replay", "p", "t", "c", "e"])?;
     let directed = words(alloc, &["direct", "p", "c", "e"])?;
+    let planned = words(alloc, &["plan", "p", "t"])?;
+    let mut shelf = PlainShelf::new(files(alloc, POLICY, CAPTURE, b"a\n")?);
+    let mut first_write_fails = Vec::new(alloc);
+    first_write_fails.push(1)?;
+    let mut sink = MemSink::new(alloc, 200, 9, first_write_fails)?;
+    let mut fabric = FlatFabric::new(alloc)?;
+    let answer = run(alloc, &planned, &mut shelf, &mut sink, &mut fabric);
+    assert_eq!(rt; (answer, sink.bytes()), (9, b"".as_slice()));
     for words in [&replayed, &directed] {
         let mut shelf = PlainShelf::new(files(alloc, POLICY, CAPTURE, b"a\n")?);
         let mut fabric = FlatFabric::new(alloc)?;

@@ -4,6 +4,7 @@ ghost use Rattle.replay_app.specs.Named.{command_form};
 
 use crate::direct::DirectFiles;
 use crate::files::Files;
+use crate::plan::PlanFiles;
 
 /// What the words ask for.
 #[derive(Clone, Copy, Debug)]
@@ -12,6 +13,8 @@ pub enum Command<'a> {
     Replay(Files<'a>),
     /// The canonical text of a policy's file.
     Check(&'a str),
+    /// Where a policy's tree is laid in a target.
+    Plan(PlanFiles<'a>),
     /// A run over these files, through the policy's own tree.
     Direct(DirectFiles<'a>),
 }
@@ -22,34 +25,28 @@ pub fn command_of(words: &[String]) -> Option<Command<'_>>
 {
     match words {
         [command, policy] => {
-            if command.as_str() == "check" {
-                Some(Command::Check(policy.as_str()))
-            } else {
-                None
-            }
+            (command.as_str() == "check").then_some(Command::Check(policy.as_str()))
+        }
+        [command, policy, target] => {
+            (command.as_str() == "plan").then_some(Command::Plan(PlanFiles {
+                policy: policy.as_str(),
+                target: target.as_str(),
+            }))
         }
         [command, policy, capture, script] => {
-            if command.as_str() == "direct" {
-                Some(Command::Direct(DirectFiles {
-                    policy: policy.as_str(),
-                    capture: capture.as_str(),
-                    script: script.as_str(),
-                }))
-            } else {
-                None
-            }
+            (command.as_str() == "direct").then_some(Command::Direct(DirectFiles {
+                policy: policy.as_str(),
+                capture: capture.as_str(),
+                script: script.as_str(),
+            }))
         }
         [command, policy, target, capture, script] => {
-            if command.as_str() == "replay" {
-                Some(Command::Replay(Files {
-                    policy: policy.as_str(),
-                    target: target.as_str(),
-                    capture: capture.as_str(),
-                    script: script.as_str(),
-                }))
-            } else {
-                None
-            }
+            (command.as_str() == "replay").then_some(Command::Replay(Files {
+                policy: policy.as_str(),
+                target: target.as_str(),
+                capture: capture.as_str(),
+                script: script.as_str(),
+            }))
         }
         _ => None,
     }

@@ -1,8 +1,9 @@
 use Rattle.std.proofs.Common.{◌∙◌, refl}
 use Rattle.std.proofs.lemmas.Result.{err_from_is_err_and}
 use Rattle.replay_app.specs.Policies.{check_answer, entries_in, policy_refusal, refused_policy, under_policy}
-use Rattle.replay_app.proofs.Commands.{checked-answer, appended-answer, part-answer, given-of, begun-of, ends-badly}
+use Rattle.replay_app.proofs.Commands.{checked-answer, appended-answer, part-answer, given-of, begun-of, ends-as}
 use Rattle.replay_app.proofs.OneAnswer.{of-policy, refused-only}
+use Rattle.replay_app.specs.declared.ending.Ending.TheVariants.{BadPolicy}
 use Rattle.replay_app.proofs.command.check_file.Goals as goal
 
 pub returns-in_err-write-in-Accepted-clause-part : goal.returns-in_err-write-in-Accepted-clause-part
@@ -28,12 +29,12 @@ pub returns-clause-given : goal.returns-clause-given
 returns-clause-given g c = λ contents told.
     let r = c.in-Refused.refusal in
     let is = rw c.in-Refused.is at (rw (told.0) at c.in_ok-lines.ensures.verdict) in
-    given-of c.refuse_policy.result _ (policy_refusal r.code r.line) _ _ (refused_policy r.code r.line is)
-    (ends-badly _ r.code r.line c.refuse_policy.ensures.status) c.refuse_policy.ensures.text
+    given-of c.refuse.result _ (policy_refusal r.code r.line) _ _ (refused_policy r.code r.line is)
+    (ends-as _ BadPolicy c.refuse.ensures.ending) c.refuse.ensures.text
 
 pub returns-clause-part : goal.returns-clause-part
 returns-clause-part g c = λ contents told.
     let r = c.in-Refused.refusal in
     let is = rw c.in-Refused.is at (rw (told.0) at c.in_ok-lines.ensures.verdict) in
-    begun-of c.refuse_policy.result _ (policy_refusal r.code r.line) _ _
-    (λ b k. refused-only (contents c.args.name.now) _ r.code r.line b is k) c.refuse_policy.ensures.part
+    begun-of c.refuse.result _ (policy_refusal r.code r.line) _ _
+    (λ b k. refused-only (contents c.args.name.now) _ r.code r.line b is k) c.refuse.ensures.part

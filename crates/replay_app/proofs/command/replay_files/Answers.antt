@@ -1,8 +1,9 @@
 use Rattle.replay_app.specs.Policies.{entries_in, policy_refusal}
 use Rattle.replay_app.specs.Others.{other_words}
 use Rattle.replay_app.specs.declared.policies.PolicyText.TheVariants.{Accepted, Refused}
-use Rattle.replay_app.proofs.Commands.{run_answer, told-later, inputs-read, given-of, begun-of, leaves-of, ends-badly}
+use Rattle.replay_app.proofs.Commands.{run_answer, told-later, inputs-read, given-of, begun-of, leaves-of, ends-as}
 use Rattle.replay_app.proofs.PolicyReads.{answer-is, answer-only}
+use Rattle.replay_app.specs.declared.ending.Ending.TheVariants.{BadPolicy}
 use Rattle.replay_app.proofs.command.replay_files.Goals as goal
 
 pub returns-in-Accepted-clause-given : goal.returns-in-Accepted-clause-given
@@ -41,15 +42,15 @@ returns-in-Refused-clause-given g c = λ contents told.
     let f = c.args.files.now in
     let r = c.in-Refused.refusal in
     let read = rw c.in-Refused.is at (rw (told.0) at c.in_ok-policy.ensures.read) in
-    given-of c.refuse_policy.result _ (policy_refusal r.code r.line) _ _
+    given-of c.refuse.result _ (policy_refusal r.code r.line) _ _
     (answer-is (contents f.policy.now) (run_answer f contents) (Refused r) read)
-    (ends-badly _ r.code r.line c.refuse_policy.ensures.status) c.refuse_policy.ensures.text
+    (ends-as _ BadPolicy c.refuse.ensures.ending) c.refuse.ensures.text
 
 pub returns-in-Refused-clause-part : goal.returns-in-Refused-clause-part
 returns-in-Refused-clause-part g c = λ contents told.
     let f = c.args.files.now in
     let r = c.in-Refused.refusal in
     let read = rw c.in-Refused.is at (rw (told.0) at c.in_ok-policy.ensures.read) in
-    begun-of c.refuse_policy.result _ (policy_refusal r.code r.line) _ _
+    begun-of c.refuse.result _ (policy_refusal r.code r.line) _ _
     (λ b is. answer-only (contents f.policy.now) (run_answer f contents) (Refused r) b read is)
-    c.refuse_policy.ensures.part
+    c.refuse.ensures.part

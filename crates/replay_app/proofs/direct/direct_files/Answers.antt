@@ -1,8 +1,9 @@
 use Rattle.std.proofs.lemmas.Result.{on_err_weaker}
 use Rattle.std.proofs.Common.{◌∷◌, []}
 use Rattle.replay_app.specs.Policies.{policy_refusal, refused_policy, under_policy}
-use Rattle.replay_app.proofs.Commands.{told-later, given-of, given-for, begun-of, ends-badly}
+use Rattle.replay_app.proofs.Commands.{told-later, given-of, given-for, begun-of, ends-as}
 use Rattle.replay_app.proofs.OneAnswer.{part-under, refused-only}
+use Rattle.replay_app.specs.declared.ending.Ending.TheVariants.{BadPolicy}
 use Rattle.replay_app.proofs.direct.direct_files.Goals as goal
 
 pub returns-in-Accepted-clause-given : goal.returns-in-Accepted-clause-given
@@ -23,13 +24,13 @@ pub returns-clause-given : goal.returns-clause-given
 returns-clause-given g c = λ contents told.
     let r = c.in-Refused.refusal in
     let is = rw c.in-Refused.is at (rw (told.0) at c.in_ok-policy.ensures.verdict) in
-    given-of c.refuse_policy.result _ (policy_refusal r.code r.line) _ _ (refused_policy r.code r.line is)
-    (ends-badly _ r.code r.line c.refuse_policy.ensures.status) c.refuse_policy.ensures.text
+    given-of c.refuse.result _ (policy_refusal r.code r.line) _ _ (refused_policy r.code r.line is)
+    (ends-as _ BadPolicy c.refuse.ensures.ending) c.refuse.ensures.text
 
 pub returns-clause-part : goal.returns-clause-part
 returns-clause-part g c = λ contents told.
     let f = c.args.files.now in
     let r = c.in-Refused.refusal in
     let is = rw c.in-Refused.is at (rw (told.0) at c.in_ok-policy.ensures.verdict) in
-    begun-of c.refuse_policy.result _ (policy_refusal r.code r.line) _ _
-    (λ b k. refused-only (contents f.policy.now) _ r.code r.line b is k) c.refuse_policy.ensures.part
+    begun-of c.refuse.result _ (policy_refusal r.code r.line) _ _
+    (λ b k. refused-only (contents f.policy.now) _ r.code r.line b is k) c.refuse.ensures.part

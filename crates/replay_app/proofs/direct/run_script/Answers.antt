@@ -1,8 +1,9 @@
 use Rattle.std.proofs.Common.{◌∙◌}
 use Rattle.direct_core.specs.Answers.{direct_answer}
 use Rattle.replay_app.specs.Directed.{along_script, run_answer, script_refusal, refused_script}
-use Rattle.replay_app.proofs.Commands.{given-of, begun-of, script-ends-badly}
+use Rattle.replay_app.proofs.Commands.{given-of, begun-of, ends-as}
 use Rattle.replay_app.proofs.OneAnswer.{script-only, script-refused-only}
+use Rattle.replay_app.specs.declared.ending.Ending.TheVariants.{BadScript}
 use Rattle.replay_app.proofs.direct.run_script.Goals as goal
 
 pub run_capture-requires-clause-short : goal.run_capture-requires-clause-short
@@ -29,13 +30,13 @@ pub returns-in-Refused-clause-given : goal.returns-in-Refused-clause-given
 returns-in-Refused-clause-given g c = λ contents told.
     let r = c.in-Refused.refusal in
     let is = rw c.in-Refused.is at (rw (told.1.0) at c.in_ok-script.ensures.read) in
-    given-of c.refuse_script.result _ (script_refusal r.code r.line) _ _ (refused_script r.code r.line is)
-    (script-ends-badly _ r.code r.line c.refuse_script.ensures.status) c.refuse_script.ensures.text
+    given-of c.refuse.result _ (script_refusal r.code r.line) _ _ (refused_script r.code r.line is)
+    (ends-as _ BadScript c.refuse.ensures.ending) c.refuse.ensures.text
 
 pub returns-in-Refused-clause-part : goal.returns-in-Refused-clause-part
 returns-in-Refused-clause-part g c = λ contents told.
     let f = c.args.files.now in
     let r = c.in-Refused.refusal in
     let is = rw c.in-Refused.is at (rw (told.1.0) at c.in_ok-script.ensures.read) in
-    begun-of c.refuse_script.result _ (script_refusal r.code r.line) _ _
-    (λ b k. script-refused-only (contents f.script.now) _ r.code r.line b is k) c.refuse_script.ensures.part
+    begun-of c.refuse.result _ (script_refusal r.code r.line) _ _
+    (λ b k. script-refused-only (contents f.script.now) _ r.code r.line b is k) c.refuse.ensures.part

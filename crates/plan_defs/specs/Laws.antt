@@ -1,0 +1,10 @@
+-- What follows from the definition of a plan.
+use Rattle.std.specs.Prelude.{◌≡◌, ℕ, Bool, List}
+use Rattle.policy_defs.specs.Policy.{Policy}
+use Rattle.plan_defs.specs.Plan.{IsPlan}
+
+-- one text is told, and it either has a placement or not
+abbrev pub PoliciesHaveOnePlan : Type 0
+PoliciesHaveOnePlan =
+    (policy : Policy) (arities : List ℕ) (above : ℕ) (fits others : Bool) (text other : List ℕ)
+    → IsPlan policy arities above fits text → IsPlan policy arities above others other → (fits ≡ others) × (text ≡ other)
