@@ -1,0 +1,4 @@
+pub mod Shapes
+pub mod LowRanks
+pub mod Moves
+pub mod Departing

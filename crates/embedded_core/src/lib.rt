@@ -1,0 +1,7 @@
+//! A scheduler over the queues of a fabric of another shape, by a map of the policy's nodes.
+#![tactic(auto)]
+
+mod embedded;
+mod embedding;
+
+pub use embedded::Embedded;
