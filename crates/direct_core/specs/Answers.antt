@@ -1,5 +1,6 @@
 -- What a run over a policy's own tree of queues answers.
-use Rattle.std.specs.Prelude.{ℕ, Option, List, map, codes}
+use Rattle.std.specs.Prelude.{◌≡◌, ℕ, Option, List, map, codes}
+use Rattle.outside_core.specs.Written.{Appended}
 use Rattle.capture_defs.specs.Fault.{Fault, code, place}
 use Rattle.capture_defs.specs.Reading.{Capture, refused, packets, capture_of}
 use Rattle.packet_defs.specs.declared.packet.Packet.{Packet}
@@ -10,6 +11,8 @@ use Rattle.schedule_defs.specs.Script.{Ending, BadCapture, course}
 use Rattle.schedule_defs.specs.Report.{report}
 use Rattle.resolve_defs.specs.Resolved.{Resolved}
 use Rattle.events_core.specs.declared.step.Step.{Step}
+use Rattle.course_core.specs.declared.ending.Ending as told
+use Rattle.course_core.specs.Endings.{ended}
 use Rattle.course_core.specs.Steps.{step_of}
 use Rattle.arrivals_core.specs.Packets.{packets_from}
 
@@ -24,6 +27,13 @@ refusal_answer fault = record {
   ending = BadCapture fault;
   text = fault_line (codes "capture") (code fault) (place fault);
 }
+
+-- the capture's header is refused, which is how the run ends, and the text with its line is written
+pub record IsRefusal (capture : Capture) (ending : told.Ending) (before written : Option (List ℕ)) : Type 0 where
+  pub fault : Fault
+  pub is : capture ≡ refused fault
+  pub ends : ending ≡ ended (refusal_answer fault).ending
+  pub text : Appended before written (refusal_answer fault).text
 
 -- a script runs over packets, and then meets the fault behind them
 abbrev pub answer_of : Policy → List Step → List Packet → Option Fault → RunAnswer

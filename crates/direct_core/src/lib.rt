@@ -2,8 +2,11 @@
 #![tactic(auto)]
 
 mod capture;
+mod course;
 #[cfg(test)]
 mod tests;
 
-pub use capture::direct;
+pub use arrivals_core::Arrivals;
+pub use capture::{begin, direct};
+pub use course::run_over;
 pub use course_core::{Ending, Stop};
