@@ -106,60 +106,53 @@ module _ {C U : Type 0} (S : Ghosts C U) (policy : Policy) where
   -- the last line is written behind the lines of the events
   pub runs_done : (events : List Event) (e : Ending) (run : Course) (old new : Stage C U) (s : SourceState) (pushed popped empty held : ℕ) (written : Option (List ℕ)) → event_of old.tally ≡ 1 → Makes S policy events old new →
       IsSound policy s → S.stands old.scheduler old.under s → IsHeldBelow (old.given + 1) s.held → IsCourse events e run → IsTallied policy events s pushed popped empty held →
-      Appended new.text written (last_line pushed popped empty held e) → Runs S policy run s old.scheduler new.scheduler new.under old.text written
+      Appended new.text written (last_line pushed popped empty held e) → Runs S policy run s old.scheduler old.under new.scheduler new.under old.text written
   runs_done events e run old new s pushed popped empty held written one made sound stood below is counts last =
       let played = made.played s sound stood below in
       let lines : Appended old.text new.text (told policy 1 events s) = subst (λ (n : ℕ). Appended old.text new.text (told policy n events s)) one played.lines in
       record {
-        state = subst (λ (es : List Event). S.stands new.scheduler new.under (after policy es s)) is.are played.state;
-        arrived = omega (arith, played.arrived, ap arrivals_in is.are);
-        departed = omega (arith, played.departed, ap departures_in is.are);
+        leaves = subst (λ (es : List Event). HasMade S policy es s old.scheduler old.under new.scheduler new.under) is.are played.leaves;
         report = subst (Appended old.text written) (report_is policy events e run s pushed popped empty held is counts) (appended_in_turn old.text new.text written (told policy 1 events s) (last_line pushed popped empty held e) lines last);
       }
 
   -- the last line isn't written whole
   pub breaks_last : (events : List Event) (e : Ending) (run : Course) (old new : Stage C U) (s : SourceState) (pushed popped empty held : ℕ) (written : Option (List ℕ)) → event_of old.tally ≡ 1 → Makes S policy events old new →
       IsSound policy s → S.stands old.scheduler old.under s → IsHeldBelow (old.given + 1) s.held → IsCourse events e run → IsTallied policy events s pushed popped empty held →
-      IsCut new.text (last_line pushed popped empty held e) written → Breaks S policy run s old.scheduler new.scheduler new.under old.text written
+      IsCut new.text (last_line pushed popped empty held e) written → Breaks S policy run s old.scheduler old.under new.scheduler new.under old.text written
   breaks_last events e run old new s pushed popped empty held written one made sound stood below is counts last =
       let played = made.played s sound stood below in
       let lines : Appended old.text new.text (told policy 1 events s) = subst (λ (n : ℕ). Appended old.text new.text (told policy n events s)) one played.lines in
       record {
-        made = events;
-        unmade = [];
-        whole = append-nil events ∙ is.are;
-        state = played.state;
-        arrived = played.arrived;
-        departed = played.departed;
+        leaves = record { made = events; unmade = []; whole = append-nil events ∙ is.are; leaves = played.leaves };
         report = subst (λ (l : List ℕ). IsCut old.text l written) (report_is policy events e run s pushed popped empty held is counts) (IsCut-append old.text new.text written (told policy 1 events s) (last_line pushed popped empty held e) lines last);
       }
 
   -- the events stopped
   pub breaks_amid : (steps : List line.Step) (before : Option Left) (old : Stage C U) (c : C) (u : U) (written : Option (List ℕ)) → event_of old.tally ≡ 1 →
       StopsAmid S policy (λ l s. (course_of policy steps l s (event_of old.tally)).events) before old c u written →
-      OnCourse S.stands policy old.scheduler old.under old.given before steps (λ s run. Breaks S policy run s old.scheduler c u old.text written)
+      OnCourse S.stands policy old.scheduler old.under old.given before steps (λ s run. Breaks S policy run s old.scheduler old.under c u old.text written)
   breaks_amid steps before old c u written one amid = by_left before amid.first
     where
       by_left : (a : Option Left) → IfSome a (λ l. FromEach S policy old (λ s. (others : List Event) × (amid.events ++ others ≡ (course_of policy steps l s (event_of old.tally)).events)))
-          → OnCourse S.stands policy old.scheduler old.under old.given a steps (λ s run. Breaks S policy run s old.scheduler c u old.text written)
+          → OnCourse S.stands policy old.scheduler old.under old.given a steps (λ s run. Breaks S policy run s old.scheduler old.under c u old.text written)
       by_left None first = tt
       by_left (Some l) first = λ s sound stood below.
           let run : Course = course_of policy steps l s 1 in
           let front = first s sound stood below in
           let whole : amid.events ++ front.0 ≡ run.events = front.1 ∙ ap (λ (n : ℕ). (course_of policy steps l s n).events) one in
-          let stop : StopsIn S policy 1 amid.events s old.scheduler c u old.text written = subst (λ (n : ℕ). StopsIn S policy n amid.events s old.scheduler c u old.text written) one (amid.stop.stopped s sound stood below) in
+          let stop : StopsIn S policy 1 amid.events s old.scheduler old.under c u old.text written = subst (λ (n : ℕ). StopsIn S policy n amid.events s old.scheduler old.under c u old.text written) one (amid.stop.stopped s sound stood below) in
           let more : List ℕ = told policy (1 + length amid.events) front.0 (after policy amid.events s) in
           let last : List ℕ = ending_line (outcomes policy run.events s) (size (after policy run.events s).tree) run.ending in
           let text : told policy 1 amid.events s ++ (more ++ last) ≡ course_report policy run s =
           sym (append_assoc (told policy 1 amid.events s) more last)
           ∙ ap (λ (t : List ℕ). t ++ last) (sym (told-append policy 1 amid.events front.0 s) ∙ ap (λ (es : List Event). told policy 1 es s) whole) in
           record {
-            made = stop.made;
-            unmade = stop.unmade ++ front.0;
-            whole = sym (append_assoc stop.made stop.unmade front.0) ∙ ap (λ (es : List Event). es ++ front.0) stop.whole ∙ whole;
-            state = stop.state;
-            arrived = stop.arrived;
-            departed = stop.departed;
+            leaves = record {
+              made = stop.leaves.made;
+              unmade = stop.leaves.unmade ++ front.0;
+              whole = sym (append_assoc stop.leaves.made stop.leaves.unmade front.0) ∙ ap (λ (es : List Event). es ++ front.0) stop.leaves.whole ∙ whole;
+              leaves = stop.leaves.leaves;
+            };
             report = subst (λ (t : List ℕ). IsCut old.text t written) text (IsCut-longer old.text written (told policy 1 amid.events s) (more ++ last) stop.lines);
           }
 
@@ -173,22 +166,22 @@ module _ {C U : Type 0} (S : Ghosts C U) (policy : Policy) (accepted : IsAccepte
   tallied_at s sound stood below = tallied S policy accepted courses.events old new first held s none_pushed none_asked courses.made sound stood below (begun s sound stood) (held_then S policy accepted courses.events old new held s courses.made sound stood below still)
 
   pub runs_told : (written : Option (List ℕ)) → Appended new.text written (last_line new.tally.pushed (first + new.tally.pushed - held) (new.tally.asked - (first + new.tally.pushed - held)) held e) →
-      OnCourse S.stands policy old.scheduler old.under old.given before steps (λ s run. Runs S policy run s old.scheduler new.scheduler new.under old.text written)
+      OnCourse S.stands policy old.scheduler old.under old.given before steps (λ s run. Runs S policy run s old.scheduler old.under new.scheduler new.under old.text written)
   runs_told written last = by_left before courses.told
     where
       by_left : (a : Option Left) → IfSome a (λ l. FromEach S policy old (λ s. IsCourse courses.events e (course_of policy steps l s (event_of old.tally))))
-          → OnCourse S.stands policy old.scheduler old.under old.given a steps (λ s run. Runs S policy run s old.scheduler new.scheduler new.under old.text written)
+          → OnCourse S.stands policy old.scheduler old.under old.given a steps (λ s run. Runs S policy run s old.scheduler old.under new.scheduler new.under old.text written)
       by_left None told = tt
       by_left (Some l) told = λ s sound stood below.
           let is : IsCourse courses.events e (course_of policy steps l s 1) = subst (λ (n : ℕ). IsCourse courses.events e (course_of policy steps l s n)) one_first (told s sound stood below) in
           runs_done S policy courses.events e (course_of policy steps l s 1) old new s _ _ _ _ written one_first courses.made sound stood below is (tallied_at s sound stood below) last
 
   pub breaks_told : (written : Option (List ℕ)) → IsCut new.text (last_line new.tally.pushed (first + new.tally.pushed - held) (new.tally.asked - (first + new.tally.pushed - held)) held e) written →
-      OnCourse S.stands policy old.scheduler old.under old.given before steps (λ s run. Breaks S policy run s old.scheduler new.scheduler new.under old.text written)
+      OnCourse S.stands policy old.scheduler old.under old.given before steps (λ s run. Breaks S policy run s old.scheduler old.under new.scheduler new.under old.text written)
   breaks_told written last = by_left before courses.told
     where
       by_left : (a : Option Left) → IfSome a (λ l. FromEach S policy old (λ s. IsCourse courses.events e (course_of policy steps l s (event_of old.tally))))
-          → OnCourse S.stands policy old.scheduler old.under old.given a steps (λ s run. Breaks S policy run s old.scheduler new.scheduler new.under old.text written)
+          → OnCourse S.stands policy old.scheduler old.under old.given a steps (λ s run. Breaks S policy run s old.scheduler old.under new.scheduler new.under old.text written)
       by_left None told = tt
       by_left (Some l) told = λ s sound stood below.
           let is : IsCourse courses.events e (course_of policy steps l s 1) = subst (λ (n : ℕ). IsCourse courses.events e (course_of policy steps l s n)) one_first (told s sound stood below) in

@@ -78,8 +78,8 @@ module _ {C U : Type 0} (S : Ghosts C U) (policy : Policy) (accepted : IsAccepte
   room_after es old new given few short made one room =
       let played = made.played one.state one.sound one.stood one.has in
       record {
-        arrivals_fit = omega (arith, played.arrived, made.pushed, room.arrivals_fit);
-        departures_fit = omega (arith, played.departed, made.asked, room.departures_fit);
+        arrivals_fit = omega (arith, played.leaves.arrived, made.pushed, room.arrivals_fit);
+        departures_fit = omega (arith, played.leaves.departed, made.asked, room.departures_fit);
         pushed = omega (arith, given, room.pushed);
         few = few;
         few_asked = omega (arith, made.asked, short);

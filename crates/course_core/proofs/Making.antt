@@ -16,7 +16,7 @@ use Rattle.schedule_defs.proofs.Runs.{sound_after, arrivals_in-append, departure
 use Rattle.sched_core.specs.declared.scheduler.Scheduler.{Ghosts}
 use Rattle.sched_core.specs.Standing.{ForEachState}
 use Rattle.run_core.specs.Played.{told, Plays, StopsIn}
-use Rattle.run_core.proofs.Runs.{plays_both, stops_second, cut_unwritten}
+use Rattle.run_core.proofs.Runs.{made_none, made_all, plays_both, stops_second, cut_unwritten}
 use Rattle.course_core.specs.Stages.{Stage, stage, event_of, packets_in, AreNext, Makes, Stops}
 
 -- ---- packets and their numbers
@@ -68,7 +68,7 @@ module _ {C U : Type 0} (S : Ghosts C U) (policy : Policy) (accepted : IsAccepte
       Stands S policy old.scheduler old.under old.given s → Stands S policy new.scheduler new.under given (after policy es s)
   stands_after es old new given s made e at = record {
     sound = sound_after policy es s accepted at.sound (can_make policy es (old.given + 1) s made.next.numbered made.next.sendable at.below);
-    stood = (made.played s at.sound at.stood at.below).state;
+    stood = (made.played s at.sound at.stood at.below).leaves.state;
     below = subst (λ (m : ℕ). IsHeldBelow m (after policy es s).held) (omega arith) (held_after policy es (old.given + 1) s made.next.numbered at.below);
   }
 
@@ -81,9 +81,9 @@ module _ {C U : Type 0} (S : Ghosts C U) (policy : Policy) (accepted : IsAccepte
     played = λ s sound stood below.
         let at = stands_after es old mid mid.given s first e (record { sound = sound; stood = stood; below = below }) in
         let number : event_of old.tally + length es ≡ event_of mid.tally = omega (arith, first.pushed, first.asked, length-events es) in
-        plays_both S policy (event_of old.tally) es fs s old.scheduler mid.scheduler new.scheduler mid.under new.under old.text mid.text new.text
+        plays_both S policy (event_of old.tally) es fs s old.scheduler old.under mid.scheduler mid.under new.scheduler new.under old.text mid.text new.text
         (first.played s sound stood below)
-        (subst (λ (n : ℕ). Plays S policy n fs (after policy es s) mid.scheduler new.scheduler new.under mid.text new.text) (sym number) (second.played (after policy es s) at.sound at.stood at.below));
+        (subst (λ (n : ℕ). Plays S policy n fs (after policy es s) mid.scheduler mid.under new.scheduler new.under mid.text new.text) (sym number) (second.played (after policy es s) at.sound at.stood at.below));
   }
 
   -- events, and then some that stop
@@ -93,9 +93,9 @@ module _ {C U : Type 0} (S : Ghosts C U) (policy : Policy) (accepted : IsAccepte
     stopped = λ s sound stood below.
         let at = stands_after es old mid mid.given s first e (record { sound = sound; stood = stood; below = below }) in
         let number : event_of old.tally + length es ≡ event_of mid.tally = omega (arith, first.pushed, first.asked, length-events es) in
-        stops_second S policy (event_of old.tally) es fs s old.scheduler mid.scheduler c mid.under u old.text mid.text written
+        stops_second S policy (event_of old.tally) es fs s old.scheduler old.under mid.scheduler mid.under c u old.text mid.text written
         (first.played s sound stood below)
-        (subst (λ (n : ℕ). StopsIn S policy n fs (after policy es s) mid.scheduler c u mid.text written) (sym number) (second.stopped (after policy es s) at.sound at.stood at.below));
+        (subst (λ (n : ℕ). StopsIn S policy n fs (after policy es s) mid.scheduler mid.under c u mid.text written) (sym number) (second.stopped (after policy es s) at.sound at.stood at.below));
   }
 
 module _ {C U : Type 0} (S : Ghosts C U) (policy : Policy) where
@@ -105,7 +105,7 @@ module _ {C U : Type 0} (S : Ghosts C U) (policy : Policy) where
     next = record { numbered = tt; sendable = tt };
     pushed = omega arith;
     asked = omega arith;
-    played = λ s sound stood below. record { state = stood; arrived = omega arith; departed = omega arith; lines = appended_nothing text };
+    played = λ s sound stood below. record { leaves = made_none S policy s c u stood; lines = appended_nothing text };
   }
 
   -- events that were made, of which a first part of the text is written
@@ -116,12 +116,7 @@ module _ {C U : Type 0} (S : Ghosts C U) (policy : Policy) where
         let played = made.played s sound stood below in
         let text : List ℕ = told policy (event_of old.tally) es s in
         record {
-          made = es;
-          unmade = [];
-          whole = append-nil es;
-          state = played.state;
-          arrived = played.arrived;
-          departed = played.departed;
+          leaves = made_all S policy es played.leaves;
           lines = subst (λ (l : List ℕ). IsCut old.text l written) (append-nil text)
               (IsCut-append old.text (text_of written report) written text [] played.lines (cut_unwritten written report.unwritten []));
         };
@@ -137,7 +132,7 @@ next_departures policy given n = subst (AreNext policy given) (sym (packets_in-d
 
 module _ {C U : Type 0} (S : Ghosts C U) (policy : Policy) where
   pub makes_departures : (n : ℕ) (old new : Stage C U) → new.tally.pushed ≡ old.tally.pushed → new.tally.asked ≡ old.tally.asked + n →
-      ForEachState S.stands policy old.scheduler old.under (λ s. Plays S policy (event_of old.tally) (replicate n Depart) s old.scheduler new.scheduler new.under old.text new.text) → Makes S policy (replicate n Depart) old new
+      ForEachState S.stands policy old.scheduler old.under (λ s. Plays S policy (event_of old.tally) (replicate n Depart) s old.scheduler old.under new.scheduler new.under old.text new.text) → Makes S policy (replicate n Depart) old new
   makes_departures n old new pushed asked played = record {
     next = next_departures policy old.given n;
     pushed = omega (arith, pushed, arrivals_in-departures n);
@@ -146,5 +141,5 @@ module _ {C U : Type 0} (S : Ghosts C U) (policy : Policy) where
   }
 
   pub stops_departures : (n : ℕ) (old : Stage C U) (c : C) (u : U) (written : Option (List ℕ)) →
-      ForEachState S.stands policy old.scheduler old.under (λ s. StopsIn S policy (event_of old.tally) (replicate n Depart) s old.scheduler c u old.text written) → Stops S policy (replicate n Depart) old c u written
+      ForEachState S.stands policy old.scheduler old.under (λ s. StopsIn S policy (event_of old.tally) (replicate n Depart) s old.scheduler old.under c u old.text written) → Stops S policy (replicate n Depart) old c u written
   stops_departures n old c u written stopped = record { next = next_departures policy old.given n; stopped = λ s sound stood below. stopped s sound stood }

@@ -1,15 +1,16 @@
 -- What a run leaves.
-use Rattle.std.specs.Prelude.{◌≡◌, ℕ, ◌+◌, Option, List, ◌++◌, map, IfSome}
+use Rattle.std.specs.Prelude.{◌≡◌, ℕ, ◌+◌, Option, List, map, IfSome}
 use Rattle.outside_core.specs.Written.{Appended}
 use Rattle.report_defs.specs.Text.{IsCut}
 use Rattle.policy_defs.specs.Policy.{Policy}
 use Rattle.schedule_defs.specs.SourceState.{SourceState}
-use Rattle.schedule_defs.specs.Events.{Event, after, arrivals_in, departures_in}
+use Rattle.schedule_defs.specs.Events.{Event}
 use Rattle.schedule_defs.specs.Script.{Course, course}
 use Rattle.schedule_defs.specs.Numbered.{IsHeldBelow}
 use Rattle.schedule_defs.specs.Report.{course_report}
 use Rattle.sched_core.specs.declared.scheduler.Scheduler.{Ghosts}
 use Rattle.sched_core.specs.Standing.{ForEachState}
+use Rattle.run_core.specs.Played.{HasMade, HasMadeSome}
 use Rattle.events_core.specs.declared.step.Step as line
 use Rattle.course_core.specs.declared.ending.Ending.{Ending}
 use Rattle.course_core.specs.Packets.{Left}
@@ -39,18 +40,11 @@ OnCourse stands policy c u given left steps P =
     IfSome left (λ l. ForEachState stands policy c u (λ s. IsHeldBelow (given + 1) s.held → P s (course_of policy steps l s 1)))
 
 -- all events of the course were made, and its report is written behind the text
-pub record Runs {C U : Type 0} (S : Ghosts C U) (policy : Policy) (run : Course) (from : SourceState) (old new : C) (under : U) (text written : Option (List ℕ)) : Type 0 where
-  pub state : S.stands new under (after policy run.events from)
-  pub arrived : S.arrivals new ≡ S.arrivals old + arrivals_in run.events
-  pub departed : S.departures new ≡ S.departures old + departures_in run.events
+pub record Runs {C U : Type 0} (S : Ghosts C U) (policy : Policy) (run : Course) (from : SourceState) (c : C) (u : U) (c' : C) (u' : U) (text written : Option (List ℕ)) : Type 0 where
+  pub leaves : HasMade S policy run.events from c u c' u'
   pub report : Appended text written (course_report policy run from)
 
 -- the first of its events were made, and a first part of the text with its report is written
-pub record Breaks {C U : Type 0} (S : Ghosts C U) (policy : Policy) (run : Course) (from : SourceState) (old new : C) (under : U) (text written : Option (List ℕ)) : Type 0 where
-  pub made : List Event
-  pub unmade : List Event
-  pub whole : made ++ unmade ≡ run.events
-  pub state : S.stands new under (after policy made from)
-  pub arrived : S.arrivals new ≡ S.arrivals old + arrivals_in made
-  pub departed : S.departures new ≡ S.departures old + departures_in made
+pub record Breaks {C U : Type 0} (S : Ghosts C U) (policy : Policy) (run : Course) (from : SourceState) (c : C) (u : U) (c' : C) (u' : U) (text written : Option (List ℕ)) : Type 0 where
+  pub leaves : HasMadeSome S policy run.events from c u c' u'
   pub report : IsCut text (course_report policy run from) written

@@ -69,9 +69,9 @@ pub record Makes {C U : Type 0} (S : Ghosts C U) (policy : Policy) (events : Lis
   pub next : AreNext policy old.given (packets_in events)
   pub pushed : new.tally.pushed ≡ old.tally.pushed + arrivals_in events
   pub asked : new.tally.asked ≡ old.tally.asked + departures_in events
-  pub played : FromEach S policy old (λ s. Plays S policy (event_of old.tally) events s old.scheduler new.scheduler new.under old.text new.text)
+  pub played : FromEach S policy old (λ s. Plays S policy (event_of old.tally) events s old.scheduler old.under new.scheduler new.under old.text new.text)
 
 -- the first of the events were made, and a first part of the text with the lines of all is written
 pub record Stops {C U : Type 0} (S : Ghosts C U) (policy : Policy) (events : List Event) (old : Stage C U) (c : C) (u : U) (written : Option (List ℕ)) : Type 0 where
   pub next : AreNext policy old.given (packets_in events)
-  pub stopped : FromEach S policy old (λ s. StopsIn S policy (event_of old.tally) events s old.scheduler c u old.text written)
+  pub stopped : FromEach S policy old (λ s. StopsIn S policy (event_of old.tally) events s old.scheduler old.under c u old.text written)

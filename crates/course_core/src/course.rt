@@ -178,11 +178,11 @@ pub fn play<C: Scheduler, N: Names, P: Packets, K: Sink>(
     requires live { IsTrue report.old.live }
 
     ensures ok { OnOk result (OnCourse C.stands (C.policy scheduler.old) scheduler.old under.old (P.given packets.old) (P.left packets.old source.old) steps.now (λ s run.
-        Runs C.Scheduler (C.policy scheduler.old) run s scheduler.old scheduler.new under.new (text_of (K.written sink.old) report.old) (K.written sink.new))) }
+        Runs C.Scheduler (C.policy scheduler.old) run s scheduler.old under.old scheduler.new under.new (text_of (K.written sink.old) report.old) (K.written sink.new))) }
     ensures ending { IfOk result (λ e. OnCourse C.stands (C.policy scheduler.old) scheduler.old under.old (P.given packets.old) (P.left packets.old source.old) steps.now (λ s run.
         e ≡ ended run.ending)) }
     ensures err { OnErr result (OnCourse C.stands (C.policy scheduler.old) scheduler.old under.old (P.given packets.old) (P.left packets.old source.old) steps.now (λ s run.
-        Breaks C.Scheduler (C.policy scheduler.old) run s scheduler.old scheduler.new under.new (text_of (K.written sink.old) report.old) (K.written sink.new))) }
+        Breaks C.Scheduler (C.policy scheduler.old) run s scheduler.old under.old scheduler.new under.new (text_of (K.written sink.old) report.old) (K.written sink.new))) }
     ensures begins { Begins (K.written sink.old) (K.written sink.new) }
     ensures cause { IsErrOf result Stop.Sink → Rose (K.faults sink.old) (K.faults sink.new) }
     ensures cause_source { IsErrOf result Stop.Source → Rose (P.faults source.old) (P.faults source.new) }

@@ -2,3 +2,4 @@ pub mod Lift
 pub mod GoodMaps
 pub mod Lifting
 pub mod Laws
+pub mod Spilling

@@ -7,28 +7,39 @@ use Rattle.schedule_defs.specs.SourceState.{SourceState}
 use Rattle.schedule_defs.specs.Events.{Event, CanMake, after, outcomes, arrivals_in, departures_in}
 use Rattle.schedule_defs.specs.Report.{lines_from}
 use Rattle.sched_core.specs.declared.scheduler.Scheduler.{Ghosts}
+use Rattle.sched_core.specs.Origins.{images_of}
+use Rattle.sched_core.specs.Spills.{raised, spills_in}
 
 -- the lines of events from a state, where the first event has this number
 abbrev pub told : Policy → ℕ → List Event → SourceState → List ℕ
 told policy event events from = lines_from policy event (outcomes policy events from)
 
--- all of the events were made, from a state for which they stood, and the text grew by a line for each
+-- The events were made, from a state for which the scheduler c and the queues u under it stood: now c' and u' stand for the
+-- state after them. The events are counted, and where spills are told they rose by those of the arrivals.
+pub record HasMade {C U : Type 0} (S : Ghosts C U) (policy : Policy) (events : List Event) (from : SourceState) (c : C) (u : U) (c' : C) (u' : U) : Type 0 where
+  pub state : S.stands c' u' (after policy events from)
+  pub arrived : S.arrivals c' ≡ S.arrivals c + arrivals_in events
+  pub departed : S.departures c' ≡ S.departures c + departures_in events
+  pub origin : S.origin c' ≡ S.origin c
+  pub spilled : S.spilled c' u' ≡ raised (S.spilled c u) (spills_in (images_of (S.origin c)) policy events from)
+
+-- the first of the events were made
+pub record HasMadeSome {C U : Type 0} (S : Ghosts C U) (policy : Policy) (events : List Event) (from : SourceState) (c : C) (u : U) (c' : C) (u' : U) : Type 0 where
+  pub made : List Event
+  pub unmade : List Event
+  pub whole : made ++ unmade ≡ events
+  pub leaves : HasMade S policy made from c u c' u'
+
+-- all of the events were made, and the text grew by a line for each
 pub record Plays {C U : Type 0} (S : Ghosts C U) (policy : Policy) (event : ℕ) (events : List Event) (from : SourceState)
-    (old new : C) (under : U) (before text : Option (List ℕ)) : Type 0 where
-  pub state : S.stands new under (after policy events from)
-  pub arrived : S.arrivals new ≡ S.arrivals old + arrivals_in events
-  pub departed : S.departures new ≡ S.departures old + departures_in events
+    (c : C) (u : U) (c' : C) (u' : U) (before text : Option (List ℕ)) : Type 0 where
+  pub leaves : HasMade S policy events from c u c' u'
   pub lines : Appended before text (told policy event events from)
 
 -- the first of the events were made, and a first part of the text with the lines of all is written
 pub record StopsIn {C U : Type 0} (S : Ghosts C U) (policy : Policy) (event : ℕ) (events : List Event) (from : SourceState)
-    (old new : C) (under : U) (before written : Option (List ℕ)) : Type 0 where
-  pub made : List Event
-  pub unmade : List Event
-  pub whole : made ++ unmade ≡ events
-  pub state : S.stands new under (after policy made from)
-  pub arrived : S.arrivals new ≡ S.arrivals old + arrivals_in made
-  pub departed : S.departures new ≡ S.departures old + departures_in made
+    (c : C) (u : U) (c' : C) (u' : U) (before written : Option (List ℕ)) : Type 0 where
+  pub leaves : HasMadeSome S policy events from c u c' u'
   pub lines : IsCut before (told policy event events from) written
 
 -- these events can be made, and the counts have room for them

@@ -58,6 +58,7 @@ pub fn depart_line<C: Scheduler, N: Names, K: Sink>(
     ensures departures { C.departures scheduler.new ≡ C.departures scheduler.old + 1 }
     ensures policy { C.policy scheduler.new ≡ C.policy scheduler.old }
     ensures origin { C.origin scheduler.new ≡ C.origin scheduler.old }
+    ensures spilled { C.spilled scheduler.new under.new ≡ C.spilled scheduler.old under.old }
 {
     match scheduler.depart(under, trace) {
         Some(departed) => {
@@ -91,9 +92,9 @@ pub fn arrive_line<C: Scheduler, N: Names, K: Sink>(
     requires live { IsTrue report.old.live }
 
     ensures ok { OnOk result (ForEachState C.stands (C.policy scheduler.old) scheduler.old under.old (λ s.
-        Plays C.Scheduler (C.policy scheduler.old) event (Arrive packet.now ∷ []) s scheduler.old scheduler.new under.new (text_of (K.written sink.old) report.old) (text_of (K.written sink.new) report.new))) }
+        Plays C.Scheduler (C.policy scheduler.old) event (Arrive packet.now ∷ []) s scheduler.old under.old scheduler.new under.new (text_of (K.written sink.old) report.old) (text_of (K.written sink.new) report.new))) }
     ensures err { OnErr result (ForEachState C.stands (C.policy scheduler.old) scheduler.old under.old (λ s.
-        StopsIn C.Scheduler (C.policy scheduler.old) event (Arrive packet.now ∷ []) s scheduler.old scheduler.new under.new (text_of (K.written sink.old) report.old) (K.written sink.new))) }
+        StopsIn C.Scheduler (C.policy scheduler.old) event (Arrive packet.now ∷ []) s scheduler.old under.old scheduler.new under.new (text_of (K.written sink.old) report.old) (K.written sink.new))) }
     ensures begins { Begins (K.written sink.old) (K.written sink.new) }
     ensures cause { IsErrOf result Stop.Sink → Rose (K.faults sink.old) (K.faults sink.new) }
     ensures later { K.faults sink.old ≤ K.faults sink.new }

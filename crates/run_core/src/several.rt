@@ -37,9 +37,9 @@ pub fn depart_lines<C: Scheduler, N: Names, K: Sink>(
     requires live { IsTrue report.old.live }
 
     ensures ok { OnOk result (ForEachState C.stands (C.policy scheduler.old) scheduler.old under.old (λ s.
-        Plays C.Scheduler (C.policy scheduler.old) event (replicate count Depart) s scheduler.old scheduler.new under.new (text_of (K.written sink.old) report.old) (text_of (K.written sink.new) report.new))) }
+        Plays C.Scheduler (C.policy scheduler.old) event (replicate count Depart) s scheduler.old under.old scheduler.new under.new (text_of (K.written sink.old) report.old) (text_of (K.written sink.new) report.new))) }
     ensures err { OnErr result (ForEachState C.stands (C.policy scheduler.old) scheduler.old under.old (λ s.
-        StopsIn C.Scheduler (C.policy scheduler.old) event (replicate count Depart) s scheduler.old scheduler.new under.new (text_of (K.written sink.old) report.old) (K.written sink.new))) }
+        StopsIn C.Scheduler (C.policy scheduler.old) event (replicate count Depart) s scheduler.old under.old scheduler.new under.new (text_of (K.written sink.old) report.old) (K.written sink.new))) }
     ensures begins { Begins (K.written sink.old) (K.written sink.new) }
     ensures cause { OnErr result (Rose (K.faults sink.old) (K.faults sink.new)) }
     ensures later { K.faults sink.old ≤ K.faults sink.new }
@@ -74,9 +74,9 @@ pub fn arrive_lines<C: Scheduler, N: Names, K: Sink>(
     requires live { IsTrue report.old.live }
 
     ensures ok { OnOk result (ForEachState C.stands (C.policy scheduler.old) scheduler.old under.old (λ s. CanMake (C.policy scheduler.old) (map Arrive packets.now) s →
-        Plays C.Scheduler (C.policy scheduler.old) event (map Arrive packets.now) s scheduler.old scheduler.new under.new (text_of (K.written sink.old) report.old) (text_of (K.written sink.new) report.new))) }
+        Plays C.Scheduler (C.policy scheduler.old) event (map Arrive packets.now) s scheduler.old under.old scheduler.new under.new (text_of (K.written sink.old) report.old) (text_of (K.written sink.new) report.new))) }
     ensures err { OnErr result (ForEachState C.stands (C.policy scheduler.old) scheduler.old under.old (λ s. CanMake (C.policy scheduler.old) (map Arrive packets.now) s →
-        StopsIn C.Scheduler (C.policy scheduler.old) event (map Arrive packets.now) s scheduler.old scheduler.new under.new (text_of (K.written sink.old) report.old) (K.written sink.new))) }
+        StopsIn C.Scheduler (C.policy scheduler.old) event (map Arrive packets.now) s scheduler.old under.old scheduler.new under.new (text_of (K.written sink.old) report.old) (K.written sink.new))) }
     ensures begins { Begins (K.written sink.old) (K.written sink.new) }
     ensures cause { IsErrOf result Stop.Sink → Rose (K.faults sink.old) (K.faults sink.new) }
     ensures later { K.faults sink.old ≤ K.faults sink.new }

@@ -1,5 +1,6 @@
 pub mod Standing
 pub mod Origins
+pub mod Spills
 pub mod Departures
 pub mod Held
 pub mod Own

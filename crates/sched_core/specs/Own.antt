@@ -1,10 +1,9 @@
 -- What a scheduler keeps itself of a source state: all but its queues.
 use Rattle.std.specs.Prelude.{◌≡◌, ℕ, List, Some}
 use Rattle.tree_defs.specs.SourceTree.{SourceTree, pop}
-use Rattle.packet_defs.specs.declared.packet.Packet.{Packet}
 use Rattle.policy_defs.specs.Policy.{Policy}
 use Rattle.schedule_defs.specs.SourceState.{SourceState}
-use Rattle.stations_core.specs.Agreement.{policy_of, AreStates, HasFlowRoom}
+use Rattle.stations_core.specs.Agreement.{policy_of, AreStates}
 use Rattle.sched_core.specs.declared.own.Own.{Own}
 use Rattle.sched_core.specs.Held.{held_at}
 use Rattle.sched_core.specs.Standing.{StandForOne, ForEachState}
@@ -12,11 +11,10 @@ use Rattle.sched_core.specs.Standing.{StandForOne, ForEachState}
 abbrev pub policy_in : Own → Policy
 policy_in own = policy_of own.stations
 
--- the variables, the packets held and the greatest moment are those of the state, and each held packet's flow has room
+-- the variables, the packets held and the greatest moment are those of the state
 pub record IsOwn (own : Own) (s : SourceState) : Type 0 where
   pub nodes : AreStates own.stations s.nodes
   pub held : (n : ℕ) → held_at own.held n ≡ s.held n
-  pub room : (n : ℕ) (p : Packet) → s.held n ≡ Some p → HasFlowRoom own.stations p
   pub now : s.now ≡ own.moment
 
 -- whatever holds the queues

@@ -48,6 +48,8 @@ impl<'a> Scheduler for Direct<'a> {
 
     ghost origin = { λ _. None };
 
+    ghost spilled = { λ _ _. None };
+
     fn arrive(
         &mut self,
         under: &mut SourceTree,

@@ -1,12 +1,16 @@
-ghost use Rattle.std.specs.Prelude.{◌≡◌, ◌<◌, ◌≤◌, ◌+◌, ◌^◌, Some, option_map, is_ok, if◌then◌else◌, OnOk, OnErr, IfOk};
+ghost use Rattle.std.specs.Prelude.{◌≡◌, ◌<◌, ◌≤◌, ◌+◌, ◌^◌, ℕ, Some, option_map, is_ok, if◌then◌else◌, OnOk, OnErr, IfOk};
+ghost use Rattle.std.proofs.Props.{props};
 ghost use Rattle.tree_defs.specs.Tree.{depth};
 ghost use Rattle.tree_defs.specs.SourceTree.{size};
+ghost use Rattle.packet_defs.specs.declared.packet.Packet.{Packet as Known};
 ghost use Rattle.policy_defs.specs.Accepted.{IsAccepted};
 ghost use Rattle.policy_defs.specs.Numbers.{number_at};
 ghost use Rattle.schedule_defs.specs.SourceState.{SourceState, start, class_of, arrival_ranks, arrived, departed, leaver};
 ghost use Rattle.schedule_defs.specs.Sound.{IsKnown};
 ghost use Rattle.schedule_defs.specs.Events.{CanArrive};
+ghost use Rattle.stations_core.specs.Agreement.{HasFlowRoom};
 ghost use Rattle.sched_core.specs.Departures.{departed_packet};
+ghost use Rattle.sched_core.specs.Held.{held_at};
 
 use crate::held::Held;
 use packet_defs::{Departed, Packet};
@@ -16,6 +20,7 @@ use std::alloc::{AllocError, Global};
 use tree_core::Taken;
 
 /// What a scheduler keeps itself, whatever holds its queues: the nodes' variables, the held packets and the greatest moment.
+/// The flow of each held packet has room at its leaf, so a departure takes no memory.
 #[derive(Drop)]
 pub struct Own<'a> {
     stations: Stations<'a>,
@@ -23,6 +28,7 @@ pub struct Own<'a> {
     moment: u64,
     arrivals: u64,
     departures: u64,
+    ghost room: { (n : ℕ) (p : Known) → held_at held n ≡ Some p → HasFlowRoom stations p } by { Prim.hlevel props },
 }
 
 impl<'a> Own<'a> {

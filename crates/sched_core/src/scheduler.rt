@@ -7,7 +7,8 @@ ghost use Rattle.policy_defs.specs.Numbers.{number_at};
 ghost use Rattle.schedule_defs.specs.SourceState.{SourceState, class_of, arrival_ranks, arrived, departed, leaver};
 ghost use Rattle.schedule_defs.specs.Events.{CanArrive};
 ghost use Rattle.sched_core.specs.Standing.{StandForOne, ForEachState};
-ghost use Rattle.sched_core.specs.Origins.{Origin};
+ghost use Rattle.sched_core.specs.Origins.{Origin, images_of};
+ghost use Rattle.sched_core.specs.Spills.{raised, arrival_spills};
 ghost use Rattle.sched_core.specs.Departures.{departed_packet, IsTaken};
 
 use packet_defs::{Departed, Packet};
@@ -33,6 +34,9 @@ pub trait Scheduler {
     /// Where the queues stand in a target, if they do.
     ghost origin: { Self → Option Origin };
 
+    /// How often pushes into the queues spilled, where that is told.
+    ghost spilled: { Self → Self.Under → Option ℕ };
+
     /// A packet arrives: the push steps run from the root to the leaf of its class, and it is pushed along their ranks. The
     /// answer is the leaf's number, and `trace` gets its address and the ranks. The error is want of memory.
     fn arrive(
@@ -53,6 +57,8 @@ pub trait Scheduler {
         ensures err { OnErr result (ForEachState stands (policy self.old) self.old under.old (λ s. stands self.new under.new s)) }
         ensures trace { OnErr result (trace.new ≡ trace.old) }
         ensures room { trace.new.room ≡ trace.old.room }
+        ensures spilled { OnOk result (ForEachState stands (policy self.old) self.old under.old (λ s. spilled self.new under.new ≡ raised (spilled self.old under.old) (arrival_spills (images_of (origin self.old)) (policy self.old) packet.now s))) }
+        ensures spilled_stays { OnErr result (spilled self.new under.new ≡ spilled self.old under.old) }
         ensures arrivals { arrivals self.new ≡ (if is_ok result then arrivals self.old + 1 else arrivals self.old) }
         ensures departures { departures self.new ≡ departures self.old }
         ensures policy { policy self.new ≡ policy self.old }
@@ -72,6 +78,7 @@ pub trait Scheduler {
         ensures taken { ForEachState stands (policy self.old) self.old under.old (λ s. IfSome (leaver s) (λ l. IsTaken l trace.new)) }
         ensures trace { IfNone result (trace.new ≡ trace.old) }
         ensures room { trace.new.room ≡ trace.old.room }
+        ensures spilled { spilled self.new under.new ≡ spilled self.old under.old }
         ensures arrivals { arrivals self.new ≡ arrivals self.old }
         ensures departures { departures self.new ≡ departures self.old + 1 }
         ensures policy { policy self.new ≡ policy self.old }

@@ -7,7 +7,7 @@ use Rattle.tree_defs.specs.Tree.{nodes}
 use Rattle.policy_defs.specs.Policy.{Policy}
 use Rattle.schedule_defs.specs.SourceState.{class_of}
 use Rattle.schedule_defs.specs.Events.{Arrive}
-use Rattle.run_core.proofs.Runs.{cut_unwritten}
+use Rattle.run_core.proofs.Runs.{cut_unwritten, made_arrival, made_all, made_some_none}
 use Rattle.run_core.proofs.Leaves.{arrives, arrival_few, named_leaf, lines_arrived}
 use Rattle.run_core.proofs.lines.arrive_line.Goals as goal
 
@@ -15,12 +15,8 @@ pub returns-in_err-leaf-clause-err : goal.returns-in_err-leaf-clause-err
 returns-in_err-leaf-clause-err g c =
     let p = err_from_is_err_and c.from_residual.result c.from_residual.ensures.1 in
     rw (p.1) (λ s sound stood. record {
-      made = [];
-      unmade = Arrive c.args.packet.now ∷ [];
-      whole = refl;
-      state = c.in_err-leaf.ensures.err s sound stood;
-      arrived = omega (arith, c.in_err-leaf.ensures.arrivals);
-      departed = omega (arith, c.in_err-leaf.ensures.departures);
+      leaves = made_some_none g.C.Scheduler (g.C.Scheduler.policy c.args.scheduler.now) (Arrive c.args.packet.now ∷ []) s (c.in_err-leaf.ensures.err s sound stood)
+          c.in_err-leaf.ensures.arrivals c.in_err-leaf.ensures.departures c.in_err-leaf.ensures.origin c.in_err-leaf.ensures.spilled_stays;
       lines = cut_unwritten (g.K.Sink.written c.args.sink.now) c.args.report.now.unwritten _;
     })
 
@@ -55,12 +51,8 @@ returns-in_err-arrived-clause-err g c =
     let at = arrives policy c.args.packet.now r.state c.requires.accepted r.has in
     let named = named_leaf policy (g.N.Names.policy c.args.names.now) (class_of policy c.args.packet.now).leaf c.in_ok-leaf.leaf c.name-name.result.now c.requires.names at (sym c.in_ok-leaf.ensures.leaf) c.name-name.ensures.name in
     rw (p.1) (λ s sound stood. record {
-      made = Arrive c.args.packet.now ∷ [];
-      unmade = [];
-      whole = refl;
-      state = c.in_ok-leaf.ensures.ok s sound stood;
-      arrived = c.in_ok-leaf.ensures.arrivals;
-      departed = omega (arith, c.in_ok-leaf.ensures.departures);
+      leaves = made_all g.C.Scheduler policy (Arrive c.args.packet.now ∷ [])
+          (made_arrival g.C.Scheduler policy (c.in_ok-leaf.ensures.ok s sound stood) c.in_ok-leaf.ensures.arrivals c.in_ok-leaf.ensures.departures c.in_ok-leaf.ensures.origin (c.in_ok-leaf.ensures.spilled s sound stood));
       lines = subst (λ (l : List ℕ). IsCut (text_of (g.K.Sink.written c.args.sink.now) c.args.report.now) l (g.K.Sink.written c.arrived.new.sink))
           (lines_arrived policy c.args.packet.now s c.args.event c.name-name.result.now c.ranks.result.now named (c.ranks.ensures.ranks ∙ c.in_ok-leaf.ensures.ranks s sound stood))
           c.in_err-arrived.ensures.cut;
@@ -73,9 +65,7 @@ returns-clause-ok g c =
     let at = arrives policy c.args.packet.now r.state c.requires.accepted r.has in
     let named = named_leaf policy (g.N.Names.policy c.args.names.now) (class_of policy c.args.packet.now).leaf c.in_ok-leaf.leaf c.name-name.result.now c.requires.names at (sym c.in_ok-leaf.ensures.leaf) c.name-name.ensures.name in
     λ s sound stood. record {
-      state = c.in_ok-leaf.ensures.ok s sound stood;
-      arrived = c.in_ok-leaf.ensures.arrivals;
-      departed = omega (arith, c.in_ok-leaf.ensures.departures);
+      leaves = made_arrival g.C.Scheduler policy (c.in_ok-leaf.ensures.ok s sound stood) c.in_ok-leaf.ensures.arrivals c.in_ok-leaf.ensures.departures c.in_ok-leaf.ensures.origin (c.in_ok-leaf.ensures.spilled s sound stood);
       lines = subst (λ (l : List ℕ). Appended (text_of (g.K.Sink.written c.args.sink.now) c.args.report.now) (text_of (g.K.Sink.written c.arrived.new.sink) c.arrived.new.self) l)
           (lines_arrived policy c.args.packet.now s c.args.event c.name-name.result.now c.ranks.result.now named (c.ranks.ensures.ranks ∙ c.in_ok-leaf.ensures.ranks s sound stood))
           c.in_ok-arrived.ensures.ok;

@@ -10,7 +10,7 @@ abbrev pub invariant-loop-packet : goal.invariant-loop-packet
 invariant-loop-packet g l =
     let scheduler = g.C.Scheduler in
     record {
-      played : ForEachState scheduler.stands (scheduler.policy l.fn.scheduler) l.fn.scheduler l.fn.under (λ s. CanMake (scheduler.policy l.fn.scheduler) (map Arrive l.packets) s → Plays scheduler (scheduler.policy l.fn.scheduler) l.fn.event (map Arrive (take l.packet-index l.packets)) s l.fn.scheduler l.scheduler l.under (text_of (g.K.Sink.written l.fn.sink) l.fn.report) (text_of (g.K.Sink.written l.sink) l.report));
+      played : ForEachState scheduler.stands (scheduler.policy l.fn.scheduler) l.fn.scheduler l.fn.under (λ s. CanMake (scheduler.policy l.fn.scheduler) (map Arrive l.packets) s → Plays scheduler (scheduler.policy l.fn.scheduler) l.fn.event (map Arrive (take l.packet-index l.packets)) s l.fn.scheduler l.fn.under l.scheduler l.under (text_of (g.K.Sink.written l.fn.sink) l.fn.report) (text_of (g.K.Sink.written l.sink) l.report));
       event : l.event ≡ l.fn.event + l.packet-index;
       begins : Begins (g.K.Sink.written l.fn.sink) (g.K.Sink.written l.sink);
       later : g.K.Sink.faults l.fn.sink ≤ g.K.Sink.faults l.sink;

@@ -11,7 +11,7 @@ use Rattle.schedule_defs.specs.Sound.{IsSound}
 use Rattle.schedule_defs.specs.Events.{Depart, after, outcome}
 use Rattle.schedule_defs.specs.Report.{outcome_line}
 use Rattle.schedule_defs.proofs.Runs.{sound_departures, departures_in-departures}
-use Rattle.run_core.proofs.Runs.{depart_next, depart_cut, each_state}
+use Rattle.run_core.proofs.Runs.{made_departure, depart_next, depart_cut, each_state}
 use Rattle.run_core.proofs.several.depart_lines.Goals as goal
 
 pub depart_line-requires-clause-accepted : goal.depart_line-requires-clause-accepted
@@ -25,14 +25,14 @@ depart_line-requires-clause-stands g c =
     record {
       state = state;
       sound = subst (λ (q : Policy). IsSound q state) (sym c.loop-done.invariant.policy) (sound_departures policy c.loop-done.done r.state c.requires.accepted r.sound);
-      stood = (c.loop-done.invariant.played r.state r.sound r.stood).state;
+      stood = (c.loop-done.invariant.played r.state r.sound r.stood).leaves.state;
       has = tt;
     }
 
 pub depart_line-requires-clause-few : goal.depart_line-requires-clause-few
 depart_line-requires-clause-few g c =
     let r = c.requires.stands in
-    omega (arith, (c.loop-done.invariant.played r.state r.sound r.stood).departed, departures_in-departures c.loop-done.done)
+    omega (arith, (c.loop-done.invariant.played r.state r.sound r.stood).leaves.departed, departures_in-departures c.loop-done.done)
 
 pub returns-in_err-depart_line-clause-err : goal.returns-in_err-depart_line-clause-err
 returns-in_err-depart_line-clause-err g c =
@@ -46,7 +46,7 @@ returns-in_err-depart_line-clause-err g c =
     let first = i.played s sound stood in
     let still = sound_departures policy c.loop-done.done s c.requires.accepted sound in
     depart_cut g.C.Scheduler policy c.loop-done.done c.args.count (omega arith) first
-    (state _ still first.state) e.arrivals e.departures (cut _ still first.state))
+    (made_departure g.C.Scheduler policy (state _ still first.leaves.state) e.arrivals e.departures e.origin e.spilled) (cut _ still first.leaves.state))
 
 pub loop-done-preserved : goal.loop-done-preserved
 loop-done-preserved g c =
@@ -60,7 +60,7 @@ loop-done-preserved g c =
           let first = i.played s sound stood in
           let still = sound_departures policy c.loop-done.done s c.requires.accepted sound in
           depart_next g.C.Scheduler policy c.loop-done.done first
-          (state _ still first.state) e.arrivals e.departures (text _ still first.state);
+          (made_departure g.C.Scheduler policy (state _ still first.leaves.state) e.arrivals e.departures e.origin e.spilled) (text _ still first.leaves.state);
       begins = Begins-trans _ _ _ i.begins e.begins;
       later = omega (arith, e.later, i.later);
       live = e.live;

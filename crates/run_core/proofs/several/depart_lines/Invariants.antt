@@ -10,7 +10,7 @@ abbrev pub invariant-loop-done : goal.invariant-loop-done
 invariant-loop-done g l =
     let scheduler = g.C.Scheduler in
     record {
-      played : ForEachState scheduler.stands (scheduler.policy l.fn.scheduler) l.fn.scheduler l.fn.under (λ s. Plays scheduler (scheduler.policy l.fn.scheduler) l.event (replicate l.done Depart) s l.fn.scheduler l.scheduler l.under (text_of (g.K.Sink.written l.fn.sink) l.fn.report) (text_of (g.K.Sink.written l.sink) l.report));
+      played : ForEachState scheduler.stands (scheduler.policy l.fn.scheduler) l.fn.scheduler l.fn.under (λ s. Plays scheduler (scheduler.policy l.fn.scheduler) l.event (replicate l.done Depart) s l.fn.scheduler l.fn.under l.scheduler l.under (text_of (g.K.Sink.written l.fn.sink) l.fn.report) (text_of (g.K.Sink.written l.sink) l.report));
       begins : Begins (g.K.Sink.written l.fn.sink) (g.K.Sink.written l.sink);
       later : g.K.Sink.faults l.fn.sink ≤ g.K.Sink.faults l.sink;
       live : IsTrue l.report.live;

@@ -15,7 +15,6 @@ returns-in_err-reserve-clause-err c =
     rw (p.1) (λ s sound own. record {
       nodes = c.reserve.ensures.states s.nodes own.nodes;
       held = own.held;
-      room = λ n q h. c.reserve.ensures.kept q (own.room n q h);
       now = own.now;
     })
 
@@ -25,7 +24,6 @@ returns-in_err-put-clause-err c =
     rw (p.1) (λ s sound own. record {
       nodes = c.reserve.ensures.states s.nodes own.nodes;
       held = λ n. c.in_err-put.ensures.err n ∙ own.held n;
-      room = λ n q h. c.reserve.ensures.kept q (own.room n q h);
       now = own.now;
     })
 
@@ -39,10 +37,6 @@ returns-clause-ok c = λ s sound own.
           (subst (λ (z : Policy). AreStates c.push_steps.new.self (after_pushes (way_in z p c.max-self.result) s.nodes)) c.reserve.ensures.policy
           (c.push_steps.ensures.states s.nodes (c.reserve.ensures.states s.nodes own.nodes)));
       held = λ n. c.in_ok-put.ensures.ok n ∙ ap (λ (o : Option Packet). if n == p.number then Some p else o) (own.held n);
-      room = λ n q h. elim (with_packet-is s.held p n q h) [
-        | inl e ↦ subst (HasFlowRoom c.push_steps.new.self) e.1 (c.push_steps.ensures.kept p c.in_ok-reserve.ensures.room)
-        | inr e ↦ c.push_steps.ensures.kept q (c.reserve.ensures.kept q (own.room n q e))
-      ];
       now = sym moment;
     }
 

@@ -41,7 +41,6 @@ returns-clause-state c = λ s sound own next.
       nodes = subst (λ (m : ℕ). AreStates c.pop_steps.new.self (after_pops (way_out (policy_in c.args.self.now) p c.args.digits.now m) c.args.ranks.now s.nodes)) (sym own.now)
           (c.pop_steps.ensures.states s.nodes own.nodes);
       held = λ n. c.take.ensures.rest n ∙ ap (λ (o : Option Packet). if n == c.args.number then None else o) (own.held n);
-      room = λ n q h. c.pop_steps.ensures.kept q (own.room n q (without-is s.held c.args.number n q h).1);
       now = own.now;
     }
 

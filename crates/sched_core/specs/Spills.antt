@@ -1,0 +1,23 @@
+-- At how many nodes of a target the pushes of events spill.
+use Rattle.std.specs.Prelude.{ℕ, ◌+◌, Option, None, Some, option_map, List, [], ◌∷◌}
+use Rattle.tree_defs.specs.Tree.{Tree, Address}
+use Rattle.lift_defs.specs.Spilling.{push_spills}
+use Rattle.packet_defs.specs.declared.packet.Packet.{Packet}
+use Rattle.policy_defs.specs.Policy.{Policy}
+use Rattle.schedule_defs.specs.SourceState.{SourceState, class_of, arrival_ranks, arrived, departed}
+use Rattle.schedule_defs.specs.Events.{Event, Arrive, Depart}
+
+-- a count that rose, where it is told
+abbrev pub raised : Option ℕ → ℕ → Option ℕ
+raised told more = option_map (λ n. n + more) told
+
+-- at how many nodes the push of an arrival spills, along the images of the source's nodes, where they have any
+abbrev pub arrival_spills : Option (Tree Address) → Policy → Packet → SourceState → ℕ
+arrival_spills None policy p s = 0
+arrival_spills (Some images) policy p s = push_spills images s.tree (class_of policy p).leaf (arrival_ranks policy p s)
+
+-- the spills of all arrivals among events in a row
+abbrev pub spills_in : Option (Tree Address) → Policy → List Event → SourceState → ℕ
+spills_in images policy [] s = 0
+spills_in images policy (Arrive p ∷ events) s = arrival_spills images policy p s + spills_in images policy events (arrived policy p s)
+spills_in images policy (Depart ∷ events) s = spills_in images policy events (departed policy s)
