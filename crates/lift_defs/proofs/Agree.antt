@@ -27,7 +27,7 @@ no_part (more (leaf e) ps) zero p = cc
 no_part (more (inner e us) ps) zero p = cc
 no_part (more p ps) (suc i) q = no_part ps i q
 
-other_shape : {Q R : Type 0} (t : Tree Q) (u : Tree R) → SameShape t u → SameShape u t
+pub other_shape : {Q R : Type 0} (t : Tree Q) (u : Tree R) → SameShape t u → SameShape u t
 other_shape t u s = same_shape u t (sym (topology_of-same t u s))
 
 -- a tree of the same shape has no other addresses

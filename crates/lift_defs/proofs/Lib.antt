@@ -11,3 +11,5 @@ pub mod CanonicalMaps
 pub mod Reading
 pub mod RanksInWords
 pub mod LawProofs
+pub mod EmbeddedMaps
+pub mod SpillsOfLifts

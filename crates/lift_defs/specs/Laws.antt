@@ -1,16 +1,19 @@
 -- What follows from the definition of the lift, under good maps.
 use Rattle.std.specs.Prelude.{◌≡◌, ◌↔◌, ◌+◌, ◌<◌, ◌≤◌, ℕ, suc, List, length, take, Some, None, slice_index}
 use Rattle.tree_defs.specs.Tree.{Tree, Address, IsAddressOf, LeadsToLeaf, SameShape, Popping}
-use Rattle.tree_defs.specs.Topology.{Topology}
+use Rattle.tree_defs.specs.Topology.{Topology, complete}
 use Rattle.tree_defs.specs.SourceTree.{SourceTree, empty_tree, push, pop, IsWellFormed}
 use Rattle.fabric_defs.specs.Family.{Family, push_along, pop_along, IsEmpty, SameQueues}
+use Rattle.fabric_defs.specs.Spills.{spills_along}
 use Rattle.target_defs.specs.Levels.{Arities}
+use Rattle.placement_defs.specs.Embedding.{IsEmbedding}
 use Rattle.placement_defs.specs.Need.{HasHeight}
 use Rattle.placement_defs.specs.Canonical.{IsCanonical}
 use Rattle.placement_defs.specs.Images.{image_map}
 use Rattle.placement_defs.specs.Laws.{AreWide}
 use Rattle.lift_defs.specs.Lift.{IsLift, lift_ranks, picked_ranks}
 use Rattle.lift_defs.specs.GoodMaps.{IsGoodMap}
+use Rattle.lift_defs.specs.Spilling.{lift_of, push_spills}
 
 -- a good map of a source tree into a complete tree of height h
 pub record Maps (h : ℕ) (t : SourceTree) (images : Tree Address) : Type 0 where
@@ -21,6 +24,10 @@ pub record Maps (h : ℕ) (t : SourceTree) (images : Tree Address) : Type 0 wher
 pub record LiftsAreOne : Type 0 where
   pub some : (h : ℕ) (t : SourceTree) (images : Tree Address) → Maps h t images → (F : Family) × IsLift t (image_map images) F
   pub one : (h : ℕ) (t : SourceTree) (images : Tree Address) (F G : Family) → Maps h t images → IsLift t (image_map images) F → IsLift t (image_map images) G ↔ SameQueues G F
+
+-- lift_of gives the lift of a source tree
+abbrev pub LiftOfIsTheLift : Type 0
+LiftOfIsTheLift = (h : ℕ) (t : SourceTree) (images : Tree Address) → Maps h t images → IsLift t (image_map images) (lift_of images t)
 
 -- the lift of an empty tree is empty, and an empty family is its lift
 abbrev pub EmptyTreesHaveEmptyLifts : Type 0
@@ -52,6 +59,12 @@ PopsOfLiftsAreLiftedPops = (h : ℕ) (t : SourceTree) (images : Tree Address) (F
 pub record MapsStay : Type 0 where
   pub push : (h : ℕ) (t : SourceTree) (images : Tree Address) (digits ranks : List ℕ) (item : ℕ) → Maps h t images → Maps h (push t digits ranks item) images
   pub pop : (h : ℕ) (t : SourceTree) (images : Tree Address) (r : Popping SourceTree) → pop t ≡ Some r → Maps h t images → Maps h r.left images
+
+-- along a leaf's image and with the lifted ranks a push spills at as many nodes of any lift as push_spills tells
+abbrev pub SpillsOfLifts : Type 0
+SpillsOfLifts =
+    (h : ℕ) (t : SourceTree) (images : Tree Address) (F : Family) (digits ranks : List ℕ) → Maps h t images → LeadsToLeaf t digits → IsLift t (image_map images) F
+    → spills_along (image_map images digits) (lift_ranks images digits ranks) F ≡ push_spills images t digits ranks
 
 -- ---- reading a path back
 -- a node is known by its image
@@ -93,3 +106,8 @@ PickedRanksAreThoseAtTheImages = (images : Tree Address) (digits ranks : List �
 -- where there is room for the canonical placement, it is a good map
 abbrev pub CanonicalMapsAreGood : Type 0
 CanonicalMapsAreGood = (a : Arities) (h : ℕ) (t : Topology) (images : Tree Address) → AreWide a → (c : IsCanonical a h t images) → HasHeight h c.all → SameShape t images × IsGoodMap h images
+
+-- ---- embeddings
+-- the images of an embedding in a complete tree are a good map
+abbrev pub EmbeddingsAreGoodMaps : Type 0
+EmbeddingsAreGoodMaps = (arities : List ℕ) (t : Topology) (images : Tree Address) → SameShape t images → IsEmbedding t (complete arities) (image_map images) → IsGoodMap (length arities) images

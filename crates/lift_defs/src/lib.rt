@@ -1,11 +1,16 @@
 //! The lift of a source tree into a complete tree of queues, along a map of its nodes.
 #![tactic(auto)]
 
-ghost use Rattle.lift_defs.specs.Laws.{LiftsAreOne, EmptyTreesHaveEmptyLifts, PushesOfLiftsAreLifts, PopsOfLiftsAreLiftedPops, MapsStay, NodesHaveImagesOfTheirOwn, PickedRanksAreThoseLifted, LiftedRanksAreOfTheDeepest, PickedRanksAreThoseAtTheImages, CanonicalMapsAreGood};
+ghost use Rattle.lift_defs.specs.Laws.{LiftsAreOne, EmptyTreesHaveEmptyLifts, PushesOfLiftsAreLifts, PopsOfLiftsAreLiftedPops, MapsStay, NodesHaveImagesOfTheirOwn, PickedRanksAreThoseLifted, LiftedRanksAreOfTheDeepest, PickedRanksAreThoseAtTheImages, CanonicalMapsAreGood, LiftOfIsTheLift, SpillsOfLifts, EmbeddingsAreGoodMaps};
 
 /// A source tree has one lift.
 pub fn lifts_are_one()
     ensures law { LiftsAreOne }
+{}
+
+/// What `lift_of` gives is the lift.
+pub fn lift_of_is_the_lift()
+    ensures law { LiftOfIsTheLift }
 {}
 
 /// The lift of a tree of empty queues is empty, and an empty family is its lift.
@@ -21,6 +26,11 @@ pub fn pushes_of_lifts_are_lifts()
 /// A pop of the lift is the lifted pop of the tree.
 pub fn pops_of_lifts_are_lifted_pops()
     ensures law { PopsOfLiftsAreLiftedPops }
+{}
+
+/// A push spills alike in each lift of a tree.
+pub fn spills_of_lifts()
+    ensures law { SpillsOfLifts }
 {}
 
 /// A map of a tree is one of the tree after a push or a pop.
@@ -51,4 +61,9 @@ pub fn picked_ranks_are_those_at_the_images()
 /// The images of the canonical placement are a good map.
 pub fn canonical_maps_are_good()
     ensures law { CanonicalMapsAreGood }
+{}
+
+/// The images of an embedding are a good map.
+pub fn embeddings_are_good_maps()
+    ensures law { EmbeddingsAreGoodMaps }
 {}
