@@ -44,6 +44,10 @@ pub arrival_line-first : arrival_line 1 1 (codes "root") (0 ∷ []) ≡ codes "a
 unfolding digits
 arrival_line-first = refl
 
+pub arrival_line-later : arrival_line 7 3 (codes "web") (1 ∷ 0 ∷ []) ≡ codes "a 7 3 web 1/0\n"
+unfolding digits
+arrival_line-later = refl
+
 pub departure_line-first : departure_line 15 4 (codes "web") (1 ∷ 375000 ∷ 0 ∷ []) None ≡ codes "d 15 4 web 1/375000/0\n"
 unfolding digits
 departure_line-first = refl
@@ -60,6 +64,14 @@ pub end_line-two_packets : end_line 2 2 1 0 0 ≡ codes "end pushed 2 popped 2 e
 unfolding digits
 end_line-two_packets = refl
 
+pub end_line-some_held : end_line 9 6 5 3 1 ≡ codes "end pushed 9 popped 6 empty 5 held 3 unsent 1\n"
+unfolding digits
+end_line-some_held = refl
+
 pub fault_line-words : fault_line (codes "words") 0 0 ≡ codes "fault words 0 0\n"
 unfolding digits
 fault_line-words = refl
+
+pub fault_line-policy : fault_line (codes "policy") 5 12 ≡ codes "fault policy 5 12\n"
+unfolding digits
+fault_line-policy = refl

@@ -23,6 +23,12 @@ IsCut text more None = ⊤
 IsCut None more (Some written) = ⊥
 IsCut (Some text) more (Some written) = IsFront written (text ++ more)
 
+appended-one : appended (Some (1 ∷ [])) (2 ∷ []) ≡ Some (1 ∷ 2 ∷ [])
+appended-one = refl
+
+appended-untold : appended None (2 ∷ []) ≡ None
+appended-untold = refl
+
 Begins-one_more : Begins (Some (1 ∷ [])) (Some (1 ∷ 2 ∷ []))
 Begins-one_more = record { rest = 2 ∷ []; joined = refl }
 
