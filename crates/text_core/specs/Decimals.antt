@@ -1,5 +1,5 @@
 -- The numbers that digits write.
-use Rattle.std.specs.Prelude.{◌≡◌, refl, codes, ℕ, ◌&&◌, Bool, false, nat_le, if◌then◌else◌, List, [], ◌∷◌, Option, Some, None}
+use Rattle.std.specs.Prelude.{◌≡◌, refl, codes, ℕ, ◌&&◌, Bool, false, nat_le, if◌then◌else◌, List, [], ◌∷◌, map, Option, Some, None}
 use Rattle.std.specs.Str.{all_ascii_digits}
 use Rattle.std.specs.Str.Parse.{digits_value}
 
@@ -27,3 +27,6 @@ one_more_is_too_large = refl
 
 no_digit_is_no_number : number_of (codes "") ≡ None
 no_digit_is_no_number = refl
+
+other_bytes_are_no_number : map number_of (codes "1a" ∷ codes "+1" ∷ codes "1/" ∷ codes "1:" ∷ codes " 1" ∷ []) ≡ None ∷ None ∷ None ∷ None ∷ None ∷ []
+other_bytes_are_no_number = refl

@@ -1,5 +1,5 @@
 -- What the lines of a text are.
-use Rattle.std.specs.Prelude.{◌≡◌, ℕ, ◌+◌, ◌-◌, ◌<◌, ◌≤◌, ◌==◌, Bool, not, ◌&&◌, ◌||◌, nat_le, if◌then◌else◌, List, [], ◌∷◌, length, drop, take, slice_index, map, codes, refl}
+use Rattle.std.specs.Prelude.{◌≡◌, ℕ, ◌+◌, ◌-◌, ◌<◌, ◌≤◌, ◌==◌, Bool, true, false, not, ◌&&◌, ◌||◌, nat_le, if◌then◌else◌, List, [], ◌∷◌, length, drop, take, slice_index, map, codes, refl}
 use Rattle.std.specs.List.{prefix_len, list_all}
 use Rattle.text_core.specs.declared.line.Line.{Line}
 
@@ -72,6 +72,16 @@ pub record AreLines (text : List ℕ) (ls : List Line) : Type 0 where
   pub follow : Follow text 0 ls end
   pub over : length text ≤ end
 
+-- a tab, and all from the space to `~`
+clean_bytes : map is_clean (8 ∷ 9 ∷ 10 ∷ 13 ∷ 31 ∷ 32 ∷ 126 ∷ 127 ∷ 195 ∷ []) ≡ false ∷ true ∷ false ∷ false ∷ false ∷ true ∷ true ∷ false ∷ false ∷ []
+clean_bytes = refl
+
+one_unclean_byte : map is_clean_text (codes "a b" ∷ codes "a\rb" ∷ codes "" ∷ []) ≡ true ∷ false ∷ true ∷ []
+one_unclean_byte = refl
+
+bytes_of_a_span : line_text (codes "a\nb c #d\n") (record { start = 2; end = 6; clean = true }) ≡ codes "b c "
+bytes_of_a_span = refl
+
 empty_text_has_no_line : lines_of (codes "") ≡ []
 empty_text_has_no_line = refl
 
@@ -86,3 +96,6 @@ one_return_is_dropped = refl
 
 a_return_before_a_comment_stays : statements_of (codes "a\r#b\r\n") ≡ codes "a\r" ∷ []
 a_return_before_a_comment_stays = refl
+
+a_comment_begins_at_its_first_sign : statements_of (codes "a #b#c\n#\n\"b") ≡ codes "a " ∷ [] ∷ codes "\"b" ∷ []
+a_comment_begins_at_its_first_sign = refl

@@ -1,5 +1,5 @@
 -- The marks of the language and their bytes.
-use Rattle.std.specs.Prelude.{ℕ, Bool, List, Option, Some, None, if◌then◌else◌, codes}
+use Rattle.std.specs.Prelude.{◌≡◌, refl, ℕ, Bool, List, [], ◌∷◌, map, Option, Some, None, if◌then◌else◌, codes}
 use Rattle.std.specs.Str.{bytes_eq}
 use Rattle.text_core.specs.declared.mark.Mark.{Mark}
 use Rattle.text_core.specs.declared.mark.Mark.TheVariants as m
@@ -46,3 +46,12 @@ mark_of w =
     else (if is_mark_text w m.More then Some m.More
     else (if is_mark_text w m.MoreEq then Some m.MoreEq
     else None)))))))))))))))
+
+marks_of_two_bytes : map mark_of (codes ".." ∷ codes "==" ∷ codes "!=" ∷ codes "<=" ∷ codes ">=" ∷ []) ≡ Some m.DotDot ∷ Some m.Equal ∷ Some m.NotEqual ∷ Some m.LessEq ∷ Some m.MoreEq ∷ []
+marks_of_two_bytes = refl
+
+marks_of_one_byte : map mark_of (codes "." ∷ codes "/" ∷ codes "+" ∷ codes "-" ∷ codes "*" ∷ codes "(" ∷ codes ")" ∷ codes "," ∷ codes "=" ∷ codes "<" ∷ codes ">" ∷ []) ≡ Some m.Dot ∷ Some m.Slash ∷ Some m.Plus ∷ Some m.Minus ∷ Some m.Star ∷ Some m.Open ∷ Some m.Close ∷ Some m.Comma ∷ Some m.Is ∷ Some m.Less ∷ Some m.More ∷ []
+marks_of_one_byte = refl
+
+no_marks : map mark_of (codes "" ∷ codes "!" ∷ codes "..." ∷ codes "=<" ∷ []) ≡ None ∷ None ∷ None ∷ None ∷ []
+no_marks = refl

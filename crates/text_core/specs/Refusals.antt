@@ -1,4 +1,5 @@
 -- Why a line isn't read.
+use Rattle.std.specs.Prelude.{◌≡◌, refl, List, [], ◌∷◌, map}
 use Rattle.text_core.specs.declared.token.TokenFault.{TokenFault}
 use Rattle.text_core.specs.declared.token.TokenFault.TheVariants as fault
 use Rattle.text_core.specs.declared.refusal.Refusal.{Refusal}
@@ -8,3 +9,6 @@ use Rattle.text_core.specs.declared.refusal.Refusal.TheVariants as refusal
 abbrev pub refusal_of : TokenFault → Refusal
 refusal_of (fault.Bad place) = refusal.NoForm
 refusal_of fault.NoMemory = refusal.NoMemory
+
+both_refusals : map refusal_of (fault.Bad 3 ∷ fault.NoMemory ∷ []) ≡ refusal.NoForm ∷ refusal.NoMemory ∷ []
+both_refusals = refl

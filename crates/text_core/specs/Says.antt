@@ -1,5 +1,5 @@
 -- What the bytes of a line say as tokens.
-use Rattle.std.specs.Prelude.{◌≡◌, refl, ℕ, ◌-◌, ◌==◌, Bool, true, false, not, ◌||◌, List, [], ◌∷◌, ◌++◌, take, drop, Option, Some, option_map, codes}
+use Rattle.std.specs.Prelude.{◌≡◌, refl, ℕ, ◌-◌, ◌==◌, Bool, true, false, not, ◌||◌, List, [], ◌∷◌, ◌++◌, map, take, drop, Option, Some, None, option_map, codes}
 use Rattle.std.specs.List.{prefix_len}
 use Rattle.text_core.specs.declared.token.TokenKind.{TokenKind}
 use Rattle.text_core.specs.declared.token.TokenKind.TheVariants as k
@@ -55,3 +55,27 @@ pub record IsTextOf (bytes : List ℕ) (glyphs : List Glyph) : Type 0 where
 
 a_range : Says (codes "keep w 0..7") (text (codes "keep") ∷ text (codes "w") ∷ figure 0 ∷ sign m.DotDot ∷ figure 7 ∷ [])
 a_range = (k.Word, 4, refl, refl, (k.Word, 1, refl, refl, (k.Number, 1, refl, refl, (k.Mark, 2, refl, refl, (k.Number, 1, refl, refl, refl)))))
+
+-- a number's value counts, and one that is too large says nothing; a mark is one of the language's
+what_tokens_say : map (said k.Number) (codes "007" ∷ codes "4611686018427387904" ∷ []) ≡ Some (figure 7) ∷ None ∷ []
+what_tokens_say = refl
+
+what_marks_say : map (said k.Mark) (codes "<=" ∷ codes "!" ∷ []) ≡ Some (sign m.LessEq) ∷ None ∷ []
+what_marks_say = refl
+
+what_words_say : said k.Word (codes "w1") ≡ Some (text (codes "w1"))
+what_words_say = refl
+
+-- blanks say nothing, wherever they stand
+blanks_say_nothing : Says (codes "\t a \t(  ") (text (codes "a") ∷ sign m.Open ∷ [])
+blanks_say_nothing = (k.Word, 1, refl, refl, (k.Mark, 1, refl, refl, refl))
+
+bytes_of_a_token : token_text (codes "a <= b") (record { kind = k.Mark; start = 2; end = 4 }) ≡ codes "<="
+bytes_of_a_token = refl
+
+-- a dot and an equals sign may make a mark longer
+ends_of_marks : map ends_mark (codes "." ∷ codes "=" ∷ codes "<" ∷ codes "7" ∷ codes "" ∷ []) ≡ false ∷ false ∷ true ∷ true ∷ true ∷ []
+ends_of_marks = refl
+
+a_mark_is_a_boundary : IsBoundary (codes "-a")
+a_mark_is_a_boundary = refl

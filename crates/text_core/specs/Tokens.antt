@@ -1,5 +1,5 @@
 -- What the tokens of a line are.
-use Rattle.std.specs.Prelude.{◌≡◌, ℕ, ◌+◌, ◌-◌, ◌<◌, ◌≤◌, ◌==◌, Bool, false, ◌&&◌, ◌||◌, if◌then◌else◌, List, [], ◌∷◌, length, drop, Option, Some, None, option_map, codes, refl}
+use Rattle.std.specs.Prelude.{◌≡◌, ℕ, ◌+◌, ◌-◌, ◌<◌, ◌≤◌, ◌==◌, Bool, true, false, ◌&&◌, ◌||◌, if◌then◌else◌, List, [], ◌∷◌, length, drop, Option, Some, None, option_map, map, codes, refl}
 use Rattle.std.specs.List.{prefix_len}
 use Rattle.std.specs.Char.{is_ascii_digit, is_ascii_alphabetic}
 use Rattle.text_core.specs.declared.token.TokenKind.{TokenKind}
@@ -95,5 +95,28 @@ at_most_is_one_mark = refl
 no_letter_follows_a_number : token_at (codes "1a") ≡ None
 no_letter_follows_a_number = refl
 
-an_exclamation_alone_is_none : token_at (codes "!") ≡ None
-an_exclamation_alone_is_none = refl
+-- `_` begins a word, and so do the first and the last letter of both cases; what stands beside them does not
+first_bytes_of_words : map token_at (codes "_1" ∷ codes "A" ∷ codes "Z" ∷ codes "a" ∷ codes "z" ∷ codes "@" ∷ codes "[" ∷ codes "`" ∷ codes "{" ∷ []) ≡ Some (begun Word 2) ∷ Some (begun Word 1) ∷ Some (begun Word 1) ∷ Some (begun Word 1) ∷ Some (begun Word 1) ∷ None ∷ None ∷ None ∷ None ∷ []
+first_bytes_of_words = refl
+
+all_digits_are_one_number : token_at (codes "0123456789..") ≡ Some (begun Number 10)
+all_digits_are_one_number = refl
+
+-- each mark before a digit
+single_marks : map mark_length (codes ".7" ∷ codes "/7" ∷ codes "+7" ∷ codes "-7" ∷ codes "*7" ∷ codes "(7" ∷ codes ")7" ∷ codes ",7" ∷ codes "=7" ∷ codes "<7" ∷ codes ">7" ∷ codes "!7" ∷ codes ":7" ∷ []) ≡ Some 1 ∷ Some 1 ∷ Some 1 ∷ Some 1 ∷ Some 1 ∷ Some 1 ∷ Some 1 ∷ Some 1 ∷ Some 1 ∷ Some 1 ∷ Some 1 ∷ None ∷ None ∷ []
+single_marks = refl
+
+-- marks of two bytes, and pairs that are two marks
+double_marks : map mark_length (codes ".." ∷ codes "==" ∷ codes "!=" ∷ codes "<=" ∷ codes ">=" ∷ codes "+=" ∷ codes "<<" ∷ codes "=." ∷ codes "=<" ∷ []) ≡ Some 2 ∷ Some 2 ∷ Some 2 ∷ Some 2 ∷ Some 2 ∷ Some 1 ∷ Some 1 ∷ Some 1 ∷ Some 1 ∷ []
+double_marks = refl
+
+-- a mark at the end
+last_marks : map mark_length (codes "<" ∷ codes "!" ∷ codes "" ∷ []) ≡ Some 1 ∷ None ∷ None ∷ []
+last_marks = refl
+
+-- spaces and tabs alone are blanks
+blanks : map is_blank (9 ∷ 10 ∷ 13 ∷ 32 ∷ 160 ∷ []) ≡ true ∷ false ∷ false ∷ true ∷ false ∷ []
+blanks = refl
+
+blanks_are_passed : after_blanks (codes "a \t b") 1 ≡ 4
+blanks_are_passed = refl
