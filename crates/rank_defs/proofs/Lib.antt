@@ -11,3 +11,4 @@ pub mod Evaluation
 pub mod Least
 pub mod Same
 pub mod Refusals
+mod Bounds

@@ -1,23 +1,26 @@
 -- Worked rows, each computed from the definitions.
-use Rattle.std.specs.Prelude.{◌≡◌, ℕ, suc, ◌^◌, refl, List, [], ◌∷◌, true, false, Some, None, codes, pos, negsuc}
+use Rattle.std.specs.Prelude.{◌≡◌, ℕ, suc, ◌-◌, ◌^◌, refl, Bool, List, [], ◌∷◌, map, replicate, true, false, Option, Some, None, codes, ℤ, pos, negsuc}
 use Rattle.std.specs.Int.Signed.{le_z_yes, lt_z_yes, clash_ℤ}
 use Rattle.rank_defs.specs.declared.environment.Env.{Env}
 use Rattle.rank_defs.specs.declared.environment.Who.{Who}
 use Rattle.rank_defs.specs.declared.environment.Who.TheVariants.{Child, Flow}
-use Rattle.rank_defs.specs.declared.expression.Op.TheVariants.{Add, Sub, Mul, Div, Less, Min}
-use Rattle.rank_defs.specs.declared.expression.Var.TheVariants.{Len, Now, Prio, Weight, Keep}
-use Rattle.rank_defs.specs.declared.transaction.Aim.TheVariants.{Rank as AimRank, Keep as AimKeep}
+use Rattle.rank_defs.specs.declared.expression.Op.{Op}
+use Rattle.rank_defs.specs.declared.expression.Op.TheVariants.{Add, Sub, Mul, Div, Less, LessEq, Equal, NotEqual, MoreEq, More, Min, Max, And, Or}
+use Rattle.rank_defs.specs.declared.expression.Var.TheVariants.{Len, Now, Prio, Weight, Slack, Rank, Keep, Each}
+use Rattle.rank_defs.specs.declared.range.Range.{Range}
+use Rattle.rank_defs.specs.declared.transaction.Aim.TheVariants.{Rank as AimRank, Keep as AimKeep, Each as AimEach}
 use Rattle.rank_defs.specs.declared.environment.TheConstants.{MAX_PRIO, MAX_WEIGHT, MAX_SLACK}
 use Rattle.rank_defs.specs.declared.expression.TheConstants.{MAX_DEPTH}
 use Rattle.rank_defs.specs.declared.transaction.TheConstants.{MAX_RANK}
-use Rattle.rank_defs.specs.Shapes.{max_depth, max_prio, max_weight, max_slack}
-use Rattle.rank_defs.specs.Formulas.{number, variable, two, choice, depth_of}
-use Rattle.rank_defs.specs.Programs.{Program, span, max_rank}
-use Rattle.rank_defs.specs.Values.{num, nothing, quotient}
-use Rattle.rank_defs.specs.States.{State, first_state}
-use Rattle.rank_defs.specs.Steps.{clamped, push_rank, after_push, after_pop}
-use Rattle.rank_defs.specs.Ranges.{tells, clash, sort_of, range, range_of, declared, parts_divide, widest, IsNarrow}
-use Rattle.rank_defs.specs.Builtins.{set, ranked_by, fifo, rr, stfq, builtin}
+use Rattle.rank_defs.specs.Shapes.{max_depth, max_len, max_prio, max_weight, max_slack}
+use Rattle.rank_defs.specs.Formulas.{Formula, number, variable, two, negation, choice, depth_of, computes, compares, joins, group}
+use Rattle.rank_defs.specs.Programs.{Program, span, max_rank, target, assignments}
+use Rattle.rank_defs.specs.Values.{Value, num, truth, nothing, quotient, apply, negated, chosen, value_of}
+use Rattle.rank_defs.specs.States.{State, Memory, first_state, same_who, variable_in}
+use Rattle.rank_defs.specs.Steps.{clamped, write, push_rank, after_push, after_pop}
+use Rattle.rank_defs.specs.Ranges.{counts, tells, clash, sort_of, range, hull_of, holds_zero, reach, quotient_range, joined_range, range_of_two, range_of, declared, parts_divide, widest, IsNarrow}
+use Rattle.rank_defs.specs.Checks.{entries, lesser_line}
+use Rattle.rank_defs.specs.Builtins.{set, ranked_by, fifo, strict, shortest, lstf, rr, stfq, builtins, builtin}
 
 -- an environment with a length and a weight
 abbrev env_of : ℕ → ℕ → Env
@@ -32,12 +35,83 @@ ranks_of p env s [] = []
 ranks_of p env s (who ∷ rest) =
     push_rank p who env s ∷ ranks_of p env (after_push p who env s) rest
 
+-- numbers that are all different
+abbrev env_of_five : Env
+env_of_five = record { len = 1; now = 2; prio = 3; weight = 4; slack = 5 }
+
+abbrev memory_of_five : Memory
+memory_of_five = record { rank = 6; keeps = 7 ∷ 8 ∷ []; eaches = 9 ∷ 10 ∷ [] }
+
+-- two variables of the node, two of each child or flow, and one line for each kind of aim
+abbrev four_variables : Program
+four_variables =
+    record { keeps = span 0 9 3 ∷ span 1 8 4 ∷ []; eaches = span 2 7 5 ∷ span 3 6 6 ∷ []; push = record { line = 11; aim = AimRank; formula = number 1 } ∷ record { line = 12; aim = AimEach 1; formula = number 2 } ∷ []; pop = record { line = 13; aim = AimKeep 1; formula = number 3 } ∷ [] }
+
+-- len < 3
+abbrev test : Formula
+test = two Less (variable Len) (number 3)
+
+-- an expression of depth 3
+abbrev deep : Formula
+deep = two Add (variable Len) (two Mul (variable Len) (number 2))
+
+abbrev operations : List Op
+operations = Add ∷ Sub ∷ Mul ∷ Div ∷ Min ∷ Max ∷ []
+
+abbrev comparisons : List Op
+comparisons = Less ∷ LessEq ∷ Equal ∷ NotEqual ∷ MoreEq ∷ More ∷ []
+
+pub variables_in : map (variable_in env_of_five memory_of_five) (Len ∷ Now ∷ Prio ∷ Weight ∷ Slack ∷ Rank ∷ Keep 0 ∷ Keep 1 ∷ Each 0 ∷ Each 1 ∷ []) ≡ 1 ∷ 2 ∷ 3 ∷ 4 ∷ 5 ∷ 6 ∷ 7 ∷ 8 ∷ 9 ∷ 10 ∷ []
+variables_in = refl
+
+pub written_memories : map (λ aim. write aim 20 memory_of_five) (AimRank ∷ AimKeep 1 ∷ AimEach 0 ∷ []) ≡ record memory_of_five { rank = 20 } ∷ record memory_of_five { keeps = 7 ∷ 20 ∷ [] } ∷ record memory_of_five { eaches = 20 ∷ 10 ∷ [] } ∷ []
+written_memories = refl
+
+-- a rank has its own span, and a variable the one that it was declared with
+pub targets : map (target four_variables) (AimRank ∷ AimKeep 0 ∷ AimKeep 1 ∷ AimEach 0 ∷ AimEach 1 ∷ AimEach 2 ∷ []) ≡ span 0 4611686018427387903 0 ∷ span 0 9 3 ∷ span 1 8 4 ∷ span 2 7 5 ∷ span 3 6 6 ∷ span 0 0 0 ∷ []
+targets = refl
+
+pub first_keeps : (first_state four_variables).keeps ≡ 3 ∷ 4 ∷ []
+first_keeps = refl
+
+pub first_eaches : map (first_state four_variables).eaches (Child 0 ∷ Child 1 ∷ flow_of 1 ∷ []) ≡ (5 ∷ 6 ∷ []) ∷ (5 ∷ 6 ∷ []) ∷ (5 ∷ 6 ∷ []) ∷ []
+first_eaches = refl
+
+-- a child and a flow are never the same
+pub same_children_and_flows : map (same_who (Child 1)) (Child 1 ∷ Child 2 ∷ flow_of 1 ∷ []) ≡ true ∷ false ∷ false ∷ []
+same_children_and_flows = refl
+
+-- the sum, difference, product, quotient, lesser and greater of -7 and 2
+pub operations_of_two_numbers : map (λ op. apply op (num (negsuc 6)) (num (pos 2))) operations ≡ map num (negsuc 4 ∷ negsuc 8 ∷ negsuc 13 ∷ negsuc 2 ∷ negsuc 6 ∷ pos 2 ∷ [])
+operations_of_two_numbers = refl
+
+-- -5 compared with -7, -5 and 3
+pub comparisons_of_two_numbers : map (λ op. map (λ y. apply op (num (negsuc 4)) (num y)) (negsuc 6 ∷ negsuc 4 ∷ pos 3 ∷ [])) comparisons ≡ map (map truth) ((false ∷ false ∷ true ∷ []) ∷ (false ∷ true ∷ true ∷ []) ∷ (false ∷ true ∷ false ∷ []) ∷ (true ∷ false ∷ true ∷ []) ∷ (true ∷ true ∷ false ∷ []) ∷ (true ∷ false ∷ false ∷ []) ∷ [])
+comparisons_of_two_numbers = refl
+
+-- true with true and false, and false with both
+pub joined_truths : map (λ op. map (apply op (truth true)) (truth true ∷ truth false ∷ [])) (And ∷ Or ∷ []) ≡ map (map truth) ((true ∷ false ∷ []) ∷ (true ∷ true ∷ []) ∷ [])
+joined_truths = refl
+
+pub joined_with_false : map (λ op. map (apply op (truth false)) (truth true ∷ truth false ∷ [])) (And ∷ Or ∷ []) ≡ map (map truth) ((false ∷ false ∷ []) ∷ (true ∷ false ∷ []) ∷ [])
+joined_with_false = refl
+
+-- a number and a truth value have no sum, aren't compared, and aren't joined
+pub values_of_other_kinds : apply Add (truth true) (num (pos 1)) ∷ apply Less (num (pos 1)) (truth true) ∷ apply And (num (pos 1)) (truth true) ∷ negated (num (pos 1)) ∷ chosen (num (pos 1)) (num (pos 2)) (num (pos 3)) ∷ chosen (truth true) (truth true) (num (pos 3)) ∷ [] ≡ replicate 6 nothing
+values_of_other_kinds = refl
+
+pub values_of_formulas : map (value_of (variable_in env_of_five memory_of_five)) (number 12 ∷ variable Slack ∷ two Sub (variable Len) (variable Now) ∷ negation test ∷ choice test (variable Prio) (variable Weight) ∷ choice (negation test) (variable Prio) (variable Weight) ∷ []) ≡ num (pos 12) ∷ num (pos 5) ∷ num (negsuc 0) ∷ truth false ∷ num (pos 3) ∷ num (pos 4) ∷ []
+values_of_formulas = refl
+
 -- division truncates towards zero
 pub minus_seven_halves : quotient (negsuc 6) (pos 2) ≡ num (negsuc 2)
 minus_seven_halves = refl
 
 pub seven_by_minus_two : quotient (pos 7) (negsuc 1) ≡ num (negsuc 2)
 seven_by_minus_two = refl
+
+pub minus_seven_by_minus_two : quotient (negsuc 6) (negsuc 1) ≡ num (pos 3)
+minus_seven_by_minus_two = refl
 
 pub no_quotient_by_zero : quotient (pos 7) (pos 0) ≡ nothing
 no_quotient_by_zero = refl
@@ -60,6 +134,13 @@ clamped_from_above = refl
 pub clamped_from_below : clamped (span 2 5 3) (num (negsuc 9)) ≡ 2
 clamped_from_below = refl
 
+pub not_clamped : map (clamped (span 2 5 3)) (num (pos 2) ∷ num (pos 4) ∷ num (pos 5) ∷ nothing ∷ []) ≡ 2 ∷ 4 ∷ 5 ∷ 2 ∷ []
+not_clamped = refl
+
+-- a push begins with rank 0
+pub first_rank : push_rank (ranked_by (two Add (variable Rank) (number 1))) (Child 0) (env_of 100 1) (first_state fifo) ≡ 1
+first_rank = refl
+
 -- keep n 0..2 = 0, push n = n + 1, push rank = n
 abbrev up_to_two : Program
 up_to_two =
@@ -71,6 +152,14 @@ counts_up_to_two = refl
 pub stfq_by_flow : ranks_of stfq (env_of 100 1) (first_state stfq) (flow_of 1 ∷ flow_of 1 ∷ flow_of 2 ∷ []) ≡ 0 ∷ 100000 ∷ 0 ∷ []
 stfq_by_flow = refl
 
+-- len * 1000 / weight, in whole parts
+pub stfq_by_weight : ranks_of stfq (env_of 100 3) (first_state stfq) (flow_of 1 ∷ flow_of 1 ∷ flow_of 1 ∷ []) ≡ 0 ∷ 33333 ∷ 66666 ∷ []
+stfq_by_weight = refl
+
+-- after a pop of rank 5 no flow is ranked below 5
+pub stfq_after_a_pop : ranks_of stfq (env_of 100 1) (after_pop stfq (flow_of 1) (env_of 100 1) 5 (first_state stfq)) (flow_of 2 ∷ flow_of 2 ∷ []) ≡ 5 ∷ 100005 ∷ []
+stfq_after_a_pop = refl
+
 pub rr_by_child : ranks_of rr (env_of 100 1) (first_state rr) (Child 0 ∷ Child 0 ∷ Child 1 ∷ Child 0 ∷ Child 1 ∷ []) ≡ 0 ∷ 1 ∷ 0 ∷ 2 ∷ 1 ∷ []
 rr_by_child = refl
 
@@ -78,11 +167,22 @@ rr_by_child = refl
 pub rr_after_a_pop : push_rank rr (Child 1) (env_of 100 1) (after_pop rr (Child 0) (env_of 100 1) 5 (first_state rr)) ≡ 5
 rr_after_a_pop = refl
 
-pub known_name : builtin (codes "stfq") ≡ Some stfq
-known_name = refl
+pub known_names : map builtin (codes "fifo" ∷ codes "strict" ∷ codes "shortest" ∷ codes "lstf" ∷ codes "rr" ∷ codes "stfq" ∷ []) ≡ map Some (fifo ∷ strict ∷ shortest ∷ lstf ∷ rr ∷ stfq ∷ [])
+known_names = refl
 
-pub unknown_name : builtin (codes "wfq") ≡ None
-unknown_name = refl
+pub unknown_names : map builtin (codes "wfq" ∷ codes "r" ∷ codes "rrr" ∷ codes "" ∷ []) ≡ None ∷ None ∷ None ∷ None ∷ []
+unknown_names = refl
+
+-- the first rank of each of the six: of length 100, moment 20, priority 3, weight 4 and slack 5
+pub first_ranks : map (λ b. push_rank b.program (Child 0) (record { len = 100; now = 20; prio = 3; weight = 4; slack = 5 }) (first_state b.program)) builtins ≡ 0 ∷ 3 ∷ 100 ∷ 25 ∷ 0 ∷ 0 ∷ []
+first_ranks = refl
+
+-- a divisor that may be 0 counts in every part, and other operations have none
+pub divisors_in_each_part : map (λ (place : Formula → Formula). parts_divide (declared fifo) (place (two Div (variable Len) (variable Prio)))) ((λ f. two Add f (number 1)) ∷ (λ f. two Add (number 1) f) ∷ (λ f. negation (two Less f (number 1))) ∷ (λ f. choice (two Less f (number 1)) (number 1) (number 1)) ∷ (λ f. choice test f (number 1)) ∷ (λ f. choice test (number 1) f) ∷ []) ≡ replicate 6 false
+divisors_in_each_part = refl
+
+pub no_divisors : map (λ op. parts_divide (declared fifo) (two op (variable Len) (variable Prio))) (Add ∷ Sub ∷ Mul ∷ Min ∷ Max ∷ Less ∷ []) ≡ replicate 6 true
+no_divisors = refl
 
 pub may_be_zero : parts_divide (declared fifo) (two Div (variable Len) (variable Prio)) ≡ false
 may_be_zero = refl
@@ -96,6 +196,44 @@ weights_are_positive = refl
 
 pub less_than_weights_may_be_zero : parts_divide (declared fifo) (two Div (variable Len) (two Sub (variable Weight) (number 1))) ≡ false
 less_than_weights_may_be_zero = refl
+
+-- the ranges of all that an expression reads
+pub declared_ranges : map (declared four_variables) (Len ∷ Now ∷ Prio ∷ Weight ∷ Slack ∷ Rank ∷ Keep 1 ∷ Each 0 ∷ []) ≡ range (pos 0) (pos 4294967295) ∷ range (pos 0) (pos 4611686018427387903) ∷ range (pos 0) (pos 65535) ∷ range (pos 1) (pos 65535) ∷ range (pos 0) (pos 1000000000000) ∷ range (pos 0) (pos 4611686018427387903) ∷ range (pos 1) (pos 8) ∷ range (pos 2) (pos 7) ∷ []
+declared_ranges = refl
+
+-- of -3..5 and 2..7
+pub ranges_of_operations : map (λ op. range_of_two op (range (negsuc 2) (pos 5)) (range (pos 2) (pos 7))) operations ≡ range (negsuc 0) (pos 12) ∷ range (negsuc 9) (pos 3) ∷ range (negsuc 20) (pos 35) ∷ range (negsuc 0) (pos 2) ∷ range (negsuc 2) (pos 5) ∷ range (pos 2) (pos 7) ∷ []
+ranges_of_operations = refl
+
+-- and the other way round, where the divisor may be 0
+pub ranges_the_other_way_round : map (λ op. range_of_two op (range (pos 2) (pos 7)) (range (negsuc 2) (pos 5))) operations ≡ range (negsuc 0) (pos 12) ∷ range (negsuc 2) (pos 10) ∷ range (negsuc 20) (pos 35) ∷ range (negsuc 6) (pos 7) ∷ range (negsuc 2) (pos 5) ∷ range (pos 2) (pos 7) ∷ []
+ranges_the_other_way_round = refl
+
+-- the least and the greatest product of 2..3 and 4..5, of -3..-2 and 4..5, and of -3..-2 and -5..-4
+pub ranges_of_products : map (λ (p : Range × Range). range_of_two Mul p.0 p.1) ((range (pos 2) (pos 3), range (pos 4) (pos 5)) ∷ (range (negsuc 2) (negsuc 1), range (pos 4) (pos 5)) ∷ (range (negsuc 2) (negsuc 1), range (negsuc 4) (negsuc 3)) ∷ []) ≡ range (pos 8) (pos 15) ∷ range (negsuc 14) (negsuc 7) ∷ range (pos 8) (pos 15) ∷ []
+ranges_of_products = refl
+
+pub ranges_of_no_numbers : map (λ f. range_of (declared fifo) f) (test ∷ negation test ∷ two And test test ∷ []) ≡ replicate 3 (range (pos 0) (pos 0))
+ranges_of_no_numbers = refl
+
+pub least_and_greatest_of_four : hull_of (pos 1) (pos 2) (pos 3) (pos 4) ∷ hull_of (pos 2) (pos 3) (pos 4) (pos 1) ∷ hull_of (pos 3) (pos 4) (pos 1) (pos 2) ∷ hull_of (pos 4) (pos 1) (pos 2) (pos 3) ∷ [] ≡ replicate 4 (range (pos 1) (pos 4))
+least_and_greatest_of_four = refl
+
+-- 0 lies in 0..5, -5..0 and -1..1, and not in 1..2 or -2..-1
+pub ranges_with_zero : map holds_zero (range (pos 0) (pos 5) ∷ range (negsuc 4) (pos 0) ∷ range (negsuc 0) (pos 1) ∷ range (pos 1) (pos 2) ∷ range (negsuc 1) (negsuc 0) ∷ []) ≡ true ∷ true ∷ true ∷ false ∷ false ∷ []
+ranges_with_zero = refl
+
+-- the greater absolute value of -7..5, -5..7 and -7..-5
+pub greatest_absolute_values : map reach (range (negsuc 6) (pos 5) ∷ range (negsuc 4) (pos 7) ∷ range (negsuc 6) (negsuc 4) ∷ []) ≡ pos 7 ∷ pos 7 ∷ pos 7 ∷ []
+greatest_absolute_values = refl
+
+-- -7..5 by 0..3 and by 2..3
+pub quotients_by_two_ranges : map (quotient_range (range (negsuc 6) (pos 5))) (range (pos 0) (pos 3) ∷ range (pos 2) (pos 3) ∷ []) ≡ range (negsuc 6) (pos 7) ∷ range (negsuc 2) (pos 2) ∷ []
+quotients_by_two_ranges = refl
+
+-- one interval inside the other, and two apart
+pub joined_ranges : joined_range (range (pos 1) (pos 9)) (range (pos 3) (pos 4)) ∷ joined_range (range (pos 3) (pos 4)) (range (pos 1) (pos 9)) ∷ joined_range (range (pos 8) (pos 9)) (range (pos 1) (pos 2)) ∷ [] ≡ replicate 3 (range (pos 1) (pos 9))
+joined_ranges = refl
 
 pub square_of_now : range_of (declared fifo) (two Mul (variable Now) (variable Now)) ≡ range (pos 0) (pos 21267647932558653957237540927630737409)
 square_of_now = refl
@@ -124,16 +262,37 @@ widest_is_narrow = record { low = le_z_yes tt; high = le_z_yes tt }
 pub wider_is_not_narrow : IsNarrow (range (pos 0) (pos (suc (2 ^ 100)))) → ⊥
 wider_is_not_narrow n = clash_ℤ (lt_z_yes tt) n.high
 
-pub depth_of_a_sum_of_a_product : depth_of (two Add (variable Len) (two Mul (variable Len) (number 2))) ≡ 3
-depth_of_a_sum_of_a_product = refl
+pub less_is_not_narrow : IsNarrow (range (negsuc (2 ^ 100)) (pos 0)) → ⊥
+less_is_not_narrow n = clash_ℤ (lt_z_yes tt) n.low
 
-pub test_is_no_number : sort_of (two Less (variable Len) (number 3)) ≡ tells
-test_is_no_number = refl
+-- the deepest part counts, wherever it stands
+pub depths : map depth_of (number 7 ∷ variable Len ∷ negation (number 7) ∷ deep ∷ two Add deep (number 1) ∷ two Add (number 1) deep ∷ choice deep (number 1) (number 1) ∷ choice (number 1) deep (number 1) ∷ choice (number 1) (number 1) deep ∷ []) ≡ 1 ∷ 1 ∷ 2 ∷ 3 ∷ 4 ∷ 4 ∷ 4 ∷ 4 ∷ 4 ∷ []
+depths = refl
 
-pub number_of_a_test : sort_of (two Add (two Less (variable Len) (number 3)) (number 1)) ≡ clash
-number_of_a_test = refl
+pub groups : map (map group) (operations ∷ comparisons ∷ (And ∷ Or ∷ []) ∷ []) ≡ replicate 6 computes ∷ replicate 6 compares ∷ replicate 2 joins ∷ []
+groups = refl
 
--- the limits that the program names
+pub sorts : map sort_of (number 7 ∷ variable Len ∷ deep ∷ choice test (number 1) (number 2) ∷ test ∷ negation test ∷ two And test test ∷ []) ≡ counts ∷ counts ∷ counts ∷ counts ∷ tells ∷ tells ∷ tells ∷ []
+sorts = refl
+
+-- numbers and truth values don't stand for one another
+pub clashes : map sort_of (two Add test (number 1) ∷ two Add (number 1) test ∷ two Less test test ∷ two And (number 1) test ∷ two And test (number 1) ∷ two And (number 1) (number 1) ∷ negation (number 1) ∷ choice (number 1) (number 1) (number 2) ∷ choice test test (number 1) ∷ choice test (number 1) test ∷ choice test test test ∷ []) ≡ replicate 11 clash
+clashes = refl
+
+-- the lines of a transaction's assignments, and of two transactions'
+pub lines_of_assignments : map (λ a. a.line) (assignments four_variables) ≡ 11 ∷ 12 ∷ 13 ∷ []
+lines_of_assignments = refl
+
+pub lines_of_entries : map (λ e. e.assignment.line) (entries (strict ∷ four_variables ∷ [])) ≡ 0 ∷ 11 ∷ 12 ∷ 13 ∷ []
+lines_of_entries = refl
+
+pub lesser_lines : lesser_line None None ∷ lesser_line (Some 3) None ∷ lesser_line None (Some 3) ∷ lesser_line (Some 3) (Some 5) ∷ lesser_line (Some 5) (Some 3) ∷ [] ≡ None ∷ replicate 4 (Some 3)
+lesser_lines = refl
+
+-- the limits as powers, and as the program names them
+pub limits : max_rank ∷ max_len ∷ max_prio ∷ max_weight ∷ max_slack ∷ max_depth ∷ [] ≡ (2 ^ 62 - 1) ∷ (2 ^ 32 - 1) ∷ (2 ^ 16 - 1) ∷ (2 ^ 16 - 1) ∷ 10 ^ 12 ∷ 2 ^ 6 ∷ []
+limits = refl
+
 pub rank_limit : MAX_RANK ≡ max_rank
 rank_limit = refl
 
