@@ -2,7 +2,7 @@
 use Rattle.std.proofs.Common.{◌≡◌, ℕ, zero, suc, ◌+◌, ◌<◌, ◌≤◌, List, [], ◌∷◌, ◌++◌, length, get_or, take, map, Vec, Global, refl, sym, ap, ◌∙◌, subst, arith}
 use Rattle.std.proofs.lemmas.List.{map_more}
 use Rattle.queue_defs.specs.Queue.{Queue}
-use Rattle.tree_defs.specs.Tree.{Tree, inner, Trees, none, more, trees_of, nodes, nodes_below}
+use Rattle.tree_defs.specs.Tree.{Tree, inner, Trees, none, more, trees_of, nodes, nodes_below, depth, depth_below}
 use Rattle.tree_defs.specs.SourceTree.{IsWellFormed}
 use Rattle.pifo_core.specs.Sorted.{Contents}
 use Rattle.tree_core.specs.TreeContents.{TreeContents, branch, forest, IsSound, EachPushed, HasDigits}
@@ -32,6 +32,15 @@ child_nodes (y ∷ xs) (suc i) x l e = omega (arith, child_nodes xs i x (omega a
 
 pub child_smaller : (t : Topo) (v : Vec Topo Global) (x : Topo) (i : ℕ) → t ≡ views.Inner v → i < length v.items → x ≡ get_or v.items i x → nodes (topology x) < nodes (topology t)
 child_smaller t v x i p l e = let n : nodes (topology t) ≡ nodes_below (trees_of (map topology v.items)) + 1 = ap nodes (topology_inner t v p) in omega (arith, child_nodes v.items i x l e)
+
+child_depth : (xs : List Topo) (i : ℕ) (x : Topo) → i < length xs → x ≡ get_or xs i x → depth (topology x) < depth_below (trees_of (map topology xs))
+child_depth [] i x l e = absurd (omega arith)
+child_depth (y ∷ xs) zero x l e = let d : depth (topology x) ≡ depth (topology y) = ap (λ (z : Topo). depth (topology z)) e in omega arith
+child_depth (y ∷ xs) (suc i) x l e = omega (arith, child_depth xs i x (omega arith) e)
+
+-- each child has fewer levels below it
+pub child_shallower : (t : Topo) (v : Vec Topo Global) (x : Topo) (i : ℕ) → t ≡ views.Inner v → i < length v.items → x ≡ get_or v.items i x → depth (topology x) < depth (topology t)
+child_shallower t v x i p l e = let d : depth (topology t) ≡ depth_below (trees_of (map topology v.items)) = ap depth (topology_inner t v p) in omega (arith, child_depth v.items i x l e)
 
 pub are_branched : (u : Unit {0}) (ts : Trees (Unit {0})) → IsBranched (inner u ts) → AreBranched ts
 are_branched u none b = absurd b

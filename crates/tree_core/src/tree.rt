@@ -42,8 +42,10 @@ impl Model for SourceTree {
 }
 
 impl SourceTree {
-    /// The tree of a topology, with all queues empty. The error is want of memory.
+    /// The tree of a topology of at most 64 levels, since each level is a call within a call, with all queues empty. The error
+    /// is want of memory.
     pub fn new(alloc: Global, topo: &Topo) -> Result<SourceTree, AllocError>
+        requires levels { depth (topology topo.now) ≤ 64 }
         requires branched { IsBranched (topology topo.now) }
         ensures tree { IfOk result (λ t. t.tree ≡ empty_tree (topology topo.now)) }
         ensures pushes { IfOk result (λ t. t.pushes ≡ 0) }

@@ -1,11 +1,11 @@
 use Rattle.std.proofs.Common.{rules, subst, ap, ◌∙◌, length, arith, ◌≡◌, ◌<◌, ◌++◌, [], ◌∷◌, get_or, take, map, List}
 use Rattle.std.proofs.lemmas.List.{take_all}
-use Rattle.tree_defs.specs.Tree.{trees_of, nodes}
+use Rattle.tree_defs.specs.Tree.{trees_of, nodes, depth}
 use Rattle.tree_defs.specs.Topology.{IsBranched}
 use Rattle.tree_defs.specs.SourceTree.{empty_trees}
 use Rattle.tree_core.specs.Shape.{topology}
 use Rattle.tree_core.specs.declared.topo.Topo.{Topo}
-use Rattle.tree_core.proofs.Grown.{topology_inner, child_branched, child_smaller, are_branched, one_more, EachPushed-push, grown_tree, grown_sound}
+use Rattle.tree_core.proofs.Grown.{topology_inner, child_branched, child_smaller, child_shallower, are_branched, one_more, EachPushed-push, grown_tree, grown_sound}
 use Rattle.tree_core.proofs.tree.SourceTree.+new.Goals as goal
 
 pub new-requires-in-loop-child : goal.new-requires-in-loop-child
@@ -13,7 +13,8 @@ new-requires-in-loop-child t c =
     let at : c.loop-child.child-index < length c.in-Inner.inner.items = search rules in
     let child : c.child-item.result ≡ get_or c.in-Inner.inner.items c.loop-child.child-index c.child-item.result = subst (λ (z : List Topo). c.child-item.result ≡ get_or z c.loop-child.child-index c.child-item.result) c.deref-child-items.ensures.value c.child-item.is in
     let smaller : nodes (topology c.child-item.result) < nodes (topology c.args.topo.now) = child_smaller c.args.topo.now c.in-Inner.inner c.child-item.result c.loop-child.child-index c.in-Inner.is at child in
-    (search rules, child_branched c.in-Inner.inner.items c.loop-child.child-index c.child-item.result (are_branched _ _ (subst IsBranched (topology_inner _ _ c.in-Inner.is) c.requires.branched)) at child)
+    let shallower : depth (topology c.child-item.result) < depth (topology c.args.topo.now) = child_shallower c.args.topo.now c.in-Inner.inner c.child-item.result c.loop-child.child-index c.in-Inner.is at child in
+    (search rules, (omega (arith, shallower, c.requires.levels), child_branched c.in-Inner.inner.items c.loop-child.child-index c.child-item.result (are_branched _ _ (subst IsBranched (topology_inner _ _ c.in-Inner.is) c.requires.branched)) at child))
 
 pub loop-child-preserved : goal.loop-child-preserved
 loop-child-preserved t c =
