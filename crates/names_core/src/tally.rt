@@ -1,4 +1,4 @@
-ghost use Rattle.std.specs.Prelude.{◌≡◌, ◌∷◌, ◌++◌, [], ℕ, List, OnOk};
+ghost use Rattle.std.specs.Prelude.{◌≡◌, ◌∷◌, ◌++◌, [], ℕ, List, OnOk, OnErr};
 ghost use Rattle.resolve_defs.specs.Names.{is_once};
 ghost use Rattle.names_core.specs.Names.{IsTally};
 
@@ -22,9 +22,11 @@ impl<'a> Tally<'a> {
         }
     }
 
-    /// One more name came. The error is want of memory.
+    /// One more name came. The error is want of memory, and leaves what came before.
     pub fn add(&mut self, name: &'a str) -> Result<(), AllocError>
-        ensures { (all : List (List ℕ)) → IsTally self.old.seen self.old.again all → OnOk result (IsTally self.new.seen self.new.again (all ++ name.entry.now ∷ [])) }
+        ensures tally { (all : List (List ℕ)) → IsTally self.old.seen self.old.again all → OnOk result (IsTally self.new.seen self.new.again (all ++ name.entry.now ∷ [])) }
+        ensures seen { OnErr result (self.new.seen ≡ self.old.seen) }
+        ensures again { OnErr result (self.new.again ≡ self.old.again) }
     {
         if !self.seen.add(name)? {
             self.again.add(name)?;
