@@ -4,7 +4,8 @@ ghost use Rattle.lineage_core.specs.Descent.{lists, AreInRange, AreParents, AreP
 
 use std::alloc::{AllocError, Global};
 
-/// For each node a node that lists it as a child, and node 0 where none does. The error is want of memory.
+/// For each node that is listed as a child, a node that lists it. What stands at the other nodes is not said. The error is want
+/// of memory.
 pub fn parents(alloc: Global, graph: &[Vec<u32>]) -> Result<Vec<u32>, AllocError>
     requires in_range { AreInRange (lists graph.now) }
     requires small { length graph.now < 2 ^ 32 }

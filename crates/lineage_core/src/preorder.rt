@@ -54,6 +54,7 @@ impl Preorder {
     pub fn topo(&self) -> &Topo
         ensures topology { topology result.now ≡ self.now.topology }
         ensures branched { IsBranched self.now.topology }
+        ensures levels { levels self.now.topology ≤ 64 }
     {
         &self.topo
     }
