@@ -11,13 +11,21 @@ use Rattle.capture_defs.specs.Reading.{head_of as head_in_file}
 use Rattle.capture_defs.proofs.Numbers.{number_at-append}
 use Rattle.capture_defs.proofs.Headers.{head_of-header, head_of-fault}
 use Rattle.capture_defs.proofs.Fronts.{front_of-spelled, front_of-fault}
-use Rattle.pcap_core.specs.Rest.{rest_of, TakesFront, TakesHeader, TakesRecord, IsWhole, IsShort}
+use Rattle.pcap_core.specs.Rest.{rest_of, TakesFront, TakesHeader, TakesRecord, IsWhole, LeavesNothing, IsShort}
 use Rattle.pcap_core.specs.Frames.{IsFrameOf, IsFrontFault}
 
 -- nothing taken leaves nothing to take
 pub whole-none : (old : Option (List ℕ)) (most : ℕ) (front : List ℕ) → IsShort old front most → length front < most → front ≡ [] → IsWhole old
 whole-none None most front short less none = tt
 whole-none (Some left) most front short less none = short less ∙ none
+
+-- nor does it then leave anything
+pub whole-over : (old new : Option (List ℕ)) (most : ℕ) (front : List ℕ) → TakesFront old new front → IsShort old front most → length front < most → front ≡ [] → LeavesNothing old new
+whole-over None new most front taken short less none = tt
+whole-over (Some left) None most front taken short less none = absurd taken
+whole-over (Some left) (Some rest) most front taken short less none =
+    let split : left ≡ rest = taken ∙ ap (λ xs. xs ++ rest) none in
+    ap Some (sym split ∙ short less ∙ none)
 
 two-fronts : (old mid new : Option (List ℕ)) (a b : List ℕ) → TakesFront old mid a → TakesFront mid new b → TakesFront old new (a ++ b)
 two-fronts None mid new a b first second = tt

@@ -28,6 +28,10 @@ TakesRecord big r old new = (spelling : List ℕ) × IsSpelling big r spelling �
 abbrev pub IsWhole : Option (List ℕ) → Type 0
 IsWhole rest = IfSome rest (λ bytes. bytes ≡ [])
 
+-- where what was left was told, nothing is left now
+abbrev pub LeavesNothing : Option (List ℕ) → Option (List ℕ) → Type 0
+LeavesNothing old new = IfSome old (λ bytes. new ≡ Some [])
+
 -- the shelf goes on with the same files, one of them begun, and no fewer faults
 pub record Serves {S : Type 0} (lends : S → List ℕ → Bool) (content : S → List ℕ → Option (List ℕ)) (begun : S → Bool) (faults : S → ℕ) (old new : S) : Type 0 where
   pub still : IsTrue (begun new)

@@ -7,7 +7,7 @@ ghost use Rattle.capture_defs.specs.Record.{Record, IsRecordFault};
 ghost use Rattle.pcap_core.specs.Faults.{fault_in};
 ghost use Rattle.pcap_core.specs.Frames.{IsFrameOf};
 ghost use Rattle.pcap_core.specs.Held.{held};
-ghost use Rattle.pcap_core.specs.Rest.{rest_of, TakesHeader, TakesRecord, IsWhole, Serves};
+ghost use Rattle.pcap_core.specs.Rest.{rest_of, TakesHeader, TakesRecord, IsWhole, LeavesNothing, Serves};
 
 use crate::fault::CaptureFault;
 use crate::frame::Frame;
@@ -58,6 +58,8 @@ fn read_record<S: Shelf>(
     ensures short { IfOk result (λ o. IfSome o (λ frame. frame.captured ≤ 262144)) }
     ensures ended { IfOk result (λ o.
         IfNone o (IsWhole (rest_of (held window.old) (S.left shelf.old)))) }
+    ensures over { IfOk result (λ o. IfNone o (LeavesNothing (rest_of (held window.old) (S.left shelf.old))
+        (rest_of (held window.new) (S.left shelf.new)))) }
     ensures fault { IfErr result (λ e. IfSome (fault_in e) (λ fault.
         IfSome (rest_of (held window.old) (S.left shelf.old)) (λ left.
         IsRecordFault head.big count left fault))) }
@@ -101,7 +103,7 @@ impl Reader {
     ghost use Rattle.capture_defs.specs.Record.{Record, IsRecordFault};
     ghost use Rattle.pcap_core.specs.Faults.{fault_in};
     ghost use Rattle.pcap_core.specs.Frames.{IsFrameOf};
-    ghost use Rattle.pcap_core.specs.Rest.{rest_of, TakesHeader, TakesRecord, IsWhole};
+    ghost use Rattle.pcap_core.specs.Rest.{rest_of, TakesHeader, TakesRecord, IsWhole, LeavesNothing};
     ghost use Rattle.pcap_core.specs.Readers.{head_of, is_big, is_nano, records_given, bytes_held, is_live, IsNew, rest_left};
 
     pub fn new(alloc: Global) -> Reader
@@ -179,9 +181,11 @@ impl Reader {
         ensures short { IfOk result (λ o. IfSome o (λ frame. frame.captured ≤ 262144)) }
         ensures moment { IfOk result (λ o. IfSome o (λ frame. frame.moment < 2 ^ 62)) }
 
-        // There is no record exactly where nothing is left.
+        // There is no record exactly where nothing is left, and then nothing is left for a later call.
         ensures ended { IfOk result (λ o.
             IfNone o (IsWhole (rest_left self.old (S.left shelf.old)))) }
+        ensures over { IfOk result (λ o. IfNone o (LeavesNothing
+            (rest_left self.old (S.left shelf.old)) (rest_left self.new (S.left shelf.new)))) }
         ensures ends { IfSome (rest_left self.old (S.left shelf.old)) (λ left.
             left ≡ [] → MatchResult result (λ o. o ≡ None) (λ e. fault_in e ≡ None)) }
 

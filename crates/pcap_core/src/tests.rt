@@ -50,7 +50,7 @@ fn shelf_of(alloc: Global, pieces: &[&[u8]], most: usize, fail: u64) -> Result<M
 }
 
 /// What a reader says of a capture, in a text: the head, then each record's number, moment,
-/// lengths and last captured byte, then how it ends.
+/// lengths and last captured byte, then how it ends. At the end the reader is asked once more.
 fn told(alloc: Global, shelf: &mut MemShelf) -> Result<String, Fail> {
     let mut reader = Reader::new(alloc);
     let mut into = Vec::new(alloc);
@@ -71,7 +71,8 @@ fn told(alloc: Global, shelf: &mut MemShelf) -> Result<String, Fail> {
                 )?;
             }
             Ok(None) => {
-                text.push_str(", end")?;
+                let stays = matches!(reader.next(shelf, &mut into), Ok(None));
+                text.push_str(if stays { ", end" } else { ", more" })?;
                 break;
             }
             Err(fault) => {
