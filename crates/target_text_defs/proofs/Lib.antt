@@ -1,2 +1,3 @@
 pub mod OneAnswer
 pub mod Ranges
+pub mod Decided

@@ -1,5 +1,5 @@
 -- What follows from the definition of a target's text.
-use Rattle.std.specs.Prelude.{◌≡◌, ℕ, List}
+use Rattle.std.specs.Prelude.{◌≡◌, ◌⊎◌, ℕ, List}
 use Rattle.target_defs.specs.Target.{IsInRange}
 use Rattle.target_text_defs.specs.TargetText.{IsTargetText, IsRefused}
 
@@ -12,3 +12,7 @@ pub record TextsHaveOneAnswer : Type 0 where
 -- an accepted text's target is in range, and so is the arity of the levels above it
 abbrev pub AcceptedTargetsAreInRange : Type 0
 AcceptedTargetsAreInRange = (bytes arities : List ℕ) (above : ℕ) → IsTargetText bytes arities above → IsInRange arities above
+
+-- each text gives a target, or has a fault
+abbrev pub TextsHaveAnAnswer : Type 0
+TextsHaveAnAnswer = (bytes : List ℕ) → ((arities : List ℕ) × ((above : ℕ) × IsTargetText bytes arities above)) ⊎ ((code : ℕ) × IsRefused bytes code)

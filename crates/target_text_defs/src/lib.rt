@@ -1,11 +1,16 @@
 //! What a target's text is: a TOML document that gives the arity of each level.
 #![tactic(auto)]
 
-ghost use Rattle.target_text_defs.specs.Laws.{TextsHaveOneAnswer, AcceptedTargetsAreInRange};
+ghost use Rattle.target_text_defs.specs.Laws.{TextsHaveOneAnswer, TextsHaveAnAnswer, AcceptedTargetsAreInRange};
 
 /// A text gives one target or has one fault, and not both.
 pub fn texts_have_one_answer()
     ensures law { TextsHaveOneAnswer }
+{}
+
+/// Each text gives a target or has a fault.
+pub fn texts_have_an_answer()
+    ensures law { TextsHaveAnAnswer }
 {}
 
 /// What a text gives is a target: at most 16 levels, each from 2 to 64 wide, and at most 65,536 leaves. The levels above
