@@ -1,2 +1,3 @@
 pub mod PaceLaws
 pub mod ScriptLaws
+pub mod ScriptAnswers

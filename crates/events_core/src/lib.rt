@@ -2,6 +2,7 @@
 #![tactic(auto)]
 
 mod fault;
+mod laws;
 mod line;
 mod link;
 mod parse;
@@ -11,6 +12,7 @@ mod step;
 mod tests;
 
 pub use fault::ScriptFault;
+pub use laws::scripts_have_an_answer;
 pub use link::{Link, send_time, send_time_is_least};
 pub use parse::{MOST_BYTES, MOST_COUNT, parse_events};
 pub use script::Script;

@@ -1,0 +1,52 @@
+-- A text that isn't too long has steps or a line at fault.
+use Rattle.std.proofs.Common.{◌≡◌, ℕ, ◌+◌, ◌≤◌, List, [], ◌∷◌, ◌++◌, length, inl, inr, sym, ◌∙◌, refl, subst, arith, append_assoc}
+use Rattle.std.proofs.lemmas.Bool.{cases_lt}
+use Rattle.std.proofs.lemmas.List.{append-nil}
+use Rattle.text_core.specs.Lines.{statements_of}
+use Rattle.events_core.specs.declared.step.Step.{Step}
+use Rattle.events_core.specs.declared.fault.ScriptFault.{ScriptFault}
+use Rattle.events_core.specs.declared.fault.ScriptFault.TheVariants.{Line, TooMany}
+use Rattle.events_core.specs.Steps.{counts_of}
+use Rattle.events_core.specs.Script.{most_bytes, most_count, Carries, Carry, over, IsScript, IsFirstFault}
+use Rattle.events_core.specs.Laws.{ScriptsHaveAnAnswer}
+use Rattle.events_core.proofs.ScriptLaws.{counts-append, Carry-push}
+
+-- neither the text's steps nor a fault of it can be found
+module _ (text : List ℕ) (short : length text ≤ most_bytes) (no_steps : (steps : List Step) → IsScript text steps → ⊥) (no_fault : (f : ScriptFault) → IsFirstFault text f → ⊥) where
+  -- behind lines that carry steps and don't count too much a line isn't in form, or counts too much, or is one line more
+  past : (before after : List (List ℕ)) (line : List ℕ) (steps : List Step) → statements_of text ≡ before ++ line ∷ after → Carry before steps → counts_of steps ≤ most_count
+      → ((more : List Step) → statements_of text ≡ (before ++ line ∷ []) ++ after → Carry (before ++ line ∷ []) more → counts_of more ≤ most_count → ⊥)
+      → (more : List Step) → Carries line more → ⊥
+  past before after line steps split carry few go more carries = elim (cases_lt most_count (counts_of steps + counts_of more)) [
+    | inl many ↦ no_fault (TooMany (length before + 1)) (record {
+      short = short;
+      before = before;
+      line = line;
+      after = after;
+      split = split;
+      steps = steps;
+      carry = carry;
+      few = few;
+      at_fault = (refl, record { steps = more; carries = carries; many = many });
+    })
+    | inr still ↦ go (steps ++ more) (split ∙ sym (append_assoc before (line ∷ []) after)) (Carry-push before steps line more carry carries) (omega (arith, still, counts-append steps more))
+  ]
+
+  behind : (after before : List (List ℕ)) (steps : List Step) → statements_of text ≡ before ++ after → Carry before steps → counts_of steps ≤ most_count → ⊥
+  behind [] before steps split carry few =
+      no_steps steps (record { short = short; lines = subst (λ (ls : List (List ℕ)). Carry ls steps) (sym (split ∙ append-nil before)) carry; few = few })
+  behind (line ∷ after) before steps split carry few =
+      no_fault (Line (length before + 1)) (record {
+        short = short;
+        before = before;
+        line = line;
+        after = after;
+        split = split;
+        steps = steps;
+        carry = carry;
+        few = few;
+        at_fault = (refl, past before after line steps split carry few (behind after (before ++ line ∷ [])));
+      })
+
+pub an_answer : ScriptsHaveAnAnswer
+an_answer text short no_steps no_fault = behind text short no_steps no_fault (statements_of text) [] [] refl over (omega arith)
