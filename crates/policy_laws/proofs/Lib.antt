@@ -3,3 +3,7 @@ pub mod OneTree
 pub mod Ways
 pub mod OnePlace
 pub mod OnePolicy
+pub mod TextAnswers
+pub mod Faultless
+pub mod GraphTrees
+pub mod SomePolicy

@@ -1,6 +1,9 @@
-//! Accepted statements give one policy.
+//! Texts of policies have an answer, and accepted statements give one policy.
 #![tactic(auto)]
 
 mod laws;
 
-pub use laws::statements_give_one_policy;
+pub use laws::{
+    faultless_are_accepted, policy_texts_have_an_answer, statements_give_a_policy,
+    statements_give_one_policy, texts_have_sound_entries,
+};
