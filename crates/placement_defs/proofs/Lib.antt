@@ -16,3 +16,4 @@ pub mod Placed
 pub mod Images
 pub mod Needs
 pub mod Laws
+pub mod Room

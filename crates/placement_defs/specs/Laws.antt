@@ -1,5 +1,5 @@
 -- What follows from the definitions of embeddings and of the canonical placement.
-use Rattle.std.specs.Prelude.{◌≡◌, ◌↔◌, ℕ, ◌≤◌, []}
+use Rattle.std.specs.Prelude.{◌≡◌, ◌↔◌, ◌⊎◌, ℕ, ◌≤◌, []}
 use Rattle.tree_defs.specs.Tree.{Tree, Address}
 use Rattle.tree_defs.specs.Topology.{Topology, complete}
 use Rattle.target_defs.specs.Levels.{Arities, down_from}
@@ -34,3 +34,9 @@ CanonicalPlacementsAreEmbeddings =
 -- there is one canonical placement
 abbrev pub CanonicalPlacementsAreOne : Type 0
 CanonicalPlacementsAreOne = (a : Arities) (h : ℕ) (t : Topology) (images others : Tree Address) → IsCanonical a h t images → IsCanonical a h t others → images ≡ others
+
+-- a topology's canonical placement is an embedding in the complete tree of height h, or there is none in it
+abbrev pub PlacementsAreThereOrNone : Type 0
+PlacementsAreThereOrNone =
+    (a : Arities) (h : ℕ) (t : Topology) → AreWide a
+    → ((images : Tree Address) × IsCanonical a h t images × IsEmbedding t (complete (down_from a h)) (image_map images)) ⊎ (HasEmbedding t (complete (down_from a h)) → ⊥)

@@ -1,7 +1,7 @@
 //! How a topology is laid into a complete tree: embeddings, needs and the canonical placement.
 #![tactic(auto)]
 
-ghost use Rattle.placement_defs.specs.Laws.{TopologiesHaveOneNeed, NeedsAreLeastHeights, EmbeddingsNeedRoom, CanonicalPlacementsAreEmbeddings, CanonicalPlacementsAreOne};
+ghost use Rattle.placement_defs.specs.Laws.{TopologiesHaveOneNeed, NeedsAreLeastHeights, EmbeddingsNeedRoom, CanonicalPlacementsAreEmbeddings, CanonicalPlacementsAreOne, PlacementsAreThereOrNone};
 
 /// A topology has one need.
 pub fn topologies_have_one_need()
@@ -26,4 +26,9 @@ pub fn canonical_placements_are_embeddings()
 /// There is one canonical placement.
 pub fn canonical_placements_are_one()
     ensures law { CanonicalPlacementsAreOne }
+{}
+
+/// The canonical placement is an embedding, or there is none.
+pub fn placements_are_there_or_none()
+    ensures law { PlacementsAreThereOrNone }
 {}
