@@ -1,5 +1,6 @@
 -- What follows from the definition of a plan.
 use Rattle.std.specs.Prelude.{◌≡◌, ℕ, Bool, List}
+use Rattle.target_defs.specs.Target.{IsInRange}
 use Rattle.policy_defs.specs.Policy.{Policy}
 use Rattle.plan_defs.specs.Plan.{IsPlan}
 
@@ -8,3 +9,7 @@ abbrev pub PoliciesHaveOnePlan : Type 0
 PoliciesHaveOnePlan =
     (policy : Policy) (arities : List ℕ) (above : ℕ) (fits others : Bool) (text other : List ℕ)
     → IsPlan policy arities above fits text → IsPlan policy arities above others other → (fits ≡ others) × (text ≡ other)
+
+-- a policy and a target have a plan
+abbrev pub PoliciesHaveAPlan : Type 0
+PoliciesHaveAPlan = (policy : Policy) (arities : List ℕ) (above : ℕ) → IsInRange arities above → (fits : Bool) × ((text : List ℕ) × IsPlan policy arities above fits text)

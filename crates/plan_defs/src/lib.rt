@@ -1,9 +1,14 @@
 //! What a plan tells of a policy and a target.
 #![tactic(auto)]
 
-ghost use Rattle.plan_defs.specs.Laws.{PoliciesHaveOnePlan};
+ghost use Rattle.plan_defs.specs.Laws.{PoliciesHaveOnePlan, PoliciesHaveAPlan};
 
 /// A policy and a target have one plan.
 pub fn policies_have_one_plan()
     ensures law { PoliciesHaveOnePlan }
+{}
+
+/// A policy and a target have a plan.
+pub fn policies_have_a_plan()
+    ensures law { PoliciesHaveAPlan }
 {}
