@@ -1,13 +1,10 @@
--- One step down a map along a path.
+-- One step down a map along a way.
 use Rattle.std.proofs.Common.{◌≡◌, ℕ, zero, suc, ◌+◌, ◌-◌, ◌<◌, ◌≤◌, List, [], ◌∷◌, ◌++◌, length, get_or, take, drop, replicate, set, refl, sym, ap, ◌∙◌, subst, arith, append-nil, length-drop}
 use Rattle.std.specs.Prelude.{option_map, unwrap_or}
-use Rattle.std.proofs.lemmas.List.{take_at, drop_all, length-replicate}
+use Rattle.std.proofs.lemmas.List.{take_at, drop_all, drop_more, get_or-drop, length-replicate}
 use borrow.Rule.Slice.PartMut.{put_mid}
 use Rattle.tree_defs.specs.Tree.{Tree, leaf, inner, Trees, none, more, trees_of, root_of, Address, LeadsToLeaf, LeadsBelow}
-use Rattle.tree_core.specs.Paths.{digits_of, ranks_of}
 use Rattle.tree_core.specs.TreeContents.{branch}
-use Rattle.tree_core.proofs.Along.{later, later-cons}
-use Rattle.tree_core.proofs.Ranked.{rest, rest-is}
 use Rattle.placement_defs.specs.Images.{image_map}
 use Rattle.lift_defs.specs.Lift.{lift_ranks, lift_ranks_below}
 use Rattle.lift_defs.specs.GoodMaps.{IsDeep, AreDeep}
@@ -47,74 +44,61 @@ ranks-child n [] i k digits r ranks l f = absurd (omega arith)
 ranks-child n (j ∷ ks) zero k digits r ranks l f = ap (λ (z : Tree Address). replicate (length (root_of z) - n) r ++ lift_ranks z digits ranks) (sym f)
 ranks-child n (j ∷ ks) (suc i) k digits r ranks l f = ranks-child n ks i k digits r ranks (omega arith) f
 
--- what is known at a node m with image e of a way that goes down to its child k, with the ranks beside it
-pub record IsNext (h : ℕ) (e : Address) (m : Tree Address) (way : Address) (ranks : List ℕ) (k : Tree Address) : Type 0 where
-  pub root : root_of m ≡ e
-  pub deeper : IsDeeper h e k
-  pub leaf_below : LeadsToLeaf k (rest way)
-  pub image : image_map m way ≡ image_map k (rest way)
-  pub ranks_are : lift_ranks m way ranks ≡ replicate (length (root_of k) - length e) (get_or ranks 0 0) ++ lift_ranks k (rest way) (rest ranks)
+-- at a node m with image e, where the way goes down to its child k: what is known of the child, the image and the ranks
+record IsNext (h : ℕ) (e : Address) (m : Tree Address) (i : ℕ) (way : Address) (r : ℕ) (ranks : List ℕ) (k : Tree Address) : Type 0 where
+  root : root_of m ≡ e
+  deeper : IsDeeper h e k
+  leaf_below : LeadsToLeaf k way
+  image : image_map m (i ∷ way) ≡ image_map k way
+  ranks_are : lift_ranks m (i ∷ way) (r ∷ ranks) ≡ replicate (length (root_of k) - length e) r ++ lift_ranks k way ranks
 
-next-at : (h : ℕ) (e : Address) (ks : List (Tree Address)) (way : Address) (ranks : List ℕ) (k : Tree Address) → IsDeep h (branch e (trees_of ks)) → 1 ≤ length way → 1 ≤ length ranks → LeadsToLeaf (branch e (trees_of ks)) way
-    → k ≡ get_or ks (get_or way 0 0) k → IsNext h e (branch e (trees_of ks)) way ranks k
-next-at h e ks [] ranks k w n o l f = absurd (omega arith)
-next-at h e ks (i ∷ way) [] k w n o l f = absurd (omega arith)
-next-at h e [] (i ∷ way) (r ∷ ranks) k w n o l f = absurd l
-next-at h e (j ∷ ks) (i ∷ way) (r ∷ ranks) k w n o l f =
+next : (h : ℕ) (e : Address) (ks : List (Tree Address)) (i : ℕ) (way : Address) (r : ℕ) (ranks : List ℕ) (k : Tree Address) → IsDeep h (branch e (trees_of ks)) → LeadsToLeaf (branch e (trees_of ks)) (i ∷ way)
+    → k ≡ get_or ks i k → IsNext h e (branch e (trees_of ks)) i way r ranks k
+next h e [] i way r ranks k w l f = absurd l
+next h e (j ∷ ks) i way r ranks k w l f =
     let b : i < length (j ∷ ks) = leads-index (j ∷ ks) i way l in
-    let q : rest (i ∷ way) ≡ way = rest-is (i ∷ way) in
-    let s : rest (r ∷ ranks) ≡ ranks = rest-is (r ∷ ranks) in
     record {
       root = refl;
       deeper = deep-child h e (j ∷ ks) i k w b f;
-      leaf_below = subst (LeadsToLeaf k) (sym q) (leads-child (j ∷ ks) i k way l f);
-      image = ap (λ o. unwrap_or (option_map root_of o) []) (child-at (j ∷ ks) i k way b f) ∙ ap (image_map k) (sym q);
-      ranks_are = ranks-child (length e) (j ∷ ks) i k way r ranks b f
-          ∙ ap (λ (z : Address). replicate (length (root_of k) - length e) r ++ lift_ranks k z ranks) (sym q)
-          ∙ ap (λ (z : List ℕ). replicate (length (root_of k) - length e) r ++ lift_ranks k (rest (i ∷ way)) z) (sym s);
+      leaf_below = leads-child (j ∷ ks) i k way l f;
+      image = ap (λ o. unwrap_or (option_map root_of o) []) (child-at (j ∷ ks) i k way b f);
+      ranks_are = ranks-child (length e) (j ∷ ks) i k way r ranks b f;
     }
 
-pub next : (h : ℕ) (e : Address) (ks : List (Tree Address)) (m : Tree Address) (way : Address) (ranks : List ℕ) (k : Tree Address) → branch e (trees_of ks) ≡ m → IsDeep h m → 1 ≤ length way → 1 ≤ length ranks → LeadsToLeaf m way
-    → k ≡ get_or ks (get_or way 0 0) k → IsNext h e m way ranks k
-next h e ks m way ranks k p w n o l f =
-    subst (λ (z : Tree Address). IsNext h e z way ranks k) p (next-at h e ks way ranks k (subst (IsDeep h) (sym p) w) n o (subst (λ (z : Tree Address). LeadsToLeaf z way) (sym p) l) f)
+next-within : (e : Address) (ks : List (Tree Address)) (i : ℕ) (way : Address) → LeadsToLeaf (branch e (trees_of ks)) (i ∷ way) → i < length ks
+next-within e [] i way l = absurd l
+next-within e (k ∷ ks) i way l = leads-index (k ∷ ks) i way l
 
-pub next-within : (e : Address) (ks : List (Tree Address)) (m : Tree Address) (way : Address) → branch e (trees_of ks) ≡ m → 1 ≤ length way → LeadsToLeaf m way → get_or way 0 0 < length ks
-next-within e ks m way p n l = within ks way n (subst (λ (z : Tree Address). LeadsToLeaf z way) (sym p) l)
-  where
-    within : (ks : List (Tree Address)) (way : Address) → 1 ≤ length way → LeadsToLeaf (branch e (trees_of ks)) way → get_or way 0 0 < length ks
-    within ks [] n l = absurd (omega arith)
-    within [] (i ∷ way) n l = absurd l
-    within (k ∷ ks) (i ∷ way) n l = leads-index (k ∷ ks) i way l
-
--- the same of a path
-pub record IsStep (h : ℕ) (e : Address) (m : Tree Address) (steps : List (ℕ × ℕ)) (last : ℕ) (k : Tree Address) : Type 0 where
+-- the same at a step of a way
+pub record IsStep (h : ℕ) (e : Address) (m : Tree Address) (step : ℕ) (digits ranks : List ℕ) (k : Tree Address) : Type 0 where
   pub root : root_of m ≡ e
   pub deeper : IsDeeper h e k
-  pub leaf_below : LeadsToLeaf k (digits_of (later steps))
-  pub image : image_map m (digits_of steps) ≡ image_map k (digits_of (later steps))
-  pub ranks : lift_ranks m (digits_of steps) (ranks_of steps last) ≡ replicate (length (root_of k) - length e) (get_or steps 0 (0, 0)).1 ++ lift_ranks k (digits_of (later steps)) (ranks_of (later steps) last)
+  pub leaf_below : LeadsToLeaf k (drop (step + 1) digits)
+  pub image : image_map m (drop step digits) ≡ image_map k (drop (step + 1) digits)
+  pub ranks_are : lift_ranks m (drop step digits) (drop step ranks) ≡ replicate (length (root_of k) - length e) (get_or ranks step 0) ++ lift_ranks k (drop (step + 1) digits) (drop (step + 1) ranks)
 
-pub step : (h : ℕ) (e : Address) (ks : List (Tree Address)) (m : Tree Address) (steps : List (ℕ × ℕ)) (last : ℕ) (k : Tree Address) → branch e (trees_of ks) ≡ m → IsDeep h m → 1 ≤ length steps → LeadsToLeaf m (digits_of steps)
-    → k ≡ get_or ks (get_or steps 0 (0, 0)).0 k → IsStep h e m steps last k
-step h e ks m [] last k p w n l f = absurd (omega arith)
-step h e ks m (s ∷ steps) last k p w n l f =
-    let t : IsNext h e m (digits_of (s ∷ steps)) (ranks_of (s ∷ steps) last) k = next h e ks m (digits_of (s ∷ steps)) (ranks_of (s ∷ steps) last) k p w (omega arith) (omega arith) l f in
-    let q : rest (digits_of (s ∷ steps)) ≡ digits_of (later (s ∷ steps)) = rest-is (digits_of (s ∷ steps)) ∙ ap digits_of (sym (later-cons s steps)) in
-    let r : rest (ranks_of (s ∷ steps) last) ≡ ranks_of (later (s ∷ steps)) last = rest-is (ranks_of (s ∷ steps) last) ∙ ap (λ (z : List (ℕ × ℕ)). ranks_of z last) (sym (later-cons s steps)) in
-    record {
-      root = t.root;
-      deeper = t.deeper;
-      leaf_below = subst (LeadsToLeaf k) q t.leaf_below;
-      image = t.image ∙ ap (image_map k) q;
-      ranks = t.ranks_are
-          ∙ ap (λ (z : Address). replicate (length (root_of k) - length e) s.1 ++ lift_ranks k z (rest (ranks_of (s ∷ steps) last))) q
-          ∙ ap (λ (z : List ℕ). replicate (length (root_of k) - length e) s.1 ++ lift_ranks k (digits_of (later (s ∷ steps))) z) r;
-    }
+module _ (e : Address) (ks : List (Tree Address)) (m : Tree Address) (step : ℕ) (digits : List ℕ) (p : branch e (trees_of ks) ≡ m) (b : step < length digits) (l : LeadsToLeaf m (drop step digits)) where
+  leads : LeadsToLeaf (branch e (trees_of ks)) (get_or digits step 0 ∷ drop (step + 1) digits)
+  leads = subst (λ (z : Tree Address). LeadsToLeaf z (get_or digits step 0 ∷ drop (step + 1) digits)) (sym p) (subst (LeadsToLeaf m) (drop_more digits step 0 b) l)
 
-pub step-within : (e : Address) (ks : List (Tree Address)) (m : Tree Address) (steps : List (ℕ × ℕ)) → branch e (trees_of ks) ≡ m → 1 ≤ length steps → LeadsToLeaf m (digits_of steps) → (get_or steps 0 (0, 0)).0 < length ks
-step-within e ks m [] p n l = absurd (omega arith)
-step-within e ks m (s ∷ steps) p n l = next-within e ks m (digits_of (s ∷ steps)) p (omega arith) l
+  pub step-within : get_or digits step 0 < length ks
+  step-within = next-within e ks (get_or digits step 0) (drop (step + 1) digits) leads
+
+  pub step-down : (h : ℕ) (ranks : List ℕ) (i : ℕ) (k : Tree Address) → length ranks ≡ length digits + 1 → IsDeep h m → i ≡ get_or digits step 0 → k ≡ get_or ks i k → IsStep h e m step digits ranks k
+  step-down h ranks i k n w x f =
+      let d : drop step digits ≡ get_or digits step 0 ∷ drop (step + 1) digits = drop_more digits step 0 b in
+      let r : drop step ranks ≡ get_or ranks step 0 ∷ drop (step + 1) ranks = drop_more ranks step 0 (omega (arith, n, b)) in
+      let o : IsNext h e (branch e (trees_of ks)) (get_or digits step 0) (drop (step + 1) digits) (get_or ranks step 0) (drop (step + 1) ranks) k
+      = next h e ks _ _ (get_or ranks step 0) (drop (step + 1) ranks) k (subst (IsDeep h) (sym p) w) leads (rw x at f) in
+      let t : IsNext h e m (get_or digits step 0) (drop (step + 1) digits) (get_or ranks step 0) (drop (step + 1) ranks) k
+      = subst (λ (z : Tree Address). IsNext h e z (get_or digits step 0) (drop (step + 1) digits) (get_or ranks step 0) (drop (step + 1) ranks) k) p o in
+      record {
+        root = t.root;
+        deeper = t.deeper;
+        leaf_below = t.leaf_below;
+        image = ap (image_map m) d ∙ t.image;
+        ranks_are = ap (λ (z : Address). lift_ranks m z (drop step ranks)) d ∙ ap (lift_ranks m (get_or digits step 0 ∷ drop (step + 1) digits)) r ∙ t.ranks_are;
+      }
 
 -- the ranks of the child stand behind the first ones
 pub ranks-behind : (n r : ℕ) (old new filled : List ℕ) → filled ≡ replicate n r ++ drop n old → put_mid n (length filled - n) filled new ≡ replicate n r ++ new
@@ -124,28 +108,27 @@ ranks-behind n r old new filled e =
     rw (t, d) (ap (λ (z : List ℕ). replicate n r ++ z) (append-nil new))
 
 -- what is known at the end of a way: the leaf's image is as long as the digits, and there is one rank
-pub record IsLast (h : ℕ) (m : Tree Address) (way ranks lifted : List ℕ) : Type 0 where
+pub record IsEnd (h : ℕ) (m : Tree Address) (way ranks lifted : List ℕ) : Type 0 where
   pub long : length (root_of m) ≡ h
   pub image : root_of m ≡ image_map m way
   pub one : 0 < length lifted
   pub ranks_are : set lifted 0 (get_or ranks 0 0) ≡ lift_ranks m way ranks
 
-pub last-at : (h : ℕ) (m : Tree Address) (way ranks lifted : List ℕ) → length way < 1 → IsDeep h m → LeadsToLeaf m way → length lifted + length (root_of m) ≡ h + 1 → IsLast h m way ranks lifted
-last-at h m (i ∷ way) ranks lifted z w l n = absurd (omega arith)
-last-at h (inner e ts) [] ranks lifted z w l n = absurd l
-last-at h (leaf e) [] ranks [] z w l n = absurd (omega (arith, w))
-last-at h (leaf e) [] ranks (r ∷ s ∷ lifted) z w l n = absurd (omega (arith, w))
-last-at h (leaf e) [] ranks (r ∷ []) z w l n = record { long = w; image = refl; one = omega arith; ranks_are = refl }
+end-at : (h : ℕ) (m : Tree Address) (way ranks lifted : List ℕ) → length way < 1 → IsDeep h m → LeadsToLeaf m way → length lifted + length (root_of m) ≡ h + 1 → IsEnd h m way ranks lifted
+end-at h m (i ∷ way) ranks lifted z w l n = absurd (omega arith)
+end-at h (inner e ts) [] ranks lifted z w l n = absurd l
+end-at h (leaf e) [] ranks [] z w l n = absurd (omega (arith, w))
+end-at h (leaf e) [] ranks (r ∷ s ∷ lifted) z w l n = absurd (omega (arith, w))
+end-at h (leaf e) [] ranks (r ∷ []) z w l n = record { long = w; image = refl; one = omega arith; ranks_are = refl }
 
--- the same of a path
-pub record IsEnd (h : ℕ) (m : Tree Address) (steps : List (ℕ × ℕ)) (ranks : List ℕ) (last : ℕ) : Type 0 where
+pub record IsLast (h : ℕ) (m : Tree Address) (step : ℕ) (digits ranks lifted : List ℕ) : Type 0 where
   pub long : length (root_of m) ≡ h
-  pub image : root_of m ≡ image_map m (digits_of steps)
-  pub one : 0 < length ranks
-  pub ranks_are : set ranks 0 last ≡ lift_ranks m (digits_of steps) (ranks_of steps last)
+  pub image : root_of m ≡ image_map m (drop step digits)
+  pub one : 0 < length lifted
+  pub ranks_are : set lifted 0 (get_or ranks step 0) ≡ lift_ranks m (drop step digits) (drop step ranks)
 
-pub end : (h : ℕ) (m : Tree Address) (steps : List (ℕ × ℕ)) (ranks : List ℕ) (last : ℕ) → length steps < 1 → IsDeep h m → LeadsToLeaf m (digits_of steps) → length ranks + length (root_of m) ≡ h + 1 → IsEnd h m steps ranks last
-end h m (s ∷ steps) ranks last z w l n = absurd (omega arith)
-end h m [] ranks last z w l n =
-    let e : IsLast h m [] (last ∷ []) ranks = last-at h m [] (last ∷ []) ranks (omega arith) w l n in
-    record { long = e.long; image = e.image; one = e.one; ranks_are = e.ranks_are }
+pub last-at : (h : ℕ) (m : Tree Address) (step : ℕ) (digits ranks lifted : List ℕ) → length digits ≤ step → IsDeep h m → LeadsToLeaf m (drop step digits) → length lifted + length (root_of m) ≡ h + 1 → IsLast h m step digits ranks lifted
+last-at h m step digits ranks lifted b w l n =
+    let e : IsEnd h m (drop step digits) (drop step ranks) lifted = end-at h m (drop step digits) (drop step ranks) lifted (omega (arith, length-drop step digits)) w l n in
+    let s : get_or (drop step ranks) 0 0 ≡ get_or ranks step 0 = get_or-drop step ranks 0 0 ∙ ap (λ (i : ℕ). get_or ranks i 0) (omega arith) in
+    record { long = e.long; image = e.image; one = e.one; ranks_are = ap (set lifted 0) (sym s) ∙ e.ranks_are }

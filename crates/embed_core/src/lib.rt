@@ -4,9 +4,11 @@
 mod block;
 mod map;
 mod needs;
+mod way;
 
 pub use map::{EmbedFault, Map, embed, least_height, lift, pick};
 pub use target_core::{Target, TargetFault, read_target};
+pub use way::Way;
 
 #[cfg(test)]
 mod tests;

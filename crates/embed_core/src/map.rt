@@ -2,7 +2,6 @@
 ghost use Rattle.std.specs.Prelude.{◌≡◌, ◌+◌, ◌≤◌, ◌++◌, ◌↔◌, length, replicate, drop, IfOk, IsTrue, MatchOption, Some, None, Err};
 ghost use Rattle.tree_defs.specs.Tree.{nodes, depth as levels, root_of, LeadsToLeaf, SameShape};
 ghost use Rattle.tree_defs.specs.Topology.{IsBranched, IsPrefixOf, complete};
-ghost use Rattle.tree_core.specs.Paths.{digits as digits_on, ranks as ranks_on, digits_of, ranks_of};
 ghost use Rattle.tree_core.specs.Shape.{topology};
 ghost use Rattle.target_defs.specs.Target.{IsInRange, lowest};
 ghost use Rattle.placement_defs.specs.Embedding.{IsEmbedding, HasEmbedding};
@@ -16,10 +15,11 @@ ghost use Rattle.embed_core.specs.Picks.{IsLeafImage, PicksOnto};
 
 use crate::block::block_start;
 use crate::needs::Needs;
+use crate::way::Way;
 use std::alloc::{AllocError, Global};
 use std::marker::Model;
 use target_core::Target;
-use tree_core::{Path, Taken, Topo};
+use tree_core::{Taken, Topo};
 
 /// The image of each node of a topology.
 #[derive(Drop)]
@@ -97,64 +97,26 @@ impl Map {
         digits.starts_with(&self.image)
     }
 
-    /// Sets `digits` to the image of a leaf, and `ranks` to the lifted ranks from the root's image on.
-    fn lift_along(&self, steps: &[(u32, u64)], last: u64, digits: &mut [u32], ranks: &mut [u64])
-        requires leaf { LeadsToLeaf self.now (digits_of steps.now) }
+    /// Sets `digits` to the image of the leaf that a way leads to from one of its steps on, and `ranks` to the lifted ranks from
+    /// the root's image on.
+    fn lift_from<W: Way>(&self, step: usize, way: &W, digits: &mut [u32], ranks: &mut [u64])
+        requires leaf { LeadsToLeaf self.now (drop step (W.digits way.now)) }
         requires deep { IsDeep (length digits.old) self.now }
+        requires whole { length (W.ranks way.now) ≡ length (W.digits way.now) + 1 }
+        requires within { step ≤ length (W.digits way.now) }
         requires ranks { length ranks.old + length (root_of self.now) ≡ length digits.old + 1 }
-        ensures digits { digits.new ≡ image_map self.now (digits_of steps.now) }
-        ensures ranks { ranks.new ≡ lift_ranks self.now (digits_of steps.now) (ranks_of steps.now last) }
+        ensures digits { digits.new ≡ image_map self.now (drop step (W.digits way.now)) }
+        ensures ranks { ranks.new ≡ lift_ranks self.now (drop step (W.digits way.now)) (drop step (W.ranks way.now)) }
     {
-        match steps {
-            [] => {
-                digits.copy_from_slice(&self.image);
-                ranks[0] = last;
-            }
-            [(index, rank), deeper @ ..] => {
-                let child = &self.children[*index as usize];
-                let part = child.depth() - self.depth();
-                fill_front(ranks, part, *rank);
-                child.lift_along(deeper, last, digits, &mut ranks[part..]);
-            }
-        }
-    }
-
-    /// Sets `digits` to the image of the leaf at an address, and `lifted` to the rank at each depth, where there is one in
-    /// `ranks` for each node on the way to the leaf: that of the deepest one whose image is no deeper.
-    pub fn lift_to(&self, way: &[u32], ranks: &[u64], digits: &mut [u32], lifted: &mut [u64])
-        requires leaf { LeadsToLeaf self.now way.now }
-        requires good { IsGoodMap (length digits.old) self.now }
-        requires ranks { length ranks.now ≡ length way.now + 1 }
-        requires lifted { length lifted.old ≡ length digits.old + 1 }
-        ensures digits { digits.new ≡ image_map self.now way.now }
-        ensures lifted { lifted.new ≡ lift_ranks self.now way.now ranks.now }
-    {
-        self.lift_down(way, ranks, digits, lifted);
-    }
-
-    /// Sets `image` to that of a leaf, and `lifted` to the lifted ranks from the root's image on.
-    fn lift_down(&self, way: &[u32], ranks: &[u64], image: &mut [u32], lifted: &mut [u64])
-        requires leaf { LeadsToLeaf self.now way.now }
-        requires deep { IsDeep (length image.old) self.now }
-        requires ranks { length ranks.now ≡ length way.now + 1 }
-        requires lifted { length lifted.old + length (root_of self.now) ≡ length image.old + 1 }
-        ensures image { image.new ≡ image_map self.now way.now }
-        ensures lifted { lifted.new ≡ lift_ranks self.now way.now ranks.now }
-    {
-        let [rank, lower @ ..] = ranks else {
-            unreachable!()
-        };
-        match way {
-            [] => {
-                image.copy_from_slice(&self.image);
-                lifted[0] = *rank;
-            }
-            [index, deeper @ ..] => {
-                let child = &self.children[*index as usize];
-                let part = child.depth() - self.depth();
-                fill_front(lifted, part, *rank);
-                child.lift_down(deeper, lower, image, &mut lifted[part..]);
-            }
+        let rank = way.rank(step);
+        if step < way.steps() {
+            let child = &self.children[way.digit(step) as usize];
+            let part = child.depth() - self.depth();
+            fill_front(ranks, part, rank);
+            child.lift_from(step + 1, way, digits, &mut ranks[part..]);
+        } else {
+            digits.copy_from_slice(&self.image);
+            ranks[0] = rank;
         }
     }
 
@@ -213,16 +175,17 @@ fn fill_front(ranks: &mut [u64], count: usize, rank: u64)
     ranks[..count].fill(rank);
 }
 
-/// Sets `digits` to the image of the leaf that a path leads to, and `ranks` to the rank at each depth: that of the deepest
-/// node on the path whose image is no deeper.
-pub fn lift(map: &Map, path: &Path, digits: &mut [u32], ranks: &mut [u64])
-    requires leaf { LeadsToLeaf map.now (digits_on path.now) }
+/// Sets `digits` to the image of the leaf that a way leads to, and `ranks` to the rank at each depth: that of the deepest node
+/// on the way whose image is no deeper.
+pub fn lift<W: Way>(map: &Map, way: &W, digits: &mut [u32], ranks: &mut [u64])
+    requires leaf { LeadsToLeaf map.now (W.digits way.now) }
+    requires whole { length (W.ranks way.now) ≡ length (W.digits way.now) + 1 }
     requires good { IsGoodMap (length digits.old) map.now }
     requires ranks { length ranks.old ≡ length digits.old + 1 }
-    ensures digits { digits.new ≡ image_map map.now (digits_on path.now) }
-    ensures ranks { ranks.new ≡ lift_ranks map.now (digits_on path.now) (ranks_on path.now) }
+    ensures digits { digits.new ≡ image_map map.now (W.digits way.now) }
+    ensures ranks { ranks.new ≡ lift_ranks map.now (W.digits way.now) (W.ranks way.now) }
 {
-    map.lift_along(path.steps.as_slice(), path.last, digits, ranks);
+    map.lift_from(0, way, digits, ranks);
 }
 
 /// Sets `taken` to the address of the leaf with an image, and for each node on the way to it the rank at its image's depth.

@@ -273,21 +273,20 @@ fn lifts_to(
     alloc: Global,
     topo: &Topo,
     map: &Map,
-    way: &[u32],
-    ranks: &[u64],
+    taken: &Taken,
     digits: &[u32],
-    lifted: &[u64],
+    ranks: &[u64],
 ) -> Result<bool, AllocError>
     requires good { IsGoodMap (length digits.now) map.now }
     requires shape { SameShape (topology topo.now) map.now }
-    requires leaf { LeadsToLeaf (topology topo.now) way.now }
-    requires ranks { length ranks.now ≡ length way.now + 1 }
-    requires lifted { length lifted.now ≡ length digits.now + 1 }
+    requires leaf { LeadsToLeaf (topology topo.now) taken.now.digits }
+    requires whole { length taken.now.ranks ≡ length taken.now.digits + 1 }
+    requires ranks { length ranks.now ≡ length digits.now + 1 }
 {
     let mut image = vec![in alloc; 0; digits.len()]?;
-    let mut depths = vec![in alloc; 0; lifted.len()]?;
-    map.lift_to(way, ranks, &mut image, &mut depths);
-    Ok(image.as_slice() == digits && depths.as_slice() == lifted)
+    let mut lifted = vec![in alloc; 0; ranks.len()]?;
+    lift(map, taken, &mut image, &mut lifted);
+    Ok(image.as_slice() == digits && lifted.as_slice() == ranks)
 }
 
 #[test]
@@ -295,17 +294,14 @@ fn what_was_taken_is_lifted_as_its_path_is(rt: HostRuntime) -> Result<(), Fail> 
     let alloc = rt.alloc();
     let topo = leaf_beside_a_pair(alloc)?;
     let map = embed(alloc, &topo, &target(alloc, &[2, 2, 2])?)?;
-    assert!(rt; lifts_to(alloc, &topo, &map, &[0], &[5, 9], &[0, 1, 0], &[5, 5, 5, 9])?);
-    assert!(rt;
-        lifts_to(
-            alloc,
-            &topo,
-            &map,
-            &[1, 1],
-            &[5, 7, 9],
-            &[0, 0, 1],
-            &[5, 5, 7, 9]
-        )?
-    );
+    let mut taken = Taken::new(alloc, 2)?;
+    taken.step(0, 5);
+    taken.last(9);
+    assert!(rt; lifts_to(alloc, &topo, &map, &taken, &[0, 1, 0], &[5, 5, 5, 9])?);
+    taken.clear();
+    taken.step(1, 5);
+    taken.step(1, 7);
+    taken.last(9);
+    assert!(rt; lifts_to(alloc, &topo, &map, &taken, &[0, 0, 1], &[5, 5, 7, 9])?);
     Ok(())
 }
