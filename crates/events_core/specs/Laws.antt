@@ -7,4 +7,7 @@ use Rattle.events_core.specs.Script.{most_bytes, IsScript, IsFirstFault}
 -- it is not so that a text which isn't too long has no steps and no line at fault
 abbrev pub ScriptsHaveAnAnswer : Type 0
 ScriptsHaveAnAnswer =
-    (text : List ℕ) → length text ≤ most_bytes → ((steps : List Step) → IsScript text steps → ⊥) → ((fault : ScriptFault) → IsFirstFault text fault → ⊥) → ⊥
+    (text : List ℕ) → length text ≤ most_bytes
+    → ((steps : List Step) → IsScript text steps → ⊥)
+    → ((fault : ScriptFault) → IsFirstFault text fault → ⊥)
+    → ⊥

@@ -39,4 +39,5 @@ CanonicalPlacementsAreOne = (a : Arities) (h : ℕ) (t : Topology) (images other
 abbrev pub PlacementsAreThereOrNone : Type 0
 PlacementsAreThereOrNone =
     (a : Arities) (h : ℕ) (t : Topology) → AreWide a
-    → ((images : Tree Address) × IsCanonical a h t images × IsEmbedding t (complete (down_from a h)) (image_map images)) ⊎ (HasEmbedding t (complete (down_from a h)) → ⊥)
+    → ((images : Tree Address) × IsCanonical a h t images × IsEmbedding t (complete (down_from a h)) (image_map images))
+    ⊎ (HasEmbedding t (complete (down_from a h)) → ⊥)

@@ -12,4 +12,6 @@ PoliciesHaveOnePlan =
 
 -- a policy and a target have a plan
 abbrev pub PoliciesHaveAPlan : Type 0
-PoliciesHaveAPlan = (policy : Policy) (arities : List ℕ) (above : ℕ) → IsInRange arities above → (fits : Bool) × ((text : List ℕ) × IsPlan policy arities above fits text)
+PoliciesHaveAPlan =
+    (policy : Policy) (arities : List ℕ) (above : ℕ) → IsInRange arities above
+    → (fits : Bool) × ((text : List ℕ) × IsPlan policy arities above fits text)

@@ -13,7 +13,10 @@ use Rattle.assembly_core.specs.Laws.{AreValid}
 -- it is not so that a text which isn't too long has no statements and no line at fault
 abbrev pub PolicyTextsHaveAnAnswer : Type 0
 PolicyTextsHaveAnAnswer =
-    (text : List ℕ) → length text ≤ most_text → ((entries : List Entry) → HasEntries text entries → ⊥) → ((n : ℕ) (fault : Fault) → IsFirstFault text n fault → ⊥) → ⊥
+    (text : List ℕ) → length text ≤ most_text
+    → ((entries : List Entry) → HasEntries text entries → ⊥)
+    → ((n : ℕ) (fault : Fault) → IsFirstFault text n fault → ⊥)
+    → ⊥
 
 -- the statements of a text stand on rising lines, and each is one that some line has
 pub record HasSoundEntries (entries : List Entry) : Type 0 where
@@ -25,7 +28,8 @@ TextsHaveSoundEntries = (text : List ℕ) (entries : List Entry) → HasEntries 
 
 -- statements that have no fault are accepted
 abbrev pub FaultlessAreAccepted : Type 0
-FaultlessAreAccepted = (entries : List Entry) → ((fault : PolicyFault) → fault ≢ NoMemory → IsFault entries fault → ⊥) → AreAccepted entries
+FaultlessAreAccepted =
+    (entries : List Entry) → ((fault : PolicyFault) → fault ≢ NoMemory → IsFault entries fault → ⊥) → AreAccepted entries
 
 -- no two policies are those of the same statements
 abbrev pub StatementsGiveOnePolicy : Type 0
@@ -33,4 +37,5 @@ StatementsGiveOnePolicy = (entries : List Entry) (r s : Resolved) → AreRising 
 
 -- accepted statements give a policy
 abbrev pub StatementsGiveAPolicy : Type 0
-StatementsGiveAPolicy = (entries : List Entry) → AreRising entries → AreValid entries → AreAccepted entries → (r : Resolved) × IsResolved entries r
+StatementsGiveAPolicy =
+    (entries : List Entry) → AreRising entries → AreValid entries → AreAccepted entries → (r : Resolved) × IsResolved entries r

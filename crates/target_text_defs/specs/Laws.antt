@@ -15,4 +15,5 @@ AcceptedTargetsAreInRange = (bytes arities : List ℕ) (above : ℕ) → IsTarge
 
 -- each text gives a target, or has a fault
 abbrev pub TextsHaveAnAnswer : Type 0
-TextsHaveAnAnswer = (bytes : List ℕ) → ((arities : List ℕ) × ((above : ℕ) × IsTargetText bytes arities above)) ⊎ ((code : ℕ) × IsRefused bytes code)
+TextsHaveAnAnswer =
+    (bytes : List ℕ) → ((arities : List ℕ) × ((above : ℕ) × IsTargetText bytes arities above)) ⊎ ((code : ℕ) × IsRefused bytes code)
