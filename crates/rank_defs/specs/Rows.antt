@@ -1,5 +1,5 @@
 -- Worked rows, each computed from the definitions.
-use Rattle.std.specs.Prelude.{◌≡◌, ℕ, suc, ◌-◌, ◌^◌, refl, Bool, List, [], ◌∷◌, map, replicate, true, false, Option, Some, None, codes, ℤ, pos, negsuc}
+use Rattle.std.specs.Prelude.{◌≡◌, ℕ, suc, ◌-◌, ◌^◌, refl, List, [], ◌∷◌, map, replicate, true, false, Some, None, codes, pos, negsuc}
 use Rattle.std.specs.Int.Signed.{le_z_yes, lt_z_yes, clash_ℤ}
 use Rattle.rank_defs.specs.declared.environment.Env.{Env}
 use Rattle.rank_defs.specs.declared.environment.Who.{Who}
@@ -15,7 +15,7 @@ use Rattle.rank_defs.specs.declared.transaction.TheConstants.{MAX_RANK}
 use Rattle.rank_defs.specs.Shapes.{max_depth, max_len, max_prio, max_weight, max_slack}
 use Rattle.rank_defs.specs.Formulas.{Formula, number, variable, two, negation, choice, depth_of, computes, compares, joins, group}
 use Rattle.rank_defs.specs.Programs.{Program, span, max_rank, target, assignments}
-use Rattle.rank_defs.specs.Values.{Value, num, truth, nothing, quotient, apply, negated, chosen, value_of}
+use Rattle.rank_defs.specs.Values.{num, truth, nothing, quotient, apply, negated, chosen, value_of}
 use Rattle.rank_defs.specs.States.{State, Memory, first_state, same_who, variable_in}
 use Rattle.rank_defs.specs.Steps.{clamped, write, push_rank, after_push, after_pop}
 use Rattle.rank_defs.specs.Ranges.{counts, tells, clash, sort_of, range, hull_of, holds_zero, reach, quotient_range, joined_range, range_of_two, range_of, declared, parts_divide, widest, IsNarrow}

@@ -1,5 +1,5 @@
 -- What no text that grows does, and what no first part of a text is.
-use Rattle.std.proofs.Common.{Option, None, Some, [], ◌∷◌, take, subst}
+use Rattle.std.proofs.Common.{None, Some, [], ◌∷◌, take, subst}
 use Rattle.std.specs.Prelude.{T}
 use Rattle.std.specs.Str.{bytes_eq}
 use Rattle.report_defs.specs.Text.{Begins, IsCut}

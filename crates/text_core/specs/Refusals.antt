@@ -1,5 +1,5 @@
 -- Why a line isn't read.
-use Rattle.std.specs.Prelude.{◌≡◌, refl, List, [], ◌∷◌, map}
+use Rattle.std.specs.Prelude.{◌≡◌, refl, [], ◌∷◌, map}
 use Rattle.text_core.specs.declared.token.TokenFault.{TokenFault}
 use Rattle.text_core.specs.declared.token.TokenFault.TheVariants as fault
 use Rattle.text_core.specs.declared.refusal.Refusal.{Refusal}
