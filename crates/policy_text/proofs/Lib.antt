@@ -5,3 +5,4 @@ pub mod PrintMeasure
 pub mod Refusals
 pub mod StateLaws
 pub mod TextSteps
+pub mod TestLaws

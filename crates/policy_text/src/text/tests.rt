@@ -1,7 +1,13 @@
+ghost use Rattle.std.specs.Prelude.{◌≡◌, [], ◌∷◌, map, codes, IfOk};
+ghost use Rattle.policy_text_defs.specs.Sense.{sense_of, version, transaction};
+
 use super::parse;
 use crate::fault::TextFault;
+use crate::lines::Lines;
+use list_core::{List, Name};
 use policy_text_defs::{Statement, Term};
 use rank_defs::Op;
+use std::alloc::{AllocError, Global};
 use std::test::Fail;
 
 /// What `parse` answers: how many statements, or the fault.
@@ -114,6 +120,27 @@ fn lines_keep_their_numbers(rt: HostRuntime) -> Result<(), Fail> {
             }
         }
         Err(fault) => panic!(rt; "{fault:?}"),
+    }
+    Ok(())
+}
+
+fn two_statements(alloc: Global) -> Result<List<Statement>, AllocError>
+    ensures { IfOk result (λ all. map sense_of all ≡ version 1 ∷ transaction (codes "t") ∷ []) }
+{
+    let name = Name::new(alloc, "t")?;
+    let all = vec![in alloc; Statement::Version(1), Statement::Transaction(name)]?;
+    Ok(List::from_vec(all))
+}
+
+#[test]
+#[tactic(auto, using(crate::proofs::TestLaws::two_written))]
+fn statements_are_numbered_from_line_1(rt: HostRuntime) -> Result<(), Fail> {
+    let alloc = rt.alloc();
+    let lines = Lines::of(alloc, two_statements(alloc)?)?;
+    let want = ["1 policy 1", "2 transaction t"];
+    assert_eq!(rt; lines.entries().len(), want.len());
+    for ((line, statement), want) in lines.entries().iter().zip(want) {
+        assert_eq!(rt; described(&rt, *line, statement)?.as_str(), want);
     }
     Ok(())
 }
