@@ -12,7 +12,7 @@ use Rattle.plan_defs.specs.Plan.{placed, no_room, least_line, map_lines}
 use Rattle.plan_defs.specs.Laws.{PoliciesHaveAPlan}
 
 -- counted by height, all levels are the target
-all_levels : (arities : List ℕ) (above : ℕ) → down_from (levels arities above) (length arities) ≡ arities
+pub all_levels : (arities : List ℕ) (above : ℕ) → down_from (levels arities above) (length arities) ≡ arities
 all_levels arities above =
     let none : length arities - length arities ≡ 0 = omega arith in
     heights_give-holds arities above (length arities) ∙ rw none refl

@@ -11,3 +11,4 @@ pub mod Commands
 pub mod OneAnswer
 pub mod Directing
 pub mod Loading
+pub mod SomeAnswer

@@ -22,7 +22,7 @@ mod words;
 
 pub use command::run;
 pub use ending::Ending;
-pub use laws::words_have_one_answer;
+pub use laws::{words_have_an_answer, words_have_one_answer};
 pub use plain::Plain;
 pub use run_core::depart_line;
 pub use stop::Stop;
