@@ -73,6 +73,7 @@ impl Policy {
         ensures topology { topology result.now ≡ topology_of self.now.policy.tree }
         ensures branched { IsBranched (topology_of self.now.policy.tree) }
         ensures few { nodes (topology_of self.now.policy.tree) ≤ most_nodes }
+        ensures levels { levels (topology_of self.now.policy.tree) ≤ 64 }
         ensures accepted { IsAccepted self.now.policy }
     {
         self.tree.topo()
