@@ -2,8 +2,10 @@ ghost use Rattle.std.specs.Prelude.{◌<◌, ◌^◌, IsTrue};
 
 use crate::{FileShelf, MemShelf, MemSink, PlainShelf, PlainSink, Shelf, StdSink, load, write_all};
 use std::alloc::{AllocError, Global};
+use std::cell::Cell;
+use std::fmt::Display;
 use std::test::Fail;
-use std::{env, fs, process};
+use std::{env, fs, io, process};
 
 /// `policy` given twice, and an empty file.
 fn files(alloc: Global) -> Result<Vec<(String, Vec<u8>)>, AllocError> {
@@ -123,6 +125,54 @@ fn real_files_are_loaded(rt: HostRuntime) -> Result<(), Fail> {
     assert_eq!(rt; long.as_str(), "TooLong");
     assert_eq!(rt; missing.as_str(), "Failed");
     assert_eq!(rt; unreadable.as_str(), "Failed");
+    Ok(())
+}
+
+/// A page in the place of standard output, which no test can read back. It takes three bytes at a time at most.
+#[derive(Drop)]
+struct Page {
+    alloc: Global,
+    bytes: Cell<Vec<u8>>,
+}
+
+impl Print for Page {
+    fn print<D: Display + Drop>(&self, value: D) -> io::Result<()> {
+        self.write_all(format!(in self.alloc; "{value}")?.as_bytes())
+    }
+
+    fn println<D: Display + Drop>(&self, value: D) -> io::Result<()> {
+        self.write_all(format!(in self.alloc; "{value}\n")?.as_bytes())
+    }
+
+    fn write_all(&self, bytes: &[u8]) -> io::Result<()> {
+        let mut all = self.bytes.replace(Vec::new(self.alloc));
+        let added = all.extend_from_slice(bytes);
+        self.bytes.set(all);
+        Ok(added?)
+    }
+
+    fn write_some(&self, bytes: &[u8]) -> io::Result<usize> {
+        let count = bytes.len().min(3);
+        self.write_all(&bytes[..count])?;
+        Ok(count)
+    }
+}
+
+#[test]
+fn what_is_sent_to_standard_output_is_printed_in_order(rt: HostRuntime) -> Result<(), Fail> {
+    let alloc = rt.alloc();
+    let page = Page {
+        alloc,
+        bytes: Cell::new(Vec::new(alloc)),
+    };
+    let mut sink = StdSink::new(&page);
+    assert!(rt; write_all(&mut sink, b"all of this line\n").is_ok());
+    assert!(rt; write_all(&mut sink, b"and \xff\n").is_ok());
+    let printed = page.bytes.replace(Vec::new(alloc));
+    assert_eq!(rt;
+        printed.as_slice(),
+        b"all of this line\nand \xff\n".as_slice()
+    );
     Ok(())
 }
 
