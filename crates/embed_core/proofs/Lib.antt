@@ -8,4 +8,5 @@ pub mod Placing
 pub mod Looking
 pub mod Lifting
 pub mod Picking
+pub mod Ordering
 pub mod Alike

@@ -1,6 +1,6 @@
 -- The child on whose side a leaf lies is found by its image.
-use Rattle.std.proofs.Common.{◌≡◌, ℕ, zero, suc, ◌+◌, ◌<◌, ◌≤◌, List, [], ◌∷◌, ◌++◌, length, get_or, drop, Option, None, refl, sym, ap, ◌∙◌, subst, arith, append_assoc, append-nil, length-append, inl, inr}
-use Rattle.std.proofs.lemmas.Bool.{cases_lt}
+use Rattle.std.proofs.Common.{◌≡◌, ℕ, zero, suc, ◌+◌, ◌<◌, ◌≤◌, List, [], ◌∷◌, ◌++◌, length, get_or, Option, None, refl, sym, ap, ◌∙◌, subst, arith, append_assoc, append-nil, length-append}
+use Rattle.std.proofs.lemmas.List.{get_or_default}
 use Rattle.std.specs.Prelude.{option_map, unwrap_or}
 use Rattle.tree_defs.specs.Tree.{Tree, leaf, inner, Trees, none, more, trees_of, root_of, Address, LeadsToLeaf, LeadsBelow, nodes, nodes_below, depth, depth_below, subtree_in}
 use Rattle.tree_defs.specs.Topology.{after, IsPrefixOf}
@@ -12,6 +12,7 @@ use Rattle.placement_defs.specs.Placed.{IsApartFrom}
 use Rattle.placement_defs.proofs.Addresses.{one_prefix}
 use Rattle.lift_defs.specs.Lift.{picked_ranks, picked_ranks_below}
 use Rattle.lift_defs.specs.GoodMaps.{IsDeep, IsNested, AreNested}
+use Rattle.embed_core.specs.ImageOrder.{child_image, AreApart, IsOnSide}
 use Rattle.embed_core.specs.Picks.{LeadsToImage, IsLeafImage, PicksOnto}
 use Rattle.embed_core.proofs.Looking.{child-at}
 use Rattle.embed_core.proofs.Lifting.{IsDeeper, leads-index, leads-child, deep-child}
@@ -138,35 +139,37 @@ pub found : (e : Address) (ks : List (Tree Address)) (m : Tree Address) (image :
 found e ks m image ranks i k p l f w q h x =
     subst (λ (z : Tree Address). IsFound z image ranks i k) p (found-at e ks image ranks i k l f (subst IsNested (sym p) w) (subst (IsDeep (length image)) (sym p) q) (subst (λ (z : Tree Address). IsLeafImage z image) (sym p) h) x)
 
--- the images of the first children do not begin it
-abbrev pub NoneBegins : List (Tree Address) → ℕ → Address → Type 0
-NoneBegins ks n image = (j : ℕ) (k : Tree Address) → j < n → k ≡ get_or ks j k → IsPrefixOf (root_of k) image → ⊥
-
--- where no child's image begins it, the root is the leaf
-pub at_leaf : (e : Address) (ks : List (Tree Address)) (m : Tree Address) (image : Address) (ranks : List ℕ) (before later : Way) → branch e (trees_of ks) ≡ m → IsNested m → NoneBegins ks (length ks) image
-    → IsLeafImage m image → later.digits ≡ before.digits → later.ranks ≡ before.ranks ++ get_or ranks (length (root_of m)) 0 ∷ [] → later.room ≡ before.room → PicksOnto m image ranks before later
-at_leaf e ks m image ranks before later p w bar h q r t =
-    subst (λ (z : Tree Address). PicksOnto z image ranks before later) p (here ks bar (subst IsNested (sym p) w) (subst (λ (z : Tree Address). IsLeafImage z image) (sym p) h)
-    (subst (λ (z : Tree Address). later.ranks ≡ before.ranks ++ get_or ranks (length (root_of z)) 0 ∷ []) (sym p) r))
+-- where there are children, the image of one begins a leaf's
+pub some_side : (e : Address) (ks : List (Tree Address)) (m : Tree Address) (image : Address) → branch e (trees_of ks) ≡ m → 0 < length ks → IsNested m → IsLeafImage m image → (i : ℕ) × IsOnSide ks image i
+some_side e [] m image p l w h = absurd (omega arith)
+some_side e (u ∷ ks) m image p l w h = below h'.0 h'.1
   where
-    here : (ks : List (Tree Address)) → NoneBegins ks (length ks) image → IsNested (branch e (trees_of ks)) → IsLeafImage (branch e (trees_of ks)) image
-        → later.ranks ≡ before.ranks ++ get_or ranks (length (root_of (branch e (trees_of ks)))) 0 ∷ [] → PicksOnto (branch e (trees_of ks)) image ranks before later
-    here [] bar w h r = bare h.0 h.1
-      where
-        bare : (path : Address) → LeadsToImage (leaf e) image path → PicksOnto (leaf e) image ranks before later
-        bare [] x = record { path = []; leads = x; digits = q ∙ sym (append-nil before.digits); ranks_are = r; room = t }
-        bare (i ∷ path) x = absurd x.leaf
-    here (u ∷ ks) bar w h r = absurd (below h.0 h.1)
-      where
-        below : (path : Address) → LeadsToImage (inner e (trees_of (u ∷ ks))) image path → ⊥
-        below [] x = absurd x.leaf
-        below (j ∷ path) x =
-            let n : j < length (u ∷ ks) = leads-index (u ∷ ks) j path x.leaf in
-            let v : Tree Address = get_or (u ∷ ks) j u in
-            let g : v ≡ get_or (u ∷ ks) j v = same_get (u ∷ ks) j u n in
-            let a : LeadsToLeaf v path = leads-child (u ∷ ks) j v path x.leaf g in
-            let y : image_map v path ≡ image = sym (image-child (u ∷ ks) j v path n g) ∙ x.image_is in
-            bar j v n g (subst (IsPrefixOf (root_of v)) y (image-begins v path (nested-child e (u ∷ ks) j v w n g) a))
+    w' : IsNested (inner e (trees_of (u ∷ ks)))
+    w' = subst IsNested (sym p) w
+
+    h' : IsLeafImage (inner e (trees_of (u ∷ ks))) image
+    h' = subst (λ (z : Tree Address). IsLeafImage z image) (sym p) h
+
+    below : (path : Address) → LeadsToImage (inner e (trees_of (u ∷ ks))) image path → (i : ℕ) × IsOnSide (u ∷ ks) image i
+    below [] x = absurd x.leaf
+    below (j ∷ path) x =
+        let n : j < length (u ∷ ks) = leads-index (u ∷ ks) j path x.leaf in
+        let v : Tree Address = get_or (u ∷ ks) j (leaf []) in
+        let g : v ≡ get_or (u ∷ ks) j v = same_get (u ∷ ks) j (leaf []) n in
+        let a : LeadsToLeaf v path = leads-child (u ∷ ks) j v path x.leaf g in
+        let y : image_map v path ≡ image = sym (image-child (u ∷ ks) j v path n g) ∙ x.image_is in
+        (j, record { below = n; begins = subst (IsPrefixOf (root_of v)) y (image-begins v path (nested-child e (u ∷ ks) j v w' n g) a) })
+
+-- no child's image begins another's
+pub apart : (e : Address) (ks : List (Tree Address)) (m : Tree Address) → branch e (trees_of ks) ≡ m → IsNested m → AreApart ks
+apart e [] m p w i j l n x = absurd (omega arith)
+apart e (u ∷ ks) m p w i j l n x =
+    only-child e (u ∷ ks) i j (get_or (u ∷ ks) i (leaf [])) (get_or (u ∷ ks) j (leaf [])) (child_image (u ∷ ks) j) (subst IsNested (sym p) w) l n
+    (same_get (u ∷ ks) i (leaf []) l) (same_get (u ∷ ks) j (leaf []) n) x (prefix-self (child_image (u ∷ ks) j))
+
+-- the child at an index, and its image
+pub side-begins : (ks : List (Tree Address)) (image : Address) (i : ℕ) (k : Tree Address) → k ≡ get_or ks i k → IsOnSide ks image i → IsPrefixOf (root_of k) image
+side-begins ks image i k e s = subst (λ (z : Tree Address). IsPrefixOf (root_of z) image) (sym (e ∙ get_or_default ks i k (leaf []) s.below)) s.begins
 
 -- the root's image is no longer than a leaf's
 pub root-short : (m : Tree Address) (image : Address) → IsNested m → IsLeafImage m image → length (root_of m) ≤ length image
@@ -174,20 +177,3 @@ root-short m image w h =
     let p : IsPrefixOf (root_of m) image = subst (IsPrefixOf (root_of m)) h.1.image_is (image-begins m h.0 w h.1.leaf) in
     let q : length image ≡ length (root_of m ++ p.0) = ap length (after-is (root_of m) image p.0 p.1) in
     omega (arith, q, length-append (root_of m) p.0)
-
-pub begins-where : (e f : Address) → f ≡ e ++ drop (length e) f → IsPrefixOf e f
-begins-where e f p = subst (IsPrefixOf e) (sym p) (prefix-append e (drop (length e) f))
-
-pub begins-how : (e f : Address) → (c : IsPrefixOf e f) → f ≡ e ++ c.0
-begins-how e f c = after-is e f c.0 c.1
-
-same-place : (ks : List (Tree Address)) (i : ℕ) (m k : Tree Address) → i < length ks → m ≡ get_or ks i m → k ≡ get_or ks i k → m ≡ k
-same-place [] i m k w p e = absurd (omega arith)
-same-place (u ∷ ks) zero m k w p e = p ∙ sym e
-same-place (u ∷ ks) (suc i) m k w p e = same-place ks i m k (omega arith) p e
-
-pub passed-more : (ks : List (Tree Address)) (i : ℕ) (k : Tree Address) (image : Address) → i < length ks → k ≡ get_or ks i k → NoneBegins ks i image → (IsPrefixOf (root_of k) image → ⊥) → NoneBegins ks (i + 1) image
-passed-more ks i k image w e f g j m l p x = elim (cases_lt j i) [
-  | inl n ↦ f j m n p x
-  | inr n ↦ let q : j ≡ i = omega arith in g (subst (λ (z : Tree Address). IsPrefixOf (root_of z) image) (same-place ks i m k w (subst (λ (z : ℕ). m ≡ get_or ks z m) q p) e) x)
-]

@@ -1,10 +1,11 @@
 -- The images of the children of a node, as a list.
 use Rattle.std.proofs.Common.{◌≡◌, ℕ, zero, suc, ◌+◌, ◌<◌, ◌≤◌, List, [], ◌∷◌, ◌++◌, length, get_or, drop, refl, sym, ap, ◌∙◌, arith, append_assoc, append-nil}
 use Rattle.std.proofs.lemmas.List.{drop_all}
-use Rattle.tree_defs.specs.Tree.{Tree, inner, more, trees_of, root_of, Address}
+use Rattle.tree_defs.specs.Tree.{Tree, inner, more, trees_of, root_of, nodes, Address}
 use Rattle.tree_core.specs.TreeContents.{branch}
 use Rattle.placement_defs.specs.Canonical.{Child, image_part, children, canonical, canonicals}
 use Rattle.target_defs.specs.Levels.{Arities}
+use Rattle.embed_core.proofs.Children.{child-count}
 
 abbrev pub images_from : Arities → ℕ → Address → List Child → List (Tree ℕ) → ℕ → List (Tree Address)
 images_from a h e xs [] i = []
@@ -47,3 +48,8 @@ all-images a h e m n ks vs p q = ap (λ (z : List (Tree Address)). branch e (tre
     node : (ks : List (Tree ℕ)) → branch e (trees_of (images_from a h e (children (trees_of ks) 0) ks 0)) ≡ canonical a h e (branch n (trees_of ks))
     node [] = refl
     node (k ∷ ks) = ap (inner e) (images-trees a h e (children (trees_of (k ∷ ks)) 0) (k ∷ ks) 0)
+
+pub few-images : (a : Arities) (h : ℕ) (e : Address) (m : Tree ℕ) (n : ℕ) (ks : List (Tree ℕ)) (vs : List (Tree Address)) → branch n (trees_of ks) ≡ m → nodes m ≤ 1024 → vs ≡ images_from a h e (children (trees_of ks) 0) ks 0 → length vs ≤ 1024
+few-images a h e m n ks vs p l q =
+    let r : length vs ≡ length ks = ap length q ∙ length-images a h e (children (trees_of ks) 0) ks 0 in
+    omega (arith, r, l, child-count m n ks p)

@@ -1,3 +1,4 @@
 pub mod Range
+pub mod ImageOrder
 pub mod Shrinking
 pub mod Picks

@@ -4,6 +4,7 @@
 mod block;
 mod map;
 mod needs;
+mod order;
 mod way;
 
 pub use map::{EmbedFault, Map, embed, least_height, lift, pick};

@@ -1,7 +1,7 @@
 //! The canonical map of a topology into a complete tree.
-ghost use Rattle.std.specs.Prelude.{◌≡◌, ◌+◌, ◌≤◌, ◌++◌, ◌↔◌, length, replicate, drop, IfOk, IsTrue, MatchOption, Some, None, Err};
+ghost use Rattle.std.specs.Prelude.{◌≡◌, ◌+◌, ◌≤◌, ◌++◌, length, replicate, drop, IfOk, MatchOption, Some, None, Err};
 ghost use Rattle.tree_defs.specs.Tree.{nodes, depth as levels, root_of, LeadsToLeaf, SameShape};
-ghost use Rattle.tree_defs.specs.Topology.{IsBranched, IsPrefixOf, complete};
+ghost use Rattle.tree_defs.specs.Topology.{IsBranched, complete};
 ghost use Rattle.tree_core.specs.Shape.{topology};
 ghost use Rattle.target_defs.specs.Target.{IsInRange, lowest};
 ghost use Rattle.placement_defs.specs.Embedding.{IsEmbedding, HasEmbedding};
@@ -15,17 +15,19 @@ ghost use Rattle.embed_core.specs.Picks.{IsLeafImage, PicksOnto};
 
 use crate::block::block_start;
 use crate::needs::Needs;
+use crate::order::{child_to, image_order};
 use crate::way::Way;
 use std::alloc::{AllocError, Global};
 use std::marker::Model;
 use target_core::Target;
 use tree_core::{Taken, Topo};
 
-/// The image of each node of a topology.
+/// The image of each node of a topology, and at each node the indices of its children in the order of their images.
 #[derive(Drop)]
 pub struct Map {
     image: Vec<u32>,
     children: Vec<Map>,
+    order: Vec<u32>,
 }
 
 impl Model for Map {
@@ -36,6 +38,7 @@ impl Model for Map {
     ghost use Rattle.tree_defs.specs.Codes.{tree_code};
     ghost use Rattle.tree_core.specs.TreeContents.{branch};
     ghost use Rattle.embed_core.specs.Shrinking.{most_le-nodes};
+    ghost use Rattle.embed_core.specs.ImageOrder.{IsImageOrder};
 
     ghost Value = { Tree Address };
 
@@ -43,7 +46,7 @@ impl Model for Map {
 
     ghost view = { λ a. branch a.image.items (trees_of a.children.items) };
 
-    ghost invariant = { λ a. length a.children.items ≤ 1024 };
+    ghost invariant = { λ a. (length a.children.items ≤ 1024) × IsImageOrder a.children.items a.order.items };
 
     ghost size = { nodes };
 
@@ -90,11 +93,11 @@ impl Map {
         self.image.len()
     }
 
-    /// Whether an address begins with the root's image.
-    fn begins(&self, digits: &[u32]) -> bool
-        ensures begins { IsTrue result ↔ IsPrefixOf (root_of self.now) digits.now }
+    /// The root's image.
+    pub(crate) fn root(&self) -> &[u32]
+        ensures root { result.now ≡ root_of self.now }
     {
-        digits.starts_with(&self.image)
+        &self.image
     }
 
     /// Sets `digits` to the image of the leaf that a way leads to from one of its steps on, and `ranks` to the lifted ranks from
@@ -131,14 +134,13 @@ impl Map {
         ensures picks { PicksOnto self.now digits.now ranks.now taken.old taken.new }
     {
         let rank = ranks[self.depth()];
-        for (index, child) in self.children.iter().enumerate() {
-            if child.begins(digits) {
-                taken.step(index as u32, rank);
-                child.pick_onto(digits, ranks, taken);
-                return;
-            }
+        if self.children.is_empty() {
+            taken.last(rank);
+        } else {
+            let index = child_to(&self.children, &self.order, digits);
+            taken.step(index, rank);
+            self.children[index as usize].pick_onto(digits, ranks, taken);
         }
-        taken.last(rank);
     }
 
     /// The map of what lies below a node that has this height and this image.
@@ -164,7 +166,12 @@ impl Map {
             below.extend_from_slice(&start[..height - need as usize])?;
             children.push(Map::place(alloc, child, target, need as usize, below)?)?;
         }
-        Ok(Map { image, children })
+        let order = image_order(alloc, &children)?;
+        Ok(Map {
+            image,
+            children,
+            order,
+        })
     }
 }
 

@@ -1,4 +1,4 @@
-ghost use Rattle.std.specs.Prelude.{◌≡◌, ◌+◌, ◌≤◌, length, IfOk};
+ghost use Rattle.std.specs.Prelude.{◌≡◌, ◌+◌, ◌≤◌, [], ◌∷◌, length, IfOk};
 ghost use Rattle.tree_defs.specs.Tree.{leaf, inner, none, more, depth, LeadsToLeaf, SameShape};
 ghost use Rattle.target_defs.specs.Target.{IsInRange, IsTarget};
 ghost use Rattle.tree_core.specs.Shape.{topology};
@@ -265,6 +265,88 @@ fn a_transit_node_takes_the_rank_above_it(rt: HostRuntime) -> Result<(), Fail> {
         )?
     );
     assert!(rt; took(&taken, &[1, 1], &[5, 7, 9]));
+    Ok(())
+}
+
+/// Eight leaves, and behind them a node with two.
+fn eight_leaves_and_a_pair(alloc: Global) -> Result<Topo, AllocError>
+    ensures { IfOk result (λ t. topology t ≡ inner tt (more (leaf tt) (more (leaf tt) (more (leaf tt) (more (leaf tt) (more (leaf tt) (more (leaf tt) (more (leaf tt) (more (leaf tt) (more (inner tt (more (leaf tt) (more (leaf tt) none))) none)))))))))) }
+{
+    let pair = two_leaves(alloc)?;
+    Ok(Topo::inner(vec![in alloc;
+        Topo::leaf(),
+        Topo::leaf(),
+        Topo::leaf(),
+        Topo::leaf(),
+        Topo::leaf(),
+        Topo::leaf(),
+        Topo::leaf(),
+        Topo::leaf(),
+        pair,
+    ]?))
+}
+
+/// Whether the leaf that is a child of the root has these digits, and is picked back from them.
+fn comes_back(
+    alloc: Global,
+    topo: &Topo,
+    map: &Map,
+    child: u32,
+    digits: &[u32],
+    taken: &mut Taken,
+) -> Result<bool, AllocError>
+    requires good { IsGoodMap (length digits.now) map.now }
+    requires shape { SameShape (topology topo.now) map.now }
+    requires leaf { LeadsToLeaf (topology topo.now) (child ∷ []) }
+    requires four { length digits.now ≡ 4 }
+    requires room { depth (topology topo.now) ≤ taken.old.room }
+    ensures room { taken.new.room ≡ taken.old.room }
+{
+    let way = path(alloc, &[(child, 5)], 9)?;
+    let goes = goes_to(alloc, topo, map, &way, digits, &[5, 5, 5, 5, 9], taken)?;
+    Ok(goes && took(taken, &[child], &[5, 9]))
+}
+
+#[test]
+fn each_of_many_siblings_is_picked_back(rt: HostRuntime) -> Result<(), Fail> {
+    let alloc = rt.alloc();
+    let topo = eight_leaves_and_a_pair(alloc)?;
+    let map = embed(alloc, &topo, &target(alloc, &[2, 2, 2, 2])?)?;
+    let mut taken = Taken::new(alloc, 2)?;
+    assert!(rt; comes_back(alloc, &topo, &map, 0, &[0, 0, 1, 0], &mut taken)?);
+    assert!(rt; comes_back(alloc, &topo, &map, 1, &[0, 0, 1, 1], &mut taken)?);
+    assert!(rt; comes_back(alloc, &topo, &map, 2, &[0, 1, 0, 0], &mut taken)?);
+    assert!(rt; comes_back(alloc, &topo, &map, 3, &[0, 1, 0, 1], &mut taken)?);
+    assert!(rt; comes_back(alloc, &topo, &map, 4, &[0, 1, 1, 0], &mut taken)?);
+    assert!(rt; comes_back(alloc, &topo, &map, 5, &[0, 1, 1, 1], &mut taken)?);
+    assert!(rt; comes_back(alloc, &topo, &map, 6, &[1, 0, 0, 0], &mut taken)?);
+    assert!(rt; comes_back(alloc, &topo, &map, 7, &[1, 0, 0, 1], &mut taken)?);
+    let to_first = path(alloc, &[(8, 5), (0, 7)], 9)?;
+    let to_second = path(alloc, &[(8, 5), (1, 7)], 9)?;
+    assert!(rt;
+        goes_to(
+            alloc,
+            &topo,
+            &map,
+            &to_first,
+            &[0, 0, 0, 0],
+            &[5, 5, 5, 7, 9],
+            &mut taken
+        )?
+    );
+    assert!(rt; took(&taken, &[8, 0], &[5, 7, 9]));
+    assert!(rt;
+        goes_to(
+            alloc,
+            &topo,
+            &map,
+            &to_second,
+            &[0, 0, 0, 1],
+            &[5, 5, 5, 7, 9],
+            &mut taken
+        )?
+    );
+    assert!(rt; took(&taken, &[8, 1], &[5, 7, 9]));
     Ok(())
 }
 

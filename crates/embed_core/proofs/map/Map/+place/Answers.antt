@@ -1,4 +1,4 @@
-use Rattle.std.proofs.Common.{rules, ◌≡◌, ◌-◌, ◌<◌, [], ◌∷◌, ◌++◌, length, take, refl, sym, ap, ◌∙◌, arith}
+use Rattle.std.proofs.Common.{rules, ◌≡◌, ◌-◌, ◌<◌, ◌≤◌, [], ◌∷◌, ◌++◌, length, take, refl, sym, ap, ◌∙◌, arith}
 use Rattle.std.proofs.lemmas.List.{length-take-le}
 use Rattle.tree_defs.specs.Tree.{trees_of, nodes, root_of}
 use Rattle.placement_defs.specs.Need.{FitsBelow, needs_at, HoldsNeeds}
@@ -7,8 +7,8 @@ use Rattle.embed_core.specs.Range.{levels_of}
 use Rattle.embed_core.proofs.Range.{positive}
 use Rattle.placement_defs.proofs.Digits.{length-digits}
 use Rattle.placement_defs.proofs.CanonicalPlaced.{own_height}
-use Rattle.embed_core.proofs.Children.{children-fit, children-hold, child-holds, child-smaller, child-lower, child-among, child-count}
-use Rattle.embed_core.proofs.Placing.{images-step, images-done, all-images, length-images}
+use Rattle.embed_core.proofs.Children.{children-fit, children-hold, child-holds, child-smaller, child-lower, child-among}
+use Rattle.embed_core.proofs.Placing.{images-step, images-done, all-images, few-images}
 use Rattle.embed_core.proofs.map.Map.+place.Goals as goal
 
 pub block_start-requires-clause-child : goal.block_start-requires-clause-child
@@ -49,12 +49,18 @@ loop-index-preserved t c =
     rw d (images-step (levels_of c.args.target.now) c.args.height c.args.image.items (children (trees_of c.children-siblings.result.now) 0) c.children-siblings.result.now c.loop-index.index c.need-need.result c.index-siblings-index.result c.loop-index.children.items _
     c.extend_from_slice.new.self.items c.in_ok-place.field-0 c.loop-index-test.true c.index-siblings-index.is c.need-need.ensures.need e c.in_ok-place.ensures.canonical c.loop-index.invariant)
 
+pub image_order-requires : goal.image_order-requires
+image_order-requires t c =
+    let n : length c.loop-index.children.items ≤ 1024 = few-images (levels_of c.args.target.now) c.args.height c.args.image.items c.args.needs.now (root_of c.args.needs.now) c.children-siblings.result.now c.loop-index.children.items c.children-siblings.ensures.children c.requires.few
+    (images-done (levels_of c.args.target.now) c.args.height c.args.image.items (children (trees_of c.children-siblings.result.now) 0) c.children-siblings.result.now c.loop-index.index c.loop-index.children.items _ c.loop-index-test.false c.loop-index.invariant) in
+    record { few = omega (arith, n, ap length c.deref-2.ensures.value) }
+
 pub invariant_of-result : goal.invariant_of-result
-invariant_of-result t c =
-    let e : length c.loop-index.children.items ≡ length c.children-siblings.result.now = ap length (
-    images-done (levels_of c.args.target.now) c.args.height c.args.image.items (children (trees_of c.children-siblings.result.now) 0) c.children-siblings.result.now c.loop-index.index c.loop-index.children.items _ c.loop-index-test.false c.loop-index.invariant
-    ) ∙ length-images (levels_of c.args.target.now) c.args.height c.args.image.items (children (trees_of c.children-siblings.result.now) 0) c.children-siblings.result.now 0 in
-    omega (arith, e, child-count c.args.needs.now (root_of c.args.needs.now) c.children-siblings.result.now c.children-siblings.ensures.children, c.requires.few)
+invariant_of-result t c = (
+  few-images (levels_of c.args.target.now) c.args.height c.args.image.items c.args.needs.now (root_of c.args.needs.now) c.children-siblings.result.now c.loop-index.children.items c.children-siblings.ensures.children c.requires.few
+      (images-done (levels_of c.args.target.now) c.args.height c.args.image.items (children (trees_of c.children-siblings.result.now) 0) c.children-siblings.result.now c.loop-index.index c.loop-index.children.items _ c.loop-index-test.false c.loop-index.invariant),
+  rw c.deref-2.ensures.value at c.in_ok-order.ensures.order,
+)
 
 pub returns : goal.returns
 returns t c =

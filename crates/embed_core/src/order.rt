@@ -1,0 +1,51 @@
+//! The children of a node in the order of their images, and the search among them.
+ghost use Rattle.std.specs.Prelude.{◌≡◌, ℕ, ◌≤◌, length, IfOk};
+ghost use Rattle.embed_core.specs.ImageOrder.{IsImageOrder, AreApart, IsOnSide, is_behind};
+ghost use Rattle.tree_defs.specs.Tree.{root_of};
+
+use crate::map::Map;
+use std::alloc::{AllocError, Global};
+
+/// The indices of some maps in the order of their roots' images.
+pub fn image_order(alloc: Global, children: &[Map]) -> Result<Vec<u32>, AllocError>
+    requires few { length children.now ≤ 1024 }
+    ensures order { IfOk result (λ order. IsImageOrder children.now order.items) }
+{
+    let mut images = Vec::new(alloc);
+    for (index, child) in children.iter().enumerate() {
+        images.push((child.root(), index as u32))?;
+    }
+    images.sort_unstable();
+    let mut order = Vec::new(alloc);
+    for (_image, index) in &images {
+        order.push(*index)?;
+    }
+    Ok(order)
+}
+
+/// The index of the child whose image begins these digits.
+pub fn child_to(children: &[Map], order: &[u32], digits: &[u32]) -> u32
+    requires order { IsImageOrder children.now order.now }
+    requires apart { AreApart children.now }
+    requires some { (i : ℕ) × IsOnSide children.now digits.now i }
+    ensures side { IsOnSide children.now digits.now result }
+{
+    let mut low = 0;
+    let mut high = order.len();
+    while high - low > 1 {
+        let middle = low + (high - low) / 2;
+        if root_is_behind(&children[order[middle] as usize], digits) {
+            high = middle;
+        } else {
+            low = middle;
+        }
+    }
+    order[low]
+}
+
+/// Whether the root's image is behind an address in the order of their digits.
+fn root_is_behind(child: &Map, digits: &[u32]) -> bool
+    ensures behind { result ≡ is_behind (root_of child.now) digits.now }
+{
+    child.root().cmp(digits).is_gt()
+}
