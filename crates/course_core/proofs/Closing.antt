@@ -10,7 +10,7 @@ use Rattle.policy_defs.specs.Policy.{Policy}
 use Rattle.policy_defs.specs.Accepted.{IsAccepted}
 use Rattle.schedule_defs.specs.SourceState.{SourceState}
 use Rattle.schedule_defs.specs.Sound.{IsSound}
-use Rattle.schedule_defs.specs.Events.{Event, Outcome, after, outcomes, arrivals_in, departures_in}
+use Rattle.schedule_defs.specs.Events.{Event, Outcome, after, outcomes, arrivals_in}
 use Rattle.schedule_defs.specs.Script as script
 use Rattle.schedule_defs.specs.Script.{Course}
 use Rattle.schedule_defs.specs.Numbered.{IsHeldBelow}
@@ -18,7 +18,7 @@ use Rattle.schedule_defs.specs.Report.{pushed_in, popped_in, empty_in, ending_li
 use Rattle.sched_core.specs.declared.scheduler.Scheduler.{Ghosts}
 use Rattle.sched_core.specs.Standing.{StandForOne, ForEachState}
 use Rattle.events_core.specs.declared.step.Step as line
-use Rattle.run_core.specs.Played.{told, StopsIn}
+use Rattle.run_core.specs.Played.{told, HasMade, StopsIn}
 use Rattle.run_core.proofs.Runs.{told-append}
 use Rattle.course_core.specs.declared.ending.Ending.{Ending}
 use Rattle.course_core.specs.declared.tally.Tally.{Tally}

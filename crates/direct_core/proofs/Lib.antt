@@ -1,3 +1,4 @@
 pub mod Wholes
 pub mod Running
 pub mod Answering
+pub mod Laying

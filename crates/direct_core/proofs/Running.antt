@@ -1,5 +1,5 @@
 -- A run from the start of a policy.
-use Rattle.std.proofs.Common.{◌≡◌, refl, ℕ, ◌+◌, arith, Option, None, Some, Result, List, []}
+use Rattle.std.proofs.Common.{◌≡◌, refl, ℕ, Option, None, Some, Result, List, []}
 use Rattle.std.specs.Prelude.{IfSome, IfOk, OnOk, OnErr}
 use Rattle.std.proofs.lemmas.Option.{IfSome_then}
 use Rattle.std.proofs.lemmas.Result.{IfOk-weaker, on_ok_weaker, on_err_weaker}
@@ -20,18 +20,15 @@ use Rattle.course_core.specs.Endings.{ended}
 use Rattle.course_core.specs.Stages.{CanBegin}
 use Rattle.course_core.specs.Courses.{course_of, OnCourse, Runs, Breaks}
 use Rattle.course_core.proofs.Beginning.{start_can_begin}
+use Rattle.run_core.specs.Played.{HasMade, HasMadeSome}
+use Rattle.run_core.proofs.Runs.{made_some_none}
 use Rattle.direct_core.specs.Answers.{answer_of}
-use Rattle.direct_core.specs.Runs.{StandsAfter, StandsAmid}
 use Rattle.direct_core.proofs.Wholes.{cut_part, whole_text}
 
 pub stand_at_start : {C U : Type 0} (stands : C → U → SourceState → Type 0) (own policy : Policy) (c : C) (u : U) (given : ℕ) → own ≡ policy → IsAccepted policy → stands c u (start policy)
     → StandForOne stands own c u (CanBegin given)
 stand_at_start stands own policy c u given same accepted stood =
     rw same (record { state = start policy; sound = sound_start policy accepted; stood = stood; has = start_can_begin policy given })
-
--- a count from nought
-counted : (old new n : ℕ) → old ≡ 0 → new ≡ old + n → new ≡ n
-counted old new n none rose = omega arith
 
 module _ {C U : Type 0} (S : Ghosts C U) (own policy : Policy) (steps : List Step) (given : ℕ) (old : C) (under : U) (same : own ≡ policy) (accepted : IsAccepted policy) (stood : S.stands old under (start policy)) where
   -- what holds of each course holds of that from the start
@@ -47,51 +44,32 @@ module _ {C U : Type 0} (S : Ghosts C U) (own policy : Policy) (steps : List Ste
       (λ e. at_start (λ s run. e ≡ ended run.ending) left) (rw same at each)
 
   pub text_told : (r : Result Ending Stop) (left : Option Left) (new : C) (u : U) (before written : Option (List ℕ)) (held : List ℕ) → held ≡ []
-      → OnOk r (OnCourse S.stands own old under given left steps (λ s run. Runs S own run s old new u (appended before held) written))
+      → OnOk r (OnCourse S.stands own old under given left steps (λ s run. Runs S own run s old under new u (appended before held) written))
       → OnOk r (IfSome left (λ l. Appended before written (answer_of policy steps l.packets l.fault).text))
   text_told r left new u before written held none each =
-      on_ok_weaker r (λ all. IfSome_then left (at_start (λ s run. Runs S policy run s old new u (appended before held) written) left all)
+      on_ok_weaker r (λ all. IfSome_then left (at_start (λ s run. Runs S policy run s old under new u (appended before held) written) left all)
       (λ l runs. whole_text before written held (answer_of policy steps l.packets l.fault).text none runs.report)) (rw same at each)
 
   pub part_told : (r : Result Ending Stop) (left : Option Left) (new : C) (u : U) (before written : Option (List ℕ)) (held : List ℕ) → held ≡ [] → Begins before written
-      → OnErr r (OnCourse S.stands own old under given left steps (λ s run. Breaks S own run s old new u (appended before held) written))
+      → OnErr r (OnCourse S.stands own old under given left steps (λ s run. Breaks S own run s old under new u (appended before held) written))
       → OnErr r (IfSome left (λ l. AppendedPrefix before written (answer_of policy steps l.packets l.fault).text))
   part_told r left new u before written held none begins each =
-      on_err_weaker r (λ all. IfSome_then left (at_start (λ s run. Breaks S policy run s old new u (appended before held) written) left all)
+      on_err_weaker r (λ all. IfSome_then left (at_start (λ s run. Breaks S policy run s old under new u (appended before held) written) left all)
       (λ l breaks. cut_part before written held (answer_of policy steps l.packets l.fault).text none begins breaks.report)) (rw same at each)
 
-  module _ (no_arrivals : S.arrivals old ≡ 0) (no_departures : S.departures old ≡ 0) where
-    pub state_told : (r : Result Ending Stop) (left : Option Left) (new : C) (u : U) (text written : Option (List ℕ))
-        → OnOk r (OnCourse S.stands own old under given left steps (λ s run. Runs S own run s old new u text written))
-        → OnOk r (IfSome left (λ l. StandsAfter S policy (course_of policy steps l (start policy) 1).events new u))
-    state_told r left new u text written each =
-        on_ok_weaker r (λ all. IfSome_then left (at_start (λ s run. Runs S policy run s old new u text written) left all) (λ l runs. record {
-          state = runs.state;
-          arrived = counted _ _ _ no_arrivals runs.arrived;
-          departed = counted _ _ _ no_departures runs.departed;
-        })) (rw same at each)
+  pub state_told : (r : Result Ending Stop) (left : Option Left) (new : C) (u : U) (text written : Option (List ℕ))
+      → OnOk r (OnCourse S.stands own old under given left steps (λ s run. Runs S own run s old under new u text written))
+      → OnOk r (IfSome left (λ l. HasMade S policy (course_of policy steps l (start policy) 1).events (start policy) old under new u))
+  state_told r left new u text written each =
+      on_ok_weaker r (λ all. IfSome_then left (at_start (λ s run. Runs S policy run s old under new u text written) left all) (λ l runs. runs.leaves)) (rw same at each)
 
-    pub amid_told : (r : Result Ending Stop) (left : Option Left) (new : C) (u : U) (text written : Option (List ℕ))
-        → OnErr r (OnCourse S.stands own old under given left steps (λ s run. Breaks S own run s old new u text written))
-        → OnErr r (IfSome left (λ l. StandsAmid S policy (course_of policy steps l (start policy) 1).events new u))
-    amid_told r left new u text written each =
-        on_err_weaker r (λ all. IfSome_then left (at_start (λ s run. Breaks S policy run s old new u text written) left all) (λ l breaks. record {
-          made = breaks.made;
-          unmade = breaks.unmade;
-          whole = breaks.whole;
-          stands = record {
-            state = breaks.state;
-            arrived = counted _ _ _ no_arrivals breaks.arrived;
-            departed = counted _ _ _ no_departures breaks.departed;
-          };
-        })) (rw same at each)
+  pub amid_told : (r : Result Ending Stop) (left : Option Left) (new : C) (u : U) (text written : Option (List ℕ))
+      → OnErr r (OnCourse S.stands own old under given left steps (λ s run. Breaks S own run s old under new u text written))
+      → OnErr r (IfSome left (λ l. HasMadeSome S policy (course_of policy steps l (start policy) 1).events (start policy) old under new u))
+  amid_told r left new u text written each =
+      on_err_weaker r (λ all. IfSome_then left (at_start (λ s run. Breaks S policy run s old under new u text written) left all) (λ l breaks. breaks.leaves)) (rw same at each)
 
-    -- nothing is made yet
-    pub unmoved : (left : Option Left) → IfSome left (λ l. StandsAmid S policy (course_of policy steps l (start policy) 1).events old under)
-    unmoved None = tt
-    unmoved (Some l) = record {
-      made = [];
-      unmade = (course_of policy steps l (start policy) 1).events;
-      whole = refl;
-      stands = record { state = stood; arrived = no_arrivals; departed = no_departures };
-    }
+  -- nothing is made yet
+  pub unmoved : (left : Option Left) → IfSome left (λ l. HasMadeSome S policy (course_of policy steps l (start policy) 1).events (start policy) old under old under)
+  unmoved None = tt
+  unmoved (Some l) = made_some_none S policy (course_of policy steps l (start policy) 1).events (start policy) stood refl refl refl refl

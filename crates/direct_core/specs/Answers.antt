@@ -1,5 +1,5 @@
 -- What a run over a policy's own tree of queues answers.
-use Rattle.std.specs.Prelude.{◌≡◌, ℕ, Option, List, map, codes}
+use Rattle.std.specs.Prelude.{◌≡◌, ℕ, Option, None, Some, List, map, codes}
 use Rattle.outside_core.specs.Written.{Appended}
 use Rattle.capture_defs.specs.Fault.{Fault, code, place}
 use Rattle.capture_defs.specs.Reading.{Capture, refused, packets, capture_of}
@@ -7,6 +7,7 @@ use Rattle.packet_defs.specs.declared.packet.Packet.{Packet}
 use Rattle.policy_defs.specs.Policy.{Policy}
 use Rattle.report_defs.specs.Report.{fault_line}
 use Rattle.schedule_defs.specs.SourceState.{start}
+use Rattle.schedule_defs.specs.Events.{Event}
 use Rattle.schedule_defs.specs.Script.{Ending, BadCapture, course}
 use Rattle.schedule_defs.specs.Report.{report}
 use Rattle.resolve_defs.specs.Resolved.{Resolved}
@@ -16,16 +17,18 @@ use Rattle.course_core.specs.Endings.{ended}
 use Rattle.course_core.specs.Steps.{step_of}
 use Rattle.arrivals_core.specs.Packets.{packets_from}
 
--- how the run ends, and the text that is written
+-- how the run ends, the text that is written, and what happens, if the run begins
 pub record RunAnswer : Type 0 where
   pub ending : Ending
   pub text : List ℕ
+  pub events : Option (List Event)
 
 -- a header at fault is told in one line
 abbrev pub refusal_answer : Fault → RunAnswer
 refusal_answer fault = record {
   ending = BadCapture fault;
   text = fault_line (codes "capture") (code fault) (place fault);
+  events = None;
 }
 
 -- the capture's header is refused, which is how the run ends, and the text with its line is written
@@ -40,6 +43,7 @@ abbrev pub answer_of : Policy → List Step → List Packet → Option Fault →
 answer_of policy steps arriving fault = record {
   ending = (course policy (map step_of steps) arriving fault (start policy) 1).ending;
   text = report policy (map step_of steps) arriving fault;
+  events = Some (course policy (map step_of steps) arriving fault (start policy) 1).events;
 }
 
 abbrev pub answer_over : Resolved → List Step → Capture → RunAnswer

@@ -7,7 +7,7 @@ ghost use Rattle.course_core.specs.Endings.{ended};
 ghost use Rattle.course_core.specs.Courses.{course_of};
 ghost use Rattle.arrivals_core.specs.Arrivals.{policy_of, given_by, left_of, IsReady};
 ghost use Rattle.direct_core.specs.Answers.{answer_of};
-ghost use Rattle.direct_core.specs.Runs.{StandsAfter, StandsAmid};
+ghost use Rattle.run_core.specs.Played.{HasMade, HasMadeSome};
 
 use arrivals_core::Arrivals;
 use course_core::{Ending, Stop, play};
@@ -46,9 +46,9 @@ pub fn run_over<C: Scheduler, S: Shelf, K: Sink>(
     ensures part { OnErr result (IfSome (left_of packets.old (S.left shelf.old)) (λ l.
         AppendedPrefix (K.written sink.old) (K.written sink.new) (answer_of policy.now.policy steps.now l.packets l.fault).text)) }
     ensures state { OnOk result (IfSome (left_of packets.old (S.left shelf.old)) (λ l.
-        StandsAfter C.Scheduler policy.now.policy (course_of policy.now.policy steps.now l (start policy.now.policy) 1).events scheduler.new under.new)) }
+        HasMade C.Scheduler policy.now.policy (course_of policy.now.policy steps.now l (start policy.now.policy) 1).events (start policy.now.policy) scheduler.old under.old scheduler.new under.new)) }
     ensures amid { OnErr result (IfSome (left_of packets.old (S.left shelf.old)) (λ l.
-        StandsAmid C.Scheduler policy.now.policy (course_of policy.now.policy steps.now l (start policy.now.policy) 1).events scheduler.new under.new)) }
+        HasMadeSome C.Scheduler policy.now.policy (course_of policy.now.policy steps.now l (start policy.now.policy) 1).events (start policy.now.policy) scheduler.old under.old scheduler.new under.new)) }
     ensures policy { C.policy scheduler.new ≡ C.policy scheduler.old }
     ensures origin { C.origin scheduler.new ≡ C.origin scheduler.old }
     ensures cause { IsErrOf result Stop.Sink → Rose (K.faults sink.old) (K.faults sink.new) }

@@ -1,8 +1,9 @@
-//! A run of a script over a capture through the tree of queues of a policy, with its whole report.
+//! A run of a script over a capture, through the tree of queues of a policy or through a fabric, with its whole report.
 #![tactic(auto)]
 
 mod capture;
 mod course;
+mod fabric;
 #[cfg(test)]
 mod tests;
 
@@ -10,3 +11,4 @@ pub use arrivals_core::Arrivals;
 pub use capture::{begin, direct};
 pub use course::run_over;
 pub use course_core::{Ending, Stop};
+pub use fabric::replay;

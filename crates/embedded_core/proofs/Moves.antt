@@ -9,11 +9,14 @@ use Rattle.tree_defs.proofs.TopologyLaws.{leaf_at}
 use Rattle.tree_defs.proofs.WellFormedLaws.{IsWellFormed-push, IsWellFormed-pop}
 use Rattle.tree_core.specs.Paths.{Way}
 use Rattle.fabric_defs.specs.Family.{Family, SameQueues, Pops, push_along, pop_along}
+use Rattle.fabric_defs.specs.Spills.{spills_along}
 use Rattle.placement_defs.specs.Images.{image_map}
 use Rattle.lift_defs.specs.Lift.{IsLift, StandsAt, lift_ranks, picked_ranks}
+use Rattle.lift_defs.specs.Spilling.{push_spills}
 use Rattle.lift_defs.specs.GoodMaps.{IsGoodMap}
 use Rattle.lift_defs.specs.Laws.{Maps, IsLiftedPop, PopsAsTheTree}
 use Rattle.lift_defs.proofs.LawProofs.{lifts_are_one, pushes_of_lifts_are_lifts, pops_of_lifts_are_lifted_pops, maps_stay}
+use Rattle.lift_defs.proofs.SpillsOfLifts.{spills_of_lifts}
 use Rattle.lift_defs.proofs.Reading.{nodes_have_images_of_their_own, picked_ranks_are_those_lifted}
 use Rattle.embed_core.specs.Picks.{IsLeafImage}
 use Rattle.embedded_core.specs.Laid.{Laid, HoldsLift, PopsTo}
@@ -45,6 +48,9 @@ module _ (l : Laid) (good : IsGoodMap (length l.arities) l.images) (F : Family) 
     shape = (maps_stay.push (length l.arities) t l.images digits ranks item maps).shape;
     lifted = pushes_of_lifts_are_lifts (length l.arities) t l.images F G digits ranks item maps (leaf_here digits leads) held.lifted same;
   }
+
+  pub spilled : (digits ranks : List ℕ) → LeadsToLeaf l.images digits → spills_along (image_map l.images digits) (lift_ranks l.images digits ranks) F ≡ push_spills l.images t digits ranks
+  spilled digits ranks leads = spills_of_lifts (length l.arities) t l.images F digits ranks maps (leaf_here digits leads) held.lifted
 
   pops : PopsAsTheTree (length l.arities) t l.images F
   pops = pops_of_lifts_are_lifted_pops (length l.arities) t l.images F maps held.well_formed held.lifted

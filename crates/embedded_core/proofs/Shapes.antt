@@ -12,6 +12,7 @@ use Rattle.placement_defs.specs.Embedding.{IsEmbedding}
 use Rattle.lift_defs.specs.Lift.{IsLift}
 use Rattle.lift_defs.specs.GoodMaps.{IsGoodMap}
 use Rattle.lift_defs.proofs.LawProofs.{empty_trees_have_empty_lifts}
+use Rattle.lift_defs.proofs.EmbeddedMaps.{embeddings_are_good_maps}
 use Rattle.policy_defs.specs.Policy.{Policy}
 use Rattle.schedule_defs.specs.SourceState.{SourceState}
 use Rattle.schedule_defs.specs.Sound.{IsSound}
@@ -49,10 +50,10 @@ leaf_address [] (x ∷ a) w n = absurd w
 leaf_address (d ∷ arities) [] w n = absurd (omega (arith, n))
 leaf_address (d ∷ arities) (x ∷ a) w n = (w.0, leaf_address arities a w.1 (omega (arith, n)))
 
--- a topology with an embedding by a good map is laid into the target
-pub embedding-laid : (t : Topology) (images : Tree Address) (arities : List ℕ) → SameShape t images → IsGoodMap (length arities) images → IsEmbedding t (complete arities) (image_map images) → IsLaid images arities
-embedding-laid t images arities same good e = record {
-  good = good;
+-- the images of an embedding lay a topology into the target
+pub embedding-laid : (t : Topology) (images : Tree Address) (arities : List ℕ) → SameShape t images → IsEmbedding t (complete arities) (image_map images) → IsLaid images arities
+embedding-laid t images arities same e = record {
+  good = embeddings_are_good_maps arities t images same e;
   leaves = λ a l.
       let deep : IsWithin arities (image_map images a) × (length (image_map images a) ≡ length arities) = deep_leaf arities (image_map images a) (e.leaves a (same_leaves images t a (sym (topology_of-same t images same)) l)) in
       leaf_address arities (image_map images a) deep.0 deep.1;

@@ -10,7 +10,7 @@ use Rattle.embedded_core.specs.declared.embedded.Embedded.{Embedded}
 
 -- where the queues stand in the target
 abbrev pub origin_of : {F : Type 0} → Embedded F → Origin
-origin_of c = record { image = image_map c.embedding.images; arities = c.embedding.arities; pushes = c.pushes_before; pops = c.pops_before }
+origin_of c = record { images = c.embedding.images; arities = c.embedding.arities; pushes = c.pushes_before; pops = c.pops_before }
 
 -- The queues are the lift of the source tree, in the target's shape. The fabric was pushed once for each arrival and popped
 -- once for each departure, beside what was before.

@@ -1,11 +1,10 @@
-ghost use Rattle.std.specs.Prelude.{◌≡◌, ◌+◌, ◌^◌, ◌<◌, length, IfOk, OnErr};
+ghost use Rattle.std.specs.Prelude.{◌≡◌, ◌+◌, ◌^◌, ◌<◌, IfOk, OnErr};
 ghost use Rattle.tree_defs.specs.Tree.{SameShape};
 ghost use Rattle.tree_defs.specs.Topology.{topology_of, complete};
 ghost use Rattle.fabric_defs.specs.Family.{SameQueues};
 ghost use Rattle.target_defs.specs.Target.{IsInRange};
 ghost use Rattle.placement_defs.specs.Images.{image_map};
 ghost use Rattle.placement_defs.specs.Embedding.{IsEmbedding};
-ghost use Rattle.lift_defs.specs.GoodMaps.{IsGoodMap};
 ghost use Rattle.schedule_defs.specs.SourceState.{start};
 ghost use Rattle.sched_core.specs.Own.{policy_in};
 ghost use Rattle.embedded_core.specs.Codes.{one_way_to_be_the_same};
@@ -47,7 +46,6 @@ impl<'a, F: Fabric> Embedded<'a, F> {
     ) -> Result<Embedded<'a, F>, AllocError>
         requires range { IsInRange target.now.arities target.now.above }
         requires map_shape { SameShape (topology_of policy.now.policy.tree) map }
-        requires good { IsGoodMap (length target.now.arities) map }
         requires embedding { IsEmbedding (topology_of policy.now.policy.tree) (complete target.now.arities) (image_map map) }
         requires pushes { F.pushed fabric.old < 2 ^ 61 }
         requires pops { F.popped fabric.old < 2 ^ 61 }
@@ -56,7 +54,7 @@ impl<'a, F: Fabric> Embedded<'a, F> {
         ensures policy { IfOk result (λ c. policy_in c.own ≡ policy.now.policy) }
         ensures arrivals { IfOk result (λ c. c.own.arrivals ≡ 0) }
         ensures departures { IfOk result (λ c. c.own.departures ≡ 0) }
-        ensures origin { IfOk result (λ c. origin_of c ≡ record { image = image_map map; arities = target.now.arities; pushes = F.pushed fabric.old; pops = F.popped fabric.old }) }
+        ensures origin { IfOk result (λ c. origin_of c ≡ record { images = map; arities = target.now.arities; pushes = F.pushed fabric.old; pops = F.popped fabric.old }) }
         ensures shape { OnErr result (F.shape fabric.new ≡ F.shape fabric.old) }
         ensures queues { OnErr result (SameQueues (F.queues fabric.new) (F.queues fabric.old)) }
         ensures pushed { F.pushed fabric.new ≡ F.pushed fabric.old }
@@ -92,6 +90,8 @@ impl<'a, F: Fabric> Scheduler for Embedded<'a, F> {
 
     ghost origin = { λ c. Some (origin_of c) };
 
+    ghost spilled = { λ _ fabric. F.spilled fabric };
+
     fn arrive(
         &mut self,
         under: &mut F,
@@ -100,8 +100,7 @@ impl<'a, F: Fabric> Scheduler for Embedded<'a, F> {
     ) -> Result<u32, AllocError> {
         under.reserve(self.embedding.image(self.own.address(packet)))?;
         let leaf = self.own.admit(packet, trace)?;
-        self.embedding
-            .push(under, trace.digits(), trace.ranks(), packet.number);
+        self.embedding.push(under, trace, packet.number);
         Ok(leaf)
     }
 

@@ -1,14 +1,14 @@
 //! A tree laid into the queues of a fabric.
-ghost use Rattle.std.specs.Prelude.{◌≡◌, ◌+◌, ◌^◌, ◌<◌, ◌≤◌, length, option_map, IfOk, IfSome, IfNone};
+ghost use Rattle.std.specs.Prelude.{◌≡◌, ◌+◌, ◌^◌, ◌<◌, ◌≤◌, length, IfOk, IfSome, IfNone};
 ghost use Rattle.tree_defs.specs.Tree.{LeadsToLeaf, depth};
 ghost use Rattle.tree_defs.specs.SourceTree.{push, pop};
 ghost use Rattle.fabric_defs.specs.Family.{IsLeafAddress, HasRoomAlong, AreRanks, SameQueues};
-ghost use Rattle.fabric_defs.specs.Spills.{spills_along};
 ghost use Rattle.placement_defs.specs.Images.{image_map};
-ghost use Rattle.lift_defs.specs.Lift.{lift_ranks};
+ghost use Rattle.lift_defs.specs.Spilling.{push_spills};
+ghost use Rattle.sched_core.specs.Spills.{raised};
 ghost use Rattle.embedded_core.specs.Laid.{IsLaid, IsLiftOfOne, ForEachLifted, HoldsLift, PopsTo};
 
-use embed_core::{Map, pick};
+use embed_core::{Map, lift, pick};
 use fabric_core::Fabric;
 use list_core::List;
 use std::alloc::{AllocError, Global};
@@ -76,24 +76,23 @@ impl Embedding {
         image
     }
 
-    /// Pushes a packet's number along the image of the way to a leaf, with the lifted ranks. Takes no memory.
-    pub fn push<F: Fabric>(&mut self, fabric: &mut F, leaf: &[u32], ranks: &[u64], number: u64)
+    /// Pushes a packet's number along the image of a way to a leaf, with the lifted ranks. Takes no memory.
+    pub fn push<F: Fabric>(&mut self, fabric: &mut F, way: &Taken, number: u64)
         requires arities { F.shape fabric.old ≡ self.old.arities }
-        requires leaf { LeadsToLeaf self.old.images leaf.now }
-        requires one_more { length ranks.now ≡ length leaf.now + 1 }
-        requires ranks { AreRanks ranks.now }
-        requires room { HasRoomAlong (F.room fabric.old) (image_map self.old.images leaf.now) }
+        requires leaf { LeadsToLeaf self.old.images way.now.digits }
+        requires one_more { length way.now.ranks ≡ length way.now.digits + 1 }
+        requires ranks { AreRanks way.now.ranks }
+        requires room { HasRoomAlong (F.room fabric.old) (image_map self.old.images way.now.digits) }
         requires few { F.pushed fabric.old < 2 ^ 62 }
 
-        ensures lift { ForEachLifted self.old (F.queues fabric.old) (λ t. HoldsLift self.old (F.queues fabric.new) (push t leaf.now ranks.now number)) }
+        ensures lift { ForEachLifted self.old (F.queues fabric.old) (λ t. HoldsLift self.old (F.queues fabric.new) (push t way.now.digits way.now.ranks number)) }
         ensures embedding { self.new ≡ self.old }
         ensures shape { F.shape fabric.new ≡ F.shape fabric.old }
         ensures pushed { F.pushed fabric.new ≡ F.pushed fabric.old + 1 }
         ensures popped { F.popped fabric.new ≡ F.popped fabric.old }
-        ensures spilled { F.spilled fabric.new ≡ option_map (λ n. n + spills_along (image_map self.old.images leaf.now) (lift_ranks self.old.images leaf.now ranks.now) (F.queues fabric.old)) (F.spilled fabric.old) }
+        ensures spilled { ForEachLifted self.old (F.queues fabric.old) (λ t. F.spilled fabric.new ≡ raised (F.spilled fabric.old) (push_spills self.old.images t way.now.digits way.now.ranks)) }
     {
-        self.map
-            .lift_to(leaf, ranks, &mut self.digits, &mut self.ranks);
+        lift(&self.map, way, &mut self.digits, &mut self.ranks);
         fabric.push(&self.digits, &self.ranks, number);
     }
 

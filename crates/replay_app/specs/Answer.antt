@@ -1,12 +1,30 @@
 -- What the program answers.
-use Rattle.std.specs.Prelude.{◌≡◌, ℕ, Option, List}
+use Rattle.std.specs.Prelude.{◌≡◌, ℕ, Option, None, List, Result, IfOk, OnOk, OnErr}
 use Rattle.outside_core.specs.Written.{Appended, AppendedPrefix}
+use Rattle.report_defs.specs.Report.{fault_line}
+use Rattle.report_core.specs.Faults.{word_of}
+use Rattle.report_core.specs.declared.fault.FaultKind.{FaultKind}
+use Rattle.fabric_core.specs.declared.fabric.Fabric.{Ghosts}
+use Rattle.embedded_core.specs.Fabrics.{FabricRun, Leaves, LeavesPart}
+use Rattle.replay_app.specs.Statuses.{status_code, kind_status}
+use Rattle.replay_app.specs.declared.status.Status.{Status}
+use Rattle.replay_app.specs.declared.stop.Stop.{Stop}
 
--- a status, and the text that is written
+-- a status, the text that is written, and what is run through the fabric, if anything is
 pub record Answer : Type 0 where
   pub status : ℕ
   pub text : List ℕ
+  pub run : Option FabricRun
 
+-- an input of this kind is refused: one line, and nothing is run
+abbrev pub refusal : FaultKind → ℕ → ℕ → Answer
+refusal kind code place = record { status = status_code (kind_status kind); text = fault_line (word_of kind) code place; run = None }
+
+-- a text, and nothing is run
+abbrev pub text_alone : ℕ → List ℕ → Answer
+text_alone status text = record { status = status; text = text; run = None }
+
+-- ---- what a call did
 -- one of the answers was written whole, and this is its status
 pub record IsWritten (output : Answer → Type 0) (status : ℕ) (old new : Option (List ℕ)) : Type 0 where
   pub answer : Answer
@@ -14,6 +32,20 @@ pub record IsWritten (output : Answer → Type 0) (status : ℕ) (old new : Opti
   pub status_is : status ≡ answer.status
   pub text : Appended old new answer.text
 
+-- P holds of each of the answers
+abbrev pub Each : (Answer → Type 0) → (Answer → Type 0) → Type 0
+Each output P = (a : Answer) → output a → P a
+
 -- of each of the answers a first part was written
 abbrev pub IsPartWritten : (Answer → Type 0) → Option (List ℕ) → Option (List ℕ) → Type 0
-IsPartWritten output old new = (a : Answer) → output a → AppendedPrefix old new a.text
+IsPartWritten output old new = Each output (λ a. AppendedPrefix old new a.text)
+
+-- One of the answers was written whole, and its status is given; or the call was stopped with a first part of each of them.
+pub record IsTold (output : Answer → Type 0) (r : Result Status Stop) (old new : Option (List ℕ)) : Type 0 where
+  pub whole : IfOk r (λ s. IsWritten output (status_code s) old new)
+  pub part : OnErr r (IsPartWritten output old new)
+
+-- The fabric holds what the run of each of the answers leaves; or the call was stopped, and it holds a first part of that.
+pub record IsLeft {F : Type 0} (fabrics : Ghosts F) (output : Answer → Type 0) (r : Result Status Stop) (old new : F) : Type 0 where
+  pub whole : OnOk r (Each output (λ a. Leaves fabrics a.run old new))
+  pub part : OnErr r (Each output (λ a. LeavesPart fabrics a.run old new))

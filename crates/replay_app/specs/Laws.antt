@@ -8,6 +8,6 @@ use Rattle.replay_app.specs.Words.{Form}
 abbrev pub HaveOneAnswer : Type 0
 HaveOneAnswer = (form : Form) (contents : List ℕ → List ℕ) (a b : Answer) → IsOutput form contents a → IsOutput form contents b → a ≡ b
 
--- it is not so that words have no answer for what their names contain
+-- there are no words and contents without an answer
 abbrev pub HaveAnAnswer : Type 0
 HaveAnAnswer = (form : Form) (contents : List ℕ → List ℕ) → ((a : Answer) → IsOutput form contents a → ⊥) → ⊥

@@ -1,52 +1,56 @@
--- What the program answers to its words and files.
-use Rattle.std.specs.Prelude.{◌≡◌, ◌⊎◌, ℕ, Option, None, Some, List, codes}
-use Rattle.report_defs.specs.Report.{fault_line}
-use Rattle.policy_defs.specs.Policy.{one_leaf}
-use Rattle.schedule_defs.specs.SourceState.{start}
-use Rattle.schedule_defs.specs.Script.{Course}
-use Rattle.schedule_defs.specs.Report.{course_report}
-use Rattle.policy_text_defs.specs.Canonical.{canonical_text}
-use Rattle.replay_app.specs.Answer.{Answer, IsWritten, IsPartWritten}
-use Rattle.replay_app.specs.Policies.{IsPolicyAnswer, senses_of, IsCheckAnswer}
-use Rattle.replay_app.specs.Directed.{IsDirectAnswer}
-use Rattle.replay_app.specs.Planned.{IsPlanAnswer}
+-- What the program answers to its words and files. This is what a reader of the program's contract has to believe.
+use Rattle.std.specs.Prelude.{◌≡◌, ◌⊎◌, ℕ, Option, None, List}
+use Rattle.report_core.specs.declared.fault.FaultKind.TheVariants.{Words}
+use Rattle.resolve_defs.specs.Resolved.{Resolved}
+use Rattle.events_core.specs.declared.step.Step.{Step}
+use Rattle.embedded_core.specs.Laid.{Laid}
+use Rattle.embedded_core.specs.Fabrics.{run_of}
+use Rattle.direct_core.specs.Answers.{direct_answer}
+use Rattle.replay_app.specs.Answer.{Answer, refusal, IsWritten, IsPartWritten}
+use Rattle.replay_app.specs.Policies.{UnderPolicy, checked}
+use Rattle.replay_app.specs.Scripts.{AlongScript, run_answer}
+use Rattle.replay_app.specs.Statuses.{IsStop}
+use Rattle.replay_app.specs.Targets.{ForTarget, WithRoom, IsPlanned}
 use Rattle.replay_app.specs.Words.{Form, replay, check, plan, direct, no_form}
-use Rattle.replay_app.specs.FirstPath.{Inputs, plain_course}
 
--- the report of a run, and the refusal of inputs that can't be replayed so far
-abbrev pub course_answer : Option Course → Answer
-course_answer (Some c) = record { status = 0; text = course_report one_leaf c (start one_leaf) }
-course_answer None = record { status = 11; text = fault_line (codes "early") 1 0 }
+-- the report of a run through the policy's own tree, without a fabric
+abbrev pub direct_run : Resolved → List Step → List ℕ → Answer
+direct_run policy steps capture = run_answer (direct_answer policy steps capture) None
 
--- the contents of a run's files, with the canonical text of its policy
-abbrev pub inputs_of : List ℕ → List ℕ → List ℕ → List ℕ → (List ℕ → List ℕ) → Inputs
-inputs_of policy t c e contents = record { policy = policy; target = contents t; capture = contents c; script = contents e }
+-- the same report, where the run goes through a fabric into which the tree is laid
+abbrev pub laid_run : Resolved → Laid → List Step → List ℕ → Answer
+laid_run policy laid steps capture = run_answer (direct_answer policy steps capture) (run_of policy.policy laid (direct_answer policy steps capture).events)
 
--- the answer to words, where the names have these contents
+-- The answer to words, where the names have these contents. Each input is refused or accepted in its turn: the policy, the
+-- target, the room for the policy's tree in the target, the script, and then the capture, which is part of the run.
 abbrev pub IsOutput : Form → (List ℕ → List ℕ) → Answer → Type 0
 IsOutput (replay p t c e) contents a =
-    IsPolicyAnswer (contents p) (λ es. course_answer (plain_course (inputs_of (canonical_text (senses_of es)) t c e contents))) a
-IsOutput (check p) contents a = IsCheckAnswer (contents p) a
-IsOutput (plan p t) contents a = IsPlanAnswer (contents p) (contents t) a
-IsOutput (direct p c e) contents a = IsDirectAnswer (contents p) (contents c) (contents e) a
-IsOutput no_form contents a = a ≡ record { status = 2; text = fault_line (codes "words") 0 0 }
+    UnderPolicy (contents p) (λ judged.
+    ForTarget (contents t) (λ target.
+    WithRoom judged.policy.policy target (λ laid.
+    AlongScript (contents e) (λ steps b.
+    b ≡ laid_run judged.policy laid steps (contents c))))) a
+IsOutput (direct p c e) contents a =
+    UnderPolicy (contents p) (λ judged.
+    AlongScript (contents e) (λ steps b.
+    b ≡ direct_run judged.policy steps (contents c))) a
+IsOutput (plan p t) contents a =
+    UnderPolicy (contents p) (λ judged.
+    ForTarget (contents t) (λ target.
+    IsPlanned judged.policy.policy target)) a
+IsOutput (check p) contents a = UnderPolicy (contents p) (λ judged b. b ≡ checked judged) a
+IsOutput no_form contents a = a ≡ refusal Words 0 0
 
--- reading failed, writing failed, or there was no memory
-abbrev pub IsStop : ℕ → Type 0
-IsStop status = (status ≡ 8) ⊎ (status ≡ 9) ⊎ (status ≡ 10)
-
+-- ---- what is written
 -- an answer to the words was written whole, and this is its status
 abbrev pub IsAnswered : Form → (List ℕ → List ℕ) → ℕ → Option (List ℕ) → Option (List ℕ) → Type 0
 IsAnswered form contents = IsWritten (IsOutput form contents)
 
--- of each answer to the words a first part was written
-abbrev pub IsBegun : Form → (List ℕ → List ℕ) → Option (List ℕ) → Option (List ℕ) → Type 0
-IsBegun form contents = IsPartWritten (IsOutput form contents)
-
+-- the program was stopped, and of each answer to the words a first part was written
 pub record IsStopped (form : Form) (contents : List ℕ → List ℕ) (status : ℕ) (old new : Option (List ℕ)) : Type 0 where
   pub stop : IsStop status
-  pub part : IsBegun form contents old new
+  pub part : IsPartWritten (IsOutput form contents) old new
 
--- an answer to the words was given, or the run stopped with a first part of it
+-- an answer to the words was given, or the program was stopped with a first part of it
 abbrev pub Answers : Form → (List ℕ → List ℕ) → ℕ → Option (List ℕ) → Option (List ℕ) → Type 0
 Answers form contents status old new = IsAnswered form contents status old new ⊎ IsStopped form contents status old new

@@ -43,6 +43,14 @@ AreLent lends names = AllByRecursion (λ name. IsTrue (lends name)) names
 abbrev pub AreTold : (List ℕ → Option (List ℕ)) → (List ℕ → List ℕ) → List (List ℕ) → Type 0
 AreTold content contents names = AllByRecursion (λ name. content name ≡ Some (contents name)) names
 
+-- P holds of the contents of the names, where these are told
+abbrev pub WhereTold : (List ℕ → Option (List ℕ)) → List (List ℕ) → ((List ℕ → List ℕ) → Type 0) → Type 0
+WhereTold content names P = (contents : List ℕ → List ℕ) → AreTold content contents names → P contents
+
+-- the form of the words
+abbrev pub form_in : List (String Global) → Form
+form_in words = form_of (texts words)
+
 pub form_of-replay : form_of (codes "replay" ∷ codes "p" ∷ codes "t" ∷ codes "c" ∷ codes "e" ∷ []) ≡ replay (codes "p") (codes "t") (codes "c") (codes "e")
 form_of-replay = refl
 

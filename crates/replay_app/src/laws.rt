@@ -5,7 +5,7 @@ pub fn words_have_one_answer()
     ensures one { HaveOneAnswer }
 {}
 
-/// No words are without an answer for what their files contain.
+/// No words and contents are without an answer.
 pub fn words_have_an_answer()
     ensures some { HaveAnAnswer }
 {}

@@ -1,29 +1,24 @@
-//! The commands: words and files come in, and a report goes out.
+//! The commands: words and files come in, and a report goes out. What is answered is said in specs/Output.antt.
 #![tactic(auto)]
 
+mod check;
 mod command;
 mod direct;
-mod ending;
-mod files;
-mod inputs;
 mod laws;
-mod plain;
+mod load;
 mod plan;
 mod policies;
+mod refusal;
 mod replay;
-mod script;
+mod scripts;
+mod status;
 mod stop;
 mod targets;
 #[cfg(test)]
 mod tests;
-mod turn;
-mod turns;
 mod words;
+mod writing;
 
 pub use command::run;
-pub use ending::Ending;
 pub use laws::{words_have_an_answer, words_have_one_answer};
-pub use plain::Plain;
 pub use run_core::depart_line;
-pub use stop::Stop;
-pub use turn::{Totals, Turn};

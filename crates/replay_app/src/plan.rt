@@ -1,35 +1,30 @@
-ghost use Rattle.std.specs.Prelude.{◌≡◌, ◌∷◌, [], ℕ, List, false, IfOk, OnOk, OnErr, IsErrOf, IsTrue};
+//! Where a policy's tree is laid in a target.
+ghost use Rattle.std.specs.Prelude.{◌≡◌, ◌∷◌, [], false, IfOk, OnOk, OnErr, IsErrOf, IsTrue};
 ghost use Rattle.outside_core.specs.Faults.{Rose};
 ghost use Rattle.outside_core.specs.Written.{Appended, AppendedPrefix};
-ghost use Rattle.replay_app.specs.Answer.{IsWritten, IsPartWritten};
-ghost use Rattle.replay_app.specs.Planned.{IsAnswerFor, IsPlanned, plan_answer};
-ghost use Rattle.replay_app.specs.Endings.{ending_status};
+ghost use Rattle.replay_app.specs.Answer.{IsTold};
 ghost use Rattle.replay_app.specs.Named.{plan_form};
-ghost use Rattle.replay_app.specs.Output.{IsAnswered, IsBegun};
-ghost use Rattle.replay_app.specs.Words.{AreLent, AreTold, file_words};
+ghost use Rattle.replay_app.specs.Output.{IsOutput};
+ghost use Rattle.replay_app.specs.Statuses.{IsOneOf, statuses_of, status_code};
+ghost use Rattle.replay_app.specs.Targets.{ForTarget, IsPlanned, plan_answer};
+ghost use Rattle.replay_app.specs.Words.{AreLent, WhereTold, file_words};
 
-use crate::ending::Ending;
-use crate::policies::{Refusal, Verdict, judge_policy};
-use crate::replay::{refuse, write};
+use crate::policies::read_policy;
+use crate::refusal::Read;
+use crate::status::Status;
 use crate::stop::Stop;
-use crate::targets::{TargetText, read_target_file};
-use embed_core::Target;
+use crate::targets::read_target_file;
+use crate::words::PlanFiles;
+use crate::writing::{refuse, write};
 use outside_core::{Shelf, Sink};
 use plan_core::{PlanText, plan};
 use policy_core::Policy;
 use report_core::{FaultKind, Report};
 use std::alloc::Global;
 
-/// The names of the files of a plan.
-#[derive(Clone, Copy, Debug)]
-pub struct PlanFiles<'a> {
-    pub policy: &'a str,
-    pub target: &'a str,
-}
-
 /// Writes the plan of a target that has no room.
-fn refuse_size<K: Sink>(alloc: Global, text: &[u8], sink: &mut K) -> Result<Ending, Stop>
-    ensures status { IfOk result (λ e. e ≡ Ending.NoRoom) }
+fn refuse_size<K: Sink>(alloc: Global, text: &[u8], sink: &mut K) -> Result<Status, Stop>
+    ensures status { IfOk result (λ s. s ≡ Status.NoRoom) }
     ensures text { OnOk result (Appended (K.written sink.old) (K.written sink.new) (plan_answer false text.now).text) }
     ensures part { OnErr result (AppendedPrefix (K.written sink.old) (K.written sink.new) (plan_answer false text.now).text) }
     ensures sink_cause { IsErrOf result Stop.Sink → Rose (K.faults sink.old) (K.faults sink.new) }
@@ -39,12 +34,13 @@ fn refuse_size<K: Sink>(alloc: Global, text: &[u8], sink: &mut K) -> Result<Endi
     report.piece(sink, text)?;
     report.fault(sink, FaultKind::Size, 1, 0)?;
     report.finish(sink)?;
-    Ok(Ending::NoRoom)
+    Ok(Status::NoRoom)
 }
 
 /// Writes a plan.
-fn write_plan<K: Sink>(alloc: Global, plan: &PlanText, sink: &mut K) -> Result<Ending, Stop>
-    ensures status { IfOk result (λ e. ending_status e ≡ (plan_answer plan.now.fits plan.now.text.items).status) }
+fn write_plan<K: Sink>(alloc: Global, plan: &PlanText, sink: &mut K) -> Result<Status, Stop>
+    ensures status { IfOk result (λ s. status_code s ≡ (plan_answer plan.now.fits plan.now.text.items).status) }
+    ensures statuses { IfOk result (λ s. IsOneOf (5 ∷ 0 ∷ []) (status_code s)) }
     ensures text { OnOk result (Appended (K.written sink.old) (K.written sink.new) (plan_answer plan.now.fits plan.now.text.items).text) }
     ensures part { OnErr result (AppendedPrefix (K.written sink.old) (K.written sink.new) (plan_answer plan.now.fits plan.now.text.items).text) }
     ensures sink_cause { IsErrOf result Stop.Sink → Rose (K.faults sink.old) (K.faults sink.new) }
@@ -54,7 +50,7 @@ fn write_plan<K: Sink>(alloc: Global, plan: &PlanText, sink: &mut K) -> Result<E
         return refuse_size(alloc, &plan.text, sink);
     }
     write(alloc, &plan.text, sink)?;
-    Ok(Ending::Planned)
+    Ok(Status::Done)
 }
 
 /// Plans an accepted policy for a target's file.
@@ -64,23 +60,21 @@ fn plan_target<S: Shelf, K: Sink>(
     name: &str,
     shelf: &mut S,
     sink: &mut K,
-) -> Result<Ending, Stop>
+) -> Result<Status, Stop>
     requires lent { IsTrue (S.lends shelf.old name.now) }
 
-    ensures given { (contents : List ℕ → List ℕ) → AreTold (S.content shelf.old) contents (name.now ∷ []) → IfOk result (λ e. IsWritten (IsAnswerFor (contents name.now) (IsPlanned policy.now.policy)) (ending_status e) (K.written sink.old) (K.written sink.new)) }
-    ensures part { (contents : List ℕ → List ℕ) → AreTold (S.content shelf.old) contents (name.now ∷ []) → OnErr result (IsPartWritten (IsAnswerFor (contents name.now) (IsPlanned policy.now.policy)) (K.written sink.old) (K.written sink.new)) }
+    ensures answer { WhereTold (S.content shelf.old) (name.now ∷ []) (λ contents.
+        IsTold (ForTarget (contents name.now) (IsPlanned policy.now.policy)) result (K.written sink.old) (K.written sink.new)) }
+    ensures statuses { IfOk result (λ s. IsOneOf (4 ∷ 5 ∷ 0 ∷ []) (status_code s)) }
     ensures shelf_cause { IsErrOf result Stop.Shelf → Rose (S.faults shelf.old) (S.faults shelf.new) }
     ensures sink_cause { IsErrOf result Stop.Sink → Rose (K.faults sink.old) (K.faults sink.new) }
 {
     match read_target_file(alloc, shelf, name)? {
-        TargetText::Accepted(target) => {
+        Read::Accepted(target) => {
             let plan = plan(alloc, policy, &target)?;
             write_plan(alloc, &plan, sink)
         }
-        TargetText::Refused(code) => {
-            let refusal = Refusal { code, line: 0 };
-            refuse(alloc, sink, FaultKind::Target, refusal, Ending::BadTarget)
-        }
+        Read::Refused(refusal) => refuse(alloc, sink, FaultKind::Target, refusal),
     }
 }
 
@@ -90,18 +84,17 @@ pub fn plan_files<S: Shelf, K: Sink>(
     files: &PlanFiles<'_>,
     shelf: &mut S,
     sink: &mut K,
-) -> Result<Ending, Stop>
+) -> Result<Status, Stop>
     requires lent { AreLent (S.lends shelf.old) (file_words (plan_form files.now)) }
 
-    ensures given { (contents : List ℕ → List ℕ) → AreTold (S.content shelf.old) contents (file_words (plan_form files.now)) → IfOk result (λ e. IsAnswered (plan_form files.now) contents (ending_status e) (K.written sink.old) (K.written sink.new)) }
-    ensures part { (contents : List ℕ → List ℕ) → AreTold (S.content shelf.old) contents (file_words (plan_form files.now)) → OnErr result (IsBegun (plan_form files.now) contents (K.written sink.old) (K.written sink.new)) }
+    ensures answer { WhereTold (S.content shelf.old) (file_words (plan_form files.now)) (λ contents.
+        IsTold (IsOutput (plan_form files.now) contents) result (K.written sink.old) (K.written sink.new)) }
+    ensures statuses { IfOk result (λ s. IsOneOf (statuses_of (plan_form files.now)) (status_code s)) }
     ensures shelf_cause { IsErrOf result Stop.Shelf → Rose (S.faults shelf.old) (S.faults shelf.new) }
     ensures sink_cause { IsErrOf result Stop.Sink → Rose (K.faults sink.old) (K.faults sink.new) }
 {
-    match judge_policy(alloc, shelf, files.policy)? {
-        Verdict::Accepted(_, policy) => plan_target(alloc, &policy, files.target, shelf, sink),
-        Verdict::Refused(refusal) => {
-            refuse(alloc, sink, FaultKind::Policy, refusal, Ending::BadPolicy)
-        }
+    match read_policy(alloc, shelf, files.policy)? {
+        Read::Accepted(judged) => plan_target(alloc, &judged.policy, files.target, shelf, sink),
+        Read::Refused(refusal) => refuse(alloc, sink, FaultKind::Policy, refusal),
     }
 }

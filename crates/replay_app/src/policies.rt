@@ -1,10 +1,12 @@
+//! Policies read from files, and judged.
 ghost use Rattle.std.specs.Prelude.{◌≡◌, ◌≢◌, ◌≤◌, ℕ, List, IfOk, OnOk, IfSome, IsTrue, IsErrOf};
-ghost use Rattle.replay_app.specs.Policies.{IsRead, IsVerdict};
-ghost use Rattle.resolve_defs.specs.Codes.{code_of, line_of};
 ghost use Rattle.outside_core.specs.Faults.{Rose};
 ghost use Rattle.outside_core.specs.Files.{KeepsFiles};
+ghost use Rattle.resolve_defs.specs.Codes.{code_of, line_of};
+ghost use Rattle.replay_app.specs.Policies.{IsTextRead, IsPolicyRead};
 
-use crate::inputs::load_short;
+use crate::load::load_short;
+use crate::refusal::{Read, Refusal};
 use crate::stop::Stop;
 use outside_core::Shelf;
 use policy_core::{Policy, PolicyFault, resolve};
@@ -14,94 +16,83 @@ use std::alloc::{AllocError, Global};
 /// The most bytes of a policy text.
 const MOST_POLICY: usize = 1_048_576;
 
-/// Why a text is refused: the number of the fault, and the line, or 0 where it is no line's.
-#[derive(Clone, Copy, PartialEq, Eq, Debug)]
-pub struct Refusal {
-    pub code: u32,
-    pub line: u32,
-}
+/// Why a text that is too long is refused.
+const TOO_LONG: Refusal = Refusal { code: 21, place: 0 };
 
-/// A policy text that is read: its statements, or why it is refused.
+/// The statements of an accepted policy, and the policy that they give.
 #[derive(Drop)]
-pub enum PolicyText {
-    Accepted(Lines),
-    Refused(Refusal),
+pub struct Judged {
+    pub lines: Lines,
+    pub policy: Policy,
 }
 
-/// What is decided of a policy's file: its statements with the policy that they give, or why it is refused.
-#[derive(Drop)]
-pub enum Verdict {
-    Accepted(Lines, Policy),
-    Refused(Refusal),
-}
-
-/// What a policy text says, or why it is refused.
-fn read_text(alloc: Global, text: &[u8]) -> Result<PolicyText, AllocError>
-    ensures { IfOk result (IsRead text.now) }
+/// What a policy text says, or why it is refused. The error is want of memory.
+fn lines_in(alloc: Global, text: &[u8]) -> Result<Read<Lines>, AllocError>
+    ensures { IfOk result (IsTextRead text.now) }
 {
     match parse(alloc, text) {
-        Ok(lines) => Ok(PolicyText::Accepted(lines)),
-        Err(TextFault::TooLong) => Ok(PolicyText::Refused(Refusal { code: 21, line: 0 })),
-        Err(TextFault::NotText(line)) => Ok(PolicyText::Refused(Refusal { code: 22, line })),
-        Err(TextFault::Syntax(line)) => Ok(PolicyText::Refused(Refusal { code: 23, line })),
-        Err(TextFault::Shaping(line)) => Ok(PolicyText::Refused(Refusal { code: 24, line })),
+        Ok(lines) => Ok(Read::Accepted(lines)),
+        Err(TextFault::TooLong) => Ok(Read::Refused(TOO_LONG)),
+        Err(TextFault::NotText(place)) => Ok(Read::Refused(Refusal { code: 22, place })),
+        Err(TextFault::Syntax(place)) => Ok(Read::Refused(Refusal { code: 23, place })),
+        Err(TextFault::Shaping(place)) => Ok(Read::Refused(Refusal { code: 24, place })),
         Err(TextFault::NoMemory) => Err(AllocError),
     }
 }
 
-/// Reads a policy's file.
-pub fn read_policy<S: Shelf>(alloc: Global, shelf: &mut S, name: &str) -> Result<PolicyText, Stop>
+/// Reads the statements of a policy's file.
+fn read_lines<S: Shelf>(alloc: Global, shelf: &mut S, name: &str) -> Result<Read<Lines>, Stop>
     requires lent { IsTrue (S.lends shelf.old name.now) }
 
-    ensures read { IfOk result (λ policy. IfSome (S.content shelf.old name.now) (λ text. IsRead text policy)) }
+    ensures read { IfOk result (λ read. IfSome (S.content shelf.old name.now) (λ text. IsTextRead text read)) }
     ensures files { KeepsFiles S.lends S.content shelf.old shelf.new }
     ensures later { S.faults shelf.old ≤ S.faults shelf.new }
     ensures cause { IsErrOf result Stop.Shelf → Rose (S.faults shelf.old) (S.faults shelf.new) }
     ensures writes_nothing { IsErrOf result Stop.Sink → ⊥ }
 {
     match load_short(alloc, shelf, name, MOST_POLICY)? {
-        Some(text) => Ok(read_text(alloc, &text)?),
-        None => Ok(PolicyText::Refused(Refusal { code: 21, line: 0 })),
+        Some(text) => Ok(lines_in(alloc, &text)?),
+        None => Ok(Read::Refused(TOO_LONG)),
     }
 }
 
 /// The refusal for a clause that statements fail. The error is want of memory.
 fn refusal_of(fault: PolicyFault) -> Result<Refusal, AllocError>
     ensures memory { OnOk result (fault ≢ PolicyFault.NoMemory) }
-    ensures told { IfOk result (λ r. r ≡ record { code = code_of fault; line = line_of fault }) }
+    ensures told { IfOk result (λ r. r ≡ record { code = code_of fault; place = line_of fault }) }
 {
     if fault == PolicyFault::NoMemory {
         return Err(AllocError);
     }
     Ok(Refusal {
         code: fault.code(),
-        line: fault.line(),
+        place: fault.line(),
     })
 }
 
-/// The policy of a text that is read, or why its statements are refused. The error is want of memory.
-fn resolved(alloc: Global, read: PolicyText) -> Result<Verdict, AllocError>
-    ensures { (text : List ℕ) → IsRead text read → IfOk result (IsVerdict text) }
+/// The policy that statements give, or why they are refused. The error is want of memory.
+fn judge(alloc: Global, read: Read<Lines>) -> Result<Read<Judged>, AllocError>
+    ensures { (text : List ℕ) → IsTextRead text read → IfOk result (IsPolicyRead text) }
 {
     match read {
-        PolicyText::Accepted(lines) => match resolve(alloc, &lines) {
-            Ok(policy) => Ok(Verdict::Accepted(lines, policy)),
-            Err(fault) => Ok(Verdict::Refused(refusal_of(fault)?)),
+        Read::Accepted(lines) => match resolve(alloc, &lines) {
+            Ok(policy) => Ok(Read::Accepted(Judged { lines, policy })),
+            Err(fault) => Ok(Read::Refused(refusal_of(fault)?)),
         },
-        PolicyText::Refused(refusal) => Ok(Verdict::Refused(refusal)),
+        Read::Refused(refusal) => Ok(Read::Refused(refusal)),
     }
 }
 
-/// Reads a policy's file, and decides whether it is accepted.
-pub fn judge_policy<S: Shelf>(alloc: Global, shelf: &mut S, name: &str) -> Result<Verdict, Stop>
+/// Reads a policy's file, and decides whether the policy is accepted.
+pub fn read_policy<S: Shelf>(alloc: Global, shelf: &mut S, name: &str) -> Result<Read<Judged>, Stop>
     requires lent { IsTrue (S.lends shelf.old name.now) }
 
-    ensures verdict { IfOk result (λ v. IfSome (S.content shelf.old name.now) (λ text. IsVerdict text v)) }
+    ensures read { IfOk result (λ read. IfSome (S.content shelf.old name.now) (λ text. IsPolicyRead text read)) }
     ensures files { KeepsFiles S.lends S.content shelf.old shelf.new }
     ensures later { S.faults shelf.old ≤ S.faults shelf.new }
     ensures cause { IsErrOf result Stop.Shelf → Rose (S.faults shelf.old) (S.faults shelf.new) }
     ensures writes_nothing { IsErrOf result Stop.Sink → ⊥ }
 {
-    let read = read_policy(alloc, shelf, name)?;
-    Ok(resolved(alloc, read)?)
+    let read = read_lines(alloc, shelf, name)?;
+    Ok(judge(alloc, read)?)
 }

@@ -1,104 +1,209 @@
-ghost use Rattle.std.specs.Prelude.{◌≡◌, ◌≤◌, ◌<◌, ◌+◌, ◌^◌, ℕ, List, length, map, codes, IfOk, OnOk, OnErr, IsErrOf, IsTrue};
+//! Runs through a fabric into which a policy's tree is laid.
+ghost use Rattle.std.specs.Prelude.{◌≡◌, ◌≤◌, ◌<◌, ◌^◌, ◌∷◌, [], IfOk, IfSome, OnOk, OnErr, IsErrOf, IsTrue};
 ghost use Rattle.outside_core.specs.Faults.{Rose};
 ghost use Rattle.outside_core.specs.Written.{Appended, AppendedPrefix};
-ghost use Rattle.report_defs.specs.Report.{fault_line};
-ghost use Rattle.report_core.specs.Faults.{word_of};
-ghost use Rattle.replay_app.specs.FirstPath.{arrivals_of};
-ghost use Rattle.replay_app.specs.OneLeaf.{no_totals, turned_all, step_for};
-ghost use Rattle.replay_app.specs.Turns.{Holds, CountsAlike};
-ghost use Rattle.replay_app.specs.PlainRuns.{plain_text};
+ghost use Rattle.tree_defs.specs.Tree.{SameShape};
+ghost use Rattle.tree_defs.specs.Topology.{topology_of, complete};
+ghost use Rattle.target_defs.specs.Target.{IsInRange};
+ghost use Rattle.placement_defs.specs.Images.{image_map};
+ghost use Rattle.placement_defs.specs.Embedding.{IsEmbedding};
+ghost use Rattle.events_core.specs.Steps.{counts_of};
+ghost use Rattle.embedded_core.specs.Fabrics.{IsAsItWas, Leaves, LeavesPart, run_of};
+ghost use Rattle.direct_core.specs.Answers.{direct_answer};
+ghost use Rattle.replay_app.specs.Answer.{IsLeft, IsTold};
+ghost use Rattle.replay_app.specs.Named.{replay_form};
+ghost use Rattle.replay_app.specs.Output.{IsOutput};
+ghost use Rattle.replay_app.specs.Placements.{laid_by};
+ghost use Rattle.replay_app.specs.Scripts.{ending_status};
+ghost use Rattle.replay_app.specs.Stages.{BehindRoom, BehindTarget, BehindTargetText};
+ghost use Rattle.replay_app.specs.Statuses.{IsOneOf, IsRefusal, run_statuses, statuses_of, status_code};
+ghost use Rattle.replay_app.specs.Words.{AreLent, WhereTold, file_words};
 
-use crate::ending::Ending;
-use crate::policies::Refusal;
+use crate::policies::read_policy;
+use crate::refusal::{Read, Refusal};
+use crate::scripts::read_script;
+use crate::status::Status;
 use crate::stop::Stop;
-use crate::turn::{Totals, Turn};
-use crate::turns::play;
+use crate::targets::read_target_file;
+use crate::words::ReplayFiles;
+use crate::writing::refuse;
+use direct_core::replay;
+use embed_core::{EmbedFault, Map, Target, embed};
+use events_core::Step;
 use fabric_core::Fabric;
-use outside_core::Sink;
-use report_core::{FaultKind, Report};
+use outside_core::{Shelf, Sink};
+use policy_core::Policy;
+use report_core::FaultKind;
 use std::alloc::Global;
 
-/// Writes the line of a refusal as the whole text, and answers the ending.
-pub fn refuse<K: Sink>(
+/// The target has no room for the policy's tree.
+const NO_ROOM: Refusal = Refusal { code: 1, place: 0 };
+
+/// A target, and where a policy's tree is laid in it.
+#[derive(Drop)]
+pub struct Placement {
+    pub target: Target,
+    pub map: Map,
+}
+
+/// Runs the steps of a script over a capture's file.
+fn replay_capture<S: Shelf, K: Sink, F: Fabric>(
     alloc: Global,
-    sink: &mut K,
-    kind: FaultKind,
-    refusal: Refusal,
-    ending: Ending,
-) -> Result<Ending, Stop>
-    ensures ending { IfOk result (λ e. e ≡ ending) }
-    ensures text { OnOk result (Appended (K.written sink.old) (K.written sink.new) (fault_line (word_of kind) refusal.code refusal.line)) }
-    ensures part { OnErr result (AppendedPrefix (K.written sink.old) (K.written sink.new) (fault_line (word_of kind) refusal.code refusal.line)) }
-    ensures sink_cause { IsErrOf result Stop.Sink → Rose (K.faults sink.old) (K.faults sink.new) }
-    ensures reads_nothing { IsErrOf result Stop.Shelf → ⊥ }
-{
-    let mut report = Report::new(alloc)?;
-    report.fault(sink, kind, refusal.code, u64::from(refusal.line))?;
-    report.finish(sink)?;
-    Ok(ending)
-}
-
-/// Writes the whole text.
-pub fn write<K: Sink>(alloc: Global, text: &[u8], sink: &mut K) -> Result<(), Stop>
-    ensures text { OnOk result (Appended (K.written sink.old) (K.written sink.new) text.now) }
-    ensures part { OnErr result (AppendedPrefix (K.written sink.old) (K.written sink.new) text.now) }
-    ensures cause { IsErrOf result Stop.Sink → Rose (K.faults sink.old) (K.faults sink.new) }
-    ensures reads_nothing { IsErrOf result Stop.Shelf → ⊥ }
-{
-    let mut report = Report::new(alloc)?;
-    report.piece(sink, text)?;
-    report.finish(sink)?;
-    Ok(())
-}
-
-/// Writes the line of inputs that can't be replayed so far, as the whole text.
-pub fn refuse_early<K: Sink>(alloc: Global, sink: &mut K) -> Result<(), Stop>
-    ensures text { OnOk result (Appended (K.written sink.old) (K.written sink.new) (codes "fault early 1 0\n")) }
-    ensures part { OnErr result (AppendedPrefix (K.written sink.old) (K.written sink.new) (codes "fault early 1 0\n")) }
-    ensures cause { IsErrOf result Stop.Sink → Rose (K.faults sink.old) (K.faults sink.new) }
-    ensures reads_nothing { IsErrOf result Stop.Shelf → ⊥ }
-{
-    write(alloc, b"fault early 1 0\n", sink)
-}
-
-/// Makes the turns of a run through a fabric, and writes the report.
-pub fn replay<K: Sink, F: Fabric>(
-    alloc: Global,
-    turns: &[Turn],
-    packets: u64,
+    policy: &Policy,
+    placement: Placement,
+    steps: &[Step],
+    name: &str,
+    shelf: &mut S,
     sink: &mut K,
     fabric: &mut F,
-) -> Result<(), Stop>
+) -> Result<Status, Stop>
+    requires lent { IsTrue (S.lends shelf.old name.now) }
+    requires short { counts_of steps.now ≤ 4194304 }
+    requires range { IsInRange placement.target.arities placement.target.above }
+    requires map_shape { SameShape (topology_of policy.now.policy.tree) placement.map }
+    requires embedding { IsEmbedding (topology_of policy.now.policy.tree) (complete placement.target.arities) (image_map placement.map) }
     requires pushes { F.pushed fabric.old < 2 ^ 61 }
     requires pops { F.popped fabric.old < 2 ^ 61 }
-    requires few { length turns.now ≤ 1048576 }
-    requires enough { arrivals_of (map step_for turns.now) ≤ packets }
 
-    ensures holds { OnOk result (Holds F.shape F.queues fabric.new (turned_all turns.now no_totals)) }
-    ensures counts { OnOk result (CountsAlike F.pushed F.popped fabric.old fabric.new no_totals (turned_all turns.now no_totals)) }
-    ensures text { OnOk result (Appended (K.written sink.old) (K.written sink.new) (plain_text turns.now packets)) }
-    ensures part { OnErr result (AppendedPrefix (K.written sink.old) (K.written sink.new) (plain_text turns.now packets)) }
-    ensures cause { IsErrOf result Stop.Sink → Rose (K.faults sink.old) (K.faults sink.new) }
-    ensures reads_nothing { IsErrOf result Stop.Shelf → ⊥ }
+    ensures status { IfOk result (λ s. IfSome (S.content shelf.old name.now) (λ file. status_code s ≡ ending_status (direct_answer policy.now steps.now file).ending)) }
+    ensures statuses { IfOk result (λ s. IsOneOf run_statuses (status_code s)) }
+    ensures text { OnOk result (IfSome (S.content shelf.old name.now) (λ file. Appended (K.written sink.old) (K.written sink.new) (direct_answer policy.now steps.now file).text)) }
+    ensures part { OnErr result (IfSome (S.content shelf.old name.now) (λ file. AppendedPrefix (K.written sink.old) (K.written sink.new) (direct_answer policy.now steps.now file).text)) }
+    ensures fabric { OnOk result (IfSome (S.content shelf.old name.now) (λ file.
+        Leaves F.Fabric (run_of policy.now.policy (laid_by placement) (direct_answer policy.now steps.now file).events) fabric.old fabric.new)) }
+    ensures fabric_part { OnErr result (IfSome (S.content shelf.old name.now) (λ file.
+        LeavesPart F.Fabric (run_of policy.now.policy (laid_by placement) (direct_answer policy.now steps.now file).events) fabric.old fabric.new)) }
+    ensures shelf_cause { IsErrOf result Stop.Shelf → Rose (S.faults shelf.old) (S.faults shelf.new) }
+    ensures sink_cause { IsErrOf result Stop.Sink → Rose (K.faults sink.old) (K.faults sink.new) }
 {
-    fabric.configure(&[])?;
-    let mut report = Report::new(alloc)?;
-    let mut totals = Totals {
-        pushed: 0,
-        popped: 0,
-        empty: 0,
-    };
-    play(turns, &mut totals, fabric, &mut report, sink)?;
-    let held = totals.pushed - totals.popped;
-    let unsent = packets - totals.pushed;
-    report.end(
-        sink,
-        totals.pushed,
-        totals.popped,
-        totals.empty,
-        held,
-        unsent,
-    )?;
-    report.finish(sink)?;
-    Ok(())
+    shelf.begin(name)?;
+    let Placement { target, map } = placement;
+    let ending = replay(alloc, policy, map, &target, steps, shelf, sink, fabric)?;
+    Ok(Status::of_run(ending))
+}
+
+/// Runs the files of a policy whose tree is laid into the target.
+fn replay_script<S: Shelf, K: Sink, F: Fabric>(
+    alloc: Global,
+    policy: &Policy,
+    placement: Placement,
+    files: &ReplayFiles<'_>,
+    shelf: &mut S,
+    sink: &mut K,
+    fabric: &mut F,
+) -> Result<Status, Stop>
+    requires lent { AreLent (S.lends shelf.old) (files.now.capture.now ∷ files.now.script.now ∷ []) }
+    requires range { IsInRange placement.target.arities placement.target.above }
+    requires map_shape { SameShape (topology_of policy.now.policy.tree) placement.map }
+    requires embedding { IsEmbedding (topology_of policy.now.policy.tree) (complete placement.target.arities) (image_map placement.map) }
+    requires pushes { F.pushed fabric.old < 2 ^ 61 }
+    requires pops { F.popped fabric.old < 2 ^ 61 }
+
+    ensures answer { WhereTold (S.content shelf.old) (files.now.capture.now ∷ files.now.script.now ∷ []) (λ contents.
+        IsTold (BehindRoom policy.now (laid_by placement) (contents files.now.script.now) (contents files.now.capture.now)) result (K.written sink.old) (K.written sink.new)) }
+    ensures fabric { WhereTold (S.content shelf.old) (files.now.capture.now ∷ files.now.script.now ∷ []) (λ contents.
+        IsLeft F.Fabric (BehindRoom policy.now (laid_by placement) (contents files.now.script.now) (contents files.now.capture.now)) result fabric.old fabric.new) }
+    ensures statuses { IfOk result (λ s. IsOneOf run_statuses (status_code s)) }
+    ensures shelf_cause { IsErrOf result Stop.Shelf → Rose (S.faults shelf.old) (S.faults shelf.new) }
+    ensures sink_cause { IsErrOf result Stop.Sink → Rose (K.faults sink.old) (K.faults sink.new) }
+{
+    match read_script(alloc, shelf, files.script)? {
+        Read::Accepted(script) => {
+            let (steps, capture) = (script.steps(), files.capture);
+            replay_capture(
+                alloc, policy, placement, steps, capture, shelf, sink, fabric,
+            )
+        }
+        Read::Refused(refusal) => refuse(alloc, sink, FaultKind::Script, refusal),
+    }
+}
+
+/// Lays the tree of an accepted policy into an accepted target, and runs the other files.
+fn replay_placed<S: Shelf, K: Sink, F: Fabric>(
+    alloc: Global,
+    policy: &Policy,
+    target: Target,
+    files: &ReplayFiles<'_>,
+    shelf: &mut S,
+    sink: &mut K,
+    fabric: &mut F,
+) -> Result<Status, Stop>
+    requires lent { AreLent (S.lends shelf.old) (files.now.capture.now ∷ files.now.script.now ∷ []) }
+    requires range { IsInRange target.arities target.above }
+    requires pushes { F.pushed fabric.old < 2 ^ 61 }
+    requires pops { F.popped fabric.old < 2 ^ 61 }
+
+    ensures answer { WhereTold (S.content shelf.old) (files.now.capture.now ∷ files.now.script.now ∷ []) (λ contents.
+        IsTold (BehindTarget policy.now target (contents files.now.script.now) (contents files.now.capture.now)) result (K.written sink.old) (K.written sink.new)) }
+    ensures fabric { WhereTold (S.content shelf.old) (files.now.capture.now ∷ files.now.script.now ∷ []) (λ contents.
+        IsLeft F.Fabric (BehindTarget policy.now target (contents files.now.script.now) (contents files.now.capture.now)) result fabric.old fabric.new) }
+    ensures statuses { IfOk result (λ s. IsOneOf (5 ∷ run_statuses) (status_code s)) }
+    ensures refused { IfOk result (λ s. IsRefusal (status_code s) → IsAsItWas F.Fabric fabric.old fabric.new) }
+    ensures shelf_cause { IsErrOf result Stop.Shelf → Rose (S.faults shelf.old) (S.faults shelf.new) }
+    ensures sink_cause { IsErrOf result Stop.Sink → Rose (K.faults sink.old) (K.faults sink.new) }
+{
+    match embed(alloc, policy.topo(), &target) {
+        Ok(map) => {
+            let placement = Placement { target, map };
+            replay_script(alloc, policy, placement, files, shelf, sink, fabric)
+        }
+        Err(EmbedFault::NoEmbedding) => refuse(alloc, sink, FaultKind::Size, NO_ROOM),
+        Err(EmbedFault::NoMemory) => Err(Stop::Memory),
+    }
+}
+
+/// Runs the files of an accepted policy.
+fn replay_target<S: Shelf, K: Sink, F: Fabric>(
+    alloc: Global,
+    policy: &Policy,
+    files: &ReplayFiles<'_>,
+    shelf: &mut S,
+    sink: &mut K,
+    fabric: &mut F,
+) -> Result<Status, Stop>
+    requires lent { AreLent (S.lends shelf.old) (files.now.target.now ∷ files.now.capture.now ∷ files.now.script.now ∷ []) }
+    requires pushes { F.pushed fabric.old < 2 ^ 61 }
+    requires pops { F.popped fabric.old < 2 ^ 61 }
+
+    ensures answer { WhereTold (S.content shelf.old) (files.now.target.now ∷ files.now.capture.now ∷ files.now.script.now ∷ []) (λ contents.
+        IsTold (BehindTargetText policy.now (contents files.now.target.now) (contents files.now.script.now) (contents files.now.capture.now)) result (K.written sink.old) (K.written sink.new)) }
+    ensures fabric { WhereTold (S.content shelf.old) (files.now.target.now ∷ files.now.capture.now ∷ files.now.script.now ∷ []) (λ contents.
+        IsLeft F.Fabric (BehindTargetText policy.now (contents files.now.target.now) (contents files.now.script.now) (contents files.now.capture.now)) result fabric.old fabric.new) }
+    ensures statuses { IfOk result (λ s. IsOneOf (4 ∷ 5 ∷ run_statuses) (status_code s)) }
+    ensures refused { IfOk result (λ s. IsRefusal (status_code s) → IsAsItWas F.Fabric fabric.old fabric.new) }
+    ensures shelf_cause { IsErrOf result Stop.Shelf → Rose (S.faults shelf.old) (S.faults shelf.new) }
+    ensures sink_cause { IsErrOf result Stop.Sink → Rose (K.faults sink.old) (K.faults sink.new) }
+{
+    match read_target_file(alloc, shelf, files.target)? {
+        Read::Accepted(target) => replay_placed(alloc, policy, target, files, shelf, sink, fabric),
+        Read::Refused(refusal) => refuse(alloc, sink, FaultKind::Target, refusal),
+    }
+}
+
+/// Runs these files through the fabric. Each file is read when its turn comes, and the fabric is touched only when the
+/// capture's header is accepted.
+pub fn replay_files<S: Shelf, K: Sink, F: Fabric>(
+    alloc: Global,
+    files: &ReplayFiles<'_>,
+    shelf: &mut S,
+    sink: &mut K,
+    fabric: &mut F,
+) -> Result<Status, Stop>
+    requires lent { AreLent (S.lends shelf.old) (file_words (replay_form files.now)) }
+    requires pushes { F.pushed fabric.old < 2 ^ 61 }
+    requires pops { F.popped fabric.old < 2 ^ 61 }
+
+    ensures answer { WhereTold (S.content shelf.old) (file_words (replay_form files.now)) (λ contents.
+        IsTold (IsOutput (replay_form files.now) contents) result (K.written sink.old) (K.written sink.new)) }
+    ensures fabric { WhereTold (S.content shelf.old) (file_words (replay_form files.now)) (λ contents.
+        IsLeft F.Fabric (IsOutput (replay_form files.now) contents) result fabric.old fabric.new) }
+    ensures statuses { IfOk result (λ s. IsOneOf (statuses_of (replay_form files.now)) (status_code s)) }
+    ensures refused { IfOk result (λ s. IsRefusal (status_code s) → IsAsItWas F.Fabric fabric.old fabric.new) }
+    ensures shelf_cause { IsErrOf result Stop.Shelf → Rose (S.faults shelf.old) (S.faults shelf.new) }
+    ensures sink_cause { IsErrOf result Stop.Sink → Rose (K.faults sink.old) (K.faults sink.new) }
+{
+    match read_policy(alloc, shelf, files.policy)? {
+        Read::Accepted(judged) => replay_target(alloc, &judged.policy, files, shelf, sink, fabric),
+        Read::Refused(refusal) => refuse(alloc, sink, FaultKind::Policy, refusal),
+    }
 }

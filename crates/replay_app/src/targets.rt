@@ -1,9 +1,13 @@
-ghost use Rattle.std.specs.Prelude.{◌≡◌, ◌≤◌, ℕ, List, IfOk, IfSome, IsTrue, IsErrOf};
+//! Targets read from files.
+ghost use Rattle.std.specs.Prelude.{◌≤◌, IfOk, IfSome, IsTrue, IsErrOf};
 ghost use Rattle.outside_core.specs.Faults.{Rose};
 ghost use Rattle.outside_core.specs.Files.{KeepsFiles};
-ghost use Rattle.replay_app.specs.Planned.{IsTargetRead, IsTargetInRange};
+ghost use Rattle.target_defs.specs.Target.{IsInRange};
+ghost use Rattle.replay_app.specs.Follows.{IsRead, IfAccepted};
+ghost use Rattle.replay_app.specs.Targets.{IsTargetRefused, IsTargetOf};
 
-use crate::inputs::load_short;
+use crate::load::load_short;
+use crate::refusal::{Read, Refusal};
 use crate::stop::Stop;
 use embed_core::{Target, TargetFault, read_target};
 use outside_core::Shelf;
@@ -12,22 +16,18 @@ use std::alloc::{AllocError, Global};
 /// The most bytes of a target's text.
 const MOST_TARGET: usize = 65_536;
 
-/// A target's text that is read: the target, or the code with which it is refused.
-#[derive(Drop)]
-pub enum TargetText {
-    Accepted(Target),
-    Refused(u32),
-}
-
 /// What the text of a target says, or why it is refused. The error is want of memory.
-fn target_in(alloc: Global, text: &[u8]) -> Result<TargetText, AllocError>
-    ensures read { IfOk result (IsTargetRead text.now) }
-    ensures range { IfOk result IsTargetInRange }
+fn target_in(alloc: Global, text: &[u8]) -> Result<Read<Target>, AllocError>
+    ensures read { IfOk result (λ read. IsRead (IsTargetRefused text.now) (IsTargetOf text.now) read) }
+    ensures range { IfOk result (λ read. IfAccepted read (λ t. IsInRange t.arities t.above)) }
 {
     match read_target(alloc, text) {
-        Ok(target) => Ok(TargetText::Accepted(target)),
+        Ok(target) => Ok(Read::Accepted(target)),
         Err(TargetFault::NoMemory) => Err(AllocError),
-        Err(fault) => Ok(TargetText::Refused(fault.code())),
+        Err(fault) => Ok(Read::Refused(Refusal {
+            code: fault.code(),
+            place: 0,
+        })),
     }
 }
 
@@ -36,11 +36,11 @@ pub fn read_target_file<S: Shelf>(
     alloc: Global,
     shelf: &mut S,
     name: &str,
-) -> Result<TargetText, Stop>
+) -> Result<Read<Target>, Stop>
     requires lent { IsTrue (S.lends shelf.old name.now) }
 
-    ensures read { IfOk result (λ target. IfSome (S.content shelf.old name.now) (λ text. IsTargetRead text target)) }
-    ensures range { IfOk result IsTargetInRange }
+    ensures read { IfOk result (λ read. IfSome (S.content shelf.old name.now) (λ text. IsRead (IsTargetRefused text) (IsTargetOf text) read)) }
+    ensures range { IfOk result (λ read. IfAccepted read (λ t. IsInRange t.arities t.above)) }
     ensures files { KeepsFiles S.lends S.content shelf.old shelf.new }
     ensures later { S.faults shelf.old ≤ S.faults shelf.new }
     ensures cause { IsErrOf result Stop.Shelf → Rose (S.faults shelf.old) (S.faults shelf.new) }
@@ -48,6 +48,6 @@ pub fn read_target_file<S: Shelf>(
 {
     match load_short(alloc, shelf, name, MOST_TARGET)? {
         Some(text) => Ok(target_in(alloc, &text)?),
-        None => Ok(TargetText::Refused(4)),
+        None => Ok(Read::Refused(Refusal { code: 4, place: 0 })),
     }
 }

@@ -41,6 +41,22 @@ fn file(alloc: Global, name: &str, content: &[u8]) -> Result<(String, Vec<u8>), 
     Ok((String::from_str(alloc, name)?, content.to_vec(alloc)?))
 }
 
+/// The files of a run through a target.
+fn files_for(
+    alloc: Global,
+    policy: &[u8],
+    target: &[u8],
+    capture: &[u8],
+    script: &[u8],
+) -> Result<Vec<(String, Vec<u8>)>, Fail> {
+    let mut files = Vec::new(alloc);
+    files.push(file(alloc, "p", policy)?)?;
+    files.push(file(alloc, "t", target)?)?;
+    files.push(file(alloc, "c", capture)?)?;
+    files.push(file(alloc, "e", script)?)?;
+    Ok(files)
+}
+
 /// The files of a run.
 fn files(
     alloc: Global,
@@ -48,21 +64,17 @@ fn files(
     capture: &[u8],
     script: &[u8],
 ) -> Result<Vec<(String, Vec<u8>)>, Fail> {
-    let mut files = Vec::new(alloc);
-    files.push(file(alloc, "p", policy)?)?;
-    files.push(file(alloc, "t", TARGET)?)?;
-    files.push(file(alloc, "c", capture)?)?;
-    files.push(file(alloc, "e", script)?)?;
-    Ok(files)
+    files_for(alloc, policy, TARGET, capture, script)
 }
 
 #[test]
-fn runs_over_memory(rt: HostRuntime) -> Result<(), Fail> {
+fn replays_over_memory(rt: HostRuntime) -> Result<(), Fail> {
     let alloc = rt.alloc();
     let words = words(alloc, &["replay", "p", "t", "c", "e"])?;
-    let table: [(&[u8], &[u8], &[u8], u8, &[u8]); 8] = [
+    let table: [(&[u8], &[u8], &[u8], &[u8], u8, &[u8]); 12] = [
         (
             POLICY,
+            TARGET,
             CAPTURE,
             b"a\na\nd\nd\nd\n",
             0,
@@ -70,32 +82,76 @@ fn runs_over_memory(rt: HostRuntime) -> Result<(), Fail> {
         ),
         (
             SPELLED,
+            b"arities = []\n",
             &CAPTURE[..24],
             b"",
             0,
             b"end pushed 0 popped 0 empty 0 held 0 unsent 0\n",
         ),
+        // The node is laid at depth 1, and its leaf at depth 3: two levels are passed through.
         (
-            POLICY,
+            BELOW_A_ROOT,
+            b"arities = [2, 3, 4]\n",
             CAPTURE,
-            b"a\n",
+            b"a\nd\nrest\n",
             0,
-            b"a 1 1 root 0\nend pushed 1 popped 0 empty 0 held 1 unsent 1\n",
+            b"a 1 1 q 0/0\nd 2 1 q 0/0\na 3 2 q 0/0\nend pushed 2 popped 1 empty 0 held 1 unsent 0\n",
         ),
         (
             POLICY,
+            TARGET,
             EXACT,
-            b"a\nd\n",
-            0,
-            b"a 1 1 root 0\nd 2 1 root 0\nend pushed 1 popped 1 empty 0 held 0 unsent 1\n",
+            b"a 3\n",
+            6,
+            b"a 1 1 root 0\na 2 2 root 0\nfault script 3 3\n",
         ),
-        (POLICY, EXACT, b"a\na\na\n", 11, b"fault early 1 0\n"),
-        (POLICY, CAPTURE, b"rest\n", 11, b"fault early 1 0\n"),
-        (POLICY, &CAPTURE[..60], b"a\n", 11, b"fault early 1 0\n"),
-        (b"policy 2\n", CAPTURE, b"a\n", 3, b"fault policy 23 1\n"),
+        (
+            POLICY,
+            TARGET,
+            &CAPTURE[..62],
+            b"a\n",
+            7,
+            b"a 1 1 root 0\nfault capture 6 2\n",
+        ),
+        // Each input is refused before those behind it are read.
+        (
+            b"policy 2\n",
+            b"arity =\n",
+            b"",
+            b"e\n",
+            3,
+            b"fault policy 23 1\n",
+        ),
+        (
+            BELOW_A_ROOT,
+            b"arity =\n",
+            b"",
+            b"e\n",
+            4,
+            b"fault target 1 0\n",
+        ),
+        (BELOW_A_ROOT, TARGET, b"", b"e\n", 5, b"fault size 1 0\n"),
+        (
+            POLICY,
+            b"arity = 2\nheight = 2\n",
+            b"",
+            b"e\n",
+            5,
+            b"fault size 1 0\n",
+        ),
+        (POLICY, TARGET, b"", b"e\n", 6, b"fault script 1 1\n"),
+        (POLICY, TARGET, b"", b"drain\n", 7, b"fault capture 1 0\n"),
+        (
+            POLICY,
+            TARGET,
+            CAPTURE,
+            b"d 4194305\n",
+            6,
+            b"fault script 2 1\n",
+        ),
     ];
-    for (policy, capture, script, status, text) in table {
-        let mut shelf = PlainShelf::new(files(alloc, policy, capture, script)?);
+    for (policy, target, capture, script, status, text) in table {
+        let mut shelf = PlainShelf::new(files_for(alloc, policy, target, capture, script)?);
         let mut sink = PlainSink::new(alloc, 200)?;
         let mut fabric = FlatFabric::new(alloc)?;
         let answer = run(alloc, &words, &mut shelf, &mut sink, &mut fabric);
@@ -271,7 +327,7 @@ fn a_fault_ends_the_run(rt: HostRuntime) -> Result<(), Fail> {
     let mut fabric = FlatFabric::new(alloc)?;
     let answer = run(alloc, &planned, &mut shelf, &mut sink, &mut fabric);
     assert_eq!(rt; (answer, sink.bytes()), (9, b"".as_slice()));
-    for words in [&replayed, &directed] {
+    for (words, before) in [(&replayed, 3), (&directed, 2)] {
         let mut shelf = PlainShelf::new(files(alloc, POLICY, CAPTURE, b"a\n")?);
         let mut fabric = FlatFabric::new(alloc)?;
         let mut second_write_fails = Vec::new(alloc);
@@ -280,13 +336,12 @@ fn a_fault_ends_the_run(rt: HostRuntime) -> Result<(), Fail> {
         let answer = run(alloc, words, &mut shelf, &mut sink, &mut fabric);
         assert_eq!(rt; (answer, sink.bytes()), (9, b"a".as_slice()));
 
-        // The two files before the capture take three calls each: `begin`, a read that finds all of the
-        // file, and one that finds its end. The capture is begun by the seventh, and first read by the
-        // eighth.
-        let mut eighth_call_fails = Vec::new(alloc);
-        eighth_call_fails.push(8)?;
+        // Each file before the capture takes three calls: `begin`, a read that finds all of the file, and
+        // one that finds its end. The capture is begun by the next call, and first read by the one behind.
+        let mut first_read_fails = Vec::new(alloc);
+        first_read_fails.push(before * 3 + 2)?;
         let held = files(alloc, POLICY, CAPTURE, b"a\n")?;
-        let mut capture_fails = MemShelf::new(held, 1000, eighth_call_fails);
+        let mut capture_fails = MemShelf::new(held, 1000, first_read_fails);
         let mut sink = PlainSink::new(alloc, 200)?;
         let mut fabric = FlatFabric::new(alloc)?;
         let answer = run(alloc, words, &mut capture_fails, &mut sink, &mut fabric);

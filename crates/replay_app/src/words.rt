@@ -2,15 +2,35 @@ ghost use Rattle.std.specs.Prelude.{◌≡◌, MatchOption};
 ghost use Rattle.replay_app.specs.Words.{form_of, no_form, texts};
 ghost use Rattle.replay_app.specs.Named.{command_form};
 
-use crate::direct::DirectFiles;
-use crate::files::Files;
-use crate::plan::PlanFiles;
+/// The names of the files of a run through the fabric.
+#[derive(Clone, Copy, Debug)]
+pub struct ReplayFiles<'a> {
+    pub policy: &'a str,
+    pub target: &'a str,
+    pub capture: &'a str,
+    pub script: &'a str,
+}
+
+/// The names of the files of a run through a policy's own tree.
+#[derive(Clone, Copy, Debug)]
+pub struct DirectFiles<'a> {
+    pub policy: &'a str,
+    pub capture: &'a str,
+    pub script: &'a str,
+}
+
+/// The names of the files of a plan.
+#[derive(Clone, Copy, Debug)]
+pub struct PlanFiles<'a> {
+    pub policy: &'a str,
+    pub target: &'a str,
+}
 
 /// What the words ask for.
 #[derive(Clone, Copy, Debug)]
 pub enum Command<'a> {
     /// A run over these files, through the fabric.
-    Replay(Files<'a>),
+    Replay(ReplayFiles<'a>),
     /// The canonical text of a policy's file.
     Check(&'a str),
     /// Where a policy's tree is laid in a target.
@@ -41,7 +61,7 @@ pub fn command_of(words: &[String]) -> Option<Command<'_>>
             }))
         }
         [command, policy, target, capture, script] => {
-            (command.as_str() == "replay").then_some(Command::Replay(Files {
+            (command.as_str() == "replay").then_some(Command::Replay(ReplayFiles {
                 policy: policy.as_str(),
                 target: target.as_str(),
                 capture: capture.as_str(),

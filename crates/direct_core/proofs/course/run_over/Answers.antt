@@ -8,7 +8,7 @@ returns-in_default-clause-part g c = nothing_written _ _ _
 pub returns-in_default-clause-amid : goal.returns-in_default-clause-amid
 returns-in_default-clause-amid g c =
     let r = c.requires in
-    unmoved g.C.Scheduler _ c.args.policy.now.policy c.args.steps.now 0 _ _ r.scheduler c.depth.ensures.accepted r.stands r.no_arrivals r.no_departures _
+    unmoved g.C.Scheduler _ c.args.policy.now.policy c.args.steps.now 0 _ _ r.scheduler c.depth.ensures.accepted r.stands _
 
 pub play-requires-clause-stands : goal.play-requires-clause-stands
 play-requires-clause-stands g c =
@@ -33,9 +33,9 @@ returns-clause-part g c =
 pub returns-clause-state : goal.returns-clause-state
 returns-clause-state g c =
     let r = c.requires in
-    state_told g.C.Scheduler _ c.args.policy.now.policy c.args.steps.now _ _ _ r.scheduler c.depth.ensures.accepted r.stands r.no_arrivals r.no_departures _ _ _ _ _ _ c.play.ensures.ok
+    state_told g.C.Scheduler _ c.args.policy.now.policy c.args.steps.now _ _ _ r.scheduler c.depth.ensures.accepted r.stands _ _ _ _ _ _ c.play.ensures.ok
 
 pub returns-clause-amid : goal.returns-clause-amid
 returns-clause-amid g c =
     let r = c.requires in
-    amid_told g.C.Scheduler _ c.args.policy.now.policy c.args.steps.now _ _ _ r.scheduler c.depth.ensures.accepted r.stands r.no_arrivals r.no_departures _ _ _ _ _ _ c.play.ensures.err
+    amid_told g.C.Scheduler _ c.args.policy.now.policy c.args.steps.now _ _ _ r.scheduler c.depth.ensures.accepted r.stands _ _ _ _ _ _ c.play.ensures.err

@@ -1,5 +1,18 @@
-use Rattle.replay_app.proofs.Commands.{left-behind}
+use Rattle.std.proofs.Common.{sym, subst, inr, arith}
+use Rattle.replay_app.specs.Statuses.{IsStop}
+use Rattle.replay_app.proofs.Telling.{low_code, is_stop, high_stop}
 use Rattle.replay_app.proofs.command.run.Goals as goal
 
 pub returns-in-Ok-clause-fabric : goal.returns-in-Ok-clause-fabric
-returns-in-Ok-clause-fabric g c = λ contents told. left-behind _ _ _ _ _ _ _ c.in-Ok.ending _ c.status.ensures (c.in-Ok.ensures.fabric contents told)
+returns-in-Ok-clause-fabric g c = λ contents told.
+    let low = low_code c.in-Ok.status in
+    record { whole = λ below. (c.in-Ok.ensures.fabric contents told).whole; part = λ above. absurd (omega (arith, low, above, c.code.ensures)) }
+
+pub returns-in-Err-clause-answer : goal.returns-in-Err-clause-answer
+returns-in-Err-clause-answer g c = λ contents told.
+    inr (record { stop = subst IsStop (sym c.status.ensures) (is_stop c.in-Err.stop); part = (c.in-Err.ensures.answer contents told).part })
+
+pub returns-in-Err-clause-fabric : goal.returns-in-Err-clause-fabric
+returns-in-Err-clause-fabric g c = λ contents told.
+    let high = high_stop c.in-Err.stop in
+    record { whole = λ below. absurd (omega (arith, high, below, c.status.ensures)); part = λ above. (c.in-Err.ensures.fabric contents told).part }

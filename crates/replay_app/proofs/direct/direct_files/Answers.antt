@@ -1,36 +1,21 @@
-use Rattle.std.proofs.lemmas.Result.{on_err_weaker}
 use Rattle.std.proofs.Common.{◌∷◌, []}
-use Rattle.replay_app.specs.Policies.{policy_refusal, refused_policy, under_policy}
-use Rattle.replay_app.proofs.Commands.{told-later, given-of, given-for, begun-of, ends-as}
-use Rattle.replay_app.proofs.OneAnswer.{part-under, refused-only}
-use Rattle.replay_app.specs.declared.ending.Ending.TheVariants.{BadPolicy}
+use Rattle.report_core.specs.declared.fault.FaultKind.TheVariants as kind
+use Rattle.replay_app.specs.Policies.{judged_of}
+use Rattle.replay_app.proofs.Following.{accepted_told, refused_told}
+use Rattle.replay_app.proofs.Inputs.{policies_are_one}
+use Rattle.replay_app.proofs.Telling.{told-later}
 use Rattle.replay_app.proofs.direct.direct_files.Goals as goal
 
-pub returns-in-Accepted-clause-given : goal.returns-in-Accepted-clause-given
-returns-in-Accepted-clause-given g c = λ contents told.
+pub returns-in-Accepted-clause-answer : goal.returns-in-Accepted-clause-answer
+returns-in-Accepted-clause-answer g c = λ contents told.
     let f = c.args.files.now in
-    let is = rw c.in-Accepted.is at (rw (told.0) at c.in_ok-policy.ensures.verdict) in
-    let after = told-later _ _ _ _ contents (f.capture.now ∷ f.script.now ∷ []) c.in_ok-policy.ensures.files told.1 in
-    given-for c.run_script.result _ _ _ _ (λ a along. under_policy _ c.in-Accepted.policy a is along) (c.run_script.ensures.given contents after)
+    let j = judged_of c.in-Accepted.judged in
+    let is = rw c.in-Accepted.is at (rw (told.0) at c.in_ok-judged.ensures.read) in
+    let later = told-later _ _ _ _ contents (f.capture.now ∷ f.script.now ∷ []) c.in_ok-judged.ensures.files told.1 in
+    accepted_told kind.Policy _ _ _ (policies_are_one (contents c.args.files.now.policy.now)) c.direct_script.result _ _ j is (c.direct_script.ensures.answer contents later)
 
-pub returns-in-Accepted-clause-part : goal.returns-in-Accepted-clause-part
-returns-in-Accepted-clause-part g c = λ contents told.
-    let f = c.args.files.now in
-    let is = rw c.in-Accepted.is at (rw (told.0) at c.in_ok-policy.ensures.verdict) in
-    let after = told-later _ _ _ _ contents (f.capture.now ∷ f.script.now ∷ []) c.in_ok-policy.ensures.files told.1 in
-    on_err_weaker c.run_script.result (λ part. part-under (contents f.policy.now) _ _ c.in-Accepted.policy is _ _ part) (c.run_script.ensures.part contents after)
-
-pub returns-clause-given : goal.returns-clause-given
-returns-clause-given g c = λ contents told.
+pub returns-in-Refused-clause-answer : goal.returns-in-Refused-clause-answer
+returns-in-Refused-clause-answer g c = λ contents told.
     let r = c.in-Refused.refusal in
-    let is = rw c.in-Refused.is at (rw (told.0) at c.in_ok-policy.ensures.verdict) in
-    given-of c.refuse.result _ (policy_refusal r.code r.line) _ _ (refused_policy r.code r.line is)
-    (ends-as _ BadPolicy c.refuse.ensures.ending) c.refuse.ensures.text
-
-pub returns-clause-part : goal.returns-clause-part
-returns-clause-part g c = λ contents told.
-    let f = c.args.files.now in
-    let r = c.in-Refused.refusal in
-    let is = rw c.in-Refused.is at (rw (told.0) at c.in_ok-policy.ensures.verdict) in
-    begun-of c.refuse.result _ (policy_refusal r.code r.line) _ _
-    (λ b k. refused-only (contents f.policy.now) _ r.code r.line b is k) c.refuse.ensures.part
+    let is = rw c.in-Refused.is at (rw (told.0) at c.in_ok-judged.ensures.read) in
+    refused_told kind.Policy _ _ _ (policies_are_one (contents c.args.files.now.policy.now)) c.refuse.result _ _ r.code r.place is c.refuse.ensures.status c.refuse.ensures.text c.refuse.ensures.part

@@ -1,33 +1,19 @@
-use Rattle.std.proofs.Common.{◌∙◌}
-use Rattle.replay_app.specs.declared.ending.Ending.TheVariants.{BadTarget}
-use Rattle.replay_app.specs.Planned.{for_target, refused_target, planned, plan_answer, target_refusal}
-use Rattle.replay_app.proofs.Commands.{given-of, begun-of, ends-as}
-use Rattle.replay_app.proofs.OneAnswer.{target-only, target-refused-only, one-planned}
+use Rattle.report_core.specs.declared.fault.FaultKind.TheVariants as kind
+use Rattle.replay_app.proofs.Following.{accepted_told, refused_told}
+use Rattle.replay_app.proofs.Inputs.{targets_are_one}
+use Rattle.replay_app.proofs.OneAnswer.{planned_told}
 use Rattle.replay_app.proofs.plan.plan_target.Goals as goal
 
-pub returns-in_ok-plan-in-Accepted-clause-given : goal.returns-in_ok-plan-in-Accepted-clause-given
-returns-in_ok-plan-in-Accepted-clause-given g c = λ contents told.
-    let p = c.in_ok-plan-in-Accepted.plan in
-    let is = rw c.in-Accepted.is at (rw (told.0) at c.in_ok-target.ensures.read) in
-    given-of c.write_plan.result _ (plan_answer p.fits p.text.items) _ _
-    (for_target _ _ _ is (planned p.fits p.text.items c.in_ok-plan-in-Accepted.ensures.plan)) c.write_plan.ensures.status c.write_plan.ensures.text
-
-pub returns-in_ok-plan-in-Accepted-clause-part : goal.returns-in_ok-plan-in-Accepted-clause-part
-returns-in_ok-plan-in-Accepted-clause-part g c = λ contents told.
+pub returns-in_ok-plan-in-Accepted-clause-answer : goal.returns-in_ok-plan-in-Accepted-clause-answer
+returns-in_ok-plan-in-Accepted-clause-answer g c = λ contents told.
     let p = c.in_ok-plan-in-Accepted.plan in
     let t = c.in-Accepted.target in
     let is = rw c.in-Accepted.is at (rw (told.0) at c.in_ok-target.ensures.read) in
-    begun-of c.write_plan.result _ (plan_answer p.fits p.text.items) _ _
-    (λ b k. one-planned _ t.arities t.above _ b (planned p.fits p.text.items c.in_ok-plan-in-Accepted.ensures.plan) (target-only _ _ t.arities t.above b is k)) c.write_plan.ensures.part
+    accepted_told kind.Target _ _ _ (targets_are_one (contents c.args.name.now)) c.write_plan.result _ _ t is
+    (planned_told c.args.policy.now.policy t p.fits p.text.items c.in_ok-plan-in-Accepted.ensures.plan _ _ c.write_plan.result c.write_plan.ensures.status c.write_plan.ensures.text c.write_plan.ensures.part)
 
-pub returns-in-Refused-clause-given : goal.returns-in-Refused-clause-given
-returns-in-Refused-clause-given g c = λ contents told.
-    let code = c.in-Refused.code in
+pub returns-in-Refused-clause-answer : goal.returns-in-Refused-clause-answer
+returns-in-Refused-clause-answer g c = λ contents told.
+    let r = c.in-Refused.refusal in
     let is = rw c.in-Refused.is at (rw (told.0) at c.in_ok-target.ensures.read) in
-    given-of c.refuse.result _ (target_refusal code) _ _ (refused_target code is) (ends-as _ BadTarget c.refuse.ensures.ending) c.refuse.ensures.text
-
-pub returns-in-Refused-clause-part : goal.returns-in-Refused-clause-part
-returns-in-Refused-clause-part g c = λ contents told.
-    let code = c.in-Refused.code in
-    let is = rw c.in-Refused.is at (rw (told.0) at c.in_ok-target.ensures.read) in
-    begun-of c.refuse.result _ (target_refusal code) _ _ (λ b k. target-refused-only _ _ code b is k) c.refuse.ensures.part
+    refused_told kind.Target _ _ _ (targets_are_one (contents c.args.name.now)) c.refuse.result _ _ r.code r.place is c.refuse.ensures.status c.refuse.ensures.text c.refuse.ensures.part

@@ -5,7 +5,6 @@ use Rattle.policy_defs.specs.Numbers.{number_at}
 use Rattle.schedule_defs.specs.Visits.{after_pops}
 use Rattle.schedule_defs.specs.SourceState.{class_of, way_out}
 use Rattle.schedule_defs.specs.Laws.{LeavesItsLeaf}
-use Rattle.schedule_defs.proofs.Soundness.{without-is}
 use Rattle.stations_core.specs.Agreement.{AreStates}
 use Rattle.sched_core.specs.Own.{policy_in}
 use Rattle.sched_core.proofs.Popped.{is_held, leaves, leaver-popped, departed-popped}

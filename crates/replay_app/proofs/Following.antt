@@ -1,0 +1,123 @@
+-- What follows from inputs that may be refused.
+use Rattle.std.proofs.Common.{◌≡◌, ℕ, Option, List, ◌∷◌, refl, ap, sym, subst, inl, inr}
+use Rattle.std.specs.Prelude.{Result, Ok, Err, IfOk, OnOk, OnErr}
+use Rattle.std.proofs.lemmas.Result.{IfOk-weaker, on_ok_weaker, on_err_weaker}
+use Rattle.outside_core.specs.Written.{Appended, AppendedPrefix}
+use Rattle.report_core.specs.declared.fault.FaultKind.{FaultKind}
+use Rattle.fabric_core.specs.declared.fabric.Fabric.{Ghosts}
+use Rattle.embedded_core.specs.Fabrics.{IsAsItWas, Leaves, LeavesPart}
+use Rattle.replay_app.specs.Answer.{Answer, refusal, Each, IsTold, IsLeft}
+use Rattle.replay_app.specs.Follows.{Follows, stops, goes_on}
+use Rattle.replay_app.specs.Statuses.{IsOneOf, status_code, kind_status}
+use Rattle.replay_app.specs.declared.status.Status.{Status}
+use Rattle.replay_app.specs.declared.stop.Stop.{Stop}
+
+-- nothing changed
+pub unchanged : {F : Type 0} (fabrics : Ghosts F) (f : F) → IsAsItWas fabrics f f
+unchanged fabrics f = record { shape = refl; queues = λ b. refl; pushes = refl; pops = refl; spills = refl }
+
+-- an input is refused in one way, or accepted as one thing
+pub record AreOne {T : Type 0} (refused : ℕ → ℕ → Type 0) (accepted : T → Type 0) : Type 0 where
+  pub one_refusal : (code place d m : ℕ) → refused code place → refused d m → (code ≡ d) × (place ≡ m)
+  pub one : (t u : T) → accepted t → accepted u → t ≡ u
+  pub no_both : (t : T) (code place : ℕ) → accepted t → refused code place → ⊥
+
+-- ---- results
+all_ok : {T E : Type 0} {P Q : T → Type 0} {R : Type 0} (r : Result T E) → ((t : T) → P t → R → Q t) → IfOk r P → OnOk r R → IfOk r Q
+all_ok (Ok t) f p q = f t p q
+all_ok (Err e) f p q = tt
+
+always_ok : {T E : Type 0} {P : Type 0} (r : Result T E) → P → OnOk r P
+always_ok (Ok t) p = p
+always_ok (Err e) p = tt
+
+always_err : {T E : Type 0} {P : Type 0} (r : Result T E) → P → OnErr r P
+always_err (Ok t) p = tt
+always_err (Err e) p = p
+
+-- ---- what follows
+module _ {T : Type 0} (kind : FaultKind) (refused : ℕ → ℕ → Type 0) (accepted : T → Type 0) (after : T → Answer → Type 0) where
+  -- each answer is a refusal, or follows from what is accepted
+  pub each-follows : (P : Answer → Type 0) → ((code place : ℕ) → refused code place → P (refusal kind code place)) → ((t : T) (a : Answer) → accepted t → after t a → P a)
+      → (a : Answer) → Follows kind refused accepted after a → P a
+  each-follows P stop go a (stops code place h) = stop code place h
+  each-follows P stop go a (goes_on t _ h k) = go t a h k
+
+  module _ (are : AreOne refused accepted) where
+    -- what holds of the refusal holds of each answer
+    pub refused-each : (P : Answer → Type 0) (code place : ℕ) → refused code place → P (refusal kind code place) → Each (Follows kind refused accepted after) P
+    refused-each P code place h p = each-follows P
+        (λ d m k. let same = are.one_refusal code place d m h k in subst (λ (n : ℕ). P (refusal kind n m)) same.0 (subst (λ (n : ℕ). P (refusal kind code n)) same.1 p))
+        (λ t a k follows. absurd (are.no_both t code place k h))
+
+    -- what holds of each answer that follows from what is accepted holds of each answer
+    pub accepted-each : (P : Answer → Type 0) (t : T) → accepted t → Each (after t) P → Each (Follows kind refused accepted after) P
+    accepted-each P t h each = each-follows P
+        (λ d m k. absurd (are.no_both t d m h k))
+        (λ u a k follows. each a (subst (λ (v : T). after v a) (sym (are.one t u h k)) follows))
+
+    pub one-follows : ((t : T) (a b : Answer) → after t a → after t b → a ≡ b) → (a b : Answer) → Follows kind refused accepted after a → Follows kind refused accepted after b → a ≡ b
+    one-follows one a b x y = each-follows (λ a. a ≡ b)
+        (λ code place h. refused-each (λ c. refusal kind code place ≡ c) code place h (λ i. refusal kind code place) b y)
+        (λ t a h k. accepted-each (λ c. a ≡ c) t h (λ c l. one t a c k l) b y) a x
+
+  -- there is an answer where the input is refused or accepted, and something follows then
+  pub some-follows : (((t : T) → accepted t → ⊥) → ((code place : ℕ) → refused code place → ⊥) → ⊥) → ((t : T) → accepted t → ((a : Answer) → after t a → ⊥) → ⊥)
+      → ((a : Answer) → Follows kind refused accepted after a → ⊥) → ⊥
+  some-follows read more none = read (λ t h. more t h (λ a k. none a (goes_on t a h k))) (λ code place h. none (refusal kind code place) (stops code place h))
+
+  -- ---- what a call did
+  module _ (are : AreOne refused accepted) (r : Result Status Stop) where
+    -- it refused the input
+    pub refused_told : (old new : Option (List ℕ)) (code place : ℕ) → refused code place → IfOk r (λ s. s ≡ kind_status kind) → OnOk r (Appended old new (refusal kind code place).text) →
+        OnErr r (AppendedPrefix old new (refusal kind code place).text) → IsTold (Follows kind refused accepted after) r old new
+    refused_told old new code place h status text part = record {
+      whole = all_ok r (λ s t u. record { answer = refusal kind code place; is = stops code place h; status_is = ap status_code t; text = u }) status text;
+      part = on_err_weaker r (λ p. refused-each are (λ a. AppendedPrefix old new a.text) code place h p) part;
+    }
+
+    pub refused_left : {F : Type 0} (fabrics : Ghosts F) (f : F) (code place : ℕ) → refused code place → IsLeft fabrics (Follows kind refused accepted after) r f f
+    refused_left fabrics f code place h = record {
+      whole = always_ok r (refused-each are (λ a. Leaves fabrics a.run f f) code place h (unchanged fabrics f));
+      part = always_err r (refused-each are (λ a. LeavesPart fabrics a.run f f) code place h (unchanged fabrics f));
+    }
+
+    -- it accepted the input, and went on
+    pub accepted_told : (old new : Option (List ℕ)) (t : T) → accepted t → IsTold (after t) r old new → IsTold (Follows kind refused accepted after) r old new
+    accepted_told old new t h told = record {
+      whole = IfOk-weaker r _ _ (λ s given. record { answer = given.answer; is = goes_on t given.answer h given.is; status_is = given.status_is; text = given.text }) told.whole;
+      part = on_err_weaker r (λ p. accepted-each are (λ a. AppendedPrefix old new a.text) t h p) told.part;
+    }
+
+    pub accepted_left : {F : Type 0} (fabrics : Ghosts F) (old new : F) (t : T) → accepted t → IsLeft fabrics (after t) r old new → IsLeft fabrics (Follows kind refused accepted after) r old new
+    accepted_left fabrics old new t h left = record {
+      whole = on_ok_weaker r (λ p. accepted-each are (λ a. Leaves fabrics a.run old new) t h p) left.whole;
+      part = on_err_weaker r (λ p. accepted-each are (λ a. LeavesPart fabrics a.run old new) t h p) left.part;
+    }
+
+-- ---- one answer
+module _ (x : Answer) (r : Result Status Stop) where
+  pub exactly_told : (old new : Option (List ℕ)) → IfOk r (λ s. status_code s ≡ x.status) → OnOk r (Appended old new x.text) → OnErr r (AppendedPrefix old new x.text) → IsTold (λ b. b ≡ x) r old new
+  exactly_told old new status text part = record {
+    whole = all_ok r (λ s t u. record { answer = x; is = λ i. x; status_is = t; text = u }) status text;
+    part = on_err_weaker r (λ p. λ b e. subst (λ (c : Answer). AppendedPrefix old new c.text) (sym e) p) part;
+  }
+
+  pub exactly_left : {F : Type 0} (fabrics : Ghosts F) (old new : F) → OnOk r (Leaves fabrics x.run old new) → OnErr r (LeavesPart fabrics x.run old new) → IsLeft fabrics (λ b. b ≡ x) r old new
+  exactly_left fabrics old new left part = record {
+    whole = on_ok_weaker r (λ p. λ b e. subst (λ (c : Answer). Leaves fabrics c.run old new) (sym e) p) left;
+    part = on_err_weaker r (λ p. λ b e. subst (λ (c : Answer). LeavesPart fabrics c.run old new) (sym e) p) part;
+  }
+
+-- ---- statuses
+pub refused-status : (r : Result Status Stop) (kind : FaultKind) (others : List ℕ) → IfOk r (λ s. s ≡ kind_status kind) → IfOk r (λ s. IsOneOf (status_code (kind_status kind) ∷ others) (status_code s))
+refused-status (Ok s) kind others e = inl (ap status_code e)
+refused-status (Err e) kind others h = tt
+
+pub later-status : (r : Result Status Stop) (n : ℕ) (others : List ℕ) → IfOk r (λ s. IsOneOf others (status_code s)) → IfOk r (λ s. IsOneOf (n ∷ others) (status_code s))
+later-status (Ok s) n others h = inr h
+later-status (Err e) n others h = tt
+
+pub known-status : (r : Result Status Stop) (kind : FaultKind) → IfOk r (λ s. s ≡ kind_status kind) → IfOk r (λ s. status_code s ≡ status_code (kind_status kind))
+known-status (Ok s) kind e = ap status_code e
+known-status (Err e) kind h = tt

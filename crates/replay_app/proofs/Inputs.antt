@@ -1,0 +1,131 @@
+-- Each input is refused in one way or accepted as one thing.
+use Rattle.std.proofs.Common.{◌≡◌, ◌≢◌, ◌≤◌, ◌<◌, ℕ, suc, List, [], ◌∷◌, length, refl, ap, sym, subst, ◌∙◌, arith}
+use Rattle.std.specs.List.{All}
+use Rattle.std.proofs.lemmas.List.Elements.{All-nil, All-cons}
+use Rattle.std.proofs.lemmas.List.Kept.{AllPairs-cons}
+use Rattle.tree_defs.specs.Tree.{Tree, Address}
+use Rattle.tree_defs.specs.Topology.{Topology, topology_of, complete}
+use Rattle.target_defs.specs.Levels.{levels}
+use Rattle.placement_defs.specs.Canonical.{IsCanonical}
+use Rattle.placement_defs.specs.Embedding.{IsEmbedding}
+use Rattle.placement_defs.specs.Images.{image_map}
+use Rattle.policy_text_defs.specs.Ranges.{most_text}
+use Rattle.policy_text_defs.specs.Sense.{Entry}
+use Rattle.policy_text_defs.specs.Text.{HasEntries}
+use Rattle.policy_text_defs.proofs.TextLaws.{Entries-one, FirstFault-one, entries_no_fault}
+use Rattle.resolve_defs.specs.Accepted.{AreAccepted, IsFault}
+use Rattle.resolve_defs.specs.Codes.{code_of, line_of}
+use Rattle.resolve_defs.specs.Entries.{AreRising}
+use Rattle.resolve_defs.specs.declared.fault.PolicyFault.{PolicyFault}
+use Rattle.resolve_defs.specs.declared.fault.PolicyFault.TheVariants.{NoMemory}
+use Rattle.resolve_defs.proofs.OneFault.{one-fault, accepted-fault}
+use Rattle.policy_text.proofs.EntryLaws.{Rises, entries_rise}
+use Rattle.policy_laws.proofs.OnePolicy.{one-policy}
+use Rattle.policy_defs.specs.Policy.{Policy}
+use Rattle.events_core.specs.Script as script
+use Rattle.events_core.proofs.ScriptLaws.{IsScript-one, IsFirstFault-one, IsScript-IsFirstFault}
+use Rattle.target_core.specs.declared.target.Target.{Target}
+use Rattle.target_text_defs.proofs.OneAnswer.{one_answer-holds}
+use Rattle.placement_defs.proofs.Laws.{canonical_placements_are_one-holds}
+use Rattle.replay_app.specs.Policies.{IsTextRefused, too_long, at_fault, fault_code, IsPolicyRefused, text_refused, statements_refused, Judged, IsPolicy}
+use Rattle.replay_app.specs.Scripts as scripts
+use Rattle.replay_app.specs.Targets.{IsTargetRefused, IsTargetOf, HasNoRoom, IsPlacement}
+use Rattle.replay_app.proofs.Following.{AreOne}
+
+-- ---- a policy
+one-text-refusal : (text : List ℕ) (code line d m : ℕ) → IsTextRefused text code line → IsTextRefused text d m → (code ≡ d) × (line ≡ m)
+one-text-refusal text code line d m (too_long h) (too_long k) = (refl, refl)
+one-text-refusal text code line d m (too_long h) (at_fault n f k) = let short : length text ≤ most_text = k.short in absurd (omega arith)
+one-text-refusal text code line d m (at_fault n f h) (too_long k) = let short : length text ≤ most_text = h.short in absurd (omega arith)
+one-text-refusal text code line d m (at_fault n f h) (at_fault k g i) =
+    let same = FirstFault-one 1 _ n k f g h.first i.first in
+    (ap fault_code same.1, same.0)
+
+-- a text that has statements isn't refused
+none-refused : (text : List ℕ) (es : List Entry) (code line : ℕ) → HasEntries text es → IsTextRefused text code line → ⊥
+none-refused text es code line has (too_long h) = let short : length text ≤ most_text = has.short in absurd (omega arith)
+none-refused text es code line has (at_fault n f h) = entries_no_fault 1 _ es n f has.entries h.first
+
+-- statements that are accepted aren't refused
+none-faulty : (text : List ℕ) (es fs : List Entry) (f : PolicyFault) → HasEntries text es → AreAccepted es → HasEntries text fs → f ≢ NoMemory → IsFault fs f → ⊥
+none-faulty text es fs f has are has' some is =
+    let same : es ≡ fs = Entries-one 1 _ es fs has.entries has'.entries in
+    accepted-fault fs f some is (subst AreAccepted same are)
+
+same-fault : (text : List ℕ) (es fs : List Entry) (f g : PolicyFault) → HasEntries text es → f ≢ NoMemory → IsFault es f → HasEntries text fs → g ≢ NoMemory → IsFault fs g → f ≡ g
+same-fault text es fs f g has some is has' some' is' =
+    let same : es ≡ fs = Entries-one 1 _ es fs has.entries has'.entries in
+    one-fault fs f g some some' (subst (λ xs. IsFault xs f) same is) is'
+
+one-policy-refusal : (text : List ℕ) (code line d m : ℕ) → IsPolicyRefused text code line → IsPolicyRefused text d m → (code ≡ d) × (line ≡ m)
+one-policy-refusal text code line d m (text_refused _ _ h) (text_refused _ _ k) = one-text-refusal text code line d m h k
+one-policy-refusal text code line d m (text_refused _ _ h) (statements_refused fs g k some is) = absurd (none-refused text fs code line k h)
+one-policy-refusal text code line d m (statements_refused es f h some is) (text_refused _ _ k) = absurd (none-refused text es d m h k)
+one-policy-refusal text code line d m (statements_refused es f h some is) (statements_refused fs g k some' is') =
+    let same : f ≡ g = same-fault text es fs f g h some is k some' is' in
+    (ap code_of same, ap line_of same)
+
+none-refused-policy : (text : List ℕ) (j : Judged) (code line : ℕ) → IsPolicy text j → IsPolicyRefused text code line → ⊥
+none-refused-policy text j code line p (text_refused _ _ h) = none-refused text j.entries code line p.has h
+none-refused-policy text j code line p (statements_refused fs g k some is) = none-faulty text j.entries fs g p.has p.accepted k some is
+
+-- the statements of a text stand on rising lines
+later : (k n : ℕ) (es : List Entry) → k < n → Rises n es → All (λ e. k < e.0) es
+later k n [] less up = All-nil (λ e. k < e.0)
+later k n (e ∷ es) less up = let first : n ≤ e.0 = up.0 in All-cons (λ d. k < d.0) e es (omega arith) (later k (suc e.0) es (omega arith) up.1)
+
+rising : (n : ℕ) (es : List Entry) → Rises n es → AreRising es
+rising n [] up = λ i j d less within. absurd (omega arith)
+rising n (e ∷ es) up = AllPairs-cons (λ a b. a.0 < b.0) e es (later e.0 (suc e.0) es (omega arith) up.1) (rising (suc e.0) es up.1)
+
+-- a text gives one policy
+same-judged : (text : List ℕ) (j k : Judged) → IsPolicy text j → IsPolicy text k → j ≡ k
+same-judged text j k p q =
+    let statements : j.entries ≡ k.entries = Entries-one 1 _ j.entries k.entries p.has.entries q.has.entries in
+    let accepted : AreAccepted k.entries = q.accepted in
+    let own = subst (λ (es : List Entry). IsPolicy text (record { entries = es; policy = j.policy })) statements p in
+    let policies : j.policy ≡ k.policy = one-policy k.entries j.policy k.policy (rising 1 k.entries (entries_rise 1 _ k.entries q.has.entries)) accepted own.gives q.gives in
+    λ i. record { entries = statements i; policy = policies i }
+
+pub policies_are_one : (text : List ℕ) → AreOne (IsPolicyRefused text) (IsPolicy text)
+policies_are_one text = record { one_refusal = one-policy-refusal text; one = same-judged text; no_both = none-refused-policy text }
+
+-- ---- a target
+pub targets_are_one : (text : List ℕ) → AreOne (IsTargetRefused text) (IsTargetOf text)
+targets_are_one text = record {
+  one_refusal = λ code place d m h k. (one_answer-holds.one_fault text code d h.0 k.0, h.1 ∙ sym k.1);
+  one = λ t u h k. (let same = one_answer-holds.one_target text t.arities u.arities t.above u.above h k in λ i. record { arities = same.0 i; above = same.1 i });
+  no_both = λ t code place h k. one_answer-holds.no_both text t.arities t.above code h k.0;
+}
+
+-- ---- room
+pub rooms_are_one : (policy : Policy) (target : Target) → AreOne (HasNoRoom policy target) (IsPlacement policy target)
+rooms_are_one policy target = record {
+  one_refusal = λ code place d m h k. (h.1 ∙ sym k.1, h.2 ∙ sym k.2);
+  one = λ m n h k. canonical_placements_are_one-holds _ _ _ m n h.canonical k.canonical;
+  no_both = λ m code place h k. k.0 (_, h.embedding);
+}
+
+-- what lays the policy's topology lays its tree
+pub placement : (policy : Policy) (t : Target) (images : Tree Address) (s : Topology) → s ≡ topology_of policy.tree → IsCanonical (levels t.arities t.above) (length t.arities) s images
+    → IsEmbedding s (complete t.arities) (image_map images) → IsPlacement policy t images
+placement policy t images s e canonical embeds = record {
+  canonical = subst (λ (u : Topology). IsCanonical (levels t.arities t.above) (length t.arities) u images) e canonical;
+  embedding = subst (λ (u : Topology). IsEmbedding u (complete t.arities) (image_map images)) e embeds;
+}
+
+-- ---- a script
+one-script-refusal : (text : List ℕ) (code line d m : ℕ) → scripts.IsScriptRefused text code line → scripts.IsScriptRefused text d m → (code ≡ d) × (line ≡ m)
+one-script-refusal text code line d m (scripts.too_long h) (scripts.too_long k) = (refl, refl)
+one-script-refusal text code line d m (scripts.too_long h) (scripts.at_fault f k) = let short : length text ≤ script.most_bytes = k.short in absurd (omega arith)
+one-script-refusal text code line d m (scripts.at_fault f h) (scripts.too_long k) = let short : length text ≤ script.most_bytes = h.short in absurd (omega arith)
+one-script-refusal text code line d m (scripts.at_fault f h) (scripts.at_fault g k) =
+    let same = IsFirstFault-one text f g h k in
+    (ap script.code_of same, ap script.place_of same)
+
+none-refused-script : (text : List ℕ) (steps : List _) (code line : ℕ) → script.IsScript text steps → scripts.IsScriptRefused text code line → ⊥
+none-refused-script text steps code line is (scripts.too_long h) = let short : length text ≤ script.most_bytes = is.short in absurd (omega arith)
+none-refused-script text steps code line is (scripts.at_fault f h) = IsScript-IsFirstFault text steps f is h
+
+pub scripts_are_one : (text : List ℕ) → AreOne (scripts.IsScriptRefused text) (script.IsScript text)
+scripts_are_one text = record { one_refusal = one-script-refusal text; one = λ s t h k. IsScript-one text s t h k; no_both = none-refused-script text }

@@ -1,0 +1,97 @@
+-- No words and contents are without an answer.
+use Rattle.std.proofs.Common.{◌≡◌, ℕ, List, length, refl, sym, subst, inl, inr}
+use Rattle.std.proofs.lemmas.Bool.{cases_lt}
+use Rattle.tree_defs.specs.Tree.{Tree, Address}
+use Rattle.tree_defs.specs.Topology.{topology_of, complete}
+use Rattle.target_defs.specs.Levels.{levels}
+use Rattle.target_defs.specs.Target.{IsInRange}
+use Rattle.target_defs.proofs.LevelLaws.{heights_in_range-holds}
+use Rattle.placement_defs.specs.Embedding.{HasEmbedding, IsEmbedding}
+use Rattle.placement_defs.specs.Images.{image_map}
+use Rattle.placement_defs.specs.Laws.{AreWide}
+use Rattle.placement_defs.proofs.Room.{there_or_none}
+use Rattle.target_text_defs.proofs.Decided.{an_answer-holds}
+use Rattle.target_text_defs.proofs.Ranges.{in_range-holds}
+use Rattle.target_core.specs.declared.target.Target.{Target}
+use Rattle.plan_defs.proofs.SomePlan.{all_levels, a_plan}
+use Rattle.policy_defs.specs.Policy.{Policy}
+use Rattle.policy_text_defs.specs.Ranges.{most_text}
+use Rattle.policy_text_defs.specs.Sense.{Entry}
+use Rattle.policy_text_defs.specs.Text.{HasEntries}
+use Rattle.policy_laws.proofs.Faultless.{accepted}
+use Rattle.policy_laws.proofs.SomePolicy.{a_policy}
+use Rattle.policy_laws.proofs.TextAnswers.{an_answer, sound_entries}
+use Rattle.resolve_defs.specs.Accepted.{AreAccepted}
+use Rattle.resolve_defs.specs.Codes.{code_of, line_of}
+use Rattle.events_core.specs.Script.{most_bytes, IsScript, code_of as script_code, place_of as script_place}
+use Rattle.events_core.specs.declared.step.Step.{Step}
+use Rattle.events_core.proofs.ScriptAnswers.{an_answer as script_answer}
+use Rattle.report_core.specs.declared.fault.FaultKind.TheVariants as kind
+use Rattle.replay_app.specs.Answer.{Answer}
+use Rattle.replay_app.specs.Laws.{HaveAnAnswer}
+use Rattle.replay_app.specs.Policies.{too_long, at_fault, fault_code, IsPolicyRefused, text_refused, statements_refused, Judged, IsPolicy}
+use Rattle.replay_app.specs.Scripts as scripts
+use Rattle.replay_app.specs.Targets.{IsTargetRefused, IsTargetOf, HasNoRoom, IsPlacement, IsPlanned, planned, plan_answer}
+use Rattle.replay_app.specs.Words.{replay, check, plan, direct, no_form}
+use Rattle.replay_app.proofs.Following.{some-follows}
+
+-- ---- each input is refused or accepted
+policy_of_text : (text : List ℕ) → ((j : Judged) → IsPolicy text j → ⊥) → ((code line : ℕ) → IsPolicyRefused text code line → ⊥) → (es : List Entry) → HasEntries text es → ⊥
+policy_of_text text none none' es has =
+    let sound = sound_entries text es has in
+    let are : AreAccepted es = accepted es (λ f some is. none' (code_of f) (line_of f) (statements_refused es f has some is)) in
+    let r = a_policy es sound.rising sound.valid are in
+    none (record { entries = es; policy = r.0 }) (record { has = has; accepted = are; gives = r.1 })
+
+read_policies : (text : List ℕ) → ((j : Judged) → IsPolicy text j → ⊥) → ((code line : ℕ) → IsPolicyRefused text code line → ⊥) → ⊥
+read_policies text none none' = elim (cases_lt most_text (length text)) [
+  | inl long ↦ none' 21 0 (text_refused 21 0 (too_long long))
+  | inr short ↦ an_answer text short (policy_of_text text none none') (λ n f first. none' (fault_code f) n (text_refused (fault_code f) n (at_fault n f first)))
+]
+
+read_targets : (text : List ℕ) → ((t : Target) → IsTargetOf text t → ⊥) → ((code place : ℕ) → IsTargetRefused text code place → ⊥) → ⊥
+read_targets text none none' = elim (an_answer-holds text) [
+  | inl (arities, (above, is)) ↦ none (record { arities = arities; above = above }) is
+  | inr (code, is) ↦ none' code 0 (is, refl)
+]
+
+read_rooms : (policy : Policy) (t : Target) → IsInRange t.arities t.above → ((images : Tree Address) → IsPlacement policy t images → ⊥) → ((code place : ℕ) → HasNoRoom policy t code place → ⊥) → ⊥
+read_rooms policy t range none none' =
+    let wide : AreWide (levels t.arities t.above) = λ h. (heights_in_range-holds t.arities t.above range h).0 in
+    elim (there_or_none (levels t.arities t.above) (length t.arities) (topology_of policy.tree) wide) [
+      | inl (images, canonical, embeds) ↦ none images (record {
+        canonical = canonical;
+        embedding = subst (λ (ds : List ℕ). IsEmbedding (topology_of policy.tree) (complete ds) (image_map images)) (all_levels t.arities t.above) embeds;
+      })
+      | inr unfit ↦ none' 1 0 (λ has. unfit (subst (λ (ds : List ℕ). HasEmbedding (topology_of policy.tree) (complete ds)) (sym (all_levels t.arities t.above)) has), refl, refl)
+    ]
+
+read_scripts : (text : List ℕ) → ((steps : List Step) → IsScript text steps → ⊥) → ((code line : ℕ) → scripts.IsScriptRefused text code line → ⊥) → ⊥
+read_scripts text none none' = elim (cases_lt most_bytes (length text)) [
+  | inl long ↦ none' 4 0 (scripts.too_long long)
+  | inr short ↦ script_answer text short none (λ f first. none' (script_code f) (script_place f) (scripts.at_fault f first))
+]
+
+-- ---- words and contents
+exactly : (x : Answer) → ((a : Answer) → a ≡ x → ⊥) → ⊥
+exactly x none = none x refl
+
+a_plan_of : (policy : Policy) (t : Target) → IsInRange t.arities t.above → ((a : Answer) → IsPlanned policy t a → ⊥) → ⊥
+a_plan_of policy t range none =
+    let p = a_plan policy t.arities t.above range in
+    none (plan_answer p.0 p.1.0) (planned p.0 p.1.0 p.1.1)
+
+pub some-answer : HaveAnAnswer
+some-answer (replay p t c e) contents =
+    some-follows kind.Policy _ _ _ (read_policies (contents p)) (λ judged policy.
+    some-follows kind.Target _ _ _ (read_targets (contents t)) (λ target is.
+    some-follows kind.Size _ _ _ (read_rooms judged.policy.policy target (in_range-holds (contents t) target.arities target.above is)) (λ images placed.
+    some-follows kind.Script _ _ _ (read_scripts (contents e)) (λ steps script. exactly _))))
+some-answer (check p) contents = some-follows kind.Policy _ _ _ (read_policies (contents p)) (λ judged policy. exactly _)
+some-answer (plan p t) contents =
+    some-follows kind.Policy _ _ _ (read_policies (contents p)) (λ judged policy.
+    some-follows kind.Target _ _ _ (read_targets (contents t)) (λ target is. a_plan_of judged.policy.policy target (in_range-holds (contents t) target.arities target.above is)))
+some-answer (direct p c e) contents =
+    some-follows kind.Policy _ _ _ (read_policies (contents p)) (λ judged policy.
+    some-follows kind.Script _ _ _ (read_scripts (contents e)) (λ steps script. exactly _))
+some-answer no_form contents = exactly _

@@ -1,0 +1,85 @@
+-- Contents that are told, and what is told of endings.
+use Rattle.std.proofs.Common.{◌≡◌, ◌<◌, ◌≤◌, ℕ, Bool, Option, None, Some, List, [], ◌∷◌, map, refl, ap, ◌∙◌, arith, inl, inr}
+use Rattle.std.specs.Prelude.{IfSome, Result, Ok, Err, IfOk}
+use Rattle.outside_core.specs.Files.{KeepsFiles}
+use Rattle.policy_text_defs.specs.Canonical.{canonical_text}
+use Rattle.policy_text_defs.specs.Sense.{Sense}
+use Rattle.policy_text.specs.Entries.{Numbered, entry_of, sense_at}
+use Rattle.policy_text.specs.declared.lines.Lines.{Lines}
+use Rattle.schedule_defs.specs.Script as schedule
+use Rattle.course_core.specs.declared.ending.Ending.{Ending}
+use Rattle.course_core.specs.declared.ending.Ending.TheVariants.{Whole, BadCapture, PastLast}
+use Rattle.course_core.specs.Endings.{ended}
+use Rattle.replay_app.specs.Policies.{entries_in, senses_of}
+use Rattle.replay_app.specs.Scripts.{ending_status}
+use Rattle.replay_app.specs.Statuses.{IsOneOf, IsRefusal, IsStop, run_statuses, run_status, status_code}
+use Rattle.replay_app.specs.Stops.{stop_status}
+use Rattle.replay_app.specs.declared.status.Status.TheVariants as status
+use Rattle.replay_app.specs.declared.status.Status.TheVariants.{Done, NoForm, BadPolicy, BadTarget, NoRoom, BadScript}
+use Rattle.replay_app.specs.declared.stop.Stop.TheVariants.{Shelf, Sink, Memory}
+use Rattle.replay_app.specs.declared.status.Status.{Status}
+use Rattle.replay_app.specs.declared.stop.Stop.{Stop}
+use Rattle.replay_app.specs.Words.{AreTold}
+
+-- a name that was told is told after others were read
+pub told-later : {S : Type 0} (lends : S → List ℕ → Bool) (content : S → List ℕ → Option (List ℕ)) (old new : S) (contents : List ℕ → List ℕ) (names : List (List ℕ))
+    → KeepsFiles lends content old new → AreTold (content old) contents names → AreTold (content new) contents names
+told-later lends content old new contents [] keeps told = tt
+told-later lends content old new contents (name ∷ names) keeps told = (keeps.contents name ∙ told.0, told-later lends content old new contents names keeps told.1)
+
+-- ---- printed statements
+senses-held : (xs : List Numbered) → map sense_at xs ≡ senses_of (map entry_of xs)
+senses-held [] = refl
+senses-held (x ∷ xs) = ap (λ (ys : List Sense). sense_at x ∷ ys) (senses-held xs)
+
+-- the printed text is the canonical one
+pub printed : (lines : Lines) (text : List ℕ) → text ≡ canonical_text (map sense_at lines.held) → text ≡ canonical_text (senses_of (entries_in lines))
+printed lines text e = e ∙ ap canonical_text (senses-held lines.held)
+
+-- ---- the status of a run
+same_status : (e : schedule.Ending) → status_code (run_status (ended e)) ≡ ending_status e
+same_status (schedule.Whole n) = refl
+same_status (schedule.BadCapture f) = refl
+same_status (schedule.PastLast n) = refl
+
+pub status_told : (e : Ending) (o : Option (List ℕ)) (ending : List ℕ → schedule.Ending) → IfSome o (λ file. e ≡ ended (ending file))
+    → IfSome o (λ file. status_code (run_status e) ≡ ending_status (ending file))
+status_told e None ending is = tt
+status_told e (Some file) ending is = ap (λ x. status_code (run_status x)) is ∙ same_status (ending file)
+
+pub run_ends : (e : Ending) → IsOneOf run_statuses (status_code (run_status e))
+run_ends (Whole n) = inr (inr (inl refl))
+run_ends (BadCapture c p) = inr (inl refl)
+run_ends (PastLast n) = inl refl
+
+-- a run that was begun ends with none of the statuses of a refusal
+pub no_refusal : (n : ℕ) → IsOneOf run_statuses n → IsRefusal n → ⊥
+no_refusal n (inl e) r = let low = r.1 in omega arith
+no_refusal n (inr (inl e)) r = let low = r.1 in omega arith
+no_refusal n (inr (inr (inl e))) r = let high = r.0 in omega arith
+no_refusal n (inr (inr (inr e))) r = e
+
+-- a run that is begun ends with none of the statuses of a refusal
+pub no_refusal_of : (r : Result Status Stop) (A : Type 0) → IfOk r (λ s. IsOneOf run_statuses (status_code s)) → IfOk r (λ s. IsRefusal (status_code s) → A)
+no_refusal_of (Ok s) A one = λ refused. absurd (no_refusal (status_code s) one refused)
+no_refusal_of (Err e) A one = tt
+
+-- ---- statuses, and what stops the program
+pub low_code : (s : Status) → status_code s < 8
+low_code Done = omega arith
+low_code NoForm = omega arith
+low_code BadPolicy = omega arith
+low_code BadTarget = omega arith
+low_code NoRoom = omega arith
+low_code BadScript = omega arith
+low_code status.BadCapture = omega arith
+
+pub is_stop : (stop : Stop) → IsStop (stop_status stop)
+is_stop Shelf = inl refl
+is_stop Sink = inr (inl refl)
+is_stop Memory = inr (inr (inl refl))
+
+pub high_stop : (stop : Stop) → 8 ≤ stop_status stop
+high_stop Shelf = omega arith
+high_stop Sink = omega arith
+high_stop Memory = omega arith

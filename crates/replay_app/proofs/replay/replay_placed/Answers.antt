@@ -1,0 +1,40 @@
+use Rattle.std.proofs.Common.{refl, ap, subst, ◌∙◌}
+use Rattle.std.specs.Prelude.{Err}
+use Rattle.tree_defs.specs.Tree.{SameShape}
+use Rattle.tree_defs.specs.Topology.{Topology, complete}
+use Rattle.placement_defs.specs.Embedding.{IsEmbedding, HasEmbedding}
+use Rattle.placement_defs.specs.Images.{image_map}
+use Rattle.report_core.specs.declared.fault.FaultKind.TheVariants as kind
+use Rattle.replay_app.proofs.Following.{accepted_told, accepted_left, refused_told, refused_left}
+use Rattle.replay_app.proofs.Inputs.{rooms_are_one, placement}
+use Rattle.replay_app.proofs.Telling.{no_refusal_of}
+use Rattle.replay_app.proofs.replay.replay_placed.Goals as goal
+
+pub replay_script-requires-clause-map_shape : goal.replay_script-requires-clause-map_shape
+replay_script-requires-clause-map_shape g c = subst (λ (s : Topology). SameShape s c.in-Ok.map) c.topo.ensures.topology c.in-Ok.ensures.shape
+
+pub replay_script-requires-clause-embedding : goal.replay_script-requires-clause-embedding
+replay_script-requires-clause-embedding g c = subst (λ (s : Topology). IsEmbedding s (complete c.args.target.arities) (image_map c.in-Ok.map)) c.topo.ensures.topology c.in-Ok.ensures.embedding
+
+pub returns-in-Ok-clause-answer : goal.returns-in-Ok-clause-answer
+returns-in-Ok-clause-answer g c = λ contents told.
+    let is = placement c.args.policy.now.policy c.args.target c.in-Ok.map _ c.topo.ensures.topology c.in-Ok.ensures.canonical c.in-Ok.ensures.embedding in
+    accepted_told kind.Size _ _ _ (rooms_are_one c.args.policy.now.policy c.args.target) c.replay_script.result _ _ c.in-Ok.map is (c.replay_script.ensures.answer contents told)
+
+pub returns-in-Ok-clause-fabric : goal.returns-in-Ok-clause-fabric
+returns-in-Ok-clause-fabric g c = λ contents told.
+    let is = placement c.args.policy.now.policy c.args.target c.in-Ok.map _ c.topo.ensures.topology c.in-Ok.ensures.canonical c.in-Ok.ensures.embedding in
+    accepted_left kind.Size _ _ _ (rooms_are_one c.args.policy.now.policy c.args.target) c.replay_script.result g.F.Fabric c.args.fabric.now c.replay_script.new.fabric c.in-Ok.map is (c.replay_script.ensures.fabric contents told)
+
+pub returns-in-Ok-clause-refused : goal.returns-in-Ok-clause-refused
+returns-in-Ok-clause-refused g c = no_refusal_of c.replay_script.result _ c.replay_script.ensures.statuses
+
+pub returns-in-Err-NoEmbedding-clause-answer : goal.returns-in-Err-NoEmbedding-clause-answer
+returns-in-Err-NoEmbedding-clause-answer g c = λ contents told.
+    let none = subst (λ (s : Topology). HasEmbedding s (complete c.args.target.arities) → ⊥) c.topo.ensures.topology (c.embed.ensures.none (c.in-Err-NoEmbedding.is ∙ ap Err c.in-Err-NoEmbedding.field-0-is)) in
+    refused_told kind.Size _ _ _ (rooms_are_one c.args.policy.now.policy c.args.target) c.refuse.result _ _ 1 0 (none, refl, refl) c.refuse.ensures.status c.refuse.ensures.text c.refuse.ensures.part
+
+pub returns-in-Err-NoEmbedding-clause-fabric : goal.returns-in-Err-NoEmbedding-clause-fabric
+returns-in-Err-NoEmbedding-clause-fabric g c = λ contents told.
+    let none = subst (λ (s : Topology). HasEmbedding s (complete c.args.target.arities) → ⊥) c.topo.ensures.topology (c.embed.ensures.none (c.in-Err-NoEmbedding.is ∙ ap Err c.in-Err-NoEmbedding.field-0-is)) in
+    refused_left kind.Size _ _ _ (rooms_are_one c.args.policy.now.policy c.args.target) c.refuse.result g.F.Fabric c.args.fabric.now 1 0 (none, refl, refl)

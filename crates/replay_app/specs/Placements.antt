@@ -1,0 +1,6 @@
+-- Where a policy's tree is laid.
+use Rattle.embedded_core.specs.Laid.{Laid}
+use Rattle.replay_app.specs.declared.replay.Placement.{Placement}
+
+abbrev pub laid_by : Placement → Laid
+laid_by p = record { images = p.map; arities = p.target.arities }

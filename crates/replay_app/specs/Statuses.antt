@@ -1,0 +1,63 @@
+-- The statuses with which the program ends.
+use Rattle.std.specs.Prelude.{◌≡◌, ◌⊎◌, ◌≤◌, ℕ, List, [], ◌∷◌}
+use Rattle.report_core.specs.declared.fault.FaultKind.{FaultKind}
+use Rattle.report_core.specs.declared.fault.FaultKind.TheVariants.{Words, Policy, Target, Size, Script, Capture}
+use Rattle.course_core.specs.declared.ending.Ending as run
+use Rattle.course_core.specs.declared.ending.Ending.TheVariants as run_ending
+use Rattle.replay_app.specs.Words.{Form, replay, check, plan, direct, no_form}
+use Rattle.replay_app.specs.declared.status.Status.{Status}
+use Rattle.replay_app.specs.declared.status.Status.TheVariants.{Done, NoForm, BadPolicy, BadTarget, NoRoom, BadScript, BadCapture}
+
+abbrev pub status_code : Status → ℕ
+status_code Done = 0
+status_code NoForm = 2
+status_code BadPolicy = 3
+status_code BadTarget = 4
+status_code NoRoom = 5
+status_code BadScript = 6
+status_code BadCapture = 7
+
+-- where an input of this kind is refused
+abbrev pub kind_status : FaultKind → Status
+kind_status Words = NoForm
+kind_status Policy = BadPolicy
+kind_status Target = BadTarget
+kind_status Size = NoRoom
+kind_status Script = BadScript
+kind_status Capture = BadCapture
+
+-- where a run ended so
+abbrev pub run_status : run.Ending → Status
+run_status (run_ending.Whole unsent) = Done
+run_status (run_ending.PastLast event) = BadScript
+run_status (run_ending.BadCapture c p) = BadCapture
+
+-- ---- what the words alone decide
+-- it is one of these
+abbrev pub IsOneOf : List ℕ → ℕ → Type 0
+IsOneOf [] status = ⊥
+IsOneOf (s ∷ others) status = (status ≡ s) ⊎ IsOneOf others status
+
+-- a run ends as its script and its capture say
+abbrev pub run_statuses : List ℕ
+run_statuses = 6 ∷ 7 ∷ 0 ∷ []
+
+-- with which statuses words of a form can end, where nothing stops the program
+abbrev pub statuses_of : Form → List ℕ
+statuses_of (replay p t c e) = 3 ∷ 4 ∷ 5 ∷ run_statuses
+statuses_of (check p) = 3 ∷ 0 ∷ []
+statuses_of (plan p t) = 3 ∷ 4 ∷ 5 ∷ 0 ∷ []
+statuses_of (direct p c e) = 3 ∷ run_statuses
+statuses_of no_form = 2 ∷ []
+
+-- reading failed, writing failed, or there was no memory
+abbrev pub IsStop : ℕ → Type 0
+IsStop status = IsOneOf (8 ∷ 9 ∷ 10 ∷ []) status
+
+-- words of this form can end with this status
+abbrev pub CanEnd : Form → ℕ → Type 0
+CanEnd form status = IsOneOf (statuses_of form) status ⊎ IsStop status
+
+-- the words, the policy or the target are refused, or the target has no room for the policy: no run was begun
+abbrev pub IsRefusal : ℕ → Type 0
+IsRefusal status = (2 ≤ status) × (status ≤ 5)

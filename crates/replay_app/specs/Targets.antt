@@ -1,0 +1,52 @@
+-- What is read of a target's text, and whether a policy's tree can be laid into the target.
+use Rattle.std.specs.Prelude.{◌≡◌, ℕ, Bool, true, false, List, ◌++◌, length, codes}
+use Rattle.tree_defs.specs.Tree.{Tree, Address}
+use Rattle.tree_defs.specs.Topology.{topology_of, complete}
+use Rattle.target_defs.specs.Levels.{levels}
+use Rattle.target_text_defs.specs.TargetText.{IsTargetText, IsRefused}
+use Rattle.target_core.specs.declared.target.Target.{Target}
+use Rattle.placement_defs.specs.Canonical.{IsCanonical}
+use Rattle.placement_defs.specs.Embedding.{IsEmbedding, HasEmbedding}
+use Rattle.placement_defs.specs.Images.{image_map}
+use Rattle.policy_defs.specs.Policy.{Policy}
+use Rattle.plan_defs.specs.Plan.{IsPlan}
+use Rattle.report_defs.specs.Report.{fault_line}
+use Rattle.report_core.specs.declared.fault.FaultKind.TheVariants as kind
+use Rattle.embedded_core.specs.Laid.{Laid}
+use Rattle.replay_app.specs.Answer.{Answer, text_alone}
+use Rattle.replay_app.specs.Follows.{Follows}
+
+-- a target's text is refused for the first of its faults, which has no place
+abbrev pub IsTargetRefused : List ℕ → ℕ → ℕ → Type 0
+IsTargetRefused text code place = IsRefused text code × (place ≡ 0)
+
+abbrev pub IsTargetOf : List ℕ → Target → Type 0
+IsTargetOf text target = IsTargetText text target.arities target.above
+
+-- what follows from a target's text
+abbrev pub ForTarget : List ℕ → (Target → Answer → Type 0) → Answer → Type 0
+ForTarget text after = Follows kind.Target (IsTargetRefused text) (IsTargetOf text) after
+
+-- ---- room for a policy's tree
+-- no map of the policy's tree into the target keeps root, leaves and prefixes
+abbrev pub HasNoRoom : Policy → Target → ℕ → ℕ → Type 0
+HasNoRoom policy target code place = (HasEmbedding (topology_of policy.tree) (complete target.arities) → ⊥) × (code ≡ 1) × (place ≡ 0)
+
+-- the image of each node by the canonical placement, which is such a map
+pub record IsPlacement (policy : Policy) (target : Target) (images : Tree Address) : Type 0 where
+  pub canonical : IsCanonical (levels target.arities target.above) (length target.arities) (topology_of policy.tree) images
+  pub embedding : IsEmbedding (topology_of policy.tree) (complete target.arities) (image_map images)
+
+-- what follows where a policy's tree is to be laid into a target
+abbrev pub WithRoom : Policy → Target → (Laid → Answer → Type 0) → Answer → Type 0
+WithRoom policy target after = Follows kind.Size (HasNoRoom policy target) (IsPlacement policy target) (λ images. after (record { images = images; arities = target.arities }))
+
+-- ---- plans
+-- what is told of a plan; where there is no room, the refusal comes behind the least height
+abbrev pub plan_answer : Bool → List ℕ → Answer
+plan_answer true text = text_alone 0 text
+plan_answer false text = text_alone 5 (text ++ fault_line (codes "size") 1 0)
+
+-- the answer for a policy and a target
+pub data IsPlanned (policy : Policy) (target : Target) : Answer → Type 0 where
+  planned : (fits : Bool) (text : List ℕ) → IsPlan policy target.arities target.above fits text → IsPlanned policy target (plan_answer fits text)

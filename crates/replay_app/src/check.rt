@@ -1,0 +1,42 @@
+//! The canonical text of a policy.
+ghost use Rattle.std.specs.Prelude.{IfOk, IsErrOf, IsTrue};
+ghost use Rattle.outside_core.specs.Faults.{Rose};
+ghost use Rattle.replay_app.specs.Answer.{IsTold};
+ghost use Rattle.replay_app.specs.Output.{IsOutput};
+ghost use Rattle.replay_app.specs.Statuses.{IsOneOf, statuses_of, status_code};
+ghost use Rattle.replay_app.specs.Words.{WhereTold, check, file_words};
+
+use crate::policies::read_policy;
+use crate::refusal::Read;
+use crate::status::Status;
+use crate::stop::Stop;
+use crate::writing::{refuse, write};
+use outside_core::{Shelf, Sink};
+use policy_text::print;
+use report_core::FaultKind;
+use std::alloc::Global;
+
+/// Writes the canonical text of a policy's file, if it is accepted.
+pub fn check_file<S: Shelf, K: Sink>(
+    alloc: Global,
+    name: &str,
+    shelf: &mut S,
+    sink: &mut K,
+) -> Result<Status, Stop>
+    requires lent { IsTrue (S.lends shelf.old name.now) }
+
+    ensures answer { WhereTold (S.content shelf.old) (file_words (check name.now)) (λ contents.
+        IsTold (IsOutput (check name.now) contents) result (K.written sink.old) (K.written sink.new)) }
+    ensures statuses { IfOk result (λ s. IsOneOf (statuses_of (check name.now)) (status_code s)) }
+    ensures shelf_cause { IsErrOf result Stop.Shelf → Rose (S.faults shelf.old) (S.faults shelf.new) }
+    ensures sink_cause { IsErrOf result Stop.Sink → Rose (K.faults sink.old) (K.faults sink.new) }
+{
+    match read_policy(alloc, shelf, name)? {
+        Read::Accepted(judged) => {
+            let text = print(alloc, &judged.lines)?;
+            write(alloc, text.as_slice(), sink)?;
+            Ok(Status::Done)
+        }
+        Read::Refused(refusal) => refuse(alloc, sink, FaultKind::Policy, refusal),
+    }
+}

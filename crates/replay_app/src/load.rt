@@ -1,0 +1,34 @@
+//! Files read whole, up to a limit.
+ghost use Rattle.std.specs.Prelude.{◌≡◌, ◌≤◌, ◌<◌, ◌^◌, None, length, IfOk, IfSome, IsTrue, IsErrOf};
+ghost use Rattle.outside_core.specs.Faults.{Rose};
+ghost use Rattle.outside_core.specs.Files.{KeepsFiles};
+
+use crate::stop::Stop;
+use outside_core::{LoadError, Shelf, load};
+use std::alloc::Global;
+
+/// The content of a file, unless it is longer than `most` bytes.
+pub fn load_short<S: Shelf>(
+    alloc: Global,
+    shelf: &mut S,
+    name: &str,
+    most: usize,
+) -> Result<Option<Vec<u8>>, Stop>
+    requires lent { IsTrue (S.lends shelf.old name.now) }
+    requires short { most < 2 ^ 32 }
+
+    ensures found { IfOk result (λ o. IfSome (S.content shelf.old name.now) (λ bytes. IfSome o (λ v. v.items ≡ bytes))) }
+    ensures bound { IfOk result (λ o. IfSome o (λ v. length v.items ≤ most)) }
+    ensures too_long { IfOk result (λ o. IfSome (S.content shelf.old name.now) (λ bytes. o ≡ None → most < length bytes)) }
+    ensures files { KeepsFiles S.lends S.content shelf.old shelf.new }
+    ensures later { S.faults shelf.old ≤ S.faults shelf.new }
+    ensures cause { IsErrOf result Stop.Shelf → Rose (S.faults shelf.old) (S.faults shelf.new) }
+    ensures writes_nothing { IsErrOf result Stop.Sink → ⊥ }
+{
+    match load(alloc, shelf, name, most) {
+        Ok(bytes) => Ok(Some(bytes)),
+        Err(LoadError::TooLong) => Ok(None),
+        Err(LoadError::Failed) => Err(Stop::Shelf),
+        Err(LoadError::NoMemory) => Err(Stop::Memory),
+    }
+}

@@ -1,0 +1,46 @@
+//! Scripts read from files.
+ghost use Rattle.std.specs.Prelude.{◌≤◌, IfOk, IfSome, IsTrue, IsErrOf};
+ghost use Rattle.outside_core.specs.Faults.{Rose};
+ghost use Rattle.outside_core.specs.Files.{KeepsFiles};
+ghost use Rattle.events_core.specs.Script.{IsScript, most_count};
+ghost use Rattle.events_core.specs.Steps.{counts_of};
+ghost use Rattle.replay_app.specs.Follows.{IsRead, IfAccepted};
+ghost use Rattle.replay_app.specs.Scripts.{IsScriptRefused};
+
+use crate::load::load_short;
+use crate::refusal::{Read, Refusal};
+use crate::stop::Stop;
+use events_core::{MOST_BYTES, Script, ScriptFault, parse_events};
+use outside_core::Shelf;
+use std::alloc::{AllocError, Global};
+
+/// What the text of a script says, or why it is refused. The error is want of memory.
+fn script_in(alloc: Global, text: &[u8]) -> Result<Read<Script>, AllocError>
+    ensures read { IfOk result (λ read. IsRead (IsScriptRefused text.now) (IsScript text.now) read) }
+    ensures short { IfOk result (λ read. IfAccepted read (λ steps. counts_of steps ≤ most_count)) }
+{
+    match parse_events(alloc, text) {
+        Ok(script) => Ok(Read::Accepted(script)),
+        Err(ScriptFault::Line(place)) => Ok(Read::Refused(Refusal { code: 1, place })),
+        Err(ScriptFault::TooMany(place)) => Ok(Read::Refused(Refusal { code: 2, place })),
+        Err(ScriptFault::TooLong) => Ok(Read::Refused(Refusal { code: 4, place: 0 })),
+        Err(ScriptFault::NoMemory) => Err(AllocError),
+    }
+}
+
+/// Reads a script's file.
+pub fn read_script<S: Shelf>(alloc: Global, shelf: &mut S, name: &str) -> Result<Read<Script>, Stop>
+    requires lent { IsTrue (S.lends shelf.old name.now) }
+
+    ensures read { IfOk result (λ read. IfSome (S.content shelf.old name.now) (λ text. IsRead (IsScriptRefused text) (IsScript text) read)) }
+    ensures short { IfOk result (λ read. IfAccepted read (λ steps. counts_of steps ≤ most_count)) }
+    ensures files { KeepsFiles S.lends S.content shelf.old shelf.new }
+    ensures later { S.faults shelf.old ≤ S.faults shelf.new }
+    ensures cause { IsErrOf result Stop.Shelf → Rose (S.faults shelf.old) (S.faults shelf.new) }
+    ensures writes_nothing { IsErrOf result Stop.Sink → ⊥ }
+{
+    match load_short(alloc, shelf, name, MOST_BYTES)? {
+        Some(text) => Ok(script_in(alloc, &text)?),
+        None => Ok(Read::Refused(Refusal { code: 4, place: 0 })),
+    }
+}

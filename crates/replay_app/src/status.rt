@@ -1,0 +1,67 @@
+//! The statuses with which the program ends where nothing stops it.
+ghost use Rattle.std.specs.Prelude.{◌≡◌};
+ghost use Rattle.replay_app.specs.Statuses.{status_code, kind_status, run_status};
+
+use direct_core::Ending;
+use report_core::FaultKind;
+
+/// How the program ends where nothing stops it.
+#[derive(Clone, Copy, PartialEq, Eq, Debug)]
+pub enum Status {
+    /// What was asked for was written whole.
+    Done,
+    /// The words are in no form.
+    NoForm,
+    /// The policy is refused.
+    BadPolicy,
+    /// The target is refused.
+    BadTarget,
+    /// The policy's tree can't be laid into the target.
+    NoRoom,
+    /// The script is refused, or asks for a packet past the last.
+    BadScript,
+    /// The capture has a fault.
+    BadCapture,
+}
+
+impl Status {
+    /// The number with which the program ends.
+    pub fn code(self) -> u8
+        ensures { result ≡ status_code self }
+    {
+        match self {
+            Status::Done => 0,
+            Status::NoForm => 2,
+            Status::BadPolicy => 3,
+            Status::BadTarget => 4,
+            Status::NoRoom => 5,
+            Status::BadScript => 6,
+            Status::BadCapture => 7,
+        }
+    }
+
+    /// The status where an input of this kind is refused.
+    pub fn refused(kind: FaultKind) -> Status
+        ensures { result ≡ kind_status kind }
+    {
+        match kind {
+            FaultKind::Words => Status::NoForm,
+            FaultKind::Policy => Status::BadPolicy,
+            FaultKind::Target => Status::BadTarget,
+            FaultKind::Size => Status::NoRoom,
+            FaultKind::Script => Status::BadScript,
+            FaultKind::Capture => Status::BadCapture,
+        }
+    }
+
+    /// The status of a run that ended so.
+    pub fn of_run(ending: Ending) -> Status
+        ensures { result ≡ run_status ending }
+    {
+        match ending {
+            Ending::Whole(_) => Status::Done,
+            Ending::PastLast(_) => Status::BadScript,
+            Ending::BadCapture(_, _) => Status::BadCapture,
+        }
+    }
+}
