@@ -1,0 +1,132 @@
+"""Damaged reports, captures and words: what is there is shown, and one line says what is wrong."""
+import io
+import os
+import struct
+import tempfile
+import unittest
+
+import runs
+from zovatsemo_look import capture, progress
+
+HEAD = "a 1 1 one 0\na 2 2 two 0/7\n"
+BROKEN = [
+    ("", "line 1: the report stops before the end of the run"),
+    (HEAD, "line 3: the report stops before the end of the run"),
+    (HEAD + "d 3 1 one", "line 3: the report is cut inside this line"),
+    (HEAD + "a 4 3 one 0\n", "line 3: event 3 was to come here, and not 4"),
+    (HEAD + "x 4 3 one\n", "line 3: event 3 was to come here, and not 4"),
+    (HEAD + "e 2\n", "line 3: event 3 was to come here, and not 2"),
+    (HEAD + "a 3 4 one 0\n", "line 3: packet 3 was to come here, and not 4"),
+    (HEAD + "d 3 3 one 0\n", "line 3: packet 3 isn't held"),
+    (HEAD + "d 3 0 one 0\n", "line 3: packet 0 isn't held"),
+    (HEAD + "d 3 1 one 0\nd 4 1 one 0\n", "line 4: packet 1 isn't held"),
+    (HEAD + "x 3 3 one\nd 4 3 one 0\n", "line 4: packet 3 isn't held"),
+    (HEAD + "d 3 1 two 0\n", "line 3: packet 1 came at the leaf one"),
+    (HEAD + "a 3 3 one 0 5\n", "line 3: an arrival has no start"),
+    (HEAD + "d 3 1 one 0 5\nd 4 2 two 0/7\n", "line 4: some departures have a start and some have none"),
+    (HEAD + "d 3 1 one 0 9223372036854775808\n", "line 3: a start of more than 292 years isn't shown"),
+    (HEAD + "d 3 1 one  0\n", "line 3: this is no line of a report"),
+    (HEAD + "d 3 1 one 0/\n", "line 3: this is no line of a report"),
+    (HEAD + "soak pushed 1 popped 1 empty 0 sum 1\n", "line 3: this is no line of a report"),
+    (HEAD + "z" * 100000, "line 3: the report is cut inside this line"),
+    (HEAD + "end pushed 3 popped 0 empty 0 held 2 unsent 0\n",
+     "line 3: the end says pushed 3, and the lines before have 2"),
+    (HEAD + "end pushed 2 popped 0 empty 0 held 2 unsent 0 dropped 1\n",
+     "line 3: the end says dropped 1, and the lines before have 0"),
+    (HEAD + "end pushed 2 popped 0 empty 0 held 2 unsent 0\ntap first 1 2\nspills 3\ne 3\n",
+     "line 6: a line behind the end of the run"),
+]
+TWO_HELD = r"\none +1 +0 +0 +1 +- +- +- +- +- +1 +0\ntwo +1 +0 +0 +1 "
+
+
+class Damaged(unittest.TestCase):
+    """Reports that break off."""
+
+    def test_the_last_line_says_where(self):
+        with tempfile.TemporaryDirectory() as folder:
+            for text, wrong in BROKEN:
+                report = runs.write(folder, "report", text)
+                status, written, errors = runs.look(report)
+                with self.subTest(text[:200]):
+                    self.assertEqual((status, errors), (1, ""))
+                    self.assertEqual(written.splitlines()[-1], "%s: broken at %s" % (report, wrong))
+
+    def test_what_is_there_is_shown(self):
+        with tempfile.TemporaryDirectory() as folder:
+            _, written, _ = runs.look(runs.write(folder, "report", HEAD + "d 3 3 one 0\n"))
+        self.assertRegex(written, TWO_HELD)
+
+    def test_a_fault_is_an_end(self):
+        with tempfile.TemporaryDirectory() as folder:
+            report = runs.write(folder, "report", HEAD + "fault capture 6 3\n")
+            status, written, _ = runs.look(report)
+        self.assertEqual(status, 0)
+        self.assertRegex(written, TWO_HELD)
+        self.assertEqual(written.splitlines()[-1], "%s: the run ended with fault capture 6 3" % report)
+
+    def test_bytes_that_are_no_text(self):
+        with tempfile.TemporaryDirectory() as folder:
+            report = os.path.join(folder, "report")
+            with open(report, "wb") as stream:
+                stream.write(HEAD.encode() + b"\xff\x00\n")
+            self.assertIn("line 3: this is no line of a report", runs.look(report)[1])
+
+
+class Captures(unittest.TestCase):
+    """What is read of a capture, by bytes that were written by hand: a packet at 2.000003 s and one at 1 s."""
+
+    def read(self, order, magic, fractions, most=2):
+        """The lengths and moments of the first packets of a capture of two."""
+        records = ((2, fractions[0], 3, 1500), (1, fractions[1], 0, 60))
+        data = struct.pack(order + "IHHiIII", magic, 2, 4, 0, 0, 0, 1)
+        data += b"".join(struct.pack(order + "IIII", *record) + bytes(record[2]) for record in records)
+        stream = io.BytesIO(data)
+        found = capture.read_capture(stream, most, progress.Progress("capture", stream))
+        return list(found.lengths), list(found.moments)
+
+    def test_orders_of_bytes_and_units(self):
+        expected = ([1500, 60], [2000003000, 1000000000])
+        for order in "<>":
+            self.assertEqual(self.read(order, 0xA1B2C3D4, (3, 0)), expected)
+            self.assertEqual(self.read(order, 0xA1B23C4D, (3000, 0)), expected)
+
+    def test_no_more_than_asked_for(self):
+        self.assertEqual(self.read("<", 0xA1B2C3D4, (3, 0), most=1), ([1500], [2000003000]))
+
+
+class Refused(unittest.TestCase):
+    """Words and captures that can't be used."""
+
+    def look_with_capture(self, folder, data):
+        """What tools/look says of a capture of some bytes."""
+        broken = os.path.join(folder, "broken")
+        with open(broken, "wb") as stream:
+            stream.write(data)
+        report, _ = runs.write_link_run(folder)
+        status, written, errors = runs.look(report, "--capture", broken)
+        self.assertEqual((status, written), (1, ""))
+        return errors
+
+    def test_captures(self):
+        with tempfile.TemporaryDirectory() as folder:
+            _, written = runs.write_link_run(folder)
+            whole = written.read_bytes()
+            later = whole[:24] + b"\x01\x00\x00\x00" + whole[28:]
+            newer = b"\x0a\x0d\x0d\x0a" + bytes(20)
+            for data, said in ((b"", "fewer than 24 bytes"), (newer, "no capture of the classic format"),
+                               (whole[:-1], "9 whole packets, and in the report 10 came"),
+                               (later, "packet 1 starts before its moment")):
+                with self.subTest(said):
+                    self.assertIn(said, self.look_with_capture(folder, data))
+
+    def test_words(self):
+        report = runs.OFFICE / "report"
+        self.assertEqual(runs.look()[0], 2)
+        self.assertEqual(runs.look(report, "--out", "page.txt")[0], 2)
+        self.assertEqual(runs.look(report, "--against-command", "x")[0], 2)
+        self.assertIn("the leaves are: web voice", runs.look(report, "--leaf", "nobody")[2])
+        self.assertEqual(runs.look("no/such/report"), (1, "", "look: no/such/report: No such file or directory\n"))
+
+
+if __name__ == "__main__":
+    unittest.main()
