@@ -5,6 +5,8 @@ mod capture;
 mod course;
 mod fabric;
 #[cfg(test)]
+mod fabric_tests;
+#[cfg(test)]
 mod tests;
 
 pub use arrivals_core::Arrivals;
