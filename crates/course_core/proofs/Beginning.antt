@@ -3,7 +3,7 @@ use Rattle.std.proofs.Common.{ℕ, arith}
 use Rattle.tree_defs.specs.Topology.{topology_of}
 use Rattle.tree_defs.proofs.WellFormedLaws.{size-empty}
 use Rattle.policy_defs.specs.Policy.{Policy}
-use Rattle.schedule_defs.specs.SourceState.{start}
+use Rattle.sched_defs.specs.SourceState.{start}
 use Rattle.course_core.specs.Stages.{CanBegin}
 
 pub start_can_begin : (policy : Policy) (given : ℕ) → CanBegin given (start policy)

@@ -8,13 +8,13 @@ use Rattle.report_core.proofs.TextLaws.{IsCut-append, IsCut-longer}
 use Rattle.tree_defs.specs.SourceTree.{size}
 use Rattle.policy_defs.specs.Policy.{Policy}
 use Rattle.policy_defs.specs.Accepted.{IsAccepted}
-use Rattle.schedule_defs.specs.SourceState.{SourceState}
-use Rattle.schedule_defs.specs.Sound.{IsSound}
-use Rattle.schedule_defs.specs.Events.{Event, Outcome, after, outcomes, arrivals_in}
-use Rattle.schedule_defs.specs.Script as script
-use Rattle.schedule_defs.specs.Script.{Course}
-use Rattle.schedule_defs.specs.Numbered.{IsHeldBelow}
-use Rattle.schedule_defs.specs.Report.{pushed_in, popped_in, empty_in, ending_line, course_report}
+use Rattle.sched_defs.specs.SourceState.{SourceState}
+use Rattle.sched_defs.specs.Sound.{IsSound}
+use Rattle.sched_defs.specs.Events.{Event, Outcome, after, outcomes, arrivals_in}
+use Rattle.sched_defs.specs.Script as script
+use Rattle.sched_defs.specs.Script.{Course}
+use Rattle.sched_defs.specs.Numbered.{IsHeldBelow}
+use Rattle.sched_defs.specs.Report.{pushed_in, popped_in, empty_in, ending_line, course_report}
 use Rattle.sched_core.specs.declared.scheduler.Scheduler.{Ghosts}
 use Rattle.sched_core.specs.Standing.{StandForOne, ForEachState}
 use Rattle.events_core.specs.declared.step.Step as line

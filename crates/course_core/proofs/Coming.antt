@@ -4,8 +4,8 @@ use Rattle.std.proofs.lemmas.List.{map-append}
 use Rattle.packet_defs.specs.declared.packet.Packet.{Packet}
 use Rattle.policy_defs.specs.Policy.{Policy}
 use Rattle.policy_defs.specs.Accepted.{IsAccepted}
-use Rattle.schedule_defs.specs.Events.{Event, Arrive, departures_in}
-use Rattle.schedule_defs.specs.Numbered.{IsHeldBelow}
+use Rattle.sched_defs.specs.Events.{Event, Arrive, departures_in}
+use Rattle.sched_defs.specs.Numbered.{IsHeldBelow}
 use Rattle.sched_core.specs.declared.scheduler.Scheduler.{Ghosts}
 use Rattle.sched_core.specs.Standing.{StandForOne}
 use Rattle.course_core.specs.declared.ending.Ending.{Ending}

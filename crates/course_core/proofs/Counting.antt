@@ -4,14 +4,14 @@ use Rattle.tree_defs.specs.SourceTree.{size}
 use Rattle.packet_defs.specs.declared.packet.Packet.{Packet}
 use Rattle.policy_defs.specs.Policy.{Policy}
 use Rattle.policy_defs.specs.Accepted.{IsAccepted}
-use Rattle.schedule_defs.specs.SourceState.{SourceState, Leaver, arrived, departed, leaver}
-use Rattle.schedule_defs.specs.Sound.{IsSound}
-use Rattle.schedule_defs.specs.Events.{Event, Arrive, Depart, Outcome, CanMake, after, departure, outcomes, arrivals_in, departures_in}
-use Rattle.schedule_defs.specs.Report.{pushed_in, popped_in, empty_in}
-use Rattle.schedule_defs.proofs.Soundness.{sound_arrived, sound_departed}
-use Rattle.schedule_defs.proofs.Leaving.{size_arrived, size_departed, leaver-none}
-use Rattle.schedule_defs.proofs.Runs.{departures_in-departures, arrivals_in-departures, CanMake-departures}
-use Rattle.schedule_defs.proofs.Courses.{size_departures}
+use Rattle.sched_defs.specs.SourceState.{SourceState, Leaver, arrived, departed, leaver}
+use Rattle.sched_defs.specs.Sound.{IsSound}
+use Rattle.sched_defs.specs.Events.{Event, Arrive, Depart, Outcome, CanMake, after, departure, outcomes, arrivals_in, departures_in}
+use Rattle.sched_defs.specs.Report.{pushed_in, popped_in, empty_in}
+use Rattle.sched_defs.proofs.Soundness.{sound_arrived, sound_departed}
+use Rattle.sched_defs.proofs.Leaving.{size_arrived, size_departed, leaver-none}
+use Rattle.sched_defs.proofs.Runs.{departures_in-departures, arrivals_in-departures, CanMake-departures}
+use Rattle.sched_defs.proofs.Courses.{size_departures}
 
 pub empty_in-arrivals : (policy : Policy) (ps : List Packet) (s : SourceState) → empty_in (outcomes policy (map Arrive ps) s) ≡ 0
 empty_in-arrivals policy [] s = refl

@@ -7,12 +7,12 @@ use Rattle.report_core.specs.Gathered.{text_of, Gathered}
 use Rattle.report_core.proofs.TextLaws.{IsCut-append}
 use Rattle.policy_defs.specs.Policy.{Policy}
 use Rattle.policy_defs.specs.Accepted.{IsAccepted}
-use Rattle.schedule_defs.specs.SourceState.{SourceState, arrived, departed}
-use Rattle.schedule_defs.specs.Sound.{IsSound}
-use Rattle.schedule_defs.specs.Events.{Event, Arrive, Depart, CanMake, after, arrivals_in, departures_in}
-use Rattle.schedule_defs.specs.Numbered.{AreNumberedFrom, IsSendable, IsHeldBelow}
-use Rattle.schedule_defs.proofs.Courses.{held_none, held_arrived, held_departed}
-use Rattle.schedule_defs.proofs.Runs.{sound_after, arrivals_in-append, departures_in-append, arrivals_in-departures, departures_in-departures}
+use Rattle.sched_defs.specs.SourceState.{SourceState, arrived, departed}
+use Rattle.sched_defs.specs.Sound.{IsSound}
+use Rattle.sched_defs.specs.Events.{Event, Arrive, Depart, CanMake, after, arrivals_in, departures_in}
+use Rattle.sched_defs.specs.Numbered.{AreNumberedFrom, IsSendable, IsHeldBelow}
+use Rattle.sched_defs.proofs.Courses.{held_none, held_arrived, held_departed}
+use Rattle.sched_defs.proofs.Runs.{sound_after, arrivals_in-append, departures_in-append, arrivals_in-departures, departures_in-departures}
 use Rattle.sched_core.specs.declared.scheduler.Scheduler.{Ghosts}
 use Rattle.sched_core.specs.Standing.{ForEachState}
 use Rattle.run_core.specs.Played.{told, Plays, StopsIn}

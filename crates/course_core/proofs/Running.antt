@@ -5,14 +5,14 @@ use Rattle.report_core.specs.Gathered.{Gathered, text_of}
 use Rattle.tree_defs.specs.SourceTree.{size}
 use Rattle.policy_defs.specs.Policy.{Policy}
 use Rattle.policy_defs.specs.Accepted.{IsAccepted}
-use Rattle.schedule_defs.specs.SourceState.{SourceState}
-use Rattle.schedule_defs.specs.Sound.{IsSound}
-use Rattle.schedule_defs.specs.Events.{Event, Outcome, Arrived, Departed, Empty, after, outcomes, arrivals_in}
-use Rattle.schedule_defs.specs.Script as script
-use Rattle.schedule_defs.specs.Script.{Step, Course, course, behind, stopped_or, step_events, left_by, stop_at, at_end}
-use Rattle.schedule_defs.specs.Numbered.{IsHeldBelow}
-use Rattle.schedule_defs.specs.Report.{empty_in}
-use Rattle.schedule_defs.proofs.Runs.{after-append, outcomes-append}
+use Rattle.sched_defs.specs.SourceState.{SourceState}
+use Rattle.sched_defs.specs.Sound.{IsSound}
+use Rattle.sched_defs.specs.Events.{Event, Outcome, Arrived, Departed, Empty, after, outcomes, arrivals_in}
+use Rattle.sched_defs.specs.Script as script
+use Rattle.sched_defs.specs.Script.{Step, Course, course, behind, stopped_or, step_events, left_by, stop_at, at_end}
+use Rattle.sched_defs.specs.Numbered.{IsHeldBelow}
+use Rattle.sched_defs.specs.Report.{empty_in}
+use Rattle.sched_defs.proofs.Runs.{after-append, outcomes-append}
 use Rattle.sched_core.specs.declared.scheduler.Scheduler.{Ghosts}
 use Rattle.sched_core.specs.Standing.{StandForOne}
 use Rattle.events_core.specs.declared.step.Step as line

@@ -4,14 +4,14 @@ use Rattle.std.specs.Prelude.{option_map, IfSome, IfNone, IfOk, OnErr, Result, O
 use Rattle.std.proofs.lemmas.List.{map-append, take_all}
 use Rattle.std.proofs.lemmas.Bool.{ltb-true, lt-ltb}
 use Rattle.std.proofs.Math.Seq.{take-append_seam, drop-append_seam, take-append-add}
-use Rattle.capture_defs.specs.Fault.{Fault}
+use Rattle.pcap_defs.specs.Fault.{Fault}
 use Rattle.tree_defs.specs.SourceTree.{size}
 use Rattle.packet_defs.specs.declared.packet.Packet.{Packet}
 use Rattle.policy_defs.specs.Policy.{Policy}
 use Rattle.policy_defs.specs.Accepted.{IsAccepted}
-use Rattle.schedule_defs.specs.SourceState.{SourceState}
-use Rattle.schedule_defs.specs.Events.{Event, Arrive, Depart}
-use Rattle.schedule_defs.specs.Script.{Step, Arrivals, Departures, Rest, Drain, step_events, left_by, stop_at}
+use Rattle.sched_defs.specs.SourceState.{SourceState}
+use Rattle.sched_defs.specs.Events.{Event, Arrive, Depart}
+use Rattle.sched_defs.specs.Script.{Step, Arrivals, Departures, Rest, Drain, step_events, left_by, stop_at}
 use Rattle.sched_core.specs.declared.scheduler.Scheduler.{Ghosts}
 use Rattle.sched_core.specs.Standing.{ForEachState}
 use Rattle.course_core.specs.declared.ending.Ending.{Ending}

@@ -3,11 +3,11 @@ use Rattle.std.specs.Prelude.{◌≡◌, ℕ, ◌+◌, Option, List, map, IfSome
 use Rattle.outside_core.specs.Written.{Appended}
 use Rattle.report_defs.specs.Text.{IsCut}
 use Rattle.policy_defs.specs.Policy.{Policy}
-use Rattle.schedule_defs.specs.SourceState.{SourceState}
-use Rattle.schedule_defs.specs.Events.{Event}
-use Rattle.schedule_defs.specs.Script.{Course, course}
-use Rattle.schedule_defs.specs.Numbered.{IsHeldBelow}
-use Rattle.schedule_defs.specs.Report.{course_report}
+use Rattle.sched_defs.specs.SourceState.{SourceState}
+use Rattle.sched_defs.specs.Events.{Event}
+use Rattle.sched_defs.specs.Script.{Course, course}
+use Rattle.sched_defs.specs.Numbered.{IsHeldBelow}
+use Rattle.sched_defs.specs.Report.{course_report}
 use Rattle.sched_core.specs.declared.scheduler.Scheduler.{Ghosts}
 use Rattle.sched_core.specs.Standing.{ForEachState}
 use Rattle.run_core.specs.Played.{HasMade, HasMadeSome}

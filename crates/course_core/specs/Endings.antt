@@ -1,8 +1,8 @@
 -- How a run tells its ending.
 use Rattle.std.specs.Prelude.{ℕ, Option, None, Some, List, codes}
-use Rattle.capture_defs.specs.Fault.{code, place}
+use Rattle.pcap_defs.specs.Fault.{code, place}
 use Rattle.report_defs.specs.Report.{end_line, fault_line}
-use Rattle.schedule_defs.specs.Script as script
+use Rattle.sched_defs.specs.Script as script
 use Rattle.run_core.specs.declared.stop.Stop as lines
 use Rattle.run_core.specs.declared.stop.Stop.TheVariants as lines_stop
 use Rattle.course_core.specs.declared.stop.Stop.{Stop}

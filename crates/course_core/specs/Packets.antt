@@ -1,6 +1,6 @@
 -- Packets that come one by one.
 use Rattle.std.specs.Prelude.{◌≡◌, ℕ, Option, None, Some, List, [], ◌++◌, IfSome, ⊤}
-use Rattle.capture_defs.specs.Fault.{Fault, code, place}
+use Rattle.pcap_defs.specs.Fault.{Fault, code, place}
 use Rattle.packet_defs.specs.declared.packet.Packet.{Packet}
 use Rattle.course_core.specs.declared.packets.Halt.{Halt}
 use Rattle.course_core.specs.declared.packets.Halt.TheVariants as halt

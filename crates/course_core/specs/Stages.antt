@@ -4,9 +4,9 @@ use Rattle.std.specs.List.{AllByRecursion}
 use Rattle.tree_defs.specs.SourceTree.{size}
 use Rattle.packet_defs.specs.declared.packet.Packet.{Packet}
 use Rattle.policy_defs.specs.Policy.{Policy}
-use Rattle.schedule_defs.specs.SourceState.{SourceState, start}
-use Rattle.schedule_defs.specs.Events.{Event, Arrive, Depart, arrivals_in, departures_in}
-use Rattle.schedule_defs.specs.Numbered.{AreNumberedFrom, IsSendable, IsHeldBelow}
+use Rattle.sched_defs.specs.SourceState.{SourceState, start}
+use Rattle.sched_defs.specs.Events.{Event, Arrive, Depart, arrivals_in, departures_in}
+use Rattle.sched_defs.specs.Numbered.{AreNumberedFrom, IsSendable, IsHeldBelow}
 use Rattle.sched_core.specs.declared.scheduler.Scheduler.{Ghosts}
 use Rattle.sched_core.specs.Standing.{ForEachState}
 use Rattle.run_core.specs.Played.{Plays, StopsIn}

@@ -2,7 +2,7 @@
 use Rattle.std.specs.Prelude.{ℕ}
 use Rattle.events_core.specs.declared.step.Step as line
 use Rattle.events_core.specs.declared.step.Step.TheVariants as line_step
-use Rattle.schedule_defs.specs.Script.{Step, Arrivals, Departures, Rest, Drain}
+use Rattle.sched_defs.specs.Script.{Step, Arrivals, Departures, Rest, Drain}
 
 abbrev pub step_of : line.Step → Step
 step_of (line_step.Arrive n) = Arrivals n

@@ -2,10 +2,10 @@
 use Rattle.std.specs.Prelude.{◌≡◌, ◌≤◌, ◌<◌, ℕ, Option, None, Some, option_map, List, ◌++◌, map, length, IfSome, IfNone, ⊤}
 use Rattle.packet_defs.specs.declared.packet.Packet.{Packet}
 use Rattle.policy_defs.specs.Policy.{Policy}
-use Rattle.schedule_defs.specs.SourceState.{SourceState}
-use Rattle.schedule_defs.specs.Events.{Event, Arrive, outcomes}
-use Rattle.schedule_defs.specs.Script.{Step, step_events, left_by, stop_at}
-use Rattle.schedule_defs.specs.Report.{empty_in}
+use Rattle.sched_defs.specs.SourceState.{SourceState}
+use Rattle.sched_defs.specs.Events.{Event, Arrive, outcomes}
+use Rattle.sched_defs.specs.Script.{Step, step_events, left_by, stop_at}
+use Rattle.sched_defs.specs.Report.{empty_in}
 use Rattle.sched_core.specs.declared.scheduler.Scheduler.{Ghosts}
 use Rattle.course_core.specs.declared.ending.Ending.{Ending}
 use Rattle.course_core.specs.declared.ending.Ending.TheVariants.{Whole, BadCapture, PastLast}

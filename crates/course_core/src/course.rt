@@ -5,7 +5,7 @@ ghost use Rattle.report_defs.specs.Text.{Begins, IsCut};
 ghost use Rattle.report_core.specs.Gathered.{text_of};
 ghost use Rattle.tree_defs.specs.Tree.{depth};
 ghost use Rattle.policy_defs.specs.Accepted.{IsAccepted};
-ghost use Rattle.schedule_defs.specs.Script.{at_end};
+ghost use Rattle.sched_defs.specs.Script.{at_end};
 ghost use Rattle.sched_core.specs.Standing.{StandForOne};
 ghost use Rattle.events_core.specs.Steps.{counts_of};
 ghost use Rattle.course_core.specs.Endings.{ended, last_line};

@@ -1,7 +1,7 @@
 ghost use Rattle.std.specs.Prelude.{◌≡◌, ◌≤◌, ◌+◌, ℕ, Option, [], ◌∷◌, is_some, if◌then◌else◌, IfOk, IfErr, IfSome, IfNone, OnOk, IsErrOf};
 ghost use Rattle.outside_core.specs.Faults.{Rose};
 ghost use Rattle.policy_defs.specs.Policy.{Policy};
-ghost use Rattle.schedule_defs.specs.Numbered.{IsSendable};
+ghost use Rattle.sched_defs.specs.Numbered.{IsSendable};
 ghost use Rattle.course_core.specs.Packets.{Left, Came, IsOver, IsHalt};
 
 use packet_defs::Packet;

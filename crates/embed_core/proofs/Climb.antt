@@ -1,11 +1,11 @@
 -- The search for the least height, level by level.
 use Rattle.std.proofs.Common.{◌≡◌, ℕ, zero, suc, ◌+◌, ◌/◌, ◌%◌, ◌<◌, ◌≤◌, min, eqb, List, [], ◌∷◌, length, get_or, refl, arith}
 use Rattle.std.specs.List.{count_by}
-use Rattle.placement_defs.specs.Need.{IsLeast, FitsBelow, AreLower, enough}
+use Rattle.embed_defs.specs.Need.{IsLeast, FitsBelow, AreLower, enough}
 use Rattle.target_defs.specs.Levels.{Arities}
-use Rattle.placement_defs.specs.Laws.{AreWide}
-use Rattle.placement_defs.proofs.Exists.{wide-positive}
-use Rattle.placement_defs.proofs.Carry.{times, carried, times-count, carried-fits, carried-bound}
+use Rattle.embed_defs.specs.Laws.{AreWide}
+use Rattle.embed_defs.proofs.Exists.{wide-positive}
+use Rattle.embed_defs.proofs.Carry.{times, carried, times-count, carried-fits, carried-bound}
 
 lower-each : (h : ℕ) (ns : List ℕ) → ((k : ℕ) → k < length ns → get_or ns k 0 < h) → AreLower h ns
 lower-each h [] f = tt

@@ -5,14 +5,14 @@ use Rattle.tree_defs.specs.Tree.{Tree, inner, Trees, trees_of, nodes, nodes_belo
 use Rattle.tree_defs.specs.Topology.{Topology, IsBranched}
 use Rattle.tree_core.specs.Shape.{topology}
 use Rattle.tree_core.specs.TreeContents.{branch}
-use Rattle.placement_defs.specs.Need.{IsLeast, FitsBelow, needs_at, HoldNeeds, AreNeedsOf, enough}
+use Rattle.embed_defs.specs.Need.{IsLeast, FitsBelow, needs_at, HoldNeeds, AreNeedsOf, enough}
 use Rattle.target_defs.specs.Levels.{Arities}
-use Rattle.placement_defs.specs.Laws.{AreWide}
+use Rattle.embed_defs.specs.Laws.{AreWide}
 use Rattle.tree_core.specs.declared.topo.Topo.{Topo}
 use Rattle.tree_core.specs.declared.topo.Topo.TheViews as views
 use Rattle.tree_defs.proofs.Shapes.{topology_of-same, topologies_of-same, nodes-topology, nodes_below-topology}
 use Rattle.tree_core.proofs.Grown.{topology_inner}
-use Rattle.placement_defs.proofs.Exists.{enough-nodes}
+use Rattle.embed_defs.proofs.Exists.{enough-nodes}
 
 -- the needs of each of some topologies
 abbrev pub AreNeedsOfEach : Arities → List Topology → List (Tree ℕ) → Type 0

@@ -5,9 +5,9 @@ use Rattle.std.proofs.lemmas.List.{take_at, drop_all, drop_more, get_or-drop, le
 use borrow.Rule.Slice.PartMut.{put_mid}
 use Rattle.tree_defs.specs.Tree.{Tree, leaf, inner, Trees, none, more, trees_of, root_of, Address, LeadsToLeaf, LeadsBelow}
 use Rattle.tree_core.specs.TreeContents.{branch}
-use Rattle.placement_defs.specs.Images.{image_map}
-use Rattle.lift_defs.specs.Lift.{lift_ranks, lift_ranks_below}
-use Rattle.lift_defs.specs.GoodMaps.{IsDeep, AreDeep}
+use Rattle.embed_defs.specs.Images.{image_map}
+use Rattle.embed_lift_defs.specs.Lift.{lift_ranks, lift_ranks_below}
+use Rattle.embed_lift_defs.specs.GoodMaps.{IsDeep, AreDeep}
 use Rattle.embed_core.proofs.Looking.{child-at}
 
 root-branch : (e : Address) (ts : Trees Address) → root_of (branch e ts) ≡ e

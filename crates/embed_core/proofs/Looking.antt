@@ -4,8 +4,8 @@ use Rattle.std.specs.Prelude.{option_map}
 use Rattle.std.proofs.lemmas.List.{take_all}
 use Rattle.tree_defs.specs.Tree.{Tree, trees_of, root_of, Address, subtree, subtree_in}
 use Rattle.tree_core.specs.TreeContents.{branch}
-use Rattle.placement_defs.specs.Need.{HasHeight}
-use Rattle.placement_defs.specs.Images.{image_at}
+use Rattle.embed_defs.specs.Need.{HasHeight}
+use Rattle.embed_defs.specs.Images.{image_at}
 
 pub child-at : (ks : List (Tree Address)) (i : ℕ) (k : Tree Address) (b : Address) → i < length ks → k ≡ get_or ks i k → subtree_in (trees_of ks) i b ≡ subtree k b
 child-at [] i k b l e = absurd (omega arith)

@@ -12,7 +12,7 @@ use Rattle.std.specs.Ordering.{nat_cmp, is_gt, is_lt, ordering_then, ordering_re
 use Rattle.std.specs.Cmp.{IsStrictWeakOrder}
 use Rattle.tree_defs.specs.Tree.{Tree, leaf, root_of, Address}
 use Rattle.tree_defs.specs.Topology.{after, IsPrefixOf}
-use Rattle.placement_defs.proofs.Addresses.{some_of_cond}
+use Rattle.embed_defs.proofs.Addresses.{some_of_cond}
 use Rattle.embed_core.specs.ImageOrder.{is_behind, child_image, IsImageOrder, AreApart, IsOnSide}
 
 behind-head : (a b : ℕ) (c x : Address) → a < b → is_behind (b ∷ c) (a ∷ x) ≡ true

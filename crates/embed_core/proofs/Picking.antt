@@ -7,11 +7,11 @@ use Rattle.tree_defs.specs.Topology.{after, IsPrefixOf}
 use Rattle.tree_defs.proofs.TopologyLaws.{after-append, after-is}
 use Rattle.tree_core.specs.Paths.{Way}
 use Rattle.tree_core.specs.TreeContents.{branch}
-use Rattle.placement_defs.specs.Images.{image_map}
-use Rattle.placement_defs.specs.Placed.{IsApartFrom}
-use Rattle.placement_defs.proofs.Addresses.{one_prefix}
-use Rattle.lift_defs.specs.Lift.{picked_ranks, picked_ranks_below}
-use Rattle.lift_defs.specs.GoodMaps.{IsDeep, IsNested, AreNested}
+use Rattle.embed_defs.specs.Images.{image_map}
+use Rattle.embed_defs.specs.Placed.{IsApartFrom}
+use Rattle.embed_defs.proofs.Addresses.{one_prefix}
+use Rattle.embed_lift_defs.specs.Lift.{picked_ranks, picked_ranks_below}
+use Rattle.embed_lift_defs.specs.GoodMaps.{IsDeep, IsNested, AreNested}
 use Rattle.embed_core.specs.ImageOrder.{child_image, AreApart, IsOnSide}
 use Rattle.embed_core.specs.Picks.{LeadsToImage, IsLeafImage, PicksOnto}
 use Rattle.embed_core.proofs.Looking.{child-at}

@@ -5,11 +5,11 @@ use Rattle.target_defs.specs.Target.{lowest}
 use Rattle.target_defs.specs.Levels.{down_from}
 use Rattle.target_defs.proofs.LevelLaws.{heights_give-holds, heights_in_range-holds}
 use Rattle.target_core.specs.declared.target.Target.{Target}
-use Rattle.placement_defs.specs.Embedding.{HasEmbedding}
-use Rattle.placement_defs.specs.Need.{IsLeast}
-use Rattle.placement_defs.specs.Laws.{AreWide}
-use Rattle.placement_defs.proofs.Levels.{ArePositive}
-use Rattle.placement_defs.proofs.Exists.{wide-positive}
+use Rattle.embed_defs.specs.Embedding.{HasEmbedding}
+use Rattle.embed_defs.specs.Need.{IsLeast}
+use Rattle.embed_defs.specs.Laws.{AreWide}
+use Rattle.embed_defs.proofs.Levels.{ArePositive}
+use Rattle.embed_defs.proofs.Exists.{wide-positive}
 use Rattle.target_defs.specs.Target.{IsInRange}
 use Rattle.embed_core.specs.Range.{levels_of}
 

@@ -3,14 +3,14 @@ use Rattle.std.proofs.Common.{◌≡◌, ℕ, zero, suc, ◌+◌, ◌<◌, ◌�
 use Rattle.std.proofs.lemmas.List.{drop_all}
 use Rattle.tree_defs.specs.Tree.{Tree, Trees, trees_of, root_of}
 use Rattle.tree_defs.specs.Topology.{IsWithin}
-use Rattle.placement_defs.specs.Need.{FitsBelow, needs_at, leaves_below}
-use Rattle.placement_defs.specs.Canonical.{Child, comes_before, digits, start_of, children, IsAmong}
-use Rattle.placement_defs.specs.Counting.{value}
+use Rattle.embed_defs.specs.Need.{FitsBelow, needs_at, leaves_below}
+use Rattle.embed_defs.specs.Canonical.{Child, comes_before, digits, start_of, children, IsAmong}
+use Rattle.embed_defs.specs.Counting.{value}
 use Rattle.target_defs.specs.Levels.{Arities, down_from}
-use Rattle.placement_defs.proofs.Levels.{ArePositive}
-use Rattle.placement_defs.proofs.Blocks.{start-below}
-use Rattle.placement_defs.proofs.CanonicalPlaced.{all-leaves}
-use Rattle.placement_defs.proofs.Value.{digits-value}
+use Rattle.embed_defs.proofs.Levels.{ArePositive}
+use Rattle.embed_defs.proofs.Blocks.{start-below}
+use Rattle.embed_defs.proofs.CanonicalPlaced.{all-leaves}
+use Rattle.embed_defs.proofs.Value.{digits-value}
 
 -- the children that are left, from the next on
 rest-children : (ks : List (Tree ℕ)) (i j : ℕ) (k : Tree ℕ) → i < length ks → k ≡ get_or ks i k → children (trees_of (drop i ks)) j ≡ (j, root_of k) ∷ children (trees_of (drop (i + 1) ks)) (suc j)

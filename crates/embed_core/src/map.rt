@@ -4,12 +4,12 @@ ghost use Rattle.tree_defs.specs.Tree.{nodes, depth as levels, root_of, LeadsToL
 ghost use Rattle.tree_defs.specs.Topology.{IsBranched, complete};
 ghost use Rattle.tree_core.specs.Shape.{topology};
 ghost use Rattle.target_defs.specs.Target.{IsInRange, lowest};
-ghost use Rattle.placement_defs.specs.Embedding.{IsEmbedding, HasEmbedding};
-ghost use Rattle.placement_defs.specs.Need.{IsLeast, IsNeed, HoldsNeeds, HasHeight};
-ghost use Rattle.placement_defs.specs.Canonical.{canonical, IsCanonical};
-ghost use Rattle.placement_defs.specs.Images.{image_at, image_map};
-ghost use Rattle.lift_defs.specs.Lift.{lift_ranks, picked_ranks};
-ghost use Rattle.lift_defs.specs.GoodMaps.{IsGoodMap, IsDeep, IsNested};
+ghost use Rattle.embed_defs.specs.Embedding.{IsEmbedding, HasEmbedding};
+ghost use Rattle.embed_defs.specs.Need.{IsLeast, IsNeed, HoldsNeeds, HasHeight};
+ghost use Rattle.embed_defs.specs.Canonical.{canonical, IsCanonical};
+ghost use Rattle.embed_defs.specs.Images.{image_at, image_map};
+ghost use Rattle.embed_lift_defs.specs.Lift.{lift_ranks, picked_ranks};
+ghost use Rattle.embed_lift_defs.specs.GoodMaps.{IsGoodMap, IsDeep, IsNested};
 ghost use Rattle.embed_core.specs.Range.{levels_of};
 ghost use Rattle.embed_core.specs.Picks.{IsLeafImage, PicksOnto};
 

@@ -3,7 +3,7 @@ ghost use Rattle.tree_defs.specs.Tree.{leaf, inner, none, more, depth, LeadsToLe
 ghost use Rattle.target_defs.specs.Target.{IsInRange, IsTarget};
 ghost use Rattle.tree_core.specs.Shape.{topology};
 ghost use Rattle.tree_core.specs.Paths.{digits as digits_on, digits_of};
-ghost use Rattle.lift_defs.specs.GoodMaps.{IsGoodMap};
+ghost use Rattle.embed_lift_defs.specs.GoodMaps.{IsGoodMap};
 
 use crate::{EmbedFault, Map, Target, embed, least_height, lift, pick};
 use list_core::List;

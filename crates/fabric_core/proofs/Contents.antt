@@ -3,7 +3,7 @@ use Rattle.std.proofs.Common.{◌≡◌, ℕ, zero, suc, ◌<◌, List, [], ◌�
 use Rattle.std.proofs.lemmas.List.{map-set, get_or-map, length-map}
 use Rattle.std.proofs.Math.Seq.{map-set_same}
 use Rattle.std.specs.List.{AllByRecursion}
-use Rattle.queue_defs.specs.Queue.{Queue, put}
+use Rattle.pifo_defs.specs.Queue.{Queue, put}
 use Rattle.pifo_core.specs.Sorted.{Contents}
 use Rattle.fabric_core.specs.Array.{entries_of, pushes_of, spare_of, put_at}
 

@@ -3,8 +3,8 @@ use Rattle.std.proofs.Common.{◌≡◌, ◌≢◌, ℕ, zero, suc, ◌+◌, ◌
 use Rattle.std.specs.Prelude.{slice_index, option_map}
 use Rattle.std.proofs.lemmas.Bool.{cases_Bool, cases_lt, eqb-true, eqb-false, eq-eqb, ne_eqb}
 use mathlib.Core.Path.{fun_ext}
-use Rattle.queue_defs.specs.Queue.{Queue, Taking, put, take_from, take_least}
-use Rattle.queue_defs.proofs.TakeLeast.{take_from-front, take_from-behind, length-put, length-rest}
+use Rattle.pifo_defs.specs.Queue.{Queue, Taking, put, take_from, take_least}
+use Rattle.pifo_defs.proofs.TakeLeast.{take_from-front, take_from-behind, length-put, length-rest}
 use Rattle.tree_defs.specs.Tree.{Popping}
 use Rattle.tree_defs.specs.SourceTree.{times}
 use Rattle.tree_defs.proofs.Options.{option_map-some, option_bind-some}

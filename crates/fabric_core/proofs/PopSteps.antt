@@ -3,7 +3,7 @@ use Rattle.std.proofs.Common.{◌≡◌, ◌≢◌, ℕ, ◌+◌, ◌*◌, ◌<�
 use Rattle.std.specs.Prelude.{option_map}
 use Rattle.std.proofs.lemmas.List.{drop_more, drop_all, take_all, take_more_set, append_assoc, append-nil}
 use Rattle.std.proofs.Math.Seq.{map-set_same}
-use Rattle.queue_defs.specs.Queue.{Queue, Taking, take_least}
+use Rattle.pifo_defs.specs.Queue.{Queue, Taking, take_least}
 use Rattle.tree_defs.specs.Tree.{Popping, option_bind}
 use Rattle.pifo_core.specs.Sorted.{Contents}
 use Rattle.fabric_core.specs.Array.{nodes, queues_at, entries_of, pushes_of, of_last, of_digit, array_pop}

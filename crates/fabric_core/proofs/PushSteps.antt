@@ -3,7 +3,7 @@ use Rattle.std.proofs.Common.{◌≡◌, ℕ, ◌+◌, ◌*◌, ◌^◌, ◌<◌
 use Rattle.std.proofs.lemmas.List.{drop_more, drop_all, get_or-drop}
 use Rattle.std.specs.List.{AllByRecursion}
 use mathlib.Core.Path.{fun_ext}
-use Rattle.queue_defs.specs.Queue.{Queue, put}
+use Rattle.pifo_defs.specs.Queue.{Queue, put}
 use Rattle.pifo_core.specs.Sorted.{Contents}
 use Rattle.fabric_defs.specs.Family.{Address, IsLeafAddress, HasRoomAlong}
 use Rattle.fabric_core.specs.Array.{nodes, room_at, entries_of, pushes_of, spare_of, put_at, array_push}

@@ -1,7 +1,7 @@
 -- The queues of a complete tree in one array, level by level from the root. Child x of the node at a place of its level
 -- stands at that place times the level's arity, and x, of the level below.
 use Rattle.std.specs.Prelude.{◌≡◌, refl, ℕ, ◌+◌, ◌*◌, List, [], ◌∷◌, Option, option_map, map, nat_lt, slice_index, slice_index_or, slice_set, drop, if◌then◌else◌}
-use Rattle.queue_defs.specs.Queue.{Queue, Taking, put, take_least}
+use Rattle.pifo_defs.specs.Queue.{Queue, Taking, put, take_least}
 use Rattle.tree_defs.specs.Tree.{Popping, option_bind}
 use Rattle.pifo_core.specs.Sorted.{Contents}
 use Rattle.fabric_defs.specs.Family.{Address, Family}

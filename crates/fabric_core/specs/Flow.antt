@@ -1,7 +1,7 @@
 -- What the queues of a fabric keep.
 use Rattle.std.specs.Prelude.{ℕ, ◌≡◌, ◌<◌, List, [], ◌∷◌, length}
 use Rattle.std.specs.List.{AllByRecursion}
-use Rattle.queue_defs.specs.Queue.{Queue}
+use Rattle.pifo_defs.specs.Queue.{Queue}
 use Rattle.tree_defs.specs.SourceTree.{times}
 use Rattle.fabric_defs.specs.Family.{Family, below}
 

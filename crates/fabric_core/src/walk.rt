@@ -2,7 +2,7 @@
 ghost use Rattle.std.specs.Prelude.{ℕ, ◌≡◌, ◌≢◌, ◌≤◌, ◌<◌, ◌+◌, ◌^◌, [], Some, length, OnOk};
 ghost use Rattle.std.specs.List.{AllByRecursion};
 ghost use Rattle.target_defs.specs.Target.{IsTarget};
-ghost use Rattle.queue_defs.specs.Queue.{take_least};
+ghost use Rattle.pifo_defs.specs.Queue.{take_least};
 ghost use Rattle.fabric_defs.specs.Family.{IsLeafAddress, HasRoomAlong};
 ghost use Rattle.fabric_core.specs.Array.{nodes, queues_at, room_at, entries_of, pushes_of, spare_of, array_push, array_pop};
 ghost use Rattle.fabric_core.specs.Flow.{IsFlow};

@@ -1,7 +1,7 @@
 -- A complete tree of queues as a family: one queue for each address.
 use Rattle.std.specs.Prelude.{◌≡◌, refl, ℕ, zero, suc, ◌<◌, ◌≤◌, List, [], ◌∷◌, Option, Some, option_map, nat_eq, slice_index, drop, if◌then◌else◌}
 use Rattle.std.specs.List.{AllByRecursion}
-use Rattle.queue_defs.specs.Queue.{Queue, put, take_least, Taking}
+use Rattle.pifo_defs.specs.Queue.{Queue, put, take_least, Taking}
 use Rattle.tree_defs.specs.Tree.{Popping, option_bind}
 
 -- the digits from the root down

@@ -1,7 +1,7 @@
 -- Pushes that pass an entry of a greater rank of their own child.
 use Rattle.std.specs.Prelude.{◌≡◌, refl, ℕ, ◌+◌, Bool, true, false, ◌&&◌, List, [], ◌∷◌, nat_eq, nat_lt, slice_index, drop, if◌then◌else◌}
 use Rattle.std.specs.List.{list_any}
-use Rattle.queue_defs.specs.Queue.{Queue}
+use Rattle.pifo_defs.specs.Queue.{Queue}
 use Rattle.fabric_defs.specs.Family.{Address, Family, below}
 
 -- an entry of this digit and a greater rank stands in an inner node's queue

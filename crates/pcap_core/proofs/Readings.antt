@@ -1,12 +1,12 @@
 -- What a reader's answers say of the one reading of the file, for the crates above.
 use Rattle.std.proofs.Common.{◌≡◌, ◌<◌, ◌+◌, ℕ, Bool, Option, Some, None, List, [], ◌++◌, refl, ap, ◌∙◌}
 use Rattle.std.specs.Prelude.{IfSome}
-use Rattle.capture_defs.specs.declared.head.Head.{Head}
-use Rattle.capture_defs.specs.Fault.{Fault}
-use Rattle.capture_defs.specs.Header.{IsHeaderFault}
-use Rattle.capture_defs.specs.Record.{Record, IsRecordFault, most_records}
-use Rattle.capture_defs.specs.Reading.{packets, refused, records_left, with_first, capture_of}
-use Rattle.capture_defs.proofs.ReadingLaws.{records_left-nothing, records_left-fault, records_left-record, capture_of-header, capture_of-fault}
+use Rattle.pcap_defs.specs.declared.head.Head.{Head}
+use Rattle.pcap_defs.specs.Fault.{Fault}
+use Rattle.pcap_defs.specs.Header.{IsHeaderFault}
+use Rattle.pcap_defs.specs.Record.{Record, IsRecordFault, most_records}
+use Rattle.pcap_defs.specs.Reading.{packets, refused, records_left, with_first, capture_of}
+use Rattle.pcap_defs.proofs.ReadingLaws.{records_left-nothing, records_left-fault, records_left-record, capture_of-header, capture_of-fault}
 use Rattle.pcap_core.specs.Rest.{TakesHeader, TakesRecord, IsWhole}
 
 -- where a header was read, the capture has it, and the records that are left

@@ -1,16 +1,16 @@
 -- What the pieces taken from what is left say of it.
 use Rattle.std.proofs.Common.{true, false, Ok, Err, ◌≡◌, ◌<◌, ◌≤◌, ◌+◌, ℕ, Bool, Option, Some, None, List, [], ◌++◌, length, IfSome, refl, sym, ap, ◌∙◌, subst, arith, append_assoc, length-append}
 use Rattle.std.proofs.lemmas.List.{drop_at}
-use Rattle.capture_defs.specs.declared.head.Head.{Head}
-use Rattle.capture_defs.specs.Number.{long_at}
-use Rattle.capture_defs.specs.Fault.{Fault, header_cut, bad_magic, pcap_ng, version, record_cut, data_cut, record_long, too_many}
-use Rattle.capture_defs.specs.Header.{IsHeader, IsHeaderFault}
-use Rattle.capture_defs.specs.Record.{Record, IsSpelling, IsRecordFault, captured_len, moment_at, most_captured, most_records, record_len}
-use Rattle.capture_defs.specs.Reading.{front_of, found, broken}
-use Rattle.capture_defs.specs.Reading.{head_of as head_in_file}
-use Rattle.capture_defs.proofs.Numbers.{number_at-append}
-use Rattle.capture_defs.proofs.Headers.{head_of-header, head_of-fault}
-use Rattle.capture_defs.proofs.Fronts.{front_of-spelled, front_of-fault}
+use Rattle.pcap_defs.specs.declared.head.Head.{Head}
+use Rattle.pcap_defs.specs.Number.{long_at}
+use Rattle.pcap_defs.specs.Fault.{Fault, header_cut, bad_magic, pcap_ng, version, record_cut, data_cut, record_long, too_many}
+use Rattle.pcap_defs.specs.Header.{IsHeader, IsHeaderFault}
+use Rattle.pcap_defs.specs.Record.{Record, IsSpelling, IsRecordFault, captured_len, moment_at, most_captured, most_records, record_len}
+use Rattle.pcap_defs.specs.Reading.{front_of, found, broken}
+use Rattle.pcap_defs.specs.Reading.{head_of as head_in_file}
+use Rattle.pcap_defs.proofs.Numbers.{number_at-append}
+use Rattle.pcap_defs.proofs.Headers.{head_of-header, head_of-fault}
+use Rattle.pcap_defs.proofs.Fronts.{front_of-spelled, front_of-fault}
 use Rattle.pcap_core.specs.Rest.{rest_of, TakesFront, TakesHeader, TakesRecord, IsWhole, LeavesNothing, IsShort}
 use Rattle.pcap_core.specs.Frames.{IsFrameOf, IsFrontFault}
 

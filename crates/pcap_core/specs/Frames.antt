@@ -1,7 +1,7 @@
 -- What a frame says of its record.
 use Rattle.std.specs.Prelude.{◌≡◌, ℕ, Bool, List}
-use Rattle.capture_defs.specs.Fault.{Fault, data_cut}
-use Rattle.capture_defs.specs.Record.{Record, moment, IsRecordFault}
+use Rattle.pcap_defs.specs.Fault.{Fault, data_cut}
+use Rattle.pcap_defs.specs.Record.{Record, moment, IsRecordFault}
 use Rattle.pcap_core.specs.declared.frame.Frame.{Frame}
 
 -- The frame is that of the record, and these are the captured bytes.

@@ -1,7 +1,7 @@
 -- What a reader of captures stands for.
 use Rattle.std.specs.Prelude.{◌≡◌, ℕ, Bool, true, false, Option, None, List, []}
 use Rattle.std.specs.Option.{option_map_or}
-use Rattle.capture_defs.specs.declared.head.Head.{Head}
+use Rattle.pcap_defs.specs.declared.head.Head.{Head}
 use Rattle.pcap_core.specs.Held.{held}
 use Rattle.pcap_core.specs.Rest.{rest_of}
 use Rattle.pcap_core.specs.declared.reader.Reader.{Reader}

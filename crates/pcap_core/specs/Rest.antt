@@ -1,9 +1,9 @@
 -- What is left of a capture: the bytes that a reader holds, and those left of the file.
 use Rattle.std.specs.Prelude.{◌≡◌, ◌<◌, ◌≤◌, ℕ, Bool, Option, Some, None, List, [], ◌++◌, length, IfSome, IsTrue, ⊤}
 use Rattle.outside_core.specs.Files.{KeepsFiles}
-use Rattle.capture_defs.specs.declared.head.Head.{Head}
-use Rattle.capture_defs.specs.Header.{IsHeader}
-use Rattle.capture_defs.specs.Record.{Record, IsSpelling}
+use Rattle.pcap_defs.specs.declared.head.Head.{Head}
+use Rattle.pcap_defs.specs.Header.{IsHeader}
+use Rattle.pcap_defs.specs.Record.{Record, IsSpelling}
 
 -- where the shelf tells what is left of the file
 abbrev pub rest_of : List ℕ → Option (List ℕ) → Option (List ℕ)

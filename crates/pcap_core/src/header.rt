@@ -1,11 +1,11 @@
 //! The file header of a capture.
 ghost use Rattle.std.specs.Prelude.{◌≡◌, ◌≤◌, ◌↔◌, Bool, length, IsTrue, IfOk, IfErr, IfSome, IfNone, IsSomeAnd, IsErr};
-ghost use Rattle.capture_defs.specs.Header.{HasMagic, IsHeader, IsHeaderFault, magic_number};
+ghost use Rattle.pcap_defs.specs.Header.{HasMagic, IsHeader, IsHeaderFault, magic_number};
 ghost use Rattle.pcap_core.specs.Faults.{fault_in};
 
 use crate::fault::CaptureFault;
 use crate::number::{read_long, read_short};
-use capture_defs::Head;
+use pcap_defs::Head;
 
 /// The bytes of a file header.
 pub const HEADER_LEN: usize = 24;
@@ -16,7 +16,7 @@ const MAJOR_VERSION: u16 = 2;
 
 /// The number that a capture begins with.
 fn magic_number(nano: bool) -> u32
-    ensures { result ≡ Rattle.capture_defs.specs.Header.magic_number nano }
+    ensures { result ≡ Rattle.pcap_defs.specs.Header.magic_number nano }
 {
     if nano { 0xA1B2_3C4D } else { 0xA1B2_C3D4 }
 }

@@ -9,7 +9,7 @@ mod preface;
 mod reader;
 mod window;
 
-pub use capture_defs::Head;
+pub use pcap_defs::Head;
 pub use fault::CaptureFault;
 pub use frame::Frame;
 pub use reader::Reader;

@@ -1,6 +1,6 @@
 //! Numbers in a capture, in its byte order.
 ghost use Rattle.std.specs.Prelude.{◌≡◌, ◌≤◌, ◌+◌, length};
-ghost use Rattle.capture_defs.specs.Number.{long_at, short_at};
+ghost use Rattle.pcap_defs.specs.Number.{long_at, short_at};
 
 use byteorder::{BigEndian, ByteOrder, LittleEndian};
 

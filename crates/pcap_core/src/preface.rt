@@ -1,13 +1,13 @@
 //! The sixteen bytes count a record's captured ones.
 ghost use Rattle.std.specs.Prelude.{◌≡◌, ◌≤◌, ◌<◌, ◌+◌, ◌*◌, ◌^◌, length, IfOk, IfErr, IsSomeAnd};
-ghost use Rattle.capture_defs.specs.Number.{long_at};
-ghost use Rattle.capture_defs.specs.Record.{captured_len, moment_at};
+ghost use Rattle.pcap_defs.specs.Number.{long_at};
+ghost use Rattle.pcap_defs.specs.Record.{captured_len, moment_at};
 ghost use Rattle.pcap_core.specs.Faults.{fault_in};
 ghost use Rattle.pcap_core.specs.Frames.{IsFrontFault};
 
 use crate::fault::CaptureFault;
 use crate::number::read_long;
-use capture_defs::Head;
+use pcap_defs::Head;
 
 /// The bytes of a record count its captured ones.
 pub const RECORD_LEN: usize = 16;

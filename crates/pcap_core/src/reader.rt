@@ -1,9 +1,9 @@
 ghost use Rattle.std.specs.Prelude.{◌≡◌, ◌≤◌, ◌<◌, ◌+◌, ◌^◌, ◌↔◌, ℕ, List, Option, Some, None, [], length, vec_len, IfOk, IfErr, OnOk, OnErr, IfSome, IfNone, OnSome, IsErrOf, IsErr, IsTrue, IsFalse};
 ghost use Rattle.outside_core.specs.Faults.{Rose};
 ghost use Rattle.outside_core.specs.Files.{KeepsFiles};
-ghost use Rattle.capture_defs.specs.Fault.{Fault};
-ghost use Rattle.capture_defs.specs.Header.{IsHeaderFault};
-ghost use Rattle.capture_defs.specs.Record.{Record, IsRecordFault};
+ghost use Rattle.pcap_defs.specs.Fault.{Fault};
+ghost use Rattle.pcap_defs.specs.Header.{IsHeaderFault};
+ghost use Rattle.pcap_defs.specs.Record.{Record, IsRecordFault};
 ghost use Rattle.pcap_core.specs.Faults.{fault_in};
 ghost use Rattle.pcap_core.specs.Frames.{IsFrameOf};
 ghost use Rattle.pcap_core.specs.Held.{held};
@@ -14,7 +14,7 @@ use crate::frame::Frame;
 use crate::header::{HEADER_LEN, head_in};
 use crate::preface::{RECORD_LEN, preface_in};
 use crate::window::Window;
-use capture_defs::Head;
+use pcap_defs::Head;
 use outside_core::Shelf;
 use std::alloc::Global;
 
@@ -98,9 +98,9 @@ impl Reader {
     ghost use Rattle.std.specs.Prelude.{◌≡◌, ◌≤◌, ◌<◌, ◌+◌, ◌^◌, ◌↔◌, ℕ, List, Option, Some, None, [], length, vec_len, IfOk, IfErr, OnOk, OnErr, IfSome, IfNone, OnSome, IsErrOf, IsErr, IsOk, IsSome, IsTrue, IsFalse, MatchResult, is_some, if◌then◌else◌};
     ghost use Rattle.outside_core.specs.Faults.{Rose};
     ghost use Rattle.outside_core.specs.Files.{KeepsFiles};
-    ghost use Rattle.capture_defs.specs.Fault.{Fault};
-    ghost use Rattle.capture_defs.specs.Header.{IsHeaderFault};
-    ghost use Rattle.capture_defs.specs.Record.{Record, IsRecordFault};
+    ghost use Rattle.pcap_defs.specs.Fault.{Fault};
+    ghost use Rattle.pcap_defs.specs.Header.{IsHeaderFault};
+    ghost use Rattle.pcap_defs.specs.Record.{Record, IsRecordFault};
     ghost use Rattle.pcap_core.specs.Faults.{fault_in};
     ghost use Rattle.pcap_core.specs.Frames.{IsFrameOf};
     ghost use Rattle.pcap_core.specs.Rest.{rest_of, TakesHeader, TakesRecord, IsWhole, LeavesNothing};

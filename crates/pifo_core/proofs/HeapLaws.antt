@@ -10,7 +10,7 @@ use Rattle.std.proofs.lemmas.List.Sorted.{IsPermutation-map, All-permutation}
 use Rattle.std.proofs.lemmas.List.Elements.{All-from_recursion, recursion_from_All}
 use Rattle.std.proofs.lemmas.Map.Keys.{IsDistinct-IsPermutation}
 use Rattle.std.proofs.Math.Nat.{eq-or-lt_of_le}
-use Rattle.queue_defs.specs.Queue.{put, take_least}
+use Rattle.pifo_defs.specs.Queue.{put, take_least}
 use Rattle.pifo_core.specs.declared.held.Held.{Held}
 use Rattle.pifo_core.specs.Held.{queue_of, Leaves, ArrivedBefore}
 use Rattle.pifo_core.specs.Heaped.{held_of, heap_order, arrived_together, IsHeaped}

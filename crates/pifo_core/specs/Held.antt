@@ -1,7 +1,7 @@
 -- The pairs that stand in a queue, read from what it holds.
 use Rattle.std.specs.Prelude.{◌≡◌, ◌<◌, ◌⊎◌, ℕ, List, [], ◌∷◌, map, if◌then◌else◌, nat_lt}
 use Rattle.std.specs.List.{AllByRecursion}
-use Rattle.queue_defs.specs.Queue.{Queue}
+use Rattle.pifo_defs.specs.Queue.{Queue}
 use Rattle.pifo_core.specs.declared.held.Held.{Held}
 
 -- an entry among others in the order of their arrival

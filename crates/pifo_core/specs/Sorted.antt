@@ -1,6 +1,6 @@
 -- What a queue kept in the order of leaving keeps.
 use Rattle.std.specs.Prelude.{ℕ, List}
-use Rattle.queue_defs.specs.Queue.{Queue}
+use Rattle.pifo_defs.specs.Queue.{Queue}
 use Rattle.pifo_core.specs.declared.held.Held.{Held}
 use Rattle.pifo_core.specs.Held.{InLeavingOrder, ArrivedBefore}
 

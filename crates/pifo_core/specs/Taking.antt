@@ -1,6 +1,6 @@
 -- What a pop answers and leaves.
 use Rattle.std.specs.Prelude.{◌≡◌, ℕ, Option, None, Some, []}
-use Rattle.queue_defs.specs.Queue.{Queue, take_least}
+use Rattle.pifo_defs.specs.Queue.{Queue, take_least}
 
 -- the earliest pair of the least rank leaves, and none where there is none
 abbrev pub Pops : Queue → Option (ℕ × ℕ) → Queue → Type 0

@@ -1,5 +1,5 @@
 ghost use Rattle.std.specs.Prelude.{◌≡◌, ◌+◌, ◌^◌, ◌<◌, ◌≤◌, ℕ, length, OnOk};
-ghost use Rattle.queue_defs.specs.Queue.{Queue, put};
+ghost use Rattle.pifo_defs.specs.Queue.{Queue, put};
 ghost use Rattle.pifo_core.specs.Taking.{Pops};
 
 use std::alloc::AllocError;

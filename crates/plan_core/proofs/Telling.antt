@@ -3,7 +3,7 @@ use Rattle.std.proofs.Common.{◌≡◌, ℕ, List, [], Option, None, Some, Bor,
 use Rattle.std.specs.Prelude.{IsSomeAnd, MatchOption, unwrap_or}
 use Rattle.std.specs.Option.{option_map_or}
 use Rattle.tree_defs.specs.Tree.{Tree, Address}
-use Rattle.placement_defs.specs.Images.{image_at, image_map}
+use Rattle.embed_defs.specs.Images.{image_at, image_map}
 use Rattle.policy_defs.specs.Policy.{Policy, Node, node_at, name_at}
 
 named : (o : Option Node) (name : List ℕ) → IsSomeAnd o (λ n. name ≡ n.name) → name ≡ option_map_or (λ n. n.name) o []

@@ -1,10 +1,10 @@
 -- A policy and a target have a plan.
 use Rattle.std.proofs.Common.{◌≡◌, ℕ, ◌-◌, true, false, List, length, ◌++◌, inl, inr, refl, sym, subst, ◌∙◌, arith}
-use Rattle.placement_defs.specs.Embedding.{HasEmbedding}
-use Rattle.placement_defs.specs.Images.{image_map}
-use Rattle.placement_defs.specs.Laws.{AreWide}
-use Rattle.placement_defs.proofs.Laws.{topologies_have_one_need-holds}
-use Rattle.placement_defs.proofs.Room.{there_or_none}
+use Rattle.embed_defs.specs.Embedding.{HasEmbedding}
+use Rattle.embed_defs.specs.Images.{image_map}
+use Rattle.embed_defs.specs.Laws.{AreWide}
+use Rattle.embed_defs.proofs.Laws.{topologies_have_one_need-holds}
+use Rattle.embed_defs.proofs.Room.{there_or_none}
 use Rattle.target_defs.specs.Levels.{levels, down_from}
 use Rattle.target_defs.proofs.LevelLaws.{heights_give-holds, heights_in_range-holds}
 use Rattle.tree_defs.specs.Topology.{topology_of, complete}

@@ -6,10 +6,10 @@ use Rattle.std.specs.Fmt.{digits}
 use Rattle.tree_defs.specs.Tree.{Tree, leaf, Address}
 use Rattle.tree_defs.specs.Topology.{topology_of, complete}
 use Rattle.target_defs.specs.Levels.{levels}
-use Rattle.placement_defs.specs.Embedding.{HasEmbedding}
-use Rattle.placement_defs.specs.Need.{IsNeed}
-use Rattle.placement_defs.specs.Canonical.{IsCanonical}
-use Rattle.placement_defs.specs.Images.{image_map}
+use Rattle.embed_defs.specs.Embedding.{HasEmbedding}
+use Rattle.embed_defs.specs.Need.{IsNeed}
+use Rattle.embed_defs.specs.Canonical.{IsCanonical}
+use Rattle.embed_defs.specs.Images.{image_map}
 use Rattle.policy_defs.specs.Policy.{Policy, name_at, one_leaf}
 use Rattle.report_defs.specs.Report.{line_of}
 use Rattle.plan_defs.specs.Preorder.{addresses}

@@ -12,32 +12,32 @@ use Rattle.policy_text_defs.specs.declared.condition.Condition.{Condition}
 use Rattle.policy_text_defs.specs.Sense.{Entry}
 use Rattle.policy_defs.specs.Policy.{Node, Class as Aimed}
 use Rattle.policy_defs.specs.Accepted.{IsAccepted}
-use Rattle.resolve_defs.specs.Names.{Name, declared, class_name, node_name}
-use Rattle.resolve_defs.specs.Clauses.{root, most_nodes}
-use Rattle.resolve_defs.specs.Programs.{place, programs}
-use Rattle.resolve_defs.specs.Accepted.{AreAccepted}
-use Rattle.resolve_defs.specs.Graph.{graph_of, nodes_in}
-use Rattle.resolve_defs.specs.Resolved.{Declared, IsResolved, IsTreeIn, AreClassesOf, classes_in}
+use Rattle.policy_rules.specs.Names.{Name, declared, class_name, node_name}
+use Rattle.policy_rules.specs.Clauses.{root, most_nodes}
+use Rattle.policy_rules.specs.Programs.{place, programs}
+use Rattle.policy_rules.specs.Accepted.{AreAccepted}
+use Rattle.policy_rules.specs.Graph.{graph_of, nodes_in}
+use Rattle.policy_rules.specs.Resolved.{Declared, IsResolved, IsTreeIn, AreClassesOf, classes_in}
 use Rattle.tree_defs.proofs.Shapes.{nodes-topology, depth-topology}
-use Rattle.resolve_defs.specs.Entries.{AreRising}
-use Rattle.lineage_core.specs.Descent.{times}
-use Rattle.lineage_core.specs.Row.{Row, row, row_at, nodes_of}
-use Rattle.lineage_core.specs.Preorder.{Numbered, rows, IsTreeBelow, IsSound}
-use Rattle.lineage_core.proofs.Growing.{length-rows}
-use Rattle.assembly_core.specs.Labels.{node_numbered, nodes_at}
-use Rattle.assembly_core.specs.Homes.{IsHome, AreHomes, classes_at}
-use Rattle.assembly_core.specs.Laws.{AreValid, IsNodeTree}
-use Rattle.assembly_core.proofs.Agreement.{nodes-agree}
-use Rattle.assembly_core.proofs.Classes.{classes-of, names-classes}
-use Rattle.assembly_core.proofs.Resolving.{node-tree}
-use Rattle.assembly_core.proofs.Shape.{topology-map}
-use Rattle.assembly_core.proofs.Acceptable.{acceptable}
-use Rattle.assembly_core.proofs.Accepting.{root-there}
-use Rattle.resolve_defs.proofs.Places.{found, place-within}
-use Rattle.assembly_core.proofs.Passing.{length-graph}
-use Rattle.assembly_core.proofs.Homing.{length-nodes}
-use Rattle.assembly_core.proofs.Inverse.{node-within}
-use Rattle.family_core.proofs.Named.{named}
+use Rattle.policy_rules.specs.Entries.{AreRising}
+use Rattle.tree_graph.specs.Descent.{times}
+use Rattle.tree_graph.specs.Row.{Row, row, row_at, nodes_of}
+use Rattle.tree_graph.specs.Preorder.{Numbered, rows, IsTreeBelow, IsSound}
+use Rattle.tree_graph.proofs.Growing.{length-rows}
+use Rattle.policy_places.specs.Labels.{node_numbered, nodes_at}
+use Rattle.policy_places.specs.Homes.{IsHome, AreHomes, classes_at}
+use Rattle.policy_places.specs.Laws.{AreValid, IsNodeTree}
+use Rattle.policy_places.proofs.Agreement.{nodes-agree}
+use Rattle.policy_places.proofs.Classes.{classes-of, names-classes}
+use Rattle.policy_places.proofs.Resolving.{node-tree}
+use Rattle.policy_places.proofs.Shape.{topology-map}
+use Rattle.policy_places.proofs.Acceptable.{acceptable}
+use Rattle.policy_places.proofs.Accepting.{root-there}
+use Rattle.policy_rules.proofs.Places.{found, place-within}
+use Rattle.policy_places.proofs.Passing.{length-graph}
+use Rattle.policy_places.proofs.Homing.{length-nodes}
+use Rattle.policy_places.proofs.Inverse.{node-within}
+use Rattle.policy_family.proofs.Named.{named}
 use Rattle.policy_core.specs.declared.parts.Station.{Station}
 use Rattle.policy_core.specs.declared.parts.Class.{Class}
 use Rattle.policy_core.specs.Numbering.{nodes_from, address_at}

@@ -4,11 +4,11 @@ use Rattle.std.specs.List.{cons_option}
 use Rattle.std.proofs.lemmas.Bool.{eqb-false}
 use Rattle.policy_text_defs.specs.declared.condition.Condition.{Condition}
 use Rattle.policy_text_defs.specs.Sense.{Sense, Entry, version, transaction, keep, each, push, pop, class, leaf, node}
-use Rattle.resolve_defs.specs.Names.{declared, class_name}
-use Rattle.resolve_defs.specs.Entries.{AreRising}
-use Rattle.resolve_defs.specs.Clauses.{NoLine, IsBeyond, is_beyond, most_classes, has_catch_all, has_catch_all_behind}
-use Rattle.resolve_defs.specs.Resolved.{Declared, classes_in}
-use Rattle.resolve_defs.proofs.Spaces.{declared-few}
+use Rattle.policy_rules.specs.Names.{declared, class_name}
+use Rattle.policy_rules.specs.Entries.{AreRising}
+use Rattle.policy_rules.specs.Clauses.{NoLine, IsBeyond, is_beyond, most_classes, has_catch_all, has_catch_all_behind}
+use Rattle.policy_rules.specs.Resolved.{Declared, classes_in}
+use Rattle.policy_rules.proofs.Spaces.{declared-few}
 use Rattle.policy_core.specs.Parts.{HasCatchAll}
 
 -- ---- at most so many

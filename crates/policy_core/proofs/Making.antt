@@ -7,9 +7,9 @@ use Rattle.policy_text_defs.specs.declared.condition.Condition.{Condition}
 use Rattle.policy_text_defs.specs.declared.statement.Statement.{Statement}
 use Rattle.policy_text_defs.specs.declared.statement.Statement.TheVariants as statement
 use Rattle.policy_text_defs.specs.Sense.{sense_of}
-use Rattle.resolve_defs.specs.Entries.{entries_of}
-use Rattle.resolve_defs.specs.Resolved.{Declared, class_in, classes_in, marks_of}
-use Rattle.resolve_defs.proofs.Lines.{given-more, given-within}
+use Rattle.policy_rules.specs.Entries.{entries_of}
+use Rattle.policy_rules.specs.Resolved.{Declared, class_in, classes_in, marks_of}
+use Rattle.policy_rules.proofs.Lines.{given-more, given-within}
 use Rattle.policy_core.specs.declared.parts.Class.{Class}
 use Rattle.policy_core.specs.Made.{Made, made, made_of}
 

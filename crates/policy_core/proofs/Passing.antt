@@ -2,11 +2,11 @@
 use Rattle.std.proofs.Common.{◌≡◌, ◌<◌, ℕ, true, List, subst, length, get_or}
 use Rattle.policy_text_defs.specs.declared.statement.Statement.{Statement}
 use Rattle.policy_text_defs.specs.Sense.{Entry, sense_of}
-use Rattle.resolve_defs.specs.Entries.{entries_of}
-use Rattle.resolve_defs.specs.Names.{before}
-use Rattle.resolve_defs.specs.Clauses.{NoLine, IsUnknown, is_known}
-use Rattle.resolve_defs.proofs.Lines.{entry_of, within-entries, entry-at}
-use Rattle.assembly_core.proofs.Accepting.{known-at}
+use Rattle.policy_rules.specs.Entries.{entries_of}
+use Rattle.policy_rules.specs.Names.{before}
+use Rattle.policy_rules.specs.Clauses.{NoLine, IsUnknown, is_known}
+use Rattle.policy_rules.proofs.Lines.{entry_of, within-entries, entry-at}
+use Rattle.policy_places.proofs.Accepting.{known-at}
 
 -- what a line uses is declared
 pub known-here : (lines : List (ℕ × Statement)) (i : ℕ) (l : ℕ × Statement) → NoLine (IsUnknown (entries_of lines)) (entries_of lines) → i < length lines → l ≡ get_or lines i l

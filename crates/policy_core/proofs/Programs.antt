@@ -4,11 +4,11 @@ use Rattle.std.specs.Prelude.{slice_get, is_some, unwrap_or}
 use Rattle.std.specs.Option.{option_and_then}
 use Rattle.rank_defs.specs.Builtins.{fifo}
 use Rattle.policy_text_defs.specs.Sense.{Entry}
-use Rattle.resolve_defs.specs.Names.{Name}
-use Rattle.resolve_defs.specs.Clauses.{is_transaction_known}
-use Rattle.resolve_defs.specs.Programs.{program_named}
-use Rattle.binding_core.specs.Known.{known_programs}
-use Rattle.assembly_core.proofs.Programs.{program-there}
+use Rattle.policy_rules.specs.Names.{Name}
+use Rattle.policy_rules.specs.Clauses.{is_transaction_known}
+use Rattle.policy_rules.specs.Programs.{program_named}
+use Rattle.policy_programs.specs.Known.{known_programs}
+use Rattle.policy_places.proofs.Programs.{program-there}
 use Rattle.policy_core.specs.Made.{IsPlaceOf}
 use Rattle.policy_core.specs.Parts.{no_program}
 

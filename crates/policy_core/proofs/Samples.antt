@@ -2,9 +2,9 @@
 use Rattle.std.proofs.Common.{◌≡◌, ◌≢◌, ℕ, zero, suc, ◌<◌, List, [], refl, sym, ap, ◌∙◌, arith}
 use Rattle.tree_defs.specs.Tree.{Tree, root_of}
 use Rattle.tree_defs.specs.Topology.{Topology, topology_of}
-use Rattle.lineage_core.specs.Descent.{Graph, Leads, IsChild, IsForest, IsDeep, HasOneParent}
-use Rattle.lineage_core.specs.Preorder.{IsTreeOf, IsTreeBelow, Numbered, numbered, rows}
-use Rattle.lineage_core.proofs.OneTree.{one-tree}
+use Rattle.tree_graph.specs.Descent.{Graph, Leads, IsChild, IsForest, IsDeep, HasOneParent}
+use Rattle.tree_graph.specs.Preorder.{IsTreeOf, IsTreeBelow, Numbered, numbered, rows}
+use Rattle.tree_graph.proofs.OneTree.{one-tree}
 use Rattle.policy_core.specs.Samples.{childless}
 
 pub tree-below : (g : Graph) (root : ℕ) (t : Tree ℕ) (p : Numbered) → IsTreeOf g t → root_of t ≡ root → IsTreeBelow g root p → p ≡ numbered (rows 0 [] t) (topology_of t)

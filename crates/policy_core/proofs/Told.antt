@@ -4,11 +4,11 @@ use Rattle.std.proofs.lemmas.List.{get_or_append_left, get_or-append-add}
 use Rattle.tree_defs.specs.Tree.{Tree, leaf, inner, Trees, none, more, Address, nodes, nodes_below}
 use Rattle.tree_defs.specs.Topology.{topology_of, topologies_of}
 use Rattle.tree_defs.proofs.Shapes.{nodes-topology}
-use Rattle.lineage_core.specs.Row.{Row, row, row_at}
-use Rattle.lineage_core.specs.Preorder.{rows, rows_below}
-use Rattle.lineage_core.proofs.Growing.{length-rows}
+use Rattle.tree_graph.specs.Row.{Row, row, row_at}
+use Rattle.tree_graph.specs.Preorder.{rows, rows_below}
+use Rattle.tree_graph.proofs.Growing.{length-rows}
 use Rattle.policy_core.specs.Numbering.{nodes_from, nodes_from_below}
-use Rattle.assembly_core.specs.Labels.{map_tree, map_trees}
+use Rattle.policy_places.specs.Labels.{map_tree, map_trees}
 
 -- a function of numbers agrees with one of nodes on rows, the first of which has number n
 abbrev Agrees : {Q : Type 0} → (ℕ → Q) → (ℕ → Q) → ℕ → List Row → ℕ → Type 0

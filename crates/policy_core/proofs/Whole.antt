@@ -10,15 +10,15 @@ use Rattle.rank_defs.specs.Programs.{Program}
 use Rattle.policy_defs.specs.Policy.{Node, node_at}
 use Rattle.policy_defs.specs.Accepted.{IsAccepted}
 use Rattle.policy_defs.specs.Numbers.{number_at}
-use Rattle.resolve_defs.specs.Resolved.{Resolved}
-use Rattle.resolve_defs.proofs.Lists.{all-weaker}
-use Rattle.lineage_core.specs.Row.{Row, row, row_at}
-use Rattle.lineage_core.specs.Preorder.{Numbered}
-use Rattle.lineage_core.proofs.Growing.{length-rows}
+use Rattle.policy_rules.specs.Resolved.{Resolved}
+use Rattle.policy_rules.proofs.Lists.{all-weaker}
+use Rattle.tree_graph.specs.Row.{Row, row, row_at}
+use Rattle.tree_graph.specs.Preorder.{Numbered}
+use Rattle.tree_graph.proofs.Growing.{length-rows}
 use Rattle.policy_core.specs.declared.parts.Station.{Station}
 use Rattle.policy_core.specs.declared.parts.Class.{Class}
 use Rattle.policy_core.specs.Numbering.{address_at}
-use Rattle.resolve_defs.specs.Clauses.{most_nodes}
+use Rattle.policy_rules.specs.Clauses.{most_nodes}
 use Rattle.policy_core.specs.Parts.{resolved, tree_of, node_of, station_at, no_station, no_program, told, AreNumbered, IsWhole}
 use Rattle.policy_core.proofs.Numbers.{IsAddress, address-undone, address_at-topology, address-down, address-up, topology_of-nodes, node_numbered}
 use Rattle.policy_core.proofs.Rows.{IsRowAt, row-numbered}

@@ -8,7 +8,7 @@ use Rattle.range_core.specs.Codes.{program_code}
 use Rattle.policy_defs.specs.Policy.{Policy, Node, Class, Marks}
 use Rattle.policy_text_defs.specs.declared.condition.Condition.{Condition}
 use Rattle.policy_text_defs.specs.contracts.condition.Condition as condition_row
-use Rattle.resolve_defs.specs.Resolved.{Resolved}
+use Rattle.policy_rules.specs.Resolved.{Resolved}
 
 abbrev condition_code : Coded Condition
 condition_code = condition_row.the_row.coded

@@ -2,12 +2,12 @@
 use Rattle.std.specs.Prelude.{ℕ, ◌≡◌, ◌<◌, []}
 use Rattle.tree_defs.specs.Tree.{Tree, Address, IsAddressOf, nodes}
 use Rattle.tree_defs.specs.Topology.{topology_of}
-use Rattle.lineage_core.specs.Row.{row_at}
-use Rattle.lineage_core.specs.Preorder.{rows}
+use Rattle.tree_graph.specs.Row.{row_at}
+use Rattle.tree_graph.specs.Preorder.{rows}
 use Rattle.policy_defs.specs.Policy.{Node}
 use Rattle.policy_defs.specs.Numbers.{number_at}
 use Rattle.policy_core.specs.Numbering.{address_at, nodes_from}
-use Rattle.assembly_core.specs.Labels.{map_tree}
+use Rattle.policy_places.specs.Labels.{map_tree}
 
 -- the number at an address stands for it
 pub record IsNumberOf (tree : Tree Node) (a : Address) (n : ℕ) : Type 0 where

@@ -7,11 +7,11 @@ use Rattle.policy_text_defs.specs.declared.condition.Condition.{Condition}
 use Rattle.policy_defs.specs.Policy.{Node, Marks as Told}
 use Rattle.policy_text_defs.specs.declared.attribute.Attrs.{Attrs}
 use Rattle.policy_text_defs.specs.Sense.{Sense, Entry}
-use Rattle.resolve_defs.specs.Names.{Name}
-use Rattle.resolve_defs.specs.Programs.{program_named}
-use Rattle.resolve_defs.specs.Graph.{node_in, said}
-use Rattle.resolve_defs.specs.Resolved.{Declared}
-use Rattle.binding_core.specs.Known.{known_programs}
+use Rattle.policy_rules.specs.Names.{Name}
+use Rattle.policy_rules.specs.Programs.{program_named}
+use Rattle.policy_rules.specs.Graph.{node_in, said}
+use Rattle.policy_rules.specs.Resolved.{Declared}
+use Rattle.policy_programs.specs.Known.{known_programs}
 use Rattle.policy_core.specs.declared.parts.Station.{Station}
 use Rattle.policy_core.specs.declared.parts.Class.{Class}
 use Rattle.policy_core.specs.Parts.{told, node_of, no_program, HavePrograms}

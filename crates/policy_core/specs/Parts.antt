@@ -6,10 +6,10 @@ use Rattle.rank_defs.specs.Programs.{Program}
 use Rattle.policy_text_defs.specs.declared.condition.Condition.{Condition}
 use Rattle.policy_defs.specs.Policy.{Node, Class as Aimed, Marks as Told}
 use Rattle.policy_defs.specs.Accepted.{IsAccepted}
-use Rattle.resolve_defs.specs.Clauses.{most_nodes}
-use Rattle.resolve_defs.specs.Resolved.{Resolved}
-use Rattle.lineage_core.specs.Row.{row_at}
-use Rattle.lineage_core.specs.Preorder.{Numbered, IsNumberedBy}
+use Rattle.policy_rules.specs.Clauses.{most_nodes}
+use Rattle.policy_rules.specs.Resolved.{Resolved}
+use Rattle.tree_graph.specs.Row.{row_at}
+use Rattle.tree_graph.specs.Preorder.{Numbered, IsNumberedBy}
 use Rattle.policy_core.specs.declared.parts.Marks.{Marks}
 use Rattle.policy_core.specs.declared.parts.Station.{Station}
 use Rattle.policy_core.specs.declared.parts.Class.{Class}

@@ -6,9 +6,9 @@ use Rattle.rank_defs.specs.Programs.{Program}
 use Rattle.rank_defs.specs.Builtins.{fifo, shortest}
 use Rattle.policy_text_defs.specs.declared.condition.Condition.TheVariants.{Ipv4}
 use Rattle.policy_defs.specs.Policy.{Node, one_leaf}
-use Rattle.resolve_defs.specs.Resolved.{Resolved}
-use Rattle.lineage_core.specs.Descent.{Graph}
-use Rattle.lineage_core.specs.Preorder.{Numbered, numbered, rows, three_levels}
+use Rattle.policy_rules.specs.Resolved.{Resolved}
+use Rattle.tree_graph.specs.Descent.{Graph}
+use Rattle.tree_graph.specs.Preorder.{Numbered, numbered, rows, three_levels}
 use Rattle.policy_core.specs.declared.parts.Marks.{Marks}
 use Rattle.policy_core.specs.declared.parts.Station.{Station}
 use Rattle.policy_core.specs.declared.parts.Class.{Class}

@@ -1,8 +1,8 @@
 //! The classes that statements declare.
 ghost use Rattle.std.specs.Prelude.{◌≡◌, ◌≤◌, length, map, IfOk};
-ghost use Rattle.resolve_defs.specs.Clauses.{NoLine, IsBeyond};
-ghost use Rattle.resolve_defs.specs.Entries.{entries_of, AreRising};
-ghost use Rattle.resolve_defs.specs.Resolved.{classes_in, marks_of};
+ghost use Rattle.policy_rules.specs.Clauses.{NoLine, IsBeyond};
+ghost use Rattle.policy_rules.specs.Entries.{entries_of, AreRising};
+ghost use Rattle.policy_rules.specs.Resolved.{classes_in, marks_of};
 ghost use Rattle.policy_core.specs.Made.{made, made_of};
 
 use crate::parts::Class;

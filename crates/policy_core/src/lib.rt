@@ -12,7 +12,7 @@ pub use laws::{addresses_undo_numbers, numbers_undo_addresses, rows_tell_the_tre
 pub use parts::{Class, Marks, Station};
 pub use policy::Policy;
 pub use resolution::resolve;
-pub use resolve_defs::PolicyFault;
+pub use policy_rules::PolicyFault;
 
 #[cfg(test)]
 mod tests;

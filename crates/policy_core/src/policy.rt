@@ -8,11 +8,11 @@ ghost use Rattle.policy_defs.specs.Accepted.{IsAccepted};
 ghost use Rattle.policy_defs.specs.Numbers.{number_at};
 ghost use Rattle.policy_core.specs.Numbering.{address_at};
 ghost use Rattle.policy_core.specs.Parts.{resolved, told, class_in, AreNumbered, HaveStations, HavePrograms, HaveLeaves, HasCatchAll, most_classes, station_at};
-ghost use Rattle.lineage_core.specs.Row.{row_at};
-ghost use Rattle.resolve_defs.specs.Clauses.{most_nodes};
+ghost use Rattle.tree_graph.specs.Row.{row_at};
+ghost use Rattle.policy_rules.specs.Clauses.{most_nodes};
 
 use crate::parts::{Class, Marks, Station};
-use lineage_core::Preorder;
+use tree_graph::Preorder;
 use list_core::List;
 use policy_defs::Names;
 use range_core::Checked;
@@ -29,7 +29,7 @@ pub struct Policy {
 }
 
 impl Model for Policy {
-    ghost use Rattle.resolve_defs.specs.Resolved.{Resolved};
+    ghost use Rattle.policy_rules.specs.Resolved.{Resolved};
     ghost use Rattle.policy_core.specs.Codes.{resolved_code};
     ghost use Rattle.policy_core.specs.Parts.{resolved, IsWhole};
 

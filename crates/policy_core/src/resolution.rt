@@ -1,28 +1,28 @@
 //! The policy that statements give.
 ghost use Rattle.std.specs.Prelude.{◌≡◌, IfOk, IfErr, OnOk};
-ghost use Rattle.resolve_defs.specs.Accepted.{AreAccepted, IsFault};
-ghost use Rattle.resolve_defs.specs.Entries.{entries_of, AreRising};
-ghost use Rattle.resolve_defs.specs.Graph.{graph_of};
-ghost use Rattle.resolve_defs.specs.Resolved.{IsResolved};
-ghost use Rattle.lineage_core.specs.Descent.{lists};
-ghost use Rattle.binding_core.specs.Known.{known_programs};
-ghost use Rattle.declaration_core.specs.Kept.{AreSpaces};
-ghost use Rattle.assembly_core.specs.Laws.{AreValid};
+ghost use Rattle.policy_rules.specs.Accepted.{AreAccepted, IsFault};
+ghost use Rattle.policy_rules.specs.Entries.{entries_of, AreRising};
+ghost use Rattle.policy_rules.specs.Graph.{graph_of};
+ghost use Rattle.policy_rules.specs.Resolved.{IsResolved};
+ghost use Rattle.tree_graph.specs.Descent.{lists};
+ghost use Rattle.policy_programs.specs.Known.{known_programs};
+ghost use Rattle.policy_declarations.specs.Kept.{AreSpaces};
+ghost use Rattle.policy_places.specs.Laws.{AreValid};
 
 use crate::classes::classes;
 use crate::policy::Policy;
 use crate::stations::stations;
-use assembly_core::leaves;
-use binding_core::checked_transactions;
-use declaration_core::{Spaces, declarations};
-use family_core::{check_family, graph};
-use lineage_core::Preorder;
+use policy_places::leaves;
+use policy_programs::checked_transactions;
+use policy_declarations::{Spaces, declarations};
+use policy_family::{check_family, graph};
+use tree_graph::Preorder;
 use list_core::List;
-use listing_core::{check_leaves, check_parents};
+use policy_listings::{check_leaves, check_parents};
 use policy_text::Lines;
 use policy_text_defs::Statement;
 use range_core::Checked;
-use resolve_defs::PolicyFault;
+use policy_rules::PolicyFault;
 use std::alloc::{AllocError, Global};
 
 /// Puts the parts of accepted statements together. The error is want of memory.

@@ -1,20 +1,20 @@
 //! The stations of the nodes and leaves that statements declare.
 ghost use Rattle.std.specs.Prelude.{◌≡◌, true, List, IfOk, OnOk};
 ghost use Rattle.policy_text_defs.specs.Sense.{Entry, sense_of};
-ghost use Rattle.resolve_defs.specs.Accepted.{AreFew};
-ghost use Rattle.resolve_defs.specs.Clauses.{is_known, is_transaction_known};
-ghost use Rattle.resolve_defs.specs.Entries.{entries_of, AreRising};
-ghost use Rattle.resolve_defs.specs.Graph.{nodes_in};
-ghost use Rattle.resolve_defs.specs.Names.{declared, transaction_name};
-ghost use Rattle.resolve_defs.specs.Resolved.{marks_of};
-ghost use Rattle.binding_core.specs.Known.{known_programs};
+ghost use Rattle.policy_rules.specs.Accepted.{AreFew};
+ghost use Rattle.policy_rules.specs.Clauses.{is_known, is_transaction_known};
+ghost use Rattle.policy_rules.specs.Entries.{entries_of, AreRising};
+ghost use Rattle.policy_rules.specs.Graph.{nodes_in};
+ghost use Rattle.policy_rules.specs.Names.{declared, transaction_name};
+ghost use Rattle.policy_rules.specs.Resolved.{marks_of};
+ghost use Rattle.policy_programs.specs.Known.{known_programs};
 ghost use Rattle.policy_core.specs.Made.{nodes_told, IsPlaceOf, IsStationOf, AreMore};
 ghost use Rattle.policy_core.specs.Parts.{HavePrograms, told};
 
 use crate::parts::{Marks, Station};
-use binding_core::program_place;
+use policy_programs::program_place;
 use list_core::{List, Name};
-use names_core::Names;
+use policy_names::Names;
 use policy_text_defs::{Attrs, Statement};
 use std::alloc::{AllocError, Global};
 

@@ -1,11 +1,11 @@
 ghost use Rattle.std.specs.Prelude.{◌≡◌, ◌<◌, [], map, IfOk};
 ghost use Rattle.tree_defs.specs.Tree.{nodes};
 ghost use Rattle.rank_defs.specs.Programs.{program_of, assignment_of};
-ghost use Rattle.lineage_core.specs.Descent.{lists, two_below_a_root};
+ghost use Rattle.tree_graph.specs.Descent.{lists, two_below_a_root};
 ghost use Rattle.policy_core.specs.Samples.{station, two_programs, tree, stations, classes, of_three_levels, childless, lone_tree, lone_stations, lone_classes, of_one_leaf};
 
 use crate::{Class, Marks, Policy, Station};
-use lineage_core::Preorder;
+use tree_graph::Preorder;
 use list_core::{List, Name};
 use policy_defs::Names;
 use policy_text_defs::Condition;

@@ -5,12 +5,12 @@ use Rattle.std.proofs.lemmas.List.{get_or_default}
 use Rattle.rank_defs.specs.Checks.{Entry as Assigning, SomeAt, NoneAt, IsLeastAt, Clashes, IsWide, MayDivideByZero, entries as assignments_of}
 use Rattle.rank_defs.proofs.Faults.{faultless-checked}
 use Rattle.policy_text_defs.specs.Sense.{Entry}
-use Rattle.resolve_defs.specs.Clauses.{IsLeastLine, NoLine, IsMisplaced, IsAgain, IsUnknown, IsBeyond, IsOrphan, has_root, IsStray, has_catch_all}
-use Rattle.resolve_defs.specs.Families.{IsCyclic, IsTooDeep}
-use Rattle.resolve_defs.specs.Programs.{programs}
-use Rattle.resolve_defs.specs.Accepted.{ArePlaced, AreNew, AreKnown, AreFew, AreComputable, HaveParents, HaveRoot, AreAcyclic, AreShallow, HaveLeaves, IsFault}
-use Rattle.resolve_defs.specs.declared.fault.PolicyFault.{PolicyFault}
-use Rattle.resolve_defs.specs.declared.fault.PolicyFault.TheVariants.{Misplaced, Twice, Unknown, TooMany, TypeClash, Wide, DivZero, Parents, NoRoot, Cycle, Deep, ClassLeaf, NoCatchAll, NoMemory}
+use Rattle.policy_rules.specs.Clauses.{IsLeastLine, NoLine, IsMisplaced, IsAgain, IsUnknown, IsBeyond, IsOrphan, has_root, IsStray, has_catch_all}
+use Rattle.policy_rules.specs.Families.{IsCyclic, IsTooDeep}
+use Rattle.policy_rules.specs.Programs.{programs}
+use Rattle.policy_rules.specs.Accepted.{ArePlaced, AreNew, AreKnown, AreFew, AreComputable, HaveParents, HaveRoot, AreAcyclic, AreShallow, HaveLeaves, IsFault}
+use Rattle.policy_rules.specs.declared.fault.PolicyFault.{PolicyFault}
+use Rattle.policy_rules.specs.declared.fault.PolicyFault.TheVariants.{Misplaced, Twice, Unknown, TooMany, TypeClash, Wide, DivZero, Parents, NoRoot, Cycle, Deep, ClassLeaf, NoCatchAll, NoMemory}
 use Rattle.policy_laws.specs.Laws.{FaultlessAreAccepted}
 
 -- ---- where no line is the least, there is none

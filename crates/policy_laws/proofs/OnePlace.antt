@@ -9,12 +9,12 @@ use Rattle.std.proofs.lemmas.Slice.Eq.{bytes_eq-Decides}
 use Rattle.tree_defs.specs.Tree.{Tree, Address, root_of}
 use Rattle.policy_text_defs.specs.Sense.{Entry}
 use Rattle.policy_defs.specs.Policy.{Node, node_at}
-use Rattle.resolve_defs.specs.Names.{Name, times, is_once, listed, node_name, children}
-use Rattle.resolve_defs.specs.Clauses.{NoLine, IsOrphan, root}
-use Rattle.resolve_defs.specs.Families.{IsCyclic}
-use Rattle.resolve_defs.specs.Resolved.{IsTreeIn}
-use Rattle.listing_core.proofs.ListedOnce.{times-listed, one_lister, child-once}
-use Rattle.assembly_core.proofs.Programs.{some-same}
+use Rattle.policy_rules.specs.Names.{Name, times, is_once, listed, node_name, children}
+use Rattle.policy_rules.specs.Clauses.{NoLine, IsOrphan, root}
+use Rattle.policy_rules.specs.Families.{IsCyclic}
+use Rattle.policy_rules.specs.Resolved.{IsTreeIn}
+use Rattle.policy_listings.proofs.ListedOnce.{times-listed, one_lister, child-once}
+use Rattle.policy_places.proofs.Programs.{some-same}
 use Rattle.policy_laws.proofs.Statements.{at-one_place}
 use Rattle.policy_laws.proofs.Ways.{StandsAt, ListsAt, IsAbove, at-top, last-step, node-declared, no-second_root}
 

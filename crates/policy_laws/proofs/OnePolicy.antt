@@ -7,16 +7,16 @@ use Rattle.tree_defs.specs.Tree.{Tree, Address, root_of}
 use Rattle.policy_text_defs.specs.declared.condition.Condition.{Condition}
 use Rattle.policy_text_defs.specs.Sense.{Sense, Entry, version, transaction, keep, each, push, pop, class, leaf, node}
 use Rattle.policy_defs.specs.Policy.{Node, Class, Marks}
-use Rattle.resolve_defs.specs.Names.{Name, has, declared, node_name, class_name, leaf_classes}
-use Rattle.resolve_defs.specs.Clauses.{NoLine, IsAgain, IsOrphan, IsStray, root}
-use Rattle.resolve_defs.specs.Families.{IsCyclic}
-use Rattle.resolve_defs.specs.Accepted.{AreAccepted, HaveRoot, AreAcyclic, AreKnown}
-use Rattle.resolve_defs.specs.Resolved.{Resolved, IsTreeIn, ListsClass, IsLeafFor, Declared, classes_in, AreClassesOf}
-use Rattle.listing_core.proofs.ListedOnce.{class-one_leaf}
-use Rattle.assembly_core.proofs.Accepting.{strays-none}
-use Rattle.assembly_core.proofs.Programs.{some-same}
-use Rattle.assembly_core.proofs.Classes.{names-classes}
-use Rattle.resolve_defs.proofs.Places.{has-at}
+use Rattle.policy_rules.specs.Names.{Name, has, declared, node_name, class_name, leaf_classes}
+use Rattle.policy_rules.specs.Clauses.{NoLine, IsAgain, IsOrphan, IsStray, root}
+use Rattle.policy_rules.specs.Families.{IsCyclic}
+use Rattle.policy_rules.specs.Accepted.{AreAccepted, HaveRoot, AreAcyclic, AreKnown}
+use Rattle.policy_rules.specs.Resolved.{Resolved, IsTreeIn, ListsClass, IsLeafFor, Declared, classes_in, AreClassesOf}
+use Rattle.policy_listings.proofs.ListedOnce.{class-one_leaf}
+use Rattle.policy_places.proofs.Accepting.{strays-none}
+use Rattle.policy_places.proofs.Programs.{some-same}
+use Rattle.policy_places.proofs.Classes.{names-classes}
+use Rattle.policy_rules.proofs.Places.{has-at}
 use Rattle.policy_laws.specs.Laws.{StatementsGiveOnePolicy}
 use Rattle.policy_laws.proofs.Statements.{at-one_place}
 use Rattle.policy_laws.proofs.OneTree.{one-tree}

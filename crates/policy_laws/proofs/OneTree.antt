@@ -5,11 +5,11 @@ use Rattle.rank_defs.specs.Programs.{Program}
 use Rattle.policy_text_defs.specs.declared.attribute.Attrs.{Attrs}
 use Rattle.policy_text_defs.specs.Sense.{Sense, Entry, version, transaction, keep, each, push, pop, class, leaf, node}
 use Rattle.policy_defs.specs.Policy.{Node, Marks}
-use Rattle.resolve_defs.specs.Names.{Name, node_name, children}
-use Rattle.resolve_defs.specs.Clauses.{NoLine, IsAgain}
-use Rattle.resolve_defs.specs.Entries.{AreRising}
-use Rattle.resolve_defs.specs.Resolved.{IsNodeOf, IsLeafOf, IsInnerOf, IsTreeIn, AreTreesIn, names_of}
-use Rattle.assembly_core.proofs.Programs.{some-same}
+use Rattle.policy_rules.specs.Names.{Name, node_name, children}
+use Rattle.policy_rules.specs.Clauses.{NoLine, IsAgain}
+use Rattle.policy_rules.specs.Entries.{AreRising}
+use Rattle.policy_rules.specs.Resolved.{IsNodeOf, IsLeafOf, IsInnerOf, IsTreeIn, AreTreesIn, names_of}
+use Rattle.policy_places.proofs.Programs.{some-same}
 use Rattle.policy_laws.proofs.Statements.{of-one_statement}
 
 -- ---- one statement

@@ -7,31 +7,31 @@ use Rattle.std.proofs.lemmas.List.Elements.{recursion_from_All}
 use Rattle.std.proofs.lemmas.List.Sums.{sum_by-cons}
 use Rattle.tree_defs.specs.Tree.{Tree}
 use Rattle.policy_text_defs.specs.Sense.{Sense, Entry, version, transaction, keep, each, push, pop, class, leaf, node}
-use Rattle.resolve_defs.specs.Names.{Name, has, declared, node_name, class_name, children, leaf_classes}
-use Rattle.resolve_defs.specs.Clauses.{root}
-use Rattle.resolve_defs.specs.Entries.{AreRising}
-use Rattle.resolve_defs.specs.Programs.{place}
-use Rattle.resolve_defs.specs.Accepted.{AreAccepted}
-use Rattle.resolve_defs.specs.Graph.{graph_of}
-use Rattle.resolve_defs.specs.Resolved.{Resolved, Declared, IsResolved, ListsClass, classes_in}
-use Rattle.resolve_defs.proofs.Places.{has-at}
-use Rattle.lineage_core.specs.Descent.{IsForest, IsWithin, times}
-use Rattle.lineage_core.specs.Row.{Row, row, row_at, nodes_of}
-use Rattle.lineage_core.specs.Preorder.{IsTreeOf, preorder, rows}
-use Rattle.lineage_core.proofs.Once.{each_once}
-use Rattle.lineage_core.proofs.PreorderLaws.{nodes_of-rows}
-use Rattle.lineage_core.proofs.Sound.{shallow-root}
-use Rattle.listing_core.proofs.ListedOnce.{class-leaf, lists-leaf}
-use Rattle.family_core.proofs.Kinship.{IsNodeAt, node-of, length-graph, name-at, kids-at, some-name}
-use Rattle.family_core.proofs.Verdicts.{is-forest, is-shallow}
-use Rattle.assembly_core.specs.Labels.{nodes_at}
-use Rattle.assembly_core.specs.Homes.{IsLeafWith, IsHome, AreHomes, classes_at}
-use Rattle.assembly_core.specs.Laws.{IsNodeTree}
-use Rattle.assembly_core.proofs.Accepting.{strays-none}
-use Rattle.assembly_core.proofs.Classes.{classes-of}
-use Rattle.assembly_core.proofs.Homing.{length-nodes}
-use Rattle.assembly_core.proofs.Resolving.{node-tree}
-use Rattle.assembly_core.proofs.Resolving as resolving
+use Rattle.policy_rules.specs.Names.{Name, has, declared, node_name, class_name, children, leaf_classes}
+use Rattle.policy_rules.specs.Clauses.{root}
+use Rattle.policy_rules.specs.Entries.{AreRising}
+use Rattle.policy_rules.specs.Programs.{place}
+use Rattle.policy_rules.specs.Accepted.{AreAccepted}
+use Rattle.policy_rules.specs.Graph.{graph_of}
+use Rattle.policy_rules.specs.Resolved.{Resolved, Declared, IsResolved, ListsClass, classes_in}
+use Rattle.policy_rules.proofs.Places.{has-at}
+use Rattle.tree_graph.specs.Descent.{IsForest, IsWithin, times}
+use Rattle.tree_graph.specs.Row.{Row, row, row_at, nodes_of}
+use Rattle.tree_graph.specs.Preorder.{IsTreeOf, preorder, rows}
+use Rattle.tree_graph.proofs.Once.{each_once}
+use Rattle.tree_graph.proofs.PreorderLaws.{nodes_of-rows}
+use Rattle.tree_graph.proofs.Sound.{shallow-root}
+use Rattle.policy_listings.proofs.ListedOnce.{class-leaf, lists-leaf}
+use Rattle.policy_family.proofs.Kinship.{IsNodeAt, node-of, length-graph, name-at, kids-at, some-name}
+use Rattle.policy_family.proofs.Verdicts.{is-forest, is-shallow}
+use Rattle.policy_places.specs.Labels.{nodes_at}
+use Rattle.policy_places.specs.Homes.{IsLeafWith, IsHome, AreHomes, classes_at}
+use Rattle.policy_places.specs.Laws.{IsNodeTree}
+use Rattle.policy_places.proofs.Accepting.{strays-none}
+use Rattle.policy_places.proofs.Classes.{classes-of}
+use Rattle.policy_places.proofs.Homing.{length-nodes}
+use Rattle.policy_places.proofs.Resolving.{node-tree}
+use Rattle.policy_places.proofs.Resolving as resolving
 use Rattle.policy_laws.specs.Laws.{StatementsGiveAPolicy}
 use Rattle.policy_laws.proofs.GraphTrees.{HasTree, tree-there}
 

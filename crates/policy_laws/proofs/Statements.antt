@@ -7,11 +7,11 @@ use Rattle.std.proofs.lemmas.List.{length-take, get_or-take, get_or_default}
 use Rattle.std.proofs.lemmas.Slice.Eq.{bytes_eq-Decides}
 use Rattle.std.proofs.Math.Bool.{or-true}
 use Rattle.policy_text_defs.specs.Sense.{Sense, Entry, version, transaction, keep, each, push, pop, class, leaf, node}
-use Rattle.resolve_defs.specs.Names.{Name, has, declared, node_name, before}
-use Rattle.resolve_defs.specs.Clauses.{NoLine, IsAgain, is_declared}
-use Rattle.resolve_defs.specs.Entries.{AreRising}
-use Rattle.assembly_core.proofs.Programs.{none-some, some-same}
-use Rattle.resolve_defs.proofs.Earlier.{before-take}
+use Rattle.policy_rules.specs.Names.{Name, has, declared, node_name, before}
+use Rattle.policy_rules.specs.Clauses.{NoLine, IsAgain, is_declared}
+use Rattle.policy_rules.specs.Entries.{AreRising}
+use Rattle.policy_places.proofs.Programs.{none-some, some-same}
+use Rattle.policy_rules.proofs.Earlier.{before-take}
 
 later : (o : Option Name) (names : List Name) (a : Name) → has names a ≡ true → has (cons_option o names) a ≡ true
 later None names a there = there

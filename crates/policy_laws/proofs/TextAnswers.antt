@@ -9,8 +9,8 @@ use Rattle.policy_text_defs.specs.Sense.{Sense, Entry, entry}
 use Rattle.policy_text_defs.specs.Text.{is_shaping, Carries, Entries, over, empty, carried, Fault, not_text, shaping, syntax_fault, IsSound, blank_line, statement_line, FirstFault, here, later}
 use Rattle.policy_text_defs.specs.Valid.{IsValid}
 use Rattle.policy_text_defs.proofs.ValidLaws.{IsWritten_IsValid}
-use Rattle.resolve_defs.specs.Entries.{AreRising}
-use Rattle.assembly_core.specs.Laws.{AreValid}
+use Rattle.policy_rules.specs.Entries.{AreRising}
+use Rattle.policy_places.specs.Laws.{AreValid}
 use Rattle.policy_laws.specs.Laws.{PolicyTextsHaveAnAnswer, TextsHaveSoundEntries}
 
 -- ---- an answer

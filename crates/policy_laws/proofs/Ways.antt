@@ -4,11 +4,11 @@ use Rattle.std.specs.Prelude.{IsSomeAnd}
 use Rattle.tree_defs.specs.Tree.{Tree, leaf as leaf_of, inner, Trees, none, more, Address, root_of}
 use Rattle.policy_text_defs.specs.Sense.{Sense, Entry}
 use Rattle.policy_defs.specs.Policy.{Node, node_at, node_below}
-use Rattle.resolve_defs.specs.Names.{Name, has, declared, node_name, children}
-use Rattle.resolve_defs.specs.Clauses.{NoLine}
-use Rattle.resolve_defs.specs.Families.{NamesLead, IsDescendant, IsCyclic}
-use Rattle.resolve_defs.specs.Resolved.{IsLeafOf, IsInnerOf, IsTreeIn, AreTreesIn, names_of}
-use Rattle.assembly_core.proofs.Programs.{none-some, some-same}
+use Rattle.policy_rules.specs.Names.{Name, has, declared, node_name, children}
+use Rattle.policy_rules.specs.Clauses.{NoLine}
+use Rattle.policy_rules.specs.Families.{NamesLead, IsDescendant, IsCyclic}
+use Rattle.policy_rules.specs.Resolved.{IsLeafOf, IsInnerOf, IsTreeIn, AreTreesIn, names_of}
+use Rattle.policy_places.proofs.Programs.{none-some, some-same}
 use Rattle.policy_laws.proofs.Statements.{declared-there}
 use Rattle.policy_laws.proofs.OneTree.{leaf-name, inner-name, inner-children}
 

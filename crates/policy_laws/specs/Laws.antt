@@ -3,12 +3,12 @@ use Rattle.std.specs.Prelude.{◌≡◌, ◌≢◌, ◌≤◌, ℕ, List, length
 use Rattle.policy_text_defs.specs.Ranges.{most_text}
 use Rattle.policy_text_defs.specs.Sense.{Entry}
 use Rattle.policy_text_defs.specs.Text.{Fault, HasEntries, IsFirstFault}
-use Rattle.resolve_defs.specs.Entries.{AreRising}
-use Rattle.resolve_defs.specs.Accepted.{AreAccepted, IsFault}
-use Rattle.resolve_defs.specs.Resolved.{Resolved, IsResolved}
-use Rattle.resolve_defs.specs.declared.fault.PolicyFault.{PolicyFault}
-use Rattle.resolve_defs.specs.declared.fault.PolicyFault.TheVariants.{NoMemory}
-use Rattle.assembly_core.specs.Laws.{AreValid}
+use Rattle.policy_rules.specs.Entries.{AreRising}
+use Rattle.policy_rules.specs.Accepted.{AreAccepted, IsFault}
+use Rattle.policy_rules.specs.Resolved.{Resolved, IsResolved}
+use Rattle.policy_rules.specs.declared.fault.PolicyFault.{PolicyFault}
+use Rattle.policy_rules.specs.declared.fault.PolicyFault.TheVariants.{NoMemory}
+use Rattle.policy_places.specs.Laws.{AreValid}
 
 -- it is not so that a text which isn't too long has no statements and no line at fault
 abbrev pub PolicyTextsHaveAnAnswer : Type 0

@@ -5,7 +5,7 @@ use Rattle.std.proofs.lemmas.Result.{IfOk-weaker, on_ok_weaker, on_err_weaker}
 use Rattle.outside_core.specs.Written.{Appended, AppendedPrefix}
 use Rattle.report_core.specs.declared.fault.FaultKind.{FaultKind}
 use Rattle.fabric_core.specs.declared.fabric.Fabric.{Ghosts}
-use Rattle.embedded_core.specs.Fabrics.{IsAsItWas, Leaves, LeavesPart}
+use Rattle.sched_embedded.specs.Fabrics.{IsAsItWas, Leaves, LeavesPart}
 use Rattle.replay_app.specs.Answer.{Answer, refusal, Each, IsTold, IsLeft}
 use Rattle.replay_app.specs.Follows.{Follows, stops, goes_on}
 use Rattle.replay_app.specs.Statuses.{IsOneOf, status_code, kind_status}

@@ -6,19 +6,19 @@ use Rattle.std.proofs.lemmas.List.Kept.{AllPairs-cons}
 use Rattle.tree_defs.specs.Tree.{Tree, Address}
 use Rattle.tree_defs.specs.Topology.{Topology, topology_of, complete}
 use Rattle.target_defs.specs.Levels.{levels}
-use Rattle.placement_defs.specs.Canonical.{IsCanonical}
-use Rattle.placement_defs.specs.Embedding.{IsEmbedding}
-use Rattle.placement_defs.specs.Images.{image_map}
+use Rattle.embed_defs.specs.Canonical.{IsCanonical}
+use Rattle.embed_defs.specs.Embedding.{IsEmbedding}
+use Rattle.embed_defs.specs.Images.{image_map}
 use Rattle.policy_text_defs.specs.Ranges.{most_text}
 use Rattle.policy_text_defs.specs.Sense.{Entry}
 use Rattle.policy_text_defs.specs.Text.{HasEntries}
 use Rattle.policy_text_defs.proofs.TextLaws.{Entries-one, FirstFault-one, entries_no_fault}
-use Rattle.resolve_defs.specs.Accepted.{AreAccepted, IsFault}
-use Rattle.resolve_defs.specs.Codes.{code_of, line_of}
-use Rattle.resolve_defs.specs.Entries.{AreRising}
-use Rattle.resolve_defs.specs.declared.fault.PolicyFault.{PolicyFault}
-use Rattle.resolve_defs.specs.declared.fault.PolicyFault.TheVariants.{NoMemory}
-use Rattle.resolve_defs.proofs.OneFault.{one-fault, accepted-fault}
+use Rattle.policy_rules.specs.Accepted.{AreAccepted, IsFault}
+use Rattle.policy_rules.specs.Codes.{code_of, line_of}
+use Rattle.policy_rules.specs.Entries.{AreRising}
+use Rattle.policy_rules.specs.declared.fault.PolicyFault.{PolicyFault}
+use Rattle.policy_rules.specs.declared.fault.PolicyFault.TheVariants.{NoMemory}
+use Rattle.policy_rules.proofs.OneFault.{one-fault, accepted-fault}
 use Rattle.policy_text.proofs.EntryLaws.{Rises, entries_rise}
 use Rattle.policy_laws.proofs.OnePolicy.{one-policy}
 use Rattle.policy_defs.specs.Policy.{Policy}
@@ -26,7 +26,7 @@ use Rattle.events_core.specs.Script as script
 use Rattle.events_core.proofs.ScriptLaws.{IsScript-one, IsFirstFault-one, IsScript-IsFirstFault}
 use Rattle.target_core.specs.declared.target.Target.{Target}
 use Rattle.target_text_defs.proofs.OneAnswer.{one_answer-holds}
-use Rattle.placement_defs.proofs.Laws.{canonical_placements_are_one-holds}
+use Rattle.embed_defs.proofs.Laws.{canonical_placements_are_one-holds}
 use Rattle.replay_app.specs.Policies.{IsTextRefused, too_long, at_fault, fault_code, IsPolicyRefused, text_refused, statements_refused, Judged, IsPolicy}
 use Rattle.replay_app.specs.Scripts as scripts
 use Rattle.replay_app.specs.Targets.{IsTargetRefused, IsTargetOf, HasNoRoom, IsPlacement}

@@ -6,10 +6,10 @@ use Rattle.tree_defs.specs.Topology.{topology_of, complete}
 use Rattle.target_defs.specs.Levels.{levels}
 use Rattle.target_defs.specs.Target.{IsInRange}
 use Rattle.target_defs.proofs.LevelLaws.{heights_in_range-holds}
-use Rattle.placement_defs.specs.Embedding.{HasEmbedding, IsEmbedding}
-use Rattle.placement_defs.specs.Images.{image_map}
-use Rattle.placement_defs.specs.Laws.{AreWide}
-use Rattle.placement_defs.proofs.Room.{there_or_none}
+use Rattle.embed_defs.specs.Embedding.{HasEmbedding, IsEmbedding}
+use Rattle.embed_defs.specs.Images.{image_map}
+use Rattle.embed_defs.specs.Laws.{AreWide}
+use Rattle.embed_defs.proofs.Room.{there_or_none}
 use Rattle.target_text_defs.proofs.Decided.{an_answer-holds}
 use Rattle.target_text_defs.proofs.Ranges.{in_range-holds}
 use Rattle.target_core.specs.declared.target.Target.{Target}
@@ -21,8 +21,8 @@ use Rattle.policy_text_defs.specs.Text.{HasEntries}
 use Rattle.policy_laws.proofs.Faultless.{accepted}
 use Rattle.policy_laws.proofs.SomePolicy.{a_policy}
 use Rattle.policy_laws.proofs.TextAnswers.{an_answer, sound_entries}
-use Rattle.resolve_defs.specs.Accepted.{AreAccepted}
-use Rattle.resolve_defs.specs.Codes.{code_of, line_of}
+use Rattle.policy_rules.specs.Accepted.{AreAccepted}
+use Rattle.policy_rules.specs.Codes.{code_of, line_of}
 use Rattle.events_core.specs.Script.{most_bytes, IsScript, code_of as script_code, place_of as script_place}
 use Rattle.events_core.specs.declared.step.Step.{Step}
 use Rattle.events_core.proofs.ScriptAnswers.{an_answer as script_answer}

@@ -6,7 +6,7 @@ use Rattle.policy_text_defs.specs.Canonical.{canonical_text}
 use Rattle.policy_text_defs.specs.Sense.{Sense}
 use Rattle.policy_text.specs.Entries.{Numbered, entry_of, sense_at}
 use Rattle.policy_text.specs.declared.lines.Lines.{Lines}
-use Rattle.schedule_defs.specs.Script as schedule
+use Rattle.sched_defs.specs.Script as schedule
 use Rattle.course_core.specs.declared.ending.Ending.{Ending}
 use Rattle.course_core.specs.declared.ending.Ending.TheVariants.{Whole, BadCapture, PastLast}
 use Rattle.course_core.specs.Endings.{ended}

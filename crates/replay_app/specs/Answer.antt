@@ -5,7 +5,7 @@ use Rattle.report_defs.specs.Report.{fault_line}
 use Rattle.report_core.specs.Faults.{word_of}
 use Rattle.report_core.specs.declared.fault.FaultKind.{FaultKind}
 use Rattle.fabric_core.specs.declared.fabric.Fabric.{Ghosts}
-use Rattle.embedded_core.specs.Fabrics.{FabricRun, Leaves, LeavesPart}
+use Rattle.sched_embedded.specs.Fabrics.{FabricRun, Leaves, LeavesPart}
 use Rattle.replay_app.specs.Statuses.{status_code, kind_status}
 use Rattle.replay_app.specs.declared.status.Status.{Status}
 use Rattle.replay_app.specs.declared.stop.Stop.{Stop}

@@ -1,7 +1,7 @@
 -- What the program leaves in the fabric.
 use Rattle.std.specs.Prelude.{◌≤◌, ◌<◌, ℕ, List}
 use Rattle.fabric_core.specs.declared.fabric.Fabric.{Ghosts}
-use Rattle.embedded_core.specs.Fabrics.{Leaves, LeavesPart}
+use Rattle.sched_embedded.specs.Fabrics.{Leaves, LeavesPart}
 use Rattle.replay_app.specs.Answer.{Each}
 use Rattle.replay_app.specs.Output.{IsOutput}
 use Rattle.replay_app.specs.Words.{Form, replay}

@@ -1,11 +1,11 @@
 -- What the program answers to its words and files. This is what a reader of the program's contract has to believe.
 use Rattle.std.specs.Prelude.{◌≡◌, ◌⊎◌, ℕ, Option, None, List}
 use Rattle.report_core.specs.declared.fault.FaultKind.TheVariants.{Words}
-use Rattle.resolve_defs.specs.Resolved.{Resolved}
+use Rattle.policy_rules.specs.Resolved.{Resolved}
 use Rattle.events_core.specs.declared.step.Step.{Step}
-use Rattle.embedded_core.specs.Laid.{Laid}
-use Rattle.embedded_core.specs.Fabrics.{run_of}
-use Rattle.direct_core.specs.Answers.{direct_answer}
+use Rattle.sched_embedded.specs.Laid.{Laid}
+use Rattle.sched_embedded.specs.Fabrics.{run_of}
+use Rattle.sched_capture.specs.Answers.{direct_answer}
 use Rattle.replay_app.specs.Answer.{Answer, refusal, IsWritten, IsPartWritten}
 use Rattle.replay_app.specs.Policies.{UnderPolicy, checked}
 use Rattle.replay_app.specs.Scripts.{AlongScript, run_answer}

@@ -1,5 +1,5 @@
 -- Where a policy's tree is laid.
-use Rattle.embedded_core.specs.Laid.{Laid}
+use Rattle.sched_embedded.specs.Laid.{Laid}
 use Rattle.replay_app.specs.declared.replay.Placement.{Placement}
 
 abbrev pub laid_by : Placement → Laid

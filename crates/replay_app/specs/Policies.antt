@@ -7,11 +7,11 @@ use Rattle.policy_text_defs.specs.Sense.{Sense, Entry}
 use Rattle.policy_text_defs.specs.Text.{Fault, not_text, shaping, syntax_fault, HasEntries, IsFirstFault}
 use Rattle.policy_text.specs.declared.lines.Lines.{Lines}
 use Rattle.policy_text.specs.Entries.{entry_of}
-use Rattle.resolve_defs.specs.Accepted.{AreAccepted, IsFault}
-use Rattle.resolve_defs.specs.Codes.{code_of, line_of}
-use Rattle.resolve_defs.specs.Resolved.{Resolved, IsResolved}
-use Rattle.resolve_defs.specs.declared.fault.PolicyFault.{PolicyFault}
-use Rattle.resolve_defs.specs.declared.fault.PolicyFault.TheVariants.{NoMemory}
+use Rattle.policy_rules.specs.Accepted.{AreAccepted, IsFault}
+use Rattle.policy_rules.specs.Codes.{code_of, line_of}
+use Rattle.policy_rules.specs.Resolved.{Resolved, IsResolved}
+use Rattle.policy_rules.specs.declared.fault.PolicyFault.{PolicyFault}
+use Rattle.policy_rules.specs.declared.fault.PolicyFault.TheVariants.{NoMemory}
 use Rattle.replay_app.specs.Answer.{Answer, text_alone}
 use Rattle.replay_app.specs.Follows.{Follows, IsRead}
 use Rattle.replay_app.specs.declared.refusal.Read.{Read}

@@ -1,12 +1,12 @@
 -- What is read of a script's text, and what is answered to a run.
 use Rattle.std.specs.Prelude.{◌<◌, ℕ, Option, List, length}
 use Rattle.report_core.specs.declared.fault.FaultKind.TheVariants as kind
-use Rattle.schedule_defs.specs.Script.{Ending, Whole, BadCapture, PastLast}
+use Rattle.sched_defs.specs.Script.{Ending, Whole, BadCapture, PastLast}
 use Rattle.events_core.specs.Script.{IsScript, IsFirstFault, most_bytes, code_of, place_of}
 use Rattle.events_core.specs.declared.step.Step.{Step}
 use Rattle.events_core.specs.declared.fault.ScriptFault.{ScriptFault}
-use Rattle.embedded_core.specs.Fabrics.{FabricRun}
-use Rattle.direct_core.specs.Answers.{RunAnswer}
+use Rattle.sched_embedded.specs.Fabrics.{FabricRun}
+use Rattle.sched_capture.specs.Answers.{RunAnswer}
 use Rattle.replay_app.specs.Answer.{Answer}
 use Rattle.replay_app.specs.Follows.{Follows}
 

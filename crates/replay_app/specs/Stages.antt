@@ -1,8 +1,8 @@
 -- What the answer to a replay still depends on behind each of its inputs.
 use Rattle.std.specs.Prelude.{◌≡◌, ℕ, List}
-use Rattle.resolve_defs.specs.Resolved.{Resolved}
+use Rattle.policy_rules.specs.Resolved.{Resolved}
 use Rattle.target_core.specs.declared.target.Target.{Target}
-use Rattle.embedded_core.specs.Laid.{Laid}
+use Rattle.sched_embedded.specs.Laid.{Laid}
 use Rattle.replay_app.specs.Answer.{Answer}
 use Rattle.replay_app.specs.Output.{direct_run, laid_run}
 use Rattle.replay_app.specs.Scripts.{AlongScript}

@@ -5,14 +5,14 @@ use Rattle.tree_defs.specs.Topology.{topology_of, complete}
 use Rattle.target_defs.specs.Levels.{levels}
 use Rattle.target_text_defs.specs.TargetText.{IsTargetText, IsRefused}
 use Rattle.target_core.specs.declared.target.Target.{Target}
-use Rattle.placement_defs.specs.Canonical.{IsCanonical}
-use Rattle.placement_defs.specs.Embedding.{IsEmbedding, HasEmbedding}
-use Rattle.placement_defs.specs.Images.{image_map}
+use Rattle.embed_defs.specs.Canonical.{IsCanonical}
+use Rattle.embed_defs.specs.Embedding.{IsEmbedding, HasEmbedding}
+use Rattle.embed_defs.specs.Images.{image_map}
 use Rattle.policy_defs.specs.Policy.{Policy}
 use Rattle.plan_defs.specs.Plan.{IsPlan}
 use Rattle.report_defs.specs.Report.{fault_line}
 use Rattle.report_core.specs.declared.fault.FaultKind.TheVariants as kind
-use Rattle.embedded_core.specs.Laid.{Laid}
+use Rattle.sched_embedded.specs.Laid.{Laid}
 use Rattle.replay_app.specs.Answer.{Answer, text_alone}
 use Rattle.replay_app.specs.Follows.{Follows}
 

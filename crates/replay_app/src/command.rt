@@ -1,7 +1,7 @@
 //! The one call of the program.
 ghost use Rattle.std.specs.Prelude.{◌≡◌, ◌≢◌, ◌<◌, ◌^◌, ◌∷◌, [], IfOk, IsErrOf};
 ghost use Rattle.outside_core.specs.Faults.{Rose};
-ghost use Rattle.embedded_core.specs.Fabrics.{IsAsItWas};
+ghost use Rattle.sched_embedded.specs.Fabrics.{IsAsItWas};
 ghost use Rattle.replay_app.specs.Answer.{IsLeft, IsTold};
 ghost use Rattle.replay_app.specs.Fabrics.{IsLeftBehind, UsesNoFabric};
 ghost use Rattle.replay_app.specs.Output.{Answers, IsOutput};

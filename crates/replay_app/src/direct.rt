@@ -3,7 +3,7 @@ ghost use Rattle.std.specs.Prelude.{◌≡◌, ◌≤◌, ◌∷◌, [], IfOk, I
 ghost use Rattle.outside_core.specs.Faults.{Rose};
 ghost use Rattle.outside_core.specs.Written.{Appended, AppendedPrefix};
 ghost use Rattle.events_core.specs.Steps.{counts_of};
-ghost use Rattle.direct_core.specs.Answers.{direct_answer};
+ghost use Rattle.sched_capture.specs.Answers.{direct_answer};
 ghost use Rattle.replay_app.specs.Answer.{IsTold};
 ghost use Rattle.replay_app.specs.Named.{direct_form};
 ghost use Rattle.replay_app.specs.Output.{IsOutput};
@@ -19,7 +19,7 @@ use crate::status::Status;
 use crate::stop::Stop;
 use crate::words::DirectFiles;
 use crate::writing::refuse;
-use direct_core::direct;
+use sched_capture::direct;
 use events_core::Step;
 use outside_core::{Shelf, Sink};
 use policy_core::Policy;

@@ -2,7 +2,7 @@
 ghost use Rattle.std.specs.Prelude.{◌≡◌, ◌≢◌, ◌≤◌, ℕ, List, IfOk, OnOk, IfSome, IsTrue, IsErrOf};
 ghost use Rattle.outside_core.specs.Faults.{Rose};
 ghost use Rattle.outside_core.specs.Files.{KeepsFiles};
-ghost use Rattle.resolve_defs.specs.Codes.{code_of, line_of};
+ghost use Rattle.policy_rules.specs.Codes.{code_of, line_of};
 ghost use Rattle.replay_app.specs.Policies.{IsTextRead, IsPolicyRead};
 
 use crate::load::load_short;

@@ -2,7 +2,7 @@
 ghost use Rattle.std.specs.Prelude.{◌≡◌};
 ghost use Rattle.replay_app.specs.Statuses.{status_code, kind_status, run_status};
 
-use direct_core::Ending;
+use sched_capture::Ending;
 use report_core::FaultKind;
 
 /// How the program ends where nothing stops it.

@@ -57,14 +57,14 @@ impl From<ShelfError> for Stop {
     }
 }
 
-impl From<direct_core::Stop> for Stop {
+impl From<sched_capture::Stop> for Stop {
     ghost from_gives = { λ cause stop. stop ≡ stop_of cause };
 
-    fn from(cause: direct_core::Stop) -> Stop {
+    fn from(cause: sched_capture::Stop) -> Stop {
         match cause {
-            direct_core::Stop::Source => Stop::Shelf,
-            direct_core::Stop::Sink => Stop::Sink,
-            direct_core::Stop::Memory => Stop::Memory,
+            sched_capture::Stop::Source => Stop::Shelf,
+            sched_capture::Stop::Sink => Stop::Sink,
+            sched_capture::Stop::Memory => Stop::Memory,
         }
     }
 }

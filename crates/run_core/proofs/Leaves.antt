@@ -10,13 +10,13 @@ use Rattle.packet_defs.specs.declared.packet.Departed.{Departed}
 use Rattle.policy_defs.specs.Policy.{Policy, Node, node_at, name_at}
 use Rattle.policy_defs.specs.Accepted.{IsAccepted}
 use Rattle.policy_defs.specs.Numbers.{number_at, number_below}
-use Rattle.schedule_defs.specs.SourceState.{SourceState, Leaver, class_of, arrival_ranks, leaver}
-use Rattle.schedule_defs.specs.Sound.{IsSound}
-use Rattle.schedule_defs.specs.Events.{Arrive, Depart, CanArrive, outcome}
-use Rattle.schedule_defs.specs.Report.{outcome_line}
-use Rattle.schedule_defs.specs.Laws.{LeavesItsLeaf}
-use Rattle.schedule_defs.proofs.Leaving.{arrives_at_a_leaf, leaves_its_leaf}
-use Rattle.schedule_defs.proofs.Soundness.{class_is_ready}
+use Rattle.sched_defs.specs.SourceState.{SourceState, Leaver, class_of, arrival_ranks, leaver}
+use Rattle.sched_defs.specs.Sound.{IsSound}
+use Rattle.sched_defs.specs.Events.{Arrive, Depart, CanArrive, outcome}
+use Rattle.sched_defs.specs.Report.{outcome_line}
+use Rattle.sched_defs.specs.Laws.{LeavesItsLeaf}
+use Rattle.sched_defs.proofs.Leaving.{arrives_at_a_leaf, leaves_its_leaf}
+use Rattle.sched_defs.proofs.Soundness.{class_is_ready}
 use Rattle.report_defs.specs.Report.{arrival_line, departure_line}
 use Rattle.sched_core.specs.Departures.{departed_packet, IsTaken}
 use Rattle.tree_core.specs.Paths.{Way}

@@ -9,10 +9,10 @@ use Rattle.report_core.proofs.TextLaws.{IsCut-append, IsCut-longer}
 use Rattle.tree_defs.specs.Tree.{Tree, Address}
 use Rattle.packet_defs.specs.declared.packet.Packet.{Packet}
 use Rattle.policy_defs.specs.Policy.{Policy}
-use Rattle.schedule_defs.specs.SourceState.{SourceState, arrived, departed}
-use Rattle.schedule_defs.specs.Events.{Event, Arrive, Depart, Outcome, CanArrive, CanMake, step, after, outcome, outcomes}
-use Rattle.schedule_defs.specs.Report.{outcome_line, lines_from}
-use Rattle.schedule_defs.proofs.Runs.{after-append, outcomes-append, arrivals_in-append, departures_in-append, CanMake-front, CanMake-back}
+use Rattle.sched_defs.specs.SourceState.{SourceState, arrived, departed}
+use Rattle.sched_defs.specs.Events.{Event, Arrive, Depart, Outcome, CanArrive, CanMake, step, after, outcome, outcomes}
+use Rattle.sched_defs.specs.Report.{outcome_line, lines_from}
+use Rattle.sched_defs.proofs.Runs.{after-append, outcomes-append, arrivals_in-append, departures_in-append, CanMake-front, CanMake-back}
 use Rattle.sched_core.specs.declared.scheduler.Scheduler.{Ghosts}
 use Rattle.sched_core.specs.Origins.{Origin, images_of}
 use Rattle.sched_core.specs.Spills.{raised, arrival_spills, spills_in}

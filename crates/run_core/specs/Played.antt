@@ -3,9 +3,9 @@ use Rattle.std.specs.Prelude.{◌≡◌, ◌<◌, ◌^◌, ℕ, ◌+◌, Option,
 use Rattle.outside_core.specs.Written.{Appended}
 use Rattle.report_defs.specs.Text.{IsCut}
 use Rattle.policy_defs.specs.Policy.{Policy}
-use Rattle.schedule_defs.specs.SourceState.{SourceState}
-use Rattle.schedule_defs.specs.Events.{Event, CanMake, after, outcomes, arrivals_in, departures_in}
-use Rattle.schedule_defs.specs.Report.{lines_from}
+use Rattle.sched_defs.specs.SourceState.{SourceState}
+use Rattle.sched_defs.specs.Events.{Event, CanMake, after, outcomes, arrivals_in, departures_in}
+use Rattle.sched_defs.specs.Report.{lines_from}
 use Rattle.sched_core.specs.declared.scheduler.Scheduler.{Ghosts}
 use Rattle.sched_core.specs.Origins.{images_of}
 use Rattle.sched_core.specs.Spills.{raised, spills_in}

@@ -4,7 +4,7 @@ ghost use Rattle.report_defs.specs.Text.{Begins};
 ghost use Rattle.report_core.specs.Gathered.{text_of};
 ghost use Rattle.tree_defs.specs.Tree.{depth};
 ghost use Rattle.policy_defs.specs.Accepted.{IsAccepted};
-ghost use Rattle.schedule_defs.specs.Events.{Arrive, Depart, CanMake};
+ghost use Rattle.sched_defs.specs.Events.{Arrive, Depart, CanMake};
 ghost use Rattle.sched_core.specs.Standing.{StandForOne, ForEachState};
 ghost use Rattle.run_core.specs.Played.{Plays, StopsIn};
 

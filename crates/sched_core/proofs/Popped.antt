@@ -4,11 +4,11 @@ use Rattle.tree_defs.specs.Tree.{Popping}
 use Rattle.tree_defs.specs.SourceTree.{SourceTree}
 use Rattle.packet_defs.specs.declared.packet.Packet.{Packet}
 use Rattle.policy_defs.specs.Policy.{Policy}
-use Rattle.schedule_defs.specs.SourceState.{SourceState, departed, leaver, leaving, left_with}
-use Rattle.schedule_defs.specs.Sound.{IsSound, IsAtItsLeaf}
-use Rattle.schedule_defs.specs.Laws.{LeavesItsLeaf}
-use Rattle.schedule_defs.proofs.Soundness.{popped_is_held}
-use Rattle.schedule_defs.proofs.Leaving.{pop_leaves}
+use Rattle.sched_defs.specs.SourceState.{SourceState, departed, leaver, leaving, left_with}
+use Rattle.sched_defs.specs.Sound.{IsSound, IsAtItsLeaf}
+use Rattle.sched_defs.specs.Laws.{LeavesItsLeaf}
+use Rattle.sched_defs.proofs.Soundness.{popped_is_held}
+use Rattle.sched_defs.proofs.Leaving.{pop_leaves}
 use Rattle.sched_core.specs.Own.{PopsNext}
 
 module _ (policy : Policy) (s : SourceState) (number : ℕ) (digits ranks : List ℕ) (next : PopsNext s number digits ranks) where

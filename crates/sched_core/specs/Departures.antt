@@ -3,7 +3,7 @@ use Rattle.std.specs.Prelude.{◌≡◌}
 use Rattle.packet_defs.specs.declared.packet.Departed.{Departed}
 use Rattle.policy_defs.specs.Policy.{Policy}
 use Rattle.policy_defs.specs.Numbers.{number_at}
-use Rattle.schedule_defs.specs.SourceState.{Leaver}
+use Rattle.sched_defs.specs.SourceState.{Leaver}
 use Rattle.tree_core.specs.Paths.{Way}
 
 -- its number, its class, the leaf from which it left, and its length

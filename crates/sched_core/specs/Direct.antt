@@ -1,7 +1,7 @@
 -- Which source states a scheduler over a source tree stands for.
 use Rattle.std.specs.Prelude.{◌≡◌}
 use Rattle.tree_core.specs.TreeContents.{TreeContents}
-use Rattle.schedule_defs.specs.SourceState.{SourceState}
+use Rattle.sched_defs.specs.SourceState.{SourceState}
 use Rattle.sched_core.specs.declared.direct.Direct.{Direct}
 use Rattle.sched_core.specs.Own.{IsOwn}
 

@@ -1,7 +1,7 @@
 -- What is held, by number.
 use Rattle.std.specs.Prelude.{ℕ, nat_eq, List}
 use Rattle.indexmap.specs.IndexMap.{get, keys}
-use Rattle.schedule_defs.specs.SourceState.{Held}
+use Rattle.sched_defs.specs.SourceState.{Held}
 use Rattle.sched_core.specs.declared.held.Held.{Held as Holder}
 
 -- the packet that is held under a number, if one is

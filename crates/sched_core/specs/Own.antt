@@ -2,8 +2,8 @@
 use Rattle.std.specs.Prelude.{◌≡◌, ℕ, List, Some}
 use Rattle.tree_defs.specs.SourceTree.{SourceTree, pop}
 use Rattle.policy_defs.specs.Policy.{Policy}
-use Rattle.schedule_defs.specs.SourceState.{SourceState}
-use Rattle.stations_core.specs.Agreement.{policy_of, AreStates}
+use Rattle.sched_defs.specs.SourceState.{SourceState}
+use Rattle.sched_nodes.specs.Agreement.{policy_of, AreStates}
 use Rattle.sched_core.specs.declared.own.Own.{Own}
 use Rattle.sched_core.specs.Held.{held_at}
 use Rattle.sched_core.specs.Standing.{StandForOne, ForEachState}

@@ -1,11 +1,11 @@
 -- At how many nodes of a target the pushes of events spill.
 use Rattle.std.specs.Prelude.{ℕ, ◌+◌, Option, None, Some, option_map, List, [], ◌∷◌}
 use Rattle.tree_defs.specs.Tree.{Tree, Address}
-use Rattle.lift_defs.specs.Spilling.{push_spills}
+use Rattle.embed_lift_defs.specs.Spilling.{push_spills}
 use Rattle.packet_defs.specs.declared.packet.Packet.{Packet}
 use Rattle.policy_defs.specs.Policy.{Policy}
-use Rattle.schedule_defs.specs.SourceState.{SourceState, class_of, arrival_ranks, arrived, departed}
-use Rattle.schedule_defs.specs.Events.{Event, Arrive, Depart}
+use Rattle.sched_defs.specs.SourceState.{SourceState, class_of, arrival_ranks, arrived, departed}
+use Rattle.sched_defs.specs.Events.{Event, Arrive, Depart}
 
 -- a count that rose, where it is told
 abbrev pub raised : Option ℕ → ℕ → Option ℕ

@@ -1,7 +1,7 @@
 -- The source states for which a scheduler and what is under it stand.
 use Rattle.policy_defs.specs.Policy.{Policy}
-use Rattle.schedule_defs.specs.SourceState.{SourceState}
-use Rattle.schedule_defs.specs.Sound.{IsSound}
+use Rattle.sched_defs.specs.SourceState.{SourceState}
+use Rattle.sched_defs.specs.Sound.{IsSound}
 
 -- they stand for a sound state of the policy that has P
 pub record StandForOne {C U : Type 0} (stands : C → U → SourceState → Type 0) (policy : Policy) (c : C) (u : U) (P : SourceState → Type 0) : Type 0 where

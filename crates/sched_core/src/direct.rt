@@ -1,5 +1,5 @@
 ghost use Rattle.std.specs.Prelude.{◌≡◌, IfOk};
-ghost use Rattle.schedule_defs.specs.SourceState.{start};
+ghost use Rattle.sched_defs.specs.SourceState.{start};
 
 use crate::own::Own;
 use crate::scheduler::Scheduler;

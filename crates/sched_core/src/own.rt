@@ -5,17 +5,17 @@ ghost use Rattle.tree_defs.specs.SourceTree.{size};
 ghost use Rattle.packet_defs.specs.declared.packet.Packet.{Packet as Known};
 ghost use Rattle.policy_defs.specs.Accepted.{IsAccepted};
 ghost use Rattle.policy_defs.specs.Numbers.{number_at};
-ghost use Rattle.schedule_defs.specs.SourceState.{SourceState, start, class_of, arrival_ranks, arrived, departed, leaver};
-ghost use Rattle.schedule_defs.specs.Sound.{IsKnown};
-ghost use Rattle.schedule_defs.specs.Events.{CanArrive};
-ghost use Rattle.stations_core.specs.Agreement.{HasFlowRoom};
+ghost use Rattle.sched_defs.specs.SourceState.{SourceState, start, class_of, arrival_ranks, arrived, departed, leaver};
+ghost use Rattle.sched_defs.specs.Sound.{IsKnown};
+ghost use Rattle.sched_defs.specs.Events.{CanArrive};
+ghost use Rattle.sched_nodes.specs.Agreement.{HasFlowRoom};
 ghost use Rattle.sched_core.specs.Departures.{departed_packet};
 ghost use Rattle.sched_core.specs.Held.{held_at};
 
 use crate::held::Held;
 use packet_defs::{Departed, Packet};
 use policy_core::Policy;
-use stations_core::Stations;
+use sched_nodes::Stations;
 use std::alloc::{AllocError, Global};
 use tree_core::Taken;
 

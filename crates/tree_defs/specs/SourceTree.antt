@@ -1,6 +1,6 @@
 -- Trees of push-in first-out queues (OOPSLA 2023): packet numbers at the leaves, children's indices at the inner nodes.
 use Rattle.std.specs.Prelude.{ℕ, zero, suc, ◌+◌, ◌≡◌, refl, List, [], ◌∷◌, length, Option, Some, None, option_map, nat_eq, slice_index, drop, if◌then◌else◌}
-use Rattle.queue_defs.specs.Queue.{Queue, put, take_least, Taking}
+use Rattle.pifo_defs.specs.Queue.{Queue, put, take_least, Taking}
 use Rattle.tree_defs.specs.Tree.{Tree, leaf, inner, Trees, none, more, HasChild, Popping, option_bind}
 use Rattle.tree_defs.specs.Topology.{Topology}
 

@@ -1,7 +1,7 @@
 use Rattle.std.proofs.Common.{[], ◌∷◌, subst, arith}
 use Rattle.std.proofs.lemmas.Result.{err_from_is_err_and}
 use Rattle.policy_defs.specs.Policy.{Policy}
-use Rattle.schedule_defs.specs.Numbered.{IsSendable}
+use Rattle.sched_defs.specs.Numbered.{IsSendable}
 use Rattle.course_core.proofs.Making.{makes_none, stops_here}
 use Rattle.course_core.proofs.Coming.{none_first, one_first}
 use Rattle.course_core.proofs.arrivals.arrive_next.Goals as goal

@@ -2,12 +2,12 @@ use Rattle.std.proofs.Common.{◌≡◌, ℕ, ◌+◌, ◌<◌, List, Vec, Globa
 use Rattle.std.proofs.lemmas.List.{length-replicate, with_items_is}
 use Rattle.tree_defs.specs.Tree.{trees_of}
 use Rattle.tree_defs.specs.Topology.{IsWithin}
-use Rattle.placement_defs.specs.Need.{leaves_below}
-use Rattle.placement_defs.specs.Counting.{value}
+use Rattle.embed_defs.specs.Need.{leaves_below}
+use Rattle.embed_defs.specs.Counting.{value}
 use Rattle.target_defs.specs.Levels.{down_from}
 use Rattle.embed_core.specs.Range.{levels_of}
 use Rattle.embed_core.proofs.Range.{positive}
-use Rattle.placement_defs.proofs.Value.{value-zeros, zeros-within}
+use Rattle.embed_defs.proofs.Value.{value-zeros, zeros-within}
 use Rattle.embed_core.proofs.Children.{child-lower}
 use Rattle.embed_core.proofs.Starts.{start-fits, earlier-below, earlier-counted, later-counted, start-done}
 use Rattle.embed_core.proofs.block.block_start.Goals as goal

@@ -1,12 +1,12 @@
 use Rattle.std.proofs.Common.{◌≡◌, ℕ, List, [], length, refl, sym, subst, ◌∙◌, arith}
 use Rattle.tree_defs.specs.Topology.{complete}
 use Rattle.tree_core.specs.Shape.{topology}
-use Rattle.placement_defs.specs.Embedding.{IsEmbedding, HasEmbedding}
-use Rattle.placement_defs.specs.Need.{HasHeight}
-use Rattle.placement_defs.specs.Canonical.{canonical}
-use Rattle.placement_defs.specs.Images.{image_map}
-use Rattle.placement_defs.proofs.Laws.{embeddings_need_room-holds, canonical_placements_are_embeddings-holds}
-use Rattle.lift_defs.proofs.CanonicalMaps.{canonical_maps_are_good}
+use Rattle.embed_defs.specs.Embedding.{IsEmbedding, HasEmbedding}
+use Rattle.embed_defs.specs.Need.{HasHeight}
+use Rattle.embed_defs.specs.Canonical.{canonical}
+use Rattle.embed_defs.specs.Images.{image_map}
+use Rattle.embed_defs.proofs.Laws.{embeddings_need_room-holds, canonical_placements_are_embeddings-holds}
+use Rattle.embed_lift_defs.proofs.CanonicalMaps.{canonical_maps_are_good}
 use Rattle.embed_core.specs.Range.{levels_of}
 use Rattle.embed_core.proofs.Grown.{same-nodes}
 use Rattle.embed_core.proofs.Range.{wide, own_levels}

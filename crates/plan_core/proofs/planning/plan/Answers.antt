@@ -2,10 +2,10 @@ use Rattle.std.proofs.Common.{ℕ, List, length, ◌++◌, ◌∙◌, ap, sym, s
 use Rattle.std.specs.Prelude.{true, false, Err}
 use Rattle.tree_defs.specs.Topology.{Topology, complete}
 use Rattle.target_defs.specs.Levels.{levels}
-use Rattle.placement_defs.specs.Embedding.{HasEmbedding}
-use Rattle.placement_defs.specs.Need.{IsNeed}
-use Rattle.placement_defs.specs.Canonical.{IsCanonical}
-use Rattle.placement_defs.specs.Images.{image_map}
+use Rattle.embed_defs.specs.Embedding.{HasEmbedding}
+use Rattle.embed_defs.specs.Need.{IsNeed}
+use Rattle.embed_defs.specs.Canonical.{IsCanonical}
+use Rattle.embed_defs.specs.Images.{image_map}
 use Rattle.plan_defs.specs.Plan.{IsPlan, placed, no_room, map_lines, least_line}
 use Rattle.plan_core.proofs.planning.plan.Goals as goal
 

@@ -1,8 +1,8 @@
 use Rattle.std.proofs.Common.{sym, subst}
 use Rattle.std.proofs.lemmas.Result.{err_from_is_err_and}
-use Rattle.resolve_defs.specs.declared.fault.PolicyFault.{PolicyFault}
-use Rattle.resolve_defs.specs.Accepted.{IsFault}
-use Rattle.resolve_defs.specs.Entries.{entries_of}
+use Rattle.policy_rules.specs.declared.fault.PolicyFault.{PolicyFault}
+use Rattle.policy_rules.specs.Accepted.{IsFault}
+use Rattle.policy_rules.specs.Entries.{entries_of}
 use Rattle.policy_core.proofs.resolution.accept.Goals as goal
 
 pub returns-in_err-check_parents-clause-refuses : goal.returns-in_err-check_parents-clause-refuses

@@ -1,14 +1,14 @@
 use Rattle.std.proofs.Common.{◌≡◌, ◌∙◌, ℕ, List, ap, sym, subst, length, arith}
 use Rattle.std.proofs.lemmas.List.{length-map}
 use Rattle.rank_defs.specs.Programs.{Program}
-use Rattle.resolve_defs.specs.Entries.{entries_of}
-use Rattle.resolve_defs.specs.Graph.{graph_of, nodes_in}
-use Rattle.resolve_defs.specs.Resolved.{Resolved, IsResolved}
-use Rattle.lineage_core.specs.Descent.{Graph, lists, IsForest, IsDeep}
-use Rattle.lineage_core.specs.Preorder.{Numbered, IsSound}
-use Rattle.binding_core.proofs.Known.{shaped_known}
-use Rattle.family_core.proofs.Verdicts.{is-forest, is-shallow}
-use Rattle.assembly_core.specs.Homes.{AreHomes}
+use Rattle.policy_rules.specs.Entries.{entries_of}
+use Rattle.policy_rules.specs.Graph.{graph_of, nodes_in}
+use Rattle.policy_rules.specs.Resolved.{Resolved, IsResolved}
+use Rattle.tree_graph.specs.Descent.{Graph, lists, IsForest, IsDeep}
+use Rattle.tree_graph.specs.Preorder.{Numbered, IsSound}
+use Rattle.policy_programs.proofs.Known.{shaped_known}
+use Rattle.policy_family.proofs.Verdicts.{is-forest, is-shallow}
+use Rattle.policy_places.specs.Homes.{AreHomes}
 use Rattle.policy_core.specs.Made.{nodes_told}
 use Rattle.policy_core.proofs.Assembled.{root-is, root-small, graph-few, homes-count, below-is, leaves-there, few-made, catch-all-made, stations-there, accepted-made, resolved-made}
 use Rattle.policy_core.proofs.resolution.assemble.Goals as goal

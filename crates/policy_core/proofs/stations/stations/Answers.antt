@@ -2,11 +2,11 @@ use Rattle.std.proofs.Common.{◌∙◌, ◌++◌, ap, sym, List, []}
 use Rattle.std.specs.List.{cons_option}
 use Rattle.policy_text_defs.specs.Sense.{sense_of}
 use Rattle.policy_defs.specs.Policy.{Node}
-use Rattle.resolve_defs.specs.Names.{before}
-use Rattle.resolve_defs.specs.Entries.{entries_of}
-use Rattle.resolve_defs.specs.Graph.{node_in}
+use Rattle.policy_rules.specs.Names.{before}
+use Rattle.policy_rules.specs.Entries.{entries_of}
+use Rattle.policy_rules.specs.Graph.{node_in}
 use Rattle.policy_core.specs.Made.{AreMore}
-use Rattle.resolve_defs.proofs.Lines.{given-more}
+use Rattle.policy_rules.proofs.Lines.{given-more}
 use Rattle.policy_core.proofs.Passing.{known-here}
 use Rattle.policy_core.proofs.stations.stations.Goals as goal
 

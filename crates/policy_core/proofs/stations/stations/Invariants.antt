@@ -1,8 +1,8 @@
 use Rattle.std.proofs.Common.{◌≡◌, take}
 use Rattle.std.specs.Prelude.{filter_map}
-use Rattle.resolve_defs.specs.Entries.{entries_of}
-use Rattle.resolve_defs.specs.Graph.{node_in}
-use Rattle.binding_core.specs.Known.{known_programs}
+use Rattle.policy_rules.specs.Entries.{entries_of}
+use Rattle.policy_rules.specs.Graph.{node_in}
+use Rattle.policy_programs.specs.Known.{known_programs}
 use Rattle.policy_core.specs.Made.{nodes_told}
 use Rattle.policy_core.specs.Parts.{HavePrograms}
 use Rattle.policy_core.proofs.stations.stations.Given as goal

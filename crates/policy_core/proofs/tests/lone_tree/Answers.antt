@@ -1,9 +1,9 @@
 use Rattle.std.proofs.Common.{◌≡◌, ◌∙◌, ap, subst, sym, refl}
 use Rattle.std.proofs.lemmas.Result.{IfOk-weaker}
-use Rattle.lineage_core.specs.Descent.{lists, Graph, IsForest, IsDeep}
+use Rattle.tree_graph.specs.Descent.{lists, Graph, IsForest, IsDeep}
 use Rattle.tree_defs.specs.Tree.{leaf}
 use Rattle.policy_core.specs.Samples.{childless, lone_tree}
-use Rattle.lineage_core.specs.Preorder.{IsTreeBelow}
+use Rattle.tree_graph.specs.Preorder.{IsTreeBelow}
 use Rattle.policy_core.proofs.Samples.{is_forest, is_shallow, tree-below}
 use Rattle.policy_core.proofs.tests.lone_tree.Goals as goal
 

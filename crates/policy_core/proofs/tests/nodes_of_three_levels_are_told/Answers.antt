@@ -1,6 +1,6 @@
 use Rattle.std.proofs.Common.{subst, sym, ◌∷◌, [], ◌++◌, refl}
 use Rattle.tree_defs.specs.Tree.{IsAddressOf}
-use Rattle.resolve_defs.specs.Resolved.{Resolved}
+use Rattle.policy_rules.specs.Resolved.{Resolved}
 use Rattle.policy_core.specs.Numbering.{address_at}
 use Rattle.policy_core.proofs.tests.nodes_of_three_levels_are_told.Goals as goal
 

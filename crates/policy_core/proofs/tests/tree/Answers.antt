@@ -1,8 +1,8 @@
 use Rattle.std.proofs.Common.{◌≡◌, ◌∙◌, ap, subst, sym, refl}
 use Rattle.std.proofs.lemmas.Result.{IfOk-weaker}
-use Rattle.lineage_core.specs.Descent.{lists, Graph, IsForest, IsDeep, two_below_a_root}
-use Rattle.lineage_core.specs.Preorder.{IsTreeBelow, IsTreeOf-three_levels, three_levels}
-use Rattle.lineage_core.proofs.Example.{is_forest, is_shallow}
+use Rattle.tree_graph.specs.Descent.{lists, Graph, IsForest, IsDeep, two_below_a_root}
+use Rattle.tree_graph.specs.Preorder.{IsTreeBelow, IsTreeOf-three_levels, three_levels}
+use Rattle.tree_graph.proofs.Example.{is_forest, is_shallow}
 use Rattle.policy_core.specs.Samples.{tree}
 use Rattle.policy_core.proofs.Samples.{tree-below}
 use Rattle.policy_core.proofs.tests.tree.Goals as goal

@@ -1,4 +1,4 @@
-use Rattle.direct_core.specs.Answers.{direct_answer}
+use Rattle.sched_capture.specs.Answers.{direct_answer}
 use Rattle.replay_app.proofs.Telling.{status_told, run_ends}
 use Rattle.replay_app.proofs.replay.replay_capture.Goals as goal
 

@@ -2,8 +2,8 @@ use Rattle.std.proofs.Common.{refl, ap, subst, ◌∙◌}
 use Rattle.std.specs.Prelude.{Err}
 use Rattle.tree_defs.specs.Tree.{SameShape}
 use Rattle.tree_defs.specs.Topology.{Topology, complete}
-use Rattle.placement_defs.specs.Embedding.{IsEmbedding, HasEmbedding}
-use Rattle.placement_defs.specs.Images.{image_map}
+use Rattle.embed_defs.specs.Embedding.{IsEmbedding, HasEmbedding}
+use Rattle.embed_defs.specs.Images.{image_map}
 use Rattle.report_core.specs.declared.fault.FaultKind.TheVariants as kind
 use Rattle.replay_app.proofs.Following.{accepted_told, accepted_left, refused_told, refused_left}
 use Rattle.replay_app.proofs.Inputs.{rooms_are_one, placement}

@@ -5,8 +5,8 @@ use Rattle.report_defs.specs.Text.{IsCut}
 use Rattle.report_core.specs.Gathered.{text_of}
 use Rattle.tree_defs.specs.Tree.{nodes}
 use Rattle.policy_defs.specs.Policy.{Policy}
-use Rattle.schedule_defs.specs.SourceState.{class_of}
-use Rattle.schedule_defs.specs.Events.{Arrive}
+use Rattle.sched_defs.specs.SourceState.{class_of}
+use Rattle.sched_defs.specs.Events.{Arrive}
 use Rattle.run_core.proofs.Runs.{cut_unwritten, made_arrival, made_all, made_some_none}
 use Rattle.run_core.proofs.Leaves.{arrives, arrival_few, named_leaf, lines_arrived}
 use Rattle.run_core.proofs.lines.arrive_line.Goals as goal

@@ -5,10 +5,10 @@ use Rattle.report_core.specs.Gathered.{text_of}
 use Rattle.report_core.proofs.TextLaws.{Begins-trans}
 use Rattle.policy_defs.specs.Policy.{Policy}
 use Rattle.policy_defs.specs.Accepted.{IsAccepted}
-use Rattle.schedule_defs.specs.SourceState.{SourceState}
-use Rattle.schedule_defs.specs.Sound.{IsSound}
-use Rattle.schedule_defs.specs.Events.{Arrive, CanArrive, after}
-use Rattle.schedule_defs.proofs.Runs.{sound_after, arrivals_in-arrivals}
+use Rattle.sched_defs.specs.SourceState.{SourceState}
+use Rattle.sched_defs.specs.Sound.{IsSound}
+use Rattle.sched_defs.specs.Events.{Arrive, CanArrive, after}
+use Rattle.sched_defs.proofs.Runs.{sound_after, arrivals_in-arrivals}
 use Rattle.run_core.specs.Played.{Plays, StopsIn}
 use Rattle.run_core.proofs.Runs.{no_packet, can_next, arrive_next, arrive_stop, each_state}
 use Rattle.run_core.proofs.several.arrive_lines.Goals as goal

@@ -1,7 +1,7 @@
 use Rattle.std.proofs.Common.{◌≡◌, ◌+◌, ◌≤◌, IsTrue, take, map}
 use Rattle.report_defs.specs.Text.{Begins}
 use Rattle.report_core.specs.Gathered.{text_of}
-use Rattle.schedule_defs.specs.Events.{Arrive, CanMake}
+use Rattle.sched_defs.specs.Events.{Arrive, CanMake}
 use Rattle.sched_core.specs.Standing.{ForEachState}
 use Rattle.run_core.specs.Played.{Plays}
 use Rattle.run_core.proofs.several.arrive_lines.Given as goal

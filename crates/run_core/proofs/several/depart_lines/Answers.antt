@@ -6,11 +6,11 @@ use Rattle.report_core.specs.Gathered.{text_of}
 use Rattle.report_core.proofs.TextLaws.{Begins-trans}
 use Rattle.policy_defs.specs.Policy.{Policy}
 use Rattle.policy_defs.specs.Accepted.{IsAccepted}
-use Rattle.schedule_defs.specs.SourceState.{SourceState, departed}
-use Rattle.schedule_defs.specs.Sound.{IsSound}
-use Rattle.schedule_defs.specs.Events.{Depart, after, outcome}
-use Rattle.schedule_defs.specs.Report.{outcome_line}
-use Rattle.schedule_defs.proofs.Runs.{sound_departures, departures_in-departures}
+use Rattle.sched_defs.specs.SourceState.{SourceState, departed}
+use Rattle.sched_defs.specs.Sound.{IsSound}
+use Rattle.sched_defs.specs.Events.{Depart, after, outcome}
+use Rattle.sched_defs.specs.Report.{outcome_line}
+use Rattle.sched_defs.proofs.Runs.{sound_departures, departures_in-departures}
 use Rattle.run_core.proofs.Runs.{made_departure, depart_next, depart_cut, each_state}
 use Rattle.run_core.proofs.several.depart_lines.Goals as goal
 

@@ -1,5 +1,5 @@
 use Rattle.std.proofs.Common.{rules, ◌≡◌, ℕ, List, [], ◌∷◌, sym, subst, ◌∙◌, ap}
-use Rattle.queue_defs.specs.Queue.{Queue}
+use Rattle.pifo_defs.specs.Queue.{Queue}
 use Rattle.tree_defs.specs.Tree.{Tree, leaf, inner, none, more, LeadsToLeaf}
 use Rattle.tree_defs.specs.Topology.{Topology, topology_of}
 use Rattle.tree_defs.proofs.Shapes.{LeadsToLeaf-topology, topology_of-push}

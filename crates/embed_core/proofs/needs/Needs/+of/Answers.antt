@@ -3,7 +3,7 @@ use Rattle.std.proofs.lemmas.List.{take_all}
 use Rattle.tree_defs.specs.Tree.{trees_of, nodes, root_of}
 use Rattle.tree_defs.specs.Topology.{IsBranched}
 use Rattle.tree_core.specs.Shape.{topology}
-use Rattle.placement_defs.specs.Need.{needs_at, enough}
+use Rattle.embed_defs.specs.Need.{needs_at, enough}
 use Rattle.embed_core.specs.Range.{levels_of}
 use Rattle.embed_core.proofs.Range.{wide}
 use Rattle.tree_core.specs.declared.topo.Topo.{Topo}

@@ -1,7 +1,7 @@
 use Rattle.std.proofs.Common.{◌≡◌, take, map}
 use Rattle.tree_defs.specs.Tree.{trees_of, nodes}
 use Rattle.tree_core.specs.Shape.{topology}
-use Rattle.placement_defs.specs.Need.{needs_at}
+use Rattle.embed_defs.specs.Need.{needs_at}
 use Rattle.embed_core.specs.Range.{levels_of}
 use Rattle.embed_core.proofs.Grown.{AreNeedsOfEach}
 use Rattle.embed_core.proofs.needs.Needs.+of.Given as goal

@@ -1,7 +1,7 @@
 use Rattle.std.proofs.Common.{◌≡◌, [], ℕ, List, Some, true≢false, refl, sym, subst, ap, ◌∙◌, arith, length}
 use Rattle.std.proofs.lemmas.List.{with_items_is}
 use Rattle.std.specs.Vec.{with_items}
-use Rattle.queue_defs.specs.Queue.{Queue}
+use Rattle.pifo_defs.specs.Queue.{Queue}
 use Rattle.pifo_core.specs.Sorted.{Contents}
 use Rattle.fabric_defs.specs.Family.{Pops}
 use Rattle.fabric_core.specs.Array.{entries_of, pushes_of, array_pop, queues_at}

@@ -1,7 +1,7 @@
 use Rattle.std.proofs.Common.{◌≡◌, ap}
 use Rattle.std.specs.Option.{option_map_or}
 use Rattle.std.specs.Prelude.{false}
-use Rattle.capture_defs.specs.declared.head.Head.{Head}
+use Rattle.pcap_defs.specs.declared.head.Head.{Head}
 use Rattle.pcap_core.specs.Readers.{is_big}
 use Rattle.pcap_core.proofs.Records.{record-sound}
 use Rattle.pcap_core.proofs.reader.Reader.next.Goals as goal

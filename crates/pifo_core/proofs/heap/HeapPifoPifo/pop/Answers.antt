@@ -1,5 +1,5 @@
 use Rattle.std.proofs.Common.{◌≡◌, [], rules, ap, sym, ◌∙◌, arith, length, heap_items, heap_len}
-use Rattle.queue_defs.specs.Queue.{take_least}
+use Rattle.pifo_defs.specs.Queue.{take_least}
 use Rattle.pifo_core.specs.Held.{queue_of}
 use Rattle.pifo_core.specs.Heaped.{held_of}
 use Rattle.pifo_core.proofs.HeapLaws.{queue_of_heap-none, queue_of-popped, IsHeaped-popped}

@@ -2,7 +2,7 @@ use Rattle.std.proofs.Common.{◌≡◌, ◌≤◌, rules, ap, ◌∙◌, ◌+�
 use Rattle.std.specs.BinaryHeap.{KeepsHeap}
 use Rattle.std.specs.List.Sorted.{IsPermutation}
 use Rattle.std.specs.declared.cmp.Reverse.{Reverse}
-use Rattle.queue_defs.specs.Queue.{put}
+use Rattle.pifo_defs.specs.Queue.{put}
 use Rattle.pifo_core.specs.declared.held.Held.{Held}
 use Rattle.pifo_core.specs.Heaped.{heap_order}
 use Rattle.pifo_core.proofs.HeapLaws.{queue_of-pushed, IsHeaped-pushed}

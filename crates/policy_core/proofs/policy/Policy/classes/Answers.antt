@@ -4,7 +4,7 @@ use Rattle.std.specs.List.{AllByRecursion}
 use Rattle.tree_defs.specs.Tree.{nodes}
 use Rattle.policy_core.specs.declared.parts.Class.{Class}
 use Rattle.policy_core.specs.Parts.{HasCatchAll, most_classes}
-use Rattle.resolve_defs.specs.Resolved.{Resolved}
+use Rattle.policy_rules.specs.Resolved.{Resolved}
 use Rattle.policy_core.proofs.Whole.{leaves-there}
 use Rattle.policy_core.proofs.policy.Policy.classes.Goals as goal
 

@@ -2,9 +2,9 @@ use Rattle.std.proofs.Common.{◌+◌, ℕ, List, length, sym, ap, ◌∙◌, su
 use Rattle.tree_defs.specs.Tree.{Address, LeadsToLeaf}
 use Rattle.tree_defs.specs.SourceTree.{SourceTree}
 use Rattle.policy_defs.specs.Policy.{Policy}
-use Rattle.schedule_defs.specs.SourceState.{class_of}
-use Rattle.schedule_defs.proofs.Soundness.{leads_in}
-use Rattle.schedule_defs.proofs.Leaving.{arrives_at_a_leaf}
+use Rattle.sched_defs.specs.SourceState.{class_of}
+use Rattle.sched_defs.proofs.Soundness.{leads_in}
+use Rattle.sched_defs.proofs.Leaving.{arrives_at_a_leaf}
 use Rattle.sched_core.specs.Own.{policy_in}
 use Rattle.sched_core.proofs.direct.DirectScheduler.arrive.Goals as goal
 

@@ -4,8 +4,8 @@ use Rattle.tree_defs.specs.Topology.{Topology}
 use Rattle.tree_defs.specs.SourceTree.{SourceTree, pop, size}
 use Rattle.tree_defs.proofs.Shapes.{topology_of-same, depth-topology}
 use Rattle.policy_defs.specs.Policy.{Policy}
-use Rattle.schedule_defs.specs.SourceState.{leaver}
-use Rattle.schedule_defs.proofs.Leaving.{pop_size, leaver-none}
+use Rattle.sched_defs.specs.SourceState.{leaver}
+use Rattle.sched_defs.proofs.Leaving.{pop_size, leaver-none}
 use Rattle.sched_core.specs.Own.{policy_in}
 use Rattle.sched_core.proofs.direct.DirectScheduler.depart.Goals as goal
 

@@ -2,9 +2,9 @@ use Rattle.std.proofs.Common.{◌≡◌, ℕ, max, Option, Some, if◌then◌els
 use Rattle.std.proofs.lemmas.Result.{err_from_is_err_and}
 use Rattle.packet_defs.specs.declared.packet.Packet.{Packet}
 use Rattle.policy_defs.specs.Policy.{Policy}
-use Rattle.schedule_defs.specs.Visits.{after_pushes, ranks_pushed}
-use Rattle.schedule_defs.specs.SourceState.{way_in}
-use Rattle.stations_core.specs.Agreement.{AreStates}
+use Rattle.sched_defs.specs.Visits.{after_pushes, ranks_pushed}
+use Rattle.sched_defs.specs.SourceState.{way_in}
+use Rattle.sched_nodes.specs.Agreement.{AreStates}
 use Rattle.sched_core.specs.Own.{policy_in}
 use Rattle.sched_core.proofs.own.Own.admit.Goals as goal
 

@@ -3,7 +3,7 @@ use Rattle.std.proofs.lemmas.List.{length-map}
 use Rattle.policy_core.specs.Parts.{class_in}
 use Rattle.policy_defs.specs.Policy.{Policy, Class as Aimed, no_marks}
 use Rattle.policy_defs.specs.Numbers.{number_at}
-use Rattle.schedule_defs.specs.SourceState.{class_of}
+use Rattle.sched_defs.specs.SourceState.{class_of}
 use Rattle.sched_core.specs.Own.{policy_in}
 use Rattle.sched_core.proofs.Leaves.{leaf-number}
 use Rattle.sched_core.proofs.own.Own.leaf.Goals as goal

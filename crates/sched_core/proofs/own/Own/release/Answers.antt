@@ -2,10 +2,10 @@ use Rattle.std.proofs.Common.{◌≡◌, ℕ, None, Option, Some, if◌then◌el
 use Rattle.packet_defs.specs.declared.packet.Packet.{Packet}
 use Rattle.policy_defs.specs.Policy.{Policy}
 use Rattle.policy_defs.specs.Numbers.{number_at}
-use Rattle.schedule_defs.specs.Visits.{after_pops}
-use Rattle.schedule_defs.specs.SourceState.{class_of, way_out}
-use Rattle.schedule_defs.specs.Laws.{LeavesItsLeaf}
-use Rattle.stations_core.specs.Agreement.{AreStates}
+use Rattle.sched_defs.specs.Visits.{after_pops}
+use Rattle.sched_defs.specs.SourceState.{class_of, way_out}
+use Rattle.sched_defs.specs.Laws.{LeavesItsLeaf}
+use Rattle.sched_nodes.specs.Agreement.{AreStates}
 use Rattle.sched_core.specs.Own.{policy_in}
 use Rattle.sched_core.proofs.Popped.{is_held, leaves, leaver-popped, departed-popped}
 use Rattle.sched_core.proofs.own.Own.release.Goals as goal

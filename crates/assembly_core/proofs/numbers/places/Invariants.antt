@@ -1,5 +1,0 @@
-use Rattle.assembly_core.proofs.Inverse.{ArePlacesTo}
-use Rattle.assembly_core.proofs.numbers.places.Given as goal
-
-abbrev pub invariant-loop-number : goal.invariant-loop-number
-invariant-loop-number l = ArePlacesTo l.tree.rows l.number l.places.items

@@ -1,4 +1,0 @@
-use Rattle.direct_core.proofs.fabric_tests.take_turn.Goals as goal
-
-pub returns-in-None-clause-stands : goal.returns-in-None-clause-stands
-returns-in-None-clause-stands g c = c.leave-left.ensures.stands c.args.next.now c.requires.stands

@@ -1,0 +1,14 @@
+-- Placements whose leaves' images have as many digits as the tree's height.
+use Rattle.std.proofs.Common.{◌≡◌, ℕ, ◌-◌, ◌≤◌, length}
+use Rattle.tree_defs.specs.Tree.{leaf, inner, none, more, root_of}
+use Rattle.embed_defs.specs.Placed.{Placement, Placements}
+
+-- each leaf's image has h digits behind the root's
+abbrev mutual
+  pub IsOfHeight : Placement → ℕ → Type 0
+  IsOfHeight (leaf e) h = h ≡ 0
+  IsOfHeight (inner e ps) h = AreOfHeight ps h
+
+  pub AreOfHeight : Placements → ℕ → Type 0
+  AreOfHeight none h = Unit {0}
+  AreOfHeight (more p ps) h = (length (root_of p) ≤ h) × IsOfHeight p (h - length (root_of p)) × AreOfHeight ps h

@@ -1,9 +1,0 @@
-use Rattle.std.proofs.Common.{sym, subst}
-use Rattle.tree_defs.specs.Tree.{LeadsToLeaf}
-use Rattle.embedded_core.specs.Laid.{Laid}
-use Rattle.embedded_core.proofs.Shapes.{leaf-image}
-use Rattle.embedded_core.proofs.embedding.Embedding.image.Goals as goal
-
-pub unreachable-requires : goal.unreachable-requires
-unreachable-requires c =
-    leaf-image c.self.inside.map c.args.leaf.now (subst (λ (l : Laid). LeadsToLeaf l.images c.args.leaf.now) (sym c.self.view_is) c.requires.leaf) c.in_default.ensures.image

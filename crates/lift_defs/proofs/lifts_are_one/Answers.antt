@@ -1,5 +1,0 @@
-use Rattle.lift_defs.proofs.LawProofs.{lifts_are_one as holds}
-use Rattle.lift_defs.proofs.lifts_are_one.Goals as goal
-
-pub returns : goal.returns
-returns c = record { law = holds }

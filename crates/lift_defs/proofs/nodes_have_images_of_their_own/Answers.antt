@@ -1,5 +1,0 @@
-use Rattle.lift_defs.proofs.Reading.{nodes_have_images_of_their_own as holds}
-use Rattle.lift_defs.proofs.nodes_have_images_of_their_own.Goals as goal
-
-pub returns : goal.returns
-returns c = record { law = holds }

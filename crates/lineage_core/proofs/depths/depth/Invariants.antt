@@ -1,6 +1,0 @@
-use Rattle.std.proofs.Common.{◌<◌, length}
-use Rattle.lineage_core.specs.Descent.{Graph, IsForest, AreParents, Leads}
-use Rattle.lineage_core.proofs.depths.depth.Given as goal
-
-abbrev pub invariant-loop-depth : goal.invariant-loop-depth
-invariant-loop-depth l = (l.at < length l.parents) × ((g : Graph) → IsForest g l.root → AreParents g l.parents → Leads g l.depth l.at l.node)

@@ -1,6 +1,0 @@
-use Rattle.std.proofs.Common.{ℕ, ◌<◌}
-use Rattle.lineage_core.specs.Descent.{Graph, IsForest, AreParents, IsDeep}
-use Rattle.lineage_core.proofs.depths.first_deep.Given as goal
-
-abbrev pub invariant-loop-node : goal.invariant-loop-node
-invariant-loop-node l = (g : Graph) → IsForest g l.root → AreParents g l.parents → (a : ℕ) → a < l.node → ¬ IsDeep g l.root a

@@ -1,6 +1,0 @@
-use Rattle.std.proofs.Common.{take}
-use Rattle.lineage_core.specs.Marks.{MarksMore}
-use Rattle.lineage_core.proofs.descendants.mark_all.Given as goal
-
-abbrev pub invariant-loop-node : goal.invariant-loop-node
-invariant-loop-node l = MarksMore (take l.node-index l.nodes) l.fn.marks l.fn.work.items l.marks l.work.items

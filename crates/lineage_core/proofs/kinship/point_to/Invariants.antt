@@ -1,6 +1,0 @@
-use Rattle.std.proofs.Common.{take}
-use Rattle.lineage_core.specs.Descent.{ArePointed}
-use Rattle.lineage_core.proofs.kinship.point_to.Given as goal
-
-abbrev pub invariant-loop-node : goal.invariant-loop-node
-invariant-loop-node l = ArePointed l.parent (take l.node-index l.nodes) l.fn.parents l.parents

@@ -1,5 +1,0 @@
-use Rattle.lineage_core.proofs.Steps.{reached}
-use Rattle.lineage_core.proofs.laws.nodes_are_reached.Goals as goal
-
-pub returns : goal.returns
-returns c = record { law = λ g root a forest within. reached g root a forest within }

@@ -1,9 +1,0 @@
-use Rattle.std.proofs.Common.{arith}
-use Rattle.lineage_core.proofs.Sound.{levels-few}
-use Rattle.lineage_core.proofs.preorder.Preorder.depth.Goals as goal
-
-pub depth-requires : goal.depth-requires
-depth-requires c = record { levels = levels-few _ _ c.self.invariant }
-
-pub returns-clause-limit : goal.returns-clause-limit
-returns-clause-limit c = omega (arith, c.depth.ensures.levels, levels-few _ _ c.self.invariant)

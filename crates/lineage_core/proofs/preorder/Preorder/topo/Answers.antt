@@ -1,8 +1,0 @@
-use Rattle.std.proofs.Common.{ap, arith}
-use Rattle.tree_defs.specs.Tree.{depth}
-use Rattle.lineage_core.specs.Preorder.{Numbered}
-use Rattle.lineage_core.proofs.Sound.{levels-few}
-use Rattle.lineage_core.proofs.preorder.Preorder.topo.Goals as goal
-
-pub returns-clause-levels : goal.returns-clause-levels
-returns-clause-levels c = omega (arith, ap (λ (n : Numbered). depth n.topology) c.self.view_is, levels-few _ _ c.self.invariant)

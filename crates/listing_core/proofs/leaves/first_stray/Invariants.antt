@@ -1,7 +1,0 @@
-use Rattle.std.specs.List.{AllWithin}
-use Rattle.resolve_defs.specs.Entries.{entries_of}
-use Rattle.resolve_defs.specs.Clauses.{IsStray}
-use Rattle.listing_core.proofs.leaves.first_stray.Given as goal
-
-abbrev pub invariant-loop-line : goal.invariant-loop-line
-invariant-loop-line l = AllWithin (λ e. ¬ IsStray (entries_of l.lines) e) (entries_of l.lines) 0 l.line-index

@@ -1,7 +1,0 @@
-use Rattle.std.specs.List.{AllWithin}
-use Rattle.resolve_defs.specs.Entries.{entries_of}
-use Rattle.resolve_defs.specs.Clauses.{IsOrphan}
-use Rattle.listing_core.proofs.parents.first_orphan.Given as goal
-
-abbrev pub invariant-loop-line : goal.invariant-loop-line
-invariant-loop-line l = AllWithin (λ e. ¬ IsOrphan (entries_of l.lines) e) (entries_of l.lines) 0 l.line-index

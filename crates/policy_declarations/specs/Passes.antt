@@ -1,0 +1,19 @@
+-- Passes over statements that look for the first at fault.
+use Rattle.std.specs.Prelude.{ℕ, Bool, IsTrue, Option, List, take, MatchOption}
+use Rattle.std.specs.List.{AllWithin}
+use Rattle.policy_text_defs.specs.Sense.{Sense, Entry}
+use Rattle.policy_rules.specs.Names.{before}
+use Rattle.policy_rules.specs.Clauses.{IsLeastLine, NoLine}
+
+-- the least line at fault, where there is one
+abbrev pub IsFirst : (Entry → Type 0) → List Entry → Option ℕ → Type 0
+IsFirst Fails entries found = MatchOption found (NoLine Fails entries) (IsLeastLine Fails entries)
+
+-- a statement fails a test that those on earlier lines decide
+abbrev pub Fails : (List Entry → Sense → Bool) → List Entry → Entry → Type 0
+Fails test entries e = IsTrue (test (before e.0 entries) e.1)
+
+-- after some statements: what is kept of them, and that none of them failed
+pub record Passed (Keeps : List Entry → Type 0) (test : List Entry → Sense → Bool) (entries : List Entry) (done : ℕ) : Type 0 where
+  pub keeps : Keeps (take done entries)
+  pub fine : AllWithin (λ e. ¬ Fails test entries e) entries 0 done

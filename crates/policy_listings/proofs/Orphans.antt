@@ -1,0 +1,22 @@
+-- A node or leaf that may be an orphan.
+use Rattle.std.proofs.Common.{◌≡◌, Bool, true, false, not, ◌&&◌, List, ap, sym, ◌∙◌, Some, ◌⊎◌, inl, inr}
+use Rattle.std.specs.Option.{option_map_or}
+use Rattle.std.specs.Str.{bytes_eq}
+use Rattle.policy_text_defs.specs.declared.attribute.Attrs.{Attrs}
+use Rattle.policy_text_defs.specs.declared.statement.Statement.{Statement}
+use Rattle.policy_text_defs.specs.declared.statement.Statement.TheVariants.{Leaf, Node}
+use Rattle.policy_text_defs.specs.Sense.{Sense, sense_of}
+use Rattle.policy_rules.specs.Names.{Name, is_once, node_name}
+use Rattle.policy_rules.specs.Clauses.{root, is_orphan}
+
+-- one that isn't the root, and was counted
+pub orphan-counted : (all : List Name) (s : Sense) (a : Name) (differs once : Bool) → node_name s ≡ Some a → differs ≡ not (bytes_eq a root) → once ≡ is_once all a → differs ≡ true
+    → not once ≡ is_orphan all s
+orphan-counted all s a differs once named told counted was_true =
+    ap not counted
+    ∙ ap (λ b. b && not (is_once all a)) (sym (sym told ∙ was_true))
+    ∙ sym (ap (λ o. option_map_or (λ n. not (bytes_eq n root) && not (is_once all n)) o false) named)
+
+pub named : (s : Statement) (a : Name) → ((u : Name) × (m : Attrs) × (ns : List Name) × (s ≡ Leaf a u m ns)) ⊎ ((u : Name) × (m : Attrs) × (ns : List Name) × (s ≡ Node a u m ns)) → node_name (sense_of s) ≡ Some a
+named s a (inl (u, m, ns, is)) = ap (λ t. node_name (sense_of t)) is
+named s a (inr (u, m, ns, is)) = ap (λ t. node_name (sense_of t)) is

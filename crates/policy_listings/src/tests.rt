@@ -1,0 +1,120 @@
+ghost use Rattle.std.specs.Prelude.{IfOk};
+ghost use Rattle.policy_rules.specs.Entries.{entries_of, AreRising};
+
+use crate::{check_leaves, check_parents};
+use list_core::{List, Name};
+use policy_text_defs::{Attrs, Condition, Statement};
+use policy_rules::PolicyFault;
+use std::alloc::{AllocError, Global};
+use std::test::Fail;
+
+const UNSET: Attrs = Attrs {
+    prio: None,
+    weight: None,
+    slack: None,
+};
+
+fn names(alloc: Global, texts: &[&str]) -> Result<List<Name>, AllocError> {
+    let mut all = Vec::new(alloc);
+    for text in texts {
+        all.push(Name::new(alloc, *text)?)?;
+    }
+    Ok(List::from_vec(all))
+}
+
+/// A class that meets the condition, if there is one.
+fn class(alloc: Global, name: &str, condition: Option<Condition>) -> Result<Statement, AllocError> {
+    let mut conditions = Vec::new(alloc);
+    if let Some(condition) = condition {
+        conditions.push(condition)?;
+    }
+    Ok(Statement::Class(Name::new(alloc, name)?, UNSET, List::from_vec(conditions)))
+}
+
+/// A condition of the last class, a leaf with its classes, and a node with its children.
+fn lines(
+    alloc: Global,
+    condition: Option<Condition>,
+    leaf: (&str, &[&str]),
+    node: (&str, &[&str]),
+) -> Result<Vec<(u32, Statement)>, AllocError>
+    ensures rising { IfOk result (λ v. AreRising (entries_of v.items)) }
+{
+    let web = class(alloc, "web", Some(Condition::Ipv4))?;
+    let all = class(alloc, "all", condition)?;
+    let leaf = Statement::Leaf(
+        Name::new(alloc, leaf.0)?,
+        Name::new(alloc, "fifo")?,
+        UNSET,
+        names(alloc, leaf.1)?,
+    );
+    let node = Statement::Node(
+        Name::new(alloc, node.0)?,
+        Name::new(alloc, "rr")?,
+        UNSET,
+        names(alloc, node.1)?,
+    );
+    Ok(vec![in alloc; (2, web), (3, all), (5, leaf), (6, node)]?)
+}
+
+#[test]
+fn what_policies_list(rt: HostRuntime) -> Result<(), Fail> {
+    let alloc = rt.alloc();
+    let a = ("a", &["web", "all"][..]);
+    let root = ("root", &["a"][..]);
+    let fine = Ok(());
+    let table = [
+        (None, a, root, fine, fine),
+        (None, a, ("root", &["a", "root"][..]), fine, fine),
+        (
+            None,
+            a,
+            ("root", &["a", "a"][..]),
+            Err(PolicyFault::Parents(5)),
+            fine,
+        ),
+        (
+            None,
+            a,
+            ("top", &["a"][..]),
+            Err(PolicyFault::Parents(6)),
+            fine,
+        ),
+        (
+            None,
+            a,
+            ("top", &["a", "top"][..]),
+            Err(PolicyFault::NoRoot),
+            fine,
+        ),
+        (
+            None,
+            ("a", &["all"][..]),
+            root,
+            fine,
+            Err(PolicyFault::ClassLeaf(2)),
+        ),
+        (
+            None,
+            ("a", &["web", "all", "all"][..]),
+            root,
+            fine,
+            Err(PolicyFault::ClassLeaf(3)),
+        ),
+        (
+            Some(Condition::Ipv6),
+            a,
+            root,
+            fine,
+            Err(PolicyFault::NoCatchAll),
+        ),
+    ];
+    for (condition, leaf, node, parents, leaves) in table {
+        let lines = lines(alloc, condition, leaf, node)?;
+        assert_eq!(rt; check_parents(alloc, lines.as_slice()), parents);
+        assert_eq!(rt; check_leaves(alloc, lines.as_slice()), leaves);
+    }
+    assert_eq!(rt; check_parents(alloc, &[]), Err(PolicyFault::NoRoot));
+    assert_eq!(rt; check_leaves(alloc, &[]), Err(PolicyFault::NoCatchAll));
+    Ok(())
+}

@@ -1,0 +1,5 @@
+use Rattle.policy_places.proofs.Acceptable.{acceptable}
+use Rattle.policy_places.proofs.laws.resolved_policies_are_accepted.Goals as goal
+
+pub returns : goal.returns
+returns c = record { law = acceptable }

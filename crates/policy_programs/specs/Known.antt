@@ -1,0 +1,36 @@
+-- All programs that names mean.
+use Rattle.std.specs.Prelude.{List, map, ◌++◌, All}
+use Rattle.std.specs.List.{AllByRecursion}
+use Rattle.rank_defs.specs.Shapes.{IsShaped}
+use Rattle.rank_defs.specs.Checks.{AreChecked}
+use Rattle.policy_text_defs.specs.Valid.{IsValid}
+use Rattle.policy_rules.specs.Accepted.{AreFew, AreComputable}
+use Rattle.policy_rules.specs.Entries.{AreRising}
+use Rattle.rank_defs.specs.Programs.{Program}
+use Rattle.rank_defs.specs.Builtins.{builtins}
+use Rattle.range_core.specs.declared.fault.RangeFault.{RangeFault}
+use Rattle.range_core.specs.declared.fault.RangeFault.TheVariants as range
+use Rattle.policy_text_defs.specs.Sense.{Entry}
+use Rattle.policy_rules.specs.declared.fault.PolicyFault.{PolicyFault}
+use Rattle.policy_rules.specs.declared.fault.PolicyFault.TheVariants.{TypeClash, Wide, DivZero, NoMemory}
+use Rattle.policy_rules.specs.Programs.{programs}
+
+-- the built-in programs, and those that are written behind them
+abbrev pub known_programs : List Entry → List Program
+known_programs entries = map (λ b. b.program) builtins ++ programs entries
+
+-- a refusal of transactions, as a refusal of the policy
+abbrev pub fault_of : RangeFault → PolicyFault
+fault_of (range.TypeClash n) = TypeClash n
+fault_of (range.Wide n) = Wide n
+fault_of (range.DivZero n) = DivZero n
+fault_of range.NoMemory = NoMemory
+
+-- where no clause up to the limits fails, all programs are shaped
+abbrev pub KnownAreShaped : Type 0
+KnownAreShaped =
+    (entries : List Entry) → AreRising entries → AreFew entries → All (λ e. IsValid e.1) entries → AllByRecursion IsShaped (known_programs entries)
+
+-- and where those that are written are checked, all are
+abbrev pub ComputableAreChecked : Type 0
+ComputableAreChecked = (entries : List Entry) → AreComputable entries → AreChecked (known_programs entries)

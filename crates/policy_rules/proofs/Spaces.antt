@@ -1,0 +1,55 @@
+-- What statements declare in a space, where no clause refuses them.
+use Rattle.std.proofs.Common.{◌≡◌, ℕ, zero, suc, ◌+◌, ◌<◌, ◌≤◌, false, List, [], ◌++◌, length, take, get_or, Option, Some, None, sym, ap, subst, ◌∙◌, arith}
+use Rattle.std.specs.List.{IsDistinct, cons_option}
+use Rattle.std.specs.Option.{option_map_or}
+use Rattle.std.specs.Str.{bytes_eq}
+use Rattle.std.specs.Cmp.Lexicographic.{nat_list_eq_equiv}
+use Rattle.std.proofs.Math.Seq.{take-length}
+use Rattle.std.proofs.lemmas.List.{append-nil, take_more}
+use Rattle.std.proofs.lemmas.Map.Keys.{IsDistinct-push}
+use Rattle.policy_text_defs.specs.Sense.{Sense, Entry, version}
+use Rattle.policy_rules.specs.Names.{Name, has, declared}
+use Rattle.policy_rules.specs.Clauses.{NoLine, IsAgain, IsBeyond, is_declared, is_beyond}
+use Rattle.policy_rules.specs.Entries.{AreRising}
+use Rattle.policy_rules.proofs.Earlier.{passes-at}
+use Rattle.policy_rules.proofs.Lines.{declared-push}
+
+distinct-more : (names : List Name) (o : Option Name) → IsDistinct bytes_eq names → option_map_or (has names) o false ≡ false → IsDistinct bytes_eq (names ++ cons_option o [])
+distinct-more names None distinct new = subst (λ (l : List Name). IsDistinct bytes_eq l) (sym (append-nil names)) distinct
+distinct-more names (Some a) distinct new = IsDistinct-push nat_list_eq_equiv names a distinct new
+
+distinct-none : IsDistinct bytes_eq []
+unfolding IsDistinct
+distinct-none = tt
+
+no-entry : Entry
+no-entry = (0, version 1)
+
+module _ (space : Sense → Option Name) (es : List Entry) (rising : AreRising es) where
+  -- the names of the first statements and one more
+  names-more : (i : ℕ) → i < length es → declared space (take (suc i) es) ≡ declared space (take i es) ++ cons_option (space (get_or es i no-entry).1) []
+  names-more i within =
+      let next : suc i ≡ i + 1 = omega arith in
+      ap (λ k. declared space (take k es)) next ∙ ap (declared space) (take_more es i no-entry within) ∙ declared-push space (take i es) (get_or es i no-entry)
+
+  module _ (new : (earlier : List Entry) (s : Sense) → is_declared earlier s ≡ false → option_map_or (has (declared space earlier)) (space s) false ≡ false) (fine : NoLine (IsAgain es) es) where
+    distinct-front : (i : ℕ) → i ≤ length es → IsDistinct bytes_eq (declared space (take i es))
+    distinct-front zero l = distinct-none
+    distinct-front (suc i) l =
+        subst (λ (ns : List Name). IsDistinct bytes_eq ns) (sym (names-more i (omega arith)))
+        (distinct-more (declared space (take i es)) (space (get_or es i no-entry).1) (distinct-front i (omega arith)) (new (take i es) (get_or es i no-entry).1 (passes-at es rising is_declared fine i no-entry (omega arith))))
+
+    -- names of a space in which none is declared again are apart
+    pub declared-distinct : IsDistinct bytes_eq (declared space es)
+    declared-distinct = subst (λ (ls : List Entry). IsDistinct bytes_eq (declared space ls)) (take-length es) (distinct-front (length es) (omega arith))
+
+  module _ (most : ℕ) (room : (earlier : List Entry) (s : Sense) → is_beyond earlier s ≡ false → length (declared space earlier) ≤ most → length (declared space earlier ++ cons_option (space s) []) ≤ most) (fine : NoLine (IsBeyond es) es) where
+    few-front : (i : ℕ) → i ≤ length es → length (declared space (take i es)) ≤ most
+    few-front zero l = omega arith
+    few-front (suc i) l =
+        subst (λ (ns : List Name). length ns ≤ most) (sym (names-more i (omega arith)))
+        (room (take i es) (get_or es i no-entry).1 (passes-at es rising is_beyond fine i no-entry (omega arith)) (few-front i (omega arith)))
+
+    -- a space that no statement goes beyond has few names
+    pub declared-few : length (declared space es) ≤ most
+    declared-few = subst (λ (ls : List Entry). length (declared space ls) ≤ most) (take-length es) (few-front (length es) (omega arith))

@@ -1,0 +1,32 @@
+-- Nodes by number, in the order in which they are declared.
+use Rattle.std.specs.Prelude.{ℕ, Option, Some, None, List, [], map, filter_map, unwrap_or}
+use Rattle.rank_defs.specs.Builtins.{fifo}
+use Rattle.policy_text_defs.specs.declared.attribute.Attrs.{Attrs}
+use Rattle.policy_text_defs.specs.Sense.{Sense, Entry, leaf, node}
+use Rattle.policy_defs.specs.Policy.{Node}
+use Rattle.policy_rules.specs.Names.{Name, declared, node_name}
+use Rattle.policy_rules.specs.Programs.{place, program_named}
+use Rattle.policy_rules.specs.Resolved.{marks_of}
+
+-- the children of a node, and none of a leaf
+abbrev pub family : Sense → Option (List Name)
+family (leaf n u a ns) = Some []
+family (node n u a ns) = Some ns
+family s = None
+
+-- for each node and leaf the numbers of its children
+abbrev pub graph_of : List Entry → List (List ℕ)
+graph_of entries = map (λ names. map (place (declared node_name entries)) names) (filter_map (λ e. family e.1) entries)
+
+-- what is said of a node or leaf; that its transaction is there was seen before
+abbrev pub said : List Entry → Name → Name → Attrs → Node
+said entries n u a = record { name = n; program = unwrap_or (program_named entries u) fifo; marks = marks_of a }
+
+abbrev pub node_in : List Entry → Sense → Option Node
+node_in entries (leaf n u a ns) = Some (said entries n u a)
+node_in entries (node n u a ns) = Some (said entries n u a)
+node_in entries s = None
+
+-- what is said of each node and leaf
+abbrev pub nodes_in : List Entry → List Node
+nodes_in entries = filter_map (λ e. node_in entries e.1) entries

@@ -1,0 +1,86 @@
+-- The policy that accepted statements give.
+use Rattle.std.specs.Prelude.{◌≡◌, Option, Some, None, unwrap_or, List, [], ◌∷◌, map, Any, Contains, filter_map}
+use Rattle.tree_defs.specs.Tree.{Tree, leaf as leaf_of, inner, Trees, none, more, Address, LeadsToLeaf, root_of}
+use Rattle.policy_text_defs.specs.declared.attribute.Attrs.{Attrs}
+use Rattle.policy_text_defs.specs.declared.condition.Condition.{Condition}
+use Rattle.policy_text_defs.specs.Sense.{Sense, Entry, class, leaf, node}
+use Rattle.policy_defs.specs.Policy.{Policy, Node, Class, Marks, no_marks, node_at}
+use Rattle.policy_rules.specs.Names.{Name}
+use Rattle.policy_rules.specs.Clauses.{root}
+use Rattle.policy_rules.specs.Programs.{program_named}
+
+-- a policy, with the conditions of its classes in their order
+pub record Resolved : Type 0 where
+  pub policy : Policy
+  pub conditions : List (List Condition)
+
+-- the marks that attributes set, and the others as they are where none are written
+abbrev pub marks_of : Attrs → Marks
+marks_of a = record { prio = unwrap_or a.prio no_marks.prio; weight = unwrap_or a.weight no_marks.weight; slack = unwrap_or a.slack no_marks.slack }
+
+-- a node has this name, the program of this transaction, and the marks of these attributes
+pub record IsNodeOf (entries : List Entry) (n : Node) (name used : Name) (a : Attrs) : Type 0 where
+  pub name_is : n.name ≡ name
+  pub program_is : program_named entries used ≡ Some n.program
+  pub marks_are : n.marks ≡ marks_of a
+
+-- the statement of a leaf is this one, and that of an inner node, whose children have these names
+abbrev pub IsLeafOf : List Entry → Node → Sense → Type 0
+IsLeafOf entries n (leaf name used a ns) = IsNodeOf entries n name used a
+IsLeafOf entries n s = ⊥
+
+abbrev pub IsInnerOf : List Entry → Node → List Name → Sense → Type 0
+IsInnerOf entries n names (node name used a ns) = IsNodeOf entries n name used a × (names ≡ ns)
+IsInnerOf entries n names s = ⊥
+
+abbrev pub names_of : Trees Node → List Name
+names_of none = []
+names_of (more t ts) = (root_of t).name ∷ names_of ts
+
+-- each node of the tree is declared by a statement, and the children stand in the order of their list
+abbrev mutual
+  pub IsTreeIn : List Entry → Tree Node → Type 0
+  IsTreeIn entries (leaf_of n) = Any (λ e. IsLeafOf entries n e.1) entries
+  IsTreeIn entries (inner n ts) = Any (λ e. IsInnerOf entries n (names_of ts) e.1) entries × AreTreesIn entries ts
+
+  pub AreTreesIn : List Entry → Trees Node → Type 0
+  AreTreesIn entries none = Unit {0}
+  AreTreesIn entries (more t ts) = IsTreeIn entries t × AreTreesIn entries ts
+
+-- a statement of this leaf lists the class
+abbrev pub ListsClass : Name → Name → Sense → Type 0
+ListsClass leaf_name class_name (leaf name used a ns) = (name ≡ leaf_name) × Contains ns class_name
+ListsClass leaf_name class_name s = ⊥
+
+-- the leaf at the address lists the class
+pub record IsLeafFor (entries : List Entry) (tree : Tree Node) (class_name : Name) (a : Address) : Type 0 where
+  pub leaf_address : LeadsToLeaf tree a
+  pub node_is : Node
+  pub at : node_at tree a ≡ Some node_is
+  pub lists : Any (λ e. ListsClass node_is.name class_name e.1) entries
+
+-- the classes that statements declare, in their order: the name, the marks and the conditions
+pub record Declared : Type 0 where
+  pub name : Name
+  pub marks : Marks
+  pub conditions : List Condition
+
+abbrev pub class_in : Sense → Option Declared
+class_in (class n a cs) = Some (record { name = n; marks = marks_of a; conditions = cs })
+class_in s = None
+
+abbrev pub classes_in : List Entry → List Declared
+classes_in entries = filter_map (λ e. class_in e.1) entries
+
+-- class by class: its marks, and the leaf that lists it
+abbrev pub AreClassesOf : List Entry → Tree Node → List Declared → List Class → Type 0
+AreClassesOf entries tree [] [] = Unit {0}
+AreClassesOf entries tree (d ∷ ds) (c ∷ cs) = (c.marks ≡ d.marks) × IsLeafFor entries tree d.name c.leaf × AreClassesOf entries tree ds cs
+AreClassesOf entries tree ds cs = ⊥
+
+-- the statements give this policy
+pub record IsResolved (entries : List Entry) (r : Resolved) : Type 0 where
+  pub root_is : (root_of r.policy.tree).name ≡ root
+  pub tree : IsTreeIn entries r.policy.tree
+  pub classes : AreClassesOf entries r.policy.tree (classes_in entries) r.policy.classes
+  pub conditions : r.conditions ≡ map (λ d. d.conditions) (classes_in entries)

@@ -1,0 +1,191 @@
+-- Two packets that come to a single leaf in the two orders.
+use Rattle.std.proofs.Common.{◌≡◌, ◌≢◌, ◌<◌, ◌+◌, ℕ, Bool, true, false, Option, Some, None, List, [], ◌∷◌, length, refl, sym, ap, ◌∙◌, subst, arith}
+use Rattle.std.specs.Prelude.{IsSomeAnd, nat_eq, max, if◌then◌else◌}
+use Rattle.std.specs.List.{AllByRecursion}
+use Rattle.std.proofs.lemmas.Bool.Decides.{Decides-eqb}
+use Rattle.tree_defs.specs.Tree.{Tree, leaf, inner, none, more, Address, LeadsToLeaf, IsAddressOf, SameShape, depth, nodes, subtree}
+use Rattle.tree_defs.specs.Topology.{Topology, topology_of}
+use Rattle.target_defs.specs.Levels.{Arities}
+use Rattle.embed_defs.specs.Canonical.{canonical, IsCanonical}
+use Rattle.rank_defs.specs.declared.transaction.Span.{Span}
+use Rattle.rank_defs.specs.States.{State, SameState}
+use Rattle.rank_defs.specs.Programs.{Program}
+use Rattle.rank_defs.specs.Shapes.{IsStateInRange, AreWithin}
+use Rattle.packet_defs.specs.declared.packet.Packet.{Packet}
+use Rattle.policy_defs.specs.Policy.{Policy, Node, Class, node_at}
+use Rattle.policy_defs.specs.Accepted.{IsAccepted, IsClassReady}
+use Rattle.policy_core.specs.Numbering.{address_at}
+use Rattle.sched_defs.specs.SourceState.{Held, SourceState, start, with_packet}
+use Rattle.sched_defs.specs.Sound.{IsSound}
+use Rattle.sched_defs.specs.Events.{Arrive, CanMake, after}
+use Rattle.sched_defs.proofs.Soundness.{sound_start, with_packet-other}
+use Rattle.sched_defs.specs.Numbered.{IsSendable}
+use Rattle.sched_defs.proofs.Runs.{sound_after}
+use Rattle.rank_defs.proofs.Same.{same-trans}
+use Rattle.embed_defs.specs.Images.{image_map}
+use Rattle.embed_lift_defs.specs.Lift.{IsLift}
+use Rattle.fabric_core.specs.declared.fabric.Fabric.{Ghosts}
+use Rattle.sched_core.specs.Standing.{StandForOne}
+use Rattle.sched_core.specs.Own.{policy_in}
+use Rattle.sched_embedded.specs.declared.embedded.Embedded.{Embedded}
+use Rattle.sched_embedded.specs.Embedded.{EmbeddedStands, origin_of}
+
+-- ---- a single leaf without variables
+pub record IsPlain (tree : Tree Node) : Type 0 where
+  pub node : Node
+  pub is : tree ≡ leaf node
+  pub keeps : node.program.keeps ≡ []
+  pub eaches : node.program.eaches ≡ []
+
+-- a tree without levels below its root, in which a class has a leaf
+alone : (tree : Tree Node) (cs : List Class) → depth tree ≡ 0 → 0 < length cs → AllByRecursion (IsClassReady tree) cs
+    → IsSomeAnd (node_at tree []) (λ n. n.program.keeps ≡ []) → IsSomeAnd (node_at tree []) (λ n. n.program.eaches ≡ []) → IsPlain tree
+alone tree [] d some all keeps eaches = absurd (omega (arith, some))
+alone (leaf n) (c ∷ cs) d some all keeps eaches = record { node = n; is = refl; keeps = keeps; eaches = eaches }
+alone (inner n none) (c ∷ cs) d some all keeps eaches = absurd (no_leaf c.leaf all.0.leaf_address)
+  where
+    no_leaf : (a : Address) → LeadsToLeaf (inner n none) a → ⊥
+    no_leaf [] l = l
+    no_leaf (i ∷ a) l = l
+alone (inner n (more t ts)) (c ∷ cs) d some all keeps eaches = absurd (omega (arith, d))
+
+pub plain_leaf : (policy : Policy) → IsAccepted policy → depth policy.tree ≡ 0 → IsSomeAnd (node_at policy.tree []) (λ n. n.program.keeps ≡ []) → IsSomeAnd (node_at policy.tree []) (λ n. n.program.eaches ≡ [])
+    → IsPlain policy.tree
+plain_leaf policy accepted d keeps eaches = alone policy.tree policy.classes d accepted.some_class accepted.classes keeps eaches
+
+-- the node of number 0 is the root
+pub has_a_node : (tree : Tree Node) → 0 < nodes tree
+has_a_node (leaf n) = omega arith
+has_a_node (inner n ts) = omega arith
+
+root_first : (tree : Tree Node) → address_at tree 0 ≡ []
+root_first (leaf n) = refl
+root_first (inner n ts) = refl
+
+-- the root's transaction is known by that of the node of number 0
+pub of_root : (tree : Tree Node) (p : Program) (spans : Program → List Span) → IsSomeAnd (node_at tree (address_at tree 0)) (λ n. p ≡ n.program) → spans p ≡ [] → IsSomeAnd (node_at tree []) (λ n. spans n.program ≡ [])
+of_root tree p spans some none_of = by_node (node_at tree []) (subst (λ (a : Address). IsSomeAnd (node_at tree a) (λ n. p ≡ n.program)) (root_first tree) some)
+  where
+    by_node : (o : Option Node) → IsSomeAnd o (λ n. p ≡ n.program) → IsSomeAnd o (λ n. spans n.program ≡ [])
+    by_node None s = absurd s
+    by_node (Some n) e = sym (ap spans e) ∙ none_of
+
+none_within : (xs : List ℕ) → AreWithin [] xs → xs ≡ []
+none_within [] w = refl
+none_within (x ∷ xs) w = absurd w
+
+no_values : (spans : List Span) (xs ys : List ℕ) → spans ≡ [] → AreWithin spans xs → AreWithin spans ys → xs ≡ ys
+no_values spans xs ys e v w =
+    let a : xs ≡ [] = none_within xs (subst (λ (z : List Span). AreWithin z xs) e v) in
+    let b : ys ≡ [] = none_within ys (subst (λ (z : List Span). AreWithin z ys) e w) in
+    a ∙ sym b
+
+-- without variables, any two states in range are the same
+plain_states : (p : Program) (s t : State) → p.keeps ≡ [] → p.eaches ≡ [] → IsStateInRange p s → IsStateInRange p t → SameState s t
+plain_states p s t keeps eaches a b = record {
+  keeps = no_values p.keeps s.keeps t.keeps keeps a.keeps b.keeps;
+  eaches = λ who. no_values p.eaches (s.eaches who) (t.eaches who) eaches (a.eaches who) (b.eaches who);
+}
+
+module _ (policy : Policy) (plain : IsPlain policy.tree) where
+  root_is : node_at policy.tree [] ≡ Some plain.node
+  root_is = ap (λ (t : Tree Node). node_at t []) plain.is
+
+  nothing_below : (i : ℕ) (a : Address) → IsAddressOf policy.tree (i ∷ a) → ⊥
+  nothing_below i a there = let e : subtree (leaf plain.node) (i ∷ a) ≡ Some there.0 = sym (ap (λ (t : Tree Node). subtree t (i ∷ a)) plain.is) ∙ there.1 in cc
+
+  -- the nodes of two sound states hold the same
+  pub same_nodes : (s t : SourceState) → IsSound policy s → IsSound policy t → (a : Address) → IsAddressOf policy.tree a → SameState (s.nodes a) (t.nodes a)
+  same_nodes s t sound other [] there =
+      plain_states plain.node.program (s.nodes []) (t.nodes []) plain.keeps plain.eaches (sound.states [] plain.node root_is) (other.states [] plain.node root_is)
+  same_nodes s t sound other (i ∷ a) there = absurd (nothing_below i a there)
+
+  abbrev single : Topology
+  single = leaf tt
+
+  -- it is laid into a target in one way
+  pub same_images : (a : Arities) (h : ℕ) (m o : Tree Address) → IsCanonical a h (topology_of policy.tree) m → IsCanonical a h (topology_of policy.tree) o → m ≡ o
+  same_images a h m o one other = at_root m one ∙ sym (at_root o other)
+    where
+      shape : topology_of policy.tree ≡ single
+      shape = ap (λ (t : Tree Node). topology_of t) plain.is
+
+      by_needs : (all : Tree ℕ) → SameShape single all → canonical a h [] all ≡ leaf []
+      by_needs (leaf k) same = refl
+      by_needs (inner k ts) same = absurd same
+
+      at_root : (images : Tree Address) → IsCanonical a h (topology_of policy.tree) images → images ≡ leaf []
+      at_root images c = c.placed ∙ by_needs c.all (subst (λ (t : Topology). SameShape t c.all) shape c.needs.shape)
+
+-- ---- two packets in the two orders
+module _ (policy : Policy) (accepted : IsAccepted policy) (p q : Packet) (apart : p.number ≢ q.number) (first : IsSendable policy p) (second : IsSendable policy q) where
+  pub both_come : CanMake policy (Arrive p ∷ Arrive q ∷ []) (start policy)
+  both_come = (
+    record { fresh = refl; known = first.known; moment = first.moment },
+    (record { fresh = with_packet-other (λ _. None) p q.number (λ e. apart (sym e)); known = second.known; moment = second.moment }, tt),
+  )
+
+pub same_held : (p q : Packet) (held : Held) → p.number ≢ q.number → (n : ℕ) → with_packet (with_packet held p) q n ≡ with_packet (with_packet held q) p n
+same_held p q held apart n = by_tests (nat_eq n p.number) (nat_eq n q.number) refl refl
+  where
+    by_tests : (a b : Bool) → nat_eq n p.number ≡ a → nat_eq n q.number ≡ b
+        → (if b then Some q else if a then Some p else held n) ≡ (if a then Some p else if b then Some q else held n)
+    by_tests true true e f = absurd (apart (sym ((Decides-eqb n p.number).0 e) ∙ (Decides-eqb n q.number).0 f))
+    by_tests true false e f = refl
+    by_tests false true e f = refl
+    by_tests false false e f = refl
+
+-- a moment is the greatest of two in either order
+pub same_now : (k m n : ℕ) → max (max k m) n ≡ max (max k n) m
+same_now k m n = omega arith
+
+-- ---- a scheduler with a fabric that another filled
+-- what two schedulers keep is the same, but for the queues
+pub record IsSameBeside (tree : Tree Node) (s t : SourceState) : Type 0 where
+  pub nodes : (a : Address) → IsAddressOf tree a → SameState (s.nodes a) (t.nodes a)
+  pub held : (n : ℕ) → s.held n ≡ t.held n
+  pub now : s.now ≡ t.now
+
+-- they stand in the same place of fabrics that were pushed and popped as often
+pub record AreAlike {F : Type 0} (c d : Embedded F) : Type 0 where
+  pub images : (origin_of c).images ≡ (origin_of d).images
+  pub arities : (origin_of c).arities ≡ (origin_of d).arities
+  pub pushes : (origin_of c).pushes + c.own.arrivals ≡ (origin_of d).pushes + d.own.arrivals
+  pub pops : (origin_of c).pops + c.own.departures ≡ (origin_of d).pops + d.own.departures
+
+pub stands_with_another : {F : Type 0} (fabrics : Ghosts F) (c d : Embedded F) (u v : F) (s t : SourceState) → AreAlike c d → IsSameBeside (policy_in c.own).tree s t
+    → EmbeddedStands fabrics c u s → EmbeddedStands fabrics d v t → EmbeddedStands fabrics c v t
+stands_with_another fabrics c d u v s t alike same one other = record {
+  own = record {
+    nodes = λ a x there kept. same-trans _ _ _ (one.own.nodes a x there kept) (same.nodes a there);
+    held = λ n. one.own.held n ∙ same.held n;
+    now = sym same.now ∙ one.own.now;
+  };
+  shape = other.shape ∙ sym alike.arities;
+  lifted = subst (λ (m : Tree Address). IsLift t.tree (image_map m) (fabrics.queues v)) (sym alike.images) other.lifted;
+  pushes = other.pushes ∙ sym alike.pushes;
+  pops = other.pops ∙ sym alike.pops;
+}
+
+-- two packets came to each, in the two orders
+pub same_beside : (policy : Policy) (accepted : IsAccepted policy) (plain : IsPlain policy.tree) (p q : Packet) → p.number ≢ q.number → IsSendable policy p → IsSendable policy q
+    → IsSameBeside policy.tree (after policy (Arrive p ∷ Arrive q ∷ []) (start policy)) (after policy (Arrive q ∷ Arrive p ∷ []) (start policy))
+same_beside policy accepted plain p q apart first second = record {
+  nodes = same_nodes policy plain _ _
+      (sound_after policy (Arrive p ∷ Arrive q ∷ []) (start policy) accepted (sound_start policy accepted) (both_come policy accepted p q apart first second))
+      (sound_after policy (Arrive q ∷ Arrive p ∷ []) (start policy) accepted (sound_start policy accepted) (both_come policy accepted q p (λ e. apart (sym e)) second first));
+  held = same_held p q (λ _. None) apart;
+  now = same_now 0 p.moment q.moment;
+}
+
+module _ {F : Type 0} (fabrics : Ghosts F) (policy : Policy) (accepted : IsAccepted policy) (plain : IsPlain policy.tree) (p q : Packet) (apart : p.number ≢ q.number) (first : IsSendable policy p) (second : IsSendable policy q) where
+  pub stands_exchanged : (c d : Embedded F) (u v : F) → policy_in c.own ≡ policy → AreAlike c d
+      → EmbeddedStands fabrics c u (after policy (Arrive p ∷ Arrive q ∷ []) (start policy)) → EmbeddedStands fabrics d v (after policy (Arrive q ∷ Arrive p ∷ []) (start policy))
+      → StandForOne (EmbeddedStands fabrics) policy c v (λ _. Unit {0})
+  stands_exchanged c d u v own alike one other = record {
+    state = after policy (Arrive q ∷ Arrive p ∷ []) (start policy);
+    sound = sound_after policy (Arrive q ∷ Arrive p ∷ []) (start policy) accepted (sound_start policy accepted) (both_come policy accepted q p (λ e. apart (sym e)) second first);
+    stood = stands_with_another fabrics c d u v (after policy (Arrive p ∷ Arrive q ∷ []) (start policy)) (after policy (Arrive q ∷ Arrive p ∷ []) (start policy)) alike
+        (subst (λ (r : Policy). IsSameBeside r.tree (after policy (Arrive p ∷ Arrive q ∷ []) (start policy)) (after policy (Arrive q ∷ Arrive p ∷ []) (start policy))) (sym own) (same_beside policy accepted plain p q apart first second)) one other;
+    has = tt;
+  }

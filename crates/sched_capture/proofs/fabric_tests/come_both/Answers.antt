@@ -1,0 +1,35 @@
+use Rattle.std.proofs.Common.{◌∙◌}
+use Rattle.sched_defs.specs.SourceState.{start, arrived}
+use Rattle.sched_defs.specs.Events.{CanArrive}
+use Rattle.sched_defs.proofs.Soundness.{sound_start, sound_arrived}
+use Rattle.sched_capture.proofs.Turns.{asked, stands_arrived}
+use Rattle.sched_capture.proofs.fabric_tests.come_both.Goals as goal
+
+pub arrive-requires-clause-stands : goal.arrive-requires-clause-stands
+arrive-requires-clause-stands g c =
+    let policy = c.args.policy.now.policy in
+    let r = c.requires in
+    asked g.C.Scheduler.stands _ policy r.policy r.accepted _ _ (λ q s. CanArrive q s c.args.first.now)
+    (record { state = start policy; sound = sound_start policy r.accepted; stood = r.stands; has = r.can.0 })
+
+pub arrive-requires-2-clause-stands : goal.arrive-requires-2-clause-stands
+arrive-requires-2-clause-stands g c =
+    let policy = c.args.policy.now.policy in
+    let r = c.requires in
+    let sound = sound_start policy r.accepted in
+    asked g.C.Scheduler.stands _ policy (c.in_ok-arrive.ensures.policy ∙ r.policy) r.accepted _ _ (λ q s. CanArrive q s c.args.second.now)
+    (record {
+      state = arrived policy c.args.first.now (start policy);
+      sound = sound_arrived policy c.args.first.now (start policy) r.accepted sound r.can.0;
+      stood = stands_arrived g.C.Scheduler.stands _ policy r.policy r.accepted _ _ _ _ c.args.first.now c.in_ok-arrive.ensures.ok (start policy) sound r.stands;
+      has = r.can.1.0;
+    })
+
+pub returns-clause-stands : goal.returns-clause-stands
+returns-clause-stands g c =
+    let policy = c.args.policy.now.policy in
+    let r = c.requires in
+    let sound = sound_start policy r.accepted in
+    let next = sound_arrived policy c.args.first.now (start policy) r.accepted sound r.can.0 in
+    stands_arrived g.C.Scheduler.stands _ policy (c.in_ok-arrive.ensures.policy ∙ r.policy) r.accepted _ _ _ _ c.args.second.now c.in_ok-arrive-2.ensures.ok _ next
+    (stands_arrived g.C.Scheduler.stands _ policy r.policy r.accepted _ _ _ _ c.args.first.now c.in_ok-arrive.ensures.ok (start policy) sound r.stands)

@@ -1,0 +1,16 @@
+use Rattle.std.proofs.Common.{arith}
+use Rattle.sched_capture.proofs.Turns.{at_first}
+use Rattle.sched_capture.proofs.fabric_tests.run_office.Goals as goal
+
+pub loop-comes-init : goal.loop-comes-init
+loop-comes-init g c =
+    let r = c.requires in
+    let levels = c.depth.ensures in
+    record {
+      stands = at_first g.C.Scheduler.stands _ c.args.policy.now.policy r.policy levels.accepted _ _ r.stands;
+      same = r.policy;
+      room = omega (arith, levels.levels, c.in_ok-trace.ensures.room);
+      next = omega arith;
+      arrivals = omega (arith, r.no_arrivals);
+      departures = omega (arith, r.no_departures);
+    }

@@ -1,0 +1,15 @@
+use Rattle.std.proofs.Common.{◌≡◌, ◌≤◌, IsTrue}
+use Rattle.tree_defs.specs.Tree.{depth}
+use Rattle.sched_core.specs.Standing.{StandForOne}
+use Rattle.sched_capture.proofs.fabric_tests.tell_three.Given as goal
+
+abbrev pub invariant-loop-event : goal.invariant-loop-event
+invariant-loop-event g l =
+    let scheduler = g.C.Scheduler in
+    record {
+      stands : StandForOne scheduler.stands l.policy.policy l.scheduler l.under (λ _. Unit {0});
+      same : scheduler.policy l.scheduler ≡ l.policy.policy;
+      room : depth l.policy.policy.tree ≤ l.trace.room;
+      live : IsTrue l.report.live;
+      departures : scheduler.departures l.scheduler ≤ l.event;
+    }

@@ -1,0 +1,113 @@
+ghost use Rattle.std.specs.Prelude.{◌≡◌, ◌≤◌, List, codes, IfOk, IfErr, IfSome, IsErrOf, IsTrue, OnOk, OnErr};
+ghost use Rattle.outside_core.specs.Faults.{Rose};
+ghost use Rattle.outside_core.specs.Written.{Appended, AppendedPrefix};
+ghost use Rattle.report_defs.specs.Report.{fault_line};
+ghost use Rattle.pcap_defs.specs.Reading.{capture_of};
+ghost use Rattle.events_core.specs.Steps.{counts_of};
+ghost use Rattle.events_core.specs.declared.step.Step.{Step};
+ghost use Rattle.course_core.specs.Endings.{ended};
+ghost use Rattle.sched_packets.specs.Arrivals.{policy_of, given_by, left_of, IsReady, Begins};
+ghost use Rattle.sched_capture.specs.Answers.{IsRefusal, direct_answer};
+
+use crate::course::run_over;
+use sched_packets::{Arrivals, Halt};
+use course_core::{Ending, Stop};
+use events_core::Step;
+use outside_core::{Shelf, Sink};
+use policy_core::Policy;
+use report_core::{FaultKind, Report};
+use sched_core::Direct;
+use std::alloc::Global;
+
+/// Writes the line of a capture whose header is at fault, as the whole report. The answer is how the run ends.
+fn refuse<K: Sink>(alloc: Global, sink: &mut K, code: u32, place: u64) -> Result<Ending, Stop>
+    ensures ending { IfOk result (λ e. e ≡ Ending.BadCapture code place) }
+    ensures text { OnOk result (Appended (K.written sink.old) (K.written sink.new) (fault_line (codes "capture") code place)) }
+    ensures part { OnErr result (AppendedPrefix (K.written sink.old) (K.written sink.new) (fault_line (codes "capture") code place)) }
+    ensures cause { IsErrOf result Stop.Sink → Rose (K.faults sink.old) (K.faults sink.new) }
+    ensures not_source { IsErrOf result Stop.Source → ⊥ }
+    ensures later { K.faults sink.old ≤ K.faults sink.new }
+{
+    let Ok(mut report) = Report::new(alloc) else {
+        return Err(Stop::Memory);
+    };
+    report.fault(sink, FaultKind::Capture, code, place)?;
+    report.finish(sink)?;
+    Ok(Ending::BadCapture(code, place))
+}
+
+/// Reads the header of the begun capture. Where no run goes on from there, the error is the run's answer: the capture's
+/// fault, told in the one line of the report, or the cause of a stop.
+pub fn begin<'a, S: Shelf, K: Sink>(
+    alloc: Global,
+    policy: &'a Policy,
+    shelf: &mut S,
+    sink: &mut K,
+) -> Result<Arrivals<'a, S>, Result<Ending, Stop>>
+    requires begun { IsTrue (S.begun shelf.old) }
+
+    ensures begins { IfOk result (λ a. IfSome (S.left shelf.old) (λ file.
+        Begins policy.now (capture_of file) (left_of a (S.left shelf.new)))) }
+    ensures policy { IfOk result (λ a. policy_of a ≡ policy.now.policy) }
+    ensures none_given { IfOk result (λ a. given_by a ≡ 0) }
+    ensures ready { IfOk result (λ a. IsReady a (S.begun shelf.new)) }
+    ensures unwritten { OnOk result (sink.new ≡ sink.old) }
+
+    ensures refused { IfErr result (λ answer. IfOk answer (λ e. IfSome (S.left shelf.old) (λ file.
+        IsRefusal (capture_of file) e (K.written sink.old) (K.written sink.new)))) }
+    ensures part { IfErr result (λ answer. OnErr answer ((steps : List Step) → IfSome (S.left shelf.old) (λ file.
+        AppendedPrefix (K.written sink.old) (K.written sink.new) (direct_answer policy.now steps file).text))) }
+    ensures cause { IfErr result (λ answer. IsErrOf answer Stop.Sink → Rose (K.faults sink.old) (K.faults sink.new)) }
+    ensures cause_source { IfErr result (λ answer. IsErrOf answer Stop.Source → Rose (S.faults shelf.old) (S.faults shelf.new)) }
+    ensures later { K.faults sink.old ≤ K.faults sink.new }
+    ensures later_source { S.faults shelf.old ≤ S.faults shelf.new }
+{
+    match Arrivals::start(alloc, policy, shelf) {
+        Ok(packets) => Ok(packets),
+        Err(Halt::Fault(code, place)) => Err(refuse(alloc, sink, code, place)),
+        Err(Halt::Source) => Err(Err(Stop::Source)),
+        Err(Halt::Memory) => Err(Err(Stop::Memory)),
+    }
+}
+
+/// Runs the steps of a script over the begun capture, through the policy's own tree of queues, and writes the whole report.
+/// The answer is how the run ended: at a capture with a fault and at a script that asks for too much, too. It is an error
+/// where the capture can't be read, the report can't be written, or there is no memory; the report is then cut short.
+pub fn direct<S: Shelf, K: Sink>(
+    alloc: Global,
+    policy: &Policy,
+    steps: &[Step],
+    shelf: &mut S,
+    sink: &mut K,
+) -> Result<Ending, Stop>
+    requires begun { IsTrue (S.begun shelf.old) }
+    requires short { counts_of steps.now ≤ 4194304 }
+
+    ensures ending { IfOk result (λ e. IfSome (S.left shelf.old) (λ file. e ≡ ended (direct_answer policy.now steps.now file).ending)) }
+    ensures text { OnOk result (IfSome (S.left shelf.old) (λ file.
+        Appended (K.written sink.old) (K.written sink.new) (direct_answer policy.now steps.now file).text)) }
+    ensures part { OnErr result (IfSome (S.left shelf.old) (λ file.
+        AppendedPrefix (K.written sink.old) (K.written sink.new) (direct_answer policy.now steps.now file).text)) }
+    ensures cause { IsErrOf result Stop.Sink → Rose (K.faults sink.old) (K.faults sink.new) }
+    ensures cause_source { IsErrOf result Stop.Source → Rose (S.faults shelf.old) (S.faults shelf.new) }
+    ensures later { K.faults sink.old ≤ K.faults sink.new }
+    ensures later_source { S.faults shelf.old ≤ S.faults shelf.new }
+{
+    let mut packets = match begin(alloc, policy, shelf, sink) {
+        Ok(packets) => packets,
+        Err(answer) => return answer,
+    };
+    let Ok((mut scheduler, mut tree)) = Direct::new(alloc, policy) else {
+        return Err(Stop::Memory);
+    };
+    run_over(
+        alloc,
+        policy,
+        &mut scheduler,
+        &mut tree,
+        steps,
+        &mut packets,
+        shelf,
+        sink,
+    )
+}

@@ -1,0 +1,77 @@
+ghost use Rattle.std.specs.Prelude.{◌≡◌, ◌≤◌, ◌<◌, ◌^◌, length, IfOk, IfSome, IsErrOf, IsTrue, OnOk, OnErr};
+ghost use Rattle.outside_core.specs.Faults.{Rose};
+ghost use Rattle.outside_core.specs.Written.{Appended, AppendedPrefix};
+ghost use Rattle.tree_defs.specs.Tree.{SameShape};
+ghost use Rattle.tree_defs.specs.Topology.{topology_of, complete};
+ghost use Rattle.target_defs.specs.Target.{IsInRange};
+ghost use Rattle.embed_defs.specs.Images.{image_map};
+ghost use Rattle.embed_defs.specs.Embedding.{IsEmbedding};
+ghost use Rattle.events_core.specs.Steps.{counts_of};
+ghost use Rattle.course_core.specs.Endings.{ended};
+ghost use Rattle.sched_embedded.specs.Fabrics.{Leaves, LeavesPart, run_of};
+ghost use Rattle.sched_capture.specs.Answers.{direct_answer};
+
+use crate::capture::begin;
+use crate::course::run_over;
+use course_core::{Ending, Stop};
+use embed_core::{Map, Target};
+use sched_embedded::Embedded;
+use events_core::Step;
+use fabric_core::Fabric;
+use outside_core::{Shelf, Sink};
+use policy_core::Policy;
+use std::alloc::Global;
+
+/// Runs the steps of a script over the begun capture, through a fabric into which the policy's tree is laid by a map, and
+/// writes the whole report: that of the policy's own tree. The fabric takes the target's shape when the capture's header
+/// is accepted. The answer and the errors are those of `direct`.
+pub fn replay<S: Shelf, K: Sink, F: Fabric>(
+    alloc: Global,
+    policy: &Policy,
+    map: Map,
+    target: &Target,
+    steps: &[Step],
+    shelf: &mut S,
+    sink: &mut K,
+    fabric: &mut F,
+) -> Result<Ending, Stop>
+    requires begun { IsTrue (S.begun shelf.old) }
+    requires short { counts_of steps.now ≤ 4194304 }
+    requires range { IsInRange target.now.arities target.now.above }
+    requires map_shape { SameShape (topology_of policy.now.policy.tree) map }
+    requires embedding { IsEmbedding (topology_of policy.now.policy.tree) (complete target.now.arities) (image_map map) }
+    requires pushes { F.pushed fabric.old < 2 ^ 61 }
+    requires pops { F.popped fabric.old < 2 ^ 61 }
+
+    ensures ending { IfOk result (λ e. IfSome (S.left shelf.old) (λ file. e ≡ ended (direct_answer policy.now steps.now file).ending)) }
+    ensures text { OnOk result (IfSome (S.left shelf.old) (λ file.
+        Appended (K.written sink.old) (K.written sink.new) (direct_answer policy.now steps.now file).text)) }
+    ensures part { OnErr result (IfSome (S.left shelf.old) (λ file.
+        AppendedPrefix (K.written sink.old) (K.written sink.new) (direct_answer policy.now steps.now file).text)) }
+    ensures fabric { OnOk result (IfSome (S.left shelf.old) (λ file.
+        Leaves F.Fabric (run_of policy.now.policy (record { images = map; arities = target.now.arities }) (direct_answer policy.now steps.now file).events) fabric.old fabric.new)) }
+    ensures fabric_part { OnErr result (IfSome (S.left shelf.old) (λ file.
+        LeavesPart F.Fabric (run_of policy.now.policy (record { images = map; arities = target.now.arities }) (direct_answer policy.now steps.now file).events) fabric.old fabric.new)) }
+    ensures cause { IsErrOf result Stop.Sink → Rose (K.faults sink.old) (K.faults sink.new) }
+    ensures cause_source { IsErrOf result Stop.Source → Rose (S.faults shelf.old) (S.faults shelf.new) }
+    ensures later { K.faults sink.old ≤ K.faults sink.new }
+    ensures later_source { S.faults shelf.old ≤ S.faults shelf.new }
+{
+    let mut packets = match begin(alloc, policy, shelf, sink) {
+        Ok(packets) => packets,
+        Err(answer) => return answer,
+    };
+    let Ok(mut scheduler) = Embedded::new(alloc, policy, map, target, fabric) else {
+        return Err(Stop::Memory);
+    };
+    run_over(
+        alloc,
+        policy,
+        &mut scheduler,
+        fabric,
+        steps,
+        &mut packets,
+        shelf,
+        sink,
+    )
+}

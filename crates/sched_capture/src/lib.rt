@@ -1,0 +1,16 @@
+//! A run of a script over a capture, through the tree of queues of a policy or through a fabric, with its whole report.
+#![tactic(auto)]
+
+mod capture;
+mod course;
+mod fabric;
+#[cfg(test)]
+mod fabric_tests;
+#[cfg(test)]
+mod tests;
+
+pub use sched_packets::Arrivals;
+pub use capture::{begin, direct};
+pub use course::run_over;
+pub use course_core::{Ending, Stop};
+pub use fabric::replay;

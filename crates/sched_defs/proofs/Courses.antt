@@ -1,0 +1,174 @@
+-- The events of a script can be made, and are few.
+use Rattle.std.proofs.Common.{◌≡◌, ◌<◌, ◌≤◌, ℕ, zero, suc, ◌+◌, ◌-◌, List, [], ◌∷◌, map, length, take, drop, replicate, Option, Some, None, refl, ap, ◌∙◌, subst, arith, inl, inr}
+use Rattle.tree_defs.specs.Tree.{Popping}
+use Rattle.tree_defs.specs.SourceTree.{SourceTree, pop, size}
+use Rattle.pcap_defs.specs.Fault.{Fault}
+use Rattle.packet_defs.specs.declared.packet.Packet.{Packet}
+use Rattle.policy_defs.specs.Policy.{Policy}
+use Rattle.policy_defs.specs.Accepted.{IsAccepted}
+use Rattle.sched_defs.specs.SourceState.{Held, SourceState, arrived, departed, left_from, left_with}
+use Rattle.sched_defs.specs.Sound.{IsSound}
+use Rattle.sched_defs.specs.Events.{Event, Arrive, Depart, after, arrivals_in, departures_in, CanMake}
+use Rattle.sched_defs.specs.Script.{Step, Arrivals, Departures, Rest, Drain, Ending, Course, course, step_events, left_by, stop_at, stopped_or}
+use Rattle.sched_defs.specs.Numbered.{IsHeldBelow, CanBeSent, departures_asked}
+use Rattle.sched_defs.specs.Laws.{IsCourseShort}
+use Rattle.sched_defs.proofs.Soundness.{with_packet-is, without-is, sound_arrived, sound_departed}
+use Rattle.sched_defs.proofs.Runs.{sound_after, CanMake-departures, CanMake-joined, arrivals_in-append, departures_in-append, arrivals_in-departures, departures_in-departures, arrivals_in-arrivals, departures_in-arrivals}
+use Rattle.sched_defs.proofs.Leaving.{size_arrived, size_departed}
+
+-- ---- numbers
+pub held_none : (held : Held) (n : ℕ) → IsHeldBelow n held → held n ≡ None
+held_none held n below = by_held (held n) refl
+  where
+    by_held : (o : Option Packet) → held n ≡ o → held n ≡ None
+    by_held None e = e
+    by_held (Some p) e = let l : n < n = below n p e in absurd (omega arith)
+
+pub held_arrived : (policy : Policy) (p : Packet) (s : SourceState) (n : ℕ) → p.number ≡ n → IsHeldBelow n s.held → IsHeldBelow (n + 1) (arrived policy p s).held
+held_arrived policy p s n e below m q h =
+    elim (with_packet-is s.held p m q h) [
+      | inl w ↦ let k = w.0 in omega arith
+      | inr w ↦ let k = below m q w in omega arith
+    ]
+
+pub held_departed : (policy : Policy) (s : SourceState) (n : ℕ) → IsHeldBelow n s.held → IsHeldBelow n (departed policy s).held
+held_departed policy s n below = by_pop (pop s.tree)
+  where
+    by_packet : (taken : Popping SourceTree) (o : Option Packet) → IsHeldBelow n (left_with policy s taken o).held
+    by_packet taken None = below
+    by_packet taken (Some p) = λ m q h. below m q (without-is s.held taken.value m q h).1
+
+    by_pop : (o : Option (Popping SourceTree)) → IsHeldBelow n (left_from policy s o).held
+    by_pop None = below
+    by_pop (Some taken) = by_packet taken (s.held taken.value)
+
+-- after some of the packets arrived, the others can be sent
+sent_front : (policy : Policy) (n k : ℕ) (packets : List Packet) (s : SourceState) → CanBeSent policy n packets s → CanMake policy (map Arrive (take k packets)) s
+sent_front policy n zero packets s can = tt
+sent_front policy n (suc k) [] s can = tt
+sent_front policy n (suc k) (p ∷ packets) s can =
+    let number = can.numbered.0 in (
+      record { fresh = ap s.held number ∙ held_none s.held n can.held; known = can.sendable.0.known; moment = can.sendable.0.moment },
+      sent_front policy (n + 1) k packets (arrived policy p s) (record { numbered = can.numbered.1; sendable = can.sendable.1; held = held_arrived policy p s n number can.held }),
+    )
+
+sent_rest : (policy : Policy) (n k : ℕ) (packets : List Packet) (s : SourceState) → CanBeSent policy n packets s → CanBeSent policy (n + length (take k packets)) (drop k packets) (after policy (map Arrive (take k packets)) s)
+sent_rest policy n zero packets s can = subst (λ (m : ℕ). CanBeSent policy m packets s) (omega arith) can
+sent_rest policy n (suc k) [] s can = subst (λ (m : ℕ). CanBeSent policy m [] s) (omega arith) can
+sent_rest policy n (suc k) (p ∷ packets) s can =
+    let more = sent_rest policy (n + 1) k packets (arrived policy p s) (record { numbered = can.numbered.1; sendable = can.sendable.1; held = held_arrived policy p s n can.numbered.0 can.held }) in
+    subst (λ (m : ℕ). CanBeSent policy m (drop k packets) (after policy (map Arrive (take k packets)) (arrived policy p s))) (omega arith) more
+
+sent_departures : (policy : Policy) (n k : ℕ) (packets : List Packet) (s : SourceState) → CanBeSent policy n packets s → CanBeSent policy n packets (after policy (replicate k Depart) s)
+sent_departures policy n zero packets s can = can
+sent_departures policy n (suc k) packets s can =
+    sent_departures policy n k packets (departed policy s) (record { numbered = can.numbered; sendable = can.sendable; held = held_departed policy s n can.held })
+
+take_whole : {X : Type 0} (xs : List X) → take (length xs) xs ≡ xs
+take_whole [] = refl
+take_whole {X} (x ∷ xs) = ap (λ (l : List X). x ∷ l) (take_whole xs)
+
+drop_whole : {X : Type 0} (xs : List X) → drop (length xs) xs ≡ []
+drop_whole [] = refl
+drop_whole (x ∷ xs) = drop_whole xs
+
+-- what a step leaves to send
+record IsStepMade (policy : Policy) (step : Step) (n : ℕ) (packets : List Packet) (s : SourceState) : Type 0 where
+  can : CanMake policy (step_events step packets s) s
+  next : ℕ
+  rest : CanBeSent policy next (left_by step packets) (after policy (step_events step packets s) s)
+
+step_made : (policy : Policy) (step : Step) (n : ℕ) (packets : List Packet) (s : SourceState) → CanBeSent policy n packets s → IsStepMade policy step n packets s
+step_made policy (Arrivals k) n packets s can = record { can = sent_front policy n k packets s can; next = n + length (take k packets); rest = sent_rest policy n k packets s can }
+step_made policy (Departures k) n packets s can = record { can = CanMake-departures policy k s; next = n; rest = sent_departures policy n k packets s can }
+step_made policy Rest n packets s can = record {
+  can = subst (λ (ps : List Packet). CanMake policy (map Arrive ps) s) (take_whole packets) (sent_front policy n (length packets) packets s can);
+  next = n + length packets;
+  rest = subst (λ (ps : List Packet). CanBeSent policy (n + length ps) [] (after policy (map Arrive ps) s)) (take_whole packets)
+      (subst (λ (ps : List Packet). CanBeSent policy (n + length (take (length packets) packets)) ps (after policy (map Arrive (take (length packets) packets)) s)) (drop_whole packets) (sent_rest policy n (length packets) packets s can));
+}
+step_made policy Drain n packets s can = record { can = CanMake-departures policy (size s.tree) s; next = n; rest = sent_departures policy n (size s.tree) packets s can }
+
+stopped_can : (policy : Policy) (events : List Event) (ending : Option Ending) (c : Course) (s : SourceState) → CanMake policy events s → CanMake policy c.events (after policy events s) → CanMake policy (stopped_or events ending c).events s
+stopped_can policy events (Some e) c s can rest = can
+stopped_can policy events None c s can rest = CanMake-joined policy events c.events s can rest
+
+pub course_can : (policy : Policy) (steps : List Step) (packets : List Packet) (fault : Option Fault) (first event : ℕ) (s : SourceState) → CanBeSent policy first packets s → CanMake policy (course policy steps packets fault s event).events s
+course_can policy [] packets fault first event s can = tt
+course_can policy (step ∷ steps) packets fault first event s can =
+    let made : IsStepMade policy step first packets s = step_made policy step first packets s can in
+    stopped_can policy (step_events step packets s) (stop_at step packets fault (event + length (step_events step packets s)))
+    (course policy steps (left_by step packets) fault (after policy (step_events step packets s) s) (event + length (step_events step packets s))) s made.can
+    (course_can policy steps (left_by step packets) fault made.next (event + length (step_events step packets s)) (after policy (step_events step packets s) s) made.rest)
+
+-- ---- counts
+size_arrivals : (policy : Policy) (packets : List Packet) (s : SourceState) → IsAccepted policy → IsSound policy s → CanMake policy (map Arrive packets) s → size (after policy (map Arrive packets) s).tree ≡ size s.tree + length packets
+size_arrivals policy [] s accepted sound can = omega arith
+size_arrivals policy (p ∷ packets) s accepted sound can =
+    let one = size_arrived policy p s accepted sound can.0 in
+    let more = size_arrivals policy packets (arrived policy p s) accepted (sound_arrived policy p s accepted sound can.0) can.1 in
+    omega arith
+
+pub size_departures : (policy : Policy) (n : ℕ) (s : SourceState) → IsAccepted policy → IsSound policy s → size (after policy (replicate n Depart) s).tree ≡ size s.tree - n
+size_departures policy zero s accepted sound = omega arith
+size_departures policy (suc n) s accepted sound =
+    let one = size_departed policy s sound in
+    let more = size_departures policy n (departed policy s) accepted (sound_departed policy s accepted sound) in
+    omega arith
+
+length-split : {X : Type 0} (k : ℕ) (xs : List X) → length (take k xs) + length (drop k xs) ≡ length xs
+length-split zero xs = omega arith
+length-split (suc k) [] = omega arith
+length-split (suc k) (x ∷ xs) = let h = length-split k xs in omega arith
+
+-- what a step's events count
+record IsStepShort (policy : Policy) (step : Step) (packets : List Packet) (s : SourceState) : Type 0 where
+  arrivals : arrivals_in (step_events step packets s) + length (left_by step packets) ≤ length packets
+  departures : departures_in (step_events step packets s) + size (after policy (step_events step packets s) s).tree ≤ departures_asked (step ∷ []) + size s.tree + arrivals_in (step_events step packets s)
+
+step_short : (policy : Policy) (step : Step) (packets : List Packet) (s : SourceState) → IsAccepted policy → IsSound policy s → CanMake policy (step_events step packets s) s → IsStepShort policy step packets s
+step_short policy (Arrivals k) packets s accepted sound can =
+    let a = arrivals_in-arrivals (take k packets) in let d = departures_in-arrivals (take k packets) in
+    let l = length-split k packets in let m = size_arrivals policy (take k packets) s accepted sound can in
+    record { arrivals = omega arith; departures = omega arith }
+step_short policy (Departures k) packets s accepted sound can =
+    let a = arrivals_in-departures k in let d = departures_in-departures k in
+    let m = size_departures policy k s accepted sound in
+    record { arrivals = omega arith; departures = omega arith }
+step_short policy Rest packets s accepted sound can =
+    let a = arrivals_in-arrivals packets in let d = departures_in-arrivals packets in
+    let m = size_arrivals policy packets s accepted sound can in
+    record { arrivals = omega arith; departures = omega arith }
+step_short policy Drain packets s accepted sound can =
+    let a = arrivals_in-departures (size s.tree) in let d = departures_in-departures (size s.tree) in
+    let m = size_departures policy (size s.tree) s accepted sound in
+    record { arrivals = omega arith; departures = omega arith }
+
+asked_more : (step : Step) (steps : List Step) → departures_asked (step ∷ steps) ≡ departures_asked (step ∷ []) + departures_asked steps
+asked_more (Arrivals k) steps = omega arith
+asked_more (Departures k) steps = omega arith
+asked_more Rest steps = omega arith
+asked_more Drain steps = omega arith
+
+stopped_short : (policy : Policy) (step : Step) (steps : List Step) (packets : List Packet) (s : SourceState) (ending : Option Ending) (c : Course) → IsStepShort policy step packets s
+    → IsCourseShort policy steps (left_by step packets) (after policy (step_events step packets s) s) c.events → IsCourseShort policy (step ∷ steps) packets s (stopped_or (step_events step packets s) ending c).events
+stopped_short policy step steps packets s (Some e) c here rest =
+    let a = here.arrivals in let d = here.departures in let m = asked_more step steps in
+    record { arrivals = omega arith; departures = omega arith }
+stopped_short policy step steps packets s None c here rest =
+    let a = here.arrivals in let d = here.departures in let m = asked_more step steps in
+    let b = rest.arrivals in let f = rest.departures in
+    let x = arrivals_in-append (step_events step packets s) c.events in
+    let y = departures_in-append (step_events step packets s) c.events in
+    record { arrivals = omega arith; departures = omega arith }
+
+pub course_short : (policy : Policy) (steps : List Step) (packets : List Packet) (fault : Option Fault) (first event : ℕ) (s : SourceState) → IsAccepted policy → IsSound policy s → CanBeSent policy first packets s
+    → IsCourseShort policy steps packets s (course policy steps packets fault s event).events
+course_short policy [] packets fault first event s accepted sound can = record { arrivals = omega arith; departures = omega arith }
+course_short policy (step ∷ steps) packets fault first event s accepted sound can =
+    let made : IsStepMade policy step first packets s = step_made policy step first packets s can in
+    stopped_short policy step steps packets s (stop_at step packets fault (event + length (step_events step packets s)))
+    (course policy steps (left_by step packets) fault (after policy (step_events step packets s) s) (event + length (step_events step packets s)))
+    (step_short policy step packets s accepted sound made.can)
+    (course_short policy steps (left_by step packets) fault made.next (event + length (step_events step packets s)) (after policy (step_events step packets s) s) accepted
+    (sound_after policy (step_events step packets s) s accepted sound made.can) made.rest)

@@ -1,0 +1,99 @@
+-- What follows from the definitions of states and events.
+use Rattle.std.specs.Prelude.{◌≡◌, ◌≤◌, ◌↔◌, ℕ, ◌+◌, ◌-◌, nat_eq, IsSome, Option, None, Some, List, ◌++◌, length, replicate}
+use Rattle.std.specs.List.{AllByRecursion, IsDistinct, Contains}
+use Rattle.tree_defs.specs.Tree.{LeadsToLeaf}
+use Rattle.tree_defs.specs.SourceTree.{size}
+use Rattle.rank_defs.specs.Programs.{max_rank}
+use Rattle.packet_defs.specs.declared.packet.Packet.{Packet}
+use Rattle.policy_defs.specs.Policy.{Policy}
+use Rattle.policy_defs.specs.Accepted.{IsAccepted}
+use Rattle.sched_defs.specs.SourceState.{Held, SourceState, Leaver, start, class_of, arrival_ranks, arrived, departed, leaver}
+use Rattle.sched_defs.specs.Sound.{IsSound}
+use Rattle.sched_defs.specs.Events.{Event, Depart, after, outcomes, arrivals_in, departures_in, CanArrive, CanMake}
+use Rattle.sched_defs.specs.Script.{Step, course}
+use Rattle.sched_defs.specs.Numbered.{CanBeSent, departures_asked}
+use Rattle.pcap_defs.specs.Fault.{Fault}
+
+-- ---- sound states
+abbrev pub StartIsSound : Type 0
+StartIsSound = (policy : Policy) → IsAccepted policy → IsSound policy (start policy)
+
+abbrev pub ArrivalsKeepSound : Type 0
+ArrivalsKeepSound = (policy : Policy) (p : Packet) (s : SourceState) → IsAccepted policy → IsSound policy s → CanArrive policy s p → IsSound policy (arrived policy p s)
+
+abbrev pub DeparturesKeepSound : Type 0
+DeparturesKeepSound = (policy : Policy) (s : SourceState) → IsAccepted policy → IsSound policy s → IsSound policy (departed policy s)
+
+abbrev pub EventsKeepSound : Type 0
+EventsKeepSound = (policy : Policy) (events : List Event) (s : SourceState) → IsAccepted policy → IsSound policy s → CanMake policy events s → IsSound policy (after policy events s)
+
+-- ---- what a sound state holds
+-- these are the numbers of the packets that are held, each once
+pub record AreNumbersOf (held : Held) (numbers : List ℕ) : Type 0 where
+  pub distinct : IsDistinct nat_eq numbers
+  pub each : (n : ℕ) → Contains numbers n ↔ IsSome (held n)
+
+-- as many packets are held as stand in the leaves
+abbrev pub HeldStandInLeaves : Type 0
+HeldStandInLeaves = (policy : Policy) (s : SourceState) (numbers : List ℕ) → IsSound policy s → AreNumbersOf s.held numbers → length numbers ≡ size s.tree
+
+abbrev pub ArrivalsAddOne : Type 0
+ArrivalsAddOne = (policy : Policy) (p : Packet) (s : SourceState) → IsAccepted policy → IsSound policy s → CanArrive policy s p → size (arrived policy p s).tree ≡ size s.tree + 1
+
+abbrev pub DeparturesTakeOne : Type 0
+DeparturesTakeOne = (policy : Policy) (s : SourceState) → IsSound policy s → size (departed policy s).tree ≡ size s.tree - 1
+
+-- ---- what arrives and what leaves
+-- a rank in range for each node on the way
+pub record AreRanksTo (digits ranks : List ℕ) : Type 0 where
+  pub count : length ranks ≡ length digits + 1
+  pub low : AllByRecursion (λ r. r ≤ max_rank) ranks
+
+-- a packet arrives at a leaf, with a rank in range at each node on its way
+pub record ArrivesAtALeaf (policy : Policy) (p : Packet) (s : SourceState) : Type 0 where
+  pub leaf_address : LeadsToLeaf s.tree (class_of policy p).leaf
+  pub ranks : AreRanksTo (class_of policy p).leaf (arrival_ranks policy p s)
+
+abbrev pub ArrivalsComeToLeaves : Type 0
+ArrivalsComeToLeaves = (policy : Policy) (p : Packet) (s : SourceState) → IsAccepted policy → IsSound policy s → CanArrive policy s p → ArrivesAtALeaf policy p s
+
+abbrev pub NothingLeavesWhereNothingIsHeld : Type 0
+NothingLeavesWhereNothingIsHeld = (policy : Policy) (s : SourceState) → IsSound policy s → (leaver s ≡ None) ↔ (size s.tree ≡ 0)
+
+-- the packet is held under its number, and leaves from the leaf of its class with a rank in range at each node on its way
+pub record LeavesItsLeaf (policy : Policy) (s : SourceState) (l : Leaver) : Type 0 where
+  pub held : s.held l.packet.number ≡ Some l.packet
+  pub leaf_is : l.digits ≡ (class_of policy l.packet).leaf
+  pub leaf_address : LeadsToLeaf s.tree l.digits
+  pub ranks : AreRanksTo l.digits l.ranks
+
+abbrev pub PacketsLeaveTheirLeaves : Type 0
+PacketsLeaveTheirLeaves = (policy : Policy) (s : SourceState) (l : Leaver) → IsSound policy s → leaver s ≡ Some l → LeavesItsLeaf policy s l
+
+-- ---- events in a row
+-- events, and then some more
+pub record EventsJoin : Type 0 where
+  pub states : (policy : Policy) (es fs : List Event) (s : SourceState) → after policy (es ++ fs) s ≡ after policy fs (after policy es s)
+  pub told : (policy : Policy) (es fs : List Event) (s : SourceState) → outcomes policy (es ++ fs) s ≡ outcomes policy es s ++ outcomes policy fs (after policy es s)
+  pub possible : (policy : Policy) (es fs : List Event) (s : SourceState) → CanMake policy (es ++ fs) s ↔ CanMake policy es s × CanMake policy fs (after policy es s)
+
+-- departures can always be made
+abbrev pub DeparturesCanBeMade : Type 0
+DeparturesCanBeMade = (policy : Policy) (n : ℕ) (s : SourceState) → CanMake policy (replicate n Depart) s
+
+-- ---- scripts
+-- the events of a script over packets in the order of a capture can be made
+abbrev pub CoursesCanBeMade : Type 0
+CoursesCanBeMade =
+    (policy : Policy) (steps : List Step) (packets : List Packet) (fault : Option Fault) (first event : ℕ) (s : SourceState) → CanBeSent policy first packets s
+    → CanMake policy (course policy steps packets fault s event).events s
+
+-- no more packets arrive than there are, and none leaves by `drain` that wasn't held or didn't arrive
+pub record IsCourseShort (policy : Policy) (steps : List Step) (packets : List Packet) (s : SourceState) (events : List Event) : Type 0 where
+  pub arrivals : arrivals_in events ≤ length packets
+  pub departures : departures_in events ≤ departures_asked steps + size s.tree + arrivals_in events
+
+abbrev pub CoursesAreShort : Type 0
+CoursesAreShort =
+    (policy : Policy) (steps : List Step) (packets : List Packet) (fault : Option Fault) (first event : ℕ) (s : SourceState) → IsAccepted policy → IsSound policy s → CanBeSent policy first packets s
+    → IsCourseShort policy steps packets s (course policy steps packets fault s event).events

@@ -1,0 +1,89 @@
+-- Runs that are worked out.
+use Rattle.std.specs.Prelude.{◌≡◌, refl, ℕ, None, Some, List, [], ◌∷◌, codes}
+use Rattle.std.specs.Fmt.{digits}
+use Rattle.pcap_defs.specs.Fault.{data_cut}
+use Rattle.rank_defs.specs.declared.environment.FlowKey.{FlowKey}
+use Rattle.rank_defs.specs.declared.expression.Op.TheVariants.{Sub}
+use Rattle.rank_defs.specs.declared.expression.Var.TheVariants.{Len}
+use Rattle.rank_defs.specs.Formulas.{number, variable, two}
+use Rattle.rank_defs.specs.Programs.{Program}
+use Rattle.rank_defs.specs.Builtins.{ranked_by, shortest, fifo, rr, stfq}
+use Rattle.tree_defs.specs.Tree.{leaf, inner, none, more}
+use Rattle.packet_defs.specs.declared.packet.Packet.{Packet}
+use Rattle.policy_defs.specs.Policy.{Policy, no_marks, Node, one_leaf}
+use Rattle.sched_defs.specs.Script.{Arrivals, Departures, Rest, Drain}
+use Rattle.sched_defs.specs.Report.{report}
+
+abbrev pub no_flow : FlowKey
+no_flow = record { version = 0; source = 0; target = 0; proto = 0; sport = 0; dport = 0 }
+
+abbrev pub packet : ℕ → ℕ → ℕ → Packet
+packet n length_in_bytes moment_in_ns = record { number = n; class = 0; len = length_in_bytes; moment = moment_in_ns; flow = no_flow }
+
+abbrev pub two_packets : List Packet
+two_packets = packet 1 4 1000000000 ∷ packet 2 4 2000000000 ∷ []
+
+pub report-one_leaf_two_packets : report one_leaf (Arrivals 1 ∷ Arrivals 1 ∷ Departures 1 ∷ Departures 1 ∷ Departures 1 ∷ []) two_packets None
+    ≡ codes "a 1 1 root 0\na 2 2 root 0\nd 3 1 root 0\nd 4 2 root 0\ne 5\nend pushed 2 popped 2 empty 1 held 0 unsent 0\n"
+unfolding digits
+report-one_leaf_two_packets = refl
+
+pub report-past_the_last_packet : report one_leaf (Arrivals 3 ∷ []) two_packets None ≡ codes "a 1 1 root 0\na 2 2 root 0\nfault script 3 3\n"
+unfolding digits
+report-past_the_last_packet = refl
+
+pub report-cut_record : report one_leaf (Arrivals 2 ∷ Departures 2 ∷ []) two_packets (Some (data_cut 3))
+    ≡ codes "a 1 1 root 0\na 2 2 root 0\nd 3 1 root 0\nd 4 2 root 0\nfault capture 6 3\n"
+unfolding digits
+report-cut_record = refl
+
+pub report-rest_meets_the_fault : report one_leaf (Rest ∷ Drain ∷ []) two_packets (Some (data_cut 3)) ≡ codes "a 1 1 root 0\na 2 2 root 0\nfault capture 6 3\n"
+unfolding digits
+report-rest_meets_the_fault = refl
+
+pub report-unsent : report one_leaf (Arrivals 1 ∷ []) two_packets None ≡ codes "a 1 1 root 0\nend pushed 1 popped 0 empty 0 held 1 unsent 1\n"
+unfolding digits
+report-unsent = refl
+
+abbrev pub node : List ℕ → Program → Node
+node name program = record { name = name; program = program; marks = no_marks }
+
+-- The shortest packet's entry is taken first at the root, and the longest packet leaves first from its leaf.
+abbrev pub inversion : Policy
+inversion = record {
+  tree = inner (node (codes "root") shortest) (more (leaf (node (codes "q") (ranked_by (two Sub (number 2000) (variable Len))))) none);
+  classes = record { marks = no_marks; leaf = 0 ∷ [] } ∷ [];
+}
+
+pub report-inversion : report inversion (Arrivals 2 ∷ Drain ∷ []) (packet 1 100 0 ∷ packet 2 60 1000000000 ∷ []) None
+    ≡ codes "a 1 1 q 100/1900\na 2 2 q 60/1940\nd 3 1 q 60/1900\nd 4 2 q 100/1940\nend pushed 2 popped 2 empty 0 held 0 unsent 0\n"
+unfolding digits
+report-inversion = refl
+
+-- Two leaves in turn: the idle one comes back where the other stands.
+abbrev pub in_turn : Policy
+in_turn = record {
+  tree = inner (node (codes "root") rr) (more (leaf (node (codes "a") fifo)) (more (leaf (node (codes "b") fifo)) none));
+  classes = record { marks = no_marks; leaf = 0 ∷ [] } ∷ record { marks = no_marks; leaf = 1 ∷ [] } ∷ [];
+}
+
+abbrev pub of_class : ℕ → ℕ → Packet
+of_class n c = record (packet n 1500 0) { class = c }
+
+pub report-in_turn : report in_turn (Arrivals 5 ∷ Departures 4 ∷ Arrivals 1 ∷ Drain ∷ [])
+    (of_class 1 1 ∷ of_class 2 0 ∷ of_class 3 0 ∷ of_class 4 0 ∷ of_class 5 0 ∷ of_class 6 1 ∷ []) None
+    ≡ codes "a 1 1 b 0/0\na 2 2 a 0/0\na 3 3 a 1/0\na 4 4 a 2/0\na 5 5 a 3/0\nd 6 1 b 0/0\nd 7 2 a 0/0\nd 8 3 a 1/0\nd 9 4 a 2/0\na 10 6 b 2/0\nd 11 6 b 2/0\nd 12 5 a 3/0\nend pushed 6 popped 6 empty 0 held 0 unsent 0\n"
+unfolding digits
+report-in_turn = refl
+
+-- Two leaves by weight, of which the first has weight 3.
+abbrev pub by_weight : Policy
+by_weight = record in_turn {
+  tree = inner (node (codes "root") stfq) (more (leaf (record (node (codes "a") fifo) { marks = record no_marks { weight = 3 } })) (more (leaf (node (codes "b") fifo)) none));
+}
+
+pub report-by_weight : report by_weight (Arrivals 4 ∷ Departures 4 ∷ Arrivals 1 ∷ Drain ∷ [])
+    (of_class 1 0 ∷ of_class 2 0 ∷ of_class 3 1 ∷ of_class 4 0 ∷ of_class 5 1 ∷ []) None
+    ≡ codes "a 1 1 a 0/0\na 2 2 a 500000/0\na 3 3 b 0/0\na 4 4 a 1000000/0\nd 5 1 a 0/0\nd 6 3 b 0/0\nd 7 2 a 500000/0\nd 8 4 a 1000000/0\na 9 5 b 1500000/0\nd 10 5 b 1500000/0\nend pushed 5 popped 5 empty 0 held 0 unsent 0\n"
+unfolding digits
+report-by_weight = refl

@@ -1,0 +1,79 @@
+-- The run of a script over the packets of a capture.
+use Rattle.std.specs.Prelude.{ℕ, ◌+◌, nat_lt, if◌then◌else◌, Option, None, Some, List, [], ◌∷◌, ◌++◌, length, map, take, drop, replicate}
+use Rattle.tree_defs.specs.SourceTree.{size}
+use Rattle.pcap_defs.specs.Fault.{Fault}
+use Rattle.packet_defs.specs.declared.packet.Packet.{Packet}
+use Rattle.policy_defs.specs.Policy.{Policy}
+use Rattle.sched_defs.specs.SourceState.{SourceState}
+use Rattle.sched_defs.specs.Events.{Event, Arrive, Depart, after}
+
+-- a line of a script: so many arrivals or departures, arrivals as long as packets are left, or departures as long as
+-- packets are held
+pub data Step : Type 0 where
+  Arrivals : ℕ → Step
+  Departures : ℕ → Step
+  Rest : Step
+  Drain : Step
+
+-- how a run ends: with so many packets that weren't sent, at the fault of the capture, or at an event that asks for
+-- a packet past the last
+pub data Ending : Type 0 where
+  Whole : ℕ → Ending
+  BadCapture : Fault → Ending
+  PastLast : ℕ → Ending
+
+-- what happens in a run, and how it ends
+pub record Course : Type 0 where
+  pub events : List Event
+  pub ending : Ending
+
+-- the events of a step, of these packets and from this state
+abbrev pub step_events : Step → List Packet → SourceState → List Event
+step_events (Arrivals n) packets s = map Arrive (take n packets)
+step_events (Departures n) packets s = replicate n Depart
+step_events Rest packets s = map Arrive packets
+step_events Drain packets s = replicate (size s.tree) Depart
+
+-- the packets that a step leaves
+abbrev pub left_by : Step → List Packet → List Packet
+left_by (Arrivals n) packets = drop n packets
+left_by (Departures n) packets = packets
+left_by Rest packets = []
+left_by Drain packets = packets
+
+-- where no packet is left, the capture's fault ends the run, and else the event that asks for one
+abbrev pub missing : Option Fault → ℕ → Ending
+missing None event = PastLast event
+missing (Some fault) event = BadCapture fault
+
+-- where all packets were asked for, the capture's fault ends the run
+abbrev pub at_fault : Option Fault → Option Ending
+at_fault None = None
+at_fault (Some fault) = Some (BadCapture fault)
+
+-- how a step ends the run, if it does; the event is the one behind its last
+abbrev pub stop_at : Step → List Packet → Option Fault → ℕ → Option Ending
+stop_at (Arrivals n) packets fault event = if nat_lt (length packets) n then Some (missing fault event) else None
+stop_at (Departures n) packets fault event = None
+stop_at Rest packets fault event = at_fault fault
+stop_at Drain packets fault event = None
+
+-- how a run ends after its last step
+abbrev pub at_end : Option Fault → List Packet → Ending
+at_end None packets = Whole (length packets)
+at_end (Some fault) packets = BadCapture fault
+
+abbrev pub behind : List Event → Course → Course
+behind events c = record { events = events ++ c.events; ending = c.ending }
+
+abbrev pub stopped_or : List Event → Option Ending → Course → Course
+stopped_or events (Some ending) c = record { events = events; ending = ending }
+stopped_or events None c = behind events c
+
+-- the course of a script over packets and the fault behind them, from a state, where the first event has this number
+abbrev pub course : Policy → List Step → List Packet → Option Fault → SourceState → ℕ → Course
+course policy [] packets fault s event = record { events = []; ending = at_end fault packets }
+course policy (step ∷ steps) packets fault s event =
+    stopped_or (step_events step packets s)
+    (stop_at step packets fault (event + length (step_events step packets s)))
+    (course policy steps (left_by step packets) fault (after policy (step_events step packets s) s) (event + length (step_events step packets s)))

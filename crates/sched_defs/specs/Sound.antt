@@ -1,0 +1,50 @@
+-- The states that events lead to.
+use Rattle.std.specs.Prelude.{◌≡◌, ◌≤◌, ◌<◌, ℕ, nat_eq, Some, length}
+use Rattle.std.specs.List.{AllByRecursion, IsDistinct, Contains}
+use Rattle.pifo_defs.specs.Queue.{Queue}
+use Rattle.tree_defs.specs.Tree.{Tree, leaf, inner, Trees, none, more, Address, SameShape}
+use Rattle.tree_defs.specs.SourceTree.{IsWellFormed}
+use Rattle.tree_defs.specs.Packets.{Placed, values, packets}
+use Rattle.rank_defs.specs.Programs.{max_rank}
+use Rattle.rank_defs.specs.Shapes.{IsStateInRange, max_len}
+use Rattle.packet_defs.specs.declared.packet.Packet.{Packet}
+use Rattle.policy_defs.specs.Policy.{Policy, Node, node_at}
+use Rattle.sched_defs.specs.SourceState.{SourceState, class_of}
+
+-- each rank is at most the greatest
+abbrev pub HasRanks : Queue → Type 0
+HasRanks q = AllByRecursion (λ e. e.0 ≤ max_rank) q
+
+abbrev mutual
+  pub HasLowRanks : Tree Queue → Type 0
+  HasLowRanks (leaf q) = HasRanks q
+  HasLowRanks (inner q ts) = HasRanks q × HaveLowRanks ts
+
+  pub HaveLowRanks : Trees Queue → Type 0
+  HaveLowRanks none = Unit {0}
+  HaveLowRanks (more t ts) = HasLowRanks t × HaveLowRanks ts
+
+-- a packet that is held: its class is one of the policy's, and its length one that a capture can tell
+pub record IsKnown (policy : Policy) (p : Packet) : Type 0 where
+  pub class : p.class < length policy.classes
+  pub len : p.len ≤ max_len
+
+-- the number stands at the leaf of the class of the packet that is held under it
+pub record IsAtItsLeaf (policy : Policy) (s : SourceState) (at : Placed) : Type 0 where
+  pub packet : Packet
+  pub held : s.held at.1 ≡ Some packet
+  pub leaf_is : (class_of policy packet).leaf ≡ at.0
+
+-- The queues have the policy's topology and are well formed; the packets in the leaves are those that are held, each once
+-- and at the leaf of its class; and each rank, each variable and `now` is in range.
+pub record IsSound (policy : Policy) (s : SourceState) : Type 0 where
+  pub well_formed : IsWellFormed s.tree
+  pub shape : SameShape s.tree policy.tree
+  pub distinct : IsDistinct nat_eq (values s.tree)
+  pub placed : AllByRecursion (IsAtItsLeaf policy s) (packets s.tree)
+  pub stands : (n : ℕ) (p : Packet) → s.held n ≡ Some p → Contains (values s.tree) n
+  pub known : (n : ℕ) (p : Packet) → s.held n ≡ Some p → IsKnown policy p
+  pub numbered : (n : ℕ) (p : Packet) → s.held n ≡ Some p → p.number ≡ n
+  pub states : (a : Address) (n : Node) → node_at policy.tree a ≡ Some n → IsStateInRange n.program (s.nodes a)
+  pub ranks : HasLowRanks s.tree
+  pub now : s.now ≤ max_rank

@@ -1,0 +1,100 @@
+-- The state of a policy's tree of queues, and how an arrival and a departure change it (SIGCOMM 2016, OOPSLA 2023).
+use Rattle.std.specs.Prelude.{ℕ, max, ◌==◌, if◌then◌else◌, Option, None, Some, option_map, unwrap_or, List, []}
+use Rattle.std.specs.Option.{option_map_or}
+use Rattle.tree_defs.specs.Tree.{Tree, Popping, option_bind}
+use Rattle.tree_defs.specs.Topology.{topology_of}
+use Rattle.tree_defs.specs.SourceTree.{SourceTree, empty_tree, push, pop}
+use Rattle.rank_defs.specs.States.{State, first_state}
+use Rattle.packet_defs.specs.declared.packet.Packet.{Packet}
+use Rattle.policy_defs.specs.Policy.{Policy, Node, Class, no_marks, node_at, class_at}
+use Rattle.sched_defs.specs.Visits.{States, Visit, visits_from, ranks_pushed, after_pushes, after_pops}
+
+-- the packet that is held under a number, if one is
+abbrev pub Held : Type 0
+Held = ℕ → Option Packet
+
+-- with one more packet
+abbrev pub with_packet : Held → Packet → Held
+with_packet held p n = if n == p.number then Some p else held n
+
+-- without the packet of a number
+abbrev pub without : Held → ℕ → Held
+without held m n = if n == m then None else held n
+
+-- the queues, the state of each node, the packets held, and the greatest moment of the packets so far
+pub record SourceState : Type 0 where
+  pub tree : SourceTree
+  pub nodes : States
+  pub held : Held
+  pub now : ℕ
+
+abbrev pub no_state : State
+no_state = record { keeps = []; eaches = λ _. [] }
+
+-- all variables hold their first values
+abbrev pub first_states : Tree Node → States
+first_states t a = option_map_or (λ n. first_state n.program) (node_at t a) no_state
+
+-- all queues are empty, and no packet came yet
+abbrev pub start : Policy → SourceState
+start policy = record {
+  tree = empty_tree (topology_of policy.tree);
+  nodes = first_states policy.tree;
+  held = λ _. None;
+  now = 0;
+}
+
+abbrev pub class_of : Policy → Packet → Class
+class_of policy p = unwrap_or (class_at policy p.class) (record { marks = no_marks; leaf = [] })
+
+-- the nodes that an arriving packet passes
+abbrev pub way_in : Policy → Packet → ℕ → List Visit
+way_in policy p moment = visits_from policy.tree [] (class_of policy p).leaf (class_of policy p) p moment
+
+-- the ranks with which a packet arrives
+abbrev pub arrival_ranks : Policy → Packet → SourceState → List ℕ
+arrival_ranks policy p s = ranks_pushed s.nodes (way_in policy p (max s.now p.moment))
+
+-- after a packet arrived: the push steps on its way gave the ranks along which it is pushed
+abbrev pub arrived : Policy → Packet → SourceState → SourceState
+arrived policy p s = record {
+  tree = push s.tree (class_of policy p).leaf (arrival_ranks policy p s) p.number;
+  nodes = after_pushes (way_in policy p (max s.now p.moment)) s.nodes;
+  held = with_packet s.held p;
+  now = max s.now p.moment;
+}
+
+-- the nodes that a leaving packet passed
+abbrev pub way_out : Policy → Packet → List ℕ → ℕ → List Visit
+way_out policy p digits moment = visits_from policy.tree [] digits (class_of policy p) p moment
+
+abbrev pub left_with : Policy → SourceState → Popping SourceTree → Option Packet → SourceState
+left_with policy s taken None = s
+left_with policy s taken (Some p) = record {
+  tree = taken.left;
+  nodes = after_pops (way_out policy p taken.digits s.now) taken.ranks s.nodes;
+  held = without s.held taken.value;
+  now = s.now;
+}
+
+abbrev pub left_from : Policy → SourceState → Option (Popping SourceTree) → SourceState
+left_from policy s None = s
+left_from policy s (Some taken) = left_with policy s taken (s.held taken.value)
+
+-- after a departure: the tree was popped, and the pop steps on the way were told the ranks taken; where the tree is
+-- empty nothing changes
+abbrev pub departed : Policy → SourceState → SourceState
+departed policy s = left_from policy s (pop s.tree)
+
+-- the packet that leaves, with the children's indices and the ranks taken from the root down
+pub record Leaver : Type 0 where
+  pub packet : Packet
+  pub digits : List ℕ
+  pub ranks : List ℕ
+
+abbrev pub leaving : Popping SourceTree → Packet → Leaver
+leaving taken p = record { packet = p; digits = taken.digits; ranks = taken.ranks }
+
+-- what leaves next, if anything does
+abbrev pub leaver : SourceState → Option Leaver
+leaver s = option_bind (pop s.tree) (λ taken. option_map (leaving taken) (s.held taken.value))

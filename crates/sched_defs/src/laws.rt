@@ -1,0 +1,37 @@
+//! Laws of states and events.
+ghost use Rattle.sched_defs.specs.Laws.{StartIsSound, ArrivalsKeepSound, DeparturesKeepSound, EventsKeepSound, HeldStandInLeaves, ArrivalsAddOne, DeparturesTakeOne, ArrivalsComeToLeaves, NothingLeavesWhereNothingIsHeld, PacketsLeaveTheirLeaves, EventsJoin, DeparturesCanBeMade, CoursesCanBeMade, CoursesAreShort};
+
+/// Arrivals and departures keep a state sound, from the start on.
+pub fn events_keep_states_sound()
+    ensures start { StartIsSound }
+    ensures arrivals { ArrivalsKeepSound }
+    ensures departures { DeparturesKeepSound }
+    ensures events { EventsKeepSound }
+{}
+
+/// A sound state holds as many packets as stand in its leaves: one more after an arrival, one fewer after a departure.
+pub fn held_packets_stand_in_leaves()
+    ensures count { HeldStandInLeaves }
+    ensures arrivals { ArrivalsAddOne }
+    ensures departures { DeparturesTakeOne }
+{}
+
+/// Packets arrive at the leaves of their classes and leave from them, and none leaves exactly where none is held.
+pub fn packets_keep_to_their_leaves()
+    ensures arrivals { ArrivalsComeToLeaves }
+    ensures departures { PacketsLeaveTheirLeaves }
+    ensures none { NothingLeavesWhereNothingIsHeld }
+{}
+
+/// Events in a row are some of them, and then the others.
+pub fn events_join()
+    ensures joined { EventsJoin }
+    ensures departures { DeparturesCanBeMade }
+{}
+
+/// The events of a script can be made over packets in the order of a capture, and are at most those that it asks for and
+/// two for each packet.
+pub fn courses_can_be_made()
+    ensures made { CoursesCanBeMade }
+    ensures short { CoursesAreShort }
+{}

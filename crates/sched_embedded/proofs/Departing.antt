@@ -1,0 +1,37 @@
+-- The packet that leaves, where the source tree is known to give it.
+use Rattle.std.proofs.Common.{◌≡◌, ℕ, List, None, Some, refl, sym, ap, ◌∙◌}
+use Rattle.std.specs.Prelude.{IfSome}
+use Rattle.tree_defs.specs.SourceTree.{size}
+use Rattle.tree_core.specs.Paths.{Way}
+use Rattle.fabric_defs.specs.Family.{Family}
+use Rattle.packet_defs.specs.declared.packet.Packet.{Packet}
+use Rattle.policy_defs.specs.Policy.{Policy}
+use Rattle.sched_defs.specs.SourceState.{SourceState, departed, leaver}
+use Rattle.sched_defs.specs.Sound.{IsSound}
+use Rattle.sched_defs.proofs.Leaving.{pop_size}
+use Rattle.sched_core.specs.Departures.{IsTaken}
+use Rattle.sched_core.specs.Own.{PopsNext}
+use Rattle.sched_core.proofs.Popped.{is_held, leaver-popped, departed-popped, taken}
+use Rattle.sched_embedded.specs.Laid.{Laid, PopsTo}
+
+module _ (policy : Policy) (s : SourceState) (sound : IsSound policy s) (l : Laid) (number : ℕ) (way : Way) (queues : Family) (p : PopsTo l s.tree number way queues) where
+  pub next : (digits ranks : List ℕ) → digits ≡ way.digits → ranks ≡ way.ranks → PopsNext s number digits ranks
+  next digits ranks d r = record {
+    left = p.left;
+    popped = p.popped ∙ (λ i. Some (record { value = number; digits = sym d i; ranks = sym r i; left = p.left }));
+  }
+
+  abbrev here : PopsNext s number way.digits way.ranks
+  here = record { left = p.left; popped = p.popped }
+
+  packet : (q : Packet) × (s.held number ≡ Some q)
+  packet = is_held policy s number way.digits way.ranks here sound
+
+  pub departed-tree : (departed policy s).tree ≡ p.left
+  departed-tree = ap (λ (z : SourceState). z.tree) (departed-popped policy s number way.digits way.ranks here packet.0 packet.1)
+
+  pub leaver-taken : IfSome (leaver s) (λ t. IsTaken t way)
+  leaver-taken = rw (leaver-popped policy s number way.digits way.ranks here packet.0 packet.1) (record { digits = refl; ranks = refl })
+
+  pub not-empty : size s.tree ≡ 0 → ⊥
+  not-empty e = let no : None ≡ Some (taken policy s number way.digits way.ranks here) = sym ((pop_size policy s sound).1 e) ∙ p.popped in cc

@@ -1,0 +1,32 @@
+use Rattle.std.proofs.Common.{length, sym, ap, ◌∙◌, subst, arith}
+use Rattle.tree_defs.specs.Tree.{Tree, Address}
+use Rattle.tree_defs.specs.Topology.{topology_of}
+use Rattle.tree_defs.specs.SourceTree.{empty_tree}
+use Rattle.embed_defs.specs.Images.{image_map}
+use Rattle.embed_lift_defs.specs.Lift.{IsLift}
+use Rattle.embed_lift_defs.proofs.EmbeddedMaps.{embeddings_are_good_maps as good_map}
+use Rattle.policy_defs.specs.Policy.{Policy}
+use Rattle.sched_embedded.proofs.Shapes.{topology-same, embedding-laid, empty-lifted}
+use Rattle.sched_embedded.proofs.embedded.Embedded.new.Goals as goal
+
+pub new-requires-2 : goal.new-requires-2
+new-requires-2 g c =
+    record { laid = embedding-laid (topology_of c.args.policy.now.policy.tree) c.args.map c.args.target.now.arities c.requires.map_shape c.requires.embedding }
+
+pub invariant_of-result : goal.invariant_of-result
+invariant_of-result g c = record {
+  few = (omega (arith, c.requires.pushes, c.pushes.ensures, c.in_ok-configure.ensures.pushed), omega (arith, c.requires.pops, c.pops.ensures, c.in_ok-configure.ensures.popped));
+  shape = ap (λ (p : Policy). topology_of p.tree) c.in_ok-own.ensures.policy ∙ topology-same (topology_of c.args.policy.now.policy.tree) c.args.map c.requires.map_shape
+      ∙ ap (λ (m : Tree Address). topology_of m) (sym c.in_ok-embedding.ensures.images);
+}
+
+pub returns-clause-stands : goal.returns-clause-stands
+returns-clause-stands g c = record {
+  own = c.in_ok-own.ensures.start;
+  shape = c.in_ok-configure.ensures.shaped ∙ c.arities.ensures.arities;
+  lifted = subst (λ (m : Tree Address). IsLift (empty_tree (topology_of c.args.policy.now.policy.tree)) (image_map m) (g.F.Fabric.queues c.configure.new.self)) (sym c.in_ok-embedding.ensures.images)
+      (empty-lifted (topology_of c.args.policy.now.policy.tree) c.args.map (length c.args.target.now.arities) (g.F.Fabric.queues c.configure.new.self) c.requires.map_shape
+      (good_map c.args.target.now.arities (topology_of c.args.policy.now.policy.tree) c.args.map c.requires.map_shape c.requires.embedding) c.in_ok-configure.ensures.emptied);
+  pushes = omega (arith, c.pushes.ensures, c.in_ok-own.ensures.arrivals);
+  pops = omega (arith, c.pops.ensures, c.in_ok-own.ensures.departures);
+}

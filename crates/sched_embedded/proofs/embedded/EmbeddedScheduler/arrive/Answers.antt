@@ -1,0 +1,86 @@
+use Rattle.std.proofs.Common.{◌≡◌, ◌+◌, ℕ, Option, List, length, sym, ap, ◌∙◌, subst, arith}
+use Rattle.tree_defs.specs.Tree.{Tree, Address, LeadsToLeaf}
+use Rattle.tree_defs.specs.SourceTree.{SourceTree, push}
+use Rattle.fabric_defs.specs.Family.{AreRanks}
+use Rattle.embed_defs.specs.Images.{image_map}
+use Rattle.embed_lift_defs.specs.Lift.{IsLift}
+use Rattle.embed_lift_defs.specs.Spilling.{push_spills}
+use Rattle.policy_defs.specs.Policy.{Policy}
+use Rattle.sched_defs.specs.SourceState.{class_of, arrival_ranks}
+use Rattle.sched_defs.proofs.Leaving.{arrives_at_a_leaf}
+use Rattle.sched_core.specs.Own.{policy_in}
+use Rattle.sched_core.specs.Spills.{raised}
+use Rattle.sched_embedded.specs.Laid.{Laid, HoldsLift}
+use Rattle.sched_embedded.proofs.Shapes.{same_leaves, sound-shape, sound-holds}
+use Rattle.sched_embedded.proofs.Moves.{lift-same}
+use Rattle.sched_embedded.proofs.embedded.EmbeddedScheduler.arrive.Goals as goal
+
+pub image-requires : goal.image-requires
+image-requires g c =
+    let policy : Policy = policy_in c.args.self.now.own in
+    let images : Tree Address = c.args.self.now.embedding.images in
+    let r = c.requires.stands in
+    let leads : LeadsToLeaf images (class_of policy c.args.packet.now).leaf
+    = same_leaves r.state.tree images (class_of policy c.args.packet.now).leaf (sound-shape policy r.state images r.sound c.args.self.now.shape) (arrives_at_a_leaf policy c.args.packet.now r.state c.requires.accepted r.sound r.has).leaf_address in
+    record { leaf = subst (λ (a : Address). LeadsToLeaf images a) (sym c.address.ensures.address) leads }
+
+pub push-requires-clause-leaf : goal.push-requires-clause-leaf
+push-requires-clause-leaf g c =
+    let policy : Policy = policy_in c.args.self.now.own in
+    let images : Tree Address = c.args.self.now.embedding.images in
+    let r = c.requires.stands in
+    let leads : LeadsToLeaf images (class_of policy c.args.packet.now).leaf
+    = same_leaves r.state.tree images (class_of policy c.args.packet.now).leaf (sound-shape policy r.state images r.sound c.args.self.now.shape) (arrives_at_a_leaf policy c.args.packet.now r.state c.requires.accepted r.sound r.has).leaf_address in
+    subst (λ (a : Address). LeadsToLeaf images a) (sym c.in_ok-leaf.ensures.digits) leads
+
+pub push-requires-clause-one_more : goal.push-requires-clause-one_more
+push-requires-clause-one_more g c =
+    let policy : Policy = policy_in c.args.self.now.own in
+    let r = c.requires.stands in
+    ap (λ (l : List ℕ). length l) (c.in_ok-leaf.ensures.ranks r.state r.sound r.stood.own)
+    ∙ (arrives_at_a_leaf policy c.args.packet.now r.state c.requires.accepted r.sound r.has).ranks.count
+    ∙ ap (λ (l : List ℕ). length l + 1) (sym c.in_ok-leaf.ensures.digits)
+
+pub push-requires-clause-ranks : goal.push-requires-clause-ranks
+push-requires-clause-ranks g c =
+    let policy : Policy = policy_in c.args.self.now.own in
+    let r = c.requires.stands in
+    subst (λ (l : List ℕ). AreRanks l) (sym (c.in_ok-leaf.ensures.ranks r.state r.sound r.stood.own))
+    (arrives_at_a_leaf policy c.args.packet.now r.state c.requires.accepted r.sound r.has).ranks.low
+
+pub returns-clause-ok : goal.returns-clause-ok
+returns-clause-ok g c = λ s sound stood.
+    let policy : Policy = policy_in c.args.self.now.own in
+    let l : Laid = c.args.self.now.embedding in
+    let after = g.F.Fabric.queues c.push.new.fabric in
+    let number : ℕ = c.args.packet.now.number in
+    let digits : c.admit.new.trace.digits ≡ (class_of policy c.args.packet.now).leaf = c.in_ok-leaf.ensures.digits in
+    let ranks : c.admit.new.trace.ranks ≡ arrival_ranks policy c.args.packet.now s = c.in_ok-leaf.ensures.ranks s sound stood.own in
+    let held : HoldsLift l (g.F.Fabric.queues c.reserve.new.self) s.tree
+    = sound-holds policy s l (g.F.Fabric.queues c.reserve.new.self) sound c.args.self.now.shape
+    (lift-same s.tree (image_map l.images) (g.F.Fabric.queues c.args.under.now) (g.F.Fabric.queues c.reserve.new.self) c.reserve.ensures.queues stood.lifted) in
+    let lifted : IsLift (push s.tree c.admit.new.trace.digits c.admit.new.trace.ranks number) (image_map l.images) after = (c.push.ensures.lift s.tree held).lifted in
+    let pushed : push s.tree c.admit.new.trace.digits c.admit.new.trace.ranks number ≡ push s.tree (class_of policy c.args.packet.now).leaf (arrival_ranks policy c.args.packet.now s) number
+    = ap (λ (z : List ℕ). push s.tree z c.admit.new.trace.ranks number) digits ∙ ap (λ (z : List ℕ). push s.tree (class_of policy c.args.packet.now).leaf z number) ranks in
+    record {
+      own = c.in_ok-leaf.ensures.ok s sound stood.own;
+      shape = c.push.ensures.shape ∙ c.reserve.ensures.shape ∙ stood.shape ∙ ap (λ (z : Laid). z.arities) (sym c.push.ensures.embedding);
+      lifted = subst (λ (z : Laid). IsLift (push s.tree (class_of policy c.args.packet.now).leaf (arrival_ranks policy c.args.packet.now s) number) (image_map z.images) after) (sym c.push.ensures.embedding)
+          (subst (λ (t : SourceTree). IsLift t (image_map l.images) after) pushed lifted);
+      pushes = omega (arith, c.push.ensures.pushed, c.reserve.ensures.pushed, stood.pushes, c.in_ok-leaf.ensures.arrivals);
+      pops = omega (arith, c.push.ensures.popped, c.reserve.ensures.popped, stood.pops, c.in_ok-leaf.ensures.departures);
+    }
+
+pub returns-clause-spilled : goal.returns-clause-spilled
+returns-clause-spilled g c = λ s sound stood.
+    let policy : Policy = policy_in c.args.self.now.own in
+    let l : Laid = c.args.self.now.embedding in
+    let digits : c.admit.new.trace.digits ≡ (class_of policy c.args.packet.now).leaf = c.in_ok-leaf.ensures.digits in
+    let ranks : c.admit.new.trace.ranks ≡ arrival_ranks policy c.args.packet.now s = c.in_ok-leaf.ensures.ranks s sound stood.own in
+    let held : HoldsLift l (g.F.Fabric.queues c.reserve.new.self) s.tree
+    = sound-holds policy s l (g.F.Fabric.queues c.reserve.new.self) sound c.args.self.now.shape
+    (lift-same s.tree (image_map l.images) (g.F.Fabric.queues c.args.under.now) (g.F.Fabric.queues c.reserve.new.self) c.reserve.ensures.queues stood.lifted) in
+    c.push.ensures.spilled s.tree held
+    ∙ ap (λ (t : Option ℕ). raised t (push_spills l.images s.tree c.admit.new.trace.digits c.admit.new.trace.ranks)) c.reserve.ensures.spilled
+    ∙ ap (λ (z : List ℕ). raised (g.F.Fabric.spilled c.args.under.now) (push_spills l.images s.tree z c.admit.new.trace.ranks)) digits
+    ∙ ap (λ (z : List ℕ). raised (g.F.Fabric.spilled c.args.under.now) (push_spills l.images s.tree (class_of policy c.args.packet.now).leaf z)) ranks

@@ -1,0 +1,116 @@
+use Rattle.std.proofs.Common.{◌≡◌, None, refl, sym, ap, ◌∙◌, subst, arith}
+use Rattle.tree_defs.specs.SourceTree.{SourceTree, pop}
+use Rattle.fabric_defs.specs.Family.{Family}
+use Rattle.embed_defs.specs.Images.{image_map}
+use Rattle.embed_lift_defs.specs.Lift.{IsLift}
+use Rattle.policy_defs.specs.Policy.{Policy}
+use Rattle.sched_defs.specs.SourceState.{departed}
+use Rattle.sched_defs.proofs.Leaving.{pop_size}
+use Rattle.sched_core.specs.Own.{policy_in}
+use Rattle.sched_embedded.specs.Laid.{Laid, PopsTo}
+use Rattle.sched_embedded.proofs.Shapes.{same_depth, sound-holds}
+use Rattle.sched_embedded.proofs.Moves.{lift-same}
+use Rattle.sched_embedded.proofs.Departing.{next, departed-tree, leaver-taken, not-empty}
+use Rattle.sched_embedded.proofs.embedded.EmbeddedScheduler.depart.Goals as goal
+
+pub pop-requires-clause-lift : goal.pop-requires-clause-lift
+pop-requires-clause-lift g c =
+    let r = c.requires.stands in
+    (r.state.tree, sound-holds (policy_in c.args.self.now.own) r.state c.args.self.now.embedding (g.F.Fabric.queues c.args.under.now) r.sound c.args.self.now.shape r.stood.lifted)
+
+pub pop-requires-clause-room : goal.pop-requires-clause-room
+pop-requires-clause-room g c = omega (arith, same_depth (policy_in c.args.self.now.own).tree c.args.self.now.embedding.images c.args.self.now.shape, c.requires.room)
+
+pub release-requires-clause-stands : goal.release-requires-clause-stands
+release-requires-clause-stands g c =
+    let policy : Policy = policy_in c.args.self.now.own in
+    let l : Laid = c.args.self.now.embedding in
+    let after : Family = g.F.Fabric.queues c.pop.new.fabric in
+    let r = c.requires.stands in
+    let p : PopsTo l r.state.tree c.in-Some.number c.pop.new.trace after
+    = c.in-Some.ensures.taken r.state.tree (sound-holds policy r.state l (g.F.Fabric.queues c.args.under.now) r.sound c.args.self.now.shape r.stood.lifted) in
+    record {
+      state = r.state;
+      sound = r.sound;
+      stood = r.stood.own;
+      has = next policy r.state r.sound l c.in-Some.number c.pop.new.trace after p c.digits.result.now c.ranks.result.now c.digits.ensures.digits c.ranks.ensures.ranks;
+    }
+
+pub returns-in-None-clause-state : goal.returns-in-None-clause-state
+returns-in-None-clause-state g c = λ s sound stood.
+    let policy : Policy = policy_in c.args.self.now.own in
+    let l : Laid = c.args.self.now.embedding in
+    let after : Family = g.F.Fabric.queues c.pop.new.fabric in
+    let nothing : pop s.tree ≡ None = c.in-None.ensures.none s.tree (sound-holds policy s l (g.F.Fabric.queues c.args.under.now) sound c.args.self.now.shape stood.lifted) in
+    rw nothing record {
+      own = c.find_none.ensures.state s stood.own;
+      shape = c.pop.ensures.shape ∙ stood.shape ∙ ap (λ (z : Laid). z.arities) (sym c.pop.ensures.embedding);
+      lifted = subst (λ (z : Laid). IsLift s.tree (image_map z.images) after) (sym c.pop.ensures.embedding)
+          (lift-same s.tree (image_map l.images) (g.F.Fabric.queues c.args.under.now) after c.in-None.ensures.stay stood.lifted);
+      pushes = omega (arith, c.pop.ensures.pushed, stood.pushes, c.find_none.ensures.arrivals);
+      pops = omega (arith, c.pop.ensures.popped, stood.pops, c.find_none.ensures.departures);
+    }
+
+pub returns-in-None-clause-value : goal.returns-in-None-clause-value
+returns-in-None-clause-value g c = λ s sound stood.
+    let nothing : pop s.tree ≡ None
+    = c.in-None.ensures.none s.tree (sound-holds (policy_in c.args.self.now.own) s c.args.self.now.embedding (g.F.Fabric.queues c.args.under.now) sound c.args.self.now.shape stood.lifted) in
+    rw nothing refl
+
+pub returns-in-None-clause-none : goal.returns-in-None-clause-none
+returns-in-None-clause-none g c = λ s sound stood.
+    let policy : Policy = policy_in c.args.self.now.own in
+    let nothing : pop s.tree ≡ None
+    = c.in-None.ensures.none s.tree (sound-holds policy s c.args.self.now.embedding (g.F.Fabric.queues c.args.under.now) sound c.args.self.now.shape stood.lifted) in
+    (λ none. (pop_size policy s sound).0 nothing, λ empty. refl)
+
+pub returns-in-None-clause-taken : goal.returns-in-None-clause-taken
+returns-in-None-clause-taken g c = λ s sound stood.
+    let nothing : pop s.tree ≡ None
+    = c.in-None.ensures.none s.tree (sound-holds (policy_in c.args.self.now.own) s c.args.self.now.embedding (g.F.Fabric.queues c.args.under.now) sound c.args.self.now.shape stood.lifted) in
+    rw nothing tt
+
+pub returns-in-Some-clause-state : goal.returns-in-Some-clause-state
+returns-in-Some-clause-state g c = λ s sound stood.
+    let policy : Policy = policy_in c.args.self.now.own in
+    let l : Laid = c.args.self.now.embedding in
+    let after : Family = g.F.Fabric.queues c.pop.new.fabric in
+    let p : PopsTo l s.tree c.in-Some.number c.pop.new.trace after
+    = c.in-Some.ensures.taken s.tree (sound-holds policy s l (g.F.Fabric.queues c.args.under.now) sound c.args.self.now.shape stood.lifted) in
+    record {
+      own = c.release.ensures.state s sound stood.own
+          (next policy s sound l c.in-Some.number c.pop.new.trace after p c.digits.result.now c.ranks.result.now c.digits.ensures.digits c.ranks.ensures.ranks);
+      shape = c.pop.ensures.shape ∙ stood.shape ∙ ap (λ (z : Laid). z.arities) (sym c.pop.ensures.embedding);
+      lifted = subst (λ (z : Laid). IsLift (departed policy s).tree (image_map z.images) after) (sym c.pop.ensures.embedding)
+          (subst (λ (t : SourceTree). IsLift t (image_map l.images) after) (sym (departed-tree policy s sound l c.in-Some.number c.pop.new.trace after p)) p.lift.lifted);
+      pushes = omega (arith, c.pop.ensures.pushed, stood.pushes, c.release.ensures.arrivals);
+      pops = omega (arith, c.pop.ensures.popped, stood.pops, c.release.ensures.departures);
+    }
+
+pub returns-in-Some-clause-value : goal.returns-in-Some-clause-value
+returns-in-Some-clause-value g c = λ s sound stood.
+    let policy : Policy = policy_in c.args.self.now.own in
+    let l : Laid = c.args.self.now.embedding in
+    let after : Family = g.F.Fabric.queues c.pop.new.fabric in
+    let p : PopsTo l s.tree c.in-Some.number c.pop.new.trace after
+    = c.in-Some.ensures.taken s.tree (sound-holds policy s l (g.F.Fabric.queues c.args.under.now) sound c.args.self.now.shape stood.lifted) in
+    sym (c.release.ensures.value s sound stood.own
+    (next policy s sound l c.in-Some.number c.pop.new.trace after p c.digits.result.now c.ranks.result.now c.digits.ensures.digits c.ranks.ensures.ranks))
+
+pub returns-in-Some-clause-none : goal.returns-in-Some-clause-none
+returns-in-Some-clause-none g c = λ s sound stood.
+    let policy : Policy = policy_in c.args.self.now.own in
+    let l : Laid = c.args.self.now.embedding in
+    let after : Family = g.F.Fabric.queues c.pop.new.fabric in
+    let p : PopsTo l s.tree c.in-Some.number c.pop.new.trace after
+    = c.in-Some.ensures.taken s.tree (sound-holds policy s l (g.F.Fabric.queues c.args.under.now) sound c.args.self.now.shape stood.lifted) in
+    (λ none. cc, λ empty. absurd (not-empty policy s sound l c.in-Some.number c.pop.new.trace after p empty))
+
+pub returns-in-Some-clause-taken : goal.returns-in-Some-clause-taken
+returns-in-Some-clause-taken g c = λ s sound stood.
+    let policy : Policy = policy_in c.args.self.now.own in
+    let l : Laid = c.args.self.now.embedding in
+    let after : Family = g.F.Fabric.queues c.pop.new.fabric in
+    let p : PopsTo l s.tree c.in-Some.number c.pop.new.trace after
+    = c.in-Some.ensures.taken s.tree (sound-holds policy s l (g.F.Fabric.queues c.args.under.now) sound c.args.self.now.shape stood.lifted) in
+    leaver-taken policy s sound l c.in-Some.number c.pop.new.trace after p

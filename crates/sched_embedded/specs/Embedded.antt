@@ -1,0 +1,22 @@
+-- Which source states a scheduler over a fabric stands for.
+use Rattle.std.specs.Prelude.{◌≡◌, ◌+◌}
+use Rattle.embed_defs.specs.Images.{image_map}
+use Rattle.embed_lift_defs.specs.Lift.{IsLift}
+use Rattle.fabric_core.specs.declared.fabric.Fabric.{Ghosts}
+use Rattle.sched_defs.specs.SourceState.{SourceState}
+use Rattle.sched_core.specs.Origins.{Origin}
+use Rattle.sched_core.specs.Own.{IsOwn}
+use Rattle.sched_embedded.specs.declared.embedded.Embedded.{Embedded}
+
+-- where the queues stand in the target
+abbrev pub origin_of : {F : Type 0} → Embedded F → Origin
+origin_of c = record { images = c.embedding.images; arities = c.embedding.arities; pushes = c.pushes_before; pops = c.pops_before }
+
+-- The queues are the lift of the source tree, in the target's shape. The fabric was pushed once for each arrival and popped
+-- once for each departure, beside what was before.
+pub record EmbeddedStands {F : Type 0} (fabrics : Ghosts F) (c : Embedded F) (fabric : F) (s : SourceState) : Type 0 where
+  pub own : IsOwn c.own s
+  pub shape : fabrics.shape fabric ≡ c.embedding.arities
+  pub lifted : IsLift s.tree (image_map c.embedding.images) (fabrics.queues fabric)
+  pub pushes : fabrics.pushed fabric ≡ c.pushes_before + c.own.arrivals
+  pub pops : fabrics.popped fabric ≡ c.pops_before + c.own.departures

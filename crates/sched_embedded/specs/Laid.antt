@@ -1,0 +1,44 @@
+-- A tree laid into a complete tree of queues.
+use Rattle.std.specs.Prelude.{◌≡◌, ◌+◌, ℕ, List, length, Some}
+use Rattle.tree_defs.specs.Tree.{Tree, Address, LeadsToLeaf, SameShape}
+use Rattle.tree_defs.specs.SourceTree.{SourceTree, pop, IsWellFormed}
+use Rattle.tree_core.specs.Paths.{Way}
+use Rattle.fabric_defs.specs.Family.{Family, IsLeafAddress}
+use Rattle.embed_defs.specs.Images.{image_map}
+use Rattle.embed_lift_defs.specs.Lift.{IsLift}
+use Rattle.embed_lift_defs.specs.GoodMaps.{IsGoodMap}
+
+-- the image of each node, and the arities of the complete tree from the root down
+pub record Laid : Type 0 where
+  pub images : Tree Address
+  pub arities : List ℕ
+
+-- a good map, under which leaves have leaves of the complete tree as their images
+pub record IsLaid (images : Tree Address) (arities : List ℕ) : Type 0 where
+  pub good : IsGoodMap (length arities) images
+  pub leaves : (a : Address) → LeadsToLeaf images a → IsLeafAddress arities (image_map images a)
+
+-- there is room for the digits and for the ranks on the way to a leaf
+pub record HasRoomForOne (images : Tree Address) (arities : List ℕ) (digits ranks : ℕ) : Type 0 where
+  pub laid : IsLaid images arities
+  pub levels : digits ≡ length arities
+  pub one_more : ranks ≡ length arities + 1
+
+-- the queues are the lift of a source tree
+pub record HoldsLift (l : Laid) (queues : Family) (t : SourceTree) : Type 0 where
+  pub well_formed : IsWellFormed t
+  pub shape : SameShape t l.images
+  pub lifted : IsLift t (image_map l.images) queues
+
+abbrev pub IsLiftOfOne : Laid → Family → Type 0
+IsLiftOfOne l queues = (t : SourceTree) × HoldsLift l queues t
+
+-- P holds of each source tree of which the queues are the lift
+abbrev pub ForEachLifted : Laid → Family → (SourceTree → Type 0) → Type 0
+ForEachLifted l queues P = (t : SourceTree) → HoldsLift l queues t → P t
+
+-- a pop of the source tree gives this number on this way, and leaves one of which the queues are the lift
+pub record PopsTo (l : Laid) (t : SourceTree) (number : ℕ) (way : Way) (queues : Family) : Type 0 where
+  pub left : SourceTree
+  pub popped : pop t ≡ Some (record { value = number; digits = way.digits; ranks = way.ranks; left = left })
+  pub lift : HoldsLift l queues left

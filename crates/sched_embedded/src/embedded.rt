@@ -1,0 +1,124 @@
+ghost use Rattle.std.specs.Prelude.{◌≡◌, ◌+◌, ◌^◌, ◌<◌, IfOk, OnErr};
+ghost use Rattle.tree_defs.specs.Tree.{SameShape};
+ghost use Rattle.tree_defs.specs.Topology.{topology_of, complete};
+ghost use Rattle.fabric_defs.specs.Family.{SameQueues};
+ghost use Rattle.target_defs.specs.Target.{IsInRange};
+ghost use Rattle.embed_defs.specs.Images.{image_map};
+ghost use Rattle.embed_defs.specs.Embedding.{IsEmbedding};
+ghost use Rattle.sched_defs.specs.SourceState.{start};
+ghost use Rattle.sched_core.specs.Own.{policy_in};
+ghost use Rattle.sched_embedded.specs.Codes.{one_way_to_be_the_same};
+
+use crate::embedding::Embedding;
+use embed_core::Map;
+use fabric_core::Fabric;
+use packet_defs::{Departed, Packet};
+use policy_core::Policy;
+use sched_core::{Own, Scheduler};
+use std::alloc::{AllocError, Global};
+use std::marker::PhantomData;
+use target_core::Target;
+use tree_core::Taken;
+
+/// A scheduler over the queues of a fabric.
+#[derive(Drop)]
+pub struct Embedded<'a, F> {
+    own: Own<'a>,
+    embedding: Embedding,
+    pushes_before: u64,
+    pops_before: u64,
+    fabric: PhantomData<F>,
+    ghost few: { (pushes_before < 2 ^ 61) × (pops_before < 2 ^ 61) },
+    ghost shape: { topology_of (policy_in own).tree ≡ topology_of embedding.images } by { one_way_to_be_the_same (topology_of (policy_in own).tree) (topology_of embedding.images) },
+}
+
+impl<'a, F: Fabric> Embedded<'a, F> {
+    ghost use Rattle.sched_embedded.specs.Embedded.{EmbeddedStands, origin_of};
+
+    /// A scheduler that saw no event yet. It takes the target's shape for the fabric, whose queues are then empty. The error is
+    /// want of memory, and leaves the fabric as it was.
+    pub fn new(
+        alloc: Global,
+        policy: &'a Policy,
+        map: Map,
+        target: &Target,
+        fabric: &mut F,
+    ) -> Result<Embedded<'a, F>, AllocError>
+        requires range { IsInRange target.now.arities target.now.above }
+        requires map_shape { SameShape (topology_of policy.now.policy.tree) map }
+        requires embedding { IsEmbedding (topology_of policy.now.policy.tree) (complete target.now.arities) (image_map map) }
+        requires pushes { F.pushed fabric.old < 2 ^ 61 }
+        requires pops { F.popped fabric.old < 2 ^ 61 }
+
+        ensures stands { IfOk result (λ c. EmbeddedStands F.Fabric c fabric.new (start policy.now.policy)) }
+        ensures policy { IfOk result (λ c. policy_in c.own ≡ policy.now.policy) }
+        ensures arrivals { IfOk result (λ c. c.own.arrivals ≡ 0) }
+        ensures departures { IfOk result (λ c. c.own.departures ≡ 0) }
+        ensures origin { IfOk result (λ c. origin_of c ≡ record { images = map; arities = target.now.arities; pushes = F.pushed fabric.old; pops = F.popped fabric.old }) }
+        ensures shape { OnErr result (F.shape fabric.new ≡ F.shape fabric.old) }
+        ensures queues { OnErr result (SameQueues (F.queues fabric.new) (F.queues fabric.old)) }
+        ensures pushed { F.pushed fabric.new ≡ F.pushed fabric.old }
+        ensures popped { F.popped fabric.new ≡ F.popped fabric.old }
+        ensures spilled { F.spilled fabric.new ≡ F.spilled fabric.old }
+    {
+        let own = Own::new(alloc, policy)?;
+        let embedding = Embedding::new(alloc, map, target)?;
+        fabric.configure(embedding.arities())?;
+        Ok(Embedded {
+            own,
+            embedding,
+            pushes_before: fabric.pushes(),
+            pops_before: fabric.pops(),
+            fabric: PhantomData,
+        })
+    }
+}
+
+impl<'a, F: Fabric> Scheduler for Embedded<'a, F> {
+    type Under = F;
+
+    ghost use Rattle.std.specs.Prelude.{Some};
+    ghost use Rattle.sched_embedded.specs.Embedded.{EmbeddedStands, origin_of};
+
+    ghost stands = { EmbeddedStands F.Fabric };
+
+    ghost arrivals = { λ c. c.own.arrivals };
+
+    ghost departures = { λ c. c.own.departures };
+
+    ghost policy = { λ c. policy_in c.own };
+
+    ghost origin = { λ c. Some (origin_of c) };
+
+    ghost spilled = { λ _ fabric. F.spilled fabric };
+
+    fn arrive(
+        &mut self,
+        under: &mut F,
+        packet: &Packet,
+        trace: &mut Taken,
+    ) -> Result<u32, AllocError> {
+        under.reserve(self.embedding.image(self.own.address(packet)))?;
+        let leaf = self.own.admit(packet, trace)?;
+        self.embedding.push(under, trace, packet.number);
+        Ok(leaf)
+    }
+
+    fn depart(&mut self, under: &mut F, trace: &mut Taken) -> Option<Departed> {
+        match self.embedding.pop(under, trace) {
+            None => {
+                self.own.find_none();
+                None
+            }
+            Some(number) => Some(self.own.release(number, trace.digits(), trace.ranks())),
+        }
+    }
+
+    fn held(&self) -> u64 {
+        self.own.held()
+    }
+
+    fn now(&self) -> u64 {
+        self.own.now()
+    }
+}

@@ -1,0 +1,122 @@
+//! A tree laid into the queues of a fabric.
+ghost use Rattle.std.specs.Prelude.{◌≡◌, ◌+◌, ◌^◌, ◌<◌, ◌≤◌, length, IfOk, IfSome, IfNone};
+ghost use Rattle.tree_defs.specs.Tree.{LeadsToLeaf, depth};
+ghost use Rattle.tree_defs.specs.SourceTree.{push, pop};
+ghost use Rattle.fabric_defs.specs.Family.{IsLeafAddress, HasRoomAlong, AreRanks, SameQueues};
+ghost use Rattle.embed_defs.specs.Images.{image_map};
+ghost use Rattle.embed_lift_defs.specs.Spilling.{push_spills};
+ghost use Rattle.sched_core.specs.Spills.{raised};
+ghost use Rattle.sched_embedded.specs.Laid.{IsLaid, IsLiftOfOne, ForEachLifted, HoldsLift, PopsTo};
+
+use embed_core::{Map, lift, pick};
+use fabric_core::Fabric;
+use list_core::List;
+use std::alloc::{AllocError, Global};
+use std::marker::Model;
+use target_core::Target;
+use tree_core::Taken;
+
+/// A tree laid into a target's, with room for the path to one leaf there.
+#[derive(Drop)]
+pub struct Embedding {
+    map: Map,
+    arities: List<u32>,
+    digits: Vec<u32>,
+    ranks: Vec<u64>,
+}
+
+impl Model for Embedding {
+    ghost use Rattle.std.specs.Prelude.{length};
+    ghost use Rattle.sched_embedded.specs.Laid.{Laid, HasRoomForOne};
+    ghost use Rattle.sched_embedded.specs.Codes.{laid_code};
+
+    ghost Value = { Laid };
+
+    ghost coded = { laid_code };
+
+    ghost view = { λ e. record { images = e.map; arities = e.arities } };
+
+    ghost invariant = { λ e. HasRoomForOne e.map e.arities (length e.digits.items) (length e.ranks.items) };
+}
+
+impl Embedding {
+    /// The error is want of memory.
+    pub fn new(alloc: Global, map: Map, target: &Target) -> Result<Embedding, AllocError>
+        requires laid { IsLaid map target.now.arities }
+        ensures images { IfOk result (λ e. e.images ≡ map) }
+        ensures arities { IfOk result (λ e. e.arities ≡ target.now.arities) }
+    {
+        let arities = target.arities.as_slice().to_vec(alloc)?;
+        let digits = vec![in alloc; 0; arities.len()]?;
+        let ranks = vec![in alloc; 0; arities.len() + 1]?;
+        Ok(Embedding {
+            map,
+            arities: List::from_vec(arities),
+            digits,
+            ranks,
+        })
+    }
+
+    /// The target's arities, from the root down.
+    pub fn arities(&self) -> &[u32]
+        ensures arities { result.now ≡ self.now.arities }
+    {
+        self.arities.as_slice()
+    }
+
+    /// The image of a leaf.
+    pub fn image(&self, leaf: &[u32]) -> &[u32]
+        requires leaf { LeadsToLeaf self.now.images leaf.now }
+        ensures image { result.now ≡ image_map self.now.images leaf.now }
+        ensures leaf_image { IsLeafAddress self.now.arities result.now }
+    {
+        let Some(image) = self.map.image(leaf) else {
+            unreachable!()
+        };
+        image
+    }
+
+    /// Pushes a packet's number along the image of a way to a leaf, with the lifted ranks. Takes no memory.
+    pub fn push<F: Fabric>(&mut self, fabric: &mut F, way: &Taken, number: u64)
+        requires arities { F.shape fabric.old ≡ self.old.arities }
+        requires leaf { LeadsToLeaf self.old.images way.now.digits }
+        requires one_more { length way.now.ranks ≡ length way.now.digits + 1 }
+        requires ranks { AreRanks way.now.ranks }
+        requires room { HasRoomAlong (F.room fabric.old) (image_map self.old.images way.now.digits) }
+        requires few { F.pushed fabric.old < 2 ^ 62 }
+
+        ensures lift { ForEachLifted self.old (F.queues fabric.old) (λ t. HoldsLift self.old (F.queues fabric.new) (push t way.now.digits way.now.ranks number)) }
+        ensures embedding { self.new ≡ self.old }
+        ensures shape { F.shape fabric.new ≡ F.shape fabric.old }
+        ensures pushed { F.pushed fabric.new ≡ F.pushed fabric.old + 1 }
+        ensures popped { F.popped fabric.new ≡ F.popped fabric.old }
+        ensures spilled { ForEachLifted self.old (F.queues fabric.old) (λ t. F.spilled fabric.new ≡ raised (F.spilled fabric.old) (push_spills self.old.images t way.now.digits way.now.ranks)) }
+    {
+        lift(&self.map, way, &mut self.digits, &mut self.ranks);
+        fabric.push(&self.digits, &self.ranks, number);
+    }
+
+    /// Pops the fabric, and sets `trace` to the digits and ranks with which the packet leaves the tree that is laid into it.
+    /// Takes no memory.
+    pub fn pop<F: Fabric>(&mut self, fabric: &mut F, trace: &mut Taken) -> Option<u64>
+        requires arities { F.shape fabric.old ≡ self.old.arities }
+        requires lift { IsLiftOfOne self.old (F.queues fabric.old) }
+        requires room { depth self.old.images ≤ trace.old.room }
+        requires few { F.popped fabric.old < 2 ^ 62 }
+
+        ensures none { IfNone result (ForEachLifted self.old (F.queues fabric.old) (λ t. pop t ≡ None)) }
+        ensures stay { IfNone result (SameQueues (F.queues fabric.new) (F.queues fabric.old)) }
+        ensures taken { IfSome result (λ number. ForEachLifted self.old (F.queues fabric.old) (λ t. PopsTo self.old t number trace.new (F.queues fabric.new))) }
+        ensures trace { IfNone result (trace.new ≡ trace.old) }
+        ensures room { trace.new.room ≡ trace.old.room }
+        ensures embedding { self.new ≡ self.old }
+        ensures shape { F.shape fabric.new ≡ F.shape fabric.old }
+        ensures pushed { F.pushed fabric.new ≡ F.pushed fabric.old }
+        ensures popped { F.popped fabric.new ≡ F.popped fabric.old + 1 }
+        ensures spilled { F.spilled fabric.new ≡ F.spilled fabric.old }
+    {
+        let number = fabric.pop(&mut self.digits, &mut self.ranks)?;
+        pick(&self.map, &self.digits, &self.ranks, trace);
+        Some(number)
+    }
+}

@@ -1,0 +1,41 @@
+-- The policy of the tests: a root above two nodes, of which one is above another, all served by start-time fair queueing.
+use Rattle.std.specs.Prelude.{◌≡◌, refl, List, [], ◌∷◌, codes}
+use Rattle.tree_defs.specs.Tree.{leaf, inner, none, more}
+use Rattle.tree_defs.specs.Topology.{topology_of}
+use Rattle.rank_defs.specs.Programs.{Program}
+use Rattle.rank_defs.specs.Builtins.{stfq}
+use Rattle.packet_defs.specs.declared.packet.Packet.{Packet}
+use Rattle.policy_rules.specs.Resolved.{Resolved}
+use Rattle.tree_graph.specs.Preorder.{Numbered, numbered, rows, three_levels}
+use Rattle.policy_core.specs.declared.parts.Station.{Station}
+use Rattle.policy_core.specs.declared.parts.Class.{Class}
+use Rattle.policy_core.specs.Parts.{resolved}
+use Rattle.policy_core.specs.Samples.{plain, urgent, station, node}
+
+abbrev pub one_program : List Program
+one_program = stfq ∷ []
+
+abbrev pub tree : Numbered
+tree = numbered (rows 0 [] three_levels) (topology_of three_levels)
+
+abbrev pub stations : List Station
+stations = station (codes "left") 0 urgent ∷ station (codes "right") 0 plain ∷ station (codes "root") 0 plain ∷ station (codes "deep") 0 plain ∷ []
+
+abbrev pub classes : List Class
+classes = record { marks = urgent; conditions = []; leaf = 3 } ∷ record { marks = plain; conditions = []; leaf = 2 } ∷ []
+
+abbrev pub fair : Resolved
+fair = record {
+  policy = record {
+    tree = inner (node (codes "root") stfq plain) (more (inner (node (codes "left") stfq urgent) (more (leaf (node (codes "deep") stfq plain)) none)) (more (leaf (node (codes "right") stfq plain)) none));
+    classes = record { marks = record { prio = 7; weight = 2; slack = 500 }; leaf = 1 ∷ [] } ∷ record { marks = record { prio = 0; weight = 1; slack = 0 }; leaf = 0 ∷ 0 ∷ [] } ∷ [];
+  };
+  conditions = [] ∷ [] ∷ [];
+}
+
+pub resolved-fair : resolved tree stations one_program classes ≡ fair
+resolved-fair = refl
+
+-- a packet of the second class
+abbrev pub deep : Packet
+deep = record { number = 1; class = 1; len = 100; moment = 5; flow = record { version = 4; source = 1; target = 2; proto = 17; sport = 3; dport = 4 } }

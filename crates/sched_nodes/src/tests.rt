@@ -1,0 +1,144 @@
+ghost use Rattle.std.specs.Prelude.{◌≡◌, [], ◌∷◌, map, IfOk};
+ghost use Rattle.rank_defs.specs.Programs.{program_of};
+ghost use Rattle.rank_defs.specs.Builtins.{stfq};
+ghost use Rattle.tree_graph.specs.Descent.{lists, two_below_a_root};
+ghost use Rattle.policy_core.specs.Samples.{station};
+ghost use Rattle.sched_nodes.specs.Samples.{one_program, tree, stations, classes, fair};
+
+use crate::Stations;
+use tree_graph::Preorder;
+use list_core::{List, Name};
+use packet_defs::Packet;
+use policy_core::{Class, Marks, Policy, Station};
+use range_core::{Checked, check};
+use rank_core::{FlowKey, Transaction, builtin};
+use std::alloc::{AllocError, Global};
+use std::test::Fail;
+use tree_core::Taken;
+
+const PLAIN: Marks = Marks {
+    prio: 0,
+    weight: 1,
+    slack: 0,
+};
+
+const URGENT: Marks = Marks {
+    prio: 7,
+    weight: 2,
+    slack: 500,
+};
+
+const FLOW: FlowKey = FlowKey {
+    version: 4,
+    source: 1,
+    target: 2,
+    proto: 17,
+    sport: 3,
+    dport: 4,
+};
+
+const DEEP: Packet = Packet {
+    number: 1,
+    class: 1,
+    len: 100,
+    moment: 5,
+    flow: FLOW,
+};
+
+const OTHER: Packet = Packet {
+    flow: FlowKey { sport: 9, ..FLOW },
+    ..DEEP
+};
+
+fn programs(alloc: Global) -> Result<List<Checked>, Fail>
+    ensures { IfOk result (λ all. all ≡ one_program) }
+{
+    match builtin(alloc, b"stfq")? {
+        Some(fair) => Ok(check(List::from_vec(vec![in alloc; fair]?))?),
+        None => unreachable!(),
+    }
+}
+
+fn station(alloc: Global, name: &str, marks: Marks) -> Result<Station, AllocError>
+    ensures { IfOk result (λ s. s ≡ station name.now 0 marks) }
+{
+    Ok(Station {
+        name: Name::new(alloc, name)?,
+        program: 0,
+        marks,
+    })
+}
+
+/// Node 2 above 0 and 1, and 0 above 3.
+fn graph(alloc: Global) -> Result<Vec<Vec<u32>>, AllocError>
+    ensures { IfOk result (λ g. lists g.items ≡ two_below_a_root) }
+{
+    let first = vec![in alloc; 3]?;
+    let root = vec![in alloc; 0, 1]?;
+    Ok(vec![in alloc; first, Vec::new(alloc), root, Vec::new(alloc)]?)
+}
+
+fn tree(alloc: Global) -> Result<Preorder, AllocError>
+    ensures { IfOk result (λ t. t ≡ tree) }
+{
+    let graph = graph(alloc)?;
+    Preorder::new(alloc, graph.as_slice(), 2)
+}
+
+fn stations(alloc: Global) -> Result<List<Station>, AllocError>
+    ensures { IfOk result (λ all. all ≡ stations) }
+{
+    let left = station(alloc, "left", URGENT)?;
+    let right = station(alloc, "right", PLAIN)?;
+    let root = station(alloc, "root", PLAIN)?;
+    let deep = station(alloc, "deep", PLAIN)?;
+    Ok(List::from_vec(vec![in alloc; left, right, root, deep]?))
+}
+
+fn class(alloc: Global, marks: Marks, leaf: u32) -> Class
+    ensures { result ≡ record { marks = marks; conditions = []; leaf = leaf } }
+{
+    Class {
+        marks,
+        conditions: List::from_vec(Vec::new(alloc)),
+        leaf,
+    }
+}
+
+fn classes(alloc: Global) -> Result<List<Class>, AllocError>
+    ensures { IfOk result (λ all. all ≡ classes) }
+{
+    let right = class(alloc, URGENT, 3);
+    let deep = class(alloc, PLAIN, 2);
+    Ok(List::from_vec(vec![in alloc; right, deep]?))
+}
+
+fn fair(alloc: Global, programs: List<Checked>) -> Result<Policy, AllocError>
+    requires { programs ≡ one_program }
+    ensures { IfOk result (λ p. p ≡ fair) }
+{
+    let tree = tree(alloc)?;
+    let stations = stations(alloc)?;
+    let classes = classes(alloc)?;
+    Ok(Policy::new(tree, stations, programs, classes))
+}
+
+/// A child has its own weight at its parent, and a flow that of its class; a flow that comes later begins no lower than what left.
+#[test]
+fn each_node_ranks_by_its_own_variables(rt: HostRuntime) -> Result<(), Fail> {
+    let alloc = rt.alloc();
+    let policy = fair(alloc, programs(alloc)?)?;
+    let mut stations = Stations::new(alloc, &policy)?;
+    let mut trace = Taken::new(alloc, policy.depth())?;
+    stations.reserve(&DEEP)?;
+    stations.push_steps(&DEEP, 5, &mut trace);
+    assert_eq!(rt; trace.digits(), [0, 0].as_slice());
+    assert_eq!(rt; trace.ranks(), [0, 0, 0].as_slice());
+    stations.push_steps(&DEEP, 5, &mut trace);
+    assert_eq!(rt; trace.ranks(), [50_000, 100_000, 100_000].as_slice());
+    stations.pop_steps(&DEEP, &[0, 0], &[50_000, 100_000, 100_000], 5);
+    stations.reserve(&OTHER)?;
+    stations.push_steps(&OTHER, 5, &mut trace);
+    assert_eq!(rt; trace.ranks(), [100_000, 200_000, 100_000].as_slice());
+    Ok(())
+}

@@ -1,0 +1,6 @@
+use Rattle.std.proofs.Common.{ℕ, ◌<◌}
+use Rattle.tree_graph.specs.Descent.{Graph, IsForest, AreParents, IsDeep}
+use Rattle.tree_graph.proofs.depths.first_deep.Given as goal
+
+abbrev pub invariant-loop-node : goal.invariant-loop-node
+invariant-loop-node l = (g : Graph) → IsForest g l.root → AreParents g l.parents → (a : ℕ) → a < l.node → ¬ IsDeep g l.root a

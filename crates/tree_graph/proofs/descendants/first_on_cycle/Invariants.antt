@@ -1,0 +1,6 @@
+use Rattle.std.proofs.Common.{ℕ, ◌<◌}
+use Rattle.tree_graph.specs.Descent.{lists, IsBelow}
+use Rattle.tree_graph.proofs.descendants.first_on_cycle.Given as goal
+
+abbrev pub invariant-loop-node : goal.invariant-loop-node
+invariant-loop-node l = (a : ℕ) → a < l.node → ¬ IsBelow (lists l.graph) a a

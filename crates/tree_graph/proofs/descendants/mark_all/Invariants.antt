@@ -1,0 +1,6 @@
+use Rattle.std.proofs.Common.{take}
+use Rattle.tree_graph.specs.Marks.{MarksMore}
+use Rattle.tree_graph.proofs.descendants.mark_all.Given as goal
+
+abbrev pub invariant-loop-node : goal.invariant-loop-node
+invariant-loop-node l = MarksMore (take l.node-index l.nodes) l.fn.marks l.fn.work.items l.marks l.work.items

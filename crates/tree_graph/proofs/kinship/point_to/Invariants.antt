@@ -1,0 +1,6 @@
+use Rattle.std.proofs.Common.{take}
+use Rattle.tree_graph.specs.Descent.{ArePointed}
+use Rattle.tree_graph.proofs.kinship.point_to.Given as goal
+
+abbrev pub invariant-loop-node : goal.invariant-loop-node
+invariant-loop-node l = ArePointed l.parent (take l.node-index l.nodes) l.fn.parents l.parents

@@ -1,0 +1,8 @@
+use Rattle.std.proofs.Common.{ap, arith}
+use Rattle.tree_defs.specs.Tree.{depth}
+use Rattle.tree_graph.specs.Preorder.{Numbered}
+use Rattle.tree_graph.proofs.Sound.{levels-few}
+use Rattle.tree_graph.proofs.preorder.Preorder.topo.Goals as goal
+
+pub returns-clause-levels : goal.returns-clause-levels
+returns-clause-levels c = omega (arith, ap (λ (n : Numbered). depth n.topology) c.self.view_is, levels-few _ _ c.self.invariant)
