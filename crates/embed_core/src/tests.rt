@@ -1,3 +1,4 @@
+//! Tests of needs, placements, images, lifts and picked paths.
 ghost use Rattle.std.specs.Prelude.{◌≡◌, ◌+◌, ◌≤◌, [], ◌∷◌, length, IfOk};
 ghost use Rattle.tree_defs.specs.Tree.{leaf, inner, none, more, depth, LeadsToLeaf, SameShape};
 ghost use Rattle.target_defs.specs.Target.{IsInRange, IsTarget};

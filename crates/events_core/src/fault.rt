@@ -1,3 +1,4 @@
+//! Why a script is refused.
 ghost use Rattle.std.specs.Prelude.{◌≡◌};
 ghost use Rattle.events_core.specs.Script.{code_of, place_of};
 

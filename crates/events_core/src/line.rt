@@ -1,3 +1,4 @@
+//! The step that a line of a script asks for.
 ghost use Rattle.std.specs.Prelude.{◌≡◌, List, IfOk, Some, None};
 ghost use Rattle.std.specs.Option.{option_to_list};
 ghost use Rattle.text_core.specs.Glyphs.{glyphs_of};

@@ -1,3 +1,4 @@
+//! A link that sends one packet after another, and how long each takes.
 ghost use Rattle.std.specs.Prelude.{◌≡◌, ◌+◌, ◌<◌, ◌≤◌, ◌^◌, ◌↔◌, IsTrue, max};
 ghost use Rattle.events_core.specs.Pace.{send_time, IsRate, SendTimeIsLeast};
 

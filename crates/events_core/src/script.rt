@@ -1,3 +1,4 @@
+//! A script as the list of its steps.
 ghost use Rattle.std.specs.Prelude.{◌≡◌};
 
 use crate::step::Step;

@@ -1,3 +1,4 @@
+//! What one line of a script asks for.
 ghost use Rattle.std.specs.Prelude.{◌≡◌};
 ghost use Rattle.events_core.specs.Steps.{count_of, word_step, counted_step};
 

@@ -1,3 +1,4 @@
+//! Tests of scripts and of send times.
 use super::*;
 use std::test::Fail;
 

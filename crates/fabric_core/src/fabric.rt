@@ -1,3 +1,4 @@
+//! The trait of the hardware's queues: a complete tree that is configured, pushed and popped.
 ghost use Rattle.std.specs.Prelude.{◌≡◌, ◌+◌, ◌^◌, ◌<◌, ◌↔◌, ℕ, List, Option, [], length, option_map, OnOk, OnErr, IsNone, IfNone, IfSome};
 ghost use Rattle.fabric_defs.specs.Family.{Family, SameQueues, IsEmpty, IsLeafAddress, HasRoomAlong, AreRanks, Pops, push_along};
 ghost use Rattle.fabric_defs.specs.Spills.{spills_along};

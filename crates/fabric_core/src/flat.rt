@@ -1,3 +1,4 @@
+//! The flat model of the hardware: all queues in one array.
 ghost use Rattle.std.specs.Prelude.{◌≡◌, [], length, IfOk};
 ghost use Rattle.std.specs.List.{AllByRecursion};
 

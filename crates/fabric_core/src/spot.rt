@@ -1,3 +1,4 @@
+//! Where a node of a complete tree stands, counted level by level.
 ghost use Rattle.std.specs.Prelude.{◌≡◌, ◌+◌, ◌*◌, ◌<◌, ◌^◌};
 
 /// A node of a complete tree whose nodes stand level by level, one behind the other.

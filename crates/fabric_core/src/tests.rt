@@ -1,3 +1,4 @@
+//! Tests of the flat model.
 ghost use Rattle.std.specs.Prelude.{◌≡◌, ◌+◌, ◌^◌, ◌<◌, [], ◌∷◌, length, IfOk, OnOk};
 ghost use Rattle.fabric_defs.specs.Family.{IsLeafAddress, AreRanks};
 

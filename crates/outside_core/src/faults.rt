@@ -1,3 +1,4 @@
+//! The count of faults, and the calls that are to fail.
 ghost use Rattle.std.specs.Prelude.{◌≡◌, ◌≤◌};
 ghost use Rattle.outside_core.specs.Faults.{is_to_fail, one_more};
 

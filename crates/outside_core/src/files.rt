@@ -1,3 +1,4 @@
+//! Files that are held by name, and how far each is read.
 ghost use Rattle.std.specs.Prelude.{◌≡◌, Some, None, IfSome, IfNone, length, min, take, drop, position, string_bytes};
 ghost use Rattle.std.specs.Str.{bytes_eq};
 ghost use Rattle.outside_core.specs.Reading.{content_at};

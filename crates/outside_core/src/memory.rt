@@ -1,3 +1,4 @@
+//! A shelf and a sink in memory of which calls fail as they are told to.
 ghost use Rattle.std.specs.Prelude.{◌≤◌, vec_len, vec_capacity};
 
 use crate::faults::{Calls, raise};

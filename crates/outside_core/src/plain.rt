@@ -1,3 +1,4 @@
+//! A shelf and a sink in memory without faults.
 ghost use Rattle.std.specs.Prelude.{◌≤◌, vec_len, vec_capacity};
 
 use crate::files::{Cursor, content_from, copy_front, place_or_end};

@@ -1,3 +1,4 @@
+//! The trait of named files that are read.
 ghost use Rattle.std.specs.Prelude.{◌≡◌, ◌<◌, ◌≤◌, ℕ, List, Bool, Option, length, IfOk, OnOk, OnErr, IsTrue, IsFalse, IsErrOf};
 ghost use Rattle.outside_core.specs.Faults.{Rose};
 ghost use Rattle.outside_core.specs.Files.{KeepsFiles, Takes, EndsWhereEmpty};

@@ -1,3 +1,4 @@
+//! The system's files and standard output.
 ghost use Rattle.std.specs.Prelude.{◌≤◌, length, IfOk};
 
 use crate::faults::raise;

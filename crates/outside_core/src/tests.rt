@@ -1,3 +1,4 @@
+//! Tests of loading, and of shelves and sinks that fail.
 ghost use Rattle.std.specs.Prelude.{◌<◌, ◌^◌, IsTrue};
 
 use crate::{FileShelf, MemShelf, MemSink, PlainShelf, PlainSink, Shelf, StdSink, load, write_all};

@@ -1,3 +1,4 @@
+//! The flow of a packet from its header fields.
 ghost use Rattle.std.specs.Prelude.{◌≡◌};
 ghost use Rattle.packet_defs.specs.Flow.{flow_of};
 

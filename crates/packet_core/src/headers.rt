@@ -1,3 +1,4 @@
+//! Reading the header fields of captured bytes.
 ghost use Rattle.std.specs.Prelude.{◌≡◌};
 ghost use Rattle.packet_defs.specs.Headers.{fields_of, raw_fields};
 

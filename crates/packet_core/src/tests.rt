@@ -1,3 +1,4 @@
+//! Tests of header fields, flows and classes.
 use crate::classes::first_met;
 use crate::internet::no_fields;
 use crate::{Fields, flow, read_fields};

@@ -1,3 +1,4 @@
+//! The header fields that conditions look at.
 /// The header fields of a packet that are captured and present.
 #[derive(Clone, Copy, PartialEq, Eq, Debug)]
 pub struct Fields {

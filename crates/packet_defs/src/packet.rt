@@ -1,3 +1,4 @@
+//! A packet that arrives, and one that departed.
 use rank_defs::FlowKey;
 
 /// A packet that arrives.

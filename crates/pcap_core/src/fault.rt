@@ -1,3 +1,4 @@
+//! Why a capture isn't read on.
 ghost use Rattle.std.specs.Prelude.{◌≡◌};
 ghost use Rattle.pcap_core.specs.Faults.{code_in, place_in, read_fault};
 ghost use Rattle.pcap_core.specs.declared.fault.CaptureFault.TheVariants.{NoMemory};

@@ -1,3 +1,4 @@
+//! A record without its captured bytes.
 /// A record of a capture, without its captured bytes.
 #[derive(Clone, Copy, PartialEq, Eq, Debug)]
 pub struct Frame {

@@ -1,3 +1,4 @@
+//! Reading a capture record by record.
 ghost use Rattle.std.specs.Prelude.{◌≡◌, ◌≤◌, ◌<◌, ◌+◌, ◌^◌, ◌↔◌, ℕ, List, Option, Some, None, [], length, vec_len, IfOk, IfErr, OnOk, OnErr, IfSome, IfNone, OnSome, IsErrOf, IsErr, IsTrue, IsFalse};
 ghost use Rattle.outside_core.specs.Faults.{Rose};
 ghost use Rattle.outside_core.specs.Files.{KeepsFiles};

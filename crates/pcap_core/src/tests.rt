@@ -1,3 +1,4 @@
+//! Tests of captures of both byte orders, and of each fault.
 ghost use Rattle.std.specs.Prelude.{◌≤◌, length};
 
 use crate::Reader;

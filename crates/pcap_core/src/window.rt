@@ -1,3 +1,4 @@
+//! The bytes of a file that were read and aren't used up.
 ghost use Rattle.std.specs.Prelude.{◌≤◌, vec_len};
 
 use crate::fault::CaptureFault;

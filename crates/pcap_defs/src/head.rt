@@ -1,3 +1,4 @@
+//! What the file header of a capture says.
 /// What the file header of a capture says (libpcap 2.4, pcap-savefile).
 #[derive(Clone, Copy, PartialEq, Eq, Debug)]
 pub struct Head {

@@ -1,3 +1,4 @@
+//! The laws of captures.
 ghost use Rattle.pcap_defs.specs.Reading.{ReadsCaptures, ReadsRefusals, HasFaultOrRecord, MomentsAreSmall};
 
 /// A file is read as a capture in one way: the function that reads it finds what the grammar says.

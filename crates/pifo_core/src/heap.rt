@@ -1,3 +1,4 @@
+//! A queue kept in a binary heap.
 ghost use Rattle.std.specs.Prelude.{◌≡◌, []};
 
 use crate::held::Held;

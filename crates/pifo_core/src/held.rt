@@ -1,3 +1,4 @@
+//! A pair of a queue with its sequence number.
 /// A pair of a queue, with its sequence number: how many pushes there were before its own. The order of leaving is that of the
 /// fields.
 #[derive(Clone, Copy, Debug, PartialEq, Eq, PartialOrd, Ord)]

@@ -1,3 +1,4 @@
+//! The trait of a push-in first-out queue.
 ghost use Rattle.std.specs.Prelude.{◌≡◌, ◌+◌, ◌^◌, ◌<◌, ◌≤◌, ℕ, length, OnOk};
 ghost use Rattle.pifo_defs.specs.Queue.{Queue, put};
 ghost use Rattle.pifo_core.specs.Taking.{Pops};

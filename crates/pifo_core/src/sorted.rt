@@ -1,3 +1,4 @@
+//! A queue kept in the order of leaving.
 ghost use Rattle.std.specs.Prelude.{◌≡◌, ◌<◌, ◌≤◌, [], length, take, drop};
 ghost use Rattle.std.specs.List.{AllByRecursion};
 ghost use Rattle.pifo_core.specs.Held.{InLeavingOrder};

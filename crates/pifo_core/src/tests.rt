@@ -1,3 +1,4 @@
+//! Tests of both queues.
 ghost use Rattle.std.specs.Prelude.{◌≡◌};
 
 use crate::{HeapPifo, Pifo, SortedPifo};

@@ -1,3 +1,4 @@
+//! Tests of accepted and of refused policies.
 ghost use Rattle.std.specs.Prelude.{◌≡◌, ◌<◌, [], map, IfOk};
 ghost use Rattle.tree_defs.specs.Tree.{nodes};
 ghost use Rattle.rank_defs.specs.Programs.{program_of, assignment_of};

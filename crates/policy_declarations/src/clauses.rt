@@ -1,3 +1,4 @@
+//! The names that statements declare, by the first clauses of an accepted policy.
 ghost use Rattle.std.specs.Prelude.{◌≤◌, IfOk, OnOk, IfErr};
 ghost use Rattle.policy_rules.specs.Accepted.{AreFew, IsFault};
 ghost use Rattle.policy_rules.specs.Codes.{code_of};

@@ -1,3 +1,4 @@
+//! The words that expressions and push lines may use.
 ghost use Rattle.std.specs.Prelude.{◌≡◌, ℕ, List, IfOk, codes, ◌||◌};
 ghost use Rattle.std.specs.List.{list_all};
 ghost use Rattle.std.specs.Str.{bytes_eq};

@@ -1,3 +1,4 @@
+//! Which statement may follow which.
 ghost use Rattle.std.specs.Prelude.{◌≡◌, option_map};
 ghost use Rattle.policy_text_defs.specs.Sense.{sense_of};
 ghost use Rattle.policy_rules.specs.Clauses.{IsMisplaced};

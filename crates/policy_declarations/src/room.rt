@@ -1,3 +1,4 @@
+//! How many transactions, classes and nodes a policy has room for.
 ghost use Rattle.std.specs.Prelude.{◌≡◌, ◌+◌, ◌∷◌, ◌++◌, [], ℕ, List, true, not, ◌==◌};
 ghost use Rattle.policy_text_defs.specs.Sense.{Entry, entry, sense_of};
 ghost use Rattle.policy_rules.specs.Clauses.{IsBeyond, is_beyond};

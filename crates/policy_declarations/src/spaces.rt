@@ -1,3 +1,4 @@
+//! The spaces of names, in which each name is declared once.
 ghost use Rattle.std.specs.Prelude.{◌≡◌, ◌≤◌, ℕ, List, ◌∷◌, ◌++◌, [], false, IfOk, OnOk, IfErr};
 ghost use Rattle.policy_text_defs.specs.Sense.{Entry, entry, sense_of};
 ghost use Rattle.policy_rules.specs.Accepted.{ArePlaced, AreNew, IsFault};

@@ -1,3 +1,4 @@
+//! Tests of what statements declare.
 ghost use Rattle.std.specs.Prelude.{◌≡◌, true};
 ghost use Rattle.policy_rules.specs.Entries.{entries_of, AreRising};
 

@@ -1,3 +1,4 @@
+//! The variables of a transaction.
 ghost use Rattle.std.specs.Prelude.{◌≡◌, ℕ, List, ◌∷◌, ◌++◌, [], IfOk};
 ghost use Rattle.policy_text_defs.specs.Sense.{Entry, entry, sense_of};
 ghost use Rattle.policy_declarations.specs.Kept.{AreVariables};

@@ -1,3 +1,4 @@
+//! The names that are built in.
 ghost use Rattle.std.specs.Prelude.{◌≡◌, is_some};
 ghost use Rattle.rank_defs.specs.Builtins.{builtin};
 

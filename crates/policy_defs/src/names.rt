@@ -1,3 +1,4 @@
+//! The trait of what tells names.
 ghost use Rattle.std.specs.Prelude.{◌≡◌, ◌<◌};
 ghost use Rattle.tree_defs.specs.Tree.{Address, IsAddressOf, nodes};
 ghost use Rattle.policy_defs.specs.Policy.{Policy, name_at};

@@ -1,3 +1,4 @@
+//! Tests of parents, children and the root.
 ghost use Rattle.std.specs.Prelude.{◌≡◌, [], ◌∷◌, codes, IfOk};
 ghost use Rattle.policy_text_defs.specs.Sense.{sense_of, leaf, node};
 ghost use Rattle.policy_rules.specs.Entries.{entries_of};

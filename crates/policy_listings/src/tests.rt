@@ -1,3 +1,4 @@
+//! Tests of listed classes and children.
 ghost use Rattle.std.specs.Prelude.{IfOk};
 ghost use Rattle.policy_rules.specs.Entries.{entries_of, AreRising};
 

@@ -1,3 +1,4 @@
+//! Names in their order, and the place of each.
 ghost use Rattle.std.specs.Prelude.{◌≡◌, [], ◌∷◌, ◌++◌, length, position, IfOk, OnErr, if◌then◌else◌, not, OnOk};
 ghost use Rattle.std.specs.Str.{bytes_eq};
 ghost use Rattle.policy_rules.specs.Names.{has};

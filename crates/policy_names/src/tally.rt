@@ -1,3 +1,4 @@
+//! Which names came, and which came again.
 ghost use Rattle.std.specs.Prelude.{◌≡◌, ◌∷◌, ◌++◌, [], ℕ, List, OnOk, OnErr};
 ghost use Rattle.policy_rules.specs.Names.{is_once};
 ghost use Rattle.policy_names.specs.Names.{IsTally};

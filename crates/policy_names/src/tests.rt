@@ -1,3 +1,4 @@
+//! Tests of names and of their tally.
 use crate::{Names, Tally};
 use std::test::Fail;
 

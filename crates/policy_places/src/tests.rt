@@ -1,3 +1,4 @@
+//! Tests of the tree of places and of the homes of classes.
 ghost use Rattle.std.specs.Prelude.{◌≡◌, ◌∷◌, [], IfOk, codes};
 ghost use Rattle.policy_text_defs.specs.Sense.{sense_of, class, leaf, node};
 ghost use Rattle.policy_rules.specs.Entries.{entries_of};

@@ -1,3 +1,4 @@
+//! Tests of transactions whose names are resolved.
 ghost use Rattle.std.specs.Prelude.{◌≡◌, IfOk};
 ghost use Rattle.policy_text_defs.specs.Phrase.{phrase_of, two, word};
 ghost use Rattle.policy_rules.specs.Entries.{entries_of};

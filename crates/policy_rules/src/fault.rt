@@ -1,3 +1,4 @@
+//! Why statements in form are no accepted policy.
 ghost use Rattle.std.specs.Prelude.{◌≡◌};
 ghost use Rattle.policy_rules.specs.declared.fault.PolicyFault.TheVariants.{NoMemory};
 ghost use Rattle.policy_rules.specs.Codes.{code_of, line_of};

@@ -1,3 +1,4 @@
+//! The law of refusals.
 ghost use Rattle.policy_rules.specs.Laws.{AcceptedHaveNoFault, HaveOneFault};
 
 /// Statements that aren't accepted are refused in one way, but for want of memory.

@@ -1,3 +1,4 @@
+//! Reading a condition.
 ghost use Rattle.policy_text_defs.specs.StatementReading as forms;
 ghost use Rattle.policy_text_defs.specs.Words as words;
 ghost use Rattle.policy_text.specs.Reads.{Reads, same};

@@ -1,3 +1,4 @@
+//! What is left of a line's tokens.
 ghost use Rattle.std.specs.Prelude.{◌≡◌, ◌≤◌, IfOk};
 ghost use Rattle.policy_text_defs.specs.Grammar as grammar;
 ghost use Rattle.policy_text_defs.specs.Reading as spec;

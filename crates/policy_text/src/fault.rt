@@ -1,3 +1,4 @@
+//! Why a text has no statements.
 use std::alloc::{AllocError, AllocFailed};
 
 /// Why a text has no statements. A line is named by its number, counted from 1.

@@ -1,3 +1,4 @@
+//! The blanks and the first word of a line.
 ghost use Rattle.std.specs.Prelude.{◌≡◌, ◌≤◌, length, IfOk};
 ghost use Rattle.std.specs.List.{prefix_len, list_all};
 ghost use Rattle.policy_text_defs.specs.Sense.{Sense, sense_of};

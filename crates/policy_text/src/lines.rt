@@ -1,3 +1,4 @@
+//! Statements with the numbers of their lines.
 ghost use Rattle.std.specs.Prelude.{◌≡◌, ℕ, ◌<◌, ◌^◌, List, map, length, All, IfOk};
 ghost use Rattle.policy_text_defs.specs.Sense.{sense_of, numbered};
 ghost use Rattle.policy_text_defs.specs.Text.{IsWritten};

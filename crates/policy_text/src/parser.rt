@@ -1,3 +1,4 @@
+//! Reading an expression.
 ghost use Rattle.std.specs.Prelude.{◌≡◌, List};
 ghost use Rattle.policy_text_defs.specs.Phrase.{phrase_of, two, negation, choice};
 ghost use Rattle.policy_text_defs.specs.Reading as spec;

@@ -1,3 +1,4 @@
+//! An expression with its depth.
 ghost use Rattle.std.specs.Prelude.{◌≡◌, ◌≤◌};
 ghost use Rattle.policy_text_defs.specs.Phrase as phrase;
 

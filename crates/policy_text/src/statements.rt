@@ -1,3 +1,4 @@
+//! Reading a statement.
 ghost use Rattle.std.specs.Prelude.{◌≡◌, ◌≤◌, List, Some, IfOk};
 ghost use Rattle.policy_text_defs.specs.declared.keyword.Keyword.TheVariants as keyword;
 ghost use Rattle.policy_text_defs.specs.Ranges.{attribute_most};

@@ -1,3 +1,4 @@
+//! Reading a whole policy text.
 ghost use Rattle.std.specs.Prelude.{map, IfOk, IfErr, OnOk};
 ghost use Rattle.policy_text_defs.specs.Text.{HasEntries};
 ghost use Rattle.policy_text.specs.Entries.{entry_of};

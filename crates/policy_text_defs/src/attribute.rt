@@ -1,3 +1,4 @@
+//! The attributes of classes, leaves and nodes.
 ghost use Rattle.std.specs.Prelude.{◌≡◌};
 ghost use Rattle.policy_text_defs.specs.Words.{attribute_of};
 ghost use Rattle.policy_text_defs.specs.Ranges.{attribute_least, attribute_most};

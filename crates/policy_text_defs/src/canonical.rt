@@ -1,3 +1,4 @@
+//! The laws of the canonical text.
 ghost use Rattle.std.specs.Prelude.{◌≡◌, ◌↔◌, List, All, length, ◌≤◌, ℕ};
 ghost use Rattle.policy_text_defs.specs.Sense.{Sense, Entry, numbered};
 ghost use Rattle.policy_text_defs.specs.Text.{Carries, IsWritten, HasEntries};

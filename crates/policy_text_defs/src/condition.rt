@@ -1,3 +1,4 @@
+//! Conditions on header fields.
 ghost use Rattle.std.specs.Prelude.{◌≡◌};
 ghost use Rattle.policy_text_defs.specs.Words.{subject_of, protocol_of};
 ghost use Rattle.policy_text_defs.specs.Ranges.{field_most};

@@ -1,3 +1,4 @@
+//! The words that are written before parentheses.
 ghost use Rattle.std.specs.Prelude.{◌≡◌};
 ghost use Rattle.policy_text_defs.specs.Words.{function_of};
 

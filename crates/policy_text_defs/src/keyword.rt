@@ -1,3 +1,4 @@
+//! The words that begin statements.
 ghost use Rattle.std.specs.Prelude.{◌≡◌};
 ghost use Rattle.policy_text_defs.specs.Words.{keyword_of};
 

@@ -1,3 +1,4 @@
+//! The statements of a policy.
 use crate::attribute::Attrs;
 use crate::condition::Condition;
 use crate::term::Term;

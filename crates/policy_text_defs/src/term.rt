@@ -1,3 +1,4 @@
+//! Expressions as they are written.
 use list_core::Name;
 use rank_defs::Op;
 

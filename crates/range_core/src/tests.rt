@@ -1,3 +1,4 @@
+//! Tests of transactions that may leave their range.
 ghost use Rattle.std.specs.Prelude.{◌≡◌, ◌≤◌, ◌∷◌, [], map, IfOk};
 ghost use Rattle.rank_defs.specs.Formulas.{formula_of, two};
 ghost use Rattle.rank_defs.specs.Programs.{program_of, max_rank};

@@ -1,3 +1,4 @@
+//! Tests of transactions that run.
 ghost use Rattle.std.specs.Prelude.{◌≡◌, None, Some, IfOk};
 ghost use Rattle.rank_defs.specs.Formulas.{formula_of, two};
 ghost use Rattle.rank_defs.specs.Programs.{program_of};

@@ -4,8 +4,8 @@ use Rattle.std.specs.Prelude.{Result, Ok, Err, IfOk, OnOk, OnErr}
 use Rattle.outside_core.specs.Written.{Appended, AppendedPrefix}
 use Rattle.report_core.specs.declared.fault.FaultKind.TheVariants as kind
 use Rattle.policy_defs.specs.Policy.{Policy}
-use Rattle.plan_defs.specs.Plan.{IsPlan}
-use Rattle.plan_defs.proofs.Laws.{one_plan}
+use Rattle.embed_plan.specs.Plan.{IsPlan}
+use Rattle.embed_plan.proofs.Laws.{one_plan}
 use Rattle.target_core.specs.declared.target.Target.{Target}
 use Rattle.replay_app.specs.Answer.{Answer, IsTold}
 use Rattle.replay_app.specs.Laws.{HaveOneAnswer}

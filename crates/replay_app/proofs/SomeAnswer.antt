@@ -10,10 +10,10 @@ use Rattle.embed_defs.specs.Embedding.{HasEmbedding, IsEmbedding}
 use Rattle.embed_defs.specs.Images.{image_map}
 use Rattle.embed_defs.specs.Laws.{AreWide}
 use Rattle.embed_defs.proofs.Room.{there_or_none}
-use Rattle.target_text_defs.proofs.Decided.{an_answer-holds}
-use Rattle.target_text_defs.proofs.Ranges.{in_range-holds}
+use Rattle.target_core.proofs.Decided.{an_answer-holds}
+use Rattle.target_core.proofs.Ranges.{in_range-holds}
 use Rattle.target_core.specs.declared.target.Target.{Target}
-use Rattle.plan_defs.proofs.SomePlan.{all_levels, a_plan}
+use Rattle.embed_plan.proofs.SomePlan.{all_levels, a_plan}
 use Rattle.policy_defs.specs.Policy.{Policy}
 use Rattle.policy_text_defs.specs.Ranges.{most_text}
 use Rattle.policy_text_defs.specs.Sense.{Entry}

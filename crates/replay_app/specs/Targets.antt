@@ -3,13 +3,13 @@ use Rattle.std.specs.Prelude.{◌≡◌, ℕ, Bool, true, false, List, ◌++◌,
 use Rattle.tree_defs.specs.Tree.{Tree, Address}
 use Rattle.tree_defs.specs.Topology.{topology_of, complete}
 use Rattle.target_defs.specs.Levels.{levels}
-use Rattle.target_text_defs.specs.TargetText.{IsTargetText, IsRefused}
+use Rattle.target_core.specs.TargetText.{IsTargetText, IsRefused}
 use Rattle.target_core.specs.declared.target.Target.{Target}
 use Rattle.embed_defs.specs.Canonical.{IsCanonical}
 use Rattle.embed_defs.specs.Embedding.{IsEmbedding, HasEmbedding}
 use Rattle.embed_defs.specs.Images.{image_map}
 use Rattle.policy_defs.specs.Policy.{Policy}
-use Rattle.plan_defs.specs.Plan.{IsPlan}
+use Rattle.embed_plan.specs.Plan.{IsPlan}
 use Rattle.report_defs.specs.Report.{fault_line}
 use Rattle.report_core.specs.declared.fault.FaultKind.TheVariants as kind
 use Rattle.sched_embedded.specs.Laid.{Laid}

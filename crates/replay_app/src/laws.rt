@@ -1,3 +1,4 @@
+//! The laws of the program's answers.
 ghost use Rattle.replay_app.specs.Laws.{HaveOneAnswer, HaveAnAnswer};
 
 /// Words have at most one answer for what their files contain, though the answer is a relation.

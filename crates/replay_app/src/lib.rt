@@ -21,4 +21,4 @@ mod writing;
 
 pub use command::run;
 pub use laws::{words_have_an_answer, words_have_one_answer};
-pub use run_core::depart_line;
+pub use sched_run::depart_line;

@@ -17,7 +17,7 @@ use crate::targets::read_target_file;
 use crate::words::PlanFiles;
 use crate::writing::{refuse, write};
 use outside_core::{Shelf, Sink};
-use plan_core::{PlanText, plan};
+use embed_plan::{PlanText, plan};
 use policy_core::Policy;
 use report_core::{FaultKind, Report};
 use std::alloc::Global;

@@ -1,3 +1,4 @@
+//! Why a run stops before its text is written.
 ghost use Rattle.std.specs.Prelude.{◌≡◌};
 ghost use Rattle.replay_app.specs.Stops.{stop_status, stop_of, unread};
 ghost use Rattle.replay_app.specs.declared.stop.Stop.TheVariants.{Sink, Memory};

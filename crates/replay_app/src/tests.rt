@@ -1,3 +1,4 @@
+//! Tests of whole runs over files in memory, with faults among them.
 use crate::run;
 use fabric_core::FlatFabric;
 use outside_core::{MemShelf, MemSink, PlainShelf, PlainSink};

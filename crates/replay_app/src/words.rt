@@ -1,3 +1,4 @@
+//! The words of the commands.
 ghost use Rattle.std.specs.Prelude.{◌≡◌, MatchOption};
 ghost use Rattle.replay_app.specs.Words.{form_of, no_form, texts};
 ghost use Rattle.replay_app.specs.Named.{command_form};

@@ -1,3 +1,4 @@
+//! What a report says was refused, and a write that failed.
 ghost use Rattle.std.specs.Prelude.{◌≡◌};
 ghost use Rattle.report_core.specs.Faults.{word_of};
 

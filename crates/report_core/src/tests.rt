@@ -1,3 +1,4 @@
+//! Tests of lines, and of sinks that fail.
 use crate::{FaultKind, Report, WriteFault};
 use outside_core::{MemSink, PlainSink};
 use std::test::Fail;

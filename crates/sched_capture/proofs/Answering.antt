@@ -4,9 +4,9 @@ use Rattle.std.specs.Prelude.{IfSome, IfOk, OnOk, codes}
 use Rattle.outside_core.specs.Written.{Appended}
 use Rattle.pcap_defs.specs.Reading.{Capture, capture_of}
 use Rattle.report_defs.specs.Report.{fault_line}
-use Rattle.course_core.specs.declared.ending.Ending.{Ending}
-use Rattle.course_core.specs.declared.ending.Ending.TheVariants.{BadCapture}
-use Rattle.course_core.specs.declared.stop.Stop.{Stop}
+use Rattle.sched_run.specs.declared.ending.Ending.{Ending}
+use Rattle.sched_run.specs.declared.ending.Ending.TheVariants.{BadCapture}
+use Rattle.sched_run.specs.declared.stop.Stop.{Stop}
 use Rattle.sched_packets.specs.Arrivals.{IsRefused}
 use Rattle.sched_capture.specs.Answers.{IsRefusal}
 

@@ -12,11 +12,11 @@ use Rattle.fabric_core.specs.declared.fabric.Fabric.{Ghosts}
 use Rattle.sched_core.specs.Origins.{Origin}
 use Rattle.sched_core.specs.Spills.{raised, spills_in}
 use Rattle.events_core.specs.declared.step.Step.{Step}
-use Rattle.course_core.specs.declared.ending.Ending.{Ending}
-use Rattle.course_core.specs.declared.stop.Stop.{Stop}
-use Rattle.course_core.specs.Packets.{Left}
-use Rattle.course_core.specs.Courses.{course_of}
-use Rattle.course_core.proofs.Counting.{pushed_in-outcomes, popped_or_empty}
+use Rattle.sched_run.specs.declared.ending.Ending.{Ending}
+use Rattle.sched_run.specs.declared.stop.Stop.{Stop}
+use Rattle.sched_run.specs.Packets.{Left}
+use Rattle.sched_run.specs.Courses.{course_of}
+use Rattle.sched_run.proofs.Counting.{pushed_in-outcomes, popped_or_empty}
 use Rattle.sched_packets.specs.Arrivals.{Begins}
 use Rattle.sched_embedded.specs.declared.embedded.Embedded.{Embedded}
 use Rattle.sched_embedded.specs.Embedded.{EmbeddedStands, origin_of}

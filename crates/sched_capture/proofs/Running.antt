@@ -13,15 +13,15 @@ use Rattle.sched_defs.proofs.Soundness.{sound_start}
 use Rattle.sched_core.specs.declared.scheduler.Scheduler.{Ghosts}
 use Rattle.sched_core.specs.Standing.{StandForOne}
 use Rattle.events_core.specs.declared.step.Step.{Step}
-use Rattle.course_core.specs.declared.ending.Ending.{Ending}
-use Rattle.course_core.specs.declared.stop.Stop.{Stop}
-use Rattle.course_core.specs.Packets.{Left}
-use Rattle.course_core.specs.Endings.{ended}
-use Rattle.course_core.specs.Stages.{CanBegin}
-use Rattle.course_core.specs.Courses.{course_of, OnCourse, Runs, Breaks}
-use Rattle.course_core.proofs.Beginning.{start_can_begin}
-use Rattle.run_core.specs.Played.{HasMade, HasMadeSome}
-use Rattle.run_core.proofs.Runs.{made_some_none}
+use Rattle.sched_run.specs.declared.ending.Ending.{Ending}
+use Rattle.sched_run.specs.declared.stop.Stop.{Stop}
+use Rattle.sched_run.specs.Packets.{Left}
+use Rattle.sched_run.specs.Endings.{ended}
+use Rattle.sched_run.specs.Stages.{CanBegin}
+use Rattle.sched_run.specs.Courses.{course_of, OnCourse, Runs, Breaks}
+use Rattle.sched_run.proofs.Beginning.{start_can_begin}
+use Rattle.sched_run.specs.Played.{HasMade, HasMadeSome}
+use Rattle.sched_run.proofs.Runs.{made_some_none}
 use Rattle.sched_capture.specs.Answers.{answer_of}
 use Rattle.sched_capture.proofs.Wholes.{cut_part, whole_text}
 

@@ -12,9 +12,9 @@ use Rattle.sched_defs.specs.Script.{Ending, BadCapture, course}
 use Rattle.sched_defs.specs.Report.{report}
 use Rattle.policy_rules.specs.Resolved.{Resolved}
 use Rattle.events_core.specs.declared.step.Step.{Step}
-use Rattle.course_core.specs.declared.ending.Ending as told
-use Rattle.course_core.specs.Endings.{ended}
-use Rattle.course_core.specs.Steps.{step_of}
+use Rattle.sched_run.specs.declared.ending.Ending as told
+use Rattle.sched_run.specs.Endings.{ended}
+use Rattle.sched_run.specs.Steps.{step_of}
 use Rattle.sched_packets.specs.Packets.{packets_from}
 
 -- how the run ends, the text that is written, and what happens, if the run begins

@@ -1,3 +1,4 @@
+//! A script over a capture through the policy's own tree of queues.
 ghost use Rattle.std.specs.Prelude.{◌≡◌, ◌≤◌, List, codes, IfOk, IfErr, IfSome, IsErrOf, IsTrue, OnOk, OnErr};
 ghost use Rattle.outside_core.specs.Faults.{Rose};
 ghost use Rattle.outside_core.specs.Written.{Appended, AppendedPrefix};
@@ -5,13 +6,13 @@ ghost use Rattle.report_defs.specs.Report.{fault_line};
 ghost use Rattle.pcap_defs.specs.Reading.{capture_of};
 ghost use Rattle.events_core.specs.Steps.{counts_of};
 ghost use Rattle.events_core.specs.declared.step.Step.{Step};
-ghost use Rattle.course_core.specs.Endings.{ended};
+ghost use Rattle.sched_run.specs.Endings.{ended};
 ghost use Rattle.sched_packets.specs.Arrivals.{policy_of, given_by, left_of, IsReady, Begins};
 ghost use Rattle.sched_capture.specs.Answers.{IsRefusal, direct_answer};
 
 use crate::course::run_over;
 use sched_packets::{Arrivals, Halt};
-use course_core::{Ending, Stop};
+use sched_run::{Ending, Stop};
 use events_core::Step;
 use outside_core::{Shelf, Sink};
 use policy_core::Policy;

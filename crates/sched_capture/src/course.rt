@@ -1,16 +1,17 @@
+//! A run over the packets of a capture by any scheduler.
 ghost use Rattle.std.specs.Prelude.{◌≡◌, ◌≤◌, IfOk, IfSome, IsErrOf, OnOk, OnErr};
 ghost use Rattle.outside_core.specs.Faults.{Rose};
 ghost use Rattle.outside_core.specs.Written.{Appended, AppendedPrefix};
 ghost use Rattle.sched_defs.specs.SourceState.{start};
 ghost use Rattle.events_core.specs.Steps.{counts_of};
-ghost use Rattle.course_core.specs.Endings.{ended};
-ghost use Rattle.course_core.specs.Courses.{course_of};
+ghost use Rattle.sched_run.specs.Endings.{ended};
+ghost use Rattle.sched_run.specs.Courses.{course_of};
 ghost use Rattle.sched_packets.specs.Arrivals.{policy_of, given_by, left_of, IsReady};
 ghost use Rattle.sched_capture.specs.Answers.{answer_of};
-ghost use Rattle.run_core.specs.Played.{HasMade, HasMadeSome};
+ghost use Rattle.sched_run.specs.Played.{HasMade, HasMadeSome};
 
 use sched_packets::Arrivals;
-use course_core::{Ending, Stop, play};
+use sched_run::{Ending, Stop, play};
 use events_core::Step;
 use outside_core::{Shelf, Sink};
 use policy_core::Policy;

@@ -1,3 +1,4 @@
+//! A script over a capture through the hardware's queues.
 ghost use Rattle.std.specs.Prelude.{◌≡◌, ◌≤◌, ◌<◌, ◌^◌, length, IfOk, IfSome, IsErrOf, IsTrue, OnOk, OnErr};
 ghost use Rattle.outside_core.specs.Faults.{Rose};
 ghost use Rattle.outside_core.specs.Written.{Appended, AppendedPrefix};
@@ -7,13 +8,13 @@ ghost use Rattle.target_defs.specs.Target.{IsInRange};
 ghost use Rattle.embed_defs.specs.Images.{image_map};
 ghost use Rattle.embed_defs.specs.Embedding.{IsEmbedding};
 ghost use Rattle.events_core.specs.Steps.{counts_of};
-ghost use Rattle.course_core.specs.Endings.{ended};
+ghost use Rattle.sched_run.specs.Endings.{ended};
 ghost use Rattle.sched_embedded.specs.Fabrics.{Leaves, LeavesPart, run_of};
 ghost use Rattle.sched_capture.specs.Answers.{direct_answer};
 
 use crate::capture::begin;
 use crate::course::run_over;
-use course_core::{Ending, Stop};
+use sched_run::{Ending, Stop};
 use embed_core::{Map, Target};
 use sched_embedded::Embedded;
 use events_core::Step;

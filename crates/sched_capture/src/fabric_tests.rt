@@ -25,7 +25,7 @@ use policy_core::{Policy, resolve};
 use policy_text::parse;
 use rank_defs::{FlowKey, MAX_RANK};
 use report_core::Report;
-use run_core::depart_line;
+use sched_run::depart_line;
 use sched_core::Scheduler;
 use std::alloc::{AllocError, Global};
 use std::process::Abort;

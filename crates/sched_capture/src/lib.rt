@@ -12,5 +12,5 @@ mod tests;
 pub use sched_packets::Arrivals;
 pub use capture::{begin, direct};
 pub use course::run_over;
-pub use course_core::{Ending, Stop};
+pub use sched_run::{Ending, Stop};
 pub use fabric::replay;

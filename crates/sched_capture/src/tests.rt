@@ -1,3 +1,4 @@
+//! Tests of runs through the policy's own tree.
 use crate::{Ending, Stop, direct};
 use events_core::parse_events;
 use outside_core::{MemShelf, MemSink, Shelf};

@@ -1,3 +1,4 @@
+//! The scheduler over the policy's own tree of queues.
 ghost use Rattle.std.specs.Prelude.{◌≡◌, IfOk};
 ghost use Rattle.sched_defs.specs.SourceState.{start};
 

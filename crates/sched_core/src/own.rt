@@ -1,3 +1,4 @@
+//! What each scheduler keeps itself.
 ghost use Rattle.std.specs.Prelude.{◌≡◌, ◌<◌, ◌≤◌, ◌+◌, ◌^◌, ℕ, Some, option_map, is_ok, if◌then◌else◌, OnOk, OnErr, IfOk};
 ghost use Rattle.std.proofs.Props.{props};
 ghost use Rattle.tree_defs.specs.Tree.{depth};

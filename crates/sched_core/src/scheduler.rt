@@ -1,3 +1,4 @@
+//! The trait of what drives queues by a policy.
 ghost use Rattle.std.specs.Prelude.{◌≡◌, ◌<◌, ◌≤◌, ◌+◌, ◌^◌, ◌↔◌, ℕ, Option, option_map, is_ok, if◌then◌else◌, IsNone, OnOk, OnErr, IfOk, IfSome, IfNone};
 ghost use Rattle.tree_defs.specs.Tree.{depth};
 ghost use Rattle.tree_defs.specs.SourceTree.{size};

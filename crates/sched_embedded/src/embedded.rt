@@ -1,3 +1,4 @@
+//! The scheduler over the queues of a fabric.
 ghost use Rattle.std.specs.Prelude.{◌≡◌, ◌+◌, ◌^◌, ◌<◌, IfOk, OnErr};
 ghost use Rattle.tree_defs.specs.Tree.{SameShape};
 ghost use Rattle.tree_defs.specs.Topology.{topology_of, complete};

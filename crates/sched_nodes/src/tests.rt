@@ -1,3 +1,4 @@
+//! Tests of the variables of nodes, children and flows.
 ghost use Rattle.std.specs.Prelude.{◌≡◌, [], ◌∷◌, map, IfOk};
 ghost use Rattle.rank_defs.specs.Programs.{program_of};
 ghost use Rattle.rank_defs.specs.Builtins.{stfq};

@@ -15,9 +15,9 @@ use Rattle.pcap_core.specs.declared.fault.CaptureFault.{CaptureFault}
 use Rattle.pcap_core.specs.declared.fault.CaptureFault.TheVariants.{HeaderCut, BadMagic, PcapNg, Version, RecordCut, DataCut, RecordLong, TooMany, ReadFault, NoMemory}
 use Rattle.packet_defs.specs.declared.packet.Packet.{Packet}
 use Rattle.policy_rules.specs.Resolved.{Resolved}
-use Rattle.course_core.specs.Packets.{Came, IsHalt}
-use Rattle.course_core.specs.declared.packets.Halt.{Halt}
-use Rattle.course_core.specs.declared.packets.Halt.TheVariants as halt
+use Rattle.sched_run.specs.Packets.{Came, IsHalt}
+use Rattle.sched_run.specs.declared.packets.Halt.{Halt}
+use Rattle.sched_run.specs.declared.packets.Halt.TheVariants as halt
 use Rattle.sched_packets.specs.Packets.{packet_of, packets_from}
 use Rattle.sched_packets.specs.Halts.{halt_of}
 use Rattle.sched_packets.specs.Arrivals.{left_in, nothing_left, Begins, Refuses}

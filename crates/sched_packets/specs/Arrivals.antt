@@ -7,9 +7,9 @@ use Rattle.pcap_defs.specs.Reading.{Capture, refused, packets, records_left}
 use Rattle.pcap_core.specs.Readers.{head_of, is_big, is_nano, is_live, records_given, rest_left}
 use Rattle.policy_defs.specs.Policy.{Policy}
 use Rattle.policy_rules.specs.Resolved.{Resolved}
-use Rattle.course_core.specs.Packets.{Left}
-use Rattle.course_core.specs.declared.packets.Halt.{Halt}
-use Rattle.course_core.specs.declared.packets.Halt.TheVariants as halt
+use Rattle.sched_run.specs.Packets.{Left}
+use Rattle.sched_run.specs.declared.packets.Halt.{Halt}
+use Rattle.sched_run.specs.declared.packets.Halt.TheVariants as halt
 use Rattle.sched_packets.specs.Packets.{packets_from}
 use Rattle.sched_packets.specs.declared.arrivals.Arrivals.{Arrivals}
 

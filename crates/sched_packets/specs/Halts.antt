@@ -2,8 +2,8 @@
 use Rattle.pcap_core.specs.declared.fault.CaptureFault.{CaptureFault}
 use Rattle.pcap_core.specs.declared.fault.CaptureFault.TheVariants.{ReadFault, NoMemory}
 use Rattle.pcap_core.specs.Faults.{code_in, place_in}
-use Rattle.course_core.specs.declared.packets.Halt.{Halt}
-use Rattle.course_core.specs.declared.packets.Halt.TheVariants as halt
+use Rattle.sched_run.specs.declared.packets.Halt.{Halt}
+use Rattle.sched_run.specs.declared.packets.Halt.TheVariants as halt
 
 -- what a reader's refusal becomes
 abbrev pub halt_of : CaptureFault → Halt

@@ -1,3 +1,4 @@
+//! The packets of a capture, one by one.
 ghost use Rattle.std.specs.Prelude.{◌≡◌, IfOk, IfErr, IfSome, IsErrOf, IsTrue, ◌≤◌};
 ghost use Rattle.outside_core.specs.Faults.{Rose};
 ghost use Rattle.outside_core.specs.Files.{KeepsFiles};
@@ -5,7 +6,7 @@ ghost use Rattle.pcap_defs.specs.Reading.{capture_of};
 
 use crate::halts::halt_of;
 use crate::packets::packet_in;
-use course_core::{Halt, Packets};
+use sched_run::{Halt, Packets};
 use outside_core::Shelf;
 use packet_core::Packet;
 use pcap_core::Reader;

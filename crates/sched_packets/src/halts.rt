@@ -1,7 +1,8 @@
+//! Why no more packets come.
 ghost use Rattle.std.specs.Prelude.{◌≡◌};
 ghost use Rattle.sched_packets.specs.Halts.{halt_of};
 
-use course_core::Halt;
+use sched_run::Halt;
 use pcap_core::CaptureFault;
 
 /// Why no packet comes, where a capture isn't read on.

@@ -1,3 +1,4 @@
+//! The packet of a record.
 ghost use Rattle.std.specs.Prelude.{◌≡◌};
 ghost use Rattle.pcap_defs.specs.Record.{Record};
 ghost use Rattle.pcap_core.specs.Frames.{IsFrameOf};

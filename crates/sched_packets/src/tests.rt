@@ -1,3 +1,4 @@
+//! Tests of packets of two classes, and of captures with faults.
 use crate::{Arrivals, Packets};
 use outside_core::{MemShelf, Shelf};
 use policy_core::{Policy, resolve};

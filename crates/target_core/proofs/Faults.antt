@@ -4,7 +4,7 @@ use Rattle.toml.specs.Data.{array, Items, Members, get_member}
 use Rattle.toml.specs.View.{items_view}
 use Rattle.toml.specs.declared.value.Value.{Value}
 use Rattle.target_defs.specs.Target.{leaves}
-use Rattle.target_text_defs.specs.TargetText.{IsToml, keys, AreArities, GivesArities, one_arity, each_arity, IsRefused, not_toml, off_keys, large}
+use Rattle.target_core.specs.TargetText.{IsToml, keys, AreArities, GivesArities, one_arity, each_arity, IsRefused, not_toml, off_keys, large}
 use Rattle.target_core.specs.Codes.{code_of}
 use Rattle.target_core.specs.Faults.{IsKeyFault}
 use Rattle.target_core.specs.declared.fault.TargetFault.{TargetFault}

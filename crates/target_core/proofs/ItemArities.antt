@@ -5,7 +5,7 @@ use Rattle.toml.proofs.Views.{items_view-push}
 use Rattle.toml.specs.Data.{Data, integer, Items, no_items, item, push_item}
 use Rattle.toml.specs.View.{view, items_view}
 use Rattle.toml.specs.declared.value.Value.{Value}
-use Rattle.target_text_defs.specs.TargetText.{AreArities}
+use Rattle.target_core.specs.TargetText.{AreArities}
 
 one_more : (ds : Items) (ns : List ℕ) (d : Data) (n : ℕ) → AreArities ds ns → d ≡ integer (pos n) → 2 ≤ n → n ≤ 64 → AreArities (push_item ds d) (ns ++ n ∷ [])
 one_more no_items [] d n a is l m = (is, l, m, tt)

@@ -1,3 +1,6 @@
+pub mod OneAnswer
+pub mod Ranges
+pub mod Decided
 mod Faults
 mod ItemArities
 mod LeafCounts

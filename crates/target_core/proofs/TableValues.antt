@@ -3,7 +3,7 @@ use Rattle.std.proofs.Common.{◌≡◌, ℕ, ◌≤◌, pos, List, [], ◌∷�
 use Rattle.toml.specs.Data.{Data, string, integer, float, boolean, datetime, array, table, Items, Members, get_member, as_array}
 use Rattle.toml.specs.View.{members_view}
 use Rattle.toml.proofs.Views.{Entry}
-use Rattle.target_text_defs.specs.TargetText.{HasNumber, keys}
+use Rattle.target_core.specs.TargetText.{HasNumber, keys}
 
 pub no_value : (t : Members) (key : List ℕ) (low high n : ℕ) → None ≡ get_member key t → HasNumber t key low high n → ⊥
 no_value t key low high n missing h =

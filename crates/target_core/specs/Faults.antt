@@ -1,7 +1,7 @@
 -- Why a table is no target's.
 use Rattle.std.specs.Prelude.{◌≡◌, ℕ, List}
 use Rattle.toml.specs.Data.{Items, Members}
-use Rattle.target_text_defs.specs.TargetText.{AreArities, GivesArities}
+use Rattle.target_core.specs.TargetText.{AreArities, GivesArities}
 use Rattle.target_core.specs.declared.fault.TargetFault.{TargetFault}
 use Rattle.target_core.specs.declared.fault.TargetFault.TheVariants.{Key}
 

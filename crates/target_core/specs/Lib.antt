@@ -1,2 +1,4 @@
+pub mod TargetText
+pub mod Laws
 pub mod Codes
 pub mod Faults

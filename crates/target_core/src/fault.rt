@@ -1,3 +1,4 @@
+//! Why a target's text is refused.
 ghost use Rattle.std.specs.Prelude.{◌≡◌};
 ghost use Rattle.target_core.specs.Codes.{code_of};
 

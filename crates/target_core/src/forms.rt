@@ -1,7 +1,7 @@
 //! The two forms of a target's table.
 ghost use Rattle.std.specs.Prelude.{◌≡◌, ◌≢◌, IfOk, IfErr};
 ghost use Rattle.toml.specs.View.{items_view, table_view};
-ghost use Rattle.target_text_defs.specs.TargetText.{AreArities, GivesArities, first_arity, keys};
+ghost use Rattle.target_core.specs.TargetText.{AreArities, GivesArities, first_arity, keys};
 ghost use Rattle.target_core.specs.Faults.{IsKeyFault, IsArrayFault};
 
 use crate::fault::TargetFault;

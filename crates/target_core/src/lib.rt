@@ -1,8 +1,10 @@
-//! Reading a target: the complete tree of queues that the hardware has.
+//! What a target's text is, a TOML document with the arity of each level, and reading it: the complete tree of queues that
+//! the hardware has. Begin with specs/TargetText.antt.
 #![tactic(auto)]
 
 mod fault;
 mod forms;
+mod laws;
 mod leaves;
 mod read;
 mod target;
@@ -11,5 +13,6 @@ mod tests;
 mod values;
 
 pub use fault::TargetFault;
+pub use laws::{accepted_targets_are_in_range, texts_have_an_answer, texts_have_one_answer};
 pub use read::read_target;
 pub use target::Target;

@@ -3,7 +3,7 @@ ghost use Rattle.std.specs.Prelude.{IfOk, IfErr, ◌≡◌, ◌≢◌};
 ghost use Rattle.toml.specs.Data.{Members};
 ghost use Rattle.toml.specs.View.{table_view};
 ghost use Rattle.target_defs.specs.Target.{IsInRange};
-ghost use Rattle.target_text_defs.specs.TargetText.{IsToml, IsTargetText, IsRefused};
+ghost use Rattle.target_core.specs.TargetText.{IsToml, IsTargetText, IsRefused};
 ghost use Rattle.target_core.specs.Codes.{code_of};
 
 use crate::fault::TargetFault;

@@ -1,3 +1,4 @@
+//! Tests of accepted and of refused targets.
 use super::*;
 use std::test::Fail;
 

@@ -2,7 +2,7 @@
 ghost use Rattle.std.specs.Prelude.{ℕ, ◌≡◌, ◌≢◌, ◌≤◌, pos, Some, IfSome, IsNone};
 ghost use Rattle.toml.specs.Data.{integer, array, Items, get_member};
 ghost use Rattle.toml.specs.View.{view, items_view, table_view};
-ghost use Rattle.target_text_defs.specs.TargetText.{HasNumber};
+ghost use Rattle.target_core.specs.TargetText.{HasNumber};
 
 use toml::{Table, Value};
 

@@ -1,3 +1,4 @@
+//! What the tokens of a line say.
 ghost use Rattle.std.specs.Prelude.{◌≡◌, List, IfOk};
 ghost use Rattle.text_core.specs.Glyphs.{Glyph, glyphs_of};
 ghost use Rattle.text_core.specs.Says.{Says};

@@ -1,3 +1,4 @@
+//! The laws of tokens and lines.
 ghost use Rattle.text_core.specs.Laws.{LongestTokenIsTaken, BytesSayOneList, TokensSayTheLine, PrintedNumberReadsBack};
 
 /// A token is the longest front of the bytes that is a word, a number or a mark; a number right before a letter or `_` is none.

@@ -1,3 +1,4 @@
+//! Where a line ends, and which of its bytes are the statement's.
 ghost use Rattle.std.specs.Prelude.{◌≡◌, ◌<◌, ◌≤◌, length, map, IfOk, IsTrue};
 ghost use Rattle.std.specs.List.{prefix_len, list_all, All};
 ghost use Rattle.text_core.specs.Lines.{is_text, is_clean, no_comment, ends_with_return, statement_length, AreLines, line_text, statements_of, IsMarked, LiesIn};

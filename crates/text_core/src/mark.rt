@@ -1,3 +1,4 @@
+//! The marks of the language.
 ghost use Rattle.std.specs.Prelude.{◌≡◌};
 ghost use Rattle.text_core.specs.Marks.{mark_of};
 

@@ -1,3 +1,4 @@
+//! Numbers in decimal, read and written.
 ghost use Rattle.std.specs.Prelude.{◌≡◌, ◌+◌, ◌≤◌, ◌<◌, ◌++◌, length, OnOk, OnErr, vec_len, vec_capacity, decimal, IfSome};
 ghost use Rattle.text_core.specs.Decimals.{number_of, max};
 

@@ -1,3 +1,4 @@
+//! Why a line isn't read.
 use crate::token::TokenFault;
 use std::alloc::{AllocError, AllocFailed};
 

@@ -1,3 +1,4 @@
+//! Tests of tokens and numbers.
 use super::*;
 use std::test::Fail;
 

@@ -1,3 +1,4 @@
+//! A path from the root to a leaf, with the rank at each step.
 use list_core::List;
 
 /// A path from the root of a tree to a leaf: the child's index and the rank at each inner node from the root down, and the rank

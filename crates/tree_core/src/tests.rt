@@ -1,3 +1,4 @@
+//! Tests of pushes and pops.
 ghost use Rattle.std.specs.Prelude.{◌≡◌, ◌+◌, ◌<◌, IfOk};
 ghost use Rattle.tree_defs.specs.Tree.{leaf, inner, none, more};
 ghost use Rattle.tree_defs.specs.Topology.{topology_of};

@@ -1,3 +1,4 @@
+//! Tests of parents, roots and preorder.
 ghost use Rattle.std.specs.Prelude.{◌≡◌, [], IfOk};
 ghost use Rattle.tree_graph.specs.Descent.{lists, two_below_a_root};
 

@@ -1,3 +1,4 @@
+//! Printing a condition.
 ghost use Rattle.std.specs.Prelude.{◌≡◌, ◌++◌, OnOk, codes};
 ghost use Rattle.std.specs.Fmt.{decimal};
 ghost use Rattle.policy_text_defs.specs.Words.{field_word};

@@ -1,3 +1,4 @@
+//! Printing an expression.
 ghost use Rattle.std.specs.Prelude.{◌≡◌, ◌++◌, OnOk, codes};
 ghost use Rattle.policy_text_defs.specs.Phrase.{phrase_of};
 ghost use Rattle.policy_text_defs.specs.Canonical.{term_text, is_infix, is_infix_op, op_text, wrapped};

@@ -1,3 +1,4 @@
+//! Printing a statement.
 ghost use Rattle.std.specs.Prelude.{◌≡◌, ◌++◌, OnOk, codes};
 ghost use Rattle.std.specs.Fmt.{decimal};
 ghost use Rattle.policy_text_defs.specs.declared.attribute.Attribute.TheVariants as attribute;

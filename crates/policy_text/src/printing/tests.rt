@@ -1,3 +1,4 @@
+//! Tests of printed statements.
 use super::*;
 use crate::parse;
 use list_core::Name;

@@ -1,3 +1,4 @@
+//! Tests of texts and of their faults.
 ghost use Rattle.std.specs.Prelude.{◌≡◌, [], ◌∷◌, map, codes, IfOk};
 ghost use Rattle.policy_text_defs.specs.Sense.{sense_of, version, transaction};
 

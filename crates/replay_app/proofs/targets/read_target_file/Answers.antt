@@ -1,5 +1,5 @@
 use Rattle.std.proofs.Common.{refl}
-use Rattle.target_text_defs.specs.TargetText.{too_long}
+use Rattle.target_core.specs.TargetText.{too_long}
 use Rattle.replay_app.specs.Follows.{IsRead}
 use Rattle.replay_app.specs.Targets.{IsTargetRefused, IsTargetOf}
 use Rattle.replay_app.specs.declared.refusal.Read.TheVariants.{Refused}

@@ -1,5 +1,0 @@
-use Rattle.course_core.proofs.Beginning.{start_can_begin}
-use Rattle.course_core.proofs.laws.runs_begin_at_the_start.Goals as goal
-
-pub returns : goal.returns
-returns c = start_can_begin

@@ -1,6 +1,0 @@
-ghost use Rattle.course_core.specs.Stages.{StartsCanBegin};
-
-/// A run can begin at the start of a policy, whatever came before.
-pub fn runs_begin_at_the_start()
-    ensures { StartsCanBegin }
-{}

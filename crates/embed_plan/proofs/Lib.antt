@@ -1,0 +1,4 @@
+pub mod Laws
+pub mod SomePlan
+pub mod Listed
+pub mod Telling

@@ -1,0 +1,5 @@
+use Rattle.embed_plan.proofs.Laws.{one_plan}
+use Rattle.embed_plan.proofs.laws.policies_have_one_plan.Goals as goal
+
+pub returns : goal.returns
+returns c = record { law = one_plan }

@@ -1,0 +1,6 @@
+use Rattle.std.proofs.Common.{◌≡◌, ◌++◌, ◌∷◌, take}
+use Rattle.embed_plan.specs.Plan.{address_text}
+use Rattle.embed_plan.proofs.lines.put_digits.Given as goal
+
+abbrev pub invariant-loop-digit : goal.invariant-loop-digit
+invariant-loop-digit l = record { text : l.into.items ≡ l.fn.into.items ++ address_text (l.first ∷ take l.digit-index l.rest) }

@@ -1,6 +1,0 @@
-use Rattle.std.proofs.Common.{◌≡◌, ◌++◌, ◌∷◌, take}
-use Rattle.plan_defs.specs.Plan.{address_text}
-use Rattle.plan_core.proofs.lines.put_digits.Given as goal
-
-abbrev pub invariant-loop-digit : goal.invariant-loop-digit
-invariant-loop-digit l = record { text : l.into.items ≡ l.fn.into.items ++ address_text (l.first ∷ take l.digit-index l.rest) }

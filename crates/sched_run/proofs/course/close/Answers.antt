@@ -1,0 +1,24 @@
+use Rattle.std.proofs.Common.{List, ℕ, [], subst, append-nil}
+use Rattle.outside_core.specs.Written.{Appended}
+use Rattle.outside_core.proofs.WrittenLaws.{appended_in_turn}
+use Rattle.report_defs.specs.Text.{IsCut}
+use Rattle.report_core.specs.Gathered.{text_of}
+use Rattle.report_core.proofs.TextLaws.{Begins-trans, IsCut-append}
+use Rattle.sched_run.specs.Endings.{last_line}
+use Rattle.sched_run.proofs.Turning.{if_ok_turned, on_err_turned}
+use Rattle.sched_run.proofs.course.close.Goals as goal
+
+pub returns-clause-ok : goal.returns-clause-ok
+returns-clause-ok g c =
+    let text = text_of (g.K.Sink.written c.args.sink.now) c.args.report.now in
+    if_ok_turned c.finish.result _ _ (λ _ whole. subst (Appended text (g.K.Sink.written c.finish.new.sink)) (append-nil (last_line c.args.pushed c.args.popped c.args.empty c.args.held c.args.ending))
+    (appended_in_turn text _ (g.K.Sink.written c.finish.new.sink) _ [] c.in_ok-last.ensures.ok whole)) c.finish.ensures.whole
+
+pub returns-clause-cut : goal.returns-clause-cut
+returns-clause-cut g c =
+    let text = text_of (g.K.Sink.written c.args.sink.now) c.args.report.now in
+    on_err_turned c.finish.result _ _ (λ cut. subst (λ (l : List ℕ). IsCut text l (g.K.Sink.written c.finish.new.sink)) (append-nil (last_line c.args.pushed c.args.popped c.args.empty c.args.held c.args.ending))
+    (IsCut-append text _ (g.K.Sink.written c.finish.new.sink) _ [] c.in_ok-last.ensures.ok cut)) c.finish.ensures.cut
+
+pub returns-clause-begins : goal.returns-clause-begins
+returns-clause-begins g c = Begins-trans _ _ _ c.in_ok-last.ensures.begins c.finish.ensures.begins

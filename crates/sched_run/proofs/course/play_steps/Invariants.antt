@@ -1,0 +1,28 @@
+use Rattle.std.proofs.Common.{◌≡◌, ◌≤◌, ◌+◌, IsTrue, drop}
+use Rattle.report_defs.specs.Text.{Begins}
+use Rattle.report_core.specs.Gathered.{text_of}
+use Rattle.sched_run.specs.Stages.{stage}
+use Rattle.sched_run.proofs.Running.{HasRun}
+use Rattle.sched_run.proofs.course.play_steps.Given as goal
+
+abbrev pub invariant-loop-step : goal.invariant-loop-step
+invariant-loop-step g l =
+    let S = g.C.Scheduler in
+    let P = g.P.Packets in
+    let written = g.K.Sink.written in
+    record {
+      run : HasRun S (S.policy l.fn.scheduler) l.steps (drop l.step-index l.steps) (P.left l.fn.packets l.fn.source) (P.left l.packets l.source)
+          (stage l.fn.scheduler l.fn.under (text_of (written l.fn.sink) l.fn.report) (P.given l.fn.packets) l.fn.tally)
+          (stage l.scheduler l.under (text_of (written l.sink) l.report) (P.given l.packets) l.tally);
+      given : P.given l.packets + l.fn.tally.pushed ≡ P.given l.fn.packets + l.tally.pushed;
+      few : P.given l.packets ≤ 4294967295;
+      ready : P.ready l.packets l.source;
+      begins : Begins (written l.fn.sink) (written l.sink);
+      later : g.K.Sink.faults l.fn.sink ≤ g.K.Sink.faults l.sink;
+      later_source : P.faults l.fn.source ≤ P.faults l.source;
+      live : IsTrue l.report.live;
+      room : l.trace.room ≡ l.fn.trace.room;
+      policy : S.policy l.scheduler ≡ S.policy l.fn.scheduler;
+      policy_packets : P.policy l.packets ≡ P.policy l.fn.packets;
+      origin : S.origin l.scheduler ≡ S.origin l.fn.scheduler;
+    }

@@ -1,0 +1,57 @@
+use Rattle.std.proofs.Common.{◌<◌, ◌≤◌, List, ℕ, length, sym, subst, ap, ◌∙◌}
+use Rattle.std.proofs.lemmas.Result.{err_from_is_err_and}
+use Rattle.outside_core.specs.Written.{Appended}
+use Rattle.report_defs.specs.Text.{IsCut}
+use Rattle.report_core.specs.Gathered.{text_of}
+use Rattle.tree_defs.specs.Tree.{nodes}
+use Rattle.policy_defs.specs.Policy.{Policy}
+use Rattle.packet_defs.specs.declared.packet.Departed.{Departed}
+use Rattle.sched_run.proofs.Leaves.{Left, left, ranks_left, line_left, named_leaf}
+use Rattle.sched_run.proofs.lines.depart_line.Goals as goal
+
+pub name-leaf-requires : goal.name-leaf-requires
+name-leaf-requires g c =
+    let r = c.requires.stands in
+    let policy = g.C.Scheduler.policy c.args.scheduler.now in
+    let h : Left policy r.state c.in-Some.departed = left policy r.state c.in-Some.departed c.requires.accepted r.sound (c.in-Some.ensures.value r.state r.sound r.stood) in
+    let low : c.in-Some.departed.leaf < nodes policy.tree = subst (λ (z : Departed). z.leaf < nodes policy.tree) h.told h.leaf_is.number in
+    record { node = subst (λ (q : Policy). c.in-Some.departed.leaf < nodes q.tree) (sym c.requires.names) low }
+
+pub departed-requires-clause-leaf : goal.departed-requires-clause-leaf
+departed-requires-clause-leaf g c =
+    let r = c.requires.stands in
+    let policy = g.C.Scheduler.policy c.args.scheduler.now in
+    let h : Left policy r.state c.in-Some.departed = left policy r.state c.in-Some.departed c.requires.accepted r.sound (c.in-Some.ensures.value r.state r.sound r.stood) in
+    let named = named_leaf policy (g.N.Names.policy c.args.names.now) h.leaver_is.digits c.in-Some.departed.leaf c.name-leaf.result.now c.requires.names h.leaf_is (ap (λ (z : Departed). z.leaf) h.told) c.name-leaf.ensures.name in
+    subst (λ (n : List ℕ). length n ≤ 64) (sym named) h.leaf_is.name
+
+pub departed-requires-clause-few : goal.departed-requires-clause-few
+departed-requires-clause-few g c =
+    let r = c.requires.stands in
+    let policy = g.C.Scheduler.policy c.args.scheduler.now in
+    let h : Left policy r.state c.in-Some.departed = left policy r.state c.in-Some.departed c.requires.accepted r.sound (c.in-Some.ensures.value r.state r.sound r.stood) in
+    let same = c.ranks.ensures.ranks ∙ ranks_left policy r.state c.in-Some.departed c.depart.new.trace h (c.in-Some.ensures.taken r.state r.sound r.stood) in
+    subst (λ (n : List ℕ). length n ≤ 65) (sym same) h.ranks
+
+pub returns-in_err-departed-in-Some-clause-cut : goal.returns-in_err-departed-in-Some-clause-cut
+returns-in_err-departed-in-Some-clause-cut g c =
+    let p = err_from_is_err_and c.from_residual.result c.from_residual.ensures.1 in
+    let policy = g.C.Scheduler.policy c.args.scheduler.now in
+    rw (p.1) (λ s sound stood.
+    let h : Left policy s c.in-Some.departed = left policy s c.in-Some.departed c.requires.accepted sound (c.in-Some.ensures.value s sound stood) in
+    let named = named_leaf policy (g.N.Names.policy c.args.names.now) h.leaver_is.digits c.in-Some.departed.leaf c.name-leaf.result.now c.requires.names h.leaf_is (ap (λ (z : Departed). z.leaf) h.told) c.name-leaf.ensures.name in
+    let same = c.ranks.ensures.ranks ∙ ranks_left policy s c.in-Some.departed c.depart.new.trace h (c.in-Some.ensures.taken s sound stood) in
+    subst (λ (l : List ℕ). IsCut (text_of (g.K.Sink.written c.args.sink.now) c.args.report.now) l (g.K.Sink.written c.departed.new.sink))
+    (line_left policy s c.in-Some.departed c.args.event c.name-leaf.result.now c.ranks.result.now h named same)
+    c.in_err-departed-in-Some.ensures.cut)
+
+pub returns-in_ok-departed-in-Some-clause-text : goal.returns-in_ok-departed-in-Some-clause-text
+returns-in_ok-departed-in-Some-clause-text g c =
+    let policy = g.C.Scheduler.policy c.args.scheduler.now in
+    λ s sound stood.
+    let h : Left policy s c.in-Some.departed = left policy s c.in-Some.departed c.requires.accepted sound (c.in-Some.ensures.value s sound stood) in
+    let named = named_leaf policy (g.N.Names.policy c.args.names.now) h.leaver_is.digits c.in-Some.departed.leaf c.name-leaf.result.now c.requires.names h.leaf_is (ap (λ (z : Departed). z.leaf) h.told) c.name-leaf.ensures.name in
+    let same = c.ranks.ensures.ranks ∙ ranks_left policy s c.in-Some.departed c.depart.new.trace h (c.in-Some.ensures.taken s sound stood) in
+    subst (λ (l : List ℕ). Appended (text_of (g.K.Sink.written c.args.sink.now) c.args.report.now) (text_of (g.K.Sink.written c.departed.new.sink) c.departed.new.self) l)
+    (line_left policy s c.in-Some.departed c.args.event c.name-leaf.result.now c.ranks.result.now h named same)
+    c.in_ok-departed-in-Some.ensures.ok

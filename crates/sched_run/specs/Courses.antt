@@ -1,0 +1,50 @@
+-- What a run leaves.
+use Rattle.std.specs.Prelude.{◌≡◌, ℕ, ◌+◌, Option, List, map, IfSome}
+use Rattle.outside_core.specs.Written.{Appended}
+use Rattle.report_defs.specs.Text.{IsCut}
+use Rattle.policy_defs.specs.Policy.{Policy}
+use Rattle.sched_defs.specs.SourceState.{SourceState}
+use Rattle.sched_defs.specs.Events.{Event}
+use Rattle.sched_defs.specs.Script.{Course, course}
+use Rattle.sched_defs.specs.Numbered.{IsHeldBelow}
+use Rattle.sched_defs.specs.Report.{course_report}
+use Rattle.sched_core.specs.declared.scheduler.Scheduler.{Ghosts}
+use Rattle.sched_core.specs.Standing.{ForEachState}
+use Rattle.sched_run.specs.Played.{HasMade, HasMadeSome}
+use Rattle.events_core.specs.declared.step.Step as line
+use Rattle.sched_run.specs.declared.ending.Ending.{Ending}
+use Rattle.sched_run.specs.Packets.{Left}
+use Rattle.sched_run.specs.Endings.{ended}
+use Rattle.sched_run.specs.Steps.{step_of}
+use Rattle.sched_run.specs.Stages.{Stage, event_of, FromEach, Makes}
+
+-- the course of the lines of a script over what is left, from a state
+abbrev pub course_of : Policy → List line.Step → Left → SourceState → ℕ → Course
+course_of policy steps left s event = course policy (map step_of steps) left.packets left.fault s event
+
+-- these are the events of a course, and this tells how it ends
+pub record IsCourse (events : List Event) (ending : Ending) (run : Course) : Type 0 where
+  pub are : events ≡ run.events
+  pub ends : ending ≡ ended run.ending
+
+-- all events of the course over what was left were made
+pub record Courses {C U : Type 0} (S : Ghosts C U) (policy : Policy) (steps : List line.Step) (ending : Ending) (before : Option Left) (old new : Stage C U) : Type 0 where
+  pub events : List Event
+  pub made : Makes S policy events old new
+  pub told : IfSome before (λ l. FromEach S policy old (λ s. IsCourse events ending (course_of policy steps l s (event_of old.tally))))
+
+-- P holds of each state for which they stand and in which no packet yet to come is held, with the course from there
+-- over what is left, where that is told
+abbrev pub OnCourse : {C U : Type 0} → (C → U → SourceState → Type 0) → Policy → C → U → ℕ → Option Left → List line.Step → (SourceState → Course → Type 0) → Type 0
+OnCourse stands policy c u given left steps P =
+    IfSome left (λ l. ForEachState stands policy c u (λ s. IsHeldBelow (given + 1) s.held → P s (course_of policy steps l s 1)))
+
+-- all events of the course were made, and its report is written behind the text
+pub record Runs {C U : Type 0} (S : Ghosts C U) (policy : Policy) (run : Course) (from : SourceState) (c : C) (u : U) (c' : C) (u' : U) (text written : Option (List ℕ)) : Type 0 where
+  pub leaves : HasMade S policy run.events from c u c' u'
+  pub report : Appended text written (course_report policy run from)
+
+-- the first of its events were made, and a first part of the text with its report is written
+pub record Breaks {C U : Type 0} (S : Ghosts C U) (policy : Policy) (run : Course) (from : SourceState) (c : C) (u : U) (c' : C) (u' : U) (text written : Option (List ℕ)) : Type 0 where
+  pub leaves : HasMadeSome S policy run.events from c u c' u'
+  pub report : IsCut text (course_report policy run from) written

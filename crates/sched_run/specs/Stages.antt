@@ -1,0 +1,77 @@
+-- Where a run stands, and what events in a row make of it.
+use Rattle.std.specs.Prelude.{◌≡◌, ◌<◌, ◌≤◌, ◌^◌, ℕ, ◌+◌, Option, List, [], ◌∷◌}
+use Rattle.std.specs.List.{AllByRecursion}
+use Rattle.tree_defs.specs.SourceTree.{size}
+use Rattle.packet_defs.specs.declared.packet.Packet.{Packet}
+use Rattle.policy_defs.specs.Policy.{Policy}
+use Rattle.sched_defs.specs.SourceState.{SourceState, start}
+use Rattle.sched_defs.specs.Events.{Event, Arrive, Depart, arrivals_in, departures_in}
+use Rattle.sched_defs.specs.Numbered.{AreNumberedFrom, IsSendable, IsHeldBelow}
+use Rattle.sched_core.specs.declared.scheduler.Scheduler.{Ghosts}
+use Rattle.sched_core.specs.Standing.{ForEachState}
+use Rattle.sched_run.specs.Played.{Plays, StopsIn}
+use Rattle.sched_run.specs.declared.tally.Tally.{Tally}
+
+-- the scheduler with what is under it, the text so far, how many packets came, and the tally
+pub record Stage (C U : Type 0) : Type 0 where
+  pub scheduler : C
+  pub under : U
+  pub text : Option (List ℕ)
+  pub given : ℕ
+  pub tally : Tally
+
+abbrev pub stage : {C U : Type 0} → C → U → Option (List ℕ) → ℕ → Tally → Stage C U
+stage c u text given tally = record { scheduler = c; under = u; text = text; given = given; tally = tally }
+
+-- the number of the next event
+abbrev pub event_of : Tally → ℕ
+event_of tally = tally.pushed + tally.asked + 1
+
+-- P holds of each sound state for which they stand and in which no packet yet to come is held
+abbrev pub FromEach : {C U : Type 0} → Ghosts C U → Policy → Stage C U → (SourceState → Type 0) → Type 0
+FromEach S policy at P = ForEachState S.stands policy at.scheduler at.under (λ s. IsHeldBelow (at.given + 1) s.held → P s)
+
+-- no packet yet to come is held, and so few are held that the counts have room for their departures
+pub record IsReady (given : ℕ) (tally : Tally) (s : SourceState) : Type 0 where
+  pub held : IsHeldBelow (given + 1) s.held
+  pub few : tally.asked + size s.tree ≤ 2 ^ 34
+
+-- no packet yet to come is held, and not too many are
+pub record CanBegin (given : ℕ) (s : SourceState) : Type 0 where
+  pub held : IsHeldBelow (given + 1) s.held
+  pub few : size s.tree ≤ 2 ^ 32
+
+-- which is so at the start
+abbrev pub StartsCanBegin : Type 0
+StartsCanBegin = (policy : Policy) (given : ℕ) → CanBegin given (start policy)
+
+-- the counts have room for all packets that may come
+pub record HasRoom (arrivals departures given : ℕ) (tally : Tally) : Type 0 where
+  pub arrivals_fit : arrivals < 2 ^ 60 + tally.pushed
+  pub departures_fit : departures < 2 ^ 60 + tally.asked
+  pub pushed : tally.pushed ≤ given
+  pub few : given ≤ 4294967295
+  pub few_asked : tally.asked ≤ 2 ^ 34
+
+-- the packets of the arrivals, in order
+abbrev pub packets_in : List Event → List Packet
+packets_in [] = []
+packets_in (Arrive p ∷ es) = p ∷ packets_in es
+packets_in (Depart ∷ es) = packets_in es
+
+-- packets as they come behind so many: numbered in a row, and each can be sent
+pub record AreNext (policy : Policy) (given : ℕ) (packets : List Packet) : Type 0 where
+  pub numbered : AreNumberedFrom (given + 1) packets
+  pub sendable : AllByRecursion (IsSendable policy) packets
+
+-- all of the events were made, each with its line, and were counted
+pub record Makes {C U : Type 0} (S : Ghosts C U) (policy : Policy) (events : List Event) (old new : Stage C U) : Type 0 where
+  pub next : AreNext policy old.given (packets_in events)
+  pub pushed : new.tally.pushed ≡ old.tally.pushed + arrivals_in events
+  pub asked : new.tally.asked ≡ old.tally.asked + departures_in events
+  pub played : FromEach S policy old (λ s. Plays S policy (event_of old.tally) events s old.scheduler old.under new.scheduler new.under old.text new.text)
+
+-- the first of the events were made, and a first part of the text with the lines of all is written
+pub record Stops {C U : Type 0} (S : Ghosts C U) (policy : Policy) (events : List Event) (old : Stage C U) (c : C) (u : U) (written : Option (List ℕ)) : Type 0 where
+  pub next : AreNext policy old.given (packets_in events)
+  pub stopped : FromEach S policy old (λ s. StopsIn S policy (event_of old.tally) events s old.scheduler old.under c u old.text written)

@@ -1,0 +1,76 @@
+-- What a step of a script leaves.
+use Rattle.std.specs.Prelude.{◌≡◌, ◌≤◌, ◌<◌, ℕ, Option, None, Some, option_map, List, ◌++◌, map, length, IfSome, IfNone, ⊤}
+use Rattle.packet_defs.specs.declared.packet.Packet.{Packet}
+use Rattle.policy_defs.specs.Policy.{Policy}
+use Rattle.sched_defs.specs.SourceState.{SourceState}
+use Rattle.sched_defs.specs.Events.{Event, Arrive, outcomes}
+use Rattle.sched_defs.specs.Script.{Step, step_events, left_by, stop_at}
+use Rattle.sched_defs.specs.Report.{empty_in}
+use Rattle.sched_core.specs.declared.scheduler.Scheduler.{Ghosts}
+use Rattle.sched_run.specs.declared.ending.Ending.{Ending}
+use Rattle.sched_run.specs.declared.ending.Ending.TheVariants.{Whole, BadCapture, PastLast}
+use Rattle.sched_run.specs.Packets.{Left, Came, IsOver, IsFaultOf}
+use Rattle.sched_run.specs.Endings.{ended}
+use Rattle.sched_run.specs.Steps.{asked_by}
+use Rattle.sched_run.specs.Stages.{Stage, event_of, FromEach, Makes, Stops}
+
+-- ---- arrivals
+-- these packets came, and then, where the run ends so, no more
+abbrev pub CameUntil : Option Ending → ℕ → Option Left → Option Left → List Packet → Type 0
+CameUntil None event before after packets = Came before after packets
+CameUntil (Some (Whole unsent)) event before after packets = ⊥
+CameUntil (Some (BadCapture c p)) event before after packets = IfSome before (λ l. (l.packets ≡ packets) × IsFaultOf c p l.fault)
+CameUntil (Some (PastLast e)) event before after packets = (e ≡ event) × Came before after packets × IsOver after
+
+-- P, unless a fault of the capture ends the run
+abbrev pub GoesOn : Option Ending → Type 0 → Type 0
+GoesOn (Some (BadCapture c p)) P = ⊤
+GoesOn ending P = P
+
+-- all that were asked for, or fewer
+abbrev pub CameOf : Option Ending → ℕ → ℕ → Type 0
+CameOf None asked count = count ≡ asked
+CameOf (Some ending) asked count = count < asked
+
+-- up to so many packets came and arrived
+pub record Arrives {C U : Type 0} (S : Ghosts C U) (policy : Policy) (asked : ℕ) (ending : Option Ending) (before after : Option Left) (old new : Stage C U) : Type 0 where
+  pub packets : List Packet
+  pub count : CameOf ending asked (length packets)
+  pub came : CameUntil ending (event_of new.tally) before after packets
+  pub made : Makes S policy (map Arrive packets) old new
+
+-- these packets were the first of those that were left
+abbrev pub WereFirst : Option Left → List Packet → Type 0
+WereFirst before packets = IfSome before (λ l. (others : List Packet) × (packets ++ others ≡ l.packets))
+
+-- up to so many packets came, and their arrivals stopped
+pub record ArrivalsStop {C U : Type 0} (S : Ghosts C U) (policy : Policy) (asked : ℕ) (before : Option Left) (old : Stage C U) (c : C) (u : U) (written : Option (List ℕ)) : Type 0 where
+  pub packets : List Packet
+  pub count : length packets ≤ asked
+  pub first : WereFirst before packets
+  pub stop : Stops S policy (map Arrive packets) old c u written
+
+-- ---- steps
+-- these are the events of a step over what was left, from a state, and this is what it leaves
+pub record IsTurn (step : Step) (ending : Option Ending) (event : ℕ) (events : List Event) (before : Left) (after : Option Left) (s : SourceState) : Type 0 where
+  pub are : events ≡ step_events step before.packets s
+  pub ends : ending ≡ option_map ended (stop_at step before.packets before.fault event)
+  pub rest : IfNone ending (after ≡ Some (record { packets = left_by step before.packets; fault = before.fault }))
+
+-- all events of a step were made
+pub record Turns {C U : Type 0} (S : Ghosts C U) (policy : Policy) (step : Step) (ending : Option Ending) (before after : Option Left) (old new : Stage C U) : Type 0 where
+  pub events : List Event
+  pub made : Makes S policy events old new
+  pub few : FromEach S policy old (λ s. empty_in (outcomes policy events s) ≤ asked_by step)
+  pub told : IfSome before (λ l. FromEach S policy old (λ s. IsTurn step ending (event_of new.tally) events l after s))
+
+-- ---- events that stop
+-- these are the first of some events
+abbrev pub AreFirst : List Event → List Event → Type 0
+AreFirst events all = (others : List Event) × (events ++ others ≡ all)
+
+-- the first of the events that were to come over what was left were made
+pub record StopsAmid {C U : Type 0} (S : Ghosts C U) (policy : Policy) (all : Left → SourceState → List Event) (before : Option Left) (old : Stage C U) (c : C) (u : U) (written : Option (List ℕ)) : Type 0 where
+  pub events : List Event
+  pub stop : Stops S policy events old c u written
+  pub first : IfSome before (λ l. FromEach S policy old (λ s. AreFirst events (all l s)))

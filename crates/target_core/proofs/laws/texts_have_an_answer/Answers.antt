@@ -1,0 +1,5 @@
+use Rattle.target_core.proofs.Decided.{an_answer-holds}
+use Rattle.target_core.proofs.laws.texts_have_an_answer.Goals as goal
+
+pub returns : goal.returns
+returns c = record { law = an_answer-holds }

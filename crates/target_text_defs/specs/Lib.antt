@@ -1,2 +1,0 @@
-pub mod TargetText
-pub mod Laws
