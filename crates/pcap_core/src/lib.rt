@@ -9,9 +9,9 @@ mod preface;
 mod reader;
 mod window;
 
-pub use pcap_defs::Head;
 pub use fault::CaptureFault;
 pub use frame::Frame;
+pub use pcap_defs::Head;
 pub use reader::Reader;
 
 #[cfg(test)]

@@ -15,8 +15,8 @@ use crate::frame::Frame;
 use crate::header::{HEADER_LEN, head_in};
 use crate::preface::{RECORD_LEN, preface_in};
 use crate::window::Window;
-use pcap_defs::Head;
 use outside_core::Shelf;
+use pcap_defs::Head;
 use std::alloc::Global;
 
 /// Reads the file header.

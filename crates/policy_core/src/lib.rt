@@ -11,8 +11,8 @@ mod stations;
 pub use laws::{addresses_undo_numbers, numbers_undo_addresses, rows_tell_the_tree};
 pub use parts::{Class, Marks, Station};
 pub use policy::Policy;
-pub use resolution::resolve;
 pub use policy_rules::PolicyFault;
+pub use resolution::resolve;
 
 #[cfg(test)]
 mod tests;

@@ -13,12 +13,12 @@ ghost use Rattle.tree_graph.specs.Row.{row_at};
 ghost use Rattle.policy_rules.specs.Clauses.{most_nodes};
 
 use crate::parts::{Class, Marks, Station};
-use tree_graph::Preorder;
 use list_core::List;
-use policy_defs::Names;
+use policy_defs::NodeNames;
 use range_core::Checked;
 use std::marker::Model;
 use tree_core::Topo;
+use tree_graph::Preorder;
 
 /// An accepted policy. Its nodes and leaves are numbered in preorder from the root, which is 0.
 #[derive(Drop)]
@@ -164,7 +164,7 @@ impl Policy {
     }
 }
 
-impl Names for Policy {
+impl NodeNames for Policy {
     ghost policy = { λ p. p.policy };
 
     fn name(&self, node: u32) -> &str {

@@ -12,18 +12,18 @@ ghost use Rattle.policy_places.specs.Laws.{AreValid};
 use crate::classes::classes;
 use crate::policy::Policy;
 use crate::stations::stations;
-use policy_places::leaves;
-use policy_programs::checked_transactions;
+use list_core::List;
 use policy_declarations::{Spaces, declarations};
 use policy_family::{check_family, graph};
-use tree_graph::Preorder;
-use list_core::List;
 use policy_listings::{check_leaves, check_parents};
+use policy_places::leaves;
+use policy_programs::checked_transactions;
+use policy_rules::PolicyFault;
 use policy_text::Lines;
 use policy_text_defs::Statement;
 use range_core::Checked;
-use policy_rules::PolicyFault;
 use std::alloc::{AllocError, Global};
+use tree_graph::Preorder;
 
 /// Puts the parts of accepted statements together. The error is want of memory.
 fn assemble(

@@ -12,9 +12,9 @@ ghost use Rattle.policy_core.specs.Made.{nodes_told, IsPlaceOf, IsStationOf, Are
 ghost use Rattle.policy_core.specs.Parts.{HavePrograms, told};
 
 use crate::parts::{Marks, Station};
-use policy_programs::program_place;
 use list_core::{List, Name};
 use policy_names::Names;
+use policy_programs::program_place;
 use policy_text_defs::{Attrs, Statement};
 use std::alloc::{AllocError, Global};
 

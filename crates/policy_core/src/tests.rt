@@ -6,14 +6,14 @@ ghost use Rattle.tree_graph.specs.Descent.{lists, two_below_a_root};
 ghost use Rattle.policy_core.specs.Samples.{station, two_programs, tree, stations, classes, of_three_levels, childless, lone_tree, lone_stations, lone_classes, of_one_leaf};
 
 use crate::{Class, Marks, Policy, Station};
-use tree_graph::Preorder;
 use list_core::{List, Name};
-use policy_defs::Names;
+use policy_defs::NodeNames;
 use policy_text_defs::Condition;
 use range_core::{Checked, RangeFault, check};
 use rank_defs::{Aim, Assign, Expr, Transaction, Var};
 use std::alloc::{AllocError, Global};
 use std::test::Fail;
+use tree_graph::Preorder;
 
 const PLAIN: Marks = Marks {
     prio: 0,
@@ -160,7 +160,7 @@ fn one_leaf(alloc: Global, programs: List<Checked>) -> Result<Policy, AllocError
 }
 
 /// The name of a node, by the bound alone.
-fn name_by_bound<N: Names>(names: &N, node: u32) -> &str
+fn name_by_bound<N: NodeNames>(names: &N, node: u32) -> &str
     requires node { node < nodes (N.policy names.now).tree }
 {
     names.name(node)

@@ -9,8 +9,8 @@ use crate::known::first_unknown;
 use crate::placing::first_misplaced;
 use crate::room::first_beyond;
 use crate::spaces::{Spaces, declared};
-use policy_text_defs::Statement;
 use policy_rules::PolicyFault;
+use policy_text_defs::Statement;
 use std::alloc::Global;
 
 /// The names that statements declare, where none fails one of the first four clauses of an accepted policy.

@@ -10,8 +10,8 @@ ghost use Rattle.policy_declarations.specs.Kept.{AreSpaces, AreVariables};
 use crate::variables::variables_after;
 use crate::words::is_builtin;
 use policy_names::Names;
-use policy_text_defs::Statement;
 use policy_rules::PolicyFault;
+use policy_text_defs::Statement;
 use std::alloc::{AllocError, Global};
 
 /// The names that statements declare: transactions, classes, and nodes and leaves together.

@@ -2,8 +2,8 @@
 ghost use Rattle.std.specs.Prelude.{◌≡◌, is_some};
 ghost use Rattle.rank_defs.specs.Builtins.{builtin};
 
-use policy_text_defs::is_among;
 use policy_rules::BUILTINS;
+use policy_text_defs::is_among;
 
 /// Whether a transaction of this name is built in.
 pub fn is_builtin(name: &str) -> bool

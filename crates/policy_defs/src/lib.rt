@@ -3,4 +3,4 @@
 
 mod names;
 
-pub use names::Names;
+pub use names::NodeNames;

@@ -5,7 +5,7 @@ ghost use Rattle.policy_defs.specs.Policy.{Policy, name_at};
 ghost use Rattle.policy_defs.specs.Numbers.{number_at};
 
 /// What tells the names of a policy's nodes and leaves.
-pub trait Names {
+pub trait NodeNames {
     ghost policy: { Self → Policy };
 
     /// The name of the node or leaf of this number, counted in preorder from the root, which is 0.

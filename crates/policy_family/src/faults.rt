@@ -9,11 +9,11 @@ ghost use Rattle.tree_graph.specs.Descent.{lists};
 ghost use Rattle.policy_family.specs.Lines.{node_entries, line_at};
 
 use crate::graphs::number;
-use tree_graph::{first_deep, first_on_cycle, parents};
 use policy_names::Names;
-use policy_text_defs::Statement;
 use policy_rules::PolicyFault;
+use policy_text_defs::Statement;
 use std::alloc::Global;
+use tree_graph::{first_deep, first_on_cycle, parents};
 
 /// Refuses a node among its own descendants, and then a node or leaf more than 64 levels below the root.
 pub fn check_family(

@@ -8,8 +8,8 @@ ghost use Rattle.policy_family.specs.Example.{root_above_a_leaf, cycle_beside_th
 use crate::{check_family, graph};
 use list_core::{List, Name};
 use policy_names::Names;
-use policy_text_defs::{Attrs, Statement};
 use policy_rules::PolicyFault;
+use policy_text_defs::{Attrs, Statement};
 use std::alloc::{AllocError, Global};
 use std::test::Fail;
 

@@ -9,8 +9,8 @@ ghost use Rattle.policy_names.specs.Names.{IsTally};
 
 use crate::tallies::tally_classes;
 use policy_names::Tally;
-use policy_text_defs::Statement;
 use policy_rules::PolicyFault;
+use policy_text_defs::Statement;
 use std::alloc::Global;
 
 /// Whether a statement declares a class that isn't listed once.

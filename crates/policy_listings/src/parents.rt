@@ -10,8 +10,8 @@ ghost use Rattle.policy_listings.specs.Statements.{is_root};
 
 use crate::tallies::tally_children;
 use policy_names::Tally;
-use policy_text_defs::Statement;
 use policy_rules::PolicyFault;
+use policy_text_defs::Statement;
 use std::alloc::Global;
 
 /// Whether a statement declares a node or leaf that isn't the root and isn't listed once.

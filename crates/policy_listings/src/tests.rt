@@ -4,8 +4,8 @@ ghost use Rattle.policy_rules.specs.Entries.{entries_of, AreRising};
 
 use crate::{check_leaves, check_parents};
 use list_core::{List, Name};
-use policy_text_defs::{Attrs, Condition, Statement};
 use policy_rules::PolicyFault;
+use policy_text_defs::{Attrs, Condition, Statement};
 use std::alloc::{AllocError, Global};
 use std::test::Fail;
 

@@ -10,11 +10,11 @@ ghost use Rattle.tree_graph.specs.Row.{nodes_of};
 ghost use Rattle.policy_places.specs.Homes.{AreHomes};
 
 use crate::numbers::places;
-use tree_graph::Preorder;
 use list_core::Name;
 use policy_names::Names;
 use policy_text_defs::Statement;
 use std::alloc::{AllocError, Global};
+use tree_graph::Preorder;
 
 /// Puts a leaf at the places of the classes that it lists.
 fn put(leaves: &mut [u32], classes: &Names<'_>, listed: &[Name], leaf: u32)

@@ -4,8 +4,8 @@ ghost use Rattle.tree_graph.specs.Descent.{times};
 ghost use Rattle.tree_graph.specs.Row.{nodes_of};
 ghost use Rattle.policy_places.specs.Numbers.{ArePlaces};
 
-use tree_graph::Preorder;
 use std::alloc::{AllocError, Global};
+use tree_graph::Preorder;
 
 /// For each node of the graph its number in preorder. The error is want of memory.
 pub fn places(alloc: Global, tree: &Preorder) -> Result<Vec<u32>, AllocError>

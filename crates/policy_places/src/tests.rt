@@ -6,12 +6,12 @@ ghost use Rattle.tree_graph.specs.Descent.{lists, two_below_a_root};
 ghost use Rattle.policy_places.specs.Samples.{four_nodes, nothing_set};
 
 use crate::{leaves, places};
-use tree_graph::Preorder;
 use list_core::{List, Name};
 use policy_names::Names;
 use policy_text_defs::{Attrs, Statement};
 use std::alloc::{AllocError, Global};
 use std::test::Fail;
+use tree_graph::Preorder;
 
 const UNSET: Attrs = Attrs {
     prio: None,

@@ -8,9 +8,9 @@ ghost use Rattle.policy_programs.specs.Known.{known_programs, fault_of};
 use crate::bodies::add_written;
 use crate::places::builtin_transactions;
 use list_core::List;
+use policy_rules::PolicyFault;
 use policy_text_defs::Statement;
 use range_core::{Checked, RangeFault, check};
-use policy_rules::PolicyFault;
 use std::alloc::Global;
 
 fn fault(fault: RangeFault) -> PolicyFault

@@ -12,9 +12,9 @@ ghost use Rattle.policy_programs.specs.Known.{known_programs};
 
 use list_core::List;
 use policy_names::Names;
+use policy_rules::BUILTINS;
 use rank_core::builtin;
 use rank_defs::Transaction;
-use policy_rules::BUILTINS;
 use std::alloc::{AllocError, Global};
 
 /// The built-in transactions. The error is want of memory.

@@ -7,9 +7,9 @@ ghost use Rattle.policy_programs.specs.Samples.{ranking, IsSample};
 use crate::{checked_transactions, program_place};
 use list_core::{List, Name};
 use policy_names::Names;
+use policy_rules::PolicyFault;
 use policy_text_defs::{Statement, Term};
 use rank_defs::{Aim, Expr, Op, Span, Var};
-use policy_rules::PolicyFault;
 use std::alloc::{AllocError, Global};
 use std::test::Fail;
 

@@ -19,11 +19,11 @@ use crate::status::Status;
 use crate::stop::Stop;
 use crate::words::DirectFiles;
 use crate::writing::refuse;
-use sched_capture::direct;
 use events_core::Step;
 use outside_core::{Shelf, Sink};
 use policy_core::Policy;
 use report_core::FaultKind;
+use sched_capture::direct;
 use std::alloc::Global;
 
 /// Runs the steps of a script over a capture's file.

@@ -27,13 +27,13 @@ use crate::stop::Stop;
 use crate::targets::read_target_file;
 use crate::words::ReplayFiles;
 use crate::writing::refuse;
-use sched_capture::replay;
 use embed_core::{EmbedFault, Map, Target, embed};
 use events_core::Step;
 use fabric_core::Fabric;
 use outside_core::{Shelf, Sink};
 use policy_core::Policy;
 use report_core::FaultKind;
+use sched_capture::replay;
 use std::alloc::Global;
 
 /// The target has no room for the policy's tree.

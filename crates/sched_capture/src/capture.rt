@@ -11,13 +11,13 @@ ghost use Rattle.sched_packets.specs.Arrivals.{policy_of, given_by, left_of, IsR
 ghost use Rattle.sched_capture.specs.Answers.{IsRefusal, direct_answer};
 
 use crate::course::run_over;
-use sched_packets::{Arrivals, Halt};
-use sched_run::{Ending, Stop};
 use events_core::Step;
 use outside_core::{Shelf, Sink};
 use policy_core::Policy;
 use report_core::{FaultKind, Report};
 use sched_core::Direct;
+use sched_packets::{Arrivals, Halt};
+use sched_run::{Ending, Stop};
 use std::alloc::Global;
 
 /// Writes the line of a capture whose header is at fault, as the whole report. The answer is how the run ends.

@@ -10,13 +10,13 @@ ghost use Rattle.sched_packets.specs.Arrivals.{policy_of, given_by, left_of, IsR
 ghost use Rattle.sched_capture.specs.Answers.{answer_of};
 ghost use Rattle.sched_run.specs.Played.{HasMade, HasMadeSome};
 
-use sched_packets::Arrivals;
-use sched_run::{Ending, Stop, play};
 use events_core::Step;
 use outside_core::{Shelf, Sink};
 use policy_core::Policy;
 use report_core::Report;
 use sched_core::Scheduler;
+use sched_packets::Arrivals;
+use sched_run::{Ending, Stop, play};
 use std::alloc::Global;
 use tree_core::Taken;
 

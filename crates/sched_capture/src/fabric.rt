@@ -14,13 +14,13 @@ ghost use Rattle.sched_capture.specs.Answers.{direct_answer};
 
 use crate::capture::begin;
 use crate::course::run_over;
-use sched_run::{Ending, Stop};
 use embed_core::{Map, Target};
-use sched_embedded::Embedded;
 use events_core::Step;
 use fabric_core::Fabric;
 use outside_core::{Shelf, Sink};
 use policy_core::Policy;
+use sched_embedded::Embedded;
+use sched_run::{Ending, Stop};
 use std::alloc::Global;
 
 /// Runs the steps of a script over the begun capture, through a fabric into which the policy's tree is laid by a map, and

@@ -17,7 +17,6 @@ ghost use Rattle.embed_core.specs.Range.{levels_of};
 ghost use Rattle.sched_embedded.specs.Embedded.{EmbeddedStands, origin_of};
 
 use embed_core::{Target, embed, read_target};
-use sched_embedded::Embedded;
 use fabric_core::{Fabric, FlatFabric};
 use outside_core::MemSink;
 use packet_defs::{Departed, Packet};
@@ -25,8 +24,9 @@ use policy_core::{Policy, resolve};
 use policy_text::parse;
 use rank_defs::{FlowKey, MAX_RANK};
 use report_core::Report;
-use sched_run::depart_line;
 use sched_core::Scheduler;
+use sched_embedded::Embedded;
+use sched_run::depart_line;
 use std::alloc::{AllocError, Global};
 use std::process::Abort;
 use std::test::Fail;

@@ -9,8 +9,8 @@ mod fabric_tests;
 #[cfg(test)]
 mod tests;
 
-pub use sched_packets::Arrivals;
 pub use capture::{begin, direct};
 pub use course::run_over;
-pub use sched_run::{Ending, Stop};
 pub use fabric::replay;
+pub use sched_packets::Arrivals;
+pub use sched_run::{Ending, Stop};

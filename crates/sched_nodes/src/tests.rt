@@ -7,7 +7,6 @@ ghost use Rattle.policy_core.specs.Samples.{station};
 ghost use Rattle.sched_nodes.specs.Samples.{one_program, tree, stations, classes, fair};
 
 use crate::Stations;
-use tree_graph::Preorder;
 use list_core::{List, Name};
 use packet_defs::Packet;
 use policy_core::{Class, Marks, Policy, Station};
@@ -16,6 +15,7 @@ use rank_core::{FlowKey, Transaction, builtin};
 use std::alloc::{AllocError, Global};
 use std::test::Fail;
 use tree_core::Taken;
+use tree_graph::Preorder;
 
 const PLAIN: Marks = Marks {
     prio: 0,

@@ -6,11 +6,11 @@ ghost use Rattle.pcap_defs.specs.Reading.{capture_of};
 
 use crate::halts::halt_of;
 use crate::packets::packet_in;
-use sched_run::{Halt, Packets};
 use outside_core::Shelf;
 use packet_core::Packet;
 use pcap_core::Reader;
 use policy_core::Policy;
+use sched_run::{Halt, Packets};
 use std::alloc::Global;
 use std::marker::PhantomData;
 

@@ -2,8 +2,8 @@
 ghost use Rattle.std.specs.Prelude.{◌≡◌};
 ghost use Rattle.sched_packets.specs.Halts.{halt_of};
 
-use sched_run::Halt;
 use pcap_core::CaptureFault;
+use sched_run::Halt;
 
 /// Why no packet comes, where a capture isn't read on.
 pub(crate) fn halt_of(fault: CaptureFault) -> Halt

@@ -5,9 +5,9 @@ ghost use Rattle.pcap_core.specs.Frames.{IsFrameOf};
 ghost use Rattle.sched_defs.specs.Sound.{IsKnown};
 ghost use Rattle.sched_packets.specs.Packets.{packet_of};
 
-use pcap_defs::Head;
 use packet_core::{Packet, classify, flow, read_fields};
 use pcap_core::Frame;
+use pcap_defs::Head;
 use policy_core::Policy;
 
 /// The packet of a record, of which these bytes were captured.

@@ -17,12 +17,11 @@ use crate::stop::Stop;
 use crate::tally::Tally;
 use outside_core::Sink;
 use report_core::Report;
-use sched_run::{Names, arrive_line};
 use sched_core::Scheduler;
 use tree_core::Taken;
 
 /// Makes the arrival of the next packet, with its line. Where none is left, the answer is how a run ends that asks for one.
-pub(crate) fn arrive_next<C: Scheduler, N: Names, P: Packets, K: Sink>(
+pub(crate) fn arrive_next<C: Scheduler, N: NodeNames, P: Packets, K: Sink>(
     names: &N,
     scheduler: &mut C,
     under: &mut C::Under,
@@ -78,7 +77,7 @@ pub(crate) fn arrive_next<C: Scheduler, N: Names, P: Packets, K: Sink>(
 
 /// Makes the arrivals of the next packets, each with its line. Where fewer are left, the answer is how a run ends that asks
 /// for one more.
-pub(crate) fn arrive_some<C: Scheduler, N: Names, P: Packets, K: Sink>(
+pub(crate) fn arrive_some<C: Scheduler, N: NodeNames, P: Packets, K: Sink>(
     names: &N,
     scheduler: &mut C,
     under: &mut C::Under,
@@ -132,7 +131,7 @@ pub(crate) fn arrive_some<C: Scheduler, N: Names, P: Packets, K: Sink>(
 
 /// Makes the arrivals of all packets that are left, each with its line. The answer is how the capture's fault ends the run,
 /// if it has one.
-pub(crate) fn arrive_rest<C: Scheduler, N: Names, P: Packets, K: Sink>(
+pub(crate) fn arrive_rest<C: Scheduler, N: NodeNames, P: Packets, K: Sink>(
     names: &N,
     scheduler: &mut C,
     under: &mut C::Under,

@@ -22,7 +22,6 @@ use crate::tally::Tally;
 use events_core::Step;
 use outside_core::Sink;
 use report_core::{FaultKind, Report, WriteFault};
-use sched_run::Names;
 use sched_core::Scheduler;
 use tree_core::Taken;
 
@@ -52,7 +51,7 @@ fn count_unsent<P: Packets>(packets: &mut P, source: &mut P::Source) -> Result<E
 }
 
 /// Makes the events of a script, each with its line, up to its end or to where no more packets come.
-fn play_steps<C: Scheduler, N: Names, P: Packets, K: Sink>(
+fn play_steps<C: Scheduler, N: NodeNames, P: Packets, K: Sink>(
     names: &N,
     scheduler: &mut C,
     under: &mut C::Under,
@@ -155,7 +154,7 @@ fn close<K: Sink>(
 
 /// Makes the events of a script over the packets that come, each with its line, and writes the report to its end. The
 /// answer is how the run ended; where it stops, the text is cut short.
-pub fn play<C: Scheduler, N: Names, P: Packets, K: Sink>(
+pub fn play<C: Scheduler, N: NodeNames, P: Packets, K: Sink>(
     names: &N,
     scheduler: &mut C,
     under: &mut C::Under,

@@ -17,13 +17,13 @@ ghost use Rattle.sched_run.specs.Played.{Plays, StopsIn};
 use crate::stop::Stop;
 use outside_core::Sink;
 use packet_defs::{Departed, Packet};
-use policy_defs::Names;
+use policy_defs::NodeNames;
 use report_core::{Report, WriteFault};
 use sched_core::Scheduler;
 use tree_core::Taken;
 
 /// Makes a departure, and writes its line. Takes no memory.
-pub fn depart_line<C: Scheduler, N: Names, K: Sink>(
+pub fn depart_line<C: Scheduler, N: NodeNames, K: Sink>(
     names: &N,
     scheduler: &mut C,
     under: &mut C::Under,
@@ -75,7 +75,7 @@ pub fn depart_line<C: Scheduler, N: Names, K: Sink>(
 }
 
 /// Makes an arrival, and writes its line.
-pub fn arrive_line<C: Scheduler, N: Names, K: Sink>(
+pub fn arrive_line<C: Scheduler, N: NodeNames, K: Sink>(
     names: &N,
     scheduler: &mut C,
     under: &mut C::Under,

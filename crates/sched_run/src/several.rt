@@ -13,13 +13,13 @@ use crate::lines::{arrive_line, depart_line};
 use crate::stop::Stop;
 use outside_core::Sink;
 use packet_defs::Packet;
-use policy_defs::Names;
+use policy_defs::NodeNames;
 use report_core::{Report, WriteFault};
 use sched_core::Scheduler;
 use tree_core::Taken;
 
 /// Makes departures, each with its line. Takes no memory.
-pub fn depart_lines<C: Scheduler, N: Names, K: Sink>(
+pub fn depart_lines<C: Scheduler, N: NodeNames, K: Sink>(
     names: &N,
     scheduler: &mut C,
     under: &mut C::Under,
@@ -56,7 +56,7 @@ pub fn depart_lines<C: Scheduler, N: Names, K: Sink>(
 }
 
 /// Makes the arrivals of packets, each with its line.
-pub fn arrive_lines<C: Scheduler, N: Names, K: Sink>(
+pub fn arrive_lines<C: Scheduler, N: NodeNames, K: Sink>(
     names: &N,
     scheduler: &mut C,
     under: &mut C::Under,

@@ -20,12 +20,11 @@ use crate::tally::Tally;
 use events_core::Step;
 use outside_core::Sink;
 use report_core::{Report, WriteFault};
-use sched_run::{Names, depart_lines};
 use sched_core::Scheduler;
 use tree_core::Taken;
 
 /// Makes departures, each with its line. Takes no memory.
-fn depart_some<C: Scheduler, N: Names, K: Sink>(
+fn depart_some<C: Scheduler, N: NodeNames, K: Sink>(
     names: &N,
     scheduler: &mut C,
     under: &mut C::Under,
@@ -64,7 +63,7 @@ fn depart_some<C: Scheduler, N: Names, K: Sink>(
 }
 
 /// Makes the events of a step, each with its line. The answer is how they end the run, if they do.
-pub(crate) fn play_step<C: Scheduler, N: Names, P: Packets, K: Sink>(
+pub(crate) fn play_step<C: Scheduler, N: NodeNames, P: Packets, K: Sink>(
     names: &N,
     scheduler: &mut C,
     under: &mut C::Under,

@@ -33,7 +33,7 @@ arrived-requires-clause-leaf g c =
     let r = c.requires.stands in
     let policy = g.C.Scheduler.policy c.args.scheduler.now in
     let at = arrives policy c.args.packet.now r.state c.requires.accepted r.has in
-    let named = named_leaf policy (g.N.Names.policy c.args.names.now) (class_of policy c.args.packet.now).leaf c.in_ok-leaf.leaf c.name-name.result.now c.requires.names at (sym c.in_ok-leaf.ensures.leaf) c.name-name.ensures.name in
+    let named = named_leaf policy (g.N.NodeNames.policy c.args.names.now) (class_of policy c.args.packet.now).leaf c.in_ok-leaf.leaf c.name-name.result.now c.requires.names at (sym c.in_ok-leaf.ensures.leaf) c.name-name.ensures.name in
     subst (λ (n : List ℕ). length n ≤ 64) (sym named) at.name
 
 pub arrived-requires-clause-few : goal.arrived-requires-clause-few
@@ -49,7 +49,7 @@ returns-in_err-arrived-clause-err g c =
     let p = err_from_is_err_and c.from_residual-in_err-arrived.result c.from_residual-in_err-arrived.ensures.1 in
     let policy = g.C.Scheduler.policy c.args.scheduler.now in
     let at = arrives policy c.args.packet.now r.state c.requires.accepted r.has in
-    let named = named_leaf policy (g.N.Names.policy c.args.names.now) (class_of policy c.args.packet.now).leaf c.in_ok-leaf.leaf c.name-name.result.now c.requires.names at (sym c.in_ok-leaf.ensures.leaf) c.name-name.ensures.name in
+    let named = named_leaf policy (g.N.NodeNames.policy c.args.names.now) (class_of policy c.args.packet.now).leaf c.in_ok-leaf.leaf c.name-name.result.now c.requires.names at (sym c.in_ok-leaf.ensures.leaf) c.name-name.ensures.name in
     rw (p.1) (λ s sound stood. record {
       leaves = made_all g.C.Scheduler policy (Arrive c.args.packet.now ∷ [])
           (made_arrival g.C.Scheduler policy (c.in_ok-leaf.ensures.ok s sound stood) c.in_ok-leaf.ensures.arrivals c.in_ok-leaf.ensures.departures c.in_ok-leaf.ensures.origin (c.in_ok-leaf.ensures.spilled s sound stood));
@@ -63,7 +63,7 @@ returns-clause-ok g c =
     let r = c.requires.stands in
     let policy = g.C.Scheduler.policy c.args.scheduler.now in
     let at = arrives policy c.args.packet.now r.state c.requires.accepted r.has in
-    let named = named_leaf policy (g.N.Names.policy c.args.names.now) (class_of policy c.args.packet.now).leaf c.in_ok-leaf.leaf c.name-name.result.now c.requires.names at (sym c.in_ok-leaf.ensures.leaf) c.name-name.ensures.name in
+    let named = named_leaf policy (g.N.NodeNames.policy c.args.names.now) (class_of policy c.args.packet.now).leaf c.in_ok-leaf.leaf c.name-name.result.now c.requires.names at (sym c.in_ok-leaf.ensures.leaf) c.name-name.ensures.name in
     λ s sound stood. record {
       leaves = made_arrival g.C.Scheduler policy (c.in_ok-leaf.ensures.ok s sound stood) c.in_ok-leaf.ensures.arrivals c.in_ok-leaf.ensures.departures c.in_ok-leaf.ensures.origin (c.in_ok-leaf.ensures.spilled s sound stood);
       lines = subst (λ (l : List ℕ). Appended (text_of (g.K.Sink.written c.args.sink.now) c.args.report.now) (text_of (g.K.Sink.written c.arrived.new.sink) c.arrived.new.self) l)

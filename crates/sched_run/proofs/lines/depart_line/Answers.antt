@@ -22,7 +22,7 @@ departed-requires-clause-leaf g c =
     let r = c.requires.stands in
     let policy = g.C.Scheduler.policy c.args.scheduler.now in
     let h : Left policy r.state c.in-Some.departed = left policy r.state c.in-Some.departed c.requires.accepted r.sound (c.in-Some.ensures.value r.state r.sound r.stood) in
-    let named = named_leaf policy (g.N.Names.policy c.args.names.now) h.leaver_is.digits c.in-Some.departed.leaf c.name-leaf.result.now c.requires.names h.leaf_is (ap (λ (z : Departed). z.leaf) h.told) c.name-leaf.ensures.name in
+    let named = named_leaf policy (g.N.NodeNames.policy c.args.names.now) h.leaver_is.digits c.in-Some.departed.leaf c.name-leaf.result.now c.requires.names h.leaf_is (ap (λ (z : Departed). z.leaf) h.told) c.name-leaf.ensures.name in
     subst (λ (n : List ℕ). length n ≤ 64) (sym named) h.leaf_is.name
 
 pub departed-requires-clause-few : goal.departed-requires-clause-few
@@ -39,7 +39,7 @@ returns-in_err-departed-in-Some-clause-cut g c =
     let policy = g.C.Scheduler.policy c.args.scheduler.now in
     rw (p.1) (λ s sound stood.
     let h : Left policy s c.in-Some.departed = left policy s c.in-Some.departed c.requires.accepted sound (c.in-Some.ensures.value s sound stood) in
-    let named = named_leaf policy (g.N.Names.policy c.args.names.now) h.leaver_is.digits c.in-Some.departed.leaf c.name-leaf.result.now c.requires.names h.leaf_is (ap (λ (z : Departed). z.leaf) h.told) c.name-leaf.ensures.name in
+    let named = named_leaf policy (g.N.NodeNames.policy c.args.names.now) h.leaver_is.digits c.in-Some.departed.leaf c.name-leaf.result.now c.requires.names h.leaf_is (ap (λ (z : Departed). z.leaf) h.told) c.name-leaf.ensures.name in
     let same = c.ranks.ensures.ranks ∙ ranks_left policy s c.in-Some.departed c.depart.new.trace h (c.in-Some.ensures.taken s sound stood) in
     subst (λ (l : List ℕ). IsCut (text_of (g.K.Sink.written c.args.sink.now) c.args.report.now) l (g.K.Sink.written c.departed.new.sink))
     (line_left policy s c.in-Some.departed c.args.event c.name-leaf.result.now c.ranks.result.now h named same)
@@ -50,7 +50,7 @@ returns-in_ok-departed-in-Some-clause-text g c =
     let policy = g.C.Scheduler.policy c.args.scheduler.now in
     λ s sound stood.
     let h : Left policy s c.in-Some.departed = left policy s c.in-Some.departed c.requires.accepted sound (c.in-Some.ensures.value s sound stood) in
-    let named = named_leaf policy (g.N.Names.policy c.args.names.now) h.leaver_is.digits c.in-Some.departed.leaf c.name-leaf.result.now c.requires.names h.leaf_is (ap (λ (z : Departed). z.leaf) h.told) c.name-leaf.ensures.name in
+    let named = named_leaf policy (g.N.NodeNames.policy c.args.names.now) h.leaver_is.digits c.in-Some.departed.leaf c.name-leaf.result.now c.requires.names h.leaf_is (ap (λ (z : Departed). z.leaf) h.told) c.name-leaf.ensures.name in
     let same = c.ranks.ensures.ranks ∙ ranks_left policy s c.in-Some.departed c.depart.new.trace h (c.in-Some.ensures.taken s sound stood) in
     subst (λ (l : List ℕ). Appended (text_of (g.K.Sink.written c.args.sink.now) c.args.report.now) (text_of (g.K.Sink.written c.departed.new.sink) c.departed.new.self) l)
     (line_left policy s c.in-Some.departed c.args.event c.name-leaf.result.now c.ranks.result.now h named same)
