@@ -1,3 +1,4 @@
 mod StoredLemmas
 pub mod WrittenLaws
+pub mod KeptLaws
 pub mod FaultLaws

@@ -1,5 +1,5 @@
 -- Counts of 64 bits that never fall, and the calls that are to fail.
-use Rattle.std.specs.Prelude.{◌≡◌, refl, ◌≤◌, ◌+◌, ◌-◌, ◌^◌, ◌==◌, ℕ, Bool, true, false, List, [], ◌∷◌, min}
+use Rattle.std.specs.Prelude.{◌≡◌, refl, ◌≤◌, ◌+◌, ◌-◌, ◌^◌, ◌==◌, ℕ, Bool, true, false, List, [], ◌∷◌, min, Result, MatchResult}
 use Rattle.std.specs.List.{list_any}
 
 -- one more, and the last number of 64 bits after itself
@@ -9,6 +9,10 @@ one_more count = min (count + 1) (2 ^ 64 - 1)
 -- the count rose: it is greater, or stands at its last value
 abbrev pub Rose : ℕ → ℕ → Type 0
 Rose before now = one_more before ≤ now
+
+-- a call that succeeds leaves the count as it is, and one that fails raises it
+abbrev pub CountsFaults : {X E : Type 0} → Result X E → ℕ → ℕ → Type 0
+CountsFaults result before now = MatchResult result (λ _. now ≡ before) (λ _. now ≡ one_more before)
 
 -- whether the call of this number is among those that are to fail
 abbrev pub is_to_fail : List ℕ → ℕ → Bool

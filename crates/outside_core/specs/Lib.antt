@@ -1,6 +1,7 @@
 pub mod Faults
 pub mod Files
 pub mod Written
+pub mod Kept
 pub mod Loading
 pub mod Stored
 pub mod Memory

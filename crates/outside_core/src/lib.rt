@@ -8,6 +8,7 @@ mod memory;
 mod plain;
 mod shelves;
 mod sinks;
+mod stop;
 mod system;
 #[cfg(test)]
 mod tests;
@@ -17,4 +18,5 @@ pub use memory::{MemShelf, MemSink};
 pub use plain::{PlainShelf, PlainSink};
 pub use shelves::{Shelf, ShelfError};
 pub use sinks::{Sink, SinkError, write_all};
+pub use stop::Stop;
 pub use system::{FileShelf, StdSink};

@@ -1,7 +1,7 @@
 //! Reading a whole file up to a limit.
 ghost use Rattle.std.specs.Prelude.{◌≡◌, ◌+◌, ◌^◌, ◌<◌, ◌≤◌, length, drop, vec_len, [], Some, IfOk, IfSome, OnOk, IsTrue, IsErrOf};
 ghost use Rattle.outside_core.specs.Faults.{Rose};
-ghost use Rattle.outside_core.specs.Files.{KeepsFiles};
+ghost use Rattle.outside_core.specs.Kept.{KeepsShelf};
 ghost use Rattle.outside_core.specs.Loading.{load_error};
 ghost use Rattle.outside_core.specs.declared.loading.LoadError.TheVariants.{NoMemory};
 
@@ -57,10 +57,10 @@ pub fn load<S: Shelf>(
     ensures too_long { IsErrOf result LoadError.TooLong → IfSome (S.content shelf.old name.now) (λ bytes. most < length bytes) }
 
     // One byte more than `most` was read.
-    ensures read { IsErrOf result LoadError.TooLong → IfSome (S.content shelf.old name.now) (λ bytes. S.left shelf.new ≡ Some (drop (most + 1) bytes)) }
+    ensures read { IsErrOf result LoadError.TooLong → IfSome (S.content shelf.old name.now) (λ bytes.
+        S.left shelf.new ≡ Some (drop (most + 1) bytes)) }
 
-    ensures files { KeepsFiles S.lends S.content shelf.old shelf.new }
-    ensures later { S.faults shelf.old ≤ S.faults shelf.new }
+    ensures kept { KeepsShelf S.lends S.content S.faults shelf.old shelf.new }
     ensures cause { IsErrOf result LoadError.Failed → Rose (S.faults shelf.old) (S.faults shelf.new) }
 {
     shelf.begin(name)?;

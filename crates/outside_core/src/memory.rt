@@ -46,8 +46,8 @@ impl MemShelf {
 }
 
 impl Shelf for MemShelf {
-    ghost use Rattle.std.specs.Prelude.{◌≡◌, ◌+◌, ◌<◌, ◌≤◌, ◌↔◌, Some, length, min, true, IsSome, IsTrue, IsFalse, IsOk, IsErrOf, IfOk, OnOk, OnErr, MatchResult};
-    ghost use Rattle.outside_core.specs.Faults.{one_more};
+    ghost use Rattle.std.specs.Prelude.{◌≡◌, ◌+◌, ◌<◌, ◌≤◌, ◌↔◌, Some, length, min, true, IsSome, IsTrue, IsFalse, IsOk, IsErrOf, IfOk, OnOk, OnErr};
+    ghost use Rattle.outside_core.specs.Faults.{one_more, CountsFaults};
     ghost use Rattle.outside_core.specs.Files.{Takes};
     ghost use Rattle.outside_core.specs.Stored.{first_content};
     ghost use Rattle.outside_core.specs.Memory.{held_files, is_begun, bytes_left, greatest_read, calls_made, faults_met, fails_next, KeepsSetting};
@@ -72,7 +72,7 @@ impl Shelf for MemShelf {
         ensures no_memory_never { IsErrOf result ShelfError.NoMemory → ⊥ }
 
         ensures later { faults_met self.old ≤ faults_met self.new }
-        ensures faults { MatchResult result (λ _. faults_met self.new ≡ faults_met self.old) (λ _. faults_met self.new ≡ one_more (faults_met self.old)) }
+        ensures faults { CountsFaults result (faults_met self.old) (faults_met self.new) }
         ensures calls { calls_made self.new ≡ one_more (calls_made self.old) }
         ensures setting { KeepsSetting self.old self.new }
     {
@@ -101,7 +101,7 @@ impl Shelf for MemShelf {
         ensures no_memory_never { IsErrOf result ShelfError.NoMemory → ⊥ }
 
         ensures later { faults_met self.old ≤ faults_met self.new }
-        ensures faults { MatchResult result (λ _. faults_met self.new ≡ faults_met self.old) (λ _. faults_met self.new ≡ one_more (faults_met self.old)) }
+        ensures faults { CountsFaults result (faults_met self.old) (faults_met self.new) }
         ensures calls { calls_made self.new ≡ one_more (calls_made self.old) }
         ensures setting { KeepsSetting self.old self.new }
     {
@@ -173,8 +173,8 @@ impl MemSink {
 }
 
 impl Sink for MemSink {
-    ghost use Rattle.std.specs.Prelude.{◌≡◌, ◌+◌, ◌<◌, ◌≤◌, ◌↔◌, ◌++◌, Some, length, take, min, IsFalse, IsOk, IfOk, OnErr, MatchResult};
-    ghost use Rattle.outside_core.specs.Faults.{one_more};
+    ghost use Rattle.std.specs.Prelude.{◌≡◌, ◌+◌, ◌<◌, ◌≤◌, ◌↔◌, ◌++◌, Some, length, take, min, IsFalse, IsOk, IfOk, OnErr};
+    ghost use Rattle.outside_core.specs.Faults.{one_more, CountsFaults};
     ghost use Rattle.outside_core.specs.Memory.{sink_bytes, room_left, greatest_write, writes_made, write_faults, write_fails_next, KeepsSinkSetting};
 
     ghost written = { λ s. Some (sink_bytes s) };
@@ -192,7 +192,7 @@ impl Sink for MemSink {
         ensures fails { IsOk result ↔ (IsFalse (write_fails_next self.old) × (0 < room_left self.old)) }
 
         ensures later { write_faults self.old ≤ write_faults self.new }
-        ensures faults { MatchResult result (λ _. write_faults self.new ≡ write_faults self.old) (λ _. write_faults self.new ≡ one_more (write_faults self.old)) }
+        ensures faults { CountsFaults result (write_faults self.old) (write_faults self.new) }
         ensures calls { writes_made self.new ≡ one_more (writes_made self.old) }
         ensures setting { KeepsSinkSetting self.old self.new }
     {

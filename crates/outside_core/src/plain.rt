@@ -123,7 +123,8 @@ impl Sink for PlainSink {
         ensures kept { kept_bytes self.new ≡ take (sink_room self.old) (kept_bytes self.old ++ piece.now) }
 
         // It tells its bytes as long as all that was written is kept.
-        ensures whole { IsTrue (is_whole self.new) ↔ (IsTrue (is_whole self.old) × (length (kept_bytes self.old) + length piece.now ≤ sink_room self.old)) }
+        ensures whole { IsTrue (is_whole self.new) ↔
+            (IsTrue (is_whole self.old) × (length (kept_bytes self.old) + length piece.now ≤ sink_room self.old)) }
         ensures room { sink_room self.new ≡ sink_room self.old }
     {
         let count = piece.len().min(self.room - self.bytes.len());

@@ -33,8 +33,8 @@ impl<R: Files + Drop> FileShelf<R> {
 }
 
 impl<R: Files + Drop> Shelf for FileShelf<R> {
-    ghost use Rattle.std.specs.Prelude.{◌≡◌, ◌≤◌, ◌<◌, None, true, length, IsTrue, IsFalse, IsErrOf, IfOk, OnOk, OnErr, MatchResult};
-    ghost use Rattle.outside_core.specs.Faults.{one_more};
+    ghost use Rattle.std.specs.Prelude.{◌≡◌, ◌≤◌, ◌<◌, None, true, length, IsTrue, IsFalse, IsErrOf, IfOk, OnOk, OnErr};
+    ghost use Rattle.outside_core.specs.Faults.{one_more, CountsFaults};
     ghost use Rattle.outside_core.specs.System.{is_begun, shelf_faults};
 
     ghost lends = { λ _ _. true };
@@ -51,7 +51,7 @@ impl<R: Files + Drop> Shelf for FileShelf<R> {
         ensures begun { OnOk result (IsTrue (is_begun self.new)) }
         ensures refused { OnErr result (IsFalse (is_begun self.new)) }
         ensures later { shelf_faults self.old ≤ shelf_faults self.new }
-        ensures faults { MatchResult result (λ _. shelf_faults self.new ≡ shelf_faults self.old) (λ _. shelf_faults self.new ≡ one_more (shelf_faults self.old)) }
+        ensures faults { CountsFaults result (shelf_faults self.old) (shelf_faults self.new) }
     {
         self.reading = None;
         match fs::open(&self.rt, name) {
@@ -73,7 +73,7 @@ impl<R: Files + Drop> Shelf for FileShelf<R> {
         ensures begun { IsTrue (is_begun self.new) }
         ensures no_memory_never { IsErrOf result ShelfError.NoMemory → ⊥ }
         ensures later { shelf_faults self.old ≤ shelf_faults self.new }
-        ensures faults { MatchResult result (λ _. shelf_faults self.new ≡ shelf_faults self.old) (λ _. shelf_faults self.new ≡ one_more (shelf_faults self.old)) }
+        ensures faults { CountsFaults result (shelf_faults self.old) (shelf_faults self.new) }
     {
         let Some(file) = &mut self.reading else {
             unreachable!()
@@ -107,8 +107,8 @@ impl<R: Print + Drop> StdSink<R> {
 }
 
 impl<R: Print + Drop> Sink for StdSink<R> {
-    ghost use Rattle.std.specs.Prelude.{◌≡◌, ◌≤◌, ◌<◌, None, length, IfOk, MatchResult};
-    ghost use Rattle.outside_core.specs.Faults.{one_more};
+    ghost use Rattle.std.specs.Prelude.{◌≡◌, ◌≤◌, ◌<◌, None, length, IfOk};
+    ghost use Rattle.outside_core.specs.Faults.{one_more, CountsFaults};
     ghost use Rattle.outside_core.specs.System.{sink_faults};
 
     ghost written = { λ _. None };
@@ -121,7 +121,7 @@ impl<R: Print + Drop> Sink for StdSink<R> {
         ensures least { IfOk result (λ n. 0 < n) }
         ensures bound { IfOk result (λ n. n ≤ length piece.now) }
         ensures later { sink_faults self.old ≤ sink_faults self.new }
-        ensures faults { MatchResult result (λ _. sink_faults self.new ≡ sink_faults self.old) (λ _. sink_faults self.new ≡ one_more (sink_faults self.old)) }
+        ensures faults { CountsFaults result (sink_faults self.old) (sink_faults self.new) }
     {
         match write_flushed(io::writer(&self.rt), piece) {
             Ok(count) if 0 < count => Ok(count),

@@ -2,8 +2,10 @@
 use Rattle.std.proofs.Common.{◌≡◌, ℕ, Option, List, [], ◌++◌, subst, append-nil}
 use Rattle.outside_core.specs.Written.{Appended, AppendedPrefix}
 use Rattle.outside_core.proofs.WrittenLaws.{appended_in_turn}
-use Rattle.report_defs.specs.Text.{appended, Begins, IsCut}
-use Rattle.report_core.proofs.TextLaws.{Begins-trans, IsCut-append, Appended-from_start, AppendedPrefix-from_cut}
+use Rattle.outside_core.specs.Kept.{Begins}
+use Rattle.report_defs.specs.Text.{appended, IsCut}
+use Rattle.outside_core.proofs.KeptLaws.{Begins-trans}
+use Rattle.report_core.proofs.TextLaws.{IsCut-append, Appended-from_start, AppendedPrefix-from_cut}
 
 -- a write failed in the text of a report that held nothing
 pub cut-part : (before written : Option (List ℕ)) (held text : List ℕ) → held ≡ [] → Begins before written → IsCut (appended before held) text written → AppendedPrefix before written text

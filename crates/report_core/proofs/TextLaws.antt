@@ -2,22 +2,8 @@
 use Rattle.std.proofs.Common.{ℕ, Option, None, Some, List, [], ◌++◌, refl, sym, ap, ◌∙◌, append_assoc, append-nil}
 use Rattle.std.proofs.lemmas.List.{append_cancel_left}
 use Rattle.outside_core.specs.Written.{Appended, AppendedPrefix}
-use Rattle.report_defs.specs.Text.{appended, Begins, IsCut}
-
--- what is told begins with itself
-pub Begins-same : (a : Option (List ℕ)) → Begins a a
-Begins-same None = tt
-Begins-same (Some now) = record { rest = []; joined = sym (append-nil now) }
-
--- and with what its beginning begins with
-pub Begins-trans : (a b c : Option (List ℕ)) → Begins a b → Begins b c → Begins a c
-Begins-trans a b None p q = tt
-Begins-trans a None (Some now) p q = absurd q
-Begins-trans None (Some mid) (Some now) p q = absurd p
-Begins-trans (Some before) (Some mid) (Some now) p q = record {
-  rest = p.rest ++ q.rest;
-  joined = q.joined ∙ ap (λ s. s ++ q.rest) p.joined ∙ append_assoc before p.rest q.rest;
-}
+use Rattle.outside_core.specs.Kept.{Begins}
+use Rattle.report_defs.specs.Text.{appended, IsCut}
 
 -- a cut behind a growth is a cut of both
 pub IsCut-append : (a b written : Option (List ℕ)) (first second : List ℕ) → Appended a b first → IsCut b second written → IsCut a (first ++ second) written

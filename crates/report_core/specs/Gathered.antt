@@ -1,6 +1,7 @@
 -- What contracts see of a report.
 use Rattle.std.specs.Prelude.{ℕ, Bool, Option, List}
-use Rattle.report_defs.specs.Text.{appended}
+use Rattle.outside_core.specs.Written.{Appended}
+use Rattle.report_defs.specs.Text.{appended, IsCut}
 
 -- the bytes that it holds and hasn't written, and whether each write so far was taken
 pub record Gathered : Type 0 where
@@ -10,6 +11,14 @@ pub record Gathered : Type 0 where
 -- the text of a report with its sink: what is written, and then what the report holds
 abbrev pub text_of : Option (List ℕ) → Gathered → Option (List ℕ)
 text_of written report = appended written report.unwritten
+
+-- the text grew by these bytes
+abbrev pub Tells : {K : Type 0} → (K → Option (List ℕ)) → K → Gathered → K → Gathered → List ℕ → Type 0
+Tells written sink report sink' report' bytes = Appended (text_of (written sink) report) (text_of (written sink') report') bytes
+
+-- of the text and the bytes that were to follow it, a first part is written
+abbrev pub CutsOff : {K : Type 0} → (K → Option (List ℕ)) → K → Gathered → K → List ℕ → Type 0
+CutsOff written sink report sink' bytes = IsCut (text_of (written sink) report) bytes (written sink')
 
 -- how many bytes it holds at most between two calls
 abbrev pub limit : ℕ

@@ -3,7 +3,8 @@ ghost use Rattle.std.specs.Prelude.{◌≡◌, ◌+◌, ◌≤◌, [], ◌++◌,
 ghost use Rattle.outside_core.specs.Faults.{Rose};
 ghost use Rattle.outside_core.specs.Written.{Appended};
 ghost use Rattle.report_defs.specs.Report.{ranks_text};
-ghost use Rattle.report_defs.specs.Text.{appended, Begins, IsCut};
+ghost use Rattle.outside_core.specs.Kept.{KeepsSink};
+ghost use Rattle.report_defs.specs.Text.{appended, IsCut};
 ghost use Rattle.report_core.specs.Gathered.{limit, longest, room};
 
 use crate::fault::WriteFault;
@@ -38,9 +39,8 @@ impl Model for Buffer {
 /// Writes all the bytes.
 pub fn send<K: Sink>(sink: &mut K, bytes: &[u8]) -> Result<(), WriteFault>
     ensures ok { OnOk result (Appended (K.written sink.old) (K.written sink.new) bytes.now) }
-    ensures begins { Begins (K.written sink.old) (K.written sink.new) }
     ensures cut { OnErr result (IsCut (appended (K.written sink.old) bytes.now) [] (K.written sink.new)) }
-    ensures later { K.faults sink.old ≤ K.faults sink.new }
+    ensures kept { KeepsSink K.written K.faults sink.old sink.new }
     ensures cause { OnErr result (Rose (K.faults sink.old) (K.faults sink.new)) }
 {
     write_all(sink, bytes)?;
@@ -99,9 +99,8 @@ impl Buffer {
         requires line { before ≤ length self.old }
         requires short { length self.old ≤ before + longest }
         ensures ok { OnOk result (Appended (appended (K.written sink.old) self.old) (appended (K.written sink.new) self.new) []) }
-        ensures begins { Begins (K.written sink.old) (K.written sink.new) }
         ensures cut { OnErr result (IsCut (appended (K.written sink.old) self.old) [] (K.written sink.new)) }
-        ensures later { K.faults sink.old ≤ K.faults sink.new }
+        ensures kept { KeepsSink K.written K.faults sink.old sink.new }
         ensures cause { OnErr result (Rose (K.faults sink.old) (K.faults sink.new)) }
         ensures bounded { length self.new ≤ limit }
     {
@@ -118,9 +117,8 @@ impl Buffer {
     /// Writes all that is held.
     pub fn flush<K: Sink>(&mut self, sink: &mut K) -> Result<(), WriteFault>
         ensures ok { OnOk result (Appended (appended (K.written sink.old) self.old) (appended (K.written sink.new) self.new) []) }
-        ensures begins { Begins (K.written sink.old) (K.written sink.new) }
         ensures cut { OnErr result (IsCut (appended (K.written sink.old) self.old) [] (K.written sink.new)) }
-        ensures later { K.faults sink.old ≤ K.faults sink.new }
+        ensures kept { KeepsSink K.written K.faults sink.old sink.new }
         ensures cause { OnErr result (Rose (K.faults sink.old) (K.faults sink.new)) }
         ensures empty { self.new ≡ [] }
     {
@@ -133,9 +131,8 @@ impl Buffer {
     pub fn put_or_send<K: Sink>(&mut self, sink: &mut K, bytes: &[u8]) -> Result<(), WriteFault>
         requires room { length self.old ≤ limit }
         ensures ok { OnOk result (Appended (appended (K.written sink.old) self.old) (appended (K.written sink.new) self.new) bytes.now) }
-        ensures begins { Begins (K.written sink.old) (K.written sink.new) }
         ensures cut { OnErr result (IsCut (appended (K.written sink.old) self.old) bytes.now (K.written sink.new)) }
-        ensures later { K.faults sink.old ≤ K.faults sink.new }
+        ensures kept { KeepsSink K.written K.faults sink.old sink.new }
         ensures cause { OnErr result (Rose (K.faults sink.old) (K.faults sink.new)) }
         ensures bounded { length self.new ≤ limit }
     {

@@ -1,8 +1,9 @@
 //! What a report says was refused, and a write that failed.
 ghost use Rattle.std.specs.Prelude.{◌≡◌};
+ghost use Rattle.outside_core.specs.declared.stop.Stop.TheVariants.{Sink};
 ghost use Rattle.report_core.specs.Faults.{word_of};
 
-use outside_core::SinkError;
+use outside_core::{SinkError, Stop};
 
 /// The input that was refused.
 #[derive(Clone, Copy, Debug, PartialEq, Eq)]
@@ -38,5 +39,13 @@ pub struct WriteFault;
 impl From<SinkError> for WriteFault {
     fn from(_error: SinkError) -> WriteFault {
         WriteFault
+    }
+}
+
+impl From<WriteFault> for Stop {
+    ghost from_gives = { λ _ stop. stop ≡ Sink };
+
+    fn from(_fault: WriteFault) -> Stop {
+        Stop::Sink
     }
 }

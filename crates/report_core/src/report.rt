@@ -1,11 +1,11 @@
 //! A report: lines that gather and go on to the sink.
 ghost use Rattle.std.specs.Prelude.{◌≡◌, ◌≤◌, [], ◌++◌, length, IsTrue, IsFalse, is_ok, IfOk, OnOk, OnErr};
 ghost use Rattle.outside_core.specs.Faults.{Rose};
+ghost use Rattle.outside_core.specs.Kept.{KeepsSink};
 ghost use Rattle.outside_core.specs.Written.{Appended};
 ghost use Rattle.report_defs.specs.Report.{arrival_line, departure_line, empty_line, end_line, fault_line};
-ghost use Rattle.report_defs.specs.Text.{Begins, IsCut};
 ghost use Rattle.report_core.specs.Faults.{word_of};
-ghost use Rattle.report_core.specs.Gathered.{limit, text_of};
+ghost use Rattle.report_core.specs.Gathered.{limit, text_of, Tells, CutsOff};
 
 use crate::buffer::Buffer;
 use crate::fault::{FaultKind, WriteFault};
@@ -72,13 +72,11 @@ impl Report {
         requires leaf { length leaf.now ≤ 64 }
         requires few { length ranks.now ≤ 65 }
 
-        ensures ok { OnOk result (Appended (text_of (K.written sink.old) self.old) (text_of (K.written sink.new) self.new) (arrival_line event packet leaf.now ranks.now)) }
-        ensures cut { OnErr result (IsCut (text_of (K.written sink.old) self.old) (arrival_line event packet leaf.now ranks.now) (K.written sink.new)) }
-        ensures begins { Begins (K.written sink.old) (K.written sink.new) }
+        ensures ok { OnOk result (Tells K.written sink.old self.old sink.new self.new (arrival_line event packet leaf.now ranks.now)) }
+        ensures cut { OnErr result (CutsOff K.written sink.old self.old sink.new (arrival_line event packet leaf.now ranks.now)) }
+        ensures kept { KeepsSink K.written K.faults sink.old sink.new }
         ensures cause { OnErr result (Rose (K.faults sink.old) (K.faults sink.new)) }
-        ensures later { K.faults sink.old ≤ K.faults sink.new }
-        ensures live { OnOk result (IsTrue self.new.live) }
-        ensures dead { OnErr result (IsFalse self.new.live) }
+        ensures live { self.new.live ≡ is_ok result }
         ensures bounded { length self.new.unwritten ≤ limit }
     {
         let before = self.buffer.len();
@@ -101,13 +99,11 @@ impl Report {
         requires leaf { length leaf.now ≤ 64 }
         requires few { length ranks.now ≤ 65 }
 
-        ensures ok { OnOk result (Appended (text_of (K.written sink.old) self.old) (text_of (K.written sink.new) self.new) (departure_line event packet leaf.now ranks.now start)) }
-        ensures cut { OnErr result (IsCut (text_of (K.written sink.old) self.old) (departure_line event packet leaf.now ranks.now start) (K.written sink.new)) }
-        ensures begins { Begins (K.written sink.old) (K.written sink.new) }
+        ensures ok { OnOk result (Tells K.written sink.old self.old sink.new self.new (departure_line event packet leaf.now ranks.now start)) }
+        ensures cut { OnErr result (CutsOff K.written sink.old self.old sink.new (departure_line event packet leaf.now ranks.now start)) }
+        ensures kept { KeepsSink K.written K.faults sink.old sink.new }
         ensures cause { OnErr result (Rose (K.faults sink.old) (K.faults sink.new)) }
-        ensures later { K.faults sink.old ≤ K.faults sink.new }
-        ensures live { OnOk result (IsTrue self.new.live) }
-        ensures dead { OnErr result (IsFalse self.new.live) }
+        ensures live { self.new.live ≡ is_ok result }
         ensures bounded { length self.new.unwritten ≤ limit }
     {
         let before = self.buffer.len();
@@ -120,13 +116,11 @@ impl Report {
     pub fn empty<K: Sink>(&mut self, sink: &mut K, event: u64) -> Result<(), WriteFault>
         requires live { IsTrue self.old.live }
 
-        ensures ok { OnOk result (Appended (text_of (K.written sink.old) self.old) (text_of (K.written sink.new) self.new) (empty_line event)) }
-        ensures cut { OnErr result (IsCut (text_of (K.written sink.old) self.old) (empty_line event) (K.written sink.new)) }
-        ensures begins { Begins (K.written sink.old) (K.written sink.new) }
+        ensures ok { OnOk result (Tells K.written sink.old self.old sink.new self.new (empty_line event)) }
+        ensures cut { OnErr result (CutsOff K.written sink.old self.old sink.new (empty_line event)) }
+        ensures kept { KeepsSink K.written K.faults sink.old sink.new }
         ensures cause { OnErr result (Rose (K.faults sink.old) (K.faults sink.new)) }
-        ensures later { K.faults sink.old ≤ K.faults sink.new }
-        ensures live { OnOk result (IsTrue self.new.live) }
-        ensures dead { OnErr result (IsFalse self.new.live) }
+        ensures live { self.new.live ≡ is_ok result }
         ensures bounded { length self.new.unwritten ≤ limit }
     {
         let before = self.buffer.len();
@@ -147,13 +141,11 @@ impl Report {
     ) -> Result<(), WriteFault>
         requires live { IsTrue self.old.live }
 
-        ensures ok { OnOk result (Appended (text_of (K.written sink.old) self.old) (text_of (K.written sink.new) self.new) (end_line pushed popped empty held unsent)) }
-        ensures cut { OnErr result (IsCut (text_of (K.written sink.old) self.old) (end_line pushed popped empty held unsent) (K.written sink.new)) }
-        ensures begins { Begins (K.written sink.old) (K.written sink.new) }
+        ensures ok { OnOk result (Tells K.written sink.old self.old sink.new self.new (end_line pushed popped empty held unsent)) }
+        ensures cut { OnErr result (CutsOff K.written sink.old self.old sink.new (end_line pushed popped empty held unsent)) }
+        ensures kept { KeepsSink K.written K.faults sink.old sink.new }
         ensures cause { OnErr result (Rose (K.faults sink.old) (K.faults sink.new)) }
-        ensures later { K.faults sink.old ≤ K.faults sink.new }
-        ensures live { OnOk result (IsTrue self.new.live) }
-        ensures dead { OnErr result (IsFalse self.new.live) }
+        ensures live { self.new.live ≡ is_ok result }
         ensures bounded { length self.new.unwritten ≤ limit }
     {
         let before = self.buffer.len();
@@ -172,13 +164,11 @@ impl Report {
     ) -> Result<(), WriteFault>
         requires live { IsTrue self.old.live }
 
-        ensures ok { OnOk result (Appended (text_of (K.written sink.old) self.old) (text_of (K.written sink.new) self.new) (fault_line (word_of kind) code place)) }
-        ensures cut { OnErr result (IsCut (text_of (K.written sink.old) self.old) (fault_line (word_of kind) code place) (K.written sink.new)) }
-        ensures begins { Begins (K.written sink.old) (K.written sink.new) }
+        ensures ok { OnOk result (Tells K.written sink.old self.old sink.new self.new (fault_line (word_of kind) code place)) }
+        ensures cut { OnErr result (CutsOff K.written sink.old self.old sink.new (fault_line (word_of kind) code place)) }
+        ensures kept { KeepsSink K.written K.faults sink.old sink.new }
         ensures cause { OnErr result (Rose (K.faults sink.old) (K.faults sink.new)) }
-        ensures later { K.faults sink.old ≤ K.faults sink.new }
-        ensures live { OnOk result (IsTrue self.new.live) }
-        ensures dead { OnErr result (IsFalse self.new.live) }
+        ensures live { self.new.live ≡ is_ok result }
         ensures bounded { length self.new.unwritten ≤ limit }
     {
         let before = self.buffer.len();
@@ -191,13 +181,11 @@ impl Report {
     pub fn piece<K: Sink>(&mut self, sink: &mut K, bytes: &[u8]) -> Result<(), WriteFault>
         requires live { IsTrue self.old.live }
 
-        ensures ok { OnOk result (Appended (text_of (K.written sink.old) self.old) (text_of (K.written sink.new) self.new) bytes.now) }
-        ensures cut { OnErr result (IsCut (text_of (K.written sink.old) self.old) bytes.now (K.written sink.new)) }
-        ensures begins { Begins (K.written sink.old) (K.written sink.new) }
+        ensures ok { OnOk result (Tells K.written sink.old self.old sink.new self.new bytes.now) }
+        ensures cut { OnErr result (CutsOff K.written sink.old self.old sink.new bytes.now) }
+        ensures kept { KeepsSink K.written K.faults sink.old sink.new }
         ensures cause { OnErr result (Rose (K.faults sink.old) (K.faults sink.new)) }
-        ensures later { K.faults sink.old ≤ K.faults sink.new }
-        ensures live { OnOk result (IsTrue self.new.live) }
-        ensures dead { OnErr result (IsFalse self.new.live) }
+        ensures live { self.new.live ≡ is_ok result }
         ensures bounded { length self.new.unwritten ≤ limit }
     {
         let sent = self.buffer.put_or_send(sink, bytes);
@@ -208,13 +196,11 @@ impl Report {
     pub fn finish<K: Sink>(&mut self, sink: &mut K) -> Result<(), WriteFault>
         requires live { IsTrue self.old.live }
 
-        ensures ok { OnOk result (Appended (text_of (K.written sink.old) self.old) (text_of (K.written sink.new) self.new) []) }
-        ensures cut { OnErr result (IsCut (text_of (K.written sink.old) self.old) [] (K.written sink.new)) }
-        ensures begins { Begins (K.written sink.old) (K.written sink.new) }
+        ensures ok { OnOk result (Tells K.written sink.old self.old sink.new self.new []) }
+        ensures cut { OnErr result (CutsOff K.written sink.old self.old sink.new []) }
+        ensures kept { KeepsSink K.written K.faults sink.old sink.new }
         ensures cause { OnErr result (Rose (K.faults sink.old) (K.faults sink.new)) }
-        ensures later { K.faults sink.old ≤ K.faults sink.new }
-        ensures live { OnOk result (IsTrue self.new.live) }
-        ensures dead { OnErr result (IsFalse self.new.live) }
+        ensures live { self.new.live ≡ is_ok result }
         ensures whole { OnOk result (Appended (text_of (K.written sink.old) self.old) (K.written sink.new) []) }
         ensures none_left { OnOk result (self.new.unwritten ≡ []) }
     {

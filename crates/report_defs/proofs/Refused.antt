@@ -2,7 +2,8 @@
 use Rattle.std.proofs.Common.{None, Some, [], ◌∷◌, take, subst}
 use Rattle.std.specs.Prelude.{T}
 use Rattle.std.specs.Str.{bytes_eq}
-use Rattle.report_defs.specs.Text.{Begins, IsCut}
+use Rattle.outside_core.specs.Kept.{Begins}
+use Rattle.report_defs.specs.Text.{IsCut}
 
 -- what is told now begins with what was told
 another_text : Begins (Some (1 ∷ [])) (Some (2 ∷ [])) → ⊥

@@ -1,21 +1,11 @@
 -- A text that grows, and of which a first part is written. What is written may not be told.
 use Rattle.std.specs.Prelude.{◌≡◌, refl, ℕ, Option, None, Some, List, [], ◌∷◌, ◌++◌, ⊤}
+use Rattle.outside_core.specs.Kept.{IsFront}
 
 -- a text and what follows it
 abbrev pub appended : Option (List ℕ) → List ℕ → Option (List ℕ)
 appended None more = None
 appended (Some text) more = Some (text ++ more)
-
--- the whole is the front and a rest
-pub record IsFront (front whole : List ℕ) : Type 0 where
-  pub rest : List ℕ
-  pub joined : whole ≡ front ++ rest
-
--- what is told now was told before, and begins with what it was then
-abbrev pub Begins : Option (List ℕ) → Option (List ℕ) → Type 0
-Begins before None = ⊤
-Begins None (Some now) = ⊥
-Begins (Some before) (Some now) = IsFront before now
 
 -- of a text and what was to follow it, a first part is written, maybe not even the whole text
 abbrev pub IsCut : Option (List ℕ) → List ℕ → Option (List ℕ) → Type 0
@@ -28,9 +18,6 @@ appended-one = refl
 
 appended-untold : appended None (2 ∷ []) ≡ None
 appended-untold = refl
-
-Begins-one_more : Begins (Some (1 ∷ [])) (Some (1 ∷ 2 ∷ []))
-Begins-one_more = record { rest = 2 ∷ []; joined = refl }
 
 IsCut-one_of_two : IsCut (Some (1 ∷ [])) (2 ∷ 3 ∷ []) (Some (1 ∷ 2 ∷ []))
 IsCut-one_of_two = record { rest = 3 ∷ []; joined = refl }

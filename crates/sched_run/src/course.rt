@@ -2,7 +2,8 @@
 ghost use Rattle.std.specs.Prelude.{◌≡◌, ◌<◌, ◌≤◌, ◌+◌, ◌^◌, None, [], IfOk, IfNone, IfSome, IsErrOf, IsTrue, OnOk, OnErr};
 ghost use Rattle.outside_core.specs.Faults.{Rose};
 ghost use Rattle.outside_core.specs.Written.{Appended};
-ghost use Rattle.report_defs.specs.Text.{Begins, IsCut};
+ghost use Rattle.outside_core.specs.Kept.{Begins};
+ghost use Rattle.report_defs.specs.Text.{IsCut};
 ghost use Rattle.report_core.specs.Gathered.{text_of};
 ghost use Rattle.tree_defs.specs.Tree.{depth};
 ghost use Rattle.policy_defs.specs.Accepted.{IsAccepted};

@@ -2,7 +2,8 @@
 ghost use Rattle.std.specs.Prelude.{◌≡◌, ◌<◌, ◌≤◌, ◌+◌, ◌^◌, ◌↔◌, [], ◌∷◌, option_map, is_err, IsErrOf, IsNone, IsTrue, IfOk, OnOk, OnErr, IfSome, IfNone};
 ghost use Rattle.outside_core.specs.Faults.{Rose};
 ghost use Rattle.outside_core.specs.Written.{Appended};
-ghost use Rattle.report_defs.specs.Text.{Begins, IsCut};
+ghost use Rattle.outside_core.specs.Kept.{Begins};
+ghost use Rattle.report_defs.specs.Text.{IsCut};
 ghost use Rattle.report_core.specs.Gathered.{text_of};
 ghost use Rattle.tree_defs.specs.Tree.{depth};
 ghost use Rattle.tree_defs.specs.SourceTree.{size};

@@ -1,7 +1,7 @@
 //! Events in a row, each with its line.
 ghost use Rattle.std.specs.Prelude.{◌≡◌, ◌<◌, ◌≤◌, ◌+◌, ◌^◌, length, replicate, map, IsErrOf, IsTrue, OnOk, OnErr};
 ghost use Rattle.outside_core.specs.Faults.{Rose};
-ghost use Rattle.report_defs.specs.Text.{Begins};
+ghost use Rattle.outside_core.specs.Kept.{Begins};
 ghost use Rattle.report_core.specs.Gathered.{text_of};
 ghost use Rattle.tree_defs.specs.Tree.{depth};
 ghost use Rattle.policy_defs.specs.Accepted.{IsAccepted};

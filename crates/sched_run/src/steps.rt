@@ -1,7 +1,7 @@
 //! The events of a step of a script.
 ghost use Rattle.std.specs.Prelude.{◌≡◌, ℕ, replicate, ◌<◌, ◌≤◌, ◌+◌, ◌^◌, None, ⊤, IfOk, IfNone, IfSome, IsErrOf, IsTrue, OnOk, OnErr};
 ghost use Rattle.outside_core.specs.Faults.{Rose};
-ghost use Rattle.report_defs.specs.Text.{Begins};
+ghost use Rattle.outside_core.specs.Kept.{Begins};
 ghost use Rattle.report_core.specs.Gathered.{text_of};
 ghost use Rattle.tree_defs.specs.Tree.{depth};
 ghost use Rattle.policy_defs.specs.Accepted.{IsAccepted};

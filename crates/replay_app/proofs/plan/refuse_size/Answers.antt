@@ -1,6 +1,7 @@
 use Rattle.std.proofs.lemmas.Result.{err_from_is_err_and}
 use Rattle.outside_core.proofs.WrittenLaws.{appended_in_turn}
-use Rattle.report_core.proofs.TextLaws.{Begins-trans, IsCut-append, IsCut-longer}
+use Rattle.outside_core.proofs.KeptLaws.{Begins-trans}
+use Rattle.report_core.proofs.TextLaws.{IsCut-append, IsCut-longer}
 use Rattle.replay_app.proofs.Reports.{cut-part, cut-end, text-whole}
 use Rattle.replay_app.proofs.plan.refuse_size.Goals as goal
 

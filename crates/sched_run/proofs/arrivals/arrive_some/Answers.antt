@@ -1,6 +1,6 @@
 use Rattle.std.proofs.Common.{refl, sym, ◌∙◌, arith, map}
 use Rattle.std.proofs.lemmas.Result.{err_from_is_err_and}
-use Rattle.report_core.proofs.TextLaws.{Begins-same, Begins-trans}
+use Rattle.outside_core.proofs.KeptLaws.{Begins-same, Begins-trans}
 use Rattle.sched_defs.specs.Events.{Arrive}
 use Rattle.sched_defs.proofs.Runs.{departures_in-arrivals}
 use Rattle.sched_run.proofs.Coming.{some_is, none_is, one_after, room_after, arrives_none, arrives_more, arrives_end, arrivals_stop}

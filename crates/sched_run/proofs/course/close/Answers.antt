@@ -3,7 +3,8 @@ use Rattle.outside_core.specs.Written.{Appended}
 use Rattle.outside_core.proofs.WrittenLaws.{appended_in_turn}
 use Rattle.report_defs.specs.Text.{IsCut}
 use Rattle.report_core.specs.Gathered.{text_of}
-use Rattle.report_core.proofs.TextLaws.{Begins-trans, IsCut-append}
+use Rattle.outside_core.proofs.KeptLaws.{Begins-trans}
+use Rattle.report_core.proofs.TextLaws.{IsCut-append}
 use Rattle.sched_run.specs.Endings.{last_line}
 use Rattle.sched_run.proofs.Turning.{if_ok_turned, on_err_turned}
 use Rattle.sched_run.proofs.course.close.Goals as goal

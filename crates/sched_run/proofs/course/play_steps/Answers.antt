@@ -1,7 +1,7 @@
 use Rattle.std.proofs.Common.{◌<◌, ◌≤◌, length, drop-cons, add-one, refl, ◌∙◌, arith}
 use Rattle.std.proofs.lemmas.Result.{err_from_is_err_and}
 use Rattle.std.proofs.Math.ListN.{drop_of_length-le}
-use Rattle.report_core.proofs.TextLaws.{Begins-same, Begins-trans}
+use Rattle.outside_core.proofs.KeptLaws.{Begins-same, Begins-trans}
 use Rattle.events_core.specs.declared.step.Step.TheVariants.{Arrive}
 use Rattle.sched_run.proofs.Turning.{if_ok_turned, on_err_given}
 use Rattle.sched_run.proofs.Running.{run_none, run_over, run_halts, run_goes, run_ends, run_stops, run_ready, run_room}

@@ -2,7 +2,7 @@ use Rattle.std.proofs.Common.{◌<◌, ℕ, length, arith, take, map, get_or, []
 use Rattle.std.proofs.lemmas.List.{length-take-le}
 use Rattle.std.proofs.lemmas.Result.{err_from_is_err_and}
 use Rattle.report_core.specs.Gathered.{text_of}
-use Rattle.report_core.proofs.TextLaws.{Begins-trans}
+use Rattle.outside_core.proofs.KeptLaws.{Begins-trans}
 use Rattle.policy_defs.specs.Policy.{Policy}
 use Rattle.policy_defs.specs.Accepted.{IsAccepted}
 use Rattle.sched_defs.specs.SourceState.{SourceState}

@@ -1,5 +1,5 @@
 use Rattle.std.proofs.Common.{◌≡◌, ◌≤◌, IsTrue, replicate}
-use Rattle.report_defs.specs.Text.{Begins}
+use Rattle.outside_core.specs.Kept.{Begins}
 use Rattle.report_core.specs.Gathered.{text_of}
 use Rattle.sched_defs.specs.Events.{Depart}
 use Rattle.sched_core.specs.Standing.{ForEachState}

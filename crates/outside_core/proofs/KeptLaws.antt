@@ -1,0 +1,42 @@
+-- What is kept by one call and then by another.
+use Rattle.std.proofs.Common.{◌≡◌, ◌≤◌, ℕ, Bool, Option, None, Some, List, [], ◌++◌, refl, sym, ap, ◌∙◌, arith, append_assoc, append-nil}
+use Rattle.outside_core.specs.Files.{KeepsFiles}
+use Rattle.outside_core.specs.Kept.{Begins, KeepsShelf, KeepsSink}
+
+-- what is told begins with itself
+pub Begins-same : (a : Option (List ℕ)) → Begins a a
+Begins-same None = tt
+Begins-same (Some now) = record { rest = []; joined = sym (append-nil now) }
+
+-- and with what its beginning begins with
+pub Begins-trans : (a b c : Option (List ℕ)) → Begins a b → Begins b c → Begins a c
+Begins-trans a b None p q = tt
+Begins-trans a None (Some now) p q = absurd q
+Begins-trans None (Some mid) (Some now) p q = absurd p
+Begins-trans (Some before) (Some mid) (Some now) p q = record {
+  rest = p.rest ++ q.rest;
+  joined = q.joined ∙ ap (λ s. s ++ q.rest) p.joined ∙ append_assoc before p.rest q.rest;
+}
+
+module _ {K : Type 0} (written : K → Option (List ℕ)) (faults : K → ℕ) where
+  pub sink-same : (k : K) → KeepsSink written faults k k
+  sink-same k = record { begins = Begins-same (written k); later = omega arith }
+
+  pub sink-then : (a b c : K) → KeepsSink written faults a b → KeepsSink written faults b c → KeepsSink written faults a c
+  sink-then a b c first second = record {
+    begins = Begins-trans (written a) (written b) (written c) first.begins second.begins;
+    later = omega (arith, first.later, second.later);
+  }
+
+module _ {S : Type 0} (lends : S → List ℕ → Bool) (content : S → List ℕ → Option (List ℕ)) (faults : S → ℕ) where
+  pub shelf-same : (s : S) → KeepsShelf lends content faults s s
+  shelf-same s = record { files = record { lent = λ name. refl; contents = λ name. refl }; later = omega arith }
+
+  pub shelf-then : (a b c : S) → KeepsShelf lends content faults a b → KeepsShelf lends content faults b c → KeepsShelf lends content faults a c
+  shelf-then a b c first second = record {
+    files = record {
+      lent = λ name. second.files.lent name ∙ first.files.lent name;
+      contents = λ name. second.files.contents name ∙ first.files.contents name;
+    };
+    later = omega (arith, first.later, second.later);
+  }
