@@ -1,6 +1,6 @@
 -- What is left of a capture: the bytes that a reader holds, and those left of the file.
 use Rattle.std.specs.Prelude.{◌≡◌, ◌<◌, ◌≤◌, ℕ, Bool, Option, Some, None, List, [], ◌++◌, length, IfSome, IsTrue, ⊤}
-use Rattle.outside_core.specs.Files.{KeepsFiles}
+use Rattle.outside_core.specs.Kept.{KeepsShelf}
 use Rattle.pcap_defs.specs.declared.head.Head.{Head}
 use Rattle.pcap_defs.specs.Header.{IsHeader}
 use Rattle.pcap_defs.specs.Record.{Record, IsSpelling}
@@ -35,8 +35,7 @@ LeavesNothing old new = IfSome old (λ bytes. new ≡ Some [])
 -- the shelf goes on with the same files, one of them begun, and no fewer faults
 pub record Serves {S : Type 0} (lends : S → List ℕ → Bool) (content : S → List ℕ → Option (List ℕ)) (begun : S → Bool) (faults : S → ℕ) (old new : S) : Type 0 where
   pub still : IsTrue (begun new)
-  pub files : KeepsFiles lends content old new
-  pub later : faults old ≤ faults new
+  pub kept : KeepsShelf lends content faults old new
 
 -- fewer bytes than asked for were taken only where they were all that was left
 abbrev pub IsShort : Option (List ℕ) → List ℕ → ℕ → Type 0

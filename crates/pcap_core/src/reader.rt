@@ -1,10 +1,10 @@
 //! Reading a capture record by record.
 ghost use Rattle.std.specs.Prelude.{◌≡◌, ◌≤◌, ◌<◌, ◌+◌, ◌^◌, ◌↔◌, ℕ, List, Option, Some, None, [], length, vec_len, IfOk, IfErr, OnOk, OnErr, IfSome, IfNone, OnSome, IsErrOf, IsErr, IsTrue, IsFalse};
 ghost use Rattle.outside_core.specs.Faults.{Rose};
-ghost use Rattle.outside_core.specs.Files.{KeepsFiles};
+ghost use Rattle.outside_core.specs.Kept.{KeepsShelf};
 ghost use Rattle.pcap_defs.specs.Fault.{Fault};
 ghost use Rattle.pcap_defs.specs.Header.{IsHeaderFault};
-ghost use Rattle.pcap_defs.specs.Record.{Record, IsRecordFault};
+ghost use Rattle.pcap_defs.specs.Record.{Record, IsRecordFault, most_captured, most_records};
 ghost use Rattle.pcap_core.specs.Faults.{fault_in};
 ghost use Rattle.pcap_core.specs.Frames.{IsFrameOf};
 ghost use Rattle.pcap_core.specs.Held.{held};
@@ -53,10 +53,10 @@ fn read_record<S: Shelf>(
         × TakesRecord head.big r (rest_of (held window.old) (S.left shelf.old))
         (rest_of (held window.new) (S.left shelf.new)))) }
     ensures number { IfOk result (λ o. IfSome o (λ frame. frame.number ≡ count + 1)) }
-    ensures few { IfOk result (λ o. IfSome o (λ frame. count < 4294967295)) }
+    ensures few { IfOk result (λ o. IfSome o (λ frame. count < most_records)) }
     ensures moment { IfOk result (λ o. IfSome o (λ frame. frame.moment < 2 ^ 62)) }
     ensures captured { IfOk result (λ o. IfSome o (λ frame. frame.captured ≡ length into.new.items)) }
-    ensures short { IfOk result (λ o. IfSome o (λ frame. frame.captured ≤ 262144)) }
+    ensures short { IfOk result (λ o. IfSome o (λ frame. frame.captured ≤ most_captured)) }
     ensures ended { IfOk result (λ o.
         IfNone o (IsWhole (rest_of (held window.old) (S.left shelf.old)))) }
     ensures over { IfOk result (λ o. IfNone o (LeavesNothing (rest_of (held window.old) (S.left shelf.old))
@@ -98,12 +98,13 @@ pub struct Reader {
 impl Reader {
     ghost use Rattle.std.specs.Prelude.{◌≡◌, ◌≤◌, ◌<◌, ◌+◌, ◌^◌, ◌↔◌, ℕ, List, Option, Some, None, [], length, vec_len, IfOk, IfErr, OnOk, OnErr, IfSome, IfNone, OnSome, IsErrOf, IsErr, IsOk, IsSome, IsTrue, IsFalse, MatchResult, is_some, if◌then◌else◌};
     ghost use Rattle.outside_core.specs.Faults.{Rose};
-    ghost use Rattle.outside_core.specs.Files.{KeepsFiles};
+    ghost use Rattle.outside_core.specs.Kept.{KeepsShelf};
     ghost use Rattle.pcap_defs.specs.Fault.{Fault};
     ghost use Rattle.pcap_defs.specs.Header.{IsHeaderFault};
-    ghost use Rattle.pcap_defs.specs.Record.{Record, IsRecordFault};
+    ghost use Rattle.pcap_defs.specs.Record.{Record, IsRecordFault, most_captured, most_records};
     ghost use Rattle.pcap_core.specs.Faults.{fault_in};
     ghost use Rattle.pcap_core.specs.Frames.{IsFrameOf};
+    ghost use Rattle.pcap_core.specs.Limits.{most_held};
     ghost use Rattle.pcap_core.specs.Rest.{rest_of, TakesHeader, TakesRecord, IsWhole, LeavesNothing};
     ghost use Rattle.pcap_core.specs.Readers.{head_of, is_big, is_nano, records_given, bytes_held, is_live, IsNew, rest_left};
 
@@ -135,7 +136,7 @@ impl Reader {
             TakesHeader head (S.left shelf.old) (rest_left self.new (S.left shelf.new))) }
         ensures head { IfOk result (λ head. head_of self.new ≡ Some head) }
         ensures none_given { records_given self.new ≡ 0 }
-        ensures bounded { length (bytes_held self.new) ≤ 65536 }
+        ensures bounded { length (bytes_held self.new) ≤ most_held }
 
         // A fault of the file is answered exactly where the header has it.
         ensures fault { IfErr result (λ e. IfSome (fault_in e) (λ fault.
@@ -145,8 +146,7 @@ impl Reader {
         ensures live { IsTrue (is_live self.new) ↔ IsOk result }
 
         ensures begun { IsTrue (S.begun shelf.new) }
-        ensures files { KeepsFiles S.lends S.content shelf.old shelf.new }
-        ensures later { S.faults shelf.old ≤ S.faults shelf.new }
+        ensures kept { KeepsShelf S.lends S.content S.faults shelf.old shelf.new }
         ensures cause { IsErrOf result CaptureFault.ReadFault → Rose (S.faults shelf.old) (S.faults shelf.new) }
     {
         match read_head(self.alloc, &mut self.window, shelf) {
@@ -177,9 +177,9 @@ impl Reader {
             × TakesRecord (is_big self.old) r (rest_left self.old (S.left shelf.old))
             (rest_left self.new (S.left shelf.new)))) }
         ensures number { IfOk result (λ o. IfSome o (λ frame. frame.number ≡ records_given self.old + 1)) }
-        ensures few { IfOk result (λ o. IfSome o (λ frame. frame.number ≤ 4294967295)) }
+        ensures few { IfOk result (λ o. IfSome o (λ frame. frame.number ≤ most_records)) }
         ensures captured { IfOk result (λ o. IfSome o (λ frame. frame.captured ≡ length into.new.items)) }
-        ensures short { IfOk result (λ o. IfSome o (λ frame. frame.captured ≤ 262144)) }
+        ensures short { IfOk result (λ o. IfSome o (λ frame. frame.captured ≤ most_captured)) }
         ensures moment { IfOk result (λ o. IfSome o (λ frame. frame.moment < 2 ^ 62)) }
 
         // There is no record exactly where nothing is left, and then nothing is left for a later call.
@@ -201,10 +201,9 @@ impl Reader {
         ensures head { head_of self.new ≡ head_of self.old }
         ensures given { IfOk result (λ o.
             records_given self.new ≡ records_given self.old + (if is_some o then 1 else 0)) }
-        ensures bounded { length (bytes_held self.new) ≤ 65536 }
+        ensures bounded { length (bytes_held self.new) ≤ most_held }
         ensures begun { IsTrue (S.begun shelf.new) }
-        ensures files { KeepsFiles S.lends S.content shelf.old shelf.new }
-        ensures later { S.faults shelf.old ≤ S.faults shelf.new }
+        ensures kept { KeepsShelf S.lends S.content S.faults shelf.old shelf.new }
         ensures cause { IsErrOf result CaptureFault.ReadFault → Rose (S.faults shelf.old) (S.faults shelf.new) }
     {
         let Some(head) = self.head else {

@@ -1,5 +1,6 @@
 //! The bytes of a file that were read and aren't used up.
 ghost use Rattle.std.specs.Prelude.{◌≤◌, vec_len};
+ghost use Rattle.pcap_core.specs.Limits.{most_held};
 
 use crate::fault::CaptureFault;
 use outside_core::Shelf;
@@ -16,7 +17,7 @@ pub struct Window {
     end: usize,
     ghost within: { at ≤ end },
     ghost inside: { end ≤ vec_len buffer },
-    ghost bounded: { vec_len buffer ≤ 65536 },
+    ghost bounded: { vec_len buffer ≤ most_held },
 }
 
 impl Window {
