@@ -7,8 +7,8 @@ use Rattle.policy_text_defs.specs.Sense.{Sense}
 use Rattle.policy_text.specs.Entries.{Numbered, entry_of, sense_at}
 use Rattle.policy_text.specs.declared.lines.Lines.{Lines}
 use Rattle.sched_defs.specs.Script as schedule
-use Rattle.sched_run.specs.declared.ending.Ending.{Ending}
-use Rattle.sched_run.specs.declared.ending.Ending.TheVariants.{Whole, BadCapture, PastLast}
+use Rattle.sched_defs.specs.declared.ending.Ending.{Ending}
+use Rattle.sched_defs.specs.declared.ending.Ending.TheVariants.{Whole, BadCapture, PastLast}
 use Rattle.sched_run.specs.Endings.{ended}
 use Rattle.replay_app.specs.Policies.{entries_in, senses_of}
 use Rattle.replay_app.specs.Scripts.{ending_status}

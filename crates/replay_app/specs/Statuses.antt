@@ -2,8 +2,8 @@
 use Rattle.std.specs.Prelude.{◌≡◌, ◌⊎◌, ◌≤◌, ℕ, List, [], ◌∷◌}
 use Rattle.report_core.specs.declared.fault.FaultKind.{FaultKind}
 use Rattle.report_core.specs.declared.fault.FaultKind.TheVariants.{Words, Policy, Target, Size, Script, Capture}
-use Rattle.sched_run.specs.declared.ending.Ending as run
-use Rattle.sched_run.specs.declared.ending.Ending.TheVariants as run_ending
+use Rattle.sched_defs.specs.declared.ending.Ending as run
+use Rattle.sched_defs.specs.declared.ending.Ending.TheVariants as run_ending
 use Rattle.replay_app.specs.Words.{Form, replay, check, plan, direct, no_form}
 use Rattle.replay_app.specs.declared.status.Status.{Status}
 use Rattle.replay_app.specs.declared.status.Status.TheVariants.{Done, NoForm, BadPolicy, BadTarget, NoRoom, BadScript, BadCapture}

@@ -4,8 +4,8 @@ use Rattle.outside_core.specs.declared.shelves.ShelfError.{ShelfError}
 use Rattle.outside_core.specs.declared.shelves.ShelfError.TheVariants as shelf
 use Rattle.replay_app.specs.declared.stop.Stop.{Stop}
 use Rattle.replay_app.specs.declared.stop.Stop.TheVariants.{Shelf, Sink, Memory}
-use Rattle.sched_run.specs.declared.stop.Stop as course
-use Rattle.sched_run.specs.declared.stop.Stop.TheVariants as course_stop
+use Rattle.outside_core.specs.declared.stop.Stop as course
+use Rattle.outside_core.specs.declared.stop.Stop.TheVariants as course_stop
 
 abbrev pub stop_status : Stop → ℕ
 stop_status Shelf = 8

@@ -1,6 +1,6 @@
-pub mod Wholes
-pub mod Running
-pub mod Answering
-pub mod Laying
-pub mod Turns
+pub mod WholeReports
+pub mod FromStart
+pub mod Refusals
+pub mod FabricRuns
+pub mod EventTurns
 pub mod Exchanges

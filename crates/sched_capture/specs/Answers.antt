@@ -1,5 +1,5 @@
 -- What a run over a policy's own tree of queues answers.
-use Rattle.std.specs.Prelude.{◌≡◌, ℕ, Option, None, Some, List, map, codes}
+use Rattle.std.specs.Prelude.{◌≡◌, ℕ, Option, None, Some, option_map, List, map, codes}
 use Rattle.outside_core.specs.Written.{Appended}
 use Rattle.pcap_defs.specs.Fault.{Fault, code, place}
 use Rattle.pcap_defs.specs.Reading.{Capture, refused, packets, capture_of}
@@ -8,13 +8,15 @@ use Rattle.policy_defs.specs.Policy.{Policy}
 use Rattle.report_defs.specs.Report.{fault_line}
 use Rattle.sched_defs.specs.SourceState.{start}
 use Rattle.sched_defs.specs.Events.{Event}
-use Rattle.sched_defs.specs.Script.{Ending, BadCapture, course}
+use Rattle.sched_defs.specs.declared.ending.Ending.{Ending}
+use Rattle.sched_defs.specs.declared.ending.Ending.TheVariants.{BadCapture}
+use Rattle.sched_defs.specs.Faults.{FaultAt}
+use Rattle.sched_defs.specs.Script.{course}
 use Rattle.sched_defs.specs.Report.{report}
 use Rattle.policy_rules.specs.Resolved.{Resolved}
 use Rattle.events_core.specs.declared.step.Step.{Step}
-use Rattle.sched_run.specs.declared.ending.Ending as told
-use Rattle.sched_run.specs.Endings.{ended}
 use Rattle.sched_run.specs.Steps.{step_of}
+use Rattle.sched_packets.specs.Halts.{fault_at}
 use Rattle.sched_packets.specs.Packets.{packets_from}
 
 -- how the run ends, the text that is written, and what happens, if the run begins
@@ -26,20 +28,20 @@ pub record RunAnswer : Type 0 where
 -- a header at fault is told in one line
 abbrev pub refusal_answer : Fault → RunAnswer
 refusal_answer fault = record {
-  ending = BadCapture fault;
+  ending = BadCapture (code fault) (place fault);
   text = fault_line (codes "capture") (code fault) (place fault);
   events = None;
 }
 
 -- the capture's header is refused, which is how the run ends, and the text with its line is written
-pub record IsRefusal (capture : Capture) (ending : told.Ending) (before written : Option (List ℕ)) : Type 0 where
+pub record IsRefusal (capture : Capture) (ending : Ending) (before written : Option (List ℕ)) : Type 0 where
   pub fault : Fault
   pub is : capture ≡ refused fault
-  pub ends : ending ≡ ended (refusal_answer fault).ending
+  pub ends : ending ≡ (refusal_answer fault).ending
   pub text : Appended before written (refusal_answer fault).text
 
 -- a script runs over packets, and then meets the fault behind them
-abbrev pub answer_of : Policy → List Step → List Packet → Option Fault → RunAnswer
+abbrev pub answer_of : Policy → List Step → List Packet → Option FaultAt → RunAnswer
 answer_of policy steps arriving fault = record {
   ending = (course policy (map step_of steps) arriving fault (start policy) 1).ending;
   text = report policy (map step_of steps) arriving fault;
@@ -48,7 +50,7 @@ answer_of policy steps arriving fault = record {
 
 abbrev pub answer_over : Resolved → List Step → Capture → RunAnswer
 answer_over policy steps (refused fault) = refusal_answer fault
-answer_over policy steps (packets head records fault) = answer_of policy.policy steps (packets_from policy head 1 records) fault
+answer_over policy steps (packets head records fault) = answer_of policy.policy steps (packets_from policy head 1 records) (option_map fault_at fault)
 
 -- the answer for a policy, the steps of a script and the bytes of a capture
 abbrev pub direct_answer : Resolved → List Step → List ℕ → RunAnswer

@@ -1,23 +1,24 @@
 //! A script over a capture through the policy's own tree of queues.
-ghost use Rattle.std.specs.Prelude.{◌≡◌, ◌≤◌, List, codes, IfOk, IfErr, IfSome, IsErrOf, IsTrue, OnOk, OnErr};
-ghost use Rattle.outside_core.specs.Faults.{Rose};
+ghost use Rattle.std.specs.Prelude.{◌≡◌, ◌≤◌, List, codes, IfOk, IfErr, IfSome, IsTrue, OnOk, OnErr};
+ghost use Rattle.outside_core.specs.Kept.{KeepsSink, HasCause, HasSinkCause};
 ghost use Rattle.outside_core.specs.Written.{Appended, AppendedPrefix};
 ghost use Rattle.report_defs.specs.Report.{fault_line};
 ghost use Rattle.pcap_defs.specs.Reading.{capture_of};
 ghost use Rattle.events_core.specs.Steps.{counts_of};
 ghost use Rattle.events_core.specs.declared.step.Step.{Step};
-ghost use Rattle.sched_run.specs.Endings.{ended};
+ghost use Rattle.events_core.specs.Script.{most_count};
 ghost use Rattle.sched_packets.specs.Arrivals.{policy_of, given_by, left_of, IsReady, Begins};
 ghost use Rattle.sched_capture.specs.Answers.{IsRefusal, direct_answer};
 
 use crate::course::run_over;
 use events_core::Step;
-use outside_core::{Shelf, Sink};
+use outside_core::{Shelf, Sink, Stop};
 use policy_core::Policy;
 use report_core::{FaultKind, Report};
 use sched_core::Direct;
-use sched_packets::{Arrivals, Halt};
-use sched_run::{Ending, Stop};
+use sched_defs::{Ending, Halt};
+use sched_packets::Arrivals;
+use sched_run::Run;
 use std::alloc::Global;
 
 /// Writes the line of a capture whose header is at fault, as the whole report. The answer is how the run ends.
@@ -25,9 +26,8 @@ fn refuse<K: Sink>(alloc: Global, sink: &mut K, code: u32, place: u64) -> Result
     ensures ending { IfOk result (λ e. e ≡ Ending.BadCapture code place) }
     ensures text { OnOk result (Appended (K.written sink.old) (K.written sink.new) (fault_line (codes "capture") code place)) }
     ensures part { OnErr result (AppendedPrefix (K.written sink.old) (K.written sink.new) (fault_line (codes "capture") code place)) }
-    ensures cause { IsErrOf result Stop.Sink → Rose (K.faults sink.old) (K.faults sink.new) }
-    ensures not_source { IsErrOf result Stop.Source → ⊥ }
-    ensures later { K.faults sink.old ≤ K.faults sink.new }
+    ensures kept { KeepsSink K.written K.faults sink.old sink.new }
+    ensures cause { IfErr result (λ stop. HasSinkCause stop K.faults sink.old sink.new) }
 {
     let Ok(mut report) = Report::new(alloc) else {
         return Err(Stop::Memory);
@@ -58,10 +58,10 @@ pub fn begin<'a, S: Shelf, K: Sink>(
         IsRefusal (capture_of file) e (K.written sink.old) (K.written sink.new)))) }
     ensures part { IfErr result (λ answer. OnErr answer ((steps : List Step) → IfSome (S.left shelf.old) (λ file.
         AppendedPrefix (K.written sink.old) (K.written sink.new) (direct_answer policy.now steps file).text))) }
-    ensures cause { IfErr result (λ answer. IsErrOf answer Stop.Sink → Rose (K.faults sink.old) (K.faults sink.new)) }
-    ensures cause_source { IfErr result (λ answer. IsErrOf answer Stop.Source → Rose (S.faults shelf.old) (S.faults shelf.new)) }
-    ensures later { K.faults sink.old ≤ K.faults sink.new }
-    ensures later_source { S.faults shelf.old ≤ S.faults shelf.new }
+    ensures kept { KeepsSink K.written K.faults sink.old sink.new }
+    ensures later { S.faults shelf.old ≤ S.faults shelf.new }
+    ensures cause { IfErr result (λ answer. IfErr answer (λ stop.
+        HasCause stop S.faults shelf.old shelf.new K.faults sink.old sink.new)) }
 {
     match Arrivals::start(alloc, policy, shelf) {
         Ok(packets) => Ok(packets),
@@ -82,33 +82,24 @@ pub fn direct<S: Shelf, K: Sink>(
     sink: &mut K,
 ) -> Result<Ending, Stop>
     requires begun { IsTrue (S.begun shelf.old) }
-    requires short { counts_of steps.now ≤ 4194304 }
+    requires short { counts_of steps.now ≤ most_count }
 
-    ensures ending { IfOk result (λ e. IfSome (S.left shelf.old) (λ file. e ≡ ended (direct_answer policy.now steps.now file).ending)) }
+    ensures ending { IfOk result (λ e. IfSome (S.left shelf.old) (λ file. e ≡ (direct_answer policy.now steps.now file).ending)) }
     ensures text { OnOk result (IfSome (S.left shelf.old) (λ file.
         Appended (K.written sink.old) (K.written sink.new) (direct_answer policy.now steps.now file).text)) }
     ensures part { OnErr result (IfSome (S.left shelf.old) (λ file.
         AppendedPrefix (K.written sink.old) (K.written sink.new) (direct_answer policy.now steps.now file).text)) }
-    ensures cause { IsErrOf result Stop.Sink → Rose (K.faults sink.old) (K.faults sink.new) }
-    ensures cause_source { IsErrOf result Stop.Source → Rose (S.faults shelf.old) (S.faults shelf.new) }
-    ensures later { K.faults sink.old ≤ K.faults sink.new }
-    ensures later_source { S.faults shelf.old ≤ S.faults shelf.new }
+    ensures kept { KeepsSink K.written K.faults sink.old sink.new }
+    ensures later { S.faults shelf.old ≤ S.faults shelf.new }
+    ensures cause { IfErr result (λ stop. HasCause stop S.faults shelf.old shelf.new K.faults sink.old sink.new) }
 {
     let mut packets = match begin(alloc, policy, shelf, sink) {
         Ok(packets) => packets,
         Err(answer) => return answer,
     };
-    let Ok((mut scheduler, mut tree)) = Direct::new(alloc, policy) else {
+    let Ok((scheduler, mut tree)) = Direct::new(alloc, policy) else {
         return Err(Stop::Memory);
     };
-    run_over(
-        alloc,
-        policy,
-        &mut scheduler,
-        &mut tree,
-        steps,
-        &mut packets,
-        shelf,
-        sink,
-    )
+    let mut run = Run::new(alloc, policy, policy.depth(), scheduler)?;
+    run_over(&mut run, &mut tree, steps, &mut packets, shelf, sink)
 }

@@ -1,6 +1,6 @@
 //! A script over a capture through the hardware's queues.
-ghost use Rattle.std.specs.Prelude.{◌≡◌, ◌≤◌, ◌<◌, ◌^◌, length, IfOk, IfSome, IsErrOf, IsTrue, OnOk, OnErr};
-ghost use Rattle.outside_core.specs.Faults.{Rose};
+ghost use Rattle.std.specs.Prelude.{◌≡◌, ◌≤◌, ◌<◌, ◌^◌, length, IfOk, IfSome, IfErr, IsTrue, OnOk, OnErr};
+ghost use Rattle.outside_core.specs.Kept.{KeepsSink, HasCause};
 ghost use Rattle.outside_core.specs.Written.{Appended, AppendedPrefix};
 ghost use Rattle.tree_defs.specs.Tree.{SameShape};
 ghost use Rattle.tree_defs.specs.Topology.{topology_of, complete};
@@ -8,20 +8,29 @@ ghost use Rattle.target_defs.specs.Target.{IsInRange};
 ghost use Rattle.embed_defs.specs.Images.{image_map};
 ghost use Rattle.embed_defs.specs.Embedding.{IsEmbedding};
 ghost use Rattle.events_core.specs.Steps.{counts_of};
-ghost use Rattle.sched_run.specs.Endings.{ended};
+ghost use Rattle.events_core.specs.Script.{most_count};
 ghost use Rattle.sched_embedded.specs.Fabrics.{Leaves, LeavesPart, run_of};
 ghost use Rattle.sched_capture.specs.Answers.{direct_answer};
+ghost use Rattle.sched_capture.specs.Placements.{laid_by};
 
 use crate::capture::begin;
 use crate::course::run_over;
 use embed_core::{Map, Target};
 use events_core::Step;
 use fabric_core::Fabric;
-use outside_core::{Shelf, Sink};
+use outside_core::{Shelf, Sink, Stop};
 use policy_core::Policy;
+use sched_defs::Ending;
 use sched_embedded::Embedded;
-use sched_run::{Ending, Stop};
+use sched_run::Run;
 use std::alloc::Global;
+
+/// A target, and where a policy's tree is laid in it.
+#[derive(Drop)]
+pub struct Placement {
+    pub target: Target,
+    pub map: Map,
+}
 
 /// Runs the steps of a script over the begun capture, through a fabric into which the policy's tree is laid by a map, and
 /// writes the whole report: that of the policy's own tree. The fabric takes the target's shape when the capture's header
@@ -29,50 +38,41 @@ use std::alloc::Global;
 pub fn replay<S: Shelf, K: Sink, F: Fabric>(
     alloc: Global,
     policy: &Policy,
-    map: Map,
-    target: &Target,
+    placement: Placement,
     steps: &[Step],
     shelf: &mut S,
     sink: &mut K,
     fabric: &mut F,
 ) -> Result<Ending, Stop>
     requires begun { IsTrue (S.begun shelf.old) }
-    requires short { counts_of steps.now ≤ 4194304 }
-    requires range { IsInRange target.now.arities target.now.above }
-    requires map_shape { SameShape (topology_of policy.now.policy.tree) map }
-    requires embedding { IsEmbedding (topology_of policy.now.policy.tree) (complete target.now.arities) (image_map map) }
+    requires short { counts_of steps.now ≤ most_count }
+    requires range { IsInRange placement.target.arities placement.target.above }
+    requires map_shape { SameShape (topology_of policy.now.policy.tree) placement.map }
+    requires embedding { IsEmbedding (topology_of policy.now.policy.tree) (complete placement.target.arities) (image_map placement.map) }
     requires pushes { F.pushed fabric.old < 2 ^ 61 }
     requires pops { F.popped fabric.old < 2 ^ 61 }
 
-    ensures ending { IfOk result (λ e. IfSome (S.left shelf.old) (λ file. e ≡ ended (direct_answer policy.now steps.now file).ending)) }
+    ensures ending { IfOk result (λ e. IfSome (S.left shelf.old) (λ file. e ≡ (direct_answer policy.now steps.now file).ending)) }
     ensures text { OnOk result (IfSome (S.left shelf.old) (λ file.
         Appended (K.written sink.old) (K.written sink.new) (direct_answer policy.now steps.now file).text)) }
     ensures part { OnErr result (IfSome (S.left shelf.old) (λ file.
         AppendedPrefix (K.written sink.old) (K.written sink.new) (direct_answer policy.now steps.now file).text)) }
     ensures fabric { OnOk result (IfSome (S.left shelf.old) (λ file.
-        Leaves F.Fabric (run_of policy.now.policy (record { images = map; arities = target.now.arities }) (direct_answer policy.now steps.now file).events) fabric.old fabric.new)) }
+        Leaves F.Fabric (run_of policy.now.policy (laid_by placement) (direct_answer policy.now steps.now file).events) fabric.old fabric.new)) }
     ensures fabric_part { OnErr result (IfSome (S.left shelf.old) (λ file.
-        LeavesPart F.Fabric (run_of policy.now.policy (record { images = map; arities = target.now.arities }) (direct_answer policy.now steps.now file).events) fabric.old fabric.new)) }
-    ensures cause { IsErrOf result Stop.Sink → Rose (K.faults sink.old) (K.faults sink.new) }
-    ensures cause_source { IsErrOf result Stop.Source → Rose (S.faults shelf.old) (S.faults shelf.new) }
-    ensures later { K.faults sink.old ≤ K.faults sink.new }
-    ensures later_source { S.faults shelf.old ≤ S.faults shelf.new }
+        LeavesPart F.Fabric (run_of policy.now.policy (laid_by placement) (direct_answer policy.now steps.now file).events) fabric.old fabric.new)) }
+    ensures kept { KeepsSink K.written K.faults sink.old sink.new }
+    ensures later { S.faults shelf.old ≤ S.faults shelf.new }
+    ensures cause { IfErr result (λ stop. HasCause stop S.faults shelf.old shelf.new K.faults sink.old sink.new) }
 {
     let mut packets = match begin(alloc, policy, shelf, sink) {
         Ok(packets) => packets,
         Err(answer) => return answer,
     };
-    let Ok(mut scheduler) = Embedded::new(alloc, policy, map, target, fabric) else {
+    let Placement { target, map } = placement;
+    let Ok(scheduler) = Embedded::new(alloc, policy, map, &target, fabric) else {
         return Err(Stop::Memory);
     };
-    run_over(
-        alloc,
-        policy,
-        &mut scheduler,
-        fabric,
-        steps,
-        &mut packets,
-        shelf,
-        sink,
-    )
+    let mut run = Run::new(alloc, policy, policy.depth(), scheduler)?;
+    run_over(&mut run, fabric, steps, &mut packets, shelf, sink)
 }

@@ -11,6 +11,7 @@ mod tests;
 
 pub use capture::{begin, direct};
 pub use course::run_over;
-pub use fabric::replay;
+pub use fabric::{Placement, replay};
+pub use outside_core::Stop;
+pub use sched_defs::Ending;
 pub use sched_packets::Arrivals;
-pub use sched_run::{Ending, Stop};

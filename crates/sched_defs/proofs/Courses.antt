@@ -2,14 +2,15 @@
 use Rattle.std.proofs.Common.{◌≡◌, ◌<◌, ◌≤◌, ℕ, zero, suc, ◌+◌, ◌-◌, List, [], ◌∷◌, map, length, take, drop, replicate, Option, Some, None, refl, ap, ◌∙◌, subst, arith, inl, inr}
 use Rattle.tree_defs.specs.Tree.{Popping}
 use Rattle.tree_defs.specs.SourceTree.{SourceTree, pop, size}
-use Rattle.pcap_defs.specs.Fault.{Fault}
+use Rattle.sched_defs.specs.Faults.{FaultAt}
 use Rattle.packet_defs.specs.declared.packet.Packet.{Packet}
 use Rattle.policy_defs.specs.Policy.{Policy}
 use Rattle.policy_defs.specs.Accepted.{IsAccepted}
 use Rattle.sched_defs.specs.SourceState.{Held, SourceState, arrived, departed, left_from, left_with}
 use Rattle.sched_defs.specs.Sound.{IsSound}
 use Rattle.sched_defs.specs.Events.{Event, Arrive, Depart, after, arrivals_in, departures_in, CanMake}
-use Rattle.sched_defs.specs.Script.{Step, Arrivals, Departures, Rest, Drain, Ending, Course, course, step_events, left_by, stop_at, stopped_or}
+use Rattle.sched_defs.specs.declared.ending.Ending.{Ending}
+use Rattle.sched_defs.specs.Script.{Step, Arrivals, Departures, Rest, Drain, Course, course, step_events, left_by, stop_at, stopped_or}
 use Rattle.sched_defs.specs.Numbered.{IsHeldBelow, CanBeSent, departures_asked}
 use Rattle.sched_defs.specs.Laws.{IsCourseShort}
 use Rattle.sched_defs.proofs.Soundness.{with_packet-is, without-is, sound_arrived, sound_departed}
@@ -93,7 +94,7 @@ stopped_can : (policy : Policy) (events : List Event) (ending : Option Ending) (
 stopped_can policy events (Some e) c s can rest = can
 stopped_can policy events None c s can rest = CanMake-joined policy events c.events s can rest
 
-pub course_can : (policy : Policy) (steps : List Step) (packets : List Packet) (fault : Option Fault) (first event : ℕ) (s : SourceState) → CanBeSent policy first packets s → CanMake policy (course policy steps packets fault s event).events s
+pub course_can : (policy : Policy) (steps : List Step) (packets : List Packet) (fault : Option FaultAt) (first event : ℕ) (s : SourceState) → CanBeSent policy first packets s → CanMake policy (course policy steps packets fault s event).events s
 course_can policy [] packets fault first event s can = tt
 course_can policy (step ∷ steps) packets fault first event s can =
     let made : IsStepMade policy step first packets s = step_made policy step first packets s can in
@@ -162,7 +163,7 @@ stopped_short policy step steps packets s None c here rest =
     let y = departures_in-append (step_events step packets s) c.events in
     record { arrivals = omega arith; departures = omega arith }
 
-pub course_short : (policy : Policy) (steps : List Step) (packets : List Packet) (fault : Option Fault) (first event : ℕ) (s : SourceState) → IsAccepted policy → IsSound policy s → CanBeSent policy first packets s
+pub course_short : (policy : Policy) (steps : List Step) (packets : List Packet) (fault : Option FaultAt) (first event : ℕ) (s : SourceState) → IsAccepted policy → IsSound policy s → CanBeSent policy first packets s
     → IsCourseShort policy steps packets s (course policy steps packets fault s event).events
 course_short policy [] packets fault first event s accepted sound can = record { arrivals = omega arith; departures = omega arith }
 course_short policy (step ∷ steps) packets fault first event s accepted sound can =

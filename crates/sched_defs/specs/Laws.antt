@@ -12,7 +12,7 @@ use Rattle.sched_defs.specs.Sound.{IsSound}
 use Rattle.sched_defs.specs.Events.{Event, Depart, after, outcomes, arrivals_in, departures_in, CanArrive, CanMake}
 use Rattle.sched_defs.specs.Script.{Step, course}
 use Rattle.sched_defs.specs.Numbered.{CanBeSent, departures_asked}
-use Rattle.pcap_defs.specs.Fault.{Fault}
+use Rattle.sched_defs.specs.Faults.{FaultAt}
 
 -- ---- sound states
 abbrev pub StartIsSound : Type 0
@@ -85,7 +85,7 @@ DeparturesCanBeMade = (policy : Policy) (n : ℕ) (s : SourceState) → CanMake 
 -- the events of a script over packets in the order of a capture can be made
 abbrev pub CoursesCanBeMade : Type 0
 CoursesCanBeMade =
-    (policy : Policy) (steps : List Step) (packets : List Packet) (fault : Option Fault) (first event : ℕ) (s : SourceState) → CanBeSent policy first packets s
+    (policy : Policy) (steps : List Step) (packets : List Packet) (fault : Option FaultAt) (first event : ℕ) (s : SourceState) → CanBeSent policy first packets s
     → CanMake policy (course policy steps packets fault s event).events s
 
 -- no more packets arrive than there are, and none leaves by `drain` that wasn't held or didn't arrive
@@ -95,5 +95,5 @@ pub record IsCourseShort (policy : Policy) (steps : List Step) (packets : List P
 
 abbrev pub CoursesAreShort : Type 0
 CoursesAreShort =
-    (policy : Policy) (steps : List Step) (packets : List Packet) (fault : Option Fault) (first event : ℕ) (s : SourceState) → IsAccepted policy → IsSound policy s → CanBeSent policy first packets s
+    (policy : Policy) (steps : List Step) (packets : List Packet) (fault : Option FaultAt) (first event : ℕ) (s : SourceState) → IsAccepted policy → IsSound policy s → CanBeSent policy first packets s
     → IsCourseShort policy steps packets s (course policy steps packets fault s event).events

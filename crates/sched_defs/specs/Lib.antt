@@ -2,6 +2,8 @@ pub mod Visits
 pub mod SourceState
 pub mod Sound
 pub mod Events
+pub mod Faults
+pub mod Packets
 pub mod Script
 pub mod Numbered
 pub mod Laws

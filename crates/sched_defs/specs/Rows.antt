@@ -1,7 +1,7 @@
 -- Runs that are worked out.
 use Rattle.std.specs.Prelude.{◌≡◌, refl, ℕ, None, Some, List, [], ◌∷◌, codes}
 use Rattle.std.specs.Fmt.{digits}
-use Rattle.pcap_defs.specs.Fault.{data_cut}
+use Rattle.sched_defs.specs.Faults.{FaultAt}
 use Rattle.rank_defs.specs.declared.environment.FlowKey.{FlowKey}
 use Rattle.rank_defs.specs.declared.expression.Op.TheVariants.{Sub}
 use Rattle.rank_defs.specs.declared.expression.Var.TheVariants.{Len}
@@ -23,6 +23,10 @@ packet n length_in_bytes moment_in_ns = record { number = n; class = 0; len = le
 abbrev pub two_packets : List Packet
 two_packets = packet 1 4 1000000000 ∷ packet 2 4 2000000000 ∷ []
 
+-- the captured bytes of the third record are cut
+abbrev pub data_cut : FaultAt
+data_cut = record { code = 6; place = 3 }
+
 pub report-one_leaf_two_packets : report one_leaf (Arrivals 1 ∷ Arrivals 1 ∷ Departures 1 ∷ Departures 1 ∷ Departures 1 ∷ []) two_packets None
     ≡ codes "a 1 1 root 0\na 2 2 root 0\nd 3 1 root 0\nd 4 2 root 0\ne 5\nend pushed 2 popped 2 empty 1 held 0 unsent 0\n"
 unfolding digits
@@ -32,12 +36,12 @@ pub report-past_the_last_packet : report one_leaf (Arrivals 3 ∷ []) two_packet
 unfolding digits
 report-past_the_last_packet = refl
 
-pub report-cut_record : report one_leaf (Arrivals 2 ∷ Departures 2 ∷ []) two_packets (Some (data_cut 3))
+pub report-cut_record : report one_leaf (Arrivals 2 ∷ Departures 2 ∷ []) two_packets (Some data_cut)
     ≡ codes "a 1 1 root 0\na 2 2 root 0\nd 3 1 root 0\nd 4 2 root 0\nfault capture 6 3\n"
 unfolding digits
 report-cut_record = refl
 
-pub report-rest_meets_the_fault : report one_leaf (Rest ∷ Drain ∷ []) two_packets (Some (data_cut 3)) ≡ codes "a 1 1 root 0\na 2 2 root 0\nfault capture 6 3\n"
+pub report-rest_meets_the_fault : report one_leaf (Rest ∷ Drain ∷ []) two_packets (Some data_cut) ≡ codes "a 1 1 root 0\na 2 2 root 0\nfault capture 6 3\n"
 unfolding digits
 report-rest_meets_the_fault = refl
 

@@ -1,10 +1,12 @@
 -- The run of a script over the packets of a capture.
 use Rattle.std.specs.Prelude.{ℕ, ◌+◌, nat_lt, if◌then◌else◌, Option, None, Some, List, [], ◌∷◌, ◌++◌, length, map, take, drop, replicate}
 use Rattle.tree_defs.specs.SourceTree.{size}
-use Rattle.pcap_defs.specs.Fault.{Fault}
 use Rattle.packet_defs.specs.declared.packet.Packet.{Packet}
 use Rattle.policy_defs.specs.Policy.{Policy}
 use Rattle.sched_defs.specs.SourceState.{SourceState}
+use Rattle.sched_defs.specs.declared.ending.Ending.{Ending}
+use Rattle.sched_defs.specs.declared.ending.Ending.TheVariants.{Whole, BadCapture, PastLast}
+use Rattle.sched_defs.specs.Faults.{FaultAt}
 use Rattle.sched_defs.specs.Events.{Event, Arrive, Depart, after}
 
 -- a line of a script: so many arrivals or departures, arrivals as long as packets are left, or departures as long as
@@ -14,13 +16,6 @@ pub data Step : Type 0 where
   Departures : ℕ → Step
   Rest : Step
   Drain : Step
-
--- how a run ends: with so many packets that weren't sent, at the fault of the capture, or at an event that asks for
--- a packet past the last
-pub data Ending : Type 0 where
-  Whole : ℕ → Ending
-  BadCapture : Fault → Ending
-  PastLast : ℕ → Ending
 
 -- what happens in a run, and how it ends
 pub record Course : Type 0 where
@@ -42,26 +37,26 @@ left_by Rest packets = []
 left_by Drain packets = packets
 
 -- where no packet is left, the capture's fault ends the run, and else the event that asks for one
-abbrev pub missing : Option Fault → ℕ → Ending
+abbrev pub missing : Option FaultAt → ℕ → Ending
 missing None event = PastLast event
-missing (Some fault) event = BadCapture fault
+missing (Some fault) event = BadCapture fault.code fault.place
 
 -- where all packets were asked for, the capture's fault ends the run
-abbrev pub at_fault : Option Fault → Option Ending
+abbrev pub at_fault : Option FaultAt → Option Ending
 at_fault None = None
-at_fault (Some fault) = Some (BadCapture fault)
+at_fault (Some fault) = Some (BadCapture fault.code fault.place)
 
 -- how a step ends the run, if it does; the event is the one behind its last
-abbrev pub stop_at : Step → List Packet → Option Fault → ℕ → Option Ending
+abbrev pub stop_at : Step → List Packet → Option FaultAt → ℕ → Option Ending
 stop_at (Arrivals n) packets fault event = if nat_lt (length packets) n then Some (missing fault event) else None
 stop_at (Departures n) packets fault event = None
 stop_at Rest packets fault event = at_fault fault
 stop_at Drain packets fault event = None
 
 -- how a run ends after its last step
-abbrev pub at_end : Option Fault → List Packet → Ending
+abbrev pub at_end : Option FaultAt → List Packet → Ending
 at_end None packets = Whole (length packets)
-at_end (Some fault) packets = BadCapture fault
+at_end (Some fault) packets = BadCapture fault.code fault.place
 
 abbrev pub behind : List Event → Course → Course
 behind events c = record { events = events ++ c.events; ending = c.ending }
@@ -71,9 +66,15 @@ stopped_or events (Some ending) c = record { events = events; ending = ending }
 stopped_or events None c = behind events c
 
 -- the course of a script over packets and the fault behind them, from a state, where the first event has this number
-abbrev pub course : Policy → List Step → List Packet → Option Fault → SourceState → ℕ → Course
+abbrev pub course : Policy → List Step → List Packet → Option FaultAt → SourceState → ℕ → Course
 course policy [] packets fault s event = record { events = []; ending = at_end fault packets }
 course policy (step ∷ steps) packets fault s event =
     stopped_or (step_events step packets s)
     (stop_at step packets fault (event + length (step_events step packets s)))
     (course policy steps (left_by step packets) fault (after policy (step_events step packets s) s) (event + length (step_events step packets s)))
+
+-- the ending, if it is at a fault of the capture
+abbrev pub ends_at_fault : Ending → Option Ending
+ends_at_fault (BadCapture c p) = Some (BadCapture c p)
+ends_at_fault (Whole unsent) = None
+ends_at_fault (PastLast event) = None

@@ -1,9 +1,14 @@
-//! What a policy's tree of queues does with packets, one event at a time, and what a run reports.
+//! What a policy's tree of queues does with packets, one event at a time, and what a run reports. Begin with
+//! specs/SourceState.antt.
 #![tactic(auto)]
 
+mod ending;
 mod laws;
+mod packets;
 
+pub use ending::Ending;
 pub use laws::{
     courses_can_be_made, events_join, events_keep_states_sound, held_packets_stand_in_leaves,
     packets_keep_to_their_leaves,
 };
+pub use packets::{Halt, Packets};

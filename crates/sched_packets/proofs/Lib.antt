@@ -1,2 +1,2 @@
-pub mod Sending
-pub mod Coming
+pub mod RecordPackets
+pub mod PacketsLeft

@@ -7,9 +7,10 @@ use Rattle.pcap_defs.specs.Reading.{Capture, refused, packets, records_left}
 use Rattle.pcap_core.specs.Readers.{head_of, is_big, is_nano, is_live, records_given, rest_left}
 use Rattle.policy_defs.specs.Policy.{Policy}
 use Rattle.policy_rules.specs.Resolved.{Resolved}
-use Rattle.sched_run.specs.Packets.{Left}
-use Rattle.sched_run.specs.declared.packets.Halt.{Halt}
-use Rattle.sched_run.specs.declared.packets.Halt.TheVariants as halt
+use Rattle.sched_defs.specs.Packets.{Left}
+use Rattle.sched_defs.specs.declared.packets.Halt.{Halt}
+use Rattle.sched_defs.specs.declared.packets.Halt.TheVariants as halt
+use Rattle.sched_packets.specs.Halts.{fault_at}
 use Rattle.sched_packets.specs.Packets.{packets_from}
 use Rattle.sched_packets.specs.declared.arrivals.Arrivals.{Arrivals}
 
@@ -29,7 +30,7 @@ head_in arrivals = record { link = arrivals.link; nano = is_nano arrivals.reader
 abbrev pub left_in : Resolved → Head → ℕ → List ℕ → Left
 left_in policy head n rest = record {
   packets = packets_from policy head (n + 1) (records_left head.big n rest).0;
-  fault = (records_left head.big n rest).1;
+  fault = option_map fault_at (records_left head.big n rest).1;
 }
 
 abbrev pub nothing_left : Left
@@ -54,7 +55,7 @@ pub record Begins (policy : Resolved) (capture : Capture) (left : Option Left) :
   pub records : List Record
   pub fault : Option Fault
   pub is : capture ≡ packets head records fault
-  pub all : left ≡ Some (record { packets = packets_from policy head 1 records; fault = fault })
+  pub all : left ≡ Some (record { packets = packets_from policy head 1 records; fault = option_map fault_at fault })
 
 -- the capture's header is refused for a fault of this code and place
 pub record IsRefused (code_is place_is : ℕ) (capture : Capture) : Type 0 where

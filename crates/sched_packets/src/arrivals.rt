@@ -1,7 +1,7 @@
 //! The packets of a capture, one by one.
 ghost use Rattle.std.specs.Prelude.{◌≡◌, IfOk, IfErr, IfSome, IsErrOf, IsTrue, ◌≤◌};
 ghost use Rattle.outside_core.specs.Faults.{Rose};
-ghost use Rattle.outside_core.specs.Files.{KeepsFiles};
+ghost use Rattle.outside_core.specs.Kept.{KeepsShelf};
 ghost use Rattle.pcap_defs.specs.Reading.{capture_of};
 
 use crate::halts::halt_of;
@@ -10,7 +10,7 @@ use outside_core::Shelf;
 use packet_core::Packet;
 use pcap_core::Reader;
 use policy_core::Policy;
-use sched_run::{Halt, Packets};
+use sched_defs::{Halt, Packets};
 use std::alloc::Global;
 use std::marker::PhantomData;
 
@@ -41,8 +41,7 @@ impl<'a, S: Shelf> Arrivals<'a, S> {
 
         ensures refuses { IfErr result (λ halt. IfSome (S.left shelf.old) (λ file. Refuses halt (capture_of file))) }
         ensures begun { IsTrue (S.begun shelf.new) }
-        ensures files { KeepsFiles S.lends S.content shelf.old shelf.new }
-        ensures later { S.faults shelf.old ≤ S.faults shelf.new }
+        ensures kept { KeepsShelf S.lends S.content S.faults shelf.old shelf.new }
         ensures cause { IsErrOf result Halt.Source → Rose (S.faults shelf.old) (S.faults shelf.new) }
     {
         let mut reader = Reader::new(alloc);

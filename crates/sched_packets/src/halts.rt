@@ -3,7 +3,7 @@ ghost use Rattle.std.specs.Prelude.{◌≡◌};
 ghost use Rattle.sched_packets.specs.Halts.{halt_of};
 
 use pcap_core::CaptureFault;
-use sched_run::Halt;
+use sched_defs::Halt;
 
 /// Why no packet comes, where a capture isn't read on.
 pub(crate) fn halt_of(fault: CaptureFault) -> Halt

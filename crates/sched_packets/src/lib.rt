@@ -8,4 +8,4 @@ mod packets;
 mod tests;
 
 pub use arrivals::Arrivals;
-pub use sched_run::{Halt, Packets};
+pub use sched_defs::{Halt, Packets};

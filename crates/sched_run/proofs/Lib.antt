@@ -1,7 +1,10 @@
-pub mod Making
-pub mod Coming
-pub mod Counting
-pub mod Turning
-pub mod Running
-pub mod Closing
-pub mod Beginning
+pub mod FrameLaws
+pub mod JoinedEvents
+pub mod LineLaws
+pub mod MadeEvents
+pub mod PacketsInTurn
+pub mod EventCounts
+pub mod StepLaws
+pub mod CourseLaws
+pub mod ReportLaws
+pub mod StartLaws

@@ -12,9 +12,8 @@ use Rattle.sched_core.specs.declared.scheduler.Scheduler.{Ghosts}
 use Rattle.sched_core.specs.Standing.{ForEachState}
 use Rattle.sched_run.specs.Played.{HasMade, HasMadeSome}
 use Rattle.events_core.specs.declared.step.Step as line
-use Rattle.sched_run.specs.declared.ending.Ending.{Ending}
-use Rattle.sched_run.specs.Packets.{Left}
-use Rattle.sched_run.specs.Endings.{ended}
+use Rattle.sched_defs.specs.declared.ending.Ending.{Ending}
+use Rattle.sched_defs.specs.Packets.{Left}
 use Rattle.sched_run.specs.Steps.{step_of}
 use Rattle.sched_run.specs.Stages.{Stage, event_of, FromEach, Makes}
 
@@ -25,7 +24,7 @@ course_of policy steps left s event = course policy (map step_of steps) left.pac
 -- these are the events of a course, and this tells how it ends
 pub record IsCourse (events : List Event) (ending : Ending) (run : Course) : Type 0 where
   pub are : events ≡ run.events
-  pub ends : ending ≡ ended run.ending
+  pub ends : ending ≡ run.ending
 
 -- all events of the course over what was left were made
 pub record Courses {C U : Type 0} (S : Ghosts C U) (policy : Policy) (steps : List line.Step) (ending : Ending) (before : Option Left) (old new : Stage C U) : Type 0 where

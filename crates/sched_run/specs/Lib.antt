@@ -1,5 +1,5 @@
-pub mod Packets
-pub mod Endings
+pub mod Frames
+pub mod Played
 pub mod Steps
 pub mod Stages
 pub mod Turns

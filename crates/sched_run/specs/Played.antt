@@ -1,11 +1,11 @@
 -- What a call that makes events in a row leaves.
-use Rattle.std.specs.Prelude.{◌≡◌, ◌<◌, ◌^◌, ℕ, ◌+◌, Option, List, ◌++◌, length}
+use Rattle.std.specs.Prelude.{◌≡◌, ℕ, ◌+◌, Option, List, ◌++◌}
 use Rattle.outside_core.specs.Written.{Appended}
 use Rattle.report_defs.specs.Text.{IsCut}
 use Rattle.policy_defs.specs.Policy.{Policy}
 use Rattle.sched_defs.specs.SourceState.{SourceState}
-use Rattle.sched_defs.specs.Events.{Event, CanMake, after, outcomes, arrivals_in, departures_in}
-use Rattle.sched_defs.specs.Report.{lines_from}
+use Rattle.sched_defs.specs.Events.{Event, after, outcome, outcomes, arrivals_in, departures_in}
+use Rattle.sched_defs.specs.Report.{outcome_line, lines_from}
 use Rattle.sched_core.specs.declared.scheduler.Scheduler.{Ghosts}
 use Rattle.sched_core.specs.Origins.{images_of}
 use Rattle.sched_core.specs.Spills.{raised, spills_in}
@@ -13,6 +13,18 @@ use Rattle.sched_core.specs.Spills.{raised, spills_in}
 -- the lines of events from a state, where the first event has this number
 abbrev pub told : Policy → ℕ → List Event → SourceState → List ℕ
 told policy event events from = lines_from policy event (outcomes policy events from)
+
+-- the line of an event from a state, where it has this number
+abbrev pub line_of : Policy → ℕ → Event → SourceState → List ℕ
+line_of policy event e from = outcome_line policy event (outcome policy e from)
+
+-- a departure was asked for: all else of what a scheduler counts and tells of itself stays
+pub record AsksOnce {C U : Type 0} (S : Ghosts C U) (c : C) (u : U) (c' : C) (u' : U) : Type 0 where
+  pub arrivals : S.arrivals c' ≡ S.arrivals c
+  pub departures : S.departures c' ≡ S.departures c + 1
+  pub policy : S.policy c' ≡ S.policy c
+  pub origin : S.origin c' ≡ S.origin c
+  pub spilled : S.spilled c' u' ≡ S.spilled c u
 
 -- The events were made, from a state for which the scheduler c and the queues u under it stood: now c' and u' stand for the
 -- state after them. The events are counted, and where spills are told they rose by those of the arrivals.
@@ -41,10 +53,3 @@ pub record StopsIn {C U : Type 0} (S : Ghosts C U) (policy : Policy) (event : �
     (c : C) (u : U) (c' : C) (u' : U) (before written : Option (List ℕ)) : Type 0 where
   pub leaves : HasMadeSome S policy events from c u c' u'
   pub lines : IsCut before (told policy event events from) written
-
--- these events can be made, and the counts have room for them
-pub record CanPlay (policy : Policy) (arrivals departures event : ℕ) (events : List Event) (from : SourceState) : Type 0 where
-  pub can : CanMake policy events from
-  pub few_arrivals : arrivals + arrivals_in events < 2 ^ 61
-  pub few_departures : departures + departures_in events < 2 ^ 61
-  pub few_events : event + length events < 2 ^ 62

@@ -3,13 +3,16 @@ use Rattle.std.specs.Prelude.{◌≡◌, ◌<◌, ◌≤◌, ◌^◌, ℕ, ◌+�
 use Rattle.std.specs.List.{AllByRecursion}
 use Rattle.tree_defs.specs.SourceTree.{size}
 use Rattle.packet_defs.specs.declared.packet.Packet.{Packet}
+use Rattle.report_core.specs.Gathered.{text_of}
 use Rattle.policy_defs.specs.Policy.{Policy}
 use Rattle.sched_defs.specs.SourceState.{SourceState, start}
 use Rattle.sched_defs.specs.Events.{Event, Arrive, Depart, arrivals_in, departures_in}
+use Rattle.sched_defs.specs.Packets.{most_packets}
 use Rattle.sched_defs.specs.Numbered.{AreNumberedFrom, IsSendable, IsHeldBelow}
 use Rattle.sched_core.specs.declared.scheduler.Scheduler.{Ghosts}
 use Rattle.sched_core.specs.Standing.{ForEachState}
 use Rattle.sched_run.specs.Played.{Plays, StopsIn}
+use Rattle.sched_run.specs.declared.run.Run.{Run}
 use Rattle.sched_run.specs.declared.tally.Tally.{Tally}
 
 -- the scheduler with what is under it, the text so far, how many packets came, and the tally
@@ -22,6 +25,9 @@ pub record Stage (C U : Type 0) : Type 0 where
 
 abbrev pub stage : {C U : Type 0} → C → U → Option (List ℕ) → ℕ → Tally → Stage C U
 stage c u text given tally = record { scheduler = c; under = u; text = text; given = given; tally = tally }
+
+abbrev pub stage_of : {C U N : Type 0} → Run C N → U → Option (List ℕ) → ℕ → Stage C U
+stage_of run u written given = stage run.scheduler u (text_of written run.report) given run.tally
 
 -- the number of the next event
 abbrev pub event_of : Tally → ℕ
@@ -50,8 +56,11 @@ pub record HasRoom (arrivals departures given : ℕ) (tally : Tally) : Type 0 wh
   pub arrivals_fit : arrivals < 2 ^ 60 + tally.pushed
   pub departures_fit : departures < 2 ^ 60 + tally.asked
   pub pushed : tally.pushed ≤ given
-  pub few : given ≤ 4294967295
+  pub few : given ≤ most_packets
   pub few_asked : tally.asked ≤ 2 ^ 34
+
+abbrev pub HasRoomFor : {C U N : Type 0} → Ghosts C U → Run C N → ℕ → Type 0
+HasRoomFor S run given = HasRoom (S.arrivals run.scheduler) (S.departures run.scheduler) given run.tally
 
 -- the packets of the arrivals, in order
 abbrev pub packets_in : List Event → List Packet

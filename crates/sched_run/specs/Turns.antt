@@ -1,5 +1,5 @@
 -- What a step of a script leaves.
-use Rattle.std.specs.Prelude.{◌≡◌, ◌≤◌, ◌<◌, ℕ, Option, None, Some, option_map, List, ◌++◌, map, length, IfSome, IfNone, ⊤}
+use Rattle.std.specs.Prelude.{◌≡◌, ◌≤◌, ◌<◌, ℕ, Option, None, Some, List, ◌++◌, map, length, IfSome, IfNone, ⊤}
 use Rattle.packet_defs.specs.declared.packet.Packet.{Packet}
 use Rattle.policy_defs.specs.Policy.{Policy}
 use Rattle.sched_defs.specs.SourceState.{SourceState}
@@ -7,10 +7,9 @@ use Rattle.sched_defs.specs.Events.{Event, Arrive, outcomes}
 use Rattle.sched_defs.specs.Script.{Step, step_events, left_by, stop_at}
 use Rattle.sched_defs.specs.Report.{empty_in}
 use Rattle.sched_core.specs.declared.scheduler.Scheduler.{Ghosts}
-use Rattle.sched_run.specs.declared.ending.Ending.{Ending}
-use Rattle.sched_run.specs.declared.ending.Ending.TheVariants.{Whole, BadCapture, PastLast}
-use Rattle.sched_run.specs.Packets.{Left, Came, IsOver, IsFaultOf}
-use Rattle.sched_run.specs.Endings.{ended}
+use Rattle.sched_defs.specs.declared.ending.Ending.{Ending}
+use Rattle.sched_defs.specs.declared.ending.Ending.TheVariants.{Whole, BadCapture, PastLast}
+use Rattle.sched_defs.specs.Packets.{Left, Came, IsOver}
 use Rattle.sched_run.specs.Steps.{asked_by}
 use Rattle.sched_run.specs.Stages.{Stage, event_of, FromEach, Makes, Stops}
 
@@ -19,7 +18,7 @@ use Rattle.sched_run.specs.Stages.{Stage, event_of, FromEach, Makes, Stops}
 abbrev pub CameUntil : Option Ending → ℕ → Option Left → Option Left → List Packet → Type 0
 CameUntil None event before after packets = Came before after packets
 CameUntil (Some (Whole unsent)) event before after packets = ⊥
-CameUntil (Some (BadCapture c p)) event before after packets = IfSome before (λ l. (l.packets ≡ packets) × IsFaultOf c p l.fault)
+CameUntil (Some (BadCapture c p)) event before after packets = IfSome before (λ l. (l.packets ≡ packets) × (l.fault ≡ Some (record { code = c; place = p })))
 CameUntil (Some (PastLast e)) event before after packets = (e ≡ event) × Came before after packets × IsOver after
 
 -- P, unless a fault of the capture ends the run
@@ -54,7 +53,7 @@ pub record ArrivalsStop {C U : Type 0} (S : Ghosts C U) (policy : Policy) (asked
 -- these are the events of a step over what was left, from a state, and this is what it leaves
 pub record IsTurn (step : Step) (ending : Option Ending) (event : ℕ) (events : List Event) (before : Left) (after : Option Left) (s : SourceState) : Type 0 where
   pub are : events ≡ step_events step before.packets s
-  pub ends : ending ≡ option_map ended (stop_at step before.packets before.fault event)
+  pub ends : ending ≡ stop_at step before.packets before.fault event
   pub rest : IfNone ending (after ≡ Some (record { packets = left_by step before.packets; fault = before.fault }))
 
 -- all events of a step were made

@@ -1,17 +1,15 @@
-//! The course of a script over packets that come one by one, by any scheduler, with its report.
+//! A run: the course of a script over packets that come one by one, by any scheduler, with its report. Begin with
+//! specs/Courses.antt.
 #![tactic(auto)]
 
 mod arrivals;
 mod course;
-mod ending;
 mod laws;
-mod packets;
+mod lines;
+mod run;
 mod steps;
-mod stop;
 mod tally;
 
-pub use course::play;
-pub use ending::Ending;
 pub use laws::runs_begin_at_the_start;
-pub use packets::{Halt, Packets};
-pub use stop::Stop;
+pub use lines::depart_line;
+pub use run::Run;

@@ -1,10 +1,8 @@
-//! One event with its line of the report.
-ghost use Rattle.std.specs.Prelude.{◌≡◌, ◌<◌, ◌≤◌, ◌+◌, ◌^◌, ◌↔◌, [], ◌∷◌, option_map, is_err, IsErrOf, IsNone, IsTrue, IfOk, OnOk, OnErr, IfSome, IfNone};
+//! One event with its line of the report, and departures in a row.
+ghost use Rattle.std.specs.Prelude.{◌≡◌, ◌<◌, ◌≤◌, ◌+◌, ◌^◌, ◌↔◌, [], ◌∷◌, replicate, option_map, IsNone, IsTrue, IfErr, IfOk, OnOk, OnErr, IfSome, IfNone};
 ghost use Rattle.outside_core.specs.Faults.{Rose};
-ghost use Rattle.outside_core.specs.Written.{Appended};
-ghost use Rattle.outside_core.specs.Kept.{Begins};
-ghost use Rattle.report_defs.specs.Text.{IsCut};
-ghost use Rattle.report_core.specs.Gathered.{text_of};
+ghost use Rattle.outside_core.specs.Kept.{KeepsSink, HasSinkCause};
+ghost use Rattle.report_core.specs.Gathered.{text_of, Tells, CutsOff};
 ghost use Rattle.tree_defs.specs.Tree.{depth};
 ghost use Rattle.tree_defs.specs.SourceTree.{size};
 ghost use Rattle.policy_defs.specs.Accepted.{IsAccepted};
@@ -13,10 +11,10 @@ ghost use Rattle.sched_defs.specs.Events.{Arrive, Depart, CanArrive, outcome};
 ghost use Rattle.sched_defs.specs.Report.{outcome_line};
 ghost use Rattle.sched_core.specs.Standing.{StandForOne, ForEachState};
 ghost use Rattle.sched_core.specs.Departures.{departed_packet, IsTaken};
-ghost use Rattle.sched_run.specs.Played.{Plays, StopsIn};
+ghost use Rattle.sched_run.specs.Played.{AsksOnce, line_of};
 
-use crate::stop::Stop;
-use outside_core::Sink;
+use crate::run::Run;
+use outside_core::{Sink, Stop};
 use packet_defs::{Departed, Packet};
 use policy_defs::NodeNames;
 use report_core::{Report, WriteFault};
@@ -40,27 +38,26 @@ pub fn depart_line<C: Scheduler, N: NodeNames, K: Sink>(
     requires few { C.departures scheduler.old < 2 ^ 61 }
     requires live { IsTrue report.old.live }
 
-    ensures state { ForEachState C.stands (C.policy scheduler.old) scheduler.old under.old (λ s. C.stands scheduler.new under.new (departed (C.policy scheduler.old) s)) }
-    ensures value { ForEachState C.stands (C.policy scheduler.old) scheduler.old under.old (λ s. IfOk result (λ d. d ≡ option_map (departed_packet (C.policy scheduler.old)) (leaver s))) }
-    ensures none { ForEachState C.stands (C.policy scheduler.old) scheduler.old under.old (λ s. IfOk result (λ d. IsNone d ↔ (size s.tree ≡ 0))) }
-    ensures taken { ForEachState C.stands (C.policy scheduler.old) scheduler.old under.old (λ s. IfSome (leaver s) (λ l. IsTaken l trace.new)) }
-    ensures untouched { ForEachState C.stands (C.policy scheduler.old) scheduler.old under.old (λ s. IfNone (leaver s) (trace.new ≡ trace.old)) }
+    ensures state { ForEachState C.stands (C.policy scheduler.old) scheduler.old under.old (λ s.
+        C.stands scheduler.new under.new (departed (C.policy scheduler.old) s)) }
+    ensures value { ForEachState C.stands (C.policy scheduler.old) scheduler.old under.old (λ s.
+        IfOk result (λ d. d ≡ option_map (departed_packet (C.policy scheduler.old)) (leaver s))) }
+    ensures none { ForEachState C.stands (C.policy scheduler.old) scheduler.old under.old (λ s.
+        IfOk result (λ d. IsNone d ↔ (size s.tree ≡ 0))) }
+    ensures taken { ForEachState C.stands (C.policy scheduler.old) scheduler.old under.old (λ s.
+        IfSome (leaver s) (λ l. IsTaken l trace.new)) }
+    ensures untouched { ForEachState C.stands (C.policy scheduler.old) scheduler.old under.old (λ s.
+        IfNone (leaver s) (trace.new ≡ trace.old)) }
     ensures room { trace.new.room ≡ trace.old.room }
 
     ensures text { OnOk result (ForEachState C.stands (C.policy scheduler.old) scheduler.old under.old (λ s.
-        Appended (text_of (K.written sink.old) report.old) (text_of (K.written sink.new) report.new) (outcome_line (C.policy scheduler.old) event (outcome (C.policy scheduler.old) Depart s)))) }
+        Tells K.written sink.old report.old sink.new report.new (line_of (C.policy scheduler.old) event Depart s))) }
     ensures cut { OnErr result (ForEachState C.stands (C.policy scheduler.old) scheduler.old under.old (λ s.
-        IsCut (text_of (K.written sink.old) report.old) (outcome_line (C.policy scheduler.old) event (outcome (C.policy scheduler.old) Depart s)) (K.written sink.new))) }
-    ensures begins { Begins (K.written sink.old) (K.written sink.new) }
+        CutsOff K.written sink.old report.old sink.new (line_of (C.policy scheduler.old) event Depart s))) }
+    ensures kept { KeepsSink K.written K.faults sink.old sink.new }
     ensures cause { OnErr result (Rose (K.faults sink.old) (K.faults sink.new)) }
-    ensures later { K.faults sink.old ≤ K.faults sink.new }
     ensures live { OnOk result (IsTrue report.new.live) }
-
-    ensures arrivals { C.arrivals scheduler.new ≡ C.arrivals scheduler.old }
-    ensures departures { C.departures scheduler.new ≡ C.departures scheduler.old + 1 }
-    ensures policy { C.policy scheduler.new ≡ C.policy scheduler.old }
-    ensures origin { C.origin scheduler.new ≡ C.origin scheduler.old }
-    ensures spilled { C.spilled scheduler.new under.new ≡ C.spilled scheduler.old under.old }
+    ensures asked { AsksOnce C.Scheduler scheduler.old under.old scheduler.new under.new }
 {
     match scheduler.depart(under, trace) {
         Some(departed) => {
@@ -75,38 +72,82 @@ pub fn depart_line<C: Scheduler, N: NodeNames, K: Sink>(
     }
 }
 
-/// Makes an arrival, and writes its line.
-pub fn arrive_line<C: Scheduler, N: NodeNames, K: Sink>(
-    names: &N,
-    scheduler: &mut C,
-    under: &mut C::Under,
-    trace: &mut Taken,
-    report: &mut Report,
-    sink: &mut K,
-    event: u64,
-    packet: &Packet,
-) -> Result<(), Stop>
-    requires accepted { IsAccepted (C.policy scheduler.old) }
-    requires names { N.policy names.now ≡ C.policy scheduler.old }
-    requires stands { StandForOne C.stands (C.policy scheduler.old) scheduler.old under.old (λ s. CanArrive (C.policy scheduler.old) s packet.now) }
-    requires room { depth (C.policy scheduler.old).tree ≤ trace.old.room }
-    requires few { C.arrivals scheduler.old < 2 ^ 61 }
-    requires live { IsTrue report.old.live }
+impl<'a, C: Scheduler + Drop, N: NodeNames> Run<'a, C, N> {
+    ghost use Rattle.std.specs.Prelude.{◌≡◌, ◌<◌, ◌+◌, ◌^◌, [], ◌∷◌, replicate, IsTrue, IfErr, OnOk, OnErr};
+    ghost use Rattle.outside_core.specs.Faults.{Rose};
+    ghost use Rattle.outside_core.specs.Kept.{KeepsSink, HasSinkCause};
+    ghost use Rattle.report_core.specs.Gathered.{text_of};
+    ghost use Rattle.sched_defs.specs.Events.{Arrive, Depart, CanArrive};
+    ghost use Rattle.sched_run.specs.Frames.{IsSet, Continues, Stand, FromAll};
+    ghost use Rattle.sched_run.specs.Played.{Plays, StopsIn};
 
-    ensures ok { OnOk result (ForEachState C.stands (C.policy scheduler.old) scheduler.old under.old (λ s.
-        Plays C.Scheduler (C.policy scheduler.old) event (Arrive packet.now ∷ []) s scheduler.old under.old scheduler.new under.new (text_of (K.written sink.old) report.old) (text_of (K.written sink.new) report.new))) }
-    ensures err { OnErr result (ForEachState C.stands (C.policy scheduler.old) scheduler.old under.old (λ s.
-        StopsIn C.Scheduler (C.policy scheduler.old) event (Arrive packet.now ∷ []) s scheduler.old under.old scheduler.new under.new (text_of (K.written sink.old) report.old) (K.written sink.new))) }
-    ensures begins { Begins (K.written sink.old) (K.written sink.new) }
-    ensures cause { IsErrOf result Stop.Sink → Rose (K.faults sink.old) (K.faults sink.new) }
-    ensures later { K.faults sink.old ≤ K.faults sink.new }
-    ensures live { OnOk result (IsTrue report.new.live) }
-    ensures room { trace.new.room ≡ trace.old.room }
-    ensures policy { C.policy scheduler.new ≡ C.policy scheduler.old }
-    ensures origin { C.origin scheduler.new ≡ C.origin scheduler.old }
-{
-    let leaf = scheduler.arrive(under, packet, trace)?;
-    let name = names.name(leaf);
-    report.arrived(sink, event, packet.number, name, trace.ranks())?;
-    Ok(())
+    /// Makes an arrival, and writes its line.
+    pub(crate) fn arrive_line<K: Sink>(
+        &mut self,
+        under: &mut C::Under,
+        sink: &mut K,
+        event: u64,
+        packet: &Packet,
+    ) -> Result<(), Stop>
+        requires set { IsSet C.Scheduler N.policy self.old }
+        requires stands { Stand C.Scheduler self.old under.old (λ s. CanArrive (C.policy self.old.scheduler) s packet.now) }
+        requires few { C.arrivals self.old.scheduler < 2 ^ 61 }
+
+        ensures ok { OnOk result (FromAll C.Scheduler self.old under.old (λ s.
+            Plays C.Scheduler (C.policy self.old.scheduler) event (Arrive packet.now ∷ []) s self.old.scheduler under.old
+            self.new.scheduler under.new (text_of (K.written sink.old) self.old.report) (text_of (K.written sink.new) self.new.report))) }
+        ensures err { OnErr result (FromAll C.Scheduler self.old under.old (λ s.
+            StopsIn C.Scheduler (C.policy self.old.scheduler) event (Arrive packet.now ∷ []) s self.old.scheduler under.old
+            self.new.scheduler under.new (text_of (K.written sink.old) self.old.report) (K.written sink.new))) }
+        ensures kept { Continues C.Scheduler self.old self.new }
+        ensures kept_sink { KeepsSink K.written K.faults sink.old sink.new }
+        ensures cause { IfErr result (λ stop. HasSinkCause stop K.faults sink.old sink.new) }
+        ensures live { OnOk result (IsTrue self.new.report.live) }
+        ensures tally { self.new.tally ≡ self.old.tally }
+    {
+        let leaf = self.scheduler.arrive(under, packet, &mut self.trace)?;
+        let name = self.names.name(leaf);
+        self.report
+            .arrived(sink, event, packet.number, name, self.trace.ranks())?;
+        Ok(())
+    }
+
+    /// Makes departures, each with its line. Takes no memory.
+    pub(crate) fn depart_lines<K: Sink>(
+        &mut self,
+        under: &mut C::Under,
+        sink: &mut K,
+        event: u64,
+        count: u64,
+    ) -> Result<(), WriteFault>
+        requires set { IsSet C.Scheduler N.policy self.old }
+        requires stands { Stand C.Scheduler self.old under.old (λ _. Unit {0}) }
+        requires few { C.departures self.old.scheduler + count < 2 ^ 61 }
+        requires events { event + count < 2 ^ 62 }
+
+        ensures ok { OnOk result (FromAll C.Scheduler self.old under.old (λ s.
+            Plays C.Scheduler (C.policy self.old.scheduler) event (replicate count Depart) s self.old.scheduler under.old
+            self.new.scheduler under.new (text_of (K.written sink.old) self.old.report) (text_of (K.written sink.new) self.new.report))) }
+        ensures err { OnErr result (FromAll C.Scheduler self.old under.old (λ s.
+            StopsIn C.Scheduler (C.policy self.old.scheduler) event (replicate count Depart) s self.old.scheduler under.old
+            self.new.scheduler under.new (text_of (K.written sink.old) self.old.report) (K.written sink.new))) }
+        ensures kept { Continues C.Scheduler self.old self.new }
+        ensures kept_sink { KeepsSink K.written K.faults sink.old sink.new }
+        ensures cause { OnErr result (Rose (K.faults sink.old) (K.faults sink.new)) }
+        ensures live { OnOk result (IsTrue self.new.report.live) }
+        ensures tally { self.new.tally ≡ self.old.tally }
+    {
+        for done in 0..count {
+            depart_line(
+                self.names,
+                &mut self.scheduler,
+                under,
+                &mut self.trace,
+                &mut self.report,
+                sink,
+                event + done,
+            )?;
+        }
+        Ok(())
+    }
 }

@@ -1,4 +1,4 @@
-use Rattle.sched_capture.proofs.Answering.{refusal_told}
+use Rattle.sched_capture.proofs.Refusals.{refusal_told}
 use Rattle.sched_capture.proofs.capture.begin.Goals as goal
 
 pub returns-in-Err-Fault-clause-refused : goal.returns-in-Err-Fault-clause-refused

@@ -1,5 +1,5 @@
 use Rattle.sched_defs.specs.Numbered.{IsSendable}
-use Rattle.sched_capture.proofs.Turns.{sendable, may_come, came}
+use Rattle.sched_capture.proofs.EventTurns.{sendable, may_come, came}
 use Rattle.sched_capture.proofs.fabric_tests.come.Goals as goal
 
 pub arrive-requires-clause-stands : goal.arrive-requires-clause-stands

@@ -2,7 +2,7 @@ use Rattle.std.proofs.Common.{◌∙◌}
 use Rattle.sched_defs.specs.SourceState.{start, arrived}
 use Rattle.sched_defs.specs.Events.{CanArrive}
 use Rattle.sched_defs.proofs.Soundness.{sound_start, sound_arrived}
-use Rattle.sched_capture.proofs.Turns.{asked, stands_arrived}
+use Rattle.sched_capture.proofs.EventTurns.{asked, stands_arrived}
 use Rattle.sched_capture.proofs.fabric_tests.come_both.Goals as goal
 
 pub arrive-requires-clause-stands : goal.arrive-requires-clause-stands

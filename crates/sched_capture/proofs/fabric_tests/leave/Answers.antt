@@ -1,4 +1,4 @@
-use Rattle.sched_capture.proofs.Turns.{asked, left_below}
+use Rattle.sched_capture.proofs.EventTurns.{asked, left_below}
 use Rattle.sched_capture.proofs.fabric_tests.leave.Goals as goal
 
 pub depart-requires-clause-stands : goal.depart-requires-clause-stands

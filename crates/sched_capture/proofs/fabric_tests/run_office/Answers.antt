@@ -1,5 +1,5 @@
 use Rattle.std.proofs.Common.{arith}
-use Rattle.sched_capture.proofs.Turns.{at_first}
+use Rattle.sched_capture.proofs.EventTurns.{at_first}
 use Rattle.sched_capture.proofs.fabric_tests.run_office.Goals as goal
 
 pub loop-comes-init : goal.loop-comes-init

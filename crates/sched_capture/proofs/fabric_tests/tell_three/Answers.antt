@@ -1,5 +1,5 @@
 use Rattle.std.proofs.Common.{arith, ◌∙◌}
-use Rattle.sched_capture.proofs.Turns.{left}
+use Rattle.sched_capture.proofs.EventTurns.{left}
 use Rattle.sched_capture.proofs.fabric_tests.tell_three.Goals as goal
 
 pub loop-event-preserved : goal.loop-event-preserved
@@ -8,8 +8,8 @@ loop-event-preserved g c =
     let e = c.in_ok-depart_line.ensures in
     record {
       stands = left g.C.Scheduler.stands _ c.args.policy.now.policy i.same c.depth.ensures.accepted _ _ _ _ (λ _. Unit {0}) (λ s h. h) e.state i.stands;
-      same = e.policy ∙ i.same;
+      same = e.asked.policy ∙ i.same;
       room = omega (arith, e.room, i.room);
       live = e.live;
-      departures = omega (arith, e.departures, i.departures);
+      departures = omega (arith, e.asked.departures, i.departures);
     }

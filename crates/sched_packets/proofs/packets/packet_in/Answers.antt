@@ -1,4 +1,4 @@
-use Rattle.sched_packets.proofs.Sending.{packet-is}
+use Rattle.sched_packets.proofs.RecordPackets.{packet-is}
 use Rattle.sched_packets.proofs.packets.packet_in.Goals as goal
 
 pub returns-clause-packet : goal.returns-clause-packet

@@ -3,10 +3,10 @@ use Rattle.outside_core.specs.Written.{Appended}
 use Rattle.outside_core.proofs.WrittenLaws.{appended_in_turn}
 use Rattle.report_defs.specs.Text.{IsCut}
 use Rattle.report_core.specs.Gathered.{text_of}
-use Rattle.outside_core.proofs.KeptLaws.{Begins-trans}
+use Rattle.outside_core.proofs.KeptLaws.{sink-then}
 use Rattle.report_core.proofs.TextLaws.{IsCut-append}
-use Rattle.sched_run.specs.Endings.{last_line}
-use Rattle.sched_run.proofs.Turning.{if_ok_turned, on_err_turned}
+use Rattle.sched_defs.specs.Report.{last_line}
+use Rattle.sched_run.proofs.StepLaws.{if_ok_turned, on_err_turned}
 use Rattle.sched_run.proofs.course.close.Goals as goal
 
 pub returns-clause-ok : goal.returns-clause-ok
@@ -21,5 +21,5 @@ returns-clause-cut g c =
     on_err_turned c.finish.result _ _ (λ cut. subst (λ (l : List ℕ). IsCut text l (g.K.Sink.written c.finish.new.sink)) (append-nil (last_line c.args.pushed c.args.popped c.args.empty c.args.held c.args.ending))
     (IsCut-append text _ (g.K.Sink.written c.finish.new.sink) _ [] c.in_ok-last.ensures.ok cut)) c.finish.ensures.cut
 
-pub returns-clause-begins : goal.returns-clause-begins
-returns-clause-begins g c = Begins-trans _ _ _ c.in_ok-last.ensures.begins c.finish.ensures.begins
+pub returns-clause-kept : goal.returns-clause-kept
+returns-clause-kept g c = sink-then _ _ _ _ _ c.in_ok-last.ensures.kept c.finish.ensures.kept

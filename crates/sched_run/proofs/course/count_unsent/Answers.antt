@@ -1,5 +1,5 @@
 use Rattle.std.proofs.Common.{[], ◌∷◌, ◌++◌, ◌∙◌, arith, length-append}
-use Rattle.sched_run.proofs.Coming.{came_both}
+use Rattle.sched_run.proofs.PacketsInTurn.{came_both}
 use Rattle.sched_run.proofs.course.count_unsent.Goals as goal
 
 pub loop-unsent-preserved : goal.loop-unsent-preserved
@@ -12,6 +12,5 @@ loop-unsent-preserved g c =
       came = (ps ++ p ∷ [], omega (arith, length-append ps (p ∷ []), i.came.1), came_both _ _ _ ps (p ∷ []) i.came.2 (rw c.in-Ok-Some.field-0-is at e.came));
       few = omega (arith, i.few, rw c.in-Ok-Some.field-0-is at e.given);
       ready = e.ready;
-      later = omega (arith, i.later, e.later);
-      policy = e.policy ∙ i.policy;
+      kept = record { policy = e.policy ∙ i.kept.policy; later = omega (arith, i.kept.later, e.later) };
     }

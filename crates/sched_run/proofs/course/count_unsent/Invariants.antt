@@ -1,6 +1,7 @@
 use Rattle.std.proofs.Common.{◌≡◌, ◌≤◌, ◌-◌, List, length}
 use Rattle.packet_defs.specs.declared.packet.Packet.{Packet}
-use Rattle.sched_run.specs.Packets.{Came}
+use Rattle.sched_defs.specs.Packets.{Came}
+use Rattle.sched_run.specs.Frames.{KeepsPackets}
 use Rattle.sched_run.proofs.course.count_unsent.Given as goal
 
 abbrev pub invariant-loop-unsent : goal.invariant-loop-unsent
@@ -10,8 +11,7 @@ invariant-loop-unsent g l =
       came : (ps : List Packet) × (length ps ≡ l.unsent) × Came (P.left l.fn.packets l.fn.source) (P.left l.packets l.source) ps;
       few : l.unsent ≤ P.given l.packets;
       ready : P.ready l.packets l.source;
-      later : P.faults l.fn.source ≤ P.faults l.source;
-      policy : P.policy l.packets ≡ P.policy l.fn.packets;
+      kept : KeepsPackets P l.fn.packets l.packets l.fn.source l.source;
     }
 
 abbrev pub decreases-loop-unsent : goal.decreases-loop-unsent

@@ -1,4 +1,4 @@
-use Rattle.sched_run.proofs.Beginning.{start_can_begin}
+use Rattle.sched_run.proofs.StartLaws.{start_can_begin}
 use Rattle.sched_run.proofs.laws.runs_begin_at_the_start.Goals as goal
 
 pub returns : goal.returns

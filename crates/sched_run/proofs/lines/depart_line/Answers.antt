@@ -6,7 +6,7 @@ use Rattle.report_core.specs.Gathered.{text_of}
 use Rattle.tree_defs.specs.Tree.{nodes}
 use Rattle.policy_defs.specs.Policy.{Policy}
 use Rattle.packet_defs.specs.declared.packet.Departed.{Departed}
-use Rattle.sched_run.proofs.Leaves.{Left, left, ranks_left, line_left, named_leaf}
+use Rattle.sched_run.proofs.LineLaws.{Left, left, ranks_left, line_left, named_leaf}
 use Rattle.sched_run.proofs.lines.depart_line.Goals as goal
 
 pub name-leaf-requires : goal.name-leaf-requires

@@ -1,5 +1,5 @@
 use Rattle.pcap_core.specs.Readers.{head_of, records_given, rest_left}
-use Rattle.sched_packets.proofs.Coming.{begins-at, refuses}
+use Rattle.sched_packets.proofs.PacketsLeft.{begins-at, refuses}
 use Rattle.sched_packets.proofs.arrivals.Arrivals.start.Goals as goal
 
 pub returns-in-Ok-clause-begins : goal.returns-in-Ok-clause-begins

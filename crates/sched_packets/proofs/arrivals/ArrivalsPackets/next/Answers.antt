@@ -3,7 +3,7 @@ use Rattle.pcap_defs.specs.Record.{most_records}
 use Rattle.pcap_core.specs.Readers.{head_of, records_given, rest_left}
 use Rattle.sched_packets.specs.Packets.{packet_of}
 use Rattle.sched_packets.specs.Arrivals.{head_in}
-use Rattle.sched_packets.proofs.Coming.{comes-at, ends, halts}
+use Rattle.sched_packets.proofs.PacketsLeft.{comes-at, ends, halts}
 use Rattle.sched_packets.proofs.arrivals.ArrivalsPackets.next.Goals as goal
 
 pub returns-in-Ok-Some-clause-came : goal.returns-in-Ok-Some-clause-came

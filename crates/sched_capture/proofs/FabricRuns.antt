@@ -1,0 +1,69 @@
+-- What a run through a fabric leaves there.
+use Rattle.std.proofs.Common.{◌≡◌, ◌+◌, ℕ, Option, None, Some, Result, Ok, Err, List, ap, ◌∙◌, subst, arith, inr}
+use Rattle.std.specs.Prelude.{IfSome, OnOk, OnErr}
+use Rattle.embed_defs.specs.Images.{image_map}
+use Rattle.embed_lift_defs.specs.Lift.{IsLift}
+use Rattle.pcap_defs.specs.Reading.{capture_of}
+use Rattle.policy_defs.specs.Policy.{Policy}
+use Rattle.sched_defs.specs.SourceState.{start}
+use Rattle.sched_defs.specs.Events.{Event, after, arrivals_in, departures_in}
+use Rattle.policy_rules.specs.Resolved.{Resolved}
+use Rattle.fabric_core.specs.declared.fabric.Fabric.{Ghosts}
+use Rattle.sched_core.specs.Origins.{Origin}
+use Rattle.sched_core.specs.Spills.{raised, spills_in}
+use Rattle.events_core.specs.declared.step.Step.{Step}
+use Rattle.sched_defs.specs.declared.ending.Ending.{Ending}
+use Rattle.outside_core.specs.declared.stop.Stop.{Stop}
+use Rattle.sched_defs.specs.Packets.{Left}
+use Rattle.sched_run.specs.Courses.{course_of}
+use Rattle.sched_run.proofs.EventCounts.{pushed_in-outcomes, popped_or_empty}
+use Rattle.sched_packets.specs.Arrivals.{Begins}
+use Rattle.sched_embedded.specs.declared.embedded.Embedded.{Embedded}
+use Rattle.sched_embedded.specs.Embedded.{EmbeddedStands, origin_of}
+use Rattle.sched_embedded.specs.Fabrics.{FabricRun, run_of, HoldsAfter, HoldsAmid, Leaves, LeavesPart}
+use Rattle.sched_embedded.specs.Laid.{Laid}
+use Rattle.sched_capture.specs.Answers.{direct_answer}
+
+module _ {F : Type 0} (fabrics : Ghosts F) (policy : Policy) (laid : Laid) (c : Embedded F) (old mid : F)
+    (origin : origin_of c ≡ record { images = laid.images; arities = laid.arities; pushes = fabrics.pushed old; pops = fabrics.popped old })
+    (no_arrivals : c.own.arrivals ≡ 0) (no_departures : c.own.departures ≡ 0) (spills : fabrics.spilled mid ≡ fabrics.spilled old) where
+  -- what a scheduler that saw no event yet made of the fabric
+  pub holds_after : (events : List Event) (c' : Embedded F) (new : F) → EmbeddedStands fabrics c' new (after policy events (start policy)) → c'.own.arrivals ≡ c.own.arrivals + arrivals_in events →
+      c'.own.departures ≡ c.own.departures + departures_in events → Some (origin_of c') ≡ Some (origin_of c) → fabrics.spilled new ≡ raised (fabrics.spilled mid) (spills_in (Some (origin_of c).images) policy events (start policy)) →
+      HoldsAfter fabrics (record { policy = policy; laid = laid; events = events }) old new
+  holds_after events c' new stood arrived departed stays spilled =
+      let one : origin_of c' ≡ origin_of c = cc in
+      let same : origin_of c' ≡ record { images = laid.images; arities = laid.arities; pushes = fabrics.pushed old; pops = fabrics.popped old } = one ∙ origin in
+      let pushes : c'.pushes_before ≡ fabrics.pushed old = ap (λ (o : Origin). o.pushes) same in
+      let pops : c'.pops_before ≡ fabrics.popped old = ap (λ (o : Origin). o.pops) same in
+      record {
+        shape = stood.shape ∙ ap (λ (o : Origin). o.arities) same;
+        lifted = subst (λ (o : Origin). IsLift (after policy events (start policy)).tree (image_map o.images) (fabrics.queues new)) same stood.lifted;
+        pushes = omega (arith, stood.pushes, pushes, arrived, no_arrivals, pushed_in-outcomes policy events (start policy));
+        pops = omega (arith, stood.pops, pops, departed, no_departures, popped_or_empty policy events (start policy));
+        spills = spilled ∙ ap (λ (t : Option ℕ). raised t (spills_in (Some (origin_of c).images) policy events (start policy))) spills
+            ∙ ap (λ (o : Origin). raised (fabrics.spilled old) (spills_in (Some o.images) policy events (start policy))) origin;
+      }
+
+-- ---- a whole run, and a part of one
+module _ {F : Type 0} (fabrics : Ghosts F) (policy : Resolved) (laid : Laid) (steps : List Step) where
+  -- the run over what was left of the capture behind its header
+  abbrev over : Left → FabricRun
+  over l = record { policy = policy.policy; laid = laid; events = (course_of policy.policy steps l (start policy.policy) 1).events }
+
+  -- what is said of that run is said of the run of the file
+  of_file : (file : List ℕ) (left : Option Left) (Q : Left → Type 0) (P : Option FabricRun → Type 0) → ((l : Left) → Q l → P (Some (over l))) → Begins policy (capture_of file) left → IfSome left Q
+      → P (run_of policy.policy laid (direct_answer policy steps file).events)
+  of_file file left Q P into begins each = rw (begins.is) (into _ (rw (begins.all) at each))
+
+  pub left_by : (r : Result Ending Stop) (told : Option (List ℕ)) (left : Option Left) (Q : Left → Type 0) (old new : F) → ((l : Left) → Q l → HoldsAfter fabrics (over l) old new) →
+      IfSome told (λ file. Begins policy (capture_of file) left) → OnOk r (IfSome left Q) → OnOk r (IfSome told (λ file. Leaves fabrics (run_of policy.policy laid (direct_answer policy steps file).events) old new))
+  left_by (Err stop) told left Q old new into begins each = tt
+  left_by (Ok e) None left Q old new into begins each = tt
+  left_by (Ok e) (Some file) left Q old new into begins each = of_file file left Q (λ run. Leaves fabrics run old new) into begins each
+
+  pub left_amid : (r : Result Ending Stop) (told : Option (List ℕ)) (left : Option Left) (Q : Left → Type 0) (old new : F) → ((l : Left) → Q l → HoldsAmid fabrics (over l) old new) →
+      IfSome told (λ file. Begins policy (capture_of file) left) → OnErr r (IfSome left Q) → OnErr r (IfSome told (λ file. LeavesPart fabrics (run_of policy.policy laid (direct_answer policy steps file).events) old new))
+  left_amid (Ok e) told left Q old new into begins each = tt
+  left_amid (Err stop) None left Q old new into begins each = tt
+  left_amid (Err stop) (Some file) left Q old new into begins each = of_file file left Q (λ run. LeavesPart fabrics run old new) (λ l q. inr (into l q)) begins each

@@ -1,0 +1,75 @@
+-- A run from the start of a policy.
+use Rattle.std.proofs.Common.{◌≡◌, refl, ℕ, Option, None, Some, Result, List, []}
+use Rattle.std.specs.Prelude.{IfSome, IfOk, OnOk, OnErr}
+use Rattle.std.proofs.lemmas.Option.{IfSome_then}
+use Rattle.std.proofs.lemmas.Result.{IfOk-weaker, on_ok_weaker, on_err_weaker}
+use Rattle.outside_core.specs.Written.{Appended, AppendedPrefix}
+use Rattle.outside_core.specs.Kept.{Begins}
+use Rattle.report_defs.specs.Text.{appended}
+use Rattle.policy_defs.specs.Policy.{Policy}
+use Rattle.policy_defs.specs.Accepted.{IsAccepted}
+use Rattle.sched_defs.specs.SourceState.{SourceState, start}
+use Rattle.sched_defs.specs.Script.{Course}
+use Rattle.sched_defs.proofs.Soundness.{sound_start}
+use Rattle.sched_core.specs.declared.scheduler.Scheduler.{Ghosts}
+use Rattle.sched_core.specs.Standing.{StandForOne}
+use Rattle.events_core.specs.declared.step.Step.{Step}
+use Rattle.sched_defs.specs.declared.ending.Ending.{Ending}
+use Rattle.outside_core.specs.declared.stop.Stop.{Stop}
+use Rattle.sched_defs.specs.Packets.{Left}
+use Rattle.sched_run.specs.Stages.{CanBegin}
+use Rattle.sched_run.specs.Courses.{course_of, OnCourse, Runs, Breaks}
+use Rattle.sched_run.proofs.StartLaws.{start_can_begin}
+use Rattle.sched_run.specs.Played.{HasMade, HasMadeSome}
+use Rattle.sched_run.proofs.JoinedEvents.{made_some_none}
+use Rattle.sched_capture.specs.Answers.{answer_of}
+use Rattle.sched_capture.proofs.WholeReports.{cut_part, whole_text}
+
+pub stand_at_start : {C U : Type 0} (stands : C → U → SourceState → Type 0) (own policy : Policy) (c : C) (u : U) (given : ℕ) → own ≡ policy → IsAccepted policy → stands c u (start policy)
+    → StandForOne stands own c u (CanBegin given)
+stand_at_start stands own policy c u given same accepted stood =
+    rw same (record { state = start policy; sound = sound_start policy accepted; stood = stood; has = start_can_begin policy given })
+
+module _ {C U : Type 0} (S : Ghosts C U) (own policy : Policy) (steps : List Step) (given : ℕ) (old : C) (under : U) (same : own ≡ policy) (accepted : IsAccepted policy) (stood : S.stands old under (start policy)) where
+  -- what holds of each course holds of that from the start
+  at_start : (P : SourceState → Course → Type 0) (left : Option Left) → OnCourse S.stands policy old under given left steps P
+      → IfSome left (λ l. P (start policy) (course_of policy steps l (start policy) 1))
+  at_start P None each = tt
+  at_start P (Some l) each = each (start policy) (sound_start policy accepted) stood (start_can_begin policy given).held
+
+  pub ending_told : (r : Result Ending Stop) (left : Option Left) → IfOk r (λ e. OnCourse S.stands own old under given left steps (λ s run. e ≡ run.ending))
+      → IfOk r (λ e. IfSome left (λ l. e ≡ (answer_of policy steps l.packets l.fault).ending))
+  ending_told r left each =
+      IfOk-weaker r (λ e. OnCourse S.stands policy old under given left steps (λ s run. e ≡ run.ending)) (λ e. IfSome left (λ l. e ≡ (answer_of policy steps l.packets l.fault).ending))
+      (λ e. at_start (λ s run. e ≡ run.ending) left) (rw same at each)
+
+  pub text_told : (r : Result Ending Stop) (left : Option Left) (new : C) (u : U) (before written : Option (List ℕ)) (held : List ℕ) → held ≡ []
+      → OnOk r (OnCourse S.stands own old under given left steps (λ s run. Runs S own run s old under new u (appended before held) written))
+      → OnOk r (IfSome left (λ l. Appended before written (answer_of policy steps l.packets l.fault).text))
+  text_told r left new u before written held none each =
+      on_ok_weaker r (λ all. IfSome_then left (at_start (λ s run. Runs S policy run s old under new u (appended before held) written) left all)
+      (λ l runs. whole_text before written held (answer_of policy steps l.packets l.fault).text none runs.report)) (rw same at each)
+
+  pub part_told : (r : Result Ending Stop) (left : Option Left) (new : C) (u : U) (before written : Option (List ℕ)) (held : List ℕ) → held ≡ [] → Begins before written
+      → OnErr r (OnCourse S.stands own old under given left steps (λ s run. Breaks S own run s old under new u (appended before held) written))
+      → OnErr r (IfSome left (λ l. AppendedPrefix before written (answer_of policy steps l.packets l.fault).text))
+  part_told r left new u before written held none begins each =
+      on_err_weaker r (λ all. IfSome_then left (at_start (λ s run. Breaks S policy run s old under new u (appended before held) written) left all)
+      (λ l breaks. cut_part before written held (answer_of policy steps l.packets l.fault).text none begins breaks.report)) (rw same at each)
+
+  pub state_told : (r : Result Ending Stop) (left : Option Left) (new : C) (u : U) (text written : Option (List ℕ))
+      → OnOk r (OnCourse S.stands own old under given left steps (λ s run. Runs S own run s old under new u text written))
+      → OnOk r (IfSome left (λ l. HasMade S policy (course_of policy steps l (start policy) 1).events (start policy) old under new u))
+  state_told r left new u text written each =
+      on_ok_weaker r (λ all. IfSome_then left (at_start (λ s run. Runs S policy run s old under new u text written) left all) (λ l runs. runs.leaves)) (rw same at each)
+
+  pub amid_told : (r : Result Ending Stop) (left : Option Left) (new : C) (u : U) (text written : Option (List ℕ))
+      → OnErr r (OnCourse S.stands own old under given left steps (λ s run. Breaks S own run s old under new u text written))
+      → OnErr r (IfSome left (λ l. HasMadeSome S policy (course_of policy steps l (start policy) 1).events (start policy) old under new u))
+  amid_told r left new u text written each =
+      on_err_weaker r (λ all. IfSome_then left (at_start (λ s run. Breaks S policy run s old under new u text written) left all) (λ l breaks. breaks.leaves)) (rw same at each)
+
+  -- nothing is made yet
+  pub unmoved : (left : Option Left) → IfSome left (λ l. HasMadeSome S policy (course_of policy steps l (start policy) 1).events (start policy) old under old under)
+  unmoved None = tt
+  unmoved (Some l) = made_some_none S policy (course_of policy steps l (start policy) 1).events (start policy) stood refl refl refl refl

@@ -1,0 +1,26 @@
+//! How a run ends.
+ghost use Rattle.std.specs.Prelude.{◌≡◌};
+ghost use Rattle.sched_defs.specs.Script.{ends_at_fault};
+
+/// How a run that isn't stopped ends.
+#[derive(Clone, Copy, PartialEq, Eq, Debug)]
+pub enum Ending {
+    /// All is done, and so many packets weren't sent.
+    Whole(u64),
+    /// The capture has a fault of this code, at the record of this number, 0 for none.
+    BadCapture(u32, u64),
+    /// The event of this number asks for a packet past the last.
+    PastLast(u64),
+}
+
+impl Ending {
+    /// The ending, if it is at a fault of the capture.
+    pub fn at_fault(self) -> Option<Ending>
+        ensures { result ≡ ends_at_fault self }
+    {
+        match self {
+            Ending::BadCapture(_, _) => Some(self),
+            Ending::Whole(_) | Ending::PastLast(_) => None,
+        }
+    }
+}

@@ -1,0 +1,17 @@
+-- What calls in a row keep.
+use Rattle.std.proofs.Common.{◌≡◌, ◌≤◌, ℕ, ◌∙◌, arith}
+use Rattle.sched_defs.specs.declared.packets.Packets as packets
+use Rattle.sched_core.specs.declared.scheduler.Scheduler.{Ghosts}
+use Rattle.sched_run.specs.declared.run.Run.{Run}
+use Rattle.sched_run.specs.Frames.{Continues, KeepsPackets}
+
+pub continues_then : {C U N : Type 0} (S : Ghosts C U) (a b c : Run C N) → Continues S a b → Continues S b c → Continues S a c
+continues_then S a b c first second = record {
+  policy = second.policy ∙ first.policy;
+  origin = second.origin ∙ first.origin;
+  names = second.names ∙ first.names;
+  room = second.room ∙ first.room;
+}
+
+pub keeps_then : {P S : Type 0} (p : packets.Ghosts P S) (a b c : P) (s t u : S) → KeepsPackets p a b s t → KeepsPackets p b c t u → KeepsPackets p a c s u
+keeps_then p a b c s t u first second = record { policy = second.policy ∙ first.policy; later = omega (arith, first.later, second.later) }

@@ -1,0 +1,123 @@
+-- Packets that come in turn, and arrive.
+use Rattle.std.proofs.Common.{◌≡◌, ◌<◌, ◌≤◌, ◌^◌, ℕ, ◌+◌, ◌-◌, Option, None, Some, List, [], ◌++◌, map, refl, sym, ap, ◌∙◌, subst, arith, append_assoc, length-append, is_some, true, false}
+use Rattle.std.proofs.lemmas.List.{map-append}
+use Rattle.packet_defs.specs.declared.packet.Packet.{Packet}
+use Rattle.policy_defs.specs.Policy.{Policy}
+use Rattle.policy_defs.specs.Accepted.{IsAccepted}
+use Rattle.sched_defs.specs.Events.{Event, Arrive, departures_in}
+use Rattle.sched_defs.specs.Numbered.{IsHeldBelow}
+use Rattle.sched_core.specs.declared.scheduler.Scheduler.{Ghosts}
+use Rattle.sched_core.specs.Standing.{StandForOne}
+use Rattle.sched_defs.specs.declared.ending.Ending.{Ending}
+use Rattle.sched_defs.specs.declared.ending.Ending.TheVariants.{Whole, BadCapture, PastLast}
+use Rattle.sched_run.specs.declared.tally.Tally.{Tally}
+use Rattle.sched_defs.specs.Packets.{Left, Came}
+use Rattle.sched_run.specs.Stages.{Stage, stage, event_of, HasRoom, Makes, Stops}
+use Rattle.sched_run.specs.Turns.{CameUntil, Arrives, WereFirst, ArrivalsStop}
+use Rattle.sched_run.proofs.MadeEvents.{stands_after, makes_none, makes_both, stops_later}
+
+pub some_is : {X : Type 0} (o : Option X) → is_some o ≡ true → (x : X) × (o ≡ Some x)
+some_is None e = cc
+some_is (Some x) e = (x, refl)
+
+pub none_is : {X : Type 0} (o : Option X) → is_some o ≡ false → o ≡ None
+none_is None e = refl
+none_is (Some x) e = cc
+
+-- fewer packets may come after one more
+pub fewer_left : (given before : ℕ) → given ≡ before + 1 → given ≤ 4294967295 → 4294967296 - given < 4294967296 - before
+fewer_left given before one few = omega (arith, one, few)
+
+pub none_first : (before : Option Left) → WereFirst before []
+none_first None = tt
+none_first (Some l) = (l.packets, refl)
+
+pub one_first : (before after : Option Left) (ps : List Packet) → Came before after ps → WereFirst before ps
+one_first None after ps came = tt
+one_first (Some l) None ps came = absurd came
+one_first (Some l) (Some m) ps came = (m.packets, sym came.0)
+
+-- packets, and then some more
+pub came_both : (a b c : Option Left) (ps qs : List Packet) → Came a b ps → Came b c qs → Came a c (ps ++ qs)
+came_both None b c ps qs first second = tt
+came_both (Some l) None c ps qs first second = absurd first
+came_both (Some l) (Some m) None ps qs first second = absurd second
+came_both (Some l) (Some m) (Some n) ps qs first second = (
+  first.0 ∙ ap (λ (x : List Packet). ps ++ x) second.0 ∙ sym (append_assoc ps qs n.packets),
+  first.1 ∙ second.1,
+)
+
+pub came_none : (a : Option Left) → Came a a []
+came_none None = tt
+came_none (Some l) = (refl, refl)
+
+first_both : (a b : Option Left) (ps qs : List Packet) → Came a b ps → WereFirst b qs → WereFirst a (ps ++ qs)
+first_both None b ps qs came first = tt
+first_both (Some l) None ps qs came first = absurd came
+first_both (Some l) (Some m) ps qs came first = (first.0, append_assoc ps qs first.0 ∙ ap (λ (x : List Packet). ps ++ x) first.1 ∙ sym came.0)
+
+until_both : (e : Ending) (event : ℕ) (a b c : Option Left) (ps qs : List Packet) → Came a b ps → CameUntil (Some e) event b c qs → CameUntil (Some e) event a c (ps ++ qs)
+until_both (Whole n) event a b c ps qs came until = absurd until
+until_both (PastLast n) event a b c ps qs came until = (until.0, came_both a b c ps qs came until.1, until.2)
+until_both (BadCapture x y) event None b c ps qs came until = tt
+until_both (BadCapture x y) event (Some l) None c ps qs came until = absurd came
+until_both (BadCapture x y) event (Some l) (Some m) c ps qs came until =
+    (came.0 ∙ ap (λ (z : List Packet). ps ++ z) until.0, came.1 ∙ until.1)
+
+-- ---- what the next call needs
+module _ {C U : Type 0} (S : Ghosts C U) (policy : Policy) (accepted : IsAccepted policy) where
+  pub one_after : (es : List Event) (old new : Stage C U) → new.given + old.tally.pushed ≡ old.given + new.tally.pushed → Makes S policy es old new →
+      StandForOne S.stands policy old.scheduler old.under (λ s. IsHeldBelow (old.given + 1) s.held) → StandForOne S.stands policy new.scheduler new.under (λ s. IsHeldBelow (new.given + 1) s.held)
+  one_after es old new given made one =
+      let at = stands_after S policy accepted es old new new.given one.state made (omega (arith, given, made.pushed)) (record { sound = one.sound; stood = one.stood; below = one.has }) in
+      record { state = _; sound = at.sound; stood = at.stood; has = at.below }
+
+  pub room_after : (es : List Event) (old new : Stage C U) → new.given + old.tally.pushed ≡ old.given + new.tally.pushed → new.given ≤ 4294967295 → old.tally.asked + departures_in es ≤ 2 ^ 34 → Makes S policy es old new →
+      StandForOne S.stands policy old.scheduler old.under (λ s. IsHeldBelow (old.given + 1) s.held) →
+      HasRoom (S.arrivals old.scheduler) (S.departures old.scheduler) old.given old.tally → HasRoom (S.arrivals new.scheduler) (S.departures new.scheduler) new.given new.tally
+  room_after es old new given few short made one room =
+      let played = made.played one.state one.sound one.stood one.has in
+      record {
+        arrivals_fit = omega (arith, played.leaves.arrived, made.pushed, room.arrivals_fit);
+        departures_fit = omega (arith, played.leaves.departed, made.asked, room.departures_fit);
+        pushed = omega (arith, given, room.pushed);
+        few = few;
+        few_asked = omega (arith, made.asked, short);
+      }
+
+  -- ---- arrivals in a row
+  pub arrives_more : (n : ℕ) (a b c : Option Left) (old mid new : Stage C U) → mid.given + old.tally.pushed ≡ old.given + mid.tally.pushed → Arrives S policy n None a b old mid → Arrives S policy 1 None b c mid new → Arrives S policy (n + 1) None a c old new
+  arrives_more n a b c old mid new given first second = record {
+    packets = first.packets ++ second.packets;
+    count = omega (arith, length-append first.packets second.packets, first.count, second.count);
+    came = came_both a b c first.packets second.packets first.came second.came;
+    made = subst (λ (es : List Event). Makes S policy es old new) (sym (map-append Arrive first.packets second.packets))
+        (makes_both S policy accepted (map Arrive first.packets) (map Arrive second.packets) old mid new (omega (arith, given, first.made.pushed)) first.made second.made);
+  }
+
+  pub arrives_end : (n m : ℕ) (e : Ending) (a b c : Option Left) (old mid new : Stage C U) → n < m → mid.given + old.tally.pushed ≡ old.given + mid.tally.pushed → Arrives S policy n None a b old mid → Arrives S policy 1 (Some e) b c mid new → Arrives S policy m (Some e) a c old new
+  arrives_end n m e a b c old mid new below given first second = record {
+    packets = first.packets ++ second.packets;
+    count = omega (arith, length-append first.packets second.packets, first.count, second.count);
+    came = until_both e (event_of new.tally) a b c first.packets second.packets first.came second.came;
+    made = subst (λ (es : List Event). Makes S policy es old new) (sym (map-append Arrive first.packets second.packets))
+        (makes_both S policy accepted (map Arrive first.packets) (map Arrive second.packets) old mid new (omega (arith, given, first.made.pushed)) first.made second.made);
+  }
+
+  pub arrivals_stop : (n m : ℕ) (a b : Option Left) (old mid : Stage C U) (c : C) (u : U) (written : Option (List ℕ)) → n < m → mid.given + old.tally.pushed ≡ old.given + mid.tally.pushed → Arrives S policy n None a b old mid → ArrivalsStop S policy 1 b mid c u written → ArrivalsStop S policy m a old c u written
+  arrivals_stop n m a b old mid c u written below given first second = record {
+    packets = first.packets ++ second.packets;
+    count = omega (arith, length-append first.packets second.packets, first.count, second.count);
+    first = first_both a b first.packets second.packets first.came second.first;
+    stop = subst (λ (es : List Event). Stops S policy es old c u written) (sym (map-append Arrive first.packets second.packets))
+        (stops_later S policy accepted (map Arrive first.packets) (map Arrive second.packets) old mid c u written (omega (arith, given, first.made.pushed)) first.made second.stop);
+  }
+
+module _ {C U : Type 0} (S : Ghosts C U) (policy : Policy) where
+  pub arrives_none : (a : Option Left) (c : C) (u : U) (text : Option (List ℕ)) (given : ℕ) (tally : Tally) → Arrives S policy 0 None a a (stage c u text given tally) (stage c u text given tally)
+  arrives_none a c u text given tally = record {
+    packets = [];
+    count = refl;
+    came = came_none a;
+    made = makes_none S policy c u text given given tally;
+  }

@@ -1,0 +1,180 @@
+-- The report of a course, and how it ends.
+use Rattle.std.proofs.Common.{◌≡◌, ◌≤◌, ℕ, ◌+◌, ◌-◌, Option, None, Some, List, [], ◌++◌, length, refl, sym, ap, ◌∙◌, subst, arith, append_assoc, append-nil}
+use Rattle.std.specs.Prelude.{IfSome}
+use Rattle.outside_core.specs.Written.{Appended}
+use Rattle.outside_core.proofs.WrittenLaws.{appended_in_turn}
+use Rattle.report_defs.specs.Text.{IsCut}
+use Rattle.report_core.proofs.TextLaws.{IsCut-append, IsCut-longer}
+use Rattle.tree_defs.specs.SourceTree.{size}
+use Rattle.policy_defs.specs.Policy.{Policy}
+use Rattle.policy_defs.specs.Accepted.{IsAccepted}
+use Rattle.sched_defs.specs.SourceState.{SourceState}
+use Rattle.sched_defs.specs.Sound.{IsSound}
+use Rattle.sched_defs.specs.Events.{Event, Outcome, after, outcomes, arrivals_in}
+use Rattle.sched_defs.specs.Script.{Course}
+use Rattle.sched_defs.specs.Numbered.{IsHeldBelow}
+use Rattle.sched_defs.specs.Report.{pushed_in, popped_in, empty_in, last_line, course_report}
+use Rattle.sched_core.specs.declared.scheduler.Scheduler.{Ghosts}
+use Rattle.sched_core.specs.Standing.{StandForOne, ForEachState}
+use Rattle.events_core.specs.declared.step.Step as line
+use Rattle.sched_run.specs.Played.{told, HasMade, StopsIn}
+use Rattle.sched_run.proofs.JoinedEvents.{told-append}
+use Rattle.sched_defs.specs.declared.ending.Ending.{Ending}
+use Rattle.sched_run.specs.declared.tally.Tally.{Tally}
+use Rattle.sched_defs.specs.Packets.{Left}
+use Rattle.sched_run.specs.Stages.{Stage, event_of, FromEach, CanBegin, Makes}
+use Rattle.sched_run.specs.Turns.{StopsAmid}
+use Rattle.sched_run.specs.Courses.{course_of, IsCourse, Courses, OnCourse, Runs, Breaks}
+use Rattle.sched_run.proofs.MadeEvents.{can_make, stands_after}
+use Rattle.sched_run.proofs.EventCounts.{pushed_in-outcomes, popped_or_held, popped_or_empty}
+
+-- the numbers of the last line
+pub record IsTallied (policy : Policy) (events : List Event) (s : SourceState) (pushed popped empty held : ℕ) : Type 0 where
+  pub same_pushed : pushed_in (outcomes policy events s) ≡ pushed
+  pub same_popped : popped_in (outcomes policy events s) ≡ popped
+  pub same_empty : empty_in (outcomes policy events s) ≡ empty
+  pub same_held : size (after policy events s).tree ≡ held
+
+-- the lines of the events and the last line are the report
+report_is : (policy : Policy) (events : List Event) (e : Ending) (run : Course) (s : SourceState) (pushed popped empty held : ℕ) → IsCourse events e run → IsTallied policy events s pushed popped empty held →
+    told policy 1 events s ++ last_line pushed popped empty held e ≡ course_report policy run s
+report_is policy events e run s pushed popped empty held is counts =
+    let numbers : last_line (pushed_in (outcomes policy events s)) (popped_in (outcomes policy events s)) (empty_in (outcomes policy events s)) (size (after policy events s).tree) e ≡ last_line pushed popped empty held e =
+    rw (counts.same_pushed, counts.same_popped, counts.same_empty, counts.same_held) refl in
+    let last : last_line pushed popped empty held e ≡ last_line (pushed_in (outcomes policy events s)) (popped_in (outcomes policy events s)) (empty_in (outcomes policy events s)) (size (after policy events s).tree) run.ending =
+    sym numbers ∙ ap (last_line (pushed_in (outcomes policy events s)) (popped_in (outcomes policy events s)) (empty_in (outcomes policy events s)) (size (after policy events s).tree)) is.ends in
+    ap (λ (l : List ℕ). told policy 1 events s ++ l) last
+    ∙ ap (λ (es : List Event). told policy 1 es s ++ last_line (pushed_in (outcomes policy es s)) (popped_in (outcomes policy es s)) (empty_in (outcomes policy es s)) (size (after policy es s).tree) run.ending) is.are
+
+module _ {C U : Type 0} (S : Ghosts C U) (policy : Policy) (accepted : IsAccepted policy) where
+  pub tallied : (events : List Event) (old new : Stage C U) (first held : ℕ) (s : SourceState) → old.tally.pushed ≡ 0 → old.tally.asked ≡ 0 → Makes S policy events old new →
+      IsSound policy s → S.stands old.scheduler old.under s → IsHeldBelow (old.given + 1) s.held → first ≡ size s.tree → held ≡ size (after policy events s).tree →
+      IsTallied policy events s new.tally.pushed (first + new.tally.pushed - held) (new.tally.asked - (first + new.tally.pushed - held)) held
+  tallied events old new first held s none_pushed none_asked made sound stood below begun still =
+      let both = popped_or_held policy events s accepted sound (can_make policy events (old.given + 1) s made.next.numbered made.next.sendable below) in
+      let asked = popped_or_empty policy events s in
+      let pushed = pushed_in-outcomes policy events s in
+      record {
+        same_pushed = omega (arith, pushed, made.pushed, none_pushed);
+        same_popped = omega (arith, both, begun, still, made.pushed, none_pushed);
+        same_empty = omega (arith, both, asked, begun, still, made.pushed, made.asked, none_pushed, none_asked);
+        same_held = sym still;
+      }
+
+-- the numbers can be told of each other
+pub record Fitting (first held : ℕ) (tally : Tally) : Type 0 where
+  pub few_first : first ≤ 4294967296
+  pub few_pushed : tally.pushed ≤ 4294967295
+  pub held_in : held ≤ first + tally.pushed
+  pub popped_in : first + tally.pushed - held ≤ tally.asked
+
+module _ {C U : Type 0} (S : Ghosts C U) (policy : Policy) (accepted : IsAccepted policy) where
+  -- how many are held, from each state
+  abbrev Held : ℕ → C → U → Type 0
+  Held n c u = ForEachState S.stands policy c u (λ s. n ≡ size s.tree)
+
+  held_then : (events : List Event) (old new : Stage C U) (held : ℕ) (s : SourceState) → Makes S policy events old new → IsSound policy s → S.stands old.scheduler old.under s → IsHeldBelow (old.given + 1) s.held →
+      Held held new.scheduler new.under → held ≡ size (after policy events s).tree
+  held_then events old new held s made sound stood below still =
+      let at = stands_after S policy accepted events old new (old.given + arrivals_in events) s made refl (record { sound = sound; stood = stood; below = below }) in
+      still (after policy events s) at.sound at.stood
+
+  pub fitting : (events : List Event) (old new : Stage C U) (first held : ℕ) → StandForOne S.stands policy old.scheduler old.under (CanBegin old.given) → old.tally.pushed ≡ 0 → old.tally.asked ≡ 0 → new.tally.pushed ≤ 4294967295 → Makes S policy events old new →
+      Held first old.scheduler old.under → Held held new.scheduler new.under → Fitting first held new.tally
+  fitting events old new first held one none_pushed none_asked few made begun still =
+      let s = one.state in
+      let then = held_then events old new held s made one.sound one.stood one.has.held still in
+      let was = begun s one.sound one.stood in
+      let both = popped_or_held policy events s accepted one.sound (can_make policy events (old.given + 1) s made.next.numbered made.next.sendable one.has.held) in
+      let asked = popped_or_empty policy events s in
+      record {
+        few_first = omega (arith, was, one.has.few);
+        few_pushed = few;
+        held_in = omega (arith, was, then, both, made.pushed, none_pushed);
+        popped_in = omega (arith, was, then, both, asked, made.pushed, made.asked, none_pushed, none_asked);
+      }
+
+module _ {C U : Type 0} (S : Ghosts C U) (policy : Policy) where
+  -- the last line is written behind the lines of the events
+  pub runs_done : (events : List Event) (e : Ending) (run : Course) (old new : Stage C U) (s : SourceState) (pushed popped empty held : ℕ) (written : Option (List ℕ)) → event_of old.tally ≡ 1 → Makes S policy events old new →
+      IsSound policy s → S.stands old.scheduler old.under s → IsHeldBelow (old.given + 1) s.held → IsCourse events e run → IsTallied policy events s pushed popped empty held →
+      Appended new.text written (last_line pushed popped empty held e) → Runs S policy run s old.scheduler old.under new.scheduler new.under old.text written
+  runs_done events e run old new s pushed popped empty held written one made sound stood below is counts last =
+      let played = made.played s sound stood below in
+      let lines : Appended old.text new.text (told policy 1 events s) = subst (λ (n : ℕ). Appended old.text new.text (told policy n events s)) one played.lines in
+      record {
+        leaves = subst (λ (es : List Event). HasMade S policy es s old.scheduler old.under new.scheduler new.under) is.are played.leaves;
+        report = subst (Appended old.text written) (report_is policy events e run s pushed popped empty held is counts) (appended_in_turn old.text new.text written (told policy 1 events s) (last_line pushed popped empty held e) lines last);
+      }
+
+  -- the last line isn't written whole
+  pub breaks_last : (events : List Event) (e : Ending) (run : Course) (old new : Stage C U) (s : SourceState) (pushed popped empty held : ℕ) (written : Option (List ℕ)) → event_of old.tally ≡ 1 → Makes S policy events old new →
+      IsSound policy s → S.stands old.scheduler old.under s → IsHeldBelow (old.given + 1) s.held → IsCourse events e run → IsTallied policy events s pushed popped empty held →
+      IsCut new.text (last_line pushed popped empty held e) written → Breaks S policy run s old.scheduler old.under new.scheduler new.under old.text written
+  breaks_last events e run old new s pushed popped empty held written one made sound stood below is counts last =
+      let played = made.played s sound stood below in
+      let lines : Appended old.text new.text (told policy 1 events s) = subst (λ (n : ℕ). Appended old.text new.text (told policy n events s)) one played.lines in
+      record {
+        leaves = record { made = events; unmade = []; whole = append-nil events ∙ is.are; leaves = played.leaves };
+        report = subst (λ (l : List ℕ). IsCut old.text l written) (report_is policy events e run s pushed popped empty held is counts) (IsCut-append old.text new.text written (told policy 1 events s) (last_line pushed popped empty held e) lines last);
+      }
+
+  -- the events stopped
+  pub breaks_amid : (steps : List line.Step) (before : Option Left) (old : Stage C U) (c : C) (u : U) (written : Option (List ℕ)) → event_of old.tally ≡ 1 →
+      StopsAmid S policy (λ l s. (course_of policy steps l s (event_of old.tally)).events) before old c u written →
+      OnCourse S.stands policy old.scheduler old.under old.given before steps (λ s run. Breaks S policy run s old.scheduler old.under c u old.text written)
+  breaks_amid steps before old c u written one amid = by_left before amid.first
+    where
+      by_left : (a : Option Left) → IfSome a (λ l. FromEach S policy old (λ s. (others : List Event) × (amid.events ++ others ≡ (course_of policy steps l s (event_of old.tally)).events)))
+          → OnCourse S.stands policy old.scheduler old.under old.given a steps (λ s run. Breaks S policy run s old.scheduler old.under c u old.text written)
+      by_left None first = tt
+      by_left (Some l) first = λ s sound stood below.
+          let run : Course = course_of policy steps l s 1 in
+          let front = first s sound stood below in
+          let whole : amid.events ++ front.0 ≡ run.events = front.1 ∙ ap (λ (n : ℕ). (course_of policy steps l s n).events) one in
+          let stop : StopsIn S policy 1 amid.events s old.scheduler old.under c u old.text written = subst (λ (n : ℕ). StopsIn S policy n amid.events s old.scheduler old.under c u old.text written) one (amid.stop.stopped s sound stood below) in
+          let more : List ℕ = told policy (1 + length amid.events) front.0 (after policy amid.events s) in
+          let last : List ℕ = last_line (pushed_in (outcomes policy run.events s)) (popped_in (outcomes policy run.events s)) (empty_in (outcomes policy run.events s)) (size (after policy run.events s).tree) run.ending in
+          let text : told policy 1 amid.events s ++ (more ++ last) ≡ course_report policy run s =
+          sym (append_assoc (told policy 1 amid.events s) more last)
+          ∙ ap (λ (t : List ℕ). t ++ last) (sym (told-append policy 1 amid.events front.0 s) ∙ ap (λ (es : List Event). told policy 1 es s) whole) in
+          record {
+            leaves = record {
+              made = stop.leaves.made;
+              unmade = stop.leaves.unmade ++ front.0;
+              whole = sym (append_assoc stop.leaves.made stop.leaves.unmade front.0) ∙ ap (λ (es : List Event). es ++ front.0) stop.leaves.whole ∙ whole;
+              leaves = stop.leaves.leaves;
+            };
+            report = subst (λ (t : List ℕ). IsCut old.text t written) text (IsCut-longer old.text written (told policy 1 amid.events s) (more ++ last) stop.lines);
+          }
+
+module _ {C U : Type 0} (S : Ghosts C U) (policy : Policy) (accepted : IsAccepted policy) (steps : List line.Step) (before : Option Left) (e : Ending) (old new : Stage C U) (first held : ℕ)
+    (none_pushed : old.tally.pushed ≡ 0) (none_asked : old.tally.asked ≡ 0) (courses : Courses S policy steps e before old new)
+    (begun : ForEachState S.stands policy old.scheduler old.under (λ s. first ≡ size s.tree)) (still : ForEachState S.stands policy new.scheduler new.under (λ s. held ≡ size s.tree)) where
+  one_first : event_of old.tally ≡ 1
+  one_first = omega (arith, none_pushed, none_asked)
+
+  tallied_at : (s : SourceState) → IsSound policy s → S.stands old.scheduler old.under s → IsHeldBelow (old.given + 1) s.held → IsTallied policy courses.events s new.tally.pushed (first + new.tally.pushed - held) (new.tally.asked - (first + new.tally.pushed - held)) held
+  tallied_at s sound stood below = tallied S policy accepted courses.events old new first held s none_pushed none_asked courses.made sound stood below (begun s sound stood) (held_then S policy accepted courses.events old new held s courses.made sound stood below still)
+
+  pub runs_told : (written : Option (List ℕ)) → Appended new.text written (last_line new.tally.pushed (first + new.tally.pushed - held) (new.tally.asked - (first + new.tally.pushed - held)) held e) →
+      OnCourse S.stands policy old.scheduler old.under old.given before steps (λ s run. Runs S policy run s old.scheduler old.under new.scheduler new.under old.text written)
+  runs_told written last = by_left before courses.told
+    where
+      by_left : (a : Option Left) → IfSome a (λ l. FromEach S policy old (λ s. IsCourse courses.events e (course_of policy steps l s (event_of old.tally))))
+          → OnCourse S.stands policy old.scheduler old.under old.given a steps (λ s run. Runs S policy run s old.scheduler old.under new.scheduler new.under old.text written)
+      by_left None told = tt
+      by_left (Some l) told = λ s sound stood below.
+          let is : IsCourse courses.events e (course_of policy steps l s 1) = subst (λ (n : ℕ). IsCourse courses.events e (course_of policy steps l s n)) one_first (told s sound stood below) in
+          runs_done S policy courses.events e (course_of policy steps l s 1) old new s _ _ _ _ written one_first courses.made sound stood below is (tallied_at s sound stood below) last
+
+  pub breaks_told : (written : Option (List ℕ)) → IsCut new.text (last_line new.tally.pushed (first + new.tally.pushed - held) (new.tally.asked - (first + new.tally.pushed - held)) held e) written →
+      OnCourse S.stands policy old.scheduler old.under old.given before steps (λ s run. Breaks S policy run s old.scheduler old.under new.scheduler new.under old.text written)
+  breaks_told written last = by_left before courses.told
+    where
+      by_left : (a : Option Left) → IfSome a (λ l. FromEach S policy old (λ s. IsCourse courses.events e (course_of policy steps l s (event_of old.tally))))
+          → OnCourse S.stands policy old.scheduler old.under old.given a steps (λ s run. Breaks S policy run s old.scheduler old.under new.scheduler new.under old.text written)
+      by_left None told = tt
+      by_left (Some l) told = λ s sound stood below.
+          let is : IsCourse courses.events e (course_of policy steps l s 1) = subst (λ (n : ℕ). IsCourse courses.events e (course_of policy steps l s n)) one_first (told s sound stood below) in
+          breaks_last S policy courses.events e (course_of policy steps l s 1) old new s _ _ _ _ written one_first courses.made sound stood below is (tallied_at s sound stood below) last

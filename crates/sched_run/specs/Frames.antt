@@ -1,0 +1,45 @@
+-- What each call of a run needs, and what it keeps.
+use Rattle.std.specs.Prelude.{◌≡◌, ◌≤◌, ℕ, ◌+◌, IsTrue}
+use Rattle.tree_defs.specs.Tree.{depth}
+use Rattle.policy_defs.specs.Policy.{Policy}
+use Rattle.policy_defs.specs.Accepted.{IsAccepted}
+use Rattle.sched_defs.specs.SourceState.{SourceState}
+use Rattle.sched_defs.specs.Packets.{most_packets}
+use Rattle.sched_defs.specs.declared.packets.Packets as packets
+use Rattle.sched_core.specs.declared.scheduler.Scheduler.{Ghosts}
+use Rattle.sched_core.specs.Standing.{StandForOne, ForEachState}
+use Rattle.sched_run.specs.declared.run.Run.{Run}
+use Rattle.sched_run.specs.declared.tally.Tally.{Tally}
+
+-- the policy is accepted, the names are those of its nodes, a path has room, and the report can be written
+pub record IsSet {C U N : Type 0} (S : Ghosts C U) (named : N → Policy) (run : Run C N) : Type 0 where
+  pub accepted : IsAccepted (S.policy run.scheduler)
+  pub names : named run.names.now ≡ S.policy run.scheduler
+  pub room : depth (S.policy run.scheduler).tree ≤ run.trace.room
+  pub live : IsTrue run.report.live
+
+-- the policy, the place of the queues, the names and the room for a path stay
+pub record Continues {C U N : Type 0} (S : Ghosts C U) (old new : Run C N) : Type 0 where
+  pub policy : S.policy new.scheduler ≡ S.policy old.scheduler
+  pub origin : S.origin new.scheduler ≡ S.origin old.scheduler
+  pub names : new.names.now ≡ old.names.now
+  pub room : new.trace.room ≡ old.trace.room
+
+-- the scheduler and what is under it stand for a sound state of which P holds
+abbrev pub Stand : {C U N : Type 0} → Ghosts C U → Run C N → U → (SourceState → Type 0) → Type 0
+Stand S run u P = StandForOne S.stands (S.policy run.scheduler) run.scheduler u P
+
+-- P holds of each sound state for which they stand
+abbrev pub FromAll : {C U N : Type 0} → Ghosts C U → Run C N → U → (SourceState → Type 0) → Type 0
+FromAll S run u P = ForEachState S.stands (S.policy run.scheduler) run.scheduler u P
+
+-- packets that have the same policy still, from a source whose count of faults doesn't fall
+pub record KeepsPackets {P S : Type 0} (p : packets.Ghosts P S) (old new : P) (source source' : S) : Type 0 where
+  pub policy : p.policy new ≡ p.policy old
+  pub later : p.faults source ≤ p.faults source'
+
+-- as many packets came as were pushed, and more may come
+pub record IsFurther {P S : Type 0} (p : packets.Ghosts P S) (old new : P) (source : S) (before now : Tally) : Type 0 where
+  pub ready : p.ready new source
+  pub given : p.given new + before.pushed ≡ p.given old + now.pushed
+  pub few : p.given new ≤ most_packets
