@@ -61,7 +61,7 @@ pub(crate) fn reserve(eaches: &mut Eaches, who: &Who, first: &[u64]) -> Result<(
     }
 }
 
-#[tactic(auto, using(crate::proofs::Flows::get_same))]
+#[tactic(auto, using(crate::proofs::FlowMaps::get_same))]
 fn add_flow(
     flows: &mut IndexMap<FlowKey, Vec<u64>>,
     flow: FlowKey,
@@ -143,7 +143,7 @@ fn run_for_child(
     run(transaction, assigns, env, rank, keeps, values)
 }
 
-#[tactic(auto, using(crate::proofs::Flows::get_same))]
+#[tactic(auto, using(crate::proofs::FlowMaps::get_same))]
 fn run_for_flow(
     flows: &mut IndexMap<FlowKey, Vec<u64>>,
     flow: FlowKey,
