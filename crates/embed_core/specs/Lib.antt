@@ -1,4 +1,5 @@
 pub mod Range
+pub mod Blocks
 pub mod ImageOrder
 pub mod Shrinking
 pub mod Picks

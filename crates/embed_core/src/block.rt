@@ -3,11 +3,12 @@ ghost use Rattle.std.specs.Prelude.{◌≡◌, ◌+◌, ◌<◌, length, IfOk};
 ghost use Rattle.tree_defs.specs.Tree.{trees_of};
 ghost use Rattle.tree_defs.specs.Topology.{IsWithin};
 ghost use Rattle.target_defs.specs.Levels.{down_from};
-ghost use Rattle.embed_defs.specs.Need.{FitsBelow, leaves_below, needs_at};
-ghost use Rattle.embed_defs.specs.Canonical.{IsAmong, digits, start_of, children, comes_before};
+ghost use Rattle.embed_defs.specs.Need.{FitsBelow, needs_at};
+ghost use Rattle.embed_defs.specs.Canonical.{IsAmong, digits, children, comes_before};
 ghost use Rattle.embed_defs.specs.Counting.{value};
 ghost use Rattle.target_defs.specs.Target.{IsInRange};
 ghost use Rattle.embed_core.specs.Range.{levels_of};
+ghost use Rattle.embed_core.specs.Blocks.{start_digits, PassesBlock};
 
 use crate::needs::Needs;
 use std::alloc::{AllocError, Global};
@@ -34,7 +35,7 @@ pub fn block_start(
     requires child { IsAmong child (children (trees_of siblings.now) 0) }
     requires fits { FitsBelow (levels_of target.now) (needs_at (trees_of siblings.now)) height }
     requires range { IsInRange target.now.arities target.now.above }
-    ensures start { IfOk result (λ v. v.items ≡ digits (levels_of target.now) height (start_of (levels_of target.now) (children (trees_of siblings.now) 0) child)) }
+    ensures start { IfOk result (λ v. v.items ≡ start_digits (levels_of target.now) height (trees_of siblings.now) child) }
 {
     let mut start = vec![in alloc; 0; height]?;
     for (index, sibling) in siblings.iter().enumerate() {
@@ -52,7 +53,7 @@ fn skip_block(digits: &mut [u32], need: usize, target: &Target)
     requires lower { need < length digits.old }
     requires range { IsInRange target.now.arities target.now.above }
     ensures digits { IsWithin (down_from (levels_of target.now) (length digits.new)) digits.new }
-    ensures value { value (levels_of target.now) digits.old + leaves_below (levels_of target.now) need < leaves_below (levels_of target.now) (length digits.old) → value (levels_of target.now) digits.new ≡ value (levels_of target.now) digits.old + leaves_below (levels_of target.now) need }
+    ensures value { PassesBlock (levels_of target.now) need digits.old digits.new }
 {
     let height = digits.len();
     for level in need..height {

@@ -10,7 +10,7 @@ ghost use Rattle.embed_defs.specs.Canonical.{canonical, IsCanonical};
 ghost use Rattle.embed_defs.specs.Images.{image_at, image_map};
 ghost use Rattle.embed_lift_defs.specs.Lift.{lift_ranks, picked_ranks};
 ghost use Rattle.embed_lift_defs.specs.GoodMaps.{IsGoodMap, IsDeep, IsNested};
-ghost use Rattle.embed_core.specs.Range.{levels_of};
+ghost use Rattle.embed_core.specs.Range.{levels_of, FitsInLevels, most_nodes};
 ghost use Rattle.embed_core.specs.Picks.{IsLeafImage, PicksOnto};
 
 use crate::block::block_start;
@@ -38,6 +38,7 @@ impl Model for Map {
     ghost use Rattle.tree_defs.specs.Codes.{tree_code};
     ghost use Rattle.tree_core.specs.TreeContents.{branch};
     ghost use Rattle.embed_core.specs.Shrinking.{most_le-nodes};
+    ghost use Rattle.embed_core.specs.Range.{most_nodes};
     ghost use Rattle.embed_core.specs.ImageOrder.{IsImageOrder};
 
     ghost Value = { Tree Address };
@@ -46,7 +47,7 @@ impl Model for Map {
 
     ghost view = { λ a. branch a.image.items (trees_of a.children.items) };
 
-    ghost invariant = { λ a. (length a.children.items ≤ 1024) × IsImageOrder a.children.items a.order.items };
+    ghost invariant = { λ a. (length a.children.items ≤ most_nodes) × IsImageOrder a.children.items a.order.items };
 
     ghost size = { nodes };
 
@@ -75,7 +76,8 @@ impl From<AllocError> for EmbedFault {
 impl Map {
     /// The image of the node at an address.
     pub fn image(&self, address: &[u32]) -> Option<&[u32]>
-        ensures image { MatchOption result (image_at self.now address.now ≡ None) (λ image. image_at self.now address.now ≡ Some image.now) }
+        ensures image { MatchOption result (image_at self.now address.now ≡ None)
+            (λ image. image_at self.now address.now ≡ Some image.now) }
     {
         match address {
             [] => Some(&self.image),
@@ -154,7 +156,7 @@ impl Map {
         requires needs { HoldsNeeds (levels_of target.now) needs.now }
         requires room { HasHeight height needs.now }
         requires range { IsInRange target.now.arities target.now.above }
-        requires few { nodes needs.now ≤ 1024 }
+        requires few { nodes needs.now ≤ most_nodes }
         ensures canonical { IfOk result (λ map. map ≡ canonical (levels_of target.now) height image.items needs.now) }
     {
         let siblings = needs.children();
@@ -213,7 +215,7 @@ pub fn pick(map: &Map, digits: &[u32], ranks: &[u64], taken: &mut Taken)
 /// The canonical map of a topology into a target's complete tree.
 pub fn embed(alloc: Global, topo: &Topo, target: &Target) -> Result<Map, EmbedFault>
     requires branched { IsBranched (topology topo.now) }
-    requires few { nodes (topology topo.now) ≤ 1024 }
+    requires few { nodes (topology topo.now) ≤ most_nodes }
     requires range { IsInRange target.now.arities target.now.above }
     ensures canonical { IfOk result (λ map. IsCanonical (levels_of target.now) (length target.now.arities) (topology topo.now) map) }
     ensures shape { IfOk result (λ map. SameShape (topology topo.now) map) }
@@ -233,10 +235,10 @@ pub fn embed(alloc: Global, topo: &Topo, target: &Target) -> Result<Map, EmbedFa
 /// of further ones.
 pub fn least_height(alloc: Global, topo: &Topo, target: &Target) -> Result<u32, AllocError>
     requires branched { IsBranched (topology topo.now) }
-    requires few { nodes (topology topo.now) ≤ 1024 }
+    requires few { nodes (topology topo.now) ≤ most_nodes }
     requires range { IsInRange target.now.arities target.now.above }
     ensures need { IfOk result (λ height. IsNeed (levels_of target.now) (topology topo.now) height) }
-    ensures least { IfOk result (λ height. IsLeast (λ h. HasEmbedding (topology topo.now) (complete (lowest target.now.arities target.now.above h))) height) }
+    ensures least { IfOk result (λ height. IsLeast (FitsInLevels target.now (topology topo.now)) height) }
 {
     let needs = Needs::of(alloc, topo, target)?;
     Ok(needs.need())

@@ -6,7 +6,7 @@ ghost use Rattle.tree_core.specs.Shape.{topology};
 ghost use Rattle.tree_core.specs.TreeContents.{branch};
 ghost use Rattle.embed_defs.specs.Need.{IsLeast, FitsBelow, AreNeedsOf, HasHeight, enough};
 ghost use Rattle.target_defs.specs.Target.{IsInRange};
-ghost use Rattle.embed_core.specs.Range.{levels_of};
+ghost use Rattle.embed_core.specs.Range.{levels_of, most_nodes};
 
 use std::alloc::{AllocError, Global};
 use std::marker::Model;
@@ -44,7 +44,7 @@ impl Needs {
     /// The needs of all nodes of a topology.
     pub fn of(alloc: Global, topo: &Topo, target: &Target) -> Result<Needs, AllocError>
         requires branched { IsBranched (topology topo.now) }
-        requires few { nodes (topology topo.now) ≤ 1024 }
+        requires few { nodes (topology topo.now) ≤ most_nodes }
         requires range { IsInRange target.now.arities target.now.above }
         ensures needs { IfOk result (λ needs. AreNeedsOf (levels_of target.now) (topology topo.now) needs) }
     {

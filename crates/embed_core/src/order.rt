@@ -2,13 +2,14 @@
 ghost use Rattle.std.specs.Prelude.{◌≡◌, ℕ, ◌≤◌, length, IfOk};
 ghost use Rattle.embed_core.specs.ImageOrder.{IsImageOrder, AreApart, IsOnSide, is_behind};
 ghost use Rattle.tree_defs.specs.Tree.{root_of};
+ghost use Rattle.embed_core.specs.Range.{most_nodes};
 
 use crate::map::Map;
 use std::alloc::{AllocError, Global};
 
 /// The indices of some maps in the order of their roots' images.
 pub fn image_order(alloc: Global, children: &[Map]) -> Result<Vec<u32>, AllocError>
-    requires few { length children.now ≤ 1024 }
+    requires few { length children.now ≤ most_nodes }
     ensures order { IfOk result (λ order. IsImageOrder children.now order.items) }
 {
     let mut images = Vec::new(alloc);

@@ -37,7 +37,8 @@ fn three_leaves(alloc: Global) -> Result<Topo, AllocError>
 }
 
 fn five_leaves(alloc: Global) -> Result<Topo, AllocError>
-    ensures { IfOk result (λ t. topology t ≡ inner tt (more (leaf tt) (more (leaf tt) (more (leaf tt) (more (leaf tt) (more (leaf tt) none)))))) }
+    ensures { IfOk result (λ t. topology t ≡
+        inner tt (more (leaf tt) (more (leaf tt) (more (leaf tt) (more (leaf tt) (more (leaf tt) none)))))) }
 {
     Ok(Topo::inner(vec![in alloc;
         Topo::leaf(),
@@ -271,7 +272,9 @@ fn a_transit_node_takes_the_rank_above_it(rt: HostRuntime) -> Result<(), Fail> {
 
 /// Eight leaves, and behind them a node with two.
 fn eight_leaves_and_a_pair(alloc: Global) -> Result<Topo, AllocError>
-    ensures { IfOk result (λ t. topology t ≡ inner tt (more (leaf tt) (more (leaf tt) (more (leaf tt) (more (leaf tt) (more (leaf tt) (more (leaf tt) (more (leaf tt) (more (leaf tt) (more (inner tt (more (leaf tt) (more (leaf tt) none))) none)))))))))) }
+    ensures { IfOk result (λ t. topology t ≡
+        inner tt (more (leaf tt) (more (leaf tt) (more (leaf tt) (more (leaf tt) (more (leaf tt) (more (leaf tt) (more (leaf tt) (more (leaf tt)
+        (more (inner tt (more (leaf tt) (more (leaf tt) none))) none)))))))))) }
 {
     let pair = two_leaves(alloc)?;
     Ok(Topo::inner(vec![in alloc;

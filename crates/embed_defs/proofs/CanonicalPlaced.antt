@@ -9,7 +9,7 @@ use Rattle.embed_defs.specs.Need.{leaves_below, needs_at, AreLower, HoldsNeeds, 
 use Rattle.embed_defs.specs.Canonical.{Child, IsAmong, digits, start_of, image_part, children}
 use Rattle.embed_defs.specs.Placed.{Placement, Placements, IsApartFrom, IsPlaced, ArePlaced}
 use Rattle.embed_defs.proofs.Levels.{ArePositive, leaves-le}
-use Rattle.embed_defs.proofs.Exists.{lower-more}
+use Rattle.embed_defs.proofs.EnoughHeights.{lower-more}
 use Rattle.embed_defs.proofs.ChildOrder.{Comes-either}
 use Rattle.embed_defs.proofs.Digits.{digits-within, take-within}
 use Rattle.embed_defs.proofs.Blocks.{all_leaves, start-below, length-part, earlier-apart, later-apart}

@@ -14,8 +14,8 @@ use Rattle.embed_defs.specs.Placed.{part, lift_digits, digits_below}
 use Rattle.embed_defs.proofs.Levels.{ArePositive}
 use Rattle.embed_defs.proofs.Subtrees.{same_address}
 use Rattle.embed_defs.proofs.CanonicalPlaced.{parts, child_parts, own_height, needs-roomy, parts-good}
-use Rattle.embed_defs.proofs.Embedded.{placement-embedding}
-use Rattle.embed_defs.proofs.Placed.{embedding-need, embedding-height}
+use Rattle.embed_defs.proofs.PlacedEmbeddings.{placement-embedding}
+use Rattle.embed_defs.proofs.PlacementNeeds.{embedding-need, embedding-height}
 
 -- an image is the parts on the way to it
 mutual

@@ -6,7 +6,7 @@ use Rattle.target_defs.specs.Levels.{Arities}
 use Rattle.embed_defs.specs.Need.{IsNeed, AreNeedsOf}
 use Rattle.embed_defs.specs.Canonical.{canonical}
 use Rattle.embed_defs.specs.Laws.{TopologiesHaveOneNeed, NeedsAreLeastHeights, EmbeddingsNeedRoom, CanonicalPlacementsAreEmbeddings, CanonicalPlacementsAreOne}
-use Rattle.embed_defs.proofs.Exists.{wide-positive}
+use Rattle.embed_defs.proofs.EnoughHeights.{wide-positive}
 use Rattle.embed_defs.proofs.Needs.{one_needs, some_needs}
 use Rattle.embed_defs.proofs.Images.{canonical-embedding, need-embedding, has-embedding}
 

@@ -8,8 +8,8 @@ use Rattle.target_defs.specs.Levels.{Arities, down_from}
 use Rattle.embed_defs.specs.Need.{leaves_below, needs_at, AreLower, HoldsNeeds, HoldNeeds}
 use Rattle.embed_defs.specs.Placed.{Placement, Placements, IsApartFrom, IsPlaced, ArePlaced}
 use Rattle.embed_defs.proofs.Levels.{ArePositive, leaves-le, address-short}
-use Rattle.embed_defs.proofs.Apart.{IsApart, AreApart}
-use Rattle.embed_defs.proofs.Kraft.{weight, AreAddressesIn, kraft}
+use Rattle.embed_defs.proofs.PrefixFree.{IsApart, AreApart}
+use Rattle.embed_defs.proofs.KraftInequality.{weight, AreAddressesIn, kraft}
 
 -- a placement below a node of height h: each leaf's image is a leaf's address
 abbrev mutual

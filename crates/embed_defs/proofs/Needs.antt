@@ -7,7 +7,7 @@ use Rattle.tree_defs.specs.Topology.{Topology}
 use Rattle.target_defs.specs.Levels.{Arities}
 use Rattle.embed_defs.specs.Need.{IsLeast, leaves_below, AreLower, FitsBelow, enough, needs_at, HoldsNeeds, HoldNeeds, AreNeedsOf}
 use Rattle.embed_defs.specs.Laws.{AreWide}
-use Rattle.embed_defs.proofs.Exists.{enough-fits}
+use Rattle.embed_defs.proofs.EnoughHeights.{enough-fits}
 
 -- two heights cannot both be the least
 one_least : (P : ℕ → Type 0) (m n : ℕ) → IsLeast P m → IsLeast P n → m ≡ n

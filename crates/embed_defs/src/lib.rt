@@ -1,4 +1,5 @@
-//! How a topology is laid into a complete tree: embeddings, needs and the canonical placement.
+//! How a topology is laid into a complete tree: embeddings, needs and the canonical placement. Begin with
+//! specs/Embedding.antt.
 #![tactic(auto)]
 
 ghost use Rattle.embed_defs.specs.Laws.{TopologiesHaveOneNeed, NeedsAreLeastHeights, EmbeddingsNeedRoom, CanonicalPlacementsAreEmbeddings, CanonicalPlacementsAreOne, PlacementsAreThereOrNone};

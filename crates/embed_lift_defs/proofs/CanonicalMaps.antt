@@ -9,7 +9,7 @@ use Rattle.embed_defs.specs.Canonical.{Child, image_part, children, canonical, c
 use Rattle.embed_defs.specs.Placed.{IsPlaced, ArePlaced, IsApartFrom}
 use Rattle.embed_defs.proofs.Addresses.{after-sum}
 use Rattle.embed_defs.proofs.Levels.{ArePositive}
-use Rattle.embed_defs.proofs.Exists.{wide-positive}
+use Rattle.embed_defs.proofs.EnoughHeights.{wide-positive}
 use Rattle.embed_defs.proofs.Blocks.{length-part}
 use Rattle.embed_defs.proofs.CanonicalPlaced.{parts, child_parts, IsRoomy, AreRoomy, needs-roomy, parts-good, root-parts}
 use Rattle.embed_lift_defs.specs.GoodMaps.{IsDeep, AreDeep, IsNested, AreNested}

@@ -11,7 +11,7 @@ use Rattle.embed_defs.proofs.Addresses.{after-sum, none_unless}
 use Rattle.embed_defs.proofs.Subtrees.{subtree-root, subtree-then, same_address}
 use Rattle.embed_lift_defs.specs.GoodMaps.{IsDeep, AreDeep, IsNested, AreNested}
 use Rattle.embed_lift_defs.specs.Laws.{EmbeddingsAreGoodMaps}
-use Rattle.embed_lift_defs.proofs.Agree.{other_shape}
+use Rattle.embed_lift_defs.proofs.ImageLifts.{other_shape}
 
 -- no list within the arities is longer than they are
 within-short : (arities : List ℕ) (a : Address) → IsWithin arities a → length a ≤ length arities

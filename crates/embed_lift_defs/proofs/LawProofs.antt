@@ -15,11 +15,11 @@ use Rattle.embed_defs.specs.Placed.{Placement, Placements, lift_digits}
 use Rattle.embed_lift_defs.specs.Lift.{IsLift, lift_ranks}
 use Rattle.embed_lift_defs.specs.Lifting.{placement_of, lift, lift_below, lifted, placed_ranks}
 use Rattle.embed_lift_defs.specs.Laws.{Maps, LiftsAreOne, EmptyTreesHaveEmptyLifts, PushesOfLiftsAreLifts, PopsOfLiftsAreLiftedPops, IsLiftedPop, MapsStay}
-use Rattle.embed_lift_defs.proofs.Agree.{shape, is_placed, agrees, is-lift, lift-is}
-use Rattle.embed_lift_defs.proofs.Heights.{IsOfHeight}
+use Rattle.embed_lift_defs.proofs.ImageLifts.{shape, is_placed, agrees, is-lift, lift-is}
+use Rattle.embed_lift_defs.proofs.LeafHeights.{IsOfHeight}
 use Rattle.embed_lift_defs.proofs.LiftPush.{lift-push}
 use Rattle.embed_lift_defs.proofs.LiftPop.{lift-pop}
-use Rattle.embed_lift_defs.proofs.Parts.{high, ranks-relative}
+use Rattle.embed_lift_defs.proofs.MapPlacements.{high, ranks-relative}
 
 pub lifts_are_one : LiftsAreOne
 lifts_are_one = record {

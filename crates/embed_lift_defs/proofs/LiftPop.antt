@@ -16,9 +16,9 @@ use Rattle.embed_defs.specs.Placed.{Placement, Placements, part, IsPlaced, ArePl
 use Rattle.embed_defs.proofs.Addresses.{some_of_cond}
 use Rattle.embed_lift_defs.specs.Lift.{digit_beyond}
 use Rattle.embed_lift_defs.specs.Lifting.{digit_at, passing, lift, lift_below, lift_child, first_of_two, placed_ranks_below, lifted, lifted_child}
-use Rattle.embed_lift_defs.proofs.Heights.{IsOfHeight, AreOfHeight}
+use Rattle.embed_lift_defs.proofs.LeafHeights.{IsOfHeight, AreOfHeight}
 use Rattle.embed_lift_defs.proofs.LiftPush.{lift_at_child, transit_below}
-use Rattle.embed_lift_defs.proofs.Passing.{passing_by-rest, take_least-passing}
+use Rattle.embed_lift_defs.proofs.PassedEntries.{passing_by-rest, take_least-passing}
 
 pub option_map-map : {A B C : Type 0} (f : B → C) (g : A → B) (o : Option A) → option_map f (option_map g o) ≡ option_map (λ x. f (g x)) o
 option_map-map f g None = refl

@@ -12,7 +12,7 @@ use Rattle.tree_defs.proofs.WellFormedLaws.{leads_has}
 use Rattle.fabric_defs.specs.Family.{Family, push_along}
 use Rattle.embed_defs.specs.Placed.{Placement, Placements, part, IsApartFrom, IsPlaced, ArePlaced, lift_digits, digits_below}
 use Rattle.embed_defs.proofs.Addresses.{one_prefix}
-use Rattle.embed_defs.proofs.Embedded.{apart_part}
+use Rattle.embed_defs.proofs.PlacedEmbeddings.{apart_part}
 use Rattle.embed_lift_defs.specs.Lift.{digit_beyond, passing_by}
 use Rattle.embed_lift_defs.specs.Lifting.{digit_at, passing, lift, lift_below, lift_child, first_of_two, placed_ranks, placed_ranks_below}
 use Rattle.embed_lift_defs.proofs.Addresses.{none_above, not_after, push_after, push_at_transit, push_elsewhere}

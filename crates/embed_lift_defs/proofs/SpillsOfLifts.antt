@@ -6,7 +6,7 @@ use Rattle.embed_defs.specs.Images.{image_map}
 use Rattle.embed_lift_defs.specs.Lift.{lift_ranks}
 use Rattle.embed_lift_defs.specs.Lifting.{placement_of, lift}
 use Rattle.embed_lift_defs.specs.Laws.{LiftOfIsTheLift, SpillsOfLifts}
-use Rattle.embed_lift_defs.proofs.Agree.{is-lift, lift-is}
+use Rattle.embed_lift_defs.proofs.ImageLifts.{is-lift, lift-is}
 
 spills_along-same : (a : Address) (ranks : List ℕ) (F G : Family) → SameQueues F G → spills_along a ranks F ≡ spills_along a ranks G
 spills_along-same [] ranks F G s = rw (s []) refl

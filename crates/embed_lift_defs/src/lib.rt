@@ -1,4 +1,4 @@
-//! The lift of a source tree into a complete tree of queues, along a map of its nodes.
+//! The lift of a source tree into a complete tree of queues, along a map of its nodes. Begin with specs/Lift.antt.
 #![tactic(auto)]
 
 ghost use Rattle.embed_lift_defs.specs.Laws.{LiftsAreOne, EmptyTreesHaveEmptyLifts, PushesOfLiftsAreLifts, PopsOfLiftsAreLiftedPops, MapsStay, NodesHaveImagesOfTheirOwn, PickedRanksAreThoseLifted, LiftedRanksAreOfTheDeepest, PickedRanksAreThoseAtTheImages, CanonicalMapsAreGood, LiftOfIsTheLift, SpillsOfLifts, EmbeddingsAreGoodMaps};

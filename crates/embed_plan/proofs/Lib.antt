@@ -1,4 +1,4 @@
-pub mod Laws
-pub mod SomePlan
-pub mod Listed
-pub mod Telling
+pub mod OnePlan
+pub mod PlanExists
+pub mod PreorderAddresses
+pub mod PlanLines

@@ -2,18 +2,26 @@
 use Rattle.std.specs.Prelude.{◌≡◌, refl, ℕ, ◌*◌, ◌≤◌}
 use Rattle.std.specs.Int.{div_ceil}
 
+-- nanoseconds of a second
+abbrev pub second : ℕ
+second = 1000000000
+
+-- the greatest rate, in bytes per second
+abbrev pub most_rate : ℕ
+most_rate = 1000000000000
+
 -- a rate in bytes per second
 abbrev pub IsRate : ℕ → Type 0
-IsRate rate = (1 ≤ rate) × (rate ≤ 1000000000000)
+IsRate rate = (1 ≤ rate) × (rate ≤ most_rate)
 
 -- nanoseconds for so many bytes, rounded up
 abbrev pub send_time : ℕ → ℕ → ℕ
-send_time len rate = div_ceil (len * 1000000000) rate
+send_time len rate = div_ceil (len * second) rate
 
 -- the least number of nanoseconds in which so many bytes can go
 pub record IsLeastTime (len rate time : ℕ) : Type 0 where
-  pub enough : len * 1000000000 ≤ time * rate
-  pub least : (other : ℕ) → len * 1000000000 ≤ other * rate → time ≤ other
+  pub enough : len * second ≤ time * rate
+  pub least : (other : ℕ) → len * second ≤ other * rate → time ≤ other
 
 abbrev pub SendTimeIsLeast : Type 0
 SendTimeIsLeast = (len rate : ℕ) → IsRate rate → IsLeastTime len rate (send_time len rate)

@@ -62,6 +62,14 @@ pub record IsFirstFault (text : List ℕ) (fault : ScriptFault) : Type 0 where
   pub few : counts_of steps ≤ most_count
   pub at_fault : IsAtFault (counts_of steps) line (length before + 1) fault
 
+-- P holds of the steps, where the text is a script
+abbrev pub ForScript : List ℕ → (List Step → Type 0) → Type 0
+ForScript text P = (steps : List Step) → IsScript text steps → P steps
+
+-- P holds of the first fault, where there is one
+abbrev pub ForFirstFault : List ℕ → (ScriptFault → Type 0) → Type 0
+ForFirstFault text P = (fault : ScriptFault) → IsFirstFault text fault → P fault
+
 -- the number of a fault in a report, and its line; 0 where there is none
 abbrev pub code_of : ScriptFault → ℕ
 code_of (Line n) = 1

@@ -1,4 +1,4 @@
-//! Scripts of events, with their steps or the line at fault, and the clock of a link.
+//! Scripts of events, with their steps or the line at fault, and the clock of a link. Begin with specs/Script.antt.
 #![tactic(auto)]
 
 mod fault;

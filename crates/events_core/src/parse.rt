@@ -4,7 +4,7 @@ ghost use Rattle.std.specs.Option.{option_to_list};
 ghost use Rattle.text_core.specs.Lines.{is_clean_text};
 ghost use Rattle.events_core.specs.declared.fault.ScriptFault.TheVariants.{Line, TooMany, TooLong, NoMemory};
 ghost use Rattle.events_core.specs.Steps.{counts_of};
-ghost use Rattle.events_core.specs.Script.{Carries, IsAtFault, IsScript, IsFirstFault, most_bytes, most_count};
+ghost use Rattle.events_core.specs.Script.{Carries, IsAtFault, IsScript, IsFirstFault, most_bytes, most_count, ForScript, ForFirstFault};
 
 use crate::fault::ScriptFault;
 use crate::line::read_line;
@@ -71,8 +71,8 @@ pub fn parse_events(alloc: Global, text: &[u8]) -> Result<Script, ScriptFault>
     ensures too_long { (result ≡ Err TooLong) ↔ (most_bytes < length text.now) }
     ensures line { (n : ℕ) → result ≡ Err (Line n) → IsFirstFault text.now (Line n) }
     ensures too_many { (n : ℕ) → result ≡ Err (TooMany n) → IsFirstFault text.now (TooMany n) }
-    ensures accepted { (steps : List Step) → IsScript text.now steps → MatchResult result (λ s. s ≡ steps) (λ f. f ≡ NoMemory) }
-    ensures refused { (fault : ScriptFault) → IsFirstFault text.now fault → MatchResult result (λ s. ⊥) (λ f. (f ≡ fault) ⊎ (f ≡ NoMemory)) }
+    ensures accepted { ForScript text.now (λ steps. MatchResult result (λ s. s ≡ steps) (λ f. f ≡ NoMemory)) }
+    ensures refused { ForFirstFault text.now (λ fault. MatchResult result (λ _. ⊥) (λ f. (f ≡ fault) ⊎ (f ≡ NoMemory))) }
 {
     if text.len() > MOST_BYTES {
         return Err(ScriptFault::TooLong);

@@ -9,11 +9,11 @@ use Rattle.fabric_defs.specs.Family.{Family, IsEmpty, IsLeafAddress, SameQueues,
 use Rattle.fabric_core.specs.Array.{nodes, queues_at, entries_of, pushes_of, array_push, array_pop}
 use Rattle.fabric_core.specs.Flow.{NamesBelow, IsFlow}
 use Rattle.fabric_core.specs.Flat.{IsSound}
-use Rattle.fabric_core.proofs.Reading.{read-none, read-root, some_nodes}
+use Rattle.fabric_core.proofs.ArrayReads.{read-none, read-root, some_nodes}
 use Rattle.fabric_core.proofs.PushLaws.{array_push-along, length-array_push}
 use Rattle.fabric_core.proofs.PopLaws.{array_pop-along, length-array_pop}
 use Rattle.fabric_core.proofs.FlowLaws.{flow-push, flow-pop}
-use Rattle.fabric_core.proofs.Contents.{length-entries, entries-at, bound-more}
+use Rattle.fabric_core.proofs.ArrayUpdates.{length-entries, entries-at, bound-more}
 
 -- ---- empty queues
 abbrev pub AreNew : List Contents → Type 0

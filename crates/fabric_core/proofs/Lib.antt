@@ -1,4 +1,4 @@
-mod Contents
+mod ArrayUpdates
 mod FlatLaws
 mod FlowLaws
 mod NodeCounts
@@ -6,6 +6,6 @@ mod PopLaws
 mod PopSteps
 mod PushLaws
 mod PushSteps
-mod Reading
+mod ArrayReads
 mod ReserveSteps
-mod Walks
+mod LevelWalks

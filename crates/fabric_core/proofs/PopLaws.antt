@@ -10,7 +10,7 @@ use Rattle.tree_defs.proofs.Options.{option_map-some, option_bind-some}
 use Rattle.fabric_defs.specs.Family.{Address, Family, Pops, below, pop_along, popped_last, popped_digit, with_root, with_branch}
 use Rattle.fabric_core.specs.Array.{nodes, queues_at, of_last, of_digit, array_pop}
 use Rattle.fabric_core.specs.Flow.{IsFlow}
-use Rattle.fabric_core.proofs.Reading.{read-below, read-outside, read-same, child_place, next_nodes, place_within}
+use Rattle.fabric_core.proofs.ArrayReads.{read-below, read-outside, read-same, child_place, next_nodes, place_within}
 use Rattle.fabric_core.proofs.FlowLaws.{names-taken, branch-same, branch-other}
 
 -- a pop of an inner node: what was taken there, and the pop below

@@ -9,11 +9,11 @@ use Rattle.pifo_core.specs.Sorted.{Contents}
 use Rattle.fabric_core.specs.Array.{nodes, queues_at, entries_of, pushes_of, of_last, of_digit, array_pop}
 use Rattle.fabric_core.specs.Flow.{IsFlow}
 use Rattle.fabric_defs.specs.Family.{Family}
-use Rattle.fabric_core.proofs.Reading.{read-root}
+use Rattle.fabric_core.proofs.ArrayReads.{read-root}
 use Rattle.fabric_core.proofs.FlowLaws.{names-taken, child-waits}
 use Rattle.fabric_core.proofs.PopLaws.{queues-child, flow-child}
-use Rattle.fabric_core.proofs.Walks.{IsAt, placed_as, at_index, at_child}
-use Rattle.fabric_core.proofs.Contents.{entries-at, entries-set}
+use Rattle.fabric_core.proofs.LevelWalks.{IsAt, placed_as, at_index, at_child}
+use Rattle.fabric_core.proofs.ArrayUpdates.{entries-at, entries-set}
 
 -- the pop whose first digits and ranks were taken before
 abbrev pub resumed : List ℕ → List ℕ → Popping (List Queue) → Popping (List Queue)

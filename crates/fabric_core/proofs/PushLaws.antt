@@ -7,7 +7,7 @@ use mathlib.Core.Path.{fun_ext}
 use Rattle.pifo_defs.specs.Queue.{Queue, put}
 use Rattle.fabric_defs.specs.Family.{Address, Family, below, push_along, IsLeafAddress}
 use Rattle.fabric_core.specs.Array.{nodes, queues_at, put_at, array_push}
-use Rattle.fabric_core.proofs.Reading.{read-below, read-outside, read-same, child_place, next_nodes, place_within}
+use Rattle.fabric_core.proofs.ArrayReads.{read-below, read-outside, read-same, child_place, next_nodes, place_within}
 
 pub push_along-same : (x : ℕ) (a : Address) (ranks : List ℕ) (item : ℕ) (F : Family) (b : Address) → push_along (x ∷ a) ranks item F (x ∷ b) ≡ push_along a (drop 1 ranks) item (below F x) b
 push_along-same x a ranks item F b = rw (eq-eqb x x refl) refl

@@ -7,9 +7,9 @@ use Rattle.pifo_defs.specs.Queue.{Queue, put}
 use Rattle.pifo_core.specs.Sorted.{Contents}
 use Rattle.fabric_defs.specs.Family.{Address, IsLeafAddress, HasRoomAlong}
 use Rattle.fabric_core.specs.Array.{nodes, room_at, entries_of, pushes_of, spare_of, put_at, array_push}
-use Rattle.fabric_core.proofs.Reading.{read-below, read-same}
-use Rattle.fabric_core.proofs.Walks.{IsAt, at_index, at_child, placed_as, leaf_length, digit_below}
-use Rattle.fabric_core.proofs.Contents.{entries-put, spare-at, pushes-at, pushes-set, spare-set, bound-at, bound-set, bound-more}
+use Rattle.fabric_core.proofs.ArrayReads.{read-below, read-same}
+use Rattle.fabric_core.proofs.LevelWalks.{IsAt, at_index, at_child, placed_as, leaf_length, digit_below}
+use Rattle.fabric_core.proofs.ArrayUpdates.{entries-put, spare-at, pushes-at, pushes-set, spare-set, bound-at, bound-set, bound-more}
 
 -- the rest of the push, from the node that was come to, is the whole push
 pub record IsPushing (arities digits ranks : List ℕ) (item : ℕ) (old now : List Contents) (level begin width place : ℕ) : Type 0 where

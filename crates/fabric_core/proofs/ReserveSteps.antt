@@ -6,9 +6,9 @@ use mathlib.Core.Path.{fun_ext}
 use Rattle.pifo_core.specs.Sorted.{Contents}
 use Rattle.fabric_defs.specs.Family.{Address, IsLeafAddress, HasRoomAlong}
 use Rattle.fabric_core.specs.Array.{room_at, spare_of}
-use Rattle.fabric_core.proofs.Reading.{read-below}
-use Rattle.fabric_core.proofs.Walks.{leaf_length, digit_below}
-use Rattle.fabric_core.proofs.Contents.{spare-at, spare-set, length-spare}
+use Rattle.fabric_core.proofs.ArrayReads.{read-below}
+use Rattle.fabric_core.proofs.LevelWalks.{leaf_length, digit_below}
+use Rattle.fabric_core.proofs.ArrayUpdates.{spare-at, spare-set, length-spare}
 
 -- what has at least these free places in each queue
 abbrev pub IsRoomier : List ℕ → List ℕ → Type 0

@@ -1,6 +1,6 @@
 -- The queues of a complete tree in one array, level by level from the root. Child x of the node at a place of its level
 -- stands at that place times the level's arity, and x, of the level below.
-use Rattle.std.specs.Prelude.{◌≡◌, refl, ℕ, ◌+◌, ◌*◌, List, [], ◌∷◌, Option, option_map, map, nat_lt, slice_index, slice_index_or, slice_set, drop, if◌then◌else◌}
+use Rattle.std.specs.Prelude.{◌≡◌, refl, ℕ, ◌+◌, ◌*◌, List, [], ◌∷◌, Option, Some, option_map, map, nat_lt, slice_index, slice_index_or, slice_set, drop, if◌then◌else◌}
 use Rattle.pifo_defs.specs.Queue.{Queue, Taking, put, take_least}
 use Rattle.tree_defs.specs.Tree.{Popping, option_bind}
 use Rattle.pifo_core.specs.Sorted.{Contents}
@@ -56,6 +56,11 @@ array_pop [] queues begin width place = option_map (of_last queues (begin + plac
 array_pop (d ∷ arities) queues begin width place =
     option_bind (take_least (slice_index_or queues (begin + place) []))
     (λ e. option_map (of_digit e) (array_pop arities (slice_set queues (begin + place) e.rest) (begin + width) (width * d) (place * d + e.value)))
+
+-- a pop from the root gives v along these digits and ranks, and leaves these queues
+abbrev pub ArrayPops : List ℕ → List Queue → ℕ → List ℕ → List ℕ → List Queue → Type 0
+ArrayPops arities queues v digits ranks left =
+    array_pop arities queues 0 1 0 ≡ Some (record { value = v; digits = digits; ranks = ranks; left = left })
 
 -- ---- two children, and three below each
 pub nodes-two_by_three : nodes (2 ∷ 3 ∷ []) ≡ 9

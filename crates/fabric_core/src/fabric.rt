@@ -1,6 +1,6 @@
 //! The trait of the hardware's queues: a complete tree that is configured, pushed and popped.
 ghost use Rattle.std.specs.Prelude.{◌≡◌, ◌+◌, ◌^◌, ◌<◌, ◌↔◌, ℕ, List, Option, [], length, option_map, OnOk, OnErr, IsNone, IfNone, IfSome};
-ghost use Rattle.fabric_defs.specs.Family.{Family, SameQueues, IsEmpty, IsLeafAddress, HasRoomAlong, AreRanks, Pops, push_along};
+ghost use Rattle.fabric_defs.specs.Family.{Family, SameQueues, IsEmpty, IsLeafAddress, HasRoomAlong, AreRanks, Pops, push_along, PopsFrom};
 ghost use Rattle.fabric_defs.specs.Spills.{spills_along};
 ghost use Rattle.target_defs.specs.Target.{IsTarget};
 
@@ -69,7 +69,7 @@ pub trait Fabric {
         requires ranks { length ranks.old ≡ length (shape self.old) + 1 }
         requires few { popped self.old < 2 ^ 62 }
         ensures none { IsNone result ↔ (queues self.old [] ≡ []) }
-        ensures taken { IfSome result (λ item. Pops (length (shape self.old)) (queues self.old) item digits.new ranks.new (queues self.new)) }
+        ensures taken { IfSome result (λ item. PopsFrom (shape self.old) (queues self.old) item digits.new ranks.new (queues self.new)) }
         ensures queues_stay { IfNone result (SameQueues (queues self.new) (queues self.old)) }
         ensures digits_stay { IfNone result (digits.new ≡ digits.old) }
         ensures ranks_stay { IfNone result (ranks.new ≡ ranks.old) }

@@ -1,4 +1,5 @@
-//! The hardware's tree of queues: a complete tree, pushed and popped by address.
+//! The hardware's tree of queues: a complete tree, pushed and popped by address. Begin with src/fabric.rt and
+//! specs/Array.antt.
 #![tactic(auto)]
 
 mod fabric;

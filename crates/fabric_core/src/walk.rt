@@ -2,10 +2,10 @@
 ghost use Rattle.std.specs.Prelude.{ℕ, ◌≡◌, ◌≢◌, ◌≤◌, ◌<◌, ◌+◌, ◌^◌, [], Some, length, OnOk};
 ghost use Rattle.std.specs.List.{AllByRecursion};
 ghost use Rattle.target_defs.specs.Target.{IsTarget};
-ghost use Rattle.pifo_defs.specs.Queue.{take_least};
 ghost use Rattle.fabric_defs.specs.Family.{IsLeafAddress, HasRoomAlong};
-ghost use Rattle.fabric_core.specs.Array.{nodes, queues_at, room_at, entries_of, pushes_of, spare_of, array_push, array_pop};
+ghost use Rattle.fabric_core.specs.Array.{nodes, queues_at, room_at, entries_of, pushes_of, spare_of, array_push, ArrayPops};
 ghost use Rattle.fabric_core.specs.Flow.{IsFlow};
+ghost use Rattle.pifo_core.specs.Taking.{Pops};
 
 use crate::spot::Spot;
 use pifo_core::{HeapPifo, Pifo};
@@ -60,7 +60,8 @@ pub fn push_along(
     requires room { HasRoomAlong (room_at arities.now (spare_of queues.old) 0 1 0) digits.now }
     requires few { AllByRecursion (λ n. n < 2 ^ 62) (pushes_of queues.old) }
     ensures entries { entries_of queues.new ≡ array_push arities.now (entries_of queues.old) 0 1 0 digits.now ranks.now item }
-    ensures pushes { (n : ℕ) → AllByRecursion (λ k. k ≤ n) (pushes_of queues.old) → AllByRecursion (λ k. k ≤ n + 1) (pushes_of queues.new) }
+    ensures pushes { (n : ℕ) →
+        AllByRecursion (λ k. k ≤ n) (pushes_of queues.old) → AllByRecursion (λ k. k ≤ n + 1) (pushes_of queues.new) }
 {
     let mut spot = Spot::root();
     for (level, digit) in digits.iter().enumerate() {
@@ -83,7 +84,7 @@ pub fn pop_along(
     requires small { length queues.old < 2 ^ 32 }
     requires flow { IsFlow arities.now (queues_at arities.now (entries_of queues.old) 0 1 0) }
     requires some { queues_at arities.now (entries_of queues.old) 0 1 0 [] ≢ [] }
-    ensures popped { array_pop arities.now (entries_of queues.old) 0 1 0 ≡ Some (record { value = result; digits = digits.new; ranks = ranks.new; left = entries_of queues.new }) }
+    ensures popped { ArrayPops arities.now (entries_of queues.old) result digits.new ranks.new (entries_of queues.new) }
     ensures pushes { pushes_of queues.new ≡ pushes_of queues.old }
 {
     let mut spot = Spot::root();
@@ -101,7 +102,7 @@ pub fn pop_along(
 /// Takes the pair that leaves a queue that has one.
 fn pop_one(queue: &mut HeapPifo) -> (u64, u64)
     requires { queue.old.entries ≢ [] }
-    ensures taken { take_least queue.old.entries ≡ Some (record { rank = result.0; value = result.1; rest = queue.new.entries }) }
+    ensures taken { Pops queue.old.entries (Some result) queue.new.entries }
     ensures pushes { queue.new.pushes ≡ queue.old.pushes }
 {
     let Some(taken) = queue.pop() else {

@@ -1,5 +1,5 @@
 -- A complete tree of queues as a family: one queue for each address.
-use Rattle.std.specs.Prelude.{◌≡◌, refl, ℕ, zero, suc, ◌<◌, ◌≤◌, List, [], ◌∷◌, Option, Some, option_map, nat_eq, slice_index, drop, if◌then◌else◌}
+use Rattle.std.specs.Prelude.{◌≡◌, refl, ℕ, zero, suc, ◌<◌, ◌≤◌, List, [], ◌∷◌, length, Option, Some, option_map, nat_eq, slice_index, drop, if◌then◌else◌}
 use Rattle.std.specs.List.{AllByRecursion}
 use Rattle.pifo_defs.specs.Queue.{Queue, put, take_least, Taking}
 use Rattle.tree_defs.specs.Tree.{Popping, option_bind}
@@ -60,6 +60,10 @@ pub record Pops (height : ℕ) (F : Family) (v : ℕ) (digits ranks : List ℕ) 
   pub ranks_are : taken.ranks ≡ ranks
   pub left : SameQueues G taken.left
 
+-- the same of the complete tree of these arities
+abbrev pub PopsFrom : List ℕ → Family → ℕ → List ℕ → List ℕ → Family → Type 0
+PopsFrom arities = Pops (length arities)
+
 -- the address of a leaf of the complete tree of these arities: as many digits, each below its level's arity
 abbrev pub IsLeafAddress : List ℕ → Address → Type 0
 IsLeafAddress [] [] = Unit {0}
@@ -72,9 +76,13 @@ abbrev pub HasRoomAlong : (Address → ℕ) → Address → Type 0
 HasRoomAlong room [] = 0 < room []
 HasRoomAlong room (x ∷ a) = (0 < room []) × HasRoomAlong (λ b. room (x ∷ b)) a
 
+-- the greatest rank that a fabric takes, 2^62 - 1
+abbrev pub most_rank : ℕ
+most_rank = 4611686018427387903
+
 -- each rank is at most the greatest
 abbrev pub AreRanks : List ℕ → Type 0
-AreRanks ranks = AllByRecursion (λ r. r ≤ 4611686018427387903) ranks
+AreRanks ranks = AllByRecursion (λ r. r ≤ most_rank) ranks
 
 -- packet 7 goes down digit 1 with rank 5, and leaves again
 abbrev pub two_levels : Family

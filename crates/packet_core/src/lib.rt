@@ -1,4 +1,4 @@
-//! The header fields and the flow of a captured packet.
+//! The header fields, the flow and the class of a captured packet. Begin with specs/Conditions.antt.
 #![tactic(auto)]
 
 mod bytes;

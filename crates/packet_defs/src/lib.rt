@@ -1,4 +1,4 @@
-//! Packets as the layers above the capture see them: their header fields, flows and classes.
+//! Packets as the layers above the capture see them: their header fields, flows and classes. Begin with specs/Headers.antt.
 #![tactic(auto)]
 
 mod fields;

@@ -1,4 +1,4 @@
 pub mod Numbers
-pub mod Fronts
+pub mod FrontTests
 pub mod Headers
 pub mod ReadingLaws

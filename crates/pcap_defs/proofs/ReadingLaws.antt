@@ -7,7 +7,7 @@ use Rattle.pcap_defs.specs.Header.{header_len, IsHeader, IsHeaderFault}
 use Rattle.pcap_defs.specs.Record.{Record, IsSpelling, AreSpellings, IsRecordFault, HasNoRecord, most_records}
 use Rattle.pcap_defs.specs.Capture.{EndsWith, IsCapture}
 use Rattle.pcap_defs.specs.Reading.{Capture, refused, packets, Front, nothing, broken, found, front_of, at_front, with_first, records_from, records_left, capture_with, capture_of, head_of, ReadsCaptures, ReadsRefusals, HasFaultOrRecord, MomentsAreSmall}
-use Rattle.pcap_defs.proofs.Fronts.{Says, front_of-fault, front_of-spelled, front_of-says}
+use Rattle.pcap_defs.proofs.FrontTests.{Says, front_of-fault, front_of-spelled, front_of-says}
 use Rattle.pcap_defs.proofs.Headers.{HeadSays, head_of-fault, head_of-header, head_of-says}
 
 -- what is left behind n records is the spellings of these, and a rest that is empty or has the fault

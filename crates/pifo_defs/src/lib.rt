@@ -1,4 +1,5 @@
-//! What a push-in first-out queue is: pairs of a rank and a value in order of arrival, and the pair that leaves.
+//! What a push-in first-out queue is: pairs of a rank and a value in order of arrival, and the pair that leaves. Begin
+//! with specs/Queue.antt.
 #![tactic(auto)]
 
 ghost use Rattle.pifo_defs.specs.Laws.{EarliestOfTheLeastLeaves, NothingLeavesAnEmptyQueue};

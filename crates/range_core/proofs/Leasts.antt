@@ -6,10 +6,10 @@ use Rattle.rank_defs.specs.declared.transaction.Transaction.{Transaction}
 use Rattle.std.proofs.lemmas.List.{map-append, append_assoc, append-nil}
 use Rattle.rank_defs.specs.Programs.{Program, assignments, program_of}
 use Rattle.rank_defs.specs.Tame.{IsAlwaysTame}
-use Rattle.rank_defs.proofs.Safe.{always-tame}
+use Rattle.rank_defs.proofs.SafeSteps.{always-tame}
 use Rattle.rank_defs.specs.Checks.{Entry, entry, entries, AreChecked, IsWide, Clashes, MayDivideByZero, lesser_line}
 use Rattle.rank_defs.proofs.Faults.{SomeAt-left, SomeAt-right}
-use Rattle.rank_defs.proofs.Least.{least-append}
+use Rattle.rank_defs.proofs.LeastFaults.{least-append}
 use Rattle.range_core.specs.declared.lines.Lines.{Lines}
 use Rattle.range_core.specs.Leasts.{AreLeast}
 

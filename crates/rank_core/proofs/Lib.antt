@@ -1,5 +1,5 @@
-pub mod Loop
-pub mod Flows
+pub mod AssignmentLoop
+pub mod FlowMaps
 pub mod Lists
 pub mod Table
 pub mod Samples

@@ -1,10 +1,14 @@
 -- The variables of a node, and for whom it has room.
-use Rattle.std.specs.Prelude.{◌<◌, ℕ, List, length, slice_get, Vec, Option, Some, None, IsSome, option_map}
+use Rattle.std.specs.Prelude.{◌<◌, ℕ, List, length, [], slice_get, Vec, Option, Some, None, IsSome, option_map}
 use Rattle.std.specs.declared.alloc.Global.{Global}
 use Rattle.indexmap.specs.IndexMap.{get}
+use Rattle.rank_defs.specs.declared.environment.Env.{Env}
 use Rattle.rank_defs.specs.declared.environment.Who.{Who}
 use Rattle.rank_defs.specs.declared.environment.Who.TheVariants.{Child, Flow}
-use Rattle.rank_defs.specs.States.{State, same_flow}
+use Rattle.rank_defs.specs.declared.transaction.Assign.{Assign}
+use Rattle.rank_defs.specs.declared.transaction.Transaction.{Transaction}
+use Rattle.rank_defs.specs.States.{State, SameState, Memory, memory_for, same_flow}
+use Rattle.rank_core.specs.Scope.{memory, run_of}
 use Rattle.rank_core.specs.declared.eaches.Eaches.{Eaches}
 use Rattle.rank_core.specs.declared.eaches.Eaches.TheVariants.{Children, Flows}
 use Rattle.rank_core.specs.declared.node.NodeState.{NodeState}
@@ -46,3 +50,15 @@ kept_or first (Some values) = values
 -- the variables of a node. Those of a child or a flow for which there is no room hold their first values
 abbrev pub state_of : NodeState → State
 state_of n = record { keeps = n.keeps.items; eaches = λ who. kept_or n.firsts.items (kept n.eaches who) }
+
+-- the variables of a node are the state
+abbrev pub HasState : NodeState → State → Type 0
+HasState n s = SameState (state_of n) s
+
+-- what a step for a child or a flow reads and writes, without first values
+abbrev pub memory_at : ℕ → List ℕ → Eaches → Who → Memory
+memory_at r keeps eaches who = memory r keeps (kept_or [] (kept eaches who))
+
+-- what a step with some assignments ends with
+abbrev pub step_of : Transaction → List Assign → Who → Env → ℕ → NodeState → Memory
+step_of t assigns who env r n = run_of t env assigns (memory_for who r (state_of n))

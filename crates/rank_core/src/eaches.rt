@@ -1,15 +1,13 @@
 //! The variables of each child or flow.
 
-ghost use Rattle.std.specs.Prelude.{◌≡◌, ◌≢◌, ◌<◌, ◌↔◌, ℕ, List, length, map, slice_get, [], IfOk, OnOk, OnErr, IsSome, Some, None, if◌then◌else◌, nat_lt};
-ghost use Rattle.std.specs.List.{AllByRecursion};
+ghost use Rattle.std.specs.Prelude.{◌≡◌, ◌≢◌, ◌<◌, ℕ, length, slice_get, IfOk, OnOk, OnErr, IsSome, Some, None};
 ghost use Rattle.indexmap.specs.IndexMap.{get};
-ghost use Rattle.rank_defs.specs.States.{State, same_who, same_flow};
+ghost use Rattle.rank_defs.specs.States.{same_flow};
 ghost use Rattle.rank_defs.specs.Steps.{run};
-ghost use Rattle.rank_defs.specs.Shapes.{IsEnvInRange, IsMemoryInRange, IsShaped, IsShapedAssignment};
-ghost use Rattle.rank_defs.specs.Programs.{program_of, assignment_of};
-ghost use Rattle.rank_defs.specs.Checks.{IsCheckedAssignment};
-ghost use Rattle.rank_core.specs.Node.{kept, kept_or, children, items_of, BelongsTo};
-ghost use Rattle.rank_core.specs.Scope.{memory};
+ghost use Rattle.rank_defs.specs.Shapes.{IsEnvInRange, IsMemoryInRange, IsShaped};
+ghost use Rattle.rank_defs.specs.Programs.{program_of};
+ghost use Rattle.rank_core.specs.Node.{kept, kept_or, children, BelongsTo, memory_at};
+ghost use Rattle.rank_core.specs.Scope.{run_of, AreCheckedIn, AreShapedIn};
 
 use crate::step::run;
 use indexmap::IndexMap;
@@ -63,14 +61,15 @@ pub(crate) fn reserve(eaches: &mut Eaches, who: &Who, first: &[u64]) -> Result<(
     }
 }
 
-#[tactic(auto, using(crate::proofs::Flows::get_same))]
+#[tactic(auto, using(crate::proofs::FlowMaps::get_same))]
 fn add_flow(
     flows: &mut IndexMap<FlowKey, Vec<u64>>,
     flow: FlowKey,
     first: &[u64],
 ) -> Result<(), AllocError>
     ensures room { OnOk result (IsSome (get same_flow flows.new flow)) }
-    ensures same { (f : FlowKey) → kept_or first.now (kept (Eaches.Flows flows.new) (Who.Flow f)) ≡ kept_or first.now (kept (Eaches.Flows flows.old) (Who.Flow f)) }
+    ensures same { (f : FlowKey) →
+        kept_or first.now (kept (Eaches.Flows flows.new) (Who.Flow f)) ≡ kept_or first.now (kept (Eaches.Flows flows.old) (Who.Flow f)) }
     ensures stays { IsSome (get same_flow flows.old flow) → IsSome (get same_flow flows.new flow) }
     ensures others { (f : FlowKey) → f ≢ flow → get same_flow flows.new f ≡ get same_flow flows.old f }
     ensures err { OnErr result ((f : FlowKey) → get same_flow flows.new f ≡ get same_flow flows.old f) }
@@ -94,11 +93,12 @@ pub(crate) fn run_for(
 ) -> u64
     requires shaped { IsShaped (program_of transaction.now) }
     requires told { IsEnvInRange env.now }
-    requires checked { AllByRecursion (IsCheckedAssignment (program_of transaction.now)) (map assignment_of assigns.now) }
-    requires fits { AllByRecursion (IsShapedAssignment (program_of transaction.now)) (map assignment_of assigns.now) }
+    requires checked { AreCheckedIn transaction.now assigns.now }
+    requires fits { AreShapedIn transaction.now assigns.now }
     requires room { IsSome (kept eaches.old who.now) }
-    requires range { IsMemoryInRange (program_of transaction.now) (memory rank keeps.old (kept_or [] (kept eaches.old who.now))) }
-    ensures ran { memory result keeps.new (kept_or [] (kept eaches.new who.now)) ≡ run (program_of transaction.now) env.entry.now (map assignment_of assigns.now) (memory rank keeps.old (kept_or [] (kept eaches.old who.now))) }
+    requires range { IsMemoryInRange (program_of transaction.now) (memory_at rank keeps.old eaches.old who.now) }
+    ensures ran { memory_at result keeps.new eaches.new who.now ≡
+        run_of transaction.now env.entry.now assigns.now (memory_at rank keeps.old eaches.old who.now) }
     ensures room { IsSome (kept eaches.new who.now) }
     ensures others { (w : Who) → w ≢ who.now → kept eaches.new w ≡ kept eaches.old w }
     ensures children { children eaches.new ≡ children eaches.old }
@@ -129,11 +129,13 @@ fn run_for_child(
 ) -> u64
     requires shaped { IsShaped (program_of transaction.now) }
     requires told { IsEnvInRange env.now }
-    requires checked { AllByRecursion (IsCheckedAssignment (program_of transaction.now)) (map assignment_of assigns.now) }
-    requires fits { AllByRecursion (IsShapedAssignment (program_of transaction.now)) (map assignment_of assigns.now) }
+    requires checked { AreCheckedIn transaction.now assigns.now }
+    requires fits { AreShapedIn transaction.now assigns.now }
     requires there { child < length values.old.items }
-    requires range { IsMemoryInRange (program_of transaction.now) (memory rank keeps.old (kept_or [] (kept (Eaches.Children values.old) (Who.Child child)))) }
-    ensures ran { memory result keeps.new (kept_or [] (kept (Eaches.Children values.new) (Who.Child child))) ≡ run (program_of transaction.now) env.entry.now (map assignment_of assigns.now) (memory rank keeps.old (kept_or [] (kept (Eaches.Children values.old) (Who.Child child)))) }
+    requires range { IsMemoryInRange (program_of transaction.now)
+        (memory_at rank keeps.old (Eaches.Children values.old) (Who.Child child)) }
+    ensures ran { memory_at result keeps.new (Eaches.Children values.new) (Who.Child child) ≡
+        run_of transaction.now env.entry.now assigns.now (memory_at rank keeps.old (Eaches.Children values.old) (Who.Child child)) }
     ensures others { (i : ℕ) → i ≢ child → slice_get values.new.items i ≡ slice_get values.old.items i }
     ensures count { length values.new.items ≡ length values.old.items }
 {
@@ -141,7 +143,7 @@ fn run_for_child(
     run(transaction, assigns, env, rank, keeps, values)
 }
 
-#[tactic(auto, using(crate::proofs::Flows::get_same))]
+#[tactic(auto, using(crate::proofs::FlowMaps::get_same))]
 fn run_for_flow(
     flows: &mut IndexMap<FlowKey, Vec<u64>>,
     flow: FlowKey,
@@ -153,11 +155,13 @@ fn run_for_flow(
 ) -> u64
     requires shaped { IsShaped (program_of transaction.now) }
     requires told { IsEnvInRange env.now }
-    requires checked { AllByRecursion (IsCheckedAssignment (program_of transaction.now)) (map assignment_of assigns.now) }
-    requires fits { AllByRecursion (IsShapedAssignment (program_of transaction.now)) (map assignment_of assigns.now) }
+    requires checked { AreCheckedIn transaction.now assigns.now }
+    requires fits { AreShapedIn transaction.now assigns.now }
     requires room { IsSome (get same_flow flows.old flow) }
-    requires range { IsMemoryInRange (program_of transaction.now) (memory rank keeps.old (kept_or [] (kept (Eaches.Flows flows.old) (Who.Flow flow)))) }
-    ensures ran { memory result keeps.new (kept_or [] (kept (Eaches.Flows flows.new) (Who.Flow flow))) ≡ run (program_of transaction.now) env.entry.now (map assignment_of assigns.now) (memory rank keeps.old (kept_or [] (kept (Eaches.Flows flows.old) (Who.Flow flow)))) }
+    requires range { IsMemoryInRange (program_of transaction.now)
+        (memory_at rank keeps.old (Eaches.Flows flows.old) (Who.Flow flow)) }
+    ensures ran { memory_at result keeps.new (Eaches.Flows flows.new) (Who.Flow flow) ≡
+        run_of transaction.now env.entry.now assigns.now (memory_at rank keeps.old (Eaches.Flows flows.old) (Who.Flow flow)) }
     ensures room { IsSome (get same_flow flows.new flow) }
     ensures others { (f : FlowKey) → f ≢ flow → get same_flow flows.new f ≡ get same_flow flows.old f }
 {

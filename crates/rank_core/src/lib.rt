@@ -1,4 +1,4 @@
-//! Transactions run step by step, the variables of a node, and the built-in transactions.
+//! Transactions run step by step, the variables of a node, and the built-in transactions. Begin with specs/Node.antt.
 #![tactic(auto)]
 
 mod builtins;

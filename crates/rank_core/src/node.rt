@@ -1,14 +1,13 @@
 //! The variables of a node, and its steps.
 
-ghost use Rattle.std.specs.Prelude.{◌≡◌, ◌≢◌, ◌<◌, ◌≤◌, ◌↔◌, ℕ, List, map, Some, None, IfOk, OnOk, OnErr};
-ghost use Rattle.std.specs.List.{AllByRecursion};
-ghost use Rattle.rank_defs.specs.declared.transaction.Span.{Span as SpanOf};
-ghost use Rattle.rank_defs.specs.States.{State, SameState, first_state, firsts, memory_for, put_back};
-ghost use Rattle.rank_defs.specs.Steps.{run, push_rank, after_push, after_pop};
-ghost use Rattle.rank_defs.specs.Shapes.{IsEnvInRange, IsStateInRange, IsShaped, IsShapedAssignment};
-ghost use Rattle.rank_defs.specs.Programs.{program_of, assignment_of, max_rank};
-ghost use Rattle.rank_defs.specs.Checks.{IsChecked, IsCheckedAssignment};
-ghost use Rattle.rank_core.specs.Node.{state_of, children_of, BelongsTo, HasRoom};
+ghost use Rattle.std.specs.Prelude.{◌≡◌, ◌≢◌, ◌<◌, ◌≤◌, ◌↔◌, ℕ, Some, None, IfOk, OnOk, OnErr};
+ghost use Rattle.rank_defs.specs.States.{SameState, first_state, firsts, put_back};
+ghost use Rattle.rank_defs.specs.Steps.{push_rank, after_push, after_pop};
+ghost use Rattle.rank_defs.specs.Shapes.{IsEnvInRange, IsStateInRange, IsShaped};
+ghost use Rattle.rank_defs.specs.Programs.{program_of, max_rank};
+ghost use Rattle.rank_defs.specs.Checks.{IsChecked};
+ghost use Rattle.rank_core.specs.Node.{state_of, children_of, BelongsTo, HasRoom, HasState, step_of};
+ghost use Rattle.rank_core.specs.Scope.{AreCheckedIn, AreShapedIn};
 
 use crate::eaches::{Eaches, of_children, of_flows, reserve, run_for};
 use rank_defs::{Assign, Env, Span, Transaction, Who};
@@ -40,7 +39,7 @@ impl NodeState {
         children: u32,
     ) -> Result<NodeState, AllocError>
         requires { IsShaped (program_of transaction.now) }
-        ensures first { IfOk result (λ n. SameState (state_of n) (first_state (program_of transaction.now))) }
+        ensures first { IfOk result (λ n. HasState n (first_state (program_of transaction.now))) }
         ensures in_range { IfOk result (λ n. IsStateInRange (program_of transaction.now) (state_of n)) }
         ensures children { IfOk result (λ n. children_of n ≡ Some children) }
         ensures room { IfOk result (λ n. (i : ℕ) → i < children → HasRoom n (Who.Child i)) }
@@ -58,7 +57,7 @@ impl NodeState {
     /// The variables of a leaf at the start.
     pub fn leaf(alloc: Global, transaction: &Transaction) -> Result<NodeState, AllocError>
         requires { IsShaped (program_of transaction.now) }
-        ensures first { IfOk result (λ n. SameState (state_of n) (first_state (program_of transaction.now))) }
+        ensures first { IfOk result (λ n. HasState n (first_state (program_of transaction.now))) }
         ensures in_range { IfOk result (λ n. IsStateInRange (program_of transaction.now) (state_of n)) }
         ensures leaf { IfOk result (λ n. children_of n ≡ None) }
     {
@@ -95,14 +94,15 @@ fn run_at(
     rank: u64,
 ) -> u64
     requires shaped { IsShaped (program_of transaction.now) }
-    requires checked { AllByRecursion (IsCheckedAssignment (program_of transaction.now)) (map assignment_of assigns.now) }
-    requires fits { AllByRecursion (IsShapedAssignment (program_of transaction.now)) (map assignment_of assigns.now) }
+    requires checked { AreCheckedIn transaction.now assigns.now }
+    requires fits { AreShapedIn transaction.now assigns.now }
     requires in_range { IsStateInRange (program_of transaction.now) (state_of state.old) }
     requires room { HasRoom state.old who.now }
     requires told { IsEnvInRange env.now }
     requires rank { rank ≤ max_rank }
-    ensures rank { result ≡ (run (program_of transaction.now) env.entry.now (map assignment_of assigns.now) (memory_for who.now rank (state_of state.old))).rank }
-    ensures after { SameState (state_of state.new) (put_back who.now (run (program_of transaction.now) env.entry.now (map assignment_of assigns.now) (memory_for who.now rank (state_of state.old))) (state_of state.old)) }
+    ensures rank { result ≡ (step_of transaction.now assigns.now who.now env.entry.now rank state.old).rank }
+    ensures after { HasState state.new
+        (put_back who.now (step_of transaction.now assigns.now who.now env.entry.now rank state.old) (state_of state.old)) }
     ensures room { (w : Who) → HasRoom state.new w ↔ HasRoom state.old w }
     ensures children { children_of state.new ≡ children_of state.old }
 {
@@ -127,7 +127,7 @@ pub fn run_push(transaction: &Transaction, state: &mut NodeState, who: &Who, env
     requires told { IsEnvInRange env.now }
     ensures rank { result ≡ push_rank (program_of transaction.now) who.now env.entry.now (state_of state.old) }
     ensures rank_limit { result ≤ max_rank }
-    ensures after { SameState (state_of state.new) (after_push (program_of transaction.now) who.now env.entry.now (state_of state.old)) }
+    ensures after { HasState state.new (after_push (program_of transaction.now) who.now env.entry.now (state_of state.old)) }
     ensures in_range { IsStateInRange (program_of transaction.now) (state_of state.new) }
     ensures room { (w : Who) → HasRoom state.new w ↔ HasRoom state.old w }
     ensures children { children_of state.new ≡ children_of state.old }
@@ -143,7 +143,7 @@ pub fn run_pop(transaction: &Transaction, state: &mut NodeState, who: &Who, rank
     requires room { HasRoom state.old who.now }
     requires told { IsEnvInRange env.now }
     requires rank { rank ≤ max_rank }
-    ensures after { SameState (state_of state.new) (after_pop (program_of transaction.now) who.now env.entry.now rank (state_of state.old)) }
+    ensures after { HasState state.new (after_pop (program_of transaction.now) who.now env.entry.now rank (state_of state.old)) }
     ensures in_range { IsStateInRange (program_of transaction.now) (state_of state.new) }
     ensures room { (w : Who) → HasRoom state.new w ↔ HasRoom state.old w }
     ensures children { children_of state.new ≡ children_of state.old }

@@ -1,12 +1,11 @@
 //! Assignments, one after another.
 
-ghost use Rattle.std.specs.Prelude.{◌≡◌, map};
-ghost use Rattle.std.specs.List.{AllByRecursion};
+ghost use Rattle.std.specs.Prelude.{◌≡◌};
 ghost use Rattle.rank_defs.specs.Steps.{assigned, run};
 ghost use Rattle.rank_defs.specs.Shapes.{IsEnvInRange, IsMemoryInRange, IsShaped, IsShapedAssignment};
 ghost use Rattle.rank_defs.specs.Programs.{program_of, assignment_of};
 ghost use Rattle.rank_defs.specs.Checks.{IsCheckedAssignment};
-ghost use Rattle.rank_core.specs.Scope.{memory};
+ghost use Rattle.rank_core.specs.Scope.{memory, run_of, AreCheckedIn, AreShapedIn};
 
 use crate::evaluate::{Scope, clamped, number};
 use rank_defs::{Aim, Assign, Env, MAX_RANK, Span, Transaction};
@@ -29,10 +28,11 @@ pub(crate) fn run(
 ) -> u64
     requires shaped { IsShaped (program_of transaction.now) }
     requires told { IsEnvInRange env.now }
-    requires checked { AllByRecursion (IsCheckedAssignment (program_of transaction.now)) (map assignment_of assigns.now) }
-    requires fits { AllByRecursion (IsShapedAssignment (program_of transaction.now)) (map assignment_of assigns.now) }
+    requires checked { AreCheckedIn transaction.now assigns.now }
+    requires fits { AreShapedIn transaction.now assigns.now }
     requires range { IsMemoryInRange (program_of transaction.now) (memory rank keeps.old eaches.old) }
-    ensures { memory result keeps.new eaches.new ≡ run (program_of transaction.now) env.entry.now (map assignment_of assigns.now) (memory rank keeps.old eaches.old) }
+    ensures { memory result keeps.new eaches.new ≡
+        run_of transaction.now env.entry.now assigns.now (memory rank keeps.old eaches.old) }
 {
     let mut current = rank;
     for assign in assigns {
@@ -54,7 +54,8 @@ fn perform(
     requires checked { IsCheckedAssignment (program_of transaction.now) (assignment_of assign.now) }
     requires fits { IsShapedAssignment (program_of transaction.now) (assignment_of assign.now) }
     requires range { IsMemoryInRange (program_of transaction.now) (memory rank keeps.old eaches.old) }
-    ensures { memory result keeps.new eaches.new ≡ assigned (program_of transaction.now) env.entry.now (memory rank keeps.old eaches.old) (assignment_of assign.now) }
+    ensures { memory result keeps.new eaches.new ≡
+        assigned (program_of transaction.now) env.entry.now (memory rank keeps.old eaches.old) (assignment_of assign.now) }
 {
     let scope = Scope {
         env,

@@ -10,7 +10,7 @@ use Rattle.rank_defs.specs.Values.{Value, num, truth, nothing, value_of, apply, 
 use Rattle.rank_defs.specs.Ranges.{counts, tells, sort_of, range_of}
 use Rattle.rank_defs.specs.Checks.{IsSafe}
 use Rattle.rank_defs.specs.Tame.{IsInside, AreInside}
-use Rattle.rank_defs.proofs.Sound.{number_in, truth_in, value_fits}
+use Rattle.rank_defs.proofs.ValueIntervals.{number_in, truth_in, value_fits}
 
 -- a safe number's value lies in its interval
 pub value-inside : (ranges : Name → Range) (values : Name → ℕ) (f : Formula) (v : ℤ) → AreInside ranges values → IsSafe ranges f → sort_of f ≡ counts → value_of values f ≡ num v → IsInside (range_of ranges f) v

@@ -1,14 +1,14 @@
-pub mod Corners
-pub mod Sound
-pub mod Narrow
+pub mod IntervalEnds
+pub mod ValueIntervals
+pub mod NarrowIntervals
 pub mod Spans
-pub mod Safe
-pub mod Others
+pub mod SafeSteps
+pub mod OtherStates
 pub mod Runs
 pub mod Faults
 pub mod Table
 pub mod Evaluation
-pub mod Least
-pub mod Same
+pub mod LeastFaults
+pub mod SameStates
 pub mod Refusals
 mod Bounds

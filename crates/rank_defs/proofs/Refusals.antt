@@ -7,7 +7,7 @@ use Rattle.rank_defs.specs.declared.transaction.Aim.TheVariants.{Rank}
 use Rattle.rank_defs.specs.Formulas.{Formula, number, variable, two}
 use Rattle.rank_defs.specs.Programs.{Assignment, Program}
 use Rattle.rank_defs.specs.Checks.{entry, AreChecked, Clashes, IsWide, MayDivideByZero, ClashesFirstAt, IsWideFirstAt, DividesByZeroFirstAt}
-use Rattle.rank_defs.proofs.Least.{least-clear, least-fault, least-append}
+use Rattle.rank_defs.proofs.LeastFaults.{least-clear, least-fault, least-append}
 use Rattle.rank_defs.proofs.Table.{narrow_to}
 
 abbrev ranked_on : ℕ → Formula → Assignment

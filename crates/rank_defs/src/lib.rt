@@ -1,4 +1,5 @@
-//! What a scheduling transaction is: its types, and the definitions of what it computes.
+//! What a scheduling transaction is: its types, and the definitions of what it computes. Begin with
+//! specs/Programs.antt.
 #![tactic(auto)]
 
 mod environment;

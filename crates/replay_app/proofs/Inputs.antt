@@ -25,7 +25,7 @@ use Rattle.policy_defs.specs.Policy.{Policy}
 use Rattle.events_core.specs.Script as script
 use Rattle.events_core.proofs.ScriptLaws.{IsScript-one, IsFirstFault-one, IsScript-IsFirstFault}
 use Rattle.target_core.specs.declared.target.Target.{Target}
-use Rattle.target_core.proofs.OneAnswer.{one_answer-holds}
+use Rattle.target_core.proofs.OneTarget.{one_answer-holds}
 use Rattle.embed_defs.proofs.Laws.{canonical_placements_are_one-holds}
 use Rattle.replay_app.specs.Policies.{IsTextRefused, too_long, at_fault, fault_code, IsPolicyRefused, text_refused, statements_refused, Judged, IsPolicy}
 use Rattle.replay_app.specs.Scripts as scripts

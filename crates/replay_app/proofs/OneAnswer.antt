@@ -5,7 +5,7 @@ use Rattle.outside_core.specs.Written.{Appended, AppendedPrefix}
 use Rattle.report_core.specs.declared.fault.FaultKind.TheVariants as kind
 use Rattle.policy_defs.specs.Policy.{Policy}
 use Rattle.embed_plan.specs.Plan.{IsPlan}
-use Rattle.embed_plan.proofs.Laws.{one_plan}
+use Rattle.embed_plan.proofs.OnePlan.{one_plan}
 use Rattle.target_core.specs.declared.target.Target.{Target}
 use Rattle.replay_app.specs.Answer.{Answer, IsTold}
 use Rattle.replay_app.specs.Laws.{HaveOneAnswer}

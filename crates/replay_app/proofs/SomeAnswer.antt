@@ -9,11 +9,11 @@ use Rattle.target_defs.proofs.LevelLaws.{heights_in_range-holds}
 use Rattle.embed_defs.specs.Embedding.{HasEmbedding, IsEmbedding}
 use Rattle.embed_defs.specs.Images.{image_map}
 use Rattle.embed_defs.specs.Laws.{AreWide}
-use Rattle.embed_defs.proofs.Room.{there_or_none}
-use Rattle.target_core.proofs.Decided.{an_answer-holds}
-use Rattle.target_core.proofs.Ranges.{in_range-holds}
+use Rattle.embed_defs.proofs.RoomOrNone.{there_or_none}
+use Rattle.target_core.proofs.TextAnswers.{an_answer-holds}
+use Rattle.target_core.proofs.ArityRanges.{in_range-holds}
 use Rattle.target_core.specs.declared.target.Target.{Target}
-use Rattle.embed_plan.proofs.SomePlan.{all_levels, a_plan}
+use Rattle.embed_plan.proofs.PlanExists.{all_levels, a_plan}
 use Rattle.policy_defs.specs.Policy.{Policy}
 use Rattle.policy_text_defs.specs.Ranges.{most_text}
 use Rattle.policy_text_defs.specs.Sense.{Entry}

@@ -21,7 +21,7 @@ use Rattle.sched_defs.specs.Events.{Arrive, CanMake, after}
 use Rattle.sched_defs.proofs.Soundness.{sound_start, with_packet-other}
 use Rattle.sched_defs.specs.Numbered.{IsSendable}
 use Rattle.sched_defs.proofs.Runs.{sound_after}
-use Rattle.rank_defs.proofs.Same.{same-trans}
+use Rattle.rank_defs.proofs.SameStates.{same-trans}
 use Rattle.embed_defs.specs.Images.{image_map}
 use Rattle.embed_lift_defs.specs.Lift.{IsLift}
 use Rattle.fabric_core.specs.declared.fabric.Fabric.{Ghosts}

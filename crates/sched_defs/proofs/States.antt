@@ -8,7 +8,7 @@ use Rattle.rank_defs.specs.Programs.{Program, max_rank}
 use Rattle.rank_defs.specs.States.{State, first_state}
 use Rattle.rank_defs.specs.Shapes.{IsStateInRange}
 use Rattle.rank_defs.specs.Tame.{IsSafePush, IsSafePop}
-use Rattle.rank_defs.proofs.Safe.{safe_push, safe_pop, first_state-in_range}
+use Rattle.rank_defs.proofs.SafeSteps.{safe_push, safe_pop, first_state-in_range}
 use Rattle.policy_defs.specs.Policy.{Node, node_at}
 use Rattle.policy_defs.specs.Accepted.{IsNodeReady}
 use Rattle.sched_defs.specs.Visits.{States, Visit, with_state, ranks_pushed, after_pushes, after_pops}

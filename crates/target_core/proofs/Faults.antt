@@ -6,9 +6,8 @@ use Rattle.toml.specs.declared.value.Value.{Value}
 use Rattle.target_defs.specs.Target.{leaves}
 use Rattle.target_core.specs.TargetText.{IsToml, keys, AreArities, GivesArities, one_arity, each_arity, IsRefused, not_toml, off_keys, large}
 use Rattle.target_core.specs.Codes.{code_of}
-use Rattle.target_core.specs.Faults.{IsKeyFault}
+use Rattle.target_core.specs.Faults.{IsNoToml, IsKeyFault}
 use Rattle.target_core.specs.declared.fault.TargetFault.{TargetFault}
-use Rattle.target_core.specs.declared.fault.TargetFault.TheVariants.{NotToml}
 use Rattle.target_core.proofs.ItemArities.{as_many}
 
 same_items : (t : Members) (ds es : Items) → get_member (codes "arities") t ≡ Some (array ds) → get_member (codes "arities") t ≡ Some (array es) → ds ≡ es
@@ -23,7 +22,7 @@ pub other_keys : (t : Members) (ns : List ℕ) (above : ℕ) → keys t ≢ 1 �
 other_keys t ns above not_one not_two (one_arity d h k p q) = not_two k
 other_keys t ns above not_one not_two (each_arity ds ns' k p q short) = not_one k
 
-pub refused_toml : (bytes : List ℕ) (fault : TargetFault) → length bytes ≤ 65536 → (fault ≡ NotToml) × ((t : Members) → IsToml bytes t → ⊥) → IsRefused bytes (code_of fault)
+pub refused_toml : (bytes : List ℕ) (fault : TargetFault) → length bytes ≤ 65536 → IsNoToml fault bytes → IsRefused bytes (code_of fault)
 refused_toml bytes fault short none = rw none.0 (not_toml short none.1)
 
 pub refused_keys : (bytes : List ℕ) (fault : TargetFault) (t : Members) → length bytes ≤ 65536 → IsToml bytes t → IsKeyFault fault t → IsRefused bytes (code_of fault)

@@ -1,7 +1,6 @@
-pub mod OneAnswer
-pub mod Ranges
-pub mod Decided
+pub mod OneTarget
+pub mod ArityRanges
+pub mod TextAnswers
 mod Faults
 mod ItemArities
-mod LeafCounts
 mod TableValues

@@ -1,11 +1,15 @@
 -- Why a table is no target's.
 use Rattle.std.specs.Prelude.{◌≡◌, ℕ, List}
 use Rattle.toml.specs.Data.{Items, Members}
-use Rattle.target_core.specs.TargetText.{AreArities, GivesArities}
+use Rattle.target_core.specs.TargetText.{IsToml, AreArities, GivesArities}
 use Rattle.target_core.specs.declared.fault.TargetFault.{TargetFault}
-use Rattle.target_core.specs.declared.fault.TargetFault.TheVariants.{Key}
+use Rattle.target_core.specs.declared.fault.TargetFault.TheVariants.{NotToml, Key}
 
--- the fault of items that aren't numbers from 2 to 64
+-- the fault of bytes that are no TOML document
+abbrev pub IsNoToml : TargetFault → List ℕ → Type 0
+IsNoToml fault bytes = (fault ≡ NotToml) × ((table : Members) → IsToml bytes table → ⊥)
+
+-- the fault of items that aren't arities
 pub record IsArrayFault (fault : TargetFault) (items : Items) : Type 0 where
   pub key : fault ≡ Key
   pub none : (arities : List ℕ) → AreArities items arities → ⊥

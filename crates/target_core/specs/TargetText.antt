@@ -2,7 +2,13 @@
 use Rattle.std.specs.Prelude.{◌≡◌, ℕ, suc, ◌≤◌, ◌<◌, pos, List, [], ◌∷◌, length, replicate, Some, codes, IsUtf8}
 use Rattle.toml.specs.Data.{integer, array, Items, no_items, item, Members, no_members, member, get_member}
 use Rattle.toml.specs.Parse.{parse_document}
-use Rattle.target_defs.specs.Target.{leaves}
+use Rattle.target_defs.specs.Target.{leaves, least_arity, most_arity, most_levels, most_leaves}
+use Rattle.target_core.specs.declared.fault.TargetFault.TheVariants.{NotToml, Key, Large, TooLong}
+use Rattle.target_core.specs.Codes.{code_of}
+
+-- the most bytes of a target's text
+abbrev pub most_bytes : ℕ
+most_bytes = 65536
 
 -- the table that TOML reads the bytes as
 pub record IsToml (bytes : List ℕ) (table : Members) : Type 0 where
@@ -24,25 +30,25 @@ abbrev pub AreArities : Items → List ℕ → Type 0
 AreArities no_items [] = Unit {0}
 AreArities no_items (n ∷ ns) = ⊥
 AreArities (item d ds) [] = ⊥
-AreArities (item d ds) (n ∷ ns) = (d ≡ integer (pos n)) × (2 ≤ n) × (n ≤ 64) × AreArities ds ns
+AreArities (item d ds) (n ∷ ns) = (d ≡ integer (pos n)) × (least_arity ≤ n) × (n ≤ most_arity) × AreArities ds ns
 
 -- the first arity, and 2 where there is none
 abbrev pub first_arity : List ℕ → ℕ
-first_arity [] = 2
+first_arity [] = least_arity
 first_arity (n ∷ ns) = n
 
 -- the arities from the root down that the table gives, and that of all levels above the root
 pub data GivesArities (table : Members) : List ℕ → ℕ → Type 0 where
-  one_arity : (arity height : ℕ) → keys table ≡ 2 → HasNumber table (codes "arity") 2 64 arity → HasNumber table (codes "height") 0 16 height → GivesArities table (replicate height arity) arity
-  each_arity : (items : Items) (arities : List ℕ) → keys table ≡ 1 → get_member (codes "arities") table ≡ Some (array items) → AreArities items arities → length arities ≤ 16 → GivesArities table arities (first_arity arities)
+  one_arity : (arity height : ℕ) → keys table ≡ 2 → HasNumber table (codes "arity") least_arity most_arity arity → HasNumber table (codes "height") 0 most_levels height → GivesArities table (replicate height arity) arity
+  each_arity : (items : Items) (arities : List ℕ) → keys table ≡ 1 → get_member (codes "arities") table ≡ Some (array items) → AreArities items arities → length arities ≤ most_levels → GivesArities table arities (first_arity arities)
 
 -- the text is accepted, with these arities from the root down and this one above them
 pub record IsTargetText (bytes : List ℕ) (arities : List ℕ) (above : ℕ) : Type 0 where
-  pub short : length bytes ≤ 65536
+  pub short : length bytes ≤ most_bytes
   pub table : Members
   pub toml : IsToml bytes table
   pub gives : GivesArities table arities above
-  pub few : leaves arities ≤ 65536
+  pub few : leaves arities ≤ most_leaves
 
 -- the table doesn't have just the keys of a target, or a value at them isn't a whole number in its range
 pub record IsOffKeys (bytes : List ℕ) : Type 0 where
@@ -57,11 +63,11 @@ pub record IsLarge (bytes : List ℕ) : Type 0 where
   pub above : ℕ
   pub toml : IsToml bytes table
   pub gives : GivesArities table arities above
-  pub many : 65536 < leaves arities
+  pub many : most_leaves < leaves arities
 
 -- the number of the first fault that the text has, in the order: too long, no TOML, other keys or values, too many leaves
 pub data IsRefused (bytes : List ℕ) : ℕ → Type 0 where
-  too_long : 65536 < length bytes → IsRefused bytes 4
-  not_toml : length bytes ≤ 65536 → ((table : Members) → IsToml bytes table → ⊥) → IsRefused bytes 1
-  off_keys : length bytes ≤ 65536 → IsOffKeys bytes → IsRefused bytes 2
-  large : length bytes ≤ 65536 → IsLarge bytes → IsRefused bytes 3
+  too_long : most_bytes < length bytes → IsRefused bytes (code_of TooLong)
+  not_toml : length bytes ≤ most_bytes → ((table : Members) → IsToml bytes table → ⊥) → IsRefused bytes (code_of NotToml)
+  off_keys : length bytes ≤ most_bytes → IsOffKeys bytes → IsRefused bytes (code_of Key)
+  large : length bytes ≤ most_bytes → IsLarge bytes → IsRefused bytes (code_of Large)

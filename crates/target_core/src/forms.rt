@@ -11,7 +11,14 @@ use list_core::List;
 use std::alloc::Global;
 use toml::{Table, Value};
 
+/// The most levels of a target.
 const MOST_LEVELS: usize = 16;
+
+/// The fewest children of a node.
+const LEAST_ARITY: u32 = 2;
+
+/// The most children of a node.
+const MOST_ARITY: u32 = 64;
 
 /// The first arity, and 2 where there is none.
 fn first_arity(arities: &[u32]) -> u32
@@ -19,7 +26,7 @@ fn first_arity(arities: &[u32]) -> u32
 {
     match arities.first() {
         Some(first) => *first,
-        None => 2,
+        None => LEAST_ARITY,
     }
 }
 
@@ -30,7 +37,7 @@ fn arities_of(alloc: Global, items: &[Value]) -> Result<List<u32>, TargetFault>
 {
     let mut arities = Vec::new(alloc);
     for item in items {
-        match number_in(item, 2, 64) {
+        match number_in(item, LEAST_ARITY, MOST_ARITY) {
             Some(arity) => arities.push(arity)?,
             None => return Err(TargetFault::Key),
         }
@@ -59,8 +66,8 @@ fn one_arity(alloc: Global, table: &Table) -> Result<Target, TargetFault>
     ensures accepted { IfOk result (λ target. GivesArities (table_view table.now) target.arities target.above) }
     ensures refused { IfErr result (λ fault. fault ≢ TargetFault.NoMemory → IsKeyFault fault (table_view table.now)) }
 {
-    let arity = number_at(table, "arity", 2, 64).ok_or(TargetFault::Key)?;
-    let height = number_at(table, "height", 0, 16).ok_or(TargetFault::Key)?;
+    let arity = number_at(table, "arity", LEAST_ARITY, MOST_ARITY).ok_or(TargetFault::Key)?;
+    let height = number_at(table, "height", 0, MOST_LEVELS as u32).ok_or(TargetFault::Key)?;
     let arities = vec![in alloc; arity; height as usize]?;
     Ok(Target {
         arities: List::from_vec(arities),

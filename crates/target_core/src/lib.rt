@@ -14,5 +14,5 @@ mod values;
 
 pub use fault::TargetFault;
 pub use laws::{accepted_targets_are_in_range, texts_have_an_answer, texts_have_one_answer};
-pub use read::read_target;
+pub use read::{MOST_BYTES, read_target};
 pub use target::Target;

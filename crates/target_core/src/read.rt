@@ -1,10 +1,10 @@
 //! Reading a target's text.
-ghost use Rattle.std.specs.Prelude.{IfOk, IfErr, ◌≡◌, ◌≢◌};
-ghost use Rattle.toml.specs.Data.{Members};
+ghost use Rattle.std.specs.Prelude.{IfOk, IfErr, ◌≢◌};
 ghost use Rattle.toml.specs.View.{table_view};
 ghost use Rattle.target_defs.specs.Target.{IsInRange};
 ghost use Rattle.target_core.specs.TargetText.{IsToml, IsTargetText, IsRefused};
 ghost use Rattle.target_core.specs.Codes.{code_of};
+ghost use Rattle.target_core.specs.Faults.{IsNoToml};
 
 use crate::fault::TargetFault;
 use crate::forms::target_of;
@@ -13,12 +13,13 @@ use crate::target::Target;
 use std::alloc::Global;
 use toml::Table;
 
-const MOST_BYTES: usize = 65_536;
+/// The most bytes of a target's text.
+pub const MOST_BYTES: usize = 65_536;
 
 /// The table that a TOML document is.
 fn table_of(alloc: Global, bytes: &[u8]) -> Result<Table, TargetFault>
     ensures toml { IfOk result (λ table. IsToml bytes.now (table_view table)) }
-    ensures refused { IfErr result (λ fault. fault ≢ TargetFault.NoMemory → (fault ≡ TargetFault.NotToml) × ((table : Members) → IsToml bytes.now table → ⊥)) }
+    ensures refused { IfErr result (λ fault. fault ≢ TargetFault.NoMemory → IsNoToml fault bytes.now) }
 {
     match toml::table_from_slice(alloc, bytes) {
         Ok(table) => Ok(table),

@@ -5,7 +5,7 @@ use Rattle.std.specs.List.{AllByRecursion}
 use Rattle.std.proofs.Math.Seq.{drop-cons}
 use Rattle.std.proofs.lemmas.List.{drop_all}
 use Rattle.std.proofs.lemmas.Bool.{cases_Bool, ltb-true, ltb-false}
-use Rattle.target_defs.specs.Target.{lowest}
+use Rattle.target_defs.specs.Target.{IsArity, lowest}
 use Rattle.target_defs.specs.Laws.{HeightsAreInRange}
 use Rattle.target_defs.specs.Levels.{levels, down_from}
 
@@ -40,7 +40,7 @@ heights_give-holds ds above zero =
     rw none (sym (drop_all (length ds - 0) ds (omega arith)))
 heights_give-holds ds above (suc h) = ap (λ (l : List ℕ). levels ds above h ∷ l) (heights_give-holds ds above h) ∙ sym (next_level ds above h)
 
-heights : (ds : List ℕ) (above : ℕ) → AllByRecursion (λ d. (2 ≤ d) × (d ≤ 64)) ds → (2 ≤ above) × (above ≤ 64) → (h : ℕ) → (2 ≤ levels ds above h) × (levels ds above h ≤ 64)
+heights : (ds : List ℕ) (above : ℕ) → AllByRecursion IsArity ds → IsArity above → (h : ℕ) → IsArity (levels ds above h)
 heights ds above all among h = grind (arith, common_steps)
 
 pub heights_in_range-holds : HeightsAreInRange

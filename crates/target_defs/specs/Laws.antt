@@ -1,6 +1,6 @@
 -- What follows from the definitions of targets.
-use Rattle.std.specs.Prelude.{◌≡◌, ℕ, ◌≤◌, List, length}
-use Rattle.target_defs.specs.Target.{IsInRange, lowest}
+use Rattle.std.specs.Prelude.{◌≡◌, ℕ, List, length}
+use Rattle.target_defs.specs.Target.{IsInRange, IsArity, lowest}
 use Rattle.target_defs.specs.Levels.{levels, down_from}
 
 -- counted by height, a target's arities are the lists of its lowest levels
@@ -12,4 +12,4 @@ AllLevelsAreTheTarget = (arities : List ℕ) (above : ℕ) → lowest arities ab
 
 -- the nodes of each height have from 2 to 64 children
 abbrev pub HeightsAreInRange : Type 0
-HeightsAreInRange = (arities : List ℕ) (above : ℕ) → IsInRange arities above → (h : ℕ) → (2 ≤ levels arities above h) × (levels arities above h ≤ 64)
+HeightsAreInRange = (arities : List ℕ) (above : ℕ) → IsInRange arities above → (h : ℕ) → IsArity (levels arities above h)

@@ -7,17 +7,35 @@ abbrev pub leaves : List ℕ → ℕ
 leaves [] = 1
 leaves (d ∷ arities) = d * leaves arities
 
+-- the most levels of a target
+abbrev pub most_levels : ℕ
+most_levels = 16
+
+-- the fewest children of a node, and the most
+abbrev pub least_arity : ℕ
+least_arity = 2
+
+abbrev pub most_arity : ℕ
+most_arity = 64
+
+-- the most leaves in all
+abbrev pub most_leaves : ℕ
+most_leaves = 65536
+
+abbrev pub IsArity : ℕ → Type 0
+IsArity d = (least_arity ≤ d) × (d ≤ most_arity)
+
 -- arities that a target may have: at most 16 levels, each of 2 to 64 children, and at most 65,536 leaves in all
 pub record IsTarget (arities : List ℕ) : Type 0 where
-  pub levels : length arities ≤ 16
-  pub narrow : AllByRecursion (λ d. (2 ≤ d) × (d ≤ 64)) arities
-  pub few : leaves arities ≤ 65536
+  pub levels : length arities ≤ most_levels
+  pub narrow : AllByRecursion IsArity arities
+  pub few : leaves arities ≤ most_leaves
 
 -- a target whose root may be put below further levels, each from 2 to 64 wide
 pub record IsInRange (arities : List ℕ) (above : ℕ) : Type 0 where
   pub target : IsTarget arities
-  pub wide : 2 ≤ above
-  pub narrow : above ≤ 64
+  pub wide : least_arity ≤ above
+  pub narrow : above ≤ most_arity
 
 -- The lowest levels of a target, so many as the height says. Where the target has fewer, all its levels stand below
 -- further ones of the arity `above`.

@@ -1,4 +1,5 @@
-//! What a target is: a complete tree with an arity for each level, and further levels above it.
+//! What a target is: a complete tree with an arity for each level, and further levels above it. Begin with
+//! specs/Target.antt.
 #![tactic(auto)]
 
 ghost use Rattle.target_defs.specs.Laws.{HeightsGiveTheLowestLevels, AllLevelsAreTheTarget, HeightsAreInRange};

@@ -5,7 +5,7 @@ use Rattle.pifo_core.specs.Sorted.{Contents}
 use Rattle.tree_core.specs.Paths.{digits_of}
 use Rattle.tree_core.specs.TreeContents.{TreeContents, branch, forest, spares, grown}
 use Rattle.tree_core.specs.Places.{without_places, without_places_below, HasNoFewer, HaveNoFewer}
-use Rattle.tree_core.proofs.Along.{later, later-cons, child_within}
+use Rattle.tree_core.proofs.PushSteps.{later, later-cons, child_within}
 
 -- ---- push
 pub one_less : (m n : ℕ) → m + 1 ≡ n → m ≡ n - 1

@@ -56,6 +56,10 @@ pub record IsSound (s : Contents) (ks : List TreeContents) : Type 0 where
   pub pushed_below : EachPushed s.pushes ks
   pub digits : HasDigits s.entries ks
 
+-- a pop gives v on this way, and leaves this tree
+abbrev pub PopsTo : Tree Queue → ℕ → Way → Tree Queue → Type 0
+PopsTo t v taken left = pop t ≡ Some (record { value = v; digits = taken.digits; ranks = taken.ranks; left = left })
+
 -- after a pop `taken` holds what it took, behind what it held
 pub record PopsOnto (t : Tree Queue) (before after : Way) (v : ℕ) (rest : Tree Queue) : Type 0 where
   pub result : Popping (Tree Queue)

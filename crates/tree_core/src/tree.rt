@@ -4,9 +4,9 @@ ghost use Rattle.tree_defs.specs.Tree.{LeadsToLeaf, depth};
 ghost use Rattle.tree_defs.specs.Topology.{IsBranched};
 ghost use Rattle.tree_defs.specs.SourceTree.{push, pop, IsWellFormed, size, empty_tree};
 ghost use Rattle.tree_core.specs.Paths.{digits, ranks, digits_of, ranks_of};
-ghost use Rattle.tree_core.specs.Shape.{topology};
+ghost use Rattle.tree_core.specs.Shape.{topology, max_levels};
 ghost use Rattle.tree_core.specs.Places.{HasRoom, HasNoFewer, without_places};
-ghost use Rattle.tree_core.specs.TreeContents.{PopsOnto};
+ghost use Rattle.tree_core.specs.TreeContents.{PopsOnto, PopsTo};
 
 use crate::path::Path;
 use crate::taken::Taken;
@@ -45,7 +45,7 @@ impl SourceTree {
     /// The tree of a topology of at most 64 levels, since each level is a call within a call, with all queues empty. The error
     /// is want of memory.
     pub fn new(alloc: Global, topo: &Topo) -> Result<SourceTree, AllocError>
-        requires levels { depth (topology topo.now) ≤ 64 }
+        requires levels { depth (topology topo.now) ≤ max_levels }
         requires branched { IsBranched (topology topo.now) }
         ensures tree { IfOk result (λ t. t.tree ≡ empty_tree (topology topo.now)) }
         ensures pushes { IfOk result (λ t. t.pushes ≡ 0) }
@@ -123,7 +123,7 @@ impl SourceTree {
         ensures empty { IsNone result ↔ (size self.old.tree ≡ 0) }
         ensures unchanged { IfNone result (self.new ≡ self.old) }
         ensures untouched { IfNone result (taken.new ≡ taken.old) }
-        ensures popped { IfSome result (λ v. pop self.old.tree ≡ Some (record { value = v; digits = taken.new.digits; ranks = taken.new.ranks; left = self.new.tree })) }
+        ensures popped { IfSome result (λ v. PopsTo self.old.tree v taken.new self.new.tree) }
         ensures pushes { self.new.pushes ≡ self.old.pushes }
         ensures spare { HasNoFewer self.old.spare self.new.spare }
         ensures room { taken.new.room ≡ taken.old.room }

@@ -6,7 +6,7 @@ use Rattle.tree_defs.specs.Laws.{LeafAddressesLeadToLeaves, PrefixesComeBefore, 
 use Rattle.tree_defs.proofs.TopologyLaws.{leaf_at, leads_to, after-append, after-is, within_complete, address_of_complete, deep_leaf, leaf_of_complete}
 use Rattle.tree_defs.proofs.Shapes.{topology_of-same, same_shape, topology_of-empty, topology_of-push, topology_of-pop, pop-path}
 use Rattle.tree_defs.proofs.WellFormedLaws.{IsWellFormed-empty, IsWellFormed-push, IsWellFormed-pop, pop-none, length-root, size-empty, size-push, size-pop}
-use Rattle.tree_defs.proofs.Everywhere.{well_formed_at, well_formed_of}
+use Rattle.tree_defs.proofs.NodeWellFormed.{well_formed_at, well_formed_of}
 use Rattle.tree_defs.proofs.PacketLaws.{packets-empty, packets-push, packets-pop, values-push, values-pop, queue_at-push, queue_at-push_elsewhere, queue_at-pop, queue_at-pop_elsewhere}
 
 pub leaf_addresses_lead_to_leaves-holds : LeafAddressesLeadToLeaves

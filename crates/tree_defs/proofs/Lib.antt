@@ -1,6 +1,6 @@
 pub mod Options
 pub mod WellFormedLaws
-pub mod Everywhere
+pub mod NodeWellFormed
 pub mod Shapes
 pub mod PacketLaws
 pub mod TopologyLaws

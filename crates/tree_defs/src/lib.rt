@@ -1,4 +1,5 @@
 //! What topologies and source trees are: trees of push-in first-out queues, pushed and popped along paths.
+//! Begin with specs/Tree.antt and specs/SourceTree.antt.
 #![tactic(auto)]
 
 mod packets;

@@ -1,4 +1,4 @@
-use Rattle.embed_defs.proofs.Room.{there_or_none}
+use Rattle.embed_defs.proofs.RoomOrNone.{there_or_none}
 use Rattle.embed_defs.proofs.placements_are_there_or_none.Goals as goal
 
 pub returns : goal.returns

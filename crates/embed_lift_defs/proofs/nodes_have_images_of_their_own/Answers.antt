@@ -1,4 +1,4 @@
-use Rattle.embed_lift_defs.proofs.Reading.{nodes_have_images_of_their_own as holds}
+use Rattle.embed_lift_defs.proofs.PathsReadBack.{nodes_have_images_of_their_own as holds}
 use Rattle.embed_lift_defs.proofs.nodes_have_images_of_their_own.Goals as goal
 
 pub returns : goal.returns

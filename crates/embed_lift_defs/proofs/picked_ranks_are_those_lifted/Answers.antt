@@ -1,4 +1,4 @@
-use Rattle.embed_lift_defs.proofs.Reading.{picked_ranks_are_those_lifted as holds}
+use Rattle.embed_lift_defs.proofs.PathsReadBack.{picked_ranks_are_those_lifted as holds}
 use Rattle.embed_lift_defs.proofs.picked_ranks_are_those_lifted.Goals as goal
 
 pub returns : goal.returns

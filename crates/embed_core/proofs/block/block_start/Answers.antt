@@ -6,10 +6,10 @@ use Rattle.embed_defs.specs.Need.{leaves_below}
 use Rattle.embed_defs.specs.Counting.{value}
 use Rattle.target_defs.specs.Levels.{down_from}
 use Rattle.embed_core.specs.Range.{levels_of}
-use Rattle.embed_core.proofs.Range.{positive}
-use Rattle.embed_defs.proofs.Value.{value-zeros, zeros-within}
-use Rattle.embed_core.proofs.Children.{child-lower}
-use Rattle.embed_core.proofs.Starts.{start-fits, earlier-below, earlier-counted, later-counted, start-done}
+use Rattle.embed_core.proofs.TargetArities.{positive}
+use Rattle.embed_defs.proofs.LeafNumbers.{value-zeros, zeros-within}
+use Rattle.embed_core.proofs.PlacedChildren.{child-lower}
+use Rattle.embed_core.proofs.BlockStarts.{start-fits, earlier-below, earlier-counted, later-counted, start-done}
 use Rattle.embed_core.proofs.block.block_start.Goals as goal
 use Rattle.embed_core.proofs.block.block_start.Goals.{then-comes_before, else-comes_before}
 

@@ -1,7 +1,7 @@
 use Rattle.std.proofs.Common.{◌≡◌, ◌+◌, ◌-◌, length, arith}
 use Rattle.embed_core.specs.Range.{levels_of}
-use Rattle.embed_core.proofs.Range.{wide, narrow}
-use Rattle.embed_core.proofs.Skip.{digit-fits, set-within, raised, carried_on}
+use Rattle.embed_core.proofs.TargetArities.{wide, narrow}
+use Rattle.embed_core.proofs.NextBlocks.{digit-fits, set-within, raised, carried_on}
 use Rattle.embed_core.proofs.block.skip_block.Goals as goal
 
 pub overflow_add-digits : goal.overflow_add-digits

@@ -8,8 +8,8 @@ use Rattle.embed_defs.specs.Images.{image_map}
 use Rattle.embed_defs.proofs.Laws.{embeddings_need_room-holds, canonical_placements_are_embeddings-holds}
 use Rattle.embed_lift_defs.proofs.CanonicalMaps.{canonical_maps_are_good}
 use Rattle.embed_core.specs.Range.{levels_of}
-use Rattle.embed_core.proofs.Grown.{same-nodes}
-use Rattle.embed_core.proofs.Range.{wide, own_levels}
+use Rattle.embed_core.proofs.ChildNeeds.{same-nodes}
+use Rattle.embed_core.proofs.TargetArities.{wide, own_levels}
 use Rattle.embed_core.proofs.map.embed.Goals as goal
 
 pub returns-then-not-fit-clause-none : goal.returns-then-not-fit-clause-none

@@ -1,5 +1,5 @@
 use Rattle.std.proofs.Common.{◌+◌, ◌-◌, ◌/◌, arith}
-use Rattle.embed_core.proofs.Ordering.{between-start, between-before, between-after}
+use Rattle.embed_core.proofs.ImageOrders.{between-start, between-before, between-after}
 use Rattle.embed_core.proofs.order.child_to.Goals as goal
 
 pub loop-high-init : goal.loop-high-init

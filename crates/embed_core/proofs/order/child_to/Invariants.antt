@@ -1,5 +1,5 @@
 use Rattle.std.proofs.Common.{◌-◌}
-use Rattle.embed_core.proofs.Ordering.{IsBetween}
+use Rattle.embed_core.proofs.ImageOrders.{IsBetween}
 use Rattle.embed_core.proofs.order.child_to.Given as goal
 
 abbrev pub invariant-loop-high : goal.invariant-loop-high

@@ -1,7 +1,7 @@
 use Rattle.std.proofs.Common.{◌≡◌, ◌+◌, List, refl, map, sym, ap, ◌∙◌, subst}
 use Rattle.std.proofs.lemmas.List.{take_all}
 use Rattle.embed_core.specs.ImageOrder.{IsImageOrder}
-use Rattle.embed_core.proofs.Ordering.{Entry, AreEntered, entered-more, index_of, sorted-order}
+use Rattle.embed_core.proofs.ImageOrders.{Entry, AreEntered, entered-more, index_of, sorted-order}
 use Rattle.embed_core.proofs.order.image_order.Goals as goal
 
 pub loop-index-preserved : goal.loop-index-preserved

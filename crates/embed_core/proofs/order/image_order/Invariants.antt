@@ -1,5 +1,5 @@
 use Rattle.std.proofs.Common.{◌≡◌, map, take}
-use Rattle.embed_core.proofs.Ordering.{AreEntered, index_of}
+use Rattle.embed_core.proofs.ImageOrders.{AreEntered, index_of}
 use Rattle.embed_core.proofs.order.image_order.Given as goal
 
 abbrev pub invariant-loop-index : goal.invariant-loop-index

@@ -1,4 +1,4 @@
-use Rattle.embed_core.proofs.Alike.{leads-alike}
+use Rattle.embed_core.proofs.MapShapes.{leads-alike}
 use Rattle.tree_core.specs.Shape.{topology}
 use Rattle.embed_core.proofs.tests.lifts_to.Goals as goal
 

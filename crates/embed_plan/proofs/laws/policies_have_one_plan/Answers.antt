@@ -1,4 +1,4 @@
-use Rattle.embed_plan.proofs.Laws.{one_plan}
+use Rattle.embed_plan.proofs.OnePlan.{one_plan}
 use Rattle.embed_plan.proofs.laws.policies_have_one_plan.Goals as goal
 
 pub returns : goal.returns

@@ -4,8 +4,8 @@ use Rattle.tree_defs.specs.Tree.{Address}
 use Rattle.policy_core.specs.Numbering.{address_at}
 use Rattle.embed_plan.specs.Preorder.{addresses}
 use Rattle.embed_plan.specs.Plan.{line_for, map_line}
-use Rattle.embed_plan.proofs.Listed.{one_more, count}
-use Rattle.embed_plan.proofs.Telling.{name-told, image-told}
+use Rattle.embed_plan.proofs.PreorderAddresses.{one_more, count}
+use Rattle.embed_plan.proofs.PlanLines.{name-told, image-told}
 use Rattle.embed_plan.proofs.planning.put_maps.Goals as goal
 
 pub loop-node-preserved : goal.loop-node-preserved

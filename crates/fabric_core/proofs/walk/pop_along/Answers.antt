@@ -1,6 +1,6 @@
 use Rattle.std.proofs.Common.{◌≡◌, ℕ, get_or, length, refl, ap, ◌∙◌, ◌+◌, ◌*◌, get_or-set_same, arith}
-use Rattle.fabric_core.proofs.Walks.{at_child_width}
-use Rattle.fabric_core.proofs.Contents.{pushes_stay}
+use Rattle.fabric_core.proofs.LevelWalks.{at_child_width}
+use Rattle.fabric_core.proofs.ArrayUpdates.{pushes_stay}
 use Rattle.fabric_core.proofs.PopSteps.{popping_first, popping_next, popped_last, digit_taken}
 use Rattle.fabric_core.proofs.walk.pop_along.Goals as goal
 

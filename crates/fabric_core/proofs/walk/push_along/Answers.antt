@@ -1,5 +1,5 @@
 use Rattle.std.proofs.Common.{◌≡◌, ℕ, get_or, length, ap, arith}
-use Rattle.fabric_core.proofs.Walks.{at_index, at_width, at_child_width, leaf_length, digit_below}
+use Rattle.fabric_core.proofs.LevelWalks.{at_index, at_width, at_child_width, leaf_length, digit_below}
 use Rattle.fabric_core.proofs.PushSteps.{pushing_first, pushing_next, pushed_last, pushed_counts, room_for, few_for}
 use Rattle.fabric_core.proofs.walk.push_along.Goals as goal
 

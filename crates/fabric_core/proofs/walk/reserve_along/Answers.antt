@@ -1,7 +1,7 @@
 use Rattle.std.proofs.Common.{◌<◌, ◌+◌, ℕ, get_or, length, arith, subst, sym, ◌∙◌, length-set}
 use Rattle.std.proofs.lemmas.Result.{on_ok_weaker}
-use Rattle.fabric_core.proofs.Walks.{IsAt, at_index, at_width, at_child, at_child_width, leaf_length, digit_below}
-use Rattle.fabric_core.proofs.Contents.{entries_stay, pushes_stay}
+use Rattle.fabric_core.proofs.LevelWalks.{IsAt, at_index, at_width, at_child, at_child_width, leaf_length, digit_below}
+use Rattle.fabric_core.proofs.ArrayUpdates.{entries_stay, pushes_stay}
 use Rattle.fabric_core.proofs.ReserveSteps.{room_next_queue, room_last_queue}
 use Rattle.fabric_core.proofs.walk.reserve_along.Goals as goal
 

@@ -1,6 +1,6 @@
 use Rattle.std.proofs.Common.{◌≡◌, length}
 use Rattle.fabric_core.specs.Array.{entries_of, pushes_of, spare_of}
-use Rattle.fabric_core.proofs.Walks.{IsAt}
+use Rattle.fabric_core.proofs.LevelWalks.{IsAt}
 use Rattle.fabric_core.proofs.ReserveSteps.{HasRoomSoFar}
 use Rattle.fabric_core.proofs.walk.reserve_along.Given as goal
 

@@ -1,7 +1,7 @@
 use Rattle.std.proofs.Common.{rules, arith, ◌≡◌}
 use Rattle.std.specs.Int.{int_min, int_max}
 use Rattle.std.proofs.lemmas.Int.{ints, clamps}
-use Rattle.rank_defs.proofs.Narrow.{at_numbers}
+use Rattle.rank_defs.proofs.NarrowIntervals.{at_numbers}
 use Rattle.range_core.proofs.interval.joined.Goals as goal
 
 pub returns : goal.returns

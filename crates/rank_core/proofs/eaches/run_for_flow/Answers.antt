@@ -1,4 +1,4 @@
-use Rattle.rank_core.proofs.Flows.{write_others}
+use Rattle.rank_core.proofs.FlowMaps.{write_others}
 use Rattle.rank_core.proofs.eaches.run_for_flow.Goals as goal
 
 pub returns-clause-others : goal.returns-clause-others

@@ -2,8 +2,8 @@ use Rattle.std.proofs.Common.{rules}
 use Rattle.rank_defs.specs.Programs.{program_of}
 use Rattle.rank_defs.specs.States.{SameState}
 use Rattle.rank_defs.specs.Steps.{after_pop}
-use Rattle.rank_defs.proofs.Same.{in_range-same, same-sym}
-use Rattle.rank_defs.proofs.Safe.{safe_pop}
+use Rattle.rank_defs.proofs.SameStates.{in_range-same, same-sym}
+use Rattle.rank_defs.proofs.SafeSteps.{safe_pop}
 use Rattle.rank_core.specs.Node.{state_of}
 use Rattle.rank_core.proofs.node.run_pop.Goals as goal
 

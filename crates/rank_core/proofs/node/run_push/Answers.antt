@@ -2,8 +2,8 @@ use Rattle.std.proofs.Common.{rules, ◌≡◌, ◌≤◌, sym, subst}
 use Rattle.rank_defs.specs.Programs.{program_of, max_rank}
 use Rattle.rank_defs.specs.States.{SameState}
 use Rattle.rank_defs.specs.Steps.{push_rank, after_push}
-use Rattle.rank_defs.proofs.Same.{in_range-same, same-sym}
-use Rattle.rank_defs.proofs.Safe.{safe_push}
+use Rattle.rank_defs.proofs.SameStates.{in_range-same, same-sym}
+use Rattle.rank_defs.proofs.SafeSteps.{safe_push}
 use Rattle.rank_core.specs.Node.{state_of}
 use Rattle.rank_core.proofs.node.run_push.Goals as goal
 

@@ -2,7 +2,7 @@ use Rattle.std.proofs.Common.{rules, ◌≡◌, drop, ◌∷◌, ◌+◌}
 use Rattle.std.proofs.lemmas.List.{drop_more}
 use Rattle.rank_defs.specs.Programs.{program_of}
 use Rattle.rank_core.specs.Scope.{memory}
-use Rattle.rank_core.proofs.Loop.{turn}
+use Rattle.rank_core.proofs.AssignmentLoop.{turn}
 use Rattle.rank_core.proofs.step.run.Goals as goal
 
 pub loop-assign-preserved : goal.loop-assign-preserved

@@ -1,4 +1,4 @@
-use Rattle.rank_defs.proofs.Safe.{always-tame, safe_push, safe_pop, first_state-in_range}
+use Rattle.rank_defs.proofs.SafeSteps.{always-tame, safe_push, safe_pop, first_state-in_range}
 use Rattle.rank_defs.proofs.laws.checked_steps_are_safe.Goals as goal
 
 pub returns-clause-tame : goal.returns-clause-tame

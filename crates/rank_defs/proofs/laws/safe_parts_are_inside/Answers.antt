@@ -1,4 +1,4 @@
-use Rattle.rank_defs.proofs.Sound.{parts_in, parts_narrow, value_fits}
+use Rattle.rank_defs.proofs.ValueIntervals.{parts_in, parts_narrow, value_fits}
 use Rattle.rank_defs.proofs.laws.safe_parts_are_inside.Goals as goal
 
 pub returns-clause-inside : goal.returns-clause-inside

@@ -1,5 +1,5 @@
 use Rattle.rank_defs.proofs.Runs.{pop_step-rank}
-use Rattle.rank_defs.proofs.Same.{push_step-same, pop_step-same, after_push-same, after_pop-same}
+use Rattle.rank_defs.proofs.SameStates.{push_step-same, pop_step-same, after_push-same, after_pop-same}
 use Rattle.rank_defs.proofs.laws.steps_change_one.Goals as goal
 
 pub returns-clause-ranks : goal.returns-clause-ranks

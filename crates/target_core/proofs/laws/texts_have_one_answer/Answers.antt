@@ -1,4 +1,4 @@
-use Rattle.target_core.proofs.OneAnswer.{one_answer-holds}
+use Rattle.target_core.proofs.OneTarget.{one_answer-holds}
 use Rattle.target_core.proofs.laws.texts_have_one_answer.Goals as goal
 
 pub returns : goal.returns

@@ -1,6 +1,6 @@
 use Rattle.std.proofs.Common.{◌≡◌, Option, Some, None, MatchOption, get_or, length, sym, subst, ◌<◌, ◌≤◌}
 use Rattle.tree_defs.specs.Tree.{Address}
-use Rattle.embed_core.proofs.Looking.{image-down, image-out}
+use Rattle.embed_core.proofs.MapSteps.{image-down, image-out}
 use Rattle.embed_core.proofs.map.Map.+image.Goals as goal
 
 pub returns-in-Some : goal.returns-in-Some

@@ -1,6 +1,6 @@
 use Rattle.std.proofs.Common.{rules, ◌≡◌, ◌-◌, ◌<◌, length, drop, sym, ap, ◌∙◌, arith, length-drop, length-take}
 use Rattle.tree_defs.specs.Tree.{root_of}
-use Rattle.embed_core.proofs.Lifting.{IsStep, step-down, step-within, ranks-behind, IsLast, last-at}
+use Rattle.embed_core.proofs.LiftSteps.{IsStep, step-down, step-within, ranks-behind, IsLast, last-at}
 use Rattle.embed_core.proofs.map.Map.+lift_from.Goals as goal
 
 pub index-child-requires : goal.index-child-requires

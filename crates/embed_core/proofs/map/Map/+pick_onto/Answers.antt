@@ -1,7 +1,7 @@
 use Rattle.std.proofs.Common.{rules, ◌≡◌, ℕ, ◌+◌, ◌<◌, [], ◌∷◌, ◌++◌, length, get_or, sym, ap, ◌∙◌, subst, arith, length-append}
 use Rattle.embed_core.specs.ImageOrder.{AreApart, IsOnSide}
-use Rattle.embed_core.proofs.Looking.{some_child}
-use Rattle.embed_core.proofs.Picking.{IsFound, found, root-short, some_side, apart, side-begins}
+use Rattle.embed_core.proofs.MapSteps.{some_child}
+use Rattle.embed_core.proofs.PickedChildren.{IsFound, found, root-short, some_side, apart, side-begins}
 use Rattle.embed_core.proofs.map.Map.+pick_onto.Goals as goal
 
 pub bounds-ranks-depth : goal.bounds-ranks-depth

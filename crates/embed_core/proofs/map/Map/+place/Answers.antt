@@ -4,11 +4,11 @@ use Rattle.tree_defs.specs.Tree.{trees_of, nodes, root_of}
 use Rattle.embed_defs.specs.Need.{FitsBelow, needs_at, HoldsNeeds}
 use Rattle.embed_defs.specs.Canonical.{image_part, children}
 use Rattle.embed_core.specs.Range.{levels_of}
-use Rattle.embed_core.proofs.Range.{positive}
+use Rattle.embed_core.proofs.TargetArities.{positive}
 use Rattle.embed_defs.proofs.Digits.{length-digits}
 use Rattle.embed_defs.proofs.CanonicalPlaced.{own_height}
-use Rattle.embed_core.proofs.Children.{children-fit, children-hold, child-holds, child-smaller, child-lower, child-among}
-use Rattle.embed_core.proofs.Placing.{images-step, images-done, all-images, few-images}
+use Rattle.embed_core.proofs.PlacedChildren.{children-fit, children-hold, child-holds, child-smaller, child-lower, child-among}
+use Rattle.embed_core.proofs.ChildImages.{images-step, images-done, all-images, few-images}
 use Rattle.embed_core.proofs.map.Map.+place.Goals as goal
 
 pub block_start-requires-clause-child : goal.block_start-requires-clause-child

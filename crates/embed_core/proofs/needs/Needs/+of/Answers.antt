@@ -5,10 +5,10 @@ use Rattle.tree_defs.specs.Topology.{IsBranched}
 use Rattle.tree_core.specs.Shape.{topology}
 use Rattle.embed_defs.specs.Need.{needs_at, enough}
 use Rattle.embed_core.specs.Range.{levels_of}
-use Rattle.embed_core.proofs.Range.{wide}
+use Rattle.embed_core.proofs.TargetArities.{wide}
 use Rattle.tree_core.specs.declared.topo.Topo.{Topo}
-use Rattle.tree_core.proofs.Grown.{topology_inner, child_branched, child_smaller, are_branched}
-use Rattle.embed_core.proofs.Grown.{AreNeedsOfEach, one_more, needs-push, few_needs, all_needs}
+use Rattle.tree_core.proofs.NewTrees.{topology_inner, child_branched, child_smaller, are_branched}
+use Rattle.embed_core.proofs.ChildNeeds.{AreNeedsOfEach, one_more, needs-push, few_needs, all_needs}
 use Rattle.embed_core.proofs.needs.Needs.+of.Goals as goal
 
 pub of-requires : goal.of-requires

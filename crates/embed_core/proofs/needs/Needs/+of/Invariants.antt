@@ -3,7 +3,7 @@ use Rattle.tree_defs.specs.Tree.{trees_of, nodes}
 use Rattle.tree_core.specs.Shape.{topology}
 use Rattle.embed_defs.specs.Need.{needs_at}
 use Rattle.embed_core.specs.Range.{levels_of}
-use Rattle.embed_core.proofs.Grown.{AreNeedsOfEach}
+use Rattle.embed_core.proofs.ChildNeeds.{AreNeedsOfEach}
 use Rattle.embed_core.proofs.needs.Needs.+of.Given as goal
 
 abbrev pub decreases-of : goal.decreases-of

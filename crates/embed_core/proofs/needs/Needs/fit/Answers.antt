@@ -1,6 +1,6 @@
 use Rattle.std.proofs.Common.{◌<◌, length}
 use Rattle.std.proofs.lemmas.Bool.{leb-true, le-leb}
-use Rattle.embed_core.proofs.Looking.{inner-height, some_child}
+use Rattle.embed_core.proofs.MapSteps.{inner-height, some_child}
 use Rattle.embed_core.proofs.needs.Needs.fit.Goals as goal
 
 pub returns-else-is_empty : goal.returns-else-is_empty

@@ -5,7 +5,7 @@ use Rattle.tree_defs.specs.Topology.{IsBranched}
 use Rattle.tree_defs.specs.SourceTree.{empty_trees}
 use Rattle.tree_core.specs.Shape.{topology}
 use Rattle.tree_core.specs.declared.topo.Topo.{Topo}
-use Rattle.tree_core.proofs.Grown.{topology_inner, child_branched, child_smaller, child_shallower, are_branched, one_more, EachPushed-push, grown_tree, grown_sound}
+use Rattle.tree_core.proofs.NewTrees.{topology_inner, child_branched, child_smaller, child_shallower, are_branched, one_more, EachPushed-push, grown_tree, grown_sound}
 use Rattle.tree_core.proofs.tree.SourceTree.+new.Goals as goal
 
 pub new-requires-in-loop-child : goal.new-requires-in-loop-child

@@ -3,7 +3,7 @@ use Rattle.pifo_defs.specs.Queue.{put}
 use Rattle.tree_defs.specs.SourceTree.{push}
 use Rattle.tree_core.specs.Paths.{digits_of, ranks_of}
 use Rattle.tree_core.specs.TreeContents.{TreeContents}
-use Rattle.tree_core.proofs.Along.{leads_here, index_within, pushed_here, sound_here, sound_leaf, child_needs}
+use Rattle.tree_core.proofs.PushSteps.{leads_here, index_within, pushed_here, sound_here, sound_leaf, child_needs}
 use Rattle.tree_core.proofs.PlaceLaws.{used_here}
 use Rattle.tree_core.proofs.tree.SourceTree.+push_along.Goals as goal
 

@@ -2,8 +2,8 @@ use Rattle.std.proofs.Common.{rules, ap, ◌∙◌, length, arith, ◌≡◌, �
 use Rattle.pifo_defs.specs.Queue.{put}
 use Rattle.tree_defs.specs.SourceTree.{push}
 use Rattle.tree_core.specs.TreeContents.{TreeContents}
-use Rattle.tree_core.proofs.Along.{leads_here}
-use Rattle.tree_core.proofs.Ranked.{digit_within, needed_next, sound_next, pushed_next, used_next}
+use Rattle.tree_core.proofs.PushSteps.{leads_here}
+use Rattle.tree_core.proofs.AddressSteps.{digit_within, needed_next, sound_next, pushed_next, used_next}
 use Rattle.tree_core.proofs.tree.SourceTree.+push_to.Goals as goal
 
 pub index_mut-requires : goal.index_mut-requires

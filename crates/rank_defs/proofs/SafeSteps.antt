@@ -13,7 +13,7 @@ use Rattle.rank_defs.specs.Shapes.{IsShaped, AreWithin, IsStateInRange, IsMemory
 use Rattle.rank_defs.specs.Ranges.{declared}
 use Rattle.rank_defs.specs.Checks.{IsCheckedAssignment, IsChecked}
 use Rattle.rank_defs.specs.Tame.{IsTameAssignment, IsTame, IsAlwaysTame, IsSafePush, IsSafePop}
-use Rattle.rank_defs.proofs.Sound.{parts_in, parts_narrow}
+use Rattle.rank_defs.proofs.ValueIntervals.{parts_in, parts_narrow}
 use Rattle.rank_defs.proofs.Spans.{within-set, within-firsts, clamped-within, target-proper, variables-inside}
 
 -- what is written lies in its span

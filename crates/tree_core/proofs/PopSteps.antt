@@ -11,7 +11,7 @@ use Rattle.tree_defs.proofs.WellFormedLaws.{IsWellFormed-pop, length-size, times
 use Rattle.pifo_core.specs.Sorted.{Contents}
 use Rattle.tree_core.specs.Paths.{Way}
 use Rattle.tree_core.specs.TreeContents.{TreeContents, branch, forest, grown, IsSound, EachBelow, HasDigits, PopsOnto}
-use Rattle.tree_core.proofs.Along.{EachPushed-set, EachPushed-le, child_pushed}
+use Rattle.tree_core.proofs.PushSteps.{EachPushed-set, EachPushed-le, child_pushed}
 
 -- a node holds as many packets as its queue has entries
 pub size-length : (q : Queue) (ts : Trees Queue) → IsWellFormed (branch q ts) → size (branch q ts) ≡ length q

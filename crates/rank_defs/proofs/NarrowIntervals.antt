@@ -10,7 +10,7 @@ use Rattle.rank_defs.specs.declared.expression.Op.TheVariants.{Add, Sub, Mul, Di
 use Rattle.rank_defs.specs.declared.expression.Var.{Var as Name}
 use Rattle.rank_defs.specs.Formulas.{Formula, number, variable, two, negation, choice}
 use Rattle.rank_defs.specs.Ranges.{range, range_of, range_of_two, reach, holds_zero, hull_of, corners, IsNarrow, IsProper, ArePartsNarrow, AreOrdered}
-use Rattle.rank_defs.proofs.Sound.{narrow_fits}
+use Rattle.rank_defs.proofs.ValueIntervals.{narrow_fits}
 
 -- the four results at the ends fit where their hull is narrow
 pub record CornersFit (f : ℤ → ℤ → ℤ) (r s : Range) : Type 0 where

@@ -10,7 +10,7 @@ use Rattle.target_defs.specs.Levels.{Arities, down_from}
 use Rattle.embed_defs.proofs.Levels.{ArePositive}
 use Rattle.embed_defs.proofs.Blocks.{start-below}
 use Rattle.embed_defs.proofs.CanonicalPlaced.{all-leaves}
-use Rattle.embed_defs.proofs.Value.{digits-value}
+use Rattle.embed_defs.proofs.LeafNumbers.{digits-value}
 
 -- the children that are left, from the next on
 rest-children : (ks : List (Tree ℕ)) (i j : ℕ) (k : Tree ℕ) → i < length ks → k ≡ get_or ks i k → children (trees_of (drop i ks)) j ≡ (j, root_of k) ∷ children (trees_of (drop (i + 1) ks)) (suc j)

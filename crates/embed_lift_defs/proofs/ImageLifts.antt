@@ -17,8 +17,8 @@ use Rattle.embed_lift_defs.specs.Lifting.{placement_of, lift}
 use Rattle.embed_lift_defs.specs.Laws.{Maps}
 use Rattle.embed_lift_defs.proofs.Addresses.{digit_beyond-sum}
 use Rattle.embed_lift_defs.proofs.LiftLaw.{image-append, lift-law}
-use Rattle.embed_lift_defs.proofs.Longest.{lift-one}
-use Rattle.embed_lift_defs.proofs.Parts.{placed, image-is, shape-relative}
+use Rattle.embed_lift_defs.proofs.LongestPrefixes.{lift-one}
+use Rattle.embed_lift_defs.proofs.MapPlacements.{placed, image-is, shape-relative}
 
 -- where there is no child there is no part
 no_part : (ps : Placements) (i : ℕ) → subtree_in ps i [] ≡ None → part ps i ≡ []

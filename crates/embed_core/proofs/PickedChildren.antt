@@ -14,8 +14,8 @@ use Rattle.embed_lift_defs.specs.Lift.{picked_ranks, picked_ranks_below}
 use Rattle.embed_lift_defs.specs.GoodMaps.{IsDeep, IsNested, AreNested}
 use Rattle.embed_core.specs.ImageOrder.{child_image, AreApart, IsOnSide}
 use Rattle.embed_core.specs.Picks.{LeadsToImage, IsLeafImage, PicksOnto}
-use Rattle.embed_core.proofs.Looking.{child-at}
-use Rattle.embed_core.proofs.Lifting.{IsDeeper, leads-index, leads-child, deep-child}
+use Rattle.embed_core.proofs.MapSteps.{child-at}
+use Rattle.embed_core.proofs.LiftSteps.{IsDeeper, leads-index, leads-child, deep-child}
 
 prefix-append : (e c : Address) → IsPrefixOf e (e ++ c)
 prefix-append e c = (c, after-append e c)

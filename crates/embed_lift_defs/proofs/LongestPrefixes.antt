@@ -7,7 +7,7 @@ use Rattle.tree_defs.specs.SourceTree.{SourceTree}
 use Rattle.tree_defs.proofs.TopologyLaws.{after-append, after-is}
 use Rattle.embed_defs.specs.Placed.{Placement, Placements, part, IsPlaced, ArePlaced, lift_digits, digits_below}
 use Rattle.embed_defs.proofs.Addresses.{after-sum, one_prefix}
-use Rattle.embed_defs.proofs.Embedded.{apart_part}
+use Rattle.embed_defs.proofs.PlacedEmbeddings.{apart_part}
 use Rattle.fabric_defs.specs.Family.{Family}
 use Rattle.embed_lift_defs.specs.Lift.{IsLongestAt, StandsAt, IsLift}
 use Rattle.embed_lift_defs.specs.Lifting.{lift}

@@ -11,7 +11,7 @@ use Rattle.embed_defs.proofs.Addresses.{after-sum}
 use Rattle.embed_lift_defs.specs.Lift.{lift_ranks, lift_ranks_below}
 use Rattle.embed_lift_defs.specs.GoodMaps.{IsDeep, AreDeep, IsNested, AreNested}
 use Rattle.embed_lift_defs.specs.Lifting.{relative, relatives, placed_ranks, placed_ranks_below}
-use Rattle.embed_lift_defs.proofs.Heights.{IsOfHeight, AreOfHeight}
+use Rattle.embed_lift_defs.proofs.LeafHeights.{IsOfHeight, AreOfHeight}
 
 root-relative : (n : ℕ) (m : Tree Address) → root_of (relative n m) ≡ drop n (root_of m)
 root-relative n (leaf e) = refl

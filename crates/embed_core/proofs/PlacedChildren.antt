@@ -6,7 +6,7 @@ use Rattle.embed_defs.specs.Need.{FitsBelow, needs_at, AreLower, HoldsNeeds, Hol
 use Rattle.embed_defs.specs.Canonical.{children, IsAmong}
 use Rattle.target_defs.specs.Levels.{Arities}
 use Rattle.embed_defs.proofs.Levels.{ArePositive, leaves-le}
-use Rattle.embed_defs.proofs.Exists.{lower-more}
+use Rattle.embed_defs.proofs.EnoughHeights.{lower-more}
 
 module _ (a : Arities) (m : Tree ℕ) (n h : ℕ) (p : ArePositive a) (d : HoldsNeeds a m) (r : HasHeight h m) where
   pub children-fit : (ks : List (Tree ℕ)) → branch n (trees_of ks) ≡ m → 0 < length ks → FitsBelow a (needs_at (trees_of ks)) h

@@ -8,7 +8,7 @@ use Rattle.tree_defs.proofs.WellFormedLaws.{IsWellFormed-push}
 use Rattle.pifo_core.specs.Sorted.{Contents}
 use Rattle.tree_core.specs.TreeContents.{TreeContents, branch, forest, spares, grown, IsSound, HasDigits}
 use Rattle.tree_core.specs.Places.{HasRoom, without_places, without_places_below}
-use Rattle.tree_core.proofs.Along.{child_within, child_leads, child_room, child_pushed, EachPushed-le, EachPushed-set, forest-set, branch-push_child, HasDigits-put, leads_here}
+use Rattle.tree_core.proofs.PushSteps.{child_within, child_leads, child_room, child_pushed, EachPushed-le, EachPushed-set, forest-set, branch-push_child, HasDigits-put, leads_here}
 use Rattle.tree_core.proofs.PlaceLaws.{one_less, spares-used, branch-used}
 
 -- what is behind the first, as a slice pattern cuts it out

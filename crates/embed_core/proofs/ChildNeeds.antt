@@ -11,8 +11,8 @@ use Rattle.embed_defs.specs.Laws.{AreWide}
 use Rattle.tree_core.specs.declared.topo.Topo.{Topo}
 use Rattle.tree_core.specs.declared.topo.Topo.TheViews as views
 use Rattle.tree_defs.proofs.Shapes.{topology_of-same, topologies_of-same, nodes-topology, nodes_below-topology}
-use Rattle.tree_core.proofs.Grown.{topology_inner}
-use Rattle.embed_defs.proofs.Exists.{enough-nodes}
+use Rattle.tree_core.proofs.NewTrees.{topology_inner}
+use Rattle.embed_defs.proofs.EnoughHeights.{enough-nodes}
 
 -- the needs of each of some topologies
 abbrev pub AreNeedsOfEach : Arities → List Topology → List (Tree ℕ) → Type 0

@@ -7,7 +7,7 @@ use Rattle.tree_defs.specs.SourceTree.{IsWellFormed}
 use Rattle.pifo_core.specs.Sorted.{Contents}
 use Rattle.tree_core.specs.TreeContents.{TreeContents, branch, forest, spares, grown, IsSound, EachPushed, HasDigits}
 use Rattle.tree_core.specs.Places.{HasRoom, HasRoomBelow}
-use Rattle.tree_core.proofs.Along.{child_within, child_leads, child_pushed, EachPushed-set}
+use Rattle.tree_core.proofs.PushSteps.{child_within, child_leads, child_pushed, EachPushed-set}
 
 abbrev pub behind : List ℕ → List ℕ
 behind digits = take (length digits - 1) (drop 1 digits)

@@ -7,13 +7,13 @@ use Rattle.tree_defs.specs.Topology.{after, IsPrefixOf}
 use Rattle.tree_defs.proofs.TopologyLaws.{after-append, after-is}
 use Rattle.tree_defs.proofs.Shapes.{same_shape}
 use Rattle.embed_defs.specs.Placed.{Placement, lift_digits}
-use Rattle.embed_defs.proofs.Embedded.{prefix_back}
+use Rattle.embed_defs.proofs.PlacedEmbeddings.{prefix_back}
 use Rattle.embed_defs.proofs.Subtrees.{same_address}
 use Rattle.embed_lift_defs.specs.Lift.{lift_ranks, lift_ranks_below, picked_ranks, picked_ranks_below}
 use Rattle.embed_lift_defs.specs.GoodMaps.{IsDeep, AreDeep}
 use Rattle.embed_lift_defs.specs.Lifting.{placement_of}
 use Rattle.embed_lift_defs.specs.Laws.{PickedRanksAreThoseLifted, NodesHaveImagesOfTheirOwn}
-use Rattle.embed_lift_defs.proofs.Parts.{placed, image-is, shape-relative}
+use Rattle.embed_lift_defs.proofs.MapPlacements.{placed, image-is, shape-relative}
 
 -- ---- the ranks
 index-behind : (front xs : List ℕ) (n : ℕ) → length front ≡ n → slice_index (front ++ xs) n ≡ slice_index xs 0

@@ -4,7 +4,7 @@ use Rattle.std.proofs.lemmas.List.{drop_more}
 use Rattle.std.proofs.Math.Nat.{mul-le-mul_left}
 use Rattle.fabric_defs.specs.Family.{IsLeafAddress}
 use Rattle.fabric_core.specs.Array.{nodes}
-use Rattle.fabric_core.proofs.Reading.{child_place, next_nodes, place_within, some_nodes}
+use Rattle.fabric_core.proofs.ArrayReads.{child_place, next_nodes, place_within, some_nodes}
 
 -- the node that was come to, in an array of so many nodes
 pub record IsAt (arities : List ℕ) (count level begin width place : ℕ) : Type 0 where

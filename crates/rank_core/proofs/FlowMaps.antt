@@ -4,7 +4,7 @@ use Rattle.std.specs.Map.{lookup}
 use Rattle.std.specs.HashMap.{HashMap, get, get_by, UpdatesBy, WritesThrough}
 use Rattle.rank_defs.specs.declared.environment.FlowKey.{FlowKey}
 use Rattle.rank_defs.specs.declared.environment.Who.TheVariants.{Flow}
-use Rattle.rank_defs.proofs.Others.{same_who-other}
+use Rattle.rank_defs.proofs.OtherStates.{same_who-other}
 use Rattle.rank_defs.specs.contracts.environment.FlowKeyPartialEq.TheImpl.{eq-value}
 use Rattle.rank_defs.specs.States.{same_flow}
 

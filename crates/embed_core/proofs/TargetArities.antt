@@ -9,7 +9,7 @@ use Rattle.embed_defs.specs.Embedding.{HasEmbedding}
 use Rattle.embed_defs.specs.Need.{IsLeast}
 use Rattle.embed_defs.specs.Laws.{AreWide}
 use Rattle.embed_defs.proofs.Levels.{ArePositive}
-use Rattle.embed_defs.proofs.Exists.{wide-positive}
+use Rattle.embed_defs.proofs.EnoughHeights.{wide-positive}
 use Rattle.target_defs.specs.Target.{IsInRange}
 use Rattle.embed_core.specs.Range.{levels_of}
 

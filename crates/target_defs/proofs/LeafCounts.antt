@@ -3,10 +3,10 @@ use Rattle.std.proofs.Common.{◌≡◌, ℕ, zero, suc, ◌+◌, ◌*◌, ◌<�
 use Rattle.std.proofs.Math.Nat.{mul-le-mul_left}
 use Rattle.std.proofs.lemmas.List.{drop_more}
 use Rattle.std.specs.List.{AllByRecursion}
-use Rattle.target_defs.specs.Target.{leaves}
+use Rattle.target_defs.specs.Target.{IsArity, leaves}
 
 abbrev pub AreNarrow : List ℕ → Type 0
-AreNarrow = AllByRecursion (λ d. (2 ≤ d) × (d ≤ 64))
+AreNarrow = AllByRecursion IsArity
 
 pub some_leaves : (ds : List ℕ) → AreNarrow ds → 1 ≤ leaves ds
 some_leaves [] n = omega arith
@@ -14,7 +14,7 @@ some_leaves (d ∷ ds) n =
     let rest : 1 ≤ leaves ds = some_leaves ds n.1 in
     omega (arith, mul-le-mul_left d rest, n.0.0)
 
-pub narrow_at : (ds : List ℕ) (i d : ℕ) → AreNarrow ds → i < length ds → (2 ≤ get_or ds i d) × (get_or ds i d ≤ 64)
+pub narrow_at : (ds : List ℕ) (i d : ℕ) → AreNarrow ds → i < length ds → IsArity (get_or ds i d)
 narrow_at [] i d n l = absurd (omega arith)
 narrow_at (e ∷ ds) zero d n l = n.0
 narrow_at (e ∷ ds) (suc i) d n l = narrow_at ds i d n.1 (omega arith)
@@ -38,3 +38,7 @@ pub too_many : (ds : List ℕ) (i count most : ℕ) → AreNarrow ds → i < len
 too_many ds i count most n l counted many =
     let rest : 1 ≤ leaves (drop (i + 1) ds) = some_leaves (drop (i + 1) ds) (narrow_below (i + 1) ds n) in
     omega (arith, mul-le-mul_left (count * get_or ds i 0) rest, counted_next ds i count l counted, many)
+
+-- a level has no more nodes than the tree has leaves
+pub few_wide : (ds : List ℕ) (i width : ℕ) → AreNarrow ds → width * leaves (drop i ds) ≡ leaves ds → width ≤ leaves ds
+few_wide ds i width n e = omega (arith, e, mul-le-mul_left width (some_leaves (drop i ds) (narrow_below i ds n)))

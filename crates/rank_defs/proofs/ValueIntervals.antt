@@ -11,7 +11,7 @@ use Rattle.rank_defs.specs.Formulas.{Formula, number, variable, two, negation, c
 use Rattle.rank_defs.specs.Values.{Value, num, truth, nothing, value_of, apply, quotient, negated, chosen, FitsWide}
 use Rattle.rank_defs.specs.Ranges.{Sort, counts, tells, clash, sort_of, sort_of_two, sort_of_negation, sort_of_choice, range, range_of, range_of_two, joined_range, holds_zero, may_divide, parts_divide, widest, IsNarrow, ArePartsNarrow}
 use Rattle.rank_defs.specs.Tame.{IsInside, AreInside, HasValueIn, ArePartsIn}
-use Rattle.rank_defs.proofs.Corners.{Between-mul_left, Between-mul_right, Between-div_left, Between-div_right, within_corners}
+use Rattle.rank_defs.proofs.IntervalEnds.{Between-mul_left, Between-mul_right, Between-div_left, Between-div_right, within_corners}
 
 -- a value of this sort, inside the interval where it is a number
 abbrev pub Agrees : Sort → Range → Value → Type 0

@@ -5,7 +5,7 @@ use Rattle.tree_defs.specs.Tree.{Address}
 use Rattle.tree_defs.specs.Topology.{IsWithin}
 use Rattle.target_defs.specs.Levels.{Arities, down_from}
 use Rattle.embed_defs.specs.Need.{leaves_below}
-use Rattle.embed_defs.proofs.Apart.{AreApart, AreNonempty, alone, branch, branch-apart}
+use Rattle.embed_defs.proofs.PrefixFree.{AreApart, AreNonempty, alone, branch, branch-apart}
 
 -- the leaves below addresses
 abbrev pub weight : Arities → ℕ → List Address → ℕ

@@ -4,8 +4,8 @@ use Rattle.std.specs.List.{count_by}
 use Rattle.embed_defs.specs.Need.{IsLeast, FitsBelow, AreLower, enough}
 use Rattle.target_defs.specs.Levels.{Arities}
 use Rattle.embed_defs.specs.Laws.{AreWide}
-use Rattle.embed_defs.proofs.Exists.{wide-positive}
-use Rattle.embed_defs.proofs.Carry.{times, carried, times-count, carried-fits, carried-bound}
+use Rattle.embed_defs.proofs.EnoughHeights.{wide-positive}
+use Rattle.embed_defs.proofs.CarriedCounts.{times, carried, times-count, carried-fits, carried-bound}
 
 lower-each : (h : ℕ) (ns : List ℕ) → ((k : ℕ) → k < length ns → get_or ns k 0 < h) → AreLower h ns
 lower-each h [] f = tt

@@ -8,7 +8,7 @@ use Rattle.rank_defs.specs.States.{Memory}
 use Rattle.rank_defs.specs.Steps.{run, assigned}
 use Rattle.rank_defs.specs.Shapes.{IsShaped, IsMemoryInRange, IsShapedAssignment}
 use Rattle.rank_defs.specs.Checks.{IsCheckedAssignment}
-use Rattle.rank_defs.proofs.Safe.{assigned-in_range}
+use Rattle.rank_defs.proofs.SafeSteps.{assigned-in_range}
 
 abbrev pub Turn : Program → Env → List Assign → Memory → Memory → Type 0
 Turn p env rest m end =

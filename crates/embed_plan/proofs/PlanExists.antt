@@ -4,7 +4,7 @@ use Rattle.embed_defs.specs.Embedding.{HasEmbedding}
 use Rattle.embed_defs.specs.Images.{image_map}
 use Rattle.embed_defs.specs.Laws.{AreWide}
 use Rattle.embed_defs.proofs.Laws.{topologies_have_one_need-holds}
-use Rattle.embed_defs.proofs.Room.{there_or_none}
+use Rattle.embed_defs.proofs.RoomOrNone.{there_or_none}
 use Rattle.target_defs.specs.Levels.{levels, down_from}
 use Rattle.target_defs.proofs.LevelLaws.{heights_give-holds, heights_in_range-holds}
 use Rattle.tree_defs.specs.Topology.{topology_of, complete}

@@ -9,7 +9,7 @@ use Rattle.embed_defs.specs.Need.{AreNeedsOf, HasHeight}
 use Rattle.embed_defs.specs.Canonical.{canonical, IsCanonical}
 use Rattle.embed_defs.specs.Images.{image_map}
 use Rattle.embed_defs.specs.Laws.{AreWide, PlacementsAreThereOrNone}
-use Rattle.embed_defs.proofs.Exists.{wide-positive}
+use Rattle.embed_defs.proofs.EnoughHeights.{wide-positive}
 use Rattle.embed_defs.proofs.Needs.{some_needs}
 use Rattle.embed_defs.proofs.Images.{canonical-embedding, has-embedding}
 
