@@ -30,7 +30,7 @@ use Rattle.embed_defs.proofs.Laws.{canonical_placements_are_one-holds}
 use Rattle.replay_app.specs.Policies.{IsTextRefused, too_long, at_fault, fault_code, IsPolicyRefused, text_refused, statements_refused, Judged, IsPolicy}
 use Rattle.replay_app.specs.Scripts as scripts
 use Rattle.replay_app.specs.Targets.{IsTargetRefused, IsTargetOf, HasNoRoom, IsPlacement}
-use Rattle.replay_app.proofs.Following.{AreOne}
+use Rattle.replay_app.proofs.FollowLaws.{AreOne}
 
 -- ---- a policy
 one-text-refusal : (text : List ℕ) (code line d m : ℕ) → IsTextRefused text code line → IsTextRefused text d m → (code ≡ d) × (line ≡ m)

@@ -1,8 +1,7 @@
-pub mod Reports
-pub mod Loading
-pub mod Following
+pub mod LoadLaws
+pub mod FollowLaws
 pub mod Inputs
 pub mod OneAnswer
 pub mod SomeAnswer
-pub mod Telling
+pub mod AnswerLaws
 pub mod Unused

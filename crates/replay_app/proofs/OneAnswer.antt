@@ -12,9 +12,9 @@ use Rattle.replay_app.specs.Laws.{HaveOneAnswer}
 use Rattle.replay_app.specs.Targets.{IsPlanned, planned, plan_answer}
 use Rattle.replay_app.specs.Statuses.{status_code}
 use Rattle.replay_app.specs.declared.status.Status.{Status}
-use Rattle.replay_app.specs.declared.stop.Stop.{Stop}
+use Rattle.outside_core.specs.declared.stop.Stop.{Stop}
 use Rattle.replay_app.specs.Words.{replay, check, plan, direct, no_form}
-use Rattle.replay_app.proofs.Following.{one-follows}
+use Rattle.replay_app.proofs.FollowLaws.{one-follows}
 use Rattle.replay_app.proofs.Inputs.{policies_are_one, targets_are_one, rooms_are_one, scripts_are_one}
 
 pub one-planned : (policy : Policy) (target : Target) (a b : Answer) → IsPlanned policy target a → IsPlanned policy target b → a ≡ b

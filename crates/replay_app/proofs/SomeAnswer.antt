@@ -33,7 +33,7 @@ use Rattle.replay_app.specs.Policies.{too_long, at_fault, fault_code, IsPolicyRe
 use Rattle.replay_app.specs.Scripts as scripts
 use Rattle.replay_app.specs.Targets.{IsTargetRefused, IsTargetOf, HasNoRoom, IsPlacement, IsPlanned, planned, plan_answer}
 use Rattle.replay_app.specs.Words.{replay, check, plan, direct, no_form}
-use Rattle.replay_app.proofs.Following.{some-follows}
+use Rattle.replay_app.proofs.FollowLaws.{some-follows}
 
 -- ---- each input is refused or accepted
 policy_of_text : (text : List ℕ) → ((j : Judged) → IsPolicy text j → ⊥) → ((code line : ℕ) → IsPolicyRefused text code line → ⊥) → (es : List Entry) → HasEntries text es → ⊥

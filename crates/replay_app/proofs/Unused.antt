@@ -11,8 +11,8 @@ use Rattle.replay_app.specs.Output.{IsOutput}
 use Rattle.replay_app.specs.Targets.{IsPlanned, planned}
 use Rattle.replay_app.specs.Words.{Form, replay, check, plan, direct, no_form}
 use Rattle.replay_app.specs.declared.status.Status.{Status}
-use Rattle.replay_app.specs.declared.stop.Stop.{Stop}
-use Rattle.replay_app.proofs.Following.{each-follows, unchanged}
+use Rattle.outside_core.specs.declared.stop.Stop.{Stop}
+use Rattle.replay_app.proofs.FollowLaws.{each-follows, unchanged}
 
 planned_alone : (policy : Policy) (target : Target) (a : Answer) → IsPlanned policy target a → a.run ≡ None
 planned_alone policy target a (planned true text h) = refl

@@ -8,7 +8,7 @@ use Rattle.fabric_core.specs.declared.fabric.Fabric.{Ghosts}
 use Rattle.sched_embedded.specs.Fabrics.{FabricRun, Leaves, LeavesPart}
 use Rattle.replay_app.specs.Statuses.{status_code, kind_status}
 use Rattle.replay_app.specs.declared.status.Status.{Status}
-use Rattle.replay_app.specs.declared.stop.Stop.{Stop}
+use Rattle.outside_core.specs.declared.stop.Stop.{Stop}
 
 -- a status, the text that is written, and what is run through the fabric, if anything is
 pub record Answer : Type 0 where

@@ -10,5 +10,4 @@ pub mod Stages
 pub mod Fabrics
 pub mod Stops
 pub mod Named
-pub mod Placements
 pub mod Laws

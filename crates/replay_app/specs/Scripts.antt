@@ -1,7 +1,8 @@
 -- What is read of a script's text, and what is answered to a run.
 use Rattle.std.specs.Prelude.{◌<◌, ℕ, Option, List, length}
 use Rattle.report_core.specs.declared.fault.FaultKind.TheVariants as kind
-use Rattle.sched_defs.specs.Script.{Ending, Whole, BadCapture, PastLast}
+use Rattle.sched_defs.specs.declared.ending.Ending.{Ending}
+use Rattle.sched_defs.specs.declared.ending.Ending.TheVariants.{Whole, BadCapture, PastLast}
 use Rattle.events_core.specs.Script.{IsScript, IsFirstFault, most_bytes, code_of, place_of}
 use Rattle.events_core.specs.declared.step.Step.{Step}
 use Rattle.events_core.specs.declared.fault.ScriptFault.{ScriptFault}
@@ -22,7 +23,7 @@ AlongScript text after = Follows kind.Script (IsScriptRefused text) (IsScript te
 -- the status of a run: that of its ending
 abbrev pub ending_status : Ending → ℕ
 ending_status (Whole unsent) = 0
-ending_status (BadCapture fault) = 7
+ending_status (BadCapture c p) = 7
 ending_status (PastLast event) = 6
 
 -- what is answered to a run, and what of it goes through the fabric

@@ -1,6 +1,6 @@
 //! The canonical text of a policy.
-ghost use Rattle.std.specs.Prelude.{IfOk, IsErrOf, IsTrue};
-ghost use Rattle.outside_core.specs.Faults.{Rose};
+ghost use Rattle.std.specs.Prelude.{IfOk, IsTrue, IfErr};
+ghost use Rattle.outside_core.specs.Kept.{HasCause};
 ghost use Rattle.replay_app.specs.Answer.{IsTold};
 ghost use Rattle.replay_app.specs.Output.{IsOutput};
 ghost use Rattle.replay_app.specs.Statuses.{IsOneOf, statuses_of, status_code};
@@ -9,9 +9,8 @@ ghost use Rattle.replay_app.specs.Words.{WhereTold, check, file_words};
 use crate::policies::read_policy;
 use crate::refusal::Read;
 use crate::status::Status;
-use crate::stop::Stop;
 use crate::writing::{refuse, write};
-use outside_core::{Shelf, Sink};
+use outside_core::{Shelf, Sink, Stop};
 use policy_text::print;
 use report_core::FaultKind;
 use std::alloc::Global;
@@ -28,8 +27,7 @@ pub fn check_file<S: Shelf, K: Sink>(
     ensures answer { WhereTold (S.content shelf.old) (file_words (check name.now)) (λ contents.
         IsTold (IsOutput (check name.now) contents) result (K.written sink.old) (K.written sink.new)) }
     ensures statuses { IfOk result (λ s. IsOneOf (statuses_of (check name.now)) (status_code s)) }
-    ensures shelf_cause { IsErrOf result Stop.Shelf → Rose (S.faults shelf.old) (S.faults shelf.new) }
-    ensures sink_cause { IsErrOf result Stop.Sink → Rose (K.faults sink.old) (K.faults sink.new) }
+    ensures cause { IfErr result (λ stop. HasCause stop S.faults shelf.old shelf.new K.faults sink.old sink.new) }
 {
     match read_policy(alloc, shelf, name)? {
         Read::Accepted(judged) => {

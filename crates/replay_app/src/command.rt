@@ -1,6 +1,7 @@
 //! The one call of the program.
-ghost use Rattle.std.specs.Prelude.{◌≡◌, ◌≢◌, ◌<◌, ◌^◌, ◌∷◌, [], IfOk, IsErrOf};
+ghost use Rattle.std.specs.Prelude.{◌≡◌, ◌≢◌, ◌<◌, ◌^◌, ◌∷◌, [], IfOk, IsErrOf, IfErr};
 ghost use Rattle.outside_core.specs.Faults.{Rose};
+ghost use Rattle.outside_core.specs.Kept.{HasCause};
 ghost use Rattle.sched_embedded.specs.Fabrics.{IsAsItWas};
 ghost use Rattle.replay_app.specs.Answer.{IsLeft, IsTold};
 ghost use Rattle.replay_app.specs.Fabrics.{IsLeftBehind, UsesNoFabric};
@@ -14,11 +15,11 @@ use crate::plan::plan_files;
 use crate::refusal::Refusal;
 use crate::replay::replay_files;
 use crate::status::Status;
-use crate::stop::Stop;
+use crate::stop::stop_status;
 use crate::words::{Command, command_of};
 use crate::writing::refuse;
 use fabric_core::Fabric;
-use outside_core::{Shelf, Sink};
+use outside_core::{Shelf, Sink, Stop};
 use report_core::FaultKind;
 use std::alloc::Global;
 
@@ -44,9 +45,8 @@ fn answer<S: Shelf, K: Sink, F: Fabric>(
     ensures statuses { IfOk result (λ s. IsOneOf (statuses_of (form_in words.now)) (status_code s)) }
     ensures refused { IfOk result (λ s. IsRefusal (status_code s) → IsAsItWas F.Fabric fabric.old fabric.new) }
     ensures untouched { UsesNoFabric (form_in words.now) → IsAsItWas F.Fabric fabric.old fabric.new }
-    ensures no_files { file_words (form_in words.now) ≡ [] → IsErrOf result Stop.Shelf → ⊥ }
-    ensures shelf_cause { IsErrOf result Stop.Shelf → Rose (S.faults shelf.old) (S.faults shelf.new) }
-    ensures sink_cause { IsErrOf result Stop.Sink → Rose (K.faults sink.old) (K.faults sink.new) }
+    ensures no_files { file_words (form_in words.now) ≡ [] → IsErrOf result Stop.Source → ⊥ }
+    ensures cause { IfErr result (λ stop. HasCause stop S.faults shelf.old shelf.new K.faults sink.old sink.new) }
 {
     match command_of(words) {
         Some(Command::Replay(files)) => replay_files(alloc, &files, shelf, sink, fabric),
@@ -91,6 +91,6 @@ pub fn run<S: Shelf, K: Sink, F: Fabric>(
 {
     match answer(alloc, words, shelf, sink, fabric) {
         Ok(status) => status.code(),
-        Err(stop) => stop.status(),
+        Err(stop) => stop_status(stop),
     }
 }

@@ -1,7 +1,8 @@
 //! Runs through a policy's own tree of queues.
-ghost use Rattle.std.specs.Prelude.{◌≡◌, ◌≤◌, ◌∷◌, [], IfOk, IfSome, OnOk, OnErr, IsErrOf, IsTrue};
-ghost use Rattle.outside_core.specs.Faults.{Rose};
+ghost use Rattle.std.specs.Prelude.{◌≡◌, ◌≤◌, ◌∷◌, [], IfOk, IfSome, OnOk, OnErr, IsTrue, IfErr};
+ghost use Rattle.outside_core.specs.Kept.{HasCause};
 ghost use Rattle.outside_core.specs.Written.{Appended, AppendedPrefix};
+ghost use Rattle.events_core.specs.Script.{most_count};
 ghost use Rattle.events_core.specs.Steps.{counts_of};
 ghost use Rattle.sched_capture.specs.Answers.{direct_answer};
 ghost use Rattle.replay_app.specs.Answer.{IsTold};
@@ -16,11 +17,10 @@ use crate::policies::read_policy;
 use crate::refusal::Read;
 use crate::scripts::read_script;
 use crate::status::Status;
-use crate::stop::Stop;
+use crate::task::Task;
 use crate::words::DirectFiles;
 use crate::writing::refuse;
-use events_core::Step;
-use outside_core::{Shelf, Sink};
+use outside_core::{Shelf, Sink, Stop};
 use policy_core::Policy;
 use report_core::FaultKind;
 use sched_capture::direct;
@@ -30,23 +30,24 @@ use std::alloc::Global;
 fn direct_capture<S: Shelf, K: Sink>(
     alloc: Global,
     policy: &Policy,
-    steps: &[Step],
-    name: &str,
+    task: Task<'_>,
     shelf: &mut S,
     sink: &mut K,
 ) -> Result<Status, Stop>
-    requires lent { IsTrue (S.lends shelf.old name.now) }
-    requires short { counts_of steps.now ≤ 4194304 }
+    requires lent { IsTrue (S.lends shelf.old task.capture.now) }
+    requires short { counts_of task.steps.now ≤ most_count }
 
-    ensures status { IfOk result (λ s. IfSome (S.content shelf.old name.now) (λ file. status_code s ≡ ending_status (direct_answer policy.now steps.now file).ending)) }
+    ensures status { IfOk result (λ s. IfSome (S.content shelf.old task.capture.now) (λ file.
+        status_code s ≡ ending_status (direct_answer policy.now task.steps.now file).ending)) }
     ensures statuses { IfOk result (λ s. IsOneOf run_statuses (status_code s)) }
-    ensures text { OnOk result (IfSome (S.content shelf.old name.now) (λ file. Appended (K.written sink.old) (K.written sink.new) (direct_answer policy.now steps.now file).text)) }
-    ensures part { OnErr result (IfSome (S.content shelf.old name.now) (λ file. AppendedPrefix (K.written sink.old) (K.written sink.new) (direct_answer policy.now steps.now file).text)) }
-    ensures shelf_cause { IsErrOf result Stop.Shelf → Rose (S.faults shelf.old) (S.faults shelf.new) }
-    ensures sink_cause { IsErrOf result Stop.Sink → Rose (K.faults sink.old) (K.faults sink.new) }
+    ensures text { OnOk result (IfSome (S.content shelf.old task.capture.now) (λ file.
+        Appended (K.written sink.old) (K.written sink.new) (direct_answer policy.now task.steps.now file).text)) }
+    ensures part { OnErr result (IfSome (S.content shelf.old task.capture.now) (λ file.
+        AppendedPrefix (K.written sink.old) (K.written sink.new) (direct_answer policy.now task.steps.now file).text)) }
+    ensures cause { IfErr result (λ stop. HasCause stop S.faults shelf.old shelf.new K.faults sink.old sink.new) }
 {
-    shelf.begin(name)?;
-    Ok(Status::of_run(direct(alloc, policy, steps, shelf, sink)?))
+    shelf.begin(task.capture)?;
+    Ok(Status::of_run(direct(alloc, policy, task.steps, shelf, sink)?))
 }
 
 /// Runs the files of an accepted policy.
@@ -62,12 +63,15 @@ fn direct_script<S: Shelf, K: Sink>(
     ensures answer { WhereTold (S.content shelf.old) (files.now.capture.now ∷ files.now.script.now ∷ []) (λ contents.
         IsTold (BehindPolicy policy.now (contents files.now.script.now) (contents files.now.capture.now)) result (K.written sink.old) (K.written sink.new)) }
     ensures statuses { IfOk result (λ s. IsOneOf run_statuses (status_code s)) }
-    ensures shelf_cause { IsErrOf result Stop.Shelf → Rose (S.faults shelf.old) (S.faults shelf.new) }
-    ensures sink_cause { IsErrOf result Stop.Sink → Rose (K.faults sink.old) (K.faults sink.new) }
+    ensures cause { IfErr result (λ stop. HasCause stop S.faults shelf.old shelf.new K.faults sink.old sink.new) }
 {
     match read_script(alloc, shelf, files.script)? {
         Read::Accepted(script) => {
-            direct_capture(alloc, policy, script.steps(), files.capture, shelf, sink)
+            let task = Task {
+                steps: script.steps(),
+                capture: files.capture,
+            };
+            direct_capture(alloc, policy, task, shelf, sink)
         }
         Read::Refused(refusal) => refuse(alloc, sink, FaultKind::Script, refusal),
     }
@@ -85,8 +89,7 @@ pub fn direct_files<S: Shelf, K: Sink>(
     ensures answer { WhereTold (S.content shelf.old) (file_words (direct_form files.now)) (λ contents.
         IsTold (IsOutput (direct_form files.now) contents) result (K.written sink.old) (K.written sink.new)) }
     ensures statuses { IfOk result (λ s. IsOneOf (statuses_of (direct_form files.now)) (status_code s)) }
-    ensures shelf_cause { IsErrOf result Stop.Shelf → Rose (S.faults shelf.old) (S.faults shelf.new) }
-    ensures sink_cause { IsErrOf result Stop.Sink → Rose (K.faults sink.old) (K.faults sink.new) }
+    ensures cause { IfErr result (λ stop. HasCause stop S.faults shelf.old shelf.new K.faults sink.old sink.new) }
 {
     match read_policy(alloc, shelf, files.policy)? {
         Read::Accepted(judged) => direct_script(alloc, &judged.policy, files, shelf, sink),

@@ -14,6 +14,7 @@ mod scripts;
 mod status;
 mod stop;
 mod targets;
+mod task;
 #[cfg(test)]
 mod tests;
 mod words;

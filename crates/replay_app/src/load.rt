@@ -1,10 +1,8 @@
 //! Files read whole, up to a limit.
-ghost use Rattle.std.specs.Prelude.{◌≡◌, ◌≤◌, ◌<◌, ◌^◌, None, length, IfOk, IfSome, IsTrue, IsErrOf};
-ghost use Rattle.outside_core.specs.Faults.{Rose};
-ghost use Rattle.outside_core.specs.Files.{KeepsFiles};
+ghost use Rattle.std.specs.Prelude.{◌≡◌, ◌≤◌, ◌<◌, ◌^◌, None, length, IfOk, IfSome, IsTrue, IfErr};
+ghost use Rattle.outside_core.specs.Kept.{KeepsShelf, HasSourceCause};
 
-use crate::stop::Stop;
-use outside_core::{LoadError, Shelf, load};
+use outside_core::{LoadError, Shelf, Stop, load};
 use std::alloc::Global;
 
 /// The content of a file, unless it is longer than `most` bytes.
@@ -20,15 +18,13 @@ pub fn load_short<S: Shelf>(
     ensures found { IfOk result (λ o. IfSome (S.content shelf.old name.now) (λ bytes. IfSome o (λ v. v.items ≡ bytes))) }
     ensures bound { IfOk result (λ o. IfSome o (λ v. length v.items ≤ most)) }
     ensures too_long { IfOk result (λ o. IfSome (S.content shelf.old name.now) (λ bytes. o ≡ None → most < length bytes)) }
-    ensures files { KeepsFiles S.lends S.content shelf.old shelf.new }
-    ensures later { S.faults shelf.old ≤ S.faults shelf.new }
-    ensures cause { IsErrOf result Stop.Shelf → Rose (S.faults shelf.old) (S.faults shelf.new) }
-    ensures writes_nothing { IsErrOf result Stop.Sink → ⊥ }
+    ensures kept { KeepsShelf S.lends S.content S.faults shelf.old shelf.new }
+    ensures cause { IfErr result (λ stop. HasSourceCause stop S.faults shelf.old shelf.new) }
 {
     match load(alloc, shelf, name, most) {
         Ok(bytes) => Ok(Some(bytes)),
         Err(LoadError::TooLong) => Ok(None),
-        Err(LoadError::Failed) => Err(Stop::Shelf),
+        Err(LoadError::Failed) => Err(Stop::Source),
         Err(LoadError::NoMemory) => Err(Stop::Memory),
     }
 }

@@ -1,6 +1,6 @@
 //! Where a policy's tree is laid in a target.
-ghost use Rattle.std.specs.Prelude.{◌≡◌, ◌∷◌, [], false, IfOk, OnOk, OnErr, IsErrOf, IsTrue};
-ghost use Rattle.outside_core.specs.Faults.{Rose};
+ghost use Rattle.std.specs.Prelude.{◌≡◌, ◌∷◌, [], false, IfOk, OnOk, OnErr, IsTrue, IfErr};
+ghost use Rattle.outside_core.specs.Kept.{HasCause, HasSinkCause};
 ghost use Rattle.outside_core.specs.Written.{Appended, AppendedPrefix};
 ghost use Rattle.replay_app.specs.Answer.{IsTold};
 ghost use Rattle.replay_app.specs.Named.{plan_form};
@@ -12,12 +12,11 @@ ghost use Rattle.replay_app.specs.Words.{AreLent, WhereTold, file_words};
 use crate::policies::read_policy;
 use crate::refusal::Read;
 use crate::status::Status;
-use crate::stop::Stop;
 use crate::targets::read_target_file;
 use crate::words::PlanFiles;
 use crate::writing::{refuse, write};
 use embed_plan::{PlanText, plan};
-use outside_core::{Shelf, Sink};
+use outside_core::{Shelf, Sink, Stop};
 use policy_core::Policy;
 use report_core::{FaultKind, Report};
 use std::alloc::Global;
@@ -27,8 +26,7 @@ fn refuse_size<K: Sink>(alloc: Global, text: &[u8], sink: &mut K) -> Result<Stat
     ensures status { IfOk result (λ s. s ≡ Status.NoRoom) }
     ensures text { OnOk result (Appended (K.written sink.old) (K.written sink.new) (plan_answer false text.now).text) }
     ensures part { OnErr result (AppendedPrefix (K.written sink.old) (K.written sink.new) (plan_answer false text.now).text) }
-    ensures sink_cause { IsErrOf result Stop.Sink → Rose (K.faults sink.old) (K.faults sink.new) }
-    ensures reads_nothing { IsErrOf result Stop.Shelf → ⊥ }
+    ensures cause { IfErr result (λ stop. HasSinkCause stop K.faults sink.old sink.new) }
 {
     let mut report = Report::new(alloc)?;
     report.piece(sink, text)?;
@@ -43,8 +41,7 @@ fn write_plan<K: Sink>(alloc: Global, plan: &PlanText, sink: &mut K) -> Result<S
     ensures statuses { IfOk result (λ s. IsOneOf (5 ∷ 0 ∷ []) (status_code s)) }
     ensures text { OnOk result (Appended (K.written sink.old) (K.written sink.new) (plan_answer plan.now.fits plan.now.text.items).text) }
     ensures part { OnErr result (AppendedPrefix (K.written sink.old) (K.written sink.new) (plan_answer plan.now.fits plan.now.text.items).text) }
-    ensures sink_cause { IsErrOf result Stop.Sink → Rose (K.faults sink.old) (K.faults sink.new) }
-    ensures reads_nothing { IsErrOf result Stop.Shelf → ⊥ }
+    ensures cause { IfErr result (λ stop. HasSinkCause stop K.faults sink.old sink.new) }
 {
     if !plan.fits {
         return refuse_size(alloc, &plan.text, sink);
@@ -66,8 +63,7 @@ fn plan_target<S: Shelf, K: Sink>(
     ensures answer { WhereTold (S.content shelf.old) (name.now ∷ []) (λ contents.
         IsTold (ForTarget (contents name.now) (IsPlanned policy.now.policy)) result (K.written sink.old) (K.written sink.new)) }
     ensures statuses { IfOk result (λ s. IsOneOf (4 ∷ 5 ∷ 0 ∷ []) (status_code s)) }
-    ensures shelf_cause { IsErrOf result Stop.Shelf → Rose (S.faults shelf.old) (S.faults shelf.new) }
-    ensures sink_cause { IsErrOf result Stop.Sink → Rose (K.faults sink.old) (K.faults sink.new) }
+    ensures cause { IfErr result (λ stop. HasCause stop S.faults shelf.old shelf.new K.faults sink.old sink.new) }
 {
     match read_target_file(alloc, shelf, name)? {
         Read::Accepted(target) => {
@@ -90,8 +86,7 @@ pub fn plan_files<S: Shelf, K: Sink>(
     ensures answer { WhereTold (S.content shelf.old) (file_words (plan_form files.now)) (λ contents.
         IsTold (IsOutput (plan_form files.now) contents) result (K.written sink.old) (K.written sink.new)) }
     ensures statuses { IfOk result (λ s. IsOneOf (statuses_of (plan_form files.now)) (status_code s)) }
-    ensures shelf_cause { IsErrOf result Stop.Shelf → Rose (S.faults shelf.old) (S.faults shelf.new) }
-    ensures sink_cause { IsErrOf result Stop.Sink → Rose (K.faults sink.old) (K.faults sink.new) }
+    ensures cause { IfErr result (λ stop. HasCause stop S.faults shelf.old shelf.new K.faults sink.old sink.new) }
 {
     match read_policy(alloc, shelf, files.policy)? {
         Read::Accepted(judged) => plan_target(alloc, &judged.policy, files.target, shelf, sink),

@@ -1,14 +1,12 @@
 //! Policies read from files, and judged.
-ghost use Rattle.std.specs.Prelude.{◌≡◌, ◌≢◌, ◌≤◌, ℕ, List, IfOk, OnOk, IfSome, IsTrue, IsErrOf};
-ghost use Rattle.outside_core.specs.Faults.{Rose};
-ghost use Rattle.outside_core.specs.Files.{KeepsFiles};
+ghost use Rattle.std.specs.Prelude.{◌≡◌, ◌≢◌, ◌≤◌, ℕ, List, IfOk, OnOk, IfSome, IsTrue, IfErr};
+ghost use Rattle.outside_core.specs.Kept.{KeepsShelf, HasSourceCause};
 ghost use Rattle.policy_rules.specs.Codes.{code_of, line_of};
 ghost use Rattle.replay_app.specs.Policies.{IsTextRead, IsPolicyRead};
 
 use crate::load::load_short;
 use crate::refusal::{Read, Refusal};
-use crate::stop::Stop;
-use outside_core::Shelf;
+use outside_core::{Shelf, Stop};
 use policy_core::{Policy, PolicyFault, resolve};
 use policy_text::{Lines, TextFault, parse};
 use std::alloc::{AllocError, Global};
@@ -45,10 +43,8 @@ fn read_lines<S: Shelf>(alloc: Global, shelf: &mut S, name: &str) -> Result<Read
     requires lent { IsTrue (S.lends shelf.old name.now) }
 
     ensures read { IfOk result (λ read. IfSome (S.content shelf.old name.now) (λ text. IsTextRead text read)) }
-    ensures files { KeepsFiles S.lends S.content shelf.old shelf.new }
-    ensures later { S.faults shelf.old ≤ S.faults shelf.new }
-    ensures cause { IsErrOf result Stop.Shelf → Rose (S.faults shelf.old) (S.faults shelf.new) }
-    ensures writes_nothing { IsErrOf result Stop.Sink → ⊥ }
+    ensures kept { KeepsShelf S.lends S.content S.faults shelf.old shelf.new }
+    ensures cause { IfErr result (λ stop. HasSourceCause stop S.faults shelf.old shelf.new) }
 {
     match load_short(alloc, shelf, name, MOST_POLICY)? {
         Some(text) => Ok(lines_in(alloc, &text)?),
@@ -88,10 +84,8 @@ pub fn read_policy<S: Shelf>(alloc: Global, shelf: &mut S, name: &str) -> Result
     requires lent { IsTrue (S.lends shelf.old name.now) }
 
     ensures read { IfOk result (λ read. IfSome (S.content shelf.old name.now) (λ text. IsPolicyRead text read)) }
-    ensures files { KeepsFiles S.lends S.content shelf.old shelf.new }
-    ensures later { S.faults shelf.old ≤ S.faults shelf.new }
-    ensures cause { IsErrOf result Stop.Shelf → Rose (S.faults shelf.old) (S.faults shelf.new) }
-    ensures writes_nothing { IsErrOf result Stop.Sink → ⊥ }
+    ensures kept { KeepsShelf S.lends S.content S.faults shelf.old shelf.new }
+    ensures cause { IfErr result (λ stop. HasSourceCause stop S.faults shelf.old shelf.new) }
 {
     let read = read_lines(alloc, shelf, name)?;
     Ok(judge(alloc, read)?)

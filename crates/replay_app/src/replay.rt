@@ -1,19 +1,20 @@
 //! Runs through a fabric into which a policy's tree is laid.
-ghost use Rattle.std.specs.Prelude.{◌≡◌, ◌≤◌, ◌<◌, ◌^◌, ◌∷◌, [], IfOk, IfSome, OnOk, OnErr, IsErrOf, IsTrue};
-ghost use Rattle.outside_core.specs.Faults.{Rose};
+ghost use Rattle.std.specs.Prelude.{◌≡◌, ◌≤◌, ◌<◌, ◌^◌, ◌∷◌, [], IfOk, IfSome, OnOk, OnErr, IsTrue, IfErr};
+ghost use Rattle.outside_core.specs.Kept.{HasCause};
 ghost use Rattle.outside_core.specs.Written.{Appended, AppendedPrefix};
 ghost use Rattle.tree_defs.specs.Tree.{SameShape};
 ghost use Rattle.tree_defs.specs.Topology.{topology_of, complete};
 ghost use Rattle.target_defs.specs.Target.{IsInRange};
 ghost use Rattle.embed_defs.specs.Images.{image_map};
 ghost use Rattle.embed_defs.specs.Embedding.{IsEmbedding};
+ghost use Rattle.events_core.specs.Script.{most_count};
 ghost use Rattle.events_core.specs.Steps.{counts_of};
 ghost use Rattle.sched_embedded.specs.Fabrics.{IsAsItWas, Leaves, LeavesPart, run_of};
 ghost use Rattle.sched_capture.specs.Answers.{direct_answer};
+ghost use Rattle.sched_capture.specs.Placements.{laid_by};
 ghost use Rattle.replay_app.specs.Answer.{IsLeft, IsTold};
 ghost use Rattle.replay_app.specs.Named.{replay_form};
 ghost use Rattle.replay_app.specs.Output.{IsOutput};
-ghost use Rattle.replay_app.specs.Placements.{laid_by};
 ghost use Rattle.replay_app.specs.Scripts.{ending_status};
 ghost use Rattle.replay_app.specs.Stages.{BehindRoom, BehindTarget, BehindTargetText};
 ghost use Rattle.replay_app.specs.Statuses.{IsOneOf, IsRefusal, run_statuses, statuses_of, status_code};
@@ -23,62 +24,54 @@ use crate::policies::read_policy;
 use crate::refusal::{Read, Refusal};
 use crate::scripts::read_script;
 use crate::status::Status;
-use crate::stop::Stop;
 use crate::targets::read_target_file;
+use crate::task::Task;
 use crate::words::ReplayFiles;
 use crate::writing::refuse;
-use embed_core::{EmbedFault, Map, Target, embed};
-use events_core::Step;
+use embed_core::{EmbedFault, Target, embed};
 use fabric_core::Fabric;
-use outside_core::{Shelf, Sink};
+use outside_core::{Shelf, Sink, Stop};
 use policy_core::Policy;
 use report_core::FaultKind;
-use sched_capture::replay;
+use sched_capture::{Placement, replay};
 use std::alloc::Global;
 
 /// The target has no room for the policy's tree.
 const NO_ROOM: Refusal = Refusal { code: 1, place: 0 };
-
-/// A target, and where a policy's tree is laid in it.
-#[derive(Drop)]
-pub struct Placement {
-    pub target: Target,
-    pub map: Map,
-}
 
 /// Runs the steps of a script over a capture's file.
 fn replay_capture<S: Shelf, K: Sink, F: Fabric>(
     alloc: Global,
     policy: &Policy,
     placement: Placement,
-    steps: &[Step],
-    name: &str,
+    task: Task<'_>,
     shelf: &mut S,
     sink: &mut K,
     fabric: &mut F,
 ) -> Result<Status, Stop>
-    requires lent { IsTrue (S.lends shelf.old name.now) }
-    requires short { counts_of steps.now ≤ 4194304 }
+    requires lent { IsTrue (S.lends shelf.old task.capture.now) }
+    requires short { counts_of task.steps.now ≤ most_count }
     requires range { IsInRange placement.target.arities placement.target.above }
     requires map_shape { SameShape (topology_of policy.now.policy.tree) placement.map }
     requires embedding { IsEmbedding (topology_of policy.now.policy.tree) (complete placement.target.arities) (image_map placement.map) }
     requires pushes { F.pushed fabric.old < 2 ^ 61 }
     requires pops { F.popped fabric.old < 2 ^ 61 }
 
-    ensures status { IfOk result (λ s. IfSome (S.content shelf.old name.now) (λ file. status_code s ≡ ending_status (direct_answer policy.now steps.now file).ending)) }
+    ensures status { IfOk result (λ s. IfSome (S.content shelf.old task.capture.now) (λ file.
+        status_code s ≡ ending_status (direct_answer policy.now task.steps.now file).ending)) }
     ensures statuses { IfOk result (λ s. IsOneOf run_statuses (status_code s)) }
-    ensures text { OnOk result (IfSome (S.content shelf.old name.now) (λ file. Appended (K.written sink.old) (K.written sink.new) (direct_answer policy.now steps.now file).text)) }
-    ensures part { OnErr result (IfSome (S.content shelf.old name.now) (λ file. AppendedPrefix (K.written sink.old) (K.written sink.new) (direct_answer policy.now steps.now file).text)) }
-    ensures fabric { OnOk result (IfSome (S.content shelf.old name.now) (λ file.
-        Leaves F.Fabric (run_of policy.now.policy (laid_by placement) (direct_answer policy.now steps.now file).events) fabric.old fabric.new)) }
-    ensures fabric_part { OnErr result (IfSome (S.content shelf.old name.now) (λ file.
-        LeavesPart F.Fabric (run_of policy.now.policy (laid_by placement) (direct_answer policy.now steps.now file).events) fabric.old fabric.new)) }
-    ensures shelf_cause { IsErrOf result Stop.Shelf → Rose (S.faults shelf.old) (S.faults shelf.new) }
-    ensures sink_cause { IsErrOf result Stop.Sink → Rose (K.faults sink.old) (K.faults sink.new) }
+    ensures text { OnOk result (IfSome (S.content shelf.old task.capture.now) (λ file.
+        Appended (K.written sink.old) (K.written sink.new) (direct_answer policy.now task.steps.now file).text)) }
+    ensures part { OnErr result (IfSome (S.content shelf.old task.capture.now) (λ file.
+        AppendedPrefix (K.written sink.old) (K.written sink.new) (direct_answer policy.now task.steps.now file).text)) }
+    ensures fabric { OnOk result (IfSome (S.content shelf.old task.capture.now) (λ file.
+        Leaves F.Fabric (run_of policy.now.policy (laid_by placement) (direct_answer policy.now task.steps.now file).events) fabric.old fabric.new)) }
+    ensures fabric_part { OnErr result (IfSome (S.content shelf.old task.capture.now) (λ file.
+        LeavesPart F.Fabric (run_of policy.now.policy (laid_by placement) (direct_answer policy.now task.steps.now file).events) fabric.old fabric.new)) }
+    ensures cause { IfErr result (λ stop. HasCause stop S.faults shelf.old shelf.new K.faults sink.old sink.new) }
 {
-    shelf.begin(name)?;
-    let Placement { target, map } = placement;
-    let ending = replay(alloc, policy, map, &target, steps, shelf, sink, fabric)?;
+    shelf.begin(task.capture)?;
+    let ending = replay(alloc, policy, placement, task.steps, shelf, sink, fabric)?;
     Ok(Status::of_run(ending))
 }
 
@@ -104,15 +97,15 @@ fn replay_script<S: Shelf, K: Sink, F: Fabric>(
     ensures fabric { WhereTold (S.content shelf.old) (files.now.capture.now ∷ files.now.script.now ∷ []) (λ contents.
         IsLeft F.Fabric (BehindRoom policy.now (laid_by placement) (contents files.now.script.now) (contents files.now.capture.now)) result fabric.old fabric.new) }
     ensures statuses { IfOk result (λ s. IsOneOf run_statuses (status_code s)) }
-    ensures shelf_cause { IsErrOf result Stop.Shelf → Rose (S.faults shelf.old) (S.faults shelf.new) }
-    ensures sink_cause { IsErrOf result Stop.Sink → Rose (K.faults sink.old) (K.faults sink.new) }
+    ensures cause { IfErr result (λ stop. HasCause stop S.faults shelf.old shelf.new K.faults sink.old sink.new) }
 {
     match read_script(alloc, shelf, files.script)? {
         Read::Accepted(script) => {
-            let (steps, capture) = (script.steps(), files.capture);
-            replay_capture(
-                alloc, policy, placement, steps, capture, shelf, sink, fabric,
-            )
+            let task = Task {
+                steps: script.steps(),
+                capture: files.capture,
+            };
+            replay_capture(alloc, policy, placement, task, shelf, sink, fabric)
         }
         Read::Refused(refusal) => refuse(alloc, sink, FaultKind::Script, refusal),
     }
@@ -139,8 +132,7 @@ fn replay_placed<S: Shelf, K: Sink, F: Fabric>(
         IsLeft F.Fabric (BehindTarget policy.now target (contents files.now.script.now) (contents files.now.capture.now)) result fabric.old fabric.new) }
     ensures statuses { IfOk result (λ s. IsOneOf (5 ∷ run_statuses) (status_code s)) }
     ensures refused { IfOk result (λ s. IsRefusal (status_code s) → IsAsItWas F.Fabric fabric.old fabric.new) }
-    ensures shelf_cause { IsErrOf result Stop.Shelf → Rose (S.faults shelf.old) (S.faults shelf.new) }
-    ensures sink_cause { IsErrOf result Stop.Sink → Rose (K.faults sink.old) (K.faults sink.new) }
+    ensures cause { IfErr result (λ stop. HasCause stop S.faults shelf.old shelf.new K.faults sink.old sink.new) }
 {
     match embed(alloc, policy.topo(), &target) {
         Ok(map) => {
@@ -171,8 +163,7 @@ fn replay_target<S: Shelf, K: Sink, F: Fabric>(
         IsLeft F.Fabric (BehindTargetText policy.now (contents files.now.target.now) (contents files.now.script.now) (contents files.now.capture.now)) result fabric.old fabric.new) }
     ensures statuses { IfOk result (λ s. IsOneOf (4 ∷ 5 ∷ run_statuses) (status_code s)) }
     ensures refused { IfOk result (λ s. IsRefusal (status_code s) → IsAsItWas F.Fabric fabric.old fabric.new) }
-    ensures shelf_cause { IsErrOf result Stop.Shelf → Rose (S.faults shelf.old) (S.faults shelf.new) }
-    ensures sink_cause { IsErrOf result Stop.Sink → Rose (K.faults sink.old) (K.faults sink.new) }
+    ensures cause { IfErr result (λ stop. HasCause stop S.faults shelf.old shelf.new K.faults sink.old sink.new) }
 {
     match read_target_file(alloc, shelf, files.target)? {
         Read::Accepted(target) => replay_placed(alloc, policy, target, files, shelf, sink, fabric),
@@ -199,8 +190,7 @@ pub fn replay_files<S: Shelf, K: Sink, F: Fabric>(
         IsLeft F.Fabric (IsOutput (replay_form files.now) contents) result fabric.old fabric.new) }
     ensures statuses { IfOk result (λ s. IsOneOf (statuses_of (replay_form files.now)) (status_code s)) }
     ensures refused { IfOk result (λ s. IsRefusal (status_code s) → IsAsItWas F.Fabric fabric.old fabric.new) }
-    ensures shelf_cause { IsErrOf result Stop.Shelf → Rose (S.faults shelf.old) (S.faults shelf.new) }
-    ensures sink_cause { IsErrOf result Stop.Sink → Rose (K.faults sink.old) (K.faults sink.new) }
+    ensures cause { IfErr result (λ stop. HasCause stop S.faults shelf.old shelf.new K.faults sink.old sink.new) }
 {
     match read_policy(alloc, shelf, files.policy)? {
         Read::Accepted(judged) => replay_target(alloc, &judged.policy, files, shelf, sink, fabric),

@@ -1,7 +1,6 @@
 //! Scripts read from files.
-ghost use Rattle.std.specs.Prelude.{◌≤◌, IfOk, IfSome, IsTrue, IsErrOf};
-ghost use Rattle.outside_core.specs.Faults.{Rose};
-ghost use Rattle.outside_core.specs.Files.{KeepsFiles};
+ghost use Rattle.std.specs.Prelude.{◌≤◌, IfOk, IfSome, IsTrue, IfErr};
+ghost use Rattle.outside_core.specs.Kept.{KeepsShelf, HasSourceCause};
 ghost use Rattle.events_core.specs.Script.{IsScript, most_count};
 ghost use Rattle.events_core.specs.Steps.{counts_of};
 ghost use Rattle.replay_app.specs.Follows.{IsRead, IfAccepted};
@@ -9,9 +8,8 @@ ghost use Rattle.replay_app.specs.Scripts.{IsScriptRefused};
 
 use crate::load::load_short;
 use crate::refusal::{Read, Refusal};
-use crate::stop::Stop;
 use events_core::{MOST_BYTES, Script, ScriptFault, parse_events};
-use outside_core::Shelf;
+use outside_core::{Shelf, Stop};
 use std::alloc::{AllocError, Global};
 
 /// What the text of a script says, or why it is refused. The error is want of memory.
@@ -34,10 +32,8 @@ pub fn read_script<S: Shelf>(alloc: Global, shelf: &mut S, name: &str) -> Result
 
     ensures read { IfOk result (λ read. IfSome (S.content shelf.old name.now) (λ text. IsRead (IsScriptRefused text) (IsScript text) read)) }
     ensures short { IfOk result (λ read. IfAccepted read (λ steps. counts_of steps ≤ most_count)) }
-    ensures files { KeepsFiles S.lends S.content shelf.old shelf.new }
-    ensures later { S.faults shelf.old ≤ S.faults shelf.new }
-    ensures cause { IsErrOf result Stop.Shelf → Rose (S.faults shelf.old) (S.faults shelf.new) }
-    ensures writes_nothing { IsErrOf result Stop.Sink → ⊥ }
+    ensures kept { KeepsShelf S.lends S.content S.faults shelf.old shelf.new }
+    ensures cause { IfErr result (λ stop. HasSourceCause stop S.faults shelf.old shelf.new) }
 {
     match load_short(alloc, shelf, name, MOST_BYTES)? {
         Some(text) => Ok(script_in(alloc, &text)?),

@@ -3,7 +3,7 @@ ghost use Rattle.std.specs.Prelude.{◌≡◌};
 ghost use Rattle.replay_app.specs.Statuses.{status_code, kind_status, run_status};
 
 use report_core::FaultKind;
-use sched_capture::Ending;
+use sched_defs::Ending;
 
 /// How the program ends where nothing stops it.
 #[derive(Clone, Copy, PartialEq, Eq, Debug)]

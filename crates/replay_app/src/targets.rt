@@ -1,16 +1,14 @@
 //! Targets read from files.
-ghost use Rattle.std.specs.Prelude.{◌≤◌, IfOk, IfSome, IsTrue, IsErrOf};
-ghost use Rattle.outside_core.specs.Faults.{Rose};
-ghost use Rattle.outside_core.specs.Files.{KeepsFiles};
+ghost use Rattle.std.specs.Prelude.{◌≤◌, IfOk, IfSome, IsTrue, IfErr};
+ghost use Rattle.outside_core.specs.Kept.{KeepsShelf, HasSourceCause};
 ghost use Rattle.target_defs.specs.Target.{IsInRange};
 ghost use Rattle.replay_app.specs.Follows.{IsRead, IfAccepted};
 ghost use Rattle.replay_app.specs.Targets.{IsTargetRefused, IsTargetOf};
 
 use crate::load::load_short;
 use crate::refusal::{Read, Refusal};
-use crate::stop::Stop;
 use embed_core::{Target, TargetFault, read_target};
-use outside_core::Shelf;
+use outside_core::{Shelf, Stop};
 use std::alloc::{AllocError, Global};
 
 /// The most bytes of a target's text.
@@ -41,10 +39,8 @@ pub fn read_target_file<S: Shelf>(
 
     ensures read { IfOk result (λ read. IfSome (S.content shelf.old name.now) (λ text. IsRead (IsTargetRefused text) (IsTargetOf text) read)) }
     ensures range { IfOk result (λ read. IfAccepted read (λ t. IsInRange t.arities t.above)) }
-    ensures files { KeepsFiles S.lends S.content shelf.old shelf.new }
-    ensures later { S.faults shelf.old ≤ S.faults shelf.new }
-    ensures cause { IsErrOf result Stop.Shelf → Rose (S.faults shelf.old) (S.faults shelf.new) }
-    ensures writes_nothing { IsErrOf result Stop.Sink → ⊥ }
+    ensures kept { KeepsShelf S.lends S.content S.faults shelf.old shelf.new }
+    ensures cause { IfErr result (λ stop. HasSourceCause stop S.faults shelf.old shelf.new) }
 {
     match load_short(alloc, shelf, name, MOST_TARGET)? {
         Some(text) => Ok(target_in(alloc, &text)?),

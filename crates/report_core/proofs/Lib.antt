@@ -1,3 +1,4 @@
 mod Lines
 mod Cuts
 pub mod TextLaws
+pub mod WholeTexts

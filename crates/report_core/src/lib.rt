@@ -7,6 +7,8 @@ mod line;
 mod report;
 #[cfg(test)]
 mod tests;
+mod whole;
 
 pub use fault::{FaultKind, WriteFault};
 pub use report::Report;
+pub use whole::write_fault;

@@ -23,7 +23,7 @@ use Rattle.sched_run.proofs.StartLaws.{start_can_begin}
 use Rattle.sched_run.specs.Played.{HasMade, HasMadeSome}
 use Rattle.sched_run.proofs.JoinedEvents.{made_some_none}
 use Rattle.sched_capture.specs.Answers.{answer_of}
-use Rattle.sched_capture.proofs.WholeReports.{cut_part, whole_text}
+use Rattle.report_core.proofs.WholeTexts.{cut_part, whole_text}
 
 pub stand_at_start : {C U : Type 0} (stands : C → U → SourceState → Type 0) (own policy : Policy) (c : C) (u : U) (given : ℕ) → own ≡ policy → IsAccepted policy → stands c u (start policy)
     → StandForOne stands own c u (CanBegin given)

@@ -1,4 +1,3 @@
-pub mod WholeReports
 pub mod FromStart
 pub mod Refusals
 pub mod FabricRuns

@@ -14,7 +14,7 @@ use crate::course::run_over;
 use events_core::Step;
 use outside_core::{Shelf, Sink, Stop};
 use policy_core::Policy;
-use report_core::{FaultKind, Report};
+use report_core::{FaultKind, write_fault};
 use sched_core::Direct;
 use sched_defs::{Ending, Halt};
 use sched_packets::Arrivals;
@@ -29,11 +29,7 @@ fn refuse<K: Sink>(alloc: Global, sink: &mut K, code: u32, place: u64) -> Result
     ensures kept { KeepsSink K.written K.faults sink.old sink.new }
     ensures cause { IfErr result (λ stop. HasSinkCause stop K.faults sink.old sink.new) }
 {
-    let Ok(mut report) = Report::new(alloc) else {
-        return Err(Stop::Memory);
-    };
-    report.fault(sink, FaultKind::Capture, code, place)?;
-    report.finish(sink)?;
+    write_fault(alloc, sink, FaultKind::Capture, code, place)?;
     Ok(Ending::BadCapture(code, place))
 }
 

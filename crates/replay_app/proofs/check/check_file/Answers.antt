@@ -6,9 +6,9 @@ use Rattle.report_core.specs.declared.fault.FaultKind.TheVariants as kind
 use Rattle.replay_app.specs.Answer.{Answer}
 use Rattle.replay_app.specs.Follows.{goes_on}
 use Rattle.replay_app.specs.Policies.{checked, judged_of}
-use Rattle.replay_app.proofs.Following.{accepted-each, refused_told}
+use Rattle.replay_app.proofs.FollowLaws.{accepted-each, refused_told}
 use Rattle.replay_app.proofs.Inputs.{policies_are_one}
-use Rattle.replay_app.proofs.Telling.{printed}
+use Rattle.replay_app.proofs.AnswerLaws.{printed}
 use Rattle.replay_app.proofs.check.check_file.Goals as goal
 
 pub returns-in_err-text-in-Accepted-clause-answer : goal.returns-in_err-text-in-Accepted-clause-answer

@@ -2,7 +2,7 @@ use Rattle.report_core.specs.declared.fault.FaultKind.TheVariants as kind
 use Rattle.replay_app.specs.Answer.{refusal}
 use Rattle.replay_app.specs.Named.{command_form}
 use Rattle.replay_app.specs.declared.words.Command.TheVariants.{Check, Plan, Direct}
-use Rattle.replay_app.proofs.Following.{exactly_told, known-status}
+use Rattle.replay_app.proofs.FollowLaws.{exactly_told, known-status}
 use Rattle.replay_app.proofs.Unused.{unused}
 use Rattle.replay_app.proofs.command.answer.Goals as goal
 

@@ -1,5 +1,5 @@
 use Rattle.report_core.specs.declared.fault.FaultKind.TheVariants as kind
-use Rattle.replay_app.proofs.Following.{accepted_told, refused_told}
+use Rattle.replay_app.proofs.FollowLaws.{accepted_told, refused_told}
 use Rattle.replay_app.proofs.Inputs.{targets_are_one}
 use Rattle.replay_app.proofs.OneAnswer.{planned_told}
 use Rattle.replay_app.proofs.plan.plan_target.Goals as goal

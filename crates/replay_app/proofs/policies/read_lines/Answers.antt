@@ -1,7 +1,7 @@
 use Rattle.policy_text_defs.specs.Ranges.{most_text}
 use Rattle.replay_app.specs.Policies.{IsTextRead, too_long}
 use Rattle.replay_app.specs.declared.refusal.Read.TheVariants.{Refused}
-use Rattle.replay_app.proofs.Loading.{unloaded}
+use Rattle.replay_app.proofs.LoadLaws.{unloaded}
 use Rattle.replay_app.proofs.policies.read_lines.Goals as goal
 
 pub returns-in-None-clause-read : goal.returns-in-None-clause-read

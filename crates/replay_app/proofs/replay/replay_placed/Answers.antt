@@ -5,9 +5,9 @@ use Rattle.tree_defs.specs.Topology.{Topology, complete}
 use Rattle.embed_defs.specs.Embedding.{IsEmbedding, HasEmbedding}
 use Rattle.embed_defs.specs.Images.{image_map}
 use Rattle.report_core.specs.declared.fault.FaultKind.TheVariants as kind
-use Rattle.replay_app.proofs.Following.{accepted_told, accepted_left, refused_told, refused_left}
+use Rattle.replay_app.proofs.FollowLaws.{accepted_told, accepted_left, refused_told, refused_left}
 use Rattle.replay_app.proofs.Inputs.{rooms_are_one, placement}
-use Rattle.replay_app.proofs.Telling.{no_refusal_of}
+use Rattle.replay_app.proofs.AnswerLaws.{no_refusal_of}
 use Rattle.replay_app.proofs.replay.replay_placed.Goals as goal
 
 pub replay_script-requires-clause-map_shape : goal.replay_script-requires-clause-map_shape

@@ -1,8 +1,8 @@
 use Rattle.std.proofs.Common.{◌∙◌}
 use Rattle.report_core.specs.declared.fault.FaultKind.TheVariants as kind
 use Rattle.replay_app.specs.Output.{laid_run}
-use Rattle.replay_app.specs.Placements.{laid_by}
-use Rattle.replay_app.proofs.Following.{accepted_told, refused_told, exactly_told, accepted_left, refused_left, exactly_left}
+use Rattle.sched_capture.specs.Placements.{laid_by}
+use Rattle.replay_app.proofs.FollowLaws.{accepted_told, refused_told, exactly_told, accepted_left, refused_left, exactly_left}
 use Rattle.replay_app.proofs.Inputs.{scripts_are_one}
 use Rattle.replay_app.proofs.replay.replay_script.Goals as goal
 
@@ -13,7 +13,7 @@ pub returns-in-Accepted-clause-answer : goal.returns-in-Accepted-clause-answer
 returns-in-Accepted-clause-answer g c = λ contents told.
     let f = c.args.files.now in
     let is = rw c.in-Accepted.is at (rw (told.1.0) at c.in_ok-script.ensures.read) in
-    let same = c.in_ok-script.ensures.files.contents f.capture.now ∙ told.0 in
+    let same = c.in_ok-script.ensures.kept.files.contents f.capture.now ∙ told.0 in
     accepted_told kind.Script _ _ _ (scripts_are_one (contents c.args.files.now.script.now)) c.replay_capture.result _ _ c.in-Accepted.script is
     (exactly_told (laid_run c.args.policy.now (laid_by c.args.placement) c.in-Accepted.script (contents f.capture.now)) c.replay_capture.result _ _ (rw (c.steps-steps.ensures) at (rw same at c.replay_capture.ensures.status)) (rw (c.steps-steps.ensures) at (rw same at c.replay_capture.ensures.text)) (rw (c.steps-steps.ensures) at (rw same at c.replay_capture.ensures.part)))
 
@@ -21,7 +21,7 @@ pub returns-in-Accepted-clause-fabric : goal.returns-in-Accepted-clause-fabric
 returns-in-Accepted-clause-fabric g c = λ contents told.
     let f = c.args.files.now in
     let is = rw c.in-Accepted.is at (rw (told.1.0) at c.in_ok-script.ensures.read) in
-    let same = c.in_ok-script.ensures.files.contents f.capture.now ∙ told.0 in
+    let same = c.in_ok-script.ensures.kept.files.contents f.capture.now ∙ told.0 in
     accepted_left kind.Script _ _ _ (scripts_are_one (contents c.args.files.now.script.now)) c.replay_capture.result g.F.Fabric c.args.fabric.now c.replay_capture.new.fabric c.in-Accepted.script is
     (exactly_left (laid_run c.args.policy.now (laid_by c.args.placement) c.in-Accepted.script (contents f.capture.now)) c.replay_capture.result g.F.Fabric c.args.fabric.now c.replay_capture.new.fabric (rw (c.steps-steps.ensures) at (rw same at c.replay_capture.ensures.fabric)) (rw (c.steps-steps.ensures) at (rw same at c.replay_capture.ensures.fabric_part)))
 

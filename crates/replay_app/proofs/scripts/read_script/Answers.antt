@@ -2,7 +2,7 @@ use Rattle.events_core.specs.Script.{most_bytes, IsScript}
 use Rattle.replay_app.specs.Follows.{IsRead}
 use Rattle.replay_app.specs.Scripts.{IsScriptRefused, too_long}
 use Rattle.replay_app.specs.declared.refusal.Read.TheVariants.{Refused}
-use Rattle.replay_app.proofs.Loading.{unloaded}
+use Rattle.replay_app.proofs.LoadLaws.{unloaded}
 use Rattle.replay_app.proofs.scripts.read_script.Goals as goal
 
 pub returns-in-None-clause-read : goal.returns-in-None-clause-read

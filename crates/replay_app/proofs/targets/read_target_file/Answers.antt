@@ -3,7 +3,7 @@ use Rattle.target_core.specs.TargetText.{too_long}
 use Rattle.replay_app.specs.Follows.{IsRead}
 use Rattle.replay_app.specs.Targets.{IsTargetRefused, IsTargetOf}
 use Rattle.replay_app.specs.declared.refusal.Read.TheVariants.{Refused}
-use Rattle.replay_app.proofs.Loading.{unloaded}
+use Rattle.replay_app.proofs.LoadLaws.{unloaded}
 use Rattle.replay_app.proofs.targets.read_target_file.Goals as goal
 
 pub returns-in-None-clause-read : goal.returns-in-None-clause-read

@@ -10,7 +10,7 @@ use Rattle.replay_app.specs.Answer.{Answer, refusal, Each, IsTold, IsLeft}
 use Rattle.replay_app.specs.Follows.{Follows, stops, goes_on}
 use Rattle.replay_app.specs.Statuses.{IsOneOf, status_code, kind_status}
 use Rattle.replay_app.specs.declared.status.Status.{Status}
-use Rattle.replay_app.specs.declared.stop.Stop.{Stop}
+use Rattle.outside_core.specs.declared.stop.Stop.{Stop}
 
 -- nothing changed
 pub unchanged : {F : Type 0} (fabrics : Ghosts F) (f : F) → IsAsItWas fabrics f f

@@ -1,24 +1,24 @@
 -- Contents that are told, and what is told of endings.
 use Rattle.std.proofs.Common.{◌≡◌, ◌<◌, ◌≤◌, ℕ, Bool, Option, None, Some, List, [], ◌∷◌, map, refl, ap, ◌∙◌, arith, inl, inr}
 use Rattle.std.specs.Prelude.{IfSome, Result, Ok, Err, IfOk}
+use Rattle.outside_core.specs.Faults.{Rose}
 use Rattle.outside_core.specs.Files.{KeepsFiles}
+use Rattle.outside_core.specs.Kept.{HasCause}
 use Rattle.policy_text_defs.specs.Canonical.{canonical_text}
 use Rattle.policy_text_defs.specs.Sense.{Sense}
 use Rattle.policy_text.specs.Entries.{Numbered, entry_of, sense_at}
 use Rattle.policy_text.specs.declared.lines.Lines.{Lines}
-use Rattle.sched_defs.specs.Script as schedule
 use Rattle.sched_defs.specs.declared.ending.Ending.{Ending}
 use Rattle.sched_defs.specs.declared.ending.Ending.TheVariants.{Whole, BadCapture, PastLast}
-use Rattle.sched_run.specs.Endings.{ended}
 use Rattle.replay_app.specs.Policies.{entries_in, senses_of}
 use Rattle.replay_app.specs.Scripts.{ending_status}
 use Rattle.replay_app.specs.Statuses.{IsOneOf, IsRefusal, IsStop, run_statuses, run_status, status_code}
 use Rattle.replay_app.specs.Stops.{stop_status}
 use Rattle.replay_app.specs.declared.status.Status.TheVariants as status
 use Rattle.replay_app.specs.declared.status.Status.TheVariants.{Done, NoForm, BadPolicy, BadTarget, NoRoom, BadScript}
-use Rattle.replay_app.specs.declared.stop.Stop.TheVariants.{Shelf, Sink, Memory}
+use Rattle.outside_core.specs.declared.stop.Stop.TheVariants.{Source, Sink, Memory}
 use Rattle.replay_app.specs.declared.status.Status.{Status}
-use Rattle.replay_app.specs.declared.stop.Stop.{Stop}
+use Rattle.outside_core.specs.declared.stop.Stop.{Stop}
 use Rattle.replay_app.specs.Words.{AreTold}
 
 -- a name that was told is told after others were read
@@ -37,12 +37,12 @@ pub printed : (lines : Lines) (text : List ℕ) → text ≡ canonical_text (map
 printed lines text e = e ∙ ap canonical_text (senses-held lines.held)
 
 -- ---- the status of a run
-same_status : (e : schedule.Ending) → status_code (run_status (ended e)) ≡ ending_status e
-same_status (schedule.Whole n) = refl
-same_status (schedule.BadCapture f) = refl
-same_status (schedule.PastLast n) = refl
+same_status : (e : Ending) → status_code (run_status e) ≡ ending_status e
+same_status (Whole n) = refl
+same_status (BadCapture c p) = refl
+same_status (PastLast n) = refl
 
-pub status_told : (e : Ending) (o : Option (List ℕ)) (ending : List ℕ → schedule.Ending) → IfSome o (λ file. e ≡ ended (ending file))
+pub status_told : (e : Ending) (o : Option (List ℕ)) (ending : List ℕ → Ending) → IfSome o (λ file. e ≡ ending file)
     → IfSome o (λ file. status_code (run_status e) ≡ ending_status (ending file))
 status_told e None ending is = tt
 status_told e (Some file) ending is = ap (λ x. status_code (run_status x)) is ∙ same_status (ending file)
@@ -75,11 +75,24 @@ low_code BadScript = omega arith
 low_code status.BadCapture = omega arith
 
 pub is_stop : (stop : Stop) → IsStop (stop_status stop)
-is_stop Shelf = inl refl
+is_stop Source = inl refl
 is_stop Sink = inr (inl refl)
 is_stop Memory = inr (inr (inl refl))
 
 pub high_stop : (stop : Stop) → 8 ≤ stop_status stop
-high_stop Shelf = omega arith
+high_stop Source = omega arith
 high_stop Sink = omega arith
 high_stop Memory = omega arith
+
+-- what stopped the program is where the count of faults rose
+pub shelf-rose : {S K : Type 0} (stop : Stop) (shelf_faults : S → ℕ) (s s' : S) (sink_faults : K → ℕ) (k k' : K) (n : ℕ) → HasCause stop shelf_faults s s' sink_faults k k' → n ≡ stop_status stop → n ≡ 8
+    → Rose (shelf_faults s) (shelf_faults s')
+shelf-rose Source shelf_faults s s' sink_faults k k' n cause is eight = cause
+shelf-rose Sink shelf_faults s s' sink_faults k k' n cause is eight = absurd (omega (arith, is, eight))
+shelf-rose Memory shelf_faults s s' sink_faults k k' n cause is eight = absurd (omega (arith, is, eight))
+
+pub sink-rose : {S K : Type 0} (stop : Stop) (shelf_faults : S → ℕ) (s s' : S) (sink_faults : K → ℕ) (k k' : K) (n : ℕ) → HasCause stop shelf_faults s s' sink_faults k k' → n ≡ stop_status stop → n ≡ 9
+    → Rose (sink_faults k) (sink_faults k')
+sink-rose Source shelf_faults s s' sink_faults k k' n cause is nine = absurd (omega (arith, is, nine))
+sink-rose Sink shelf_faults s s' sink_faults k k' n cause is nine = cause
+sink-rose Memory shelf_faults s s' sink_faults k k' n cause is nine = absurd (omega (arith, is, nine))
