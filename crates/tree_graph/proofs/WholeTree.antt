@@ -10,8 +10,8 @@ use Rattle.tree_graph.specs.Row.{Row, row, row_at, nodes_of}
 use Rattle.tree_graph.specs.Preorder.{labels, IsTreeOf, AreTreesOf, rows, Numbered, numbered, IsTreeBelow, IsSound}
 use Rattle.tree_graph.specs.Growth.{HasGrown}
 use Rattle.tree_graph.proofs.Steps.{below-within}
-use Rattle.tree_graph.proofs.Growing.{within-child, length-rows, tree-is_part}
-use Rattle.tree_graph.proofs.Once.{each_once, nodes-all, room-root}
+use Rattle.tree_graph.proofs.GrowthLemmas.{within-child, length-rows, tree-is_part}
+use Rattle.tree_graph.proofs.NodesOnce.{each_once, nodes-all, room-root}
 use Rattle.tree_graph.proofs.PreorderLaws.{nodes_of-rows, children_at, IsChildRow, child-row, leaf-address}
 
 -- no node too deep is no way too long

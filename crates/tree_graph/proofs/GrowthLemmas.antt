@@ -8,7 +8,7 @@ use Rattle.std.specs.declared.alloc.Global.{Global}
 use Rattle.tree_defs.specs.Tree.{Tree, leaf, inner, Trees, none, more, Address, root_of, nodes, nodes_below, count_of, trees_of}
 use Rattle.tree_defs.specs.Topology.{Topology, topology_of, topologies_of}
 use Rattle.tree_core.specs.TreeContents.{branch}
-use Rattle.tree_graph.proofs.Marking.{children-at}
+use Rattle.tree_graph.proofs.MarkLemmas.{children-at}
 use Rattle.tree_graph.specs.Descent.{lists, Graph, children, IsChild, IsWithin}
 use Rattle.tree_graph.specs.Row.{Row, row}
 use Rattle.tree_graph.specs.Preorder.{labels, IsTreeOf, AreTreesOf, starts, rows, rows_below}
