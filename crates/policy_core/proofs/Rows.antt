@@ -5,7 +5,7 @@ use Rattle.std.proofs.lemmas.List.{get_or_append_left, get_or-append-add}
 use Rattle.tree_defs.specs.Tree.{Tree, leaf, inner, Trees, none, more, Address, nodes, nodes_below, subtree_in, IsAddressOf}
 use Rattle.tree_graph.specs.Row.{Row, row, row_at}
 use Rattle.tree_graph.specs.Preorder.{starts, rows, rows_below}
-use Rattle.tree_graph.proofs.Growing.{length-rows}
+use Rattle.tree_graph.proofs.GrowthLemmas.{length-rows}
 use Rattle.policy_core.specs.Numbering.{address_at, sibling_of, address_below}
 use Rattle.policy_core.proofs.Numbers.{sibling-first, way-first, sibling-later, way-later}
 

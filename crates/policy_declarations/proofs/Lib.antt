@@ -1,4 +1,4 @@
-pub mod Turns
+pub mod PassLemmas
 pub mod Bodies
 pub mod OpenVariables
 pub mod SpaceLemmas

@@ -10,7 +10,7 @@ use Rattle.policy_text_defs.specs.Sense.{Entry, entry, sense_of}
 use Rattle.policy_rules.specs.Names.{Name, has, declared, variable_name}
 use Rattle.policy_rules.specs.Bodies.{is_transaction, open_body}
 use Rattle.policy_rules.proofs.Lines.{declared-push}
-use Rattle.policy_rules.proofs.Open.{open_body-line, open_body-opened}
+use Rattle.policy_rules.proofs.OpenBodies.{open_body-line, open_body-opened}
 use Rattle.policy_names.specs.Names.{with_name}
 use Rattle.policy_names.proofs.Tallies.{has-with_name}
 use Rattle.policy_declarations.specs.Kept.{AreVariables, open_variables}

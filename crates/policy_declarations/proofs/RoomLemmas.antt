@@ -8,7 +8,7 @@ use Rattle.policy_rules.specs.Names.{Name, declared, transaction_name, class_nam
 use Rattle.policy_rules.specs.Bodies.{is_transaction, is_assignment, open_body}
 use Rattle.policy_rules.specs.Clauses.{assignments_in, most_variables, most_assignments}
 use Rattle.policy_rules.proofs.Lines.{declared-push}
-use Rattle.policy_rules.proofs.Open.{open_body-line, open_body-opened}
+use Rattle.policy_rules.proofs.OpenBodies.{open_body-line, open_body-opened}
 use Rattle.policy_declarations.specs.declared.room.Room.{Room}
 use Rattle.policy_declarations.specs.Kept.{IsRoom, open_variables}
 use Rattle.policy_declarations.proofs.OpenVariables.{open_variables-line}

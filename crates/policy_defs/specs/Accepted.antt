@@ -1,17 +1,14 @@
 -- What is needed of a policy, so that its queues can be run.
 use Rattle.std.specs.Prelude.{◌≡◌, ◌≤◌, ◌<◌, ◌^◌, ℕ, Some, length}
 use Rattle.std.specs.List.{AllByRecursion}
-use Rattle.tree_defs.specs.Tree.{Tree, leaf, inner, Trees, none, more, Address, LeadsToLeaf, depth, count_of}
+use Rattle.tree_defs.specs.Tree.{Tree, leaf, inner, Trees, none, more, Address, LeadsToLeaf, depth, count_of, most_levels}
 use Rattle.rank_defs.specs.Shapes.{IsShaped, max_prio, max_weight, max_slack}
 use Rattle.rank_defs.specs.Checks.{IsChecked}
 use Rattle.policy_defs.specs.Policy.{Policy, Marks, Node, Class, node_at}
 
--- the greatest length of a name in bytes, and the greatest number of levels below the root
+-- the greatest length of a name in bytes
 abbrev pub max_name : ℕ
 max_name = 64
-
-abbrev pub max_levels : ℕ
-max_levels = 64
 
 pub record AreMarksInRange (m : Marks) : Type 0 where
   pub prio : m.prio ≤ max_prio
@@ -46,5 +43,5 @@ pub record IsAccepted (policy : Policy) : Type 0 where
   pub nodes : (a : Address) (n : Node) → node_at policy.tree a ≡ Some n → IsNodeReady n
   pub classes : AllByRecursion (IsClassReady policy.tree) policy.classes
   pub some_class : 0 < length policy.classes
-  pub levels : depth policy.tree ≤ max_levels
+  pub levels : depth policy.tree ≤ most_levels
   pub children : HasFewChildren policy.tree

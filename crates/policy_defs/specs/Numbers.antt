@@ -1,7 +1,8 @@
 -- The numbers of nodes and leaves, counted in preorder from the root, which is 0.
-use Rattle.std.specs.Prelude.{◌≡◌, refl, ℕ, zero, suc, ◌+◌, [], ◌∷◌}
-use Rattle.tree_defs.specs.Tree.{Tree, leaf, inner, Trees, none, more, Address, nodes}
+use Rattle.std.specs.Prelude.{◌≡◌, refl, ℕ, zero, suc, ◌+◌, List, [], ◌∷◌}
+use Rattle.tree_defs.specs.Tree.{Tree, leaf, inner, Trees, none, more, Address, IsAddressOf, nodes}
 use Rattle.tree_defs.specs.Topology.{office}
+use Rattle.policy_defs.specs.Policy.{Policy, name_at}
 
 -- the number of the node or leaf at an address
 abbrev mutual
@@ -14,6 +15,10 @@ abbrev mutual
   number_below none i a = 0
   number_below (more t ts) zero a = number_at t a
   number_below (more t ts) (suc i) a = nodes t + number_below ts i a
+
+-- the name of the node or leaf of a number
+abbrev pub IsNameOf : Policy → ℕ → List ℕ → Type 0
+IsNameOf policy number name = (a : Address) → IsAddressOf policy.tree a → number_at policy.tree a ≡ number → name ≡ name_at policy a
 
 pub number_at-first_leaf : number_at office (0 ∷ []) ≡ 1
 number_at-first_leaf = refl

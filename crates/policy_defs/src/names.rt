@@ -1,8 +1,8 @@
 //! The trait of what tells names.
-ghost use Rattle.std.specs.Prelude.{◌≡◌, ◌<◌};
-ghost use Rattle.tree_defs.specs.Tree.{Address, IsAddressOf, nodes};
-ghost use Rattle.policy_defs.specs.Policy.{Policy, name_at};
-ghost use Rattle.policy_defs.specs.Numbers.{number_at};
+ghost use Rattle.std.specs.Prelude.{◌<◌};
+ghost use Rattle.tree_defs.specs.Tree.{nodes};
+ghost use Rattle.policy_defs.specs.Policy.{Policy};
+ghost use Rattle.policy_defs.specs.Numbers.{IsNameOf};
 
 /// What tells the names of a policy's nodes and leaves.
 pub trait NodeNames {
@@ -11,5 +11,5 @@ pub trait NodeNames {
     /// The name of the node or leaf of this number, counted in preorder from the root, which is 0.
     fn name(&self, node: u32) -> &str
         requires node { node < nodes (policy self.now).tree }
-        ensures name { (a : Address) → IsAddressOf (policy self.now).tree a → number_at (policy self.now).tree a ≡ node → result.now ≡ name_at (policy self.now) a };
+        ensures name { IsNameOf (policy self.now) node result.now };
 }

@@ -13,7 +13,7 @@ use Rattle.tree_graph.specs.Descent.{IsChild, Leads, IsBelow, AreInRange, childr
 use Rattle.policy_family.specs.Lines.{node_entries}
 use Rattle.policy_family.proofs.Places.{only-place, all-at, Contains-map, Contains-map_back}
 use Rattle.policy_family.proofs.Kinship.{IsNodeAt, node-of, node-was, node-at, name-at, name_of, kids-at, some-name, length-names, length-graph}
-use Rattle.policy_family.proofs.Named.{IsNamed, some-entry}
+use Rattle.policy_family.proofs.NodeNames.{IsNamed, some-entry}
 
 -- ---- a child by name is one by number
 

@@ -18,11 +18,11 @@ use Rattle.policy_rules.specs.Programs.{place}
 use Rattle.policy_rules.specs.Graph.{graph_of}
 use Rattle.policy_rules.proofs.Places.{at-place, place-within}
 use Rattle.tree_graph.specs.Descent.{Graph, IsChild, IsBelow, IsForest, HasOneParent, times, children as kids}
-use Rattle.tree_graph.proofs.Once.{is}
+use Rattle.tree_graph.proofs.NodesOnce.{is}
 use Rattle.policy_family.specs.Lines.{node_entries}
 use Rattle.policy_family.proofs.Places.{only-place}
 use Rattle.policy_family.proofs.Kinship.{IsNodeAt, node-at, node-was, name-at, name_of, length-names, length-graph, families-of-nodes}
-use Rattle.policy_family.proofs.Named.{IsNamed, some-entry}
+use Rattle.policy_family.proofs.NodeNames.{IsNamed, some-entry}
 use Rattle.policy_family.proofs.Descents.{graph-in-range, own-place}
 
 -- ---- a sum that is one

@@ -14,7 +14,7 @@ use Rattle.policy_rules.specs.Entries.{entries_of}
 use Rattle.policy_rules.proofs.Lines.{entries-more}
 use Rattle.std.specs.declared.alloc.Global.{Global}
 use Rattle.tree_graph.specs.Descent.{Graph, lists, children as kids}
-use Rattle.tree_graph.proofs.Marking.{length-lists}
+use Rattle.tree_graph.proofs.MarkLemmas.{length-lists}
 use Rattle.policy_family.specs.Lines.{node_entries}
 
 -- ---- the loop that makes the graph

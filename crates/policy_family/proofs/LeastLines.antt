@@ -12,7 +12,7 @@ use Rattle.tree_graph.specs.Descent.{IsLeast}
 use Rattle.policy_family.specs.Lines.{node_entries, line_at}
 use Rattle.policy_family.proofs.Places.{has-there}
 use Rattle.policy_family.proofs.Kinship.{IsNodeAt, node-of, node-at, node-was, name-at, name_of, some-name, length-names}
-use Rattle.policy_family.proofs.Named.{IsNamed, some-entry}
+use Rattle.policy_family.proofs.NodeNames.{IsNamed, some-entry}
 use Rattle.policy_family.proofs.Descents.{own-place}
 
 -- the statement's node or leaf is at fault

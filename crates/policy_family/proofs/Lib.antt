@@ -1,8 +1,8 @@
 pub mod Places
 pub mod Kinship
-pub mod Named
+pub mod NodeNames
 pub mod Descents
 pub mod Forest
 pub mod LeastLines
 pub mod Lines
-pub mod Verdicts
+pub mod FamilyFaults

@@ -4,7 +4,7 @@ use Rattle.std.proofs.lemmas.List.Elements.{Contains-append_right}
 use Rattle.tree_defs.specs.Tree.{Tree, leaf, inner, Trees, none, more, HasChild, root_of}
 use Rattle.tree_graph.specs.Descent.{Graph, children, IsWithin}
 use Rattle.tree_graph.specs.Preorder.{labels, IsTreeOf, AreTreesOf}
-use Rattle.tree_graph.proofs.Growing.{within-child, child-within}
+use Rattle.tree_graph.proofs.GrowthLemmas.{within-child, child-within}
 
 -- a tree of the graph below a node, and trees below nodes
 pub record HasTree (g : Graph) (i : ℕ) : Type 0 where

@@ -1,9 +1,9 @@
 pub mod Statements
 pub mod OneTree
-pub mod Ways
+pub mod NameWays
 pub mod OnePlace
 pub mod OnePolicy
 pub mod TextAnswers
-pub mod Faultless
+pub mod FaultlessStatements
 pub mod GraphTrees
 pub mod SomePolicy

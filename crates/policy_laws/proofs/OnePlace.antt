@@ -16,7 +16,7 @@ use Rattle.policy_rules.specs.Resolved.{IsTreeIn}
 use Rattle.policy_listings.proofs.ListedOnce.{times-listed, one_lister, child-once}
 use Rattle.policy_places.proofs.Programs.{some-same}
 use Rattle.policy_laws.proofs.Statements.{at-one_place}
-use Rattle.policy_laws.proofs.Ways.{StandsAt, ListsAt, IsAbove, at-top, last-step, node-declared, no-second_root}
+use Rattle.policy_laws.proofs.NameWays.{StandsAt, ListsAt, IsAbove, at-top, last-step, node-declared, no-second_root}
 
 -- ---- places of a list
 -- one for the same name

@@ -13,7 +13,7 @@ use Rattle.policy_rules.specs.Families.{IsCyclic}
 use Rattle.policy_rules.specs.Accepted.{AreAccepted, HaveRoot, AreAcyclic, AreKnown}
 use Rattle.policy_rules.specs.Resolved.{Resolved, IsTreeIn, ListsClass, IsLeafFor, Declared, classes_in, AreClassesOf}
 use Rattle.policy_listings.proofs.ListedOnce.{class-one_leaf}
-use Rattle.policy_places.proofs.Accepting.{strays-none}
+use Rattle.policy_places.proofs.AcceptedStatements.{strays-none}
 use Rattle.policy_places.proofs.Programs.{some-same}
 use Rattle.policy_places.proofs.Classes.{names-classes}
 use Rattle.policy_rules.proofs.Places.{has-at}

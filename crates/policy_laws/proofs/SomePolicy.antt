@@ -18,20 +18,20 @@ use Rattle.policy_rules.proofs.Places.{has-at}
 use Rattle.tree_graph.specs.Descent.{IsForest, IsWithin, times}
 use Rattle.tree_graph.specs.Row.{Row, row, row_at, nodes_of}
 use Rattle.tree_graph.specs.Preorder.{IsTreeOf, preorder, rows}
-use Rattle.tree_graph.proofs.Once.{each_once}
+use Rattle.tree_graph.proofs.NodesOnce.{each_once}
 use Rattle.tree_graph.proofs.PreorderLaws.{nodes_of-rows}
-use Rattle.tree_graph.proofs.Sound.{shallow-root}
+use Rattle.tree_graph.proofs.WholeTree.{shallow-root}
 use Rattle.policy_listings.proofs.ListedOnce.{class-leaf, lists-leaf}
 use Rattle.policy_family.proofs.Kinship.{IsNodeAt, node-of, length-graph, name-at, kids-at, some-name}
-use Rattle.policy_family.proofs.Verdicts.{is-forest, is-shallow}
+use Rattle.policy_family.proofs.FamilyFaults.{is-forest, is-shallow}
 use Rattle.policy_places.specs.Labels.{nodes_at}
 use Rattle.policy_places.specs.Homes.{IsLeafWith, IsHome, AreHomes, classes_at}
 use Rattle.policy_places.specs.Laws.{IsNodeTree}
-use Rattle.policy_places.proofs.Accepting.{strays-none}
+use Rattle.policy_places.proofs.AcceptedStatements.{strays-none}
 use Rattle.policy_places.proofs.Classes.{classes-of}
-use Rattle.policy_places.proofs.Homing.{length-nodes}
-use Rattle.policy_places.proofs.Resolving.{node-tree}
-use Rattle.policy_places.proofs.Resolving as resolving
+use Rattle.policy_places.proofs.HomeLaws.{length-nodes}
+use Rattle.policy_places.proofs.ResolvedTrees.{node-tree}
+use Rattle.policy_places.proofs.ResolvedTrees as resolving
 use Rattle.policy_laws.specs.Laws.{StatementsGiveAPolicy}
 use Rattle.policy_laws.proofs.GraphTrees.{HasTree, tree-there}
 

@@ -11,7 +11,7 @@ use Rattle.policy_rules.specs.Names.{Name, has, declared, node_name, before}
 use Rattle.policy_rules.specs.Clauses.{NoLine, IsAgain, is_declared}
 use Rattle.policy_rules.specs.Entries.{AreRising}
 use Rattle.policy_places.proofs.Programs.{none-some, some-same}
-use Rattle.policy_rules.proofs.Earlier.{before-take}
+use Rattle.policy_rules.proofs.EarlierLines.{before-take}
 
 later : (o : Option Name) (names : List Name) (a : Name) → has names a ≡ true → has (cons_option o names) a ≡ true
 later None names a there = there

@@ -1,11 +1,11 @@
 -- What follows for accepted statements.
 use Rattle.std.specs.Prelude.{◌≡◌, ◌≤◌, ◌<◌, ◌^◌, ℕ, List, [], All}
 use Rattle.std.specs.List.{AllByRecursion}
-use Rattle.tree_defs.specs.Tree.{Tree, root_of, depth, nodes}
+use Rattle.tree_defs.specs.Tree.{Tree, root_of, depth, nodes, most_levels}
 use Rattle.rank_defs.specs.Shapes.{IsShaped}
 use Rattle.policy_text_defs.specs.Sense.{Entry}
 use Rattle.policy_text_defs.specs.Valid.{IsValid}
-use Rattle.policy_defs.specs.Accepted.{IsAccepted, max_levels}
+use Rattle.policy_defs.specs.Accepted.{IsAccepted}
 use Rattle.policy_rules.specs.Names.{declared, node_name}
 use Rattle.policy_rules.specs.Clauses.{root}
 use Rattle.policy_rules.specs.Programs.{place, programs}
@@ -39,4 +39,4 @@ HomesGiveTheClasses =
 abbrev pub ResolvedPoliciesAreAccepted : Type 0
 ResolvedPoliciesAreAccepted =
     (entries : List Entry) (r : Resolved) → AreAccepted entries → AreValid entries → AllByRecursion IsShaped (programs entries) → IsResolved entries r
-    → depth r.policy.tree ≤ max_levels → nodes r.policy.tree < 2 ^ 32 → IsAccepted r.policy
+    → depth r.policy.tree ≤ most_levels → nodes r.policy.tree < 2 ^ 32 → IsAccepted r.policy

@@ -6,7 +6,7 @@ use Rattle.policy_rules.specs.Names.{Name, declared, keep_name, each_name}
 use Rattle.policy_rules.specs.Entries.{entries_of}
 use Rattle.policy_rules.proofs.Lines.{Line, entry_of, within-entries, entry-at}
 use Rattle.policy_programs.specs.Bodies.{with_names, IsSoundBody}
-use Rattle.policy_programs.proofs.Sound.{keeps_more, eaches_more}
+use Rattle.policy_programs.proofs.SoundBodies.{keeps_more, eaches_more}
 
 -- what is left at a line
 pub drop_line : (lines : List Line) (i : ℕ) (x : Line) → i < length lines → x ≡ get_or lines i x → drop i (entries_of lines) ≡ entry_of x ∷ drop (i + 1) (entries_of lines)

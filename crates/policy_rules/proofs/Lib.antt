@@ -1,7 +1,7 @@
 pub mod OneFault
-pub mod Earlier
+pub mod EarlierLines
 pub mod Lines
-pub mod Open
+pub mod OpenBodies
 pub mod Places
 pub mod Lists
 pub mod Spaces

@@ -9,7 +9,7 @@ use Rattle.policy_text_defs.specs.Sense.{Sense, Entry, entry, sense_of}
 use Rattle.policy_rules.specs.Names.{Name, declared}
 use Rattle.policy_rules.specs.Clauses.{IsLeastLine}
 use Rattle.policy_rules.specs.Entries.{entries_of, AreRising}
-use Rattle.policy_rules.proofs.Earlier.{least_here, fine-more}
+use Rattle.policy_rules.proofs.EarlierLines.{least_here, fine-more}
 
 abbrev pub Line : Type 0
 Line = ℕ × Statement

@@ -11,7 +11,7 @@ use Rattle.policy_text_defs.specs.Sense.{Sense, Entry, version}
 use Rattle.policy_rules.specs.Names.{Name, has, declared}
 use Rattle.policy_rules.specs.Clauses.{NoLine, IsAgain, IsBeyond, is_declared, is_beyond}
 use Rattle.policy_rules.specs.Entries.{AreRising}
-use Rattle.policy_rules.proofs.Earlier.{passes-at}
+use Rattle.policy_rules.proofs.EarlierLines.{passes-at}
 use Rattle.policy_rules.proofs.Lines.{declared-push}
 
 distinct-more : (names : List Name) (o : Option Name) → IsDistinct bytes_eq names → option_map_or (has names) o false ≡ false → IsDistinct bytes_eq (names ++ cons_option o [])

@@ -1,5 +1,5 @@
 -- The clauses that one statement can fail, each over the list as a whole.
-use Rattle.std.specs.Prelude.{ℕ, ◌≡◌, ◌≤◌, ◌==◌, nat_le, Bool, true, false, not, ◌&&◌, ◌||◌, IsTrue, Option, Some, None, is_some, List, [], ◌∷◌, length, filter, All, Any, codes}
+use Rattle.std.specs.Prelude.{ℕ, ◌≡◌, ◌≤◌, ◌==◌, nat_le, Bool, true, false, not, ◌&&◌, ◌||◌, IsTrue, Option, Some, None, MatchOption, is_some, List, [], ◌∷◌, length, filter, All, Any, codes}
 use Rattle.std.specs.List.{list_all}
 use Rattle.std.specs.Option.{option_map_or}
 use Rattle.std.specs.Str.{bytes_eq}
@@ -17,6 +17,10 @@ pub record IsLeastLine (Fails : Entry → Type 0) (entries : List Entry) (n : �
 
 abbrev pub NoLine : (Entry → Type 0) → List Entry → Type 0
 NoLine Fails entries = All (λ e. ¬ Fails e) entries
+
+-- the least line at fault, where there is one
+abbrev pub IsFirst : (Entry → Type 0) → List Entry → Option ℕ → Type 0
+IsFirst Fails entries found = MatchOption found (NoLine Fails entries) (IsLeastLine Fails entries)
 
 -- ---- 1: a statement stands where it may not
 abbrev pub is_version : Sense → Bool

@@ -1,5 +1,6 @@
 -- Nodes and the children that they list, by name.
 use Rattle.std.specs.Prelude.{ℕ, zero, suc, ◌≡◌, ◌<◌, Some, List, Any, Contains, IsSomeAnd}
+use Rattle.tree_defs.specs.Tree.{most_levels}
 use Rattle.policy_text_defs.specs.Sense.{Entry}
 use Rattle.policy_rules.specs.Names.{Name, node_name, children}
 use Rattle.policy_rules.specs.Clauses.{root}
@@ -20,10 +21,6 @@ IsDescendant entries a b = (k : ℕ) × NamesLead entries (suc k) a b
 abbrev pub IsCyclic : List Entry → Entry → Type 0
 IsCyclic entries e = IsSomeAnd (node_name e.1) (λ a. IsDescendant entries a a)
 
--- the most levels below the root
-abbrev pub most_levels : ℕ
-most_levels = 64
-
--- 11: a node or leaf is deeper below the root
+-- 11: a node or leaf is more levels below the root
 abbrev pub IsTooDeep : List Entry → Entry → Type 0
 IsTooDeep entries e = IsSomeAnd (node_name e.1) (λ a. (k : ℕ) × (most_levels < k) × NamesLead entries k root a)

@@ -1,4 +1,5 @@
-//! Which statements are an accepted policy, why others are refused, and which policy they are.
+//! Which statements are an accepted policy, why others are refused, and which policy they are. Begin with
+//! specs/Accepted.antt.
 #![tactic(auto)]
 
 mod builtins;

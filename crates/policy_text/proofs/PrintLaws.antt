@@ -4,12 +4,12 @@ use Rattle.std.specs.Prelude.{◌↔◌}
 use Rattle.std.proofs.lemmas.List.Elements.{All-map}
 use Rattle.policy_text_defs.specs.Ranges.{most_text}
 use Rattle.policy_text_defs.specs.Sense.{Entry, numbered}
-use Rattle.policy_text_defs.specs.Text.{IsWritten, HasEntries}
+use Rattle.policy_text_defs.specs.Text.{IsWritten, HasEntries, ReadsBack}
 use Rattle.policy_text_defs.specs.Canonical.{canonical_text}
 use Rattle.policy_text_defs.proofs.CanonicalLaws.{canonical_text_has}
 use Rattle.policy_text.specs.Entries.{Numbered, AreWritten, sense_at}
 
-pub canonical_reads_back : (held : List Numbered) (text : List ℕ) → AreWritten held → text ≡ canonical_text (map sense_at held) → length text ≤ most_text → (es : List Entry) → HasEntries text es ↔ (es ≡ numbered 1 (map sense_at held))
+pub canonical_reads_back : (held : List Numbered) (text : List ℕ) → AreWritten held → text ≡ canonical_text (map sense_at held) → ReadsBack text (map sense_at held)
 canonical_reads_back held text written same short es =
     let P : List ℕ → Type 0 = λ t. HasEntries t es ↔ (es ≡ numbered 1 (map sense_at held)) in
     subst P (sym same) (canonical_text_has (map sense_at held) (All-map IsWritten sense_at held written) (subst (λ t. length t ≤ most_text) same short) es)

@@ -1,4 +1,5 @@
 pub mod Entries
 pub mod Parsing
+pub mod Printing
 pub mod Reads
 pub mod States

@@ -1,9 +1,8 @@
 //! Reading a condition.
 ghost use Rattle.policy_text_defs.specs.StatementReading as forms;
 ghost use Rattle.policy_text_defs.specs.Words as words;
-ghost use Rattle.policy_text.specs.Reads.{Reads, same};
+ghost use Rattle.policy_text.specs.Reads.{Reads, Makes, same};
 ghost use Rattle.std.specs.Prelude.{List};
-ghost use Rattle.text_core.specs.Glyphs.{Glyph, glyphs_of};
 
 use crate::cursor::Cursor;
 use list_core::List;
@@ -18,7 +17,7 @@ const MOST_PREFIX: u32 = 32;
 
 /// The condition that a field has a value with a name.
 fn named_value(field: FieldName, word: &[u8]) -> Result<Condition, Refusal>
-    ensures { (gs : List Glyph) → Reads same (forms.named_value field word.now gs) result gs }
+    ensures { Makes same (forms.named_value field word.now) result }
 {
     match field {
         FieldName::Proto => protocol(word),
@@ -27,7 +26,7 @@ fn named_value(field: FieldName, word: &[u8]) -> Result<Condition, Refusal>
 }
 
 fn protocol(word: &[u8]) -> Result<Condition, Refusal>
-    ensures { (gs : List Glyph) → Reads same (forms.protocol_by (words.protocol_of word.now) gs) result gs }
+    ensures { Makes same (forms.protocol_by (words.protocol_of word.now)) result }
 {
     match protocol_of(word) {
         Some(number) => Ok(Condition::Field(FieldName::Proto, number, number)),
@@ -39,7 +38,7 @@ impl<'a> Cursor<'a> {
     /// The number after `..`, or the low one where that doesn't follow.
     #[tactic(auto, unfolding(policy_text_defs::specs::StatementReading::upper))]
     fn upper(&mut self, low: u64) -> Result<u64, Refusal>
-        ensures { Reads same (forms.upper low (glyphs_of self.old.rest.now)) result (glyphs_of self.new.rest.now) }
+        ensures { Reads same (forms.upper low) result self.old.rest.now self.new.rest.now }
     {
         if self.takes_mark(Mark::DotDot) {
             self.number()
@@ -50,7 +49,7 @@ impl<'a> Cursor<'a> {
 
     #[tactic(auto, unfolding(policy_text_defs::specs::StatementReading::bounded))]
     fn range(&mut self, field: FieldName, low: u64) -> Result<Condition, Refusal>
-        ensures { Reads same (forms.range_from field low (glyphs_of self.old.rest.now)) result (glyphs_of self.new.rest.now) }
+        ensures { Reads same (forms.range_from field low) result self.old.rest.now self.new.rest.now }
     {
         let high = self.upper(low)?;
         if low > high || high > field.most() as u64 {
@@ -60,7 +59,7 @@ impl<'a> Cursor<'a> {
     }
 
     fn bounds(&mut self, field: FieldName) -> Result<Condition, Refusal>
-        ensures { Reads same (forms.bounds field (glyphs_of self.old.rest.now)) result (glyphs_of self.new.rest.now) }
+        ensures { Reads same (forms.bounds field) result self.old.rest.now self.new.rest.now }
     {
         match self.next()? {
             Item::Number(low) => self.range(field, low),
@@ -72,7 +71,7 @@ impl<'a> Cursor<'a> {
     /// `N.N.N.N`
     #[tactic(auto, unfolding(policy_text_defs::specs::StatementReading::address))]
     fn address(&mut self) -> Result<u32, Refusal>
-        ensures { Reads same (forms.address (glyphs_of self.old.rest.now)) result (glyphs_of self.new.rest.now) }
+        ensures { Reads same forms.address result self.old.rest.now self.new.rest.now }
     {
         let first = self.number_to(MOST_OCTET)?;
         self.mark(Mark::Dot)?;
@@ -87,7 +86,7 @@ impl<'a> Cursor<'a> {
     /// The number after `/`, or the longest length where that doesn't follow.
     #[tactic(auto, unfolding(policy_text_defs::specs::StatementReading::prefix_length))]
     fn prefix_length(&mut self) -> Result<u32, Refusal>
-        ensures { Reads same (forms.prefix_length (glyphs_of self.old.rest.now)) result (glyphs_of self.new.rest.now) }
+        ensures { Reads same forms.prefix_length result self.old.rest.now self.new.rest.now }
     {
         if self.takes_mark(Mark::Slash) {
             self.number_to(MOST_PREFIX)
@@ -98,7 +97,7 @@ impl<'a> Cursor<'a> {
 
     #[tactic(auto, unfolding(policy_text_defs::specs::StatementReading::source_rest))]
     fn source(&mut self) -> Result<Condition, Refusal>
-        ensures { Reads same (forms.source_rest (glyphs_of self.old.rest.now)) result (glyphs_of self.new.rest.now) }
+        ensures { Reads same forms.source_rest result self.old.rest.now self.new.rest.now }
     {
         let address = self.address()?;
         let length = self.prefix_length()?;
@@ -107,7 +106,7 @@ impl<'a> Cursor<'a> {
 
     #[tactic(auto, unfolding(policy_text_defs::specs::StatementReading::dest_rest))]
     fn dest(&mut self) -> Result<Condition, Refusal>
-        ensures { Reads same (forms.dest_rest (glyphs_of self.old.rest.now)) result (glyphs_of self.new.rest.now) }
+        ensures { Reads same forms.dest_rest result self.old.rest.now self.new.rest.now }
     {
         let address = self.address()?;
         let length = self.prefix_length()?;
@@ -116,7 +115,7 @@ impl<'a> Cursor<'a> {
 
     #[tactic(auto, unfolding(policy_text_defs::specs::StatementReading::a_condition))]
     fn condition(&mut self) -> Result<Condition, Refusal>
-        ensures { Reads same (forms.a_condition (glyphs_of self.old.rest.now)) result (glyphs_of self.new.rest.now) }
+        ensures { Reads same forms.a_condition result self.old.rest.now self.new.rest.now }
     {
         match Subject::of(self.word()?) {
             Some(Subject::Field(field)) => self.bounds(field),
@@ -132,7 +131,7 @@ impl<'a> Cursor<'a> {
 /// Conditions with `and` between them.
 #[tactic(auto, unfolding(policy_text_defs::specs::StatementReading::conditions), using(policy_text_defs::proofs::RepeatLoops::repeats_start, policy_text_defs::proofs::RepeatLoops::repeats_over))]
 fn conditions(alloc: Global, cursor: &mut Cursor<'_>) -> Result<List<Condition>, Refusal>
-    ensures { Reads same (forms.conditions (glyphs_of cursor.old.rest.now)) result (glyphs_of cursor.new.rest.now) }
+    ensures { Reads same forms.conditions result cursor.old.rest.now cursor.new.rest.now }
 {
     let mut conditions = List::from_vec(Vec::new(alloc));
     conditions.push(cursor.condition()?)?;
@@ -145,7 +144,7 @@ fn conditions(alloc: Global, cursor: &mut Cursor<'_>) -> Result<List<Condition>,
 /// The conditions after `when`, or none where that doesn't follow.
 #[tactic(auto, unfolding(policy_text_defs::specs::StatementReading::guard))]
 pub fn guard(alloc: Global, cursor: &mut Cursor<'_>) -> Result<List<Condition>, Refusal>
-    ensures { Reads same (forms.guard (glyphs_of cursor.old.rest.now)) result (glyphs_of cursor.new.rest.now) }
+    ensures { Reads same forms.guard result cursor.old.rest.now cursor.new.rest.now }
 {
     if cursor.takes_word("when") {
         conditions(alloc, cursor)

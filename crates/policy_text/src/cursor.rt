@@ -4,7 +4,7 @@ ghost use Rattle.policy_text_defs.specs.Grammar as grammar;
 ghost use Rattle.policy_text_defs.specs.Reading as spec;
 ghost use Rattle.policy_text_defs.specs.StatementReading as forms;
 ghost use Rattle.policy_text.specs.Reads.{Reads, Takes, TakesIf, same};
-ghost use Rattle.text_core.specs.Glyphs.{glyph_of, glyphs_of};
+ghost use Rattle.text_core.specs.Glyphs.{glyph_of};
 
 use policy_text_defs::{Attribute, is, name_of, target_of};
 use rank_defs::Op;
@@ -36,7 +36,7 @@ fn is_word(item: &Item<'_>, word: &str) -> bool
 
 impl<'a> Cursor<'a> {
     pub fn next(&mut self) -> Result<Item<'a>, Refusal>
-        ensures { Reads glyph_of (spec.next (glyphs_of self.old.rest.now)) result (glyphs_of self.new.rest.now) }
+        ensures { Reads glyph_of spec.next result self.old.rest.now self.new.rest.now }
     {
         match self.rest {
             [] => Err(Refusal::NoForm),
@@ -48,7 +48,7 @@ impl<'a> Cursor<'a> {
     }
 
     pub fn mark(&mut self, mark: Mark) -> Result<(), Refusal>
-        ensures { Reads same (spec.mark mark (glyphs_of self.old.rest.now)) result (glyphs_of self.new.rest.now) }
+        ensures { Reads same (spec.mark mark) result self.old.rest.now self.new.rest.now }
     {
         if !is_mark(&self.next()?, mark) {
             return Err(Refusal::NoForm);
@@ -57,7 +57,7 @@ impl<'a> Cursor<'a> {
     }
 
     pub fn literal(&mut self, word: &str) -> Result<(), Refusal>
-        ensures { Reads same (spec.literal word.now (glyphs_of self.old.rest.now)) result (glyphs_of self.new.rest.now) }
+        ensures { Reads same (spec.literal word.now) result self.old.rest.now self.new.rest.now }
     {
         if !is_word(&self.next()?, word) {
             return Err(Refusal::NoForm);
@@ -67,7 +67,7 @@ impl<'a> Cursor<'a> {
 
     /// Takes a mark where it stands first.
     pub fn takes_mark(&mut self, mark: Mark) -> bool
-        ensures { TakesIf (spec.ahead (λ g. spec.unit_if (spec.is_sign mark g)) (glyphs_of self.old.rest.now)) result (glyphs_of self.old.rest.now) (glyphs_of self.new.rest.now) }
+        ensures { TakesIf (λ g. spec.unit_if (spec.is_sign mark g)) result self.old.rest.now self.new.rest.now }
     {
         match self.rest {
             [first, rest @ ..] if is_mark(first, mark) => {
@@ -80,7 +80,7 @@ impl<'a> Cursor<'a> {
 
     /// Takes a word where it stands first.
     pub fn takes_word(&mut self, word: &str) -> bool
-        ensures { TakesIf (spec.ahead (forms.word_ahead word.now) (glyphs_of self.old.rest.now)) result (glyphs_of self.old.rest.now) (glyphs_of self.new.rest.now) }
+        ensures { TakesIf (forms.word_ahead word.now) result self.old.rest.now self.new.rest.now }
     {
         match self.rest {
             [first, rest @ ..] if is_word(first, word) => {
@@ -92,7 +92,7 @@ impl<'a> Cursor<'a> {
     }
 
     pub fn word(&mut self) -> Result<&'a [u8], Refusal>
-        ensures { Reads (λ w. w.now) (forms.a_word (glyphs_of self.old.rest.now)) result (glyphs_of self.new.rest.now) }
+        ensures { Reads (λ w. w.now) forms.a_word result self.old.rest.now self.new.rest.now }
     {
         match self.next()? {
             Item::Word(word) => Ok(word),
@@ -101,7 +101,7 @@ impl<'a> Cursor<'a> {
     }
 
     pub fn number(&mut self) -> Result<u64, Refusal>
-        ensures { Reads same (forms.a_number (glyphs_of self.old.rest.now)) result (glyphs_of self.new.rest.now) }
+        ensures { Reads same forms.a_number result self.old.rest.now self.new.rest.now }
     {
         match self.next()? {
             Item::Number(number) => Ok(number),
@@ -112,7 +112,7 @@ impl<'a> Cursor<'a> {
     /// A number that is at most `most`.
     #[tactic(auto, unfolding(policy_text_defs::specs::StatementReading::within))]
     pub fn number_to(&mut self, most: u32) -> Result<u32, Refusal>
-        ensures reads { Reads same (forms.number_to most (glyphs_of self.old.rest.now)) result (glyphs_of self.new.rest.now) }
+        ensures reads { Reads same (forms.number_to most) result self.old.rest.now self.new.rest.now }
         ensures low { IfOk result (λ n. n ≤ most) }
     {
         let number = self.number()?;
@@ -124,7 +124,7 @@ impl<'a> Cursor<'a> {
 
     #[tactic(auto, unfolding(policy_text_defs::specs::StatementReading::named_by))]
     pub fn name(&mut self) -> Result<&'a str, Refusal>
-        ensures { Reads (λ n. n.now) (forms.name (glyphs_of self.old.rest.now)) result (glyphs_of self.new.rest.now) }
+        ensures { Reads (λ n. n.now) forms.name result self.old.rest.now self.new.rest.now }
     {
         match name_of(self.word()?) {
             Some(name) => Ok(name),
@@ -135,7 +135,7 @@ impl<'a> Cursor<'a> {
     /// A name, or `rank`.
     #[tactic(auto, unfolding(policy_text_defs::specs::StatementReading::target_by))]
     pub fn target(&mut self) -> Result<&'a str, Refusal>
-        ensures { Reads (λ n. n.now) (forms.target (glyphs_of self.old.rest.now)) result (glyphs_of self.new.rest.now) }
+        ensures { Reads (λ n. n.now) forms.target result self.old.rest.now self.new.rest.now }
     {
         match target_of(self.word()?) {
             Some(name) => Ok(name),
@@ -145,7 +145,7 @@ impl<'a> Cursor<'a> {
 
     /// Takes the operator with which a product goes on.
     pub fn product_operator(&mut self) -> Option<Op>
-        ensures { Takes same (spec.ahead grammar.product_op (glyphs_of self.old.rest.now)) result (glyphs_of self.old.rest.now) (glyphs_of self.new.rest.now) }
+        ensures { Takes same grammar.product_op result self.old.rest.now self.new.rest.now }
     {
         let [first, rest @ ..] = self.rest else {
             return None;
@@ -157,7 +157,7 @@ impl<'a> Cursor<'a> {
 
     /// Takes the operator with which a sum goes on.
     pub fn sum_operator(&mut self) -> Option<Op>
-        ensures { Takes same (spec.ahead grammar.sum_op (glyphs_of self.old.rest.now)) result (glyphs_of self.old.rest.now) (glyphs_of self.new.rest.now) }
+        ensures { Takes same grammar.sum_op result self.old.rest.now self.new.rest.now }
     {
         let [first, rest @ ..] = self.rest else {
             return None;
@@ -169,7 +169,7 @@ impl<'a> Cursor<'a> {
 
     /// Takes the operator of a comparison.
     pub fn relation(&mut self) -> Option<Op>
-        ensures { Takes same (spec.ahead grammar.relation (glyphs_of self.old.rest.now)) result (glyphs_of self.old.rest.now) (glyphs_of self.new.rest.now) }
+        ensures { Takes same grammar.relation result self.old.rest.now self.new.rest.now }
     {
         let [first, rest @ ..] = self.rest else {
             return None;
@@ -181,7 +181,7 @@ impl<'a> Cursor<'a> {
 
     /// Takes the word of an attribute.
     pub fn attribute(&mut self) -> Option<Attribute>
-        ensures { Takes same (spec.ahead forms.attribute_at (glyphs_of self.old.rest.now)) result (glyphs_of self.old.rest.now) (glyphs_of self.new.rest.now) }
+        ensures { Takes same forms.attribute_at result self.old.rest.now self.new.rest.now }
     {
         let [Item::Word(word), rest @ ..] = self.rest else {
             return None;
@@ -193,7 +193,7 @@ impl<'a> Cursor<'a> {
 
     /// Takes a name where one stands first.
     pub fn takes_name(&mut self) -> Option<&'a str>
-        ensures { Takes (λ n. n.now) (spec.ahead forms.name_ahead (glyphs_of self.old.rest.now)) result (glyphs_of self.old.rest.now) (glyphs_of self.new.rest.now) }
+        ensures { Takes (λ n. n.now) forms.name_ahead result self.old.rest.now self.new.rest.now }
     {
         let [Item::Word(word), rest @ ..] = self.rest else {
             return None;

@@ -1,4 +1,5 @@
-//! Policy texts: reading their statements, and printing statements as canonical text.
+//! Policy texts: reading their statements, and printing statements as canonical text. Begin with
+//! specs/Parsing.antt.
 #![tactic(auto)]
 
 mod conditions;
@@ -16,4 +17,4 @@ pub use fault::TextFault;
 pub use lines::Lines;
 pub use policy_text_defs::{Attrs, Condition, FieldName, Statement, Term};
 pub use printing::print;
-pub use text::parse;
+pub use text::{MOST_TEXT, parse};

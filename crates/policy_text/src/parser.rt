@@ -1,25 +1,24 @@
 //! Reading an expression.
-ghost use Rattle.std.specs.Prelude.{◌≡◌, List};
+ghost use Rattle.std.specs.Prelude.{◌≡◌};
 ghost use Rattle.policy_text_defs.specs.Phrase.{phrase_of, two, negation, choice};
 ghost use Rattle.policy_text_defs.specs.Reading as spec;
 ghost use Rattle.policy_text_defs.specs.Words.{function_of};
-ghost use Rattle.policy_text.specs.Reads.{Reads, phrase_of_part};
-ghost use Rattle.text_core.specs.Glyphs.{Glyph, glyphs_of};
+ghost use Rattle.policy_text.specs.Reads.{Reads, Makes, phrase_of_part};
 
 use crate::cursor::Cursor;
-use crate::part::{MOST_DEPTH, Part};
+use crate::part::Part;
 use list_core::Name;
 use policy_text_defs::{Function, Term, operand_of};
-use rank_defs::Op;
+use rank_defs::{MAX_DEPTH, Op};
 use std::alloc::Global;
 use text_core::{Item, Mark, Refusal};
 
 #[tactic(auto, unfolding(policy_text_defs::specs::Reading::limited))]
 fn pair(alloc: Global, op: Op, left: Part, right: Part) -> Result<Part, Refusal>
-    ensures { (gs : List Glyph) → Reads phrase_of_part (spec.limited (two op (phrase_of left.term) (phrase_of right.term)) gs) result gs }
+    ensures { Makes phrase_of_part (spec.limited (two op (phrase_of left.term) (phrase_of right.term))) result }
 {
     let depth = left.depth.max(right.depth) + 1;
-    if depth > MOST_DEPTH {
+    if depth > MAX_DEPTH {
         return Err(Refusal::NoForm);
     }
     let term = Term::Two(
@@ -32,10 +31,10 @@ fn pair(alloc: Global, op: Op, left: Part, right: Part) -> Result<Part, Refusal>
 
 #[tactic(auto, unfolding(policy_text_defs::specs::Reading::limited))]
 fn negated(alloc: Global, part: Part) -> Result<Part, Refusal>
-    ensures { (gs : List Glyph) → Reads phrase_of_part (spec.limited (negation (phrase_of part.term)) gs) result gs }
+    ensures { Makes phrase_of_part (spec.limited (negation (phrase_of part.term))) result }
 {
     let depth = part.depth + 1;
-    if depth > MOST_DEPTH {
+    if depth > MAX_DEPTH {
         return Err(Refusal::NoForm);
     }
     let term = Term::Not(Box::new(alloc, part.term)?);
@@ -44,10 +43,10 @@ fn negated(alloc: Global, part: Part) -> Result<Part, Refusal>
 
 #[tactic(auto, unfolding(policy_text_defs::specs::Reading::limited))]
 fn chosen(alloc: Global, test: Part, then: Part, other: Part) -> Result<Part, Refusal>
-    ensures { (gs : List Glyph) → Reads phrase_of_part (spec.limited (choice (phrase_of test.term) (phrase_of then.term) (phrase_of other.term)) gs) result gs }
+    ensures { Makes phrase_of_part (spec.limited (choice (phrase_of test.term) (phrase_of then.term) (phrase_of other.term))) result }
 {
     let depth = test.depth.max(then.depth.max(other.depth)) + 1;
-    if depth > MOST_DEPTH {
+    if depth > MAX_DEPTH {
         return Err(Refusal::NoForm);
     }
     let term = Term::If(
@@ -61,7 +60,7 @@ fn chosen(alloc: Global, test: Part, then: Part, other: Part) -> Result<Part, Re
 /// A word that stands by itself.
 #[tactic(auto, unfolding(policy_text_defs::specs::Reading::operand))]
 fn operand(alloc: Global, word: &[u8]) -> Result<Part, Refusal>
-    ensures { (gs : List Glyph) → Reads phrase_of_part (spec.operand word.now gs) result gs }
+    ensures { Makes phrase_of_part (spec.operand word.now) result }
 {
     let name = match operand_of(word) {
         Some(text) => Name::new(alloc, text)?,
@@ -77,7 +76,7 @@ fn operand(alloc: Global, word: &[u8]) -> Result<Part, Refusal>
 #[tactic(auto, using(policy_text_defs::proofs::ChainLemmas::inside_more))]
 #[cycle(expression)]
 fn inside(alloc: Global, cursor: &mut Cursor<'_>, room: u32) -> Result<Part, Refusal>
-    ensures { Reads phrase_of_part (spec.inside room (glyphs_of cursor.old.rest.now)) result (glyphs_of cursor.new.rest.now) }
+    ensures { Reads phrase_of_part (spec.inside room) result cursor.old.rest.now cursor.new.rest.now }
 {
     if room == 0 {
         return Err(Refusal::NoForm);
@@ -89,7 +88,7 @@ fn inside(alloc: Global, cursor: &mut Cursor<'_>, room: u32) -> Result<Part, Ref
 #[tactic(auto, unfolding(policy_text_defs::specs::Reading::call))]
 #[cycle(expression)]
 fn call(alloc: Global, cursor: &mut Cursor<'_>, room: u32, op: Op) -> Result<Part, Refusal>
-    ensures { Reads phrase_of_part (spec.call (spec.inside room) op (glyphs_of cursor.old.rest.now)) result (glyphs_of cursor.new.rest.now) }
+    ensures { Reads phrase_of_part (spec.call (spec.inside room) op) result cursor.old.rest.now cursor.new.rest.now }
 {
     cursor.mark(Mark::Open)?;
     let first = inside(alloc, cursor, room)?;
@@ -103,7 +102,7 @@ fn call(alloc: Global, cursor: &mut Cursor<'_>, room: u32, op: Op) -> Result<Par
 #[tactic(auto, unfolding(policy_text_defs::specs::Reading::opposite))]
 #[cycle(expression)]
 fn opposite(alloc: Global, cursor: &mut Cursor<'_>, room: u32) -> Result<Part, Refusal>
-    ensures { Reads phrase_of_part (spec.opposite (spec.inside room) (glyphs_of cursor.old.rest.now)) result (glyphs_of cursor.new.rest.now) }
+    ensures { Reads phrase_of_part (spec.opposite (spec.inside room)) result cursor.old.rest.now cursor.new.rest.now }
 {
     cursor.mark(Mark::Open)?;
     let part = inside(alloc, cursor, room)?;
@@ -115,7 +114,7 @@ fn opposite(alloc: Global, cursor: &mut Cursor<'_>, room: u32) -> Result<Part, R
 #[tactic(auto, unfolding(policy_text_defs::specs::Reading::alternative))]
 #[cycle(expression)]
 fn alternative(alloc: Global, cursor: &mut Cursor<'_>, room: u32) -> Result<Part, Refusal>
-    ensures { Reads phrase_of_part (spec.alternative (spec.inside room) (glyphs_of cursor.old.rest.now)) result (glyphs_of cursor.new.rest.now) }
+    ensures { Reads phrase_of_part (spec.alternative (spec.inside room)) result cursor.old.rest.now cursor.new.rest.now }
 {
     cursor.mark(Mark::Open)?;
     let test = inside(alloc, cursor, room)?;
@@ -131,7 +130,7 @@ fn alternative(alloc: Global, cursor: &mut Cursor<'_>, room: u32) -> Result<Part
 #[tactic(auto, unfolding(policy_text_defs::specs::Reading::in_parentheses))]
 #[cycle(expression)]
 fn in_parentheses(alloc: Global, cursor: &mut Cursor<'_>, room: u32) -> Result<Part, Refusal>
-    ensures { Reads phrase_of_part (spec.in_parentheses (spec.inside room) (glyphs_of cursor.old.rest.now)) result (glyphs_of cursor.new.rest.now) }
+    ensures { Reads phrase_of_part (spec.in_parentheses (spec.inside room)) result cursor.old.rest.now cursor.new.rest.now }
 {
     let part = inside(alloc, cursor, room)?;
     cursor.mark(Mark::Close)?;
@@ -145,7 +144,8 @@ fn word_atom(
     room: u32,
     word: &[u8],
 ) -> Result<Part, Refusal>
-    ensures { Reads phrase_of_part (spec.word_at (spec.inside room) word.now (function_of word.now) (glyphs_of cursor.old.rest.now)) result (glyphs_of cursor.new.rest.now) }
+    ensures { Reads phrase_of_part (spec.word_at (spec.inside room) word.now (function_of word.now)) result
+        cursor.old.rest.now cursor.new.rest.now }
 {
     match Function::of(word) {
         Some(Function::Two(op)) => call(alloc, cursor, room, op),
@@ -158,7 +158,7 @@ fn word_atom(
 #[tactic(auto, using(policy_text_defs::proofs::ChainLemmas::atom_next))]
 #[cycle(expression)]
 fn atom(alloc: Global, cursor: &mut Cursor<'_>, room: u32) -> Result<Part, Refusal>
-    ensures { Reads phrase_of_part (spec.atom room (glyphs_of cursor.old.rest.now)) result (glyphs_of cursor.new.rest.now) }
+    ensures { Reads phrase_of_part (spec.atom room) result cursor.old.rest.now cursor.new.rest.now }
 {
     match cursor.next()? {
         Item::Number(number) => Ok(Part {
@@ -174,7 +174,7 @@ fn atom(alloc: Global, cursor: &mut Cursor<'_>, room: u32) -> Result<Part, Refus
 #[tactic(auto, unfolding(policy_text_defs::specs::Reading::product), using(policy_text_defs::proofs::ChainLemmas::chain_ends))]
 #[cycle(expression)]
 fn product(alloc: Global, cursor: &mut Cursor<'_>, room: u32) -> Result<Part, Refusal>
-    ensures { Reads phrase_of_part (spec.product (spec.atom room) (glyphs_of cursor.old.rest.now)) result (glyphs_of cursor.new.rest.now) }
+    ensures { Reads phrase_of_part (spec.product (spec.atom room)) result cursor.old.rest.now cursor.new.rest.now }
 {
     let mut left = atom(alloc, cursor, room)?;
     while let Some(op) = cursor.product_operator() {
@@ -187,7 +187,7 @@ fn product(alloc: Global, cursor: &mut Cursor<'_>, room: u32) -> Result<Part, Re
 #[tactic(auto, unfolding(policy_text_defs::specs::Reading::sum), using(policy_text_defs::proofs::ChainLemmas::chain_ends))]
 #[cycle(expression)]
 fn sum(alloc: Global, cursor: &mut Cursor<'_>, room: u32) -> Result<Part, Refusal>
-    ensures { Reads phrase_of_part (spec.sum (spec.atom room) (glyphs_of cursor.old.rest.now)) result (glyphs_of cursor.new.rest.now) }
+    ensures { Reads phrase_of_part (spec.sum (spec.atom room)) result cursor.old.rest.now cursor.new.rest.now }
 {
     let mut left = product(alloc, cursor, room)?;
     while let Some(op) = cursor.sum_operator() {
@@ -201,7 +201,7 @@ fn sum(alloc: Global, cursor: &mut Cursor<'_>, room: u32) -> Result<Part, Refusa
 #[tactic(auto, unfolding(policy_text_defs::specs::Reading::expression))]
 #[cycle(expression)]
 pub fn expression(alloc: Global, cursor: &mut Cursor<'_>, room: u32) -> Result<Part, Refusal>
-    ensures { Reads phrase_of_part (spec.expression (spec.atom room) (glyphs_of cursor.old.rest.now)) result (glyphs_of cursor.new.rest.now) }
+    ensures { Reads phrase_of_part (spec.expression (spec.atom room)) result cursor.old.rest.now cursor.new.rest.now }
 {
     let left = sum(alloc, cursor, room)?;
     let Some(op) = cursor.relation() else {

@@ -4,9 +4,6 @@ ghost use Rattle.policy_text_defs.specs.Phrase as phrase;
 
 use policy_text_defs::Term;
 
-/// The greatest depth of an expression.
-pub const MOST_DEPTH: u32 = 64;
-
 /// The most parentheses that are open at once.
 pub const MOST_OPEN: u32 = 64;
 
@@ -16,5 +13,5 @@ pub struct Part {
     pub term: Term,
     pub depth: u32,
     ghost measured: { depth ≡ phrase.depth (phrase.phrase_of term) },
-    ghost low: { depth ≤ 64 },
+    ghost low: { depth ≤ phrase.most_depth },
 }

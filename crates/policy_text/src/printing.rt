@@ -6,10 +6,9 @@ mod statement;
 #[cfg(test)]
 mod tests;
 
-ghost use Rattle.std.specs.Prelude.{◌≡◌, ◌↔◌, ◌≤◌, List, ◌++◌, map, length, IfOk, OnOk, codes};
-ghost use Rattle.policy_text_defs.specs.Ranges.{most_text};
-ghost use Rattle.policy_text_defs.specs.Sense.{Entry, sense_of, numbered};
-ghost use Rattle.policy_text_defs.specs.Text.{HasEntries};
+ghost use Rattle.std.specs.Prelude.{◌≡◌, ◌++◌, map, IfOk, OnOk, codes};
+ghost use Rattle.policy_text_defs.specs.Sense.{sense_of};
+ghost use Rattle.policy_text_defs.specs.Text.{ReadsBack};
 ghost use Rattle.policy_text_defs.specs.Canonical.{statement_text, canonical_text};
 ghost use Rattle.policy_text.specs.Entries.{sense_at};
 
@@ -41,7 +40,7 @@ fn put_lines(into: &mut Vec<u8>, entries: &[(u32, Statement)]) -> Result<(), All
 #[tactic(auto, using(crate::proofs::PrintLaws::canonical_reads_back))]
 pub fn print(alloc: Global, lines: &Lines) -> Result<List<u8>, AllocError>
     ensures text { IfOk result (λ text. text ≡ canonical_text (map sense_at lines.now.held)) }
-    ensures reads_back { IfOk result (λ text. length text ≤ most_text → (es : List Entry) → HasEntries text es ↔ (es ≡ numbered 1 (map sense_at lines.now.held))) }
+    ensures reads_back { IfOk result (λ text. ReadsBack text (map sense_at lines.now.held)) }
 {
     let mut text = Vec::new(alloc);
     put_lines(&mut text, lines.entries())?;

@@ -5,9 +5,9 @@ ghost use Rattle.policy_text_defs.specs.Ranges.{attribute_most};
 ghost use Rattle.policy_text_defs.specs.Sense.{Sense, sense_of};
 ghost use Rattle.policy_text_defs.specs.StatementReading as forms;
 ghost use Rattle.policy_text_defs.specs.Statements.{IsForm, with_attribute};
-ghost use Rattle.policy_text.specs.Reads.{Reads, same};
+ghost use Rattle.policy_text.specs.Reads.{Reads, Makes, same};
 ghost use Rattle.policy_text.specs.States.{States};
-ghost use Rattle.text_core.specs.Glyphs.{Glyph, glyphs_of};
+ghost use Rattle.text_core.specs.Glyphs.{glyphs_of};
 
 use crate::conditions::guard;
 use crate::cursor::Cursor;
@@ -59,7 +59,7 @@ fn with(attribute: Attribute, number: u64, attrs: Attrs) -> Attrs
 /// Sets an attribute that isn't set.
 #[tactic(auto, unfolding(policy_text_defs::specs::StatementReading::set_to))]
 fn set(attribute: Attribute, number: u64, attrs: Attrs) -> Result<Attrs, Refusal>
-    ensures { (gs : List Glyph) → Reads same (forms.set_to attribute attrs number gs) result gs }
+    ensures { Makes same (forms.set_to attribute attrs number) result }
 {
     if !is_unset(attribute, &attrs) || number < attribute.least() || number > attribute.most() {
         return Err(Refusal::NoForm);
@@ -71,7 +71,7 @@ impl<'a> Cursor<'a> {
     /// `LOW..HIGH = FIRST`
     #[tactic(auto, unfolding(policy_text_defs::specs::StatementReading::span, policy_text_defs::specs::StatementReading::spanned))]
     fn span(&mut self) -> Result<Span, Refusal>
-        ensures { Reads same (forms.span (glyphs_of self.old.rest.now)) result (glyphs_of self.new.rest.now) }
+        ensures { Reads same forms.span result self.old.rest.now self.new.rest.now }
     {
         let low = self.number()?;
         self.mark(Mark::DotDot)?;
@@ -87,7 +87,7 @@ impl<'a> Cursor<'a> {
     /// Attributes in any order, each at most once.
     #[tactic(auto, using(policy_text_defs::proofs::RepeatLoops::repeats_start, policy_text_defs::proofs::RepeatLoops::repeats_over))]
     fn attributes(&mut self) -> Result<Attrs, Refusal>
-        ensures { Reads same (forms.attributes (glyphs_of self.old.rest.now)) result (glyphs_of self.new.rest.now) }
+        ensures { Reads same forms.attributes result self.old.rest.now self.new.rest.now }
     {
         let mut attrs = UNSET;
         while let Some(attribute) = self.attribute() {
@@ -101,7 +101,7 @@ impl<'a> Cursor<'a> {
 /// One name or more.
 #[tactic(auto, unfolding(policy_text_defs::specs::StatementReading::names), using(policy_text_defs::proofs::RepeatLoops::repeats_start, policy_text_defs::proofs::RepeatLoops::repeats_over))]
 fn names(alloc: Global, cursor: &mut Cursor<'_>) -> Result<List<Name>, Refusal>
-    ensures { Reads same (forms.names (glyphs_of cursor.old.rest.now)) result (glyphs_of cursor.new.rest.now) }
+    ensures { Reads same forms.names result cursor.old.rest.now cursor.new.rest.now }
 {
     let mut names = List::from_vec(Vec::new(alloc));
     names.push(Name::new(alloc, cursor.name()?)?)?;
@@ -113,7 +113,7 @@ fn names(alloc: Global, cursor: &mut Cursor<'_>) -> Result<List<Name>, Refusal>
 
 #[tactic(auto, unfolding(policy_text_defs::specs::StatementReading::version_by))]
 fn version(cursor: &mut Cursor<'_>) -> Result<Statement, Refusal>
-    ensures { Reads sense_of (forms.rest_by (Some keyword.Policy) (glyphs_of cursor.old.rest.now)) result (glyphs_of cursor.new.rest.now) }
+    ensures { Reads sense_of (forms.rest_by (Some keyword.Policy)) result cursor.old.rest.now cursor.new.rest.now }
 {
     match cursor.number()? {
         1 => Ok(Statement::Version(1)),
@@ -123,7 +123,7 @@ fn version(cursor: &mut Cursor<'_>) -> Result<Statement, Refusal>
 
 #[tactic(auto, unfolding(policy_text_defs::specs::StatementReading::transaction_rest))]
 fn transaction(alloc: Global, cursor: &mut Cursor<'_>) -> Result<Statement, Refusal>
-    ensures { Reads sense_of (forms.transaction_rest (glyphs_of cursor.old.rest.now)) result (glyphs_of cursor.new.rest.now) }
+    ensures { Reads sense_of forms.transaction_rest result cursor.old.rest.now cursor.new.rest.now }
 {
     let name = cursor.name()?;
     Ok(Statement::Transaction(Name::new(alloc, name)?))
@@ -131,7 +131,7 @@ fn transaction(alloc: Global, cursor: &mut Cursor<'_>) -> Result<Statement, Refu
 
 #[tactic(auto, unfolding(policy_text_defs::specs::StatementReading::keep_rest))]
 fn keep(alloc: Global, cursor: &mut Cursor<'_>) -> Result<Statement, Refusal>
-    ensures { Reads sense_of (forms.keep_rest (glyphs_of cursor.old.rest.now)) result (glyphs_of cursor.new.rest.now) }
+    ensures { Reads sense_of forms.keep_rest result cursor.old.rest.now cursor.new.rest.now }
 {
     let name = cursor.name()?;
     let span = cursor.span()?;
@@ -140,7 +140,7 @@ fn keep(alloc: Global, cursor: &mut Cursor<'_>) -> Result<Statement, Refusal>
 
 #[tactic(auto, unfolding(policy_text_defs::specs::StatementReading::each_rest))]
 fn each(alloc: Global, cursor: &mut Cursor<'_>) -> Result<Statement, Refusal>
-    ensures { Reads sense_of (forms.each_rest (glyphs_of cursor.old.rest.now)) result (glyphs_of cursor.new.rest.now) }
+    ensures { Reads sense_of forms.each_rest result cursor.old.rest.now cursor.new.rest.now }
 {
     let name = cursor.name()?;
     let span = cursor.span()?;
@@ -149,7 +149,7 @@ fn each(alloc: Global, cursor: &mut Cursor<'_>) -> Result<Statement, Refusal>
 
 #[tactic(auto, unfolding(policy_text_defs::specs::StatementReading::push_rest))]
 fn push(alloc: Global, cursor: &mut Cursor<'_>) -> Result<Statement, Refusal>
-    ensures { Reads sense_of (forms.push_rest (glyphs_of cursor.old.rest.now)) result (glyphs_of cursor.new.rest.now) }
+    ensures { Reads sense_of forms.push_rest result cursor.old.rest.now cursor.new.rest.now }
 {
     let target = cursor.target()?;
     cursor.mark(Mark::Is)?;
@@ -159,7 +159,7 @@ fn push(alloc: Global, cursor: &mut Cursor<'_>) -> Result<Statement, Refusal>
 
 #[tactic(auto, unfolding(policy_text_defs::specs::StatementReading::pop_rest))]
 fn pop(alloc: Global, cursor: &mut Cursor<'_>) -> Result<Statement, Refusal>
-    ensures { Reads sense_of (forms.pop_rest (glyphs_of cursor.old.rest.now)) result (glyphs_of cursor.new.rest.now) }
+    ensures { Reads sense_of forms.pop_rest result cursor.old.rest.now cursor.new.rest.now }
 {
     let name = cursor.name()?;
     cursor.mark(Mark::Is)?;
@@ -169,7 +169,7 @@ fn pop(alloc: Global, cursor: &mut Cursor<'_>) -> Result<Statement, Refusal>
 
 #[tactic(auto, unfolding(policy_text_defs::specs::StatementReading::class_rest))]
 fn class(alloc: Global, cursor: &mut Cursor<'_>) -> Result<Statement, Refusal>
-    ensures { Reads sense_of (forms.class_rest (glyphs_of cursor.old.rest.now)) result (glyphs_of cursor.new.rest.now) }
+    ensures { Reads sense_of forms.class_rest result cursor.old.rest.now cursor.new.rest.now }
 {
     let name = cursor.name()?;
     let attrs = cursor.attributes()?;
@@ -179,7 +179,7 @@ fn class(alloc: Global, cursor: &mut Cursor<'_>) -> Result<Statement, Refusal>
 
 #[tactic(auto, unfolding(policy_text_defs::specs::StatementReading::leaf_rest))]
 fn leaf(alloc: Global, cursor: &mut Cursor<'_>) -> Result<Statement, Refusal>
-    ensures { Reads sense_of (forms.leaf_rest (glyphs_of cursor.old.rest.now)) result (glyphs_of cursor.new.rest.now) }
+    ensures { Reads sense_of forms.leaf_rest result cursor.old.rest.now cursor.new.rest.now }
 {
     let name = cursor.name()?;
     cursor.literal("using")?;
@@ -193,7 +193,7 @@ fn leaf(alloc: Global, cursor: &mut Cursor<'_>) -> Result<Statement, Refusal>
 
 #[tactic(auto, unfolding(policy_text_defs::specs::StatementReading::node_rest))]
 fn node(alloc: Global, cursor: &mut Cursor<'_>) -> Result<Statement, Refusal>
-    ensures { Reads sense_of (forms.node_rest (glyphs_of cursor.old.rest.now)) result (glyphs_of cursor.new.rest.now) }
+    ensures { Reads sense_of forms.node_rest result cursor.old.rest.now cursor.new.rest.now }
 {
     let name = cursor.name()?;
     cursor.literal("using")?;
@@ -207,7 +207,7 @@ fn node(alloc: Global, cursor: &mut Cursor<'_>) -> Result<Statement, Refusal>
 
 #[tactic(auto, unfolding(policy_text_defs::specs::StatementReading::a_statement))]
 fn statement(alloc: Global, cursor: &mut Cursor<'_>) -> Result<Statement, Refusal>
-    ensures { Reads sense_of (forms.a_statement (glyphs_of cursor.old.rest.now)) result (glyphs_of cursor.new.rest.now) }
+    ensures { Reads sense_of forms.a_statement result cursor.old.rest.now cursor.new.rest.now }
 {
     match Keyword::of(cursor.word()?) {
         Some(Keyword::Policy) => version(cursor),

@@ -16,7 +16,7 @@ use std::alloc::{AllocError, Global};
 use text_core::lines;
 
 /// The most bytes of a policy text.
-const MOST_TEXT: usize = 1_048_576;
+pub const MOST_TEXT: usize = 1_048_576;
 
 /// Puts what was found on a line last.
 fn keep(

@@ -6,7 +6,7 @@ pub mod ConditionLaws
 pub mod ExpressionLaws
 pub mod GrammarLaws
 pub mod GuardLaws
-pub mod Lexed
+pub mod NumberLimits
 pub mod Pieces
 pub mod RepeatLaws
 pub mod StatementForms

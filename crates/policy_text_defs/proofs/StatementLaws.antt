@@ -6,14 +6,15 @@ use Rattle.std.specs.Prelude.{◌==◌}
 use Rattle.rank_defs.specs.declared.transaction.Span.{Span}
 use Rattle.text_core.specs.declared.mark.Mark.TheVariants as m
 use Rattle.text_core.specs.Glyphs.{Glyph, text, figure, sign}
+use Rattle.policy_text_defs.specs.declared.attribute.Attrs.{Attrs}
 use Rattle.policy_text_defs.specs.declared.condition.Condition.{Condition}
 use Rattle.policy_text_defs.specs.declared.keyword.Keyword.{Keyword}
 use Rattle.policy_text_defs.specs.declared.keyword.Keyword.TheVariants as keyword
 use Rattle.policy_text_defs.specs.Words.{keyword_of}
 use Rattle.policy_text_defs.specs.Sense.{Sense, version, transaction, keep, each, push, pop, class, leaf, node}
-use Rattle.policy_text_defs.specs.Statements.{span_tokens, Guard, unguarded, guarded, IsForm, version_form, transaction_form, keep_form, each_form, push_form, pop_form, class_form, leaf_form, node_form}
-use Rattle.policy_text_defs.specs.Reading.{◌>>=◌, ahead}
-use Rattle.policy_text_defs.specs.StatementReading.{a_number, attribute_at, version_by, transaction_rest, keep_rest, each_rest, push_rest, pop_rest, class_rest, leaf_rest, node_rest, rest_by, a_statement}
+use Rattle.policy_text_defs.specs.Statements.{IsName, IsSpan, AreNames, Attributes, span_tokens, Guard, unguarded, guarded, IsForm, version_form, transaction_form, keep_form, each_form, push_form, pop_form, class_form, leaf_form, node_form}
+use Rattle.policy_text_defs.specs.Reading.{Reader, ◌>>=◌, ◌>>◌, pure, literal, ahead}
+use Rattle.policy_text_defs.specs.StatementReading.{name, names, span, attributes, a_number, attribute_at, version_by, transaction_rest, keep_rest, each_rest, push_rest, pop_rest, class_rest, leaf_rest, node_rest, rest_by, a_statement}
 use Rattle.policy_text_defs.proofs.StepLaws.{steps, same_value, same_rest, marked, worded, in_table}
 use Rattle.policy_text_defs.proofs.TokenLaws.{numbered, a_word_was, kept, Kept, named_reads, name_was, target_reads, target_was, span_reads, span_was}
 use Rattle.policy_text_defs.proofs.ExpressionLaws.{Spells-read, read-Spells}
@@ -72,25 +73,24 @@ transaction_sound gs s e =
     let split : gs ≡ text a.value ∷ [] = n.split ∙ ap (λ l. text a.value ∷ l) (same_rest (transaction a.value) s a.left [] a.next) in
     formed (codes "transaction") (text a.value ∷ []) gs (transaction a.value) s (transaction_form a.value n.is) split (same_value (transaction a.value) s a.left [] a.next)
 
+-- a variable's declaration, under its keyword
+module _ (w : List ℕ) (made : List ℕ → Span → Sense) (form : (n : List ℕ) (r : Span) → IsName n → IsSpan r → IsForm (text w ∷ text n ∷ span_tokens r) (made n r)) where
+  declaration_sound : (gs : List Glyph) (s : Sense) → (name >>= (λ n. span >>= (λ r. pure (made n r)))) gs ≡ Some (s, []) → IsForm (text w ∷ gs) s
+  declaration_sound gs s e =
+      let a = steps _ _ _ _ e in
+      let b = steps _ _ _ _ a.next in
+      let n = name_was a.value gs a.left a.read in
+      let r = span_was b.value a.left b.left b.read in
+      let range : a.left ≡ span_tokens b.value = r.split ∙ ap (λ l. span_tokens b.value ++ l) (same_rest (made a.value b.value) s b.left [] b.next) in
+      formed w (text a.value ∷ span_tokens b.value) gs (made a.value b.value) s (form a.value b.value n.is r.is) (n.split ∙ ap (λ l. text a.value ∷ l) range) (same_value (made a.value b.value) s b.left [] b.next)
+
 keep_sound : (gs : List Glyph) (s : Sense) → keep_rest gs ≡ Some (s, []) → IsForm (text (codes "keep") ∷ gs) s
 unfolding keep_rest
-keep_sound gs s e =
-    let a = steps _ _ _ _ e in
-    let b = steps _ _ _ _ a.next in
-    let n = name_was a.value gs a.left a.read in
-    let r = span_was b.value a.left b.left b.read in
-    let range : a.left ≡ span_tokens b.value = r.split ∙ ap (λ l. span_tokens b.value ++ l) (same_rest (keep a.value b.value) s b.left [] b.next) in
-    formed (codes "keep") (text a.value ∷ span_tokens b.value) gs (keep a.value b.value) s (keep_form a.value b.value n.is r.is) (n.split ∙ ap (λ l. text a.value ∷ l) range) (same_value (keep a.value b.value) s b.left [] b.next)
+keep_sound gs s e = declaration_sound (codes "keep") keep keep_form gs s e
 
 each_sound : (gs : List Glyph) (s : Sense) → each_rest gs ≡ Some (s, []) → IsForm (text (codes "each") ∷ gs) s
 unfolding each_rest
-each_sound gs s e =
-    let a = steps _ _ _ _ e in
-    let b = steps _ _ _ _ a.next in
-    let n = name_was a.value gs a.left a.read in
-    let r = span_was b.value a.left b.left b.read in
-    let range : a.left ≡ span_tokens b.value = r.split ∙ ap (λ l. span_tokens b.value ++ l) (same_rest (each a.value b.value) s b.left [] b.next) in
-    formed (codes "each") (text a.value ∷ span_tokens b.value) gs (each a.value b.value) s (each_form a.value b.value n.is r.is) (n.split ∙ ap (λ l. text a.value ∷ l) range) (same_value (each a.value b.value) s b.left [] b.next)
+each_sound gs s e = declaration_sound (codes "each") each each_form gs s e
 
 push_sound : (gs : List Glyph) (s : Sense) → push_rest gs ≡ Some (s, []) → IsForm (text (codes "push") ∷ gs) s
 unfolding push_rest
@@ -126,45 +126,45 @@ class_sound gs s e =
     let split : gs ≡ text a.value ∷ w.front ++ g.front = n.split ∙ ap (λ l. text a.value ∷ l) (w.split ∙ ap (λ l. w.front ++ l) guards) in
     formed (codes "class") (text a.value ∷ w.front ++ g.front) gs r s (class_form a.value w.front g.front b.value c.value n.is w.is g.is) split (same_value r s c.left [] c.next)
 
+-- a leaf or node, under its keyword, with what it lists behind another word
+module _ (w list : List ℕ) (made : List ℕ → List ℕ → Attrs → List (List ℕ) → Sense) (form : (n u : List ℕ) (ts : List Glyph) (a : Attrs) (ns : List (List ℕ)) → IsName n → IsName u → Attributes ts a → AreNames ns
+    → IsForm (text w ∷ text n ∷ text (codes "using") ∷ text u ∷ ts ++ text list ∷ map text ns) (made n u a ns)) where
+  abbrev vertex_rest : Reader Sense
+  vertex_rest = do
+    n ← name
+    literal (codes "using")
+    u ← name
+    a ← attributes
+    literal list
+    ns ← names
+    pure (made n u a ns)
+
+  vertex_sound : (gs : List Glyph) (s : Sense) → vertex_rest gs ≡ Some (s, []) → IsForm (text w ∷ gs) s
+  vertex_sound gs s e =
+      let a = steps _ _ _ _ e in
+      let b = steps _ _ _ _ a.next in
+      let c = steps _ _ _ _ b.next in
+      let d = steps _ _ _ _ c.next in
+      let f = steps _ _ _ _ d.next in
+      let h = steps _ _ _ _ f.next in
+      let n = name_was a.value gs a.left a.read in
+      let u = name_was c.value b.left c.left c.read in
+      let k = attributes_were d.value c.left d.left d.read in
+      let ns = names_were h.value f.left h.left h.read in
+      let r : Sense = made a.value c.value d.value h.value in
+      let listed : f.left ≡ map text h.value = ns.split ∙ ap (λ l. map text h.value ++ l) (same_rest r s h.left [] h.next) ∙ append-nil (map text h.value) in
+      let lists : d.left ≡ text list ∷ map text h.value = worded list d.left f.left f.value f.read ∙ ap (λ l. text list ∷ l) listed in
+      let attrs : c.left ≡ k.front ++ text list ∷ map text h.value = k.split ∙ ap (λ l. k.front ++ l) lists in
+      let using : a.left ≡ text (codes "using") ∷ text c.value ∷ k.front ++ text list ∷ map text h.value = worded (codes "using") a.left b.left b.value b.read ∙ ap (λ l. text (codes "using") ∷ l) (u.split ∙ ap (λ l. text c.value ∷ l) attrs) in
+      formed w (text a.value ∷ text (codes "using") ∷ text c.value ∷ k.front ++ text list ∷ map text h.value) gs r s (form a.value c.value k.front d.value h.value n.is u.is k.is ns.are) (n.split ∙ ap (λ l. text a.value ∷ l) using) (same_value r s h.left [] h.next)
+
 leaf_sound : (gs : List Glyph) (s : Sense) → leaf_rest gs ≡ Some (s, []) → IsForm (text (codes "leaf") ∷ gs) s
 unfolding leaf_rest
-leaf_sound gs s e =
-    let a = steps _ _ _ _ e in
-    let b = steps _ _ _ _ a.next in
-    let c = steps _ _ _ _ b.next in
-    let d = steps _ _ _ _ c.next in
-    let f = steps _ _ _ _ d.next in
-    let h = steps _ _ _ _ f.next in
-    let n = name_was a.value gs a.left a.read in
-    let u = name_was c.value b.left c.left c.read in
-    let w = attributes_were d.value c.left d.left d.read in
-    let k = names_were h.value f.left h.left h.read in
-    let r : Sense = leaf a.value c.value d.value h.value in
-    let list : f.left ≡ map text h.value = k.split ∙ ap (λ l. map text h.value ++ l) (same_rest r s h.left [] h.next) ∙ append-nil (map text h.value) in
-    let classes : d.left ≡ text (codes "classes") ∷ map text h.value = worded (codes "classes") d.left f.left f.value f.read ∙ ap (λ l. text (codes "classes") ∷ l) list in
-    let attrs : c.left ≡ w.front ++ text (codes "classes") ∷ map text h.value = w.split ∙ ap (λ l. w.front ++ l) classes in
-    let using : a.left ≡ text (codes "using") ∷ text c.value ∷ w.front ++ text (codes "classes") ∷ map text h.value = worded (codes "using") a.left b.left b.value b.read ∙ ap (λ l. text (codes "using") ∷ l) (u.split ∙ ap (λ l. text c.value ∷ l) attrs) in
-    formed (codes "leaf") (text a.value ∷ text (codes "using") ∷ text c.value ∷ w.front ++ text (codes "classes") ∷ map text h.value) gs r s (leaf_form a.value c.value w.front d.value h.value n.is u.is w.is k.are) (n.split ∙ ap (λ l. text a.value ∷ l) using) (same_value r s h.left [] h.next)
+leaf_sound gs s e = vertex_sound (codes "leaf") (codes "classes") leaf leaf_form gs s e
 
 node_sound : (gs : List Glyph) (s : Sense) → node_rest gs ≡ Some (s, []) → IsForm (text (codes "node") ∷ gs) s
 unfolding node_rest
-node_sound gs s e =
-    let a = steps _ _ _ _ e in
-    let b = steps _ _ _ _ a.next in
-    let c = steps _ _ _ _ b.next in
-    let d = steps _ _ _ _ c.next in
-    let f = steps _ _ _ _ d.next in
-    let h = steps _ _ _ _ f.next in
-    let n = name_was a.value gs a.left a.read in
-    let u = name_was c.value b.left c.left c.read in
-    let w = attributes_were d.value c.left d.left d.read in
-    let k = names_were h.value f.left h.left h.read in
-    let r : Sense = node a.value c.value d.value h.value in
-    let list : f.left ≡ map text h.value = k.split ∙ ap (λ l. map text h.value ++ l) (same_rest r s h.left [] h.next) ∙ append-nil (map text h.value) in
-    let children : d.left ≡ text (codes "children") ∷ map text h.value = worded (codes "children") d.left f.left f.value f.read ∙ ap (λ l. text (codes "children") ∷ l) list in
-    let attrs : c.left ≡ w.front ++ text (codes "children") ∷ map text h.value = w.split ∙ ap (λ l. w.front ++ l) children in
-    let using : a.left ≡ text (codes "using") ∷ text c.value ∷ w.front ++ text (codes "children") ∷ map text h.value = worded (codes "using") a.left b.left b.value b.read ∙ ap (λ l. text (codes "using") ∷ l) (u.split ∙ ap (λ l. text c.value ∷ l) attrs) in
-    formed (codes "node") (text a.value ∷ text (codes "using") ∷ text c.value ∷ w.front ++ text (codes "children") ∷ map text h.value) gs r s (node_form a.value c.value w.front d.value h.value n.is u.is w.is k.are) (n.split ∙ ap (λ l. text a.value ∷ l) using) (same_value r s h.left [] h.next)
+node_sound gs s e = vertex_sound (codes "node") (codes "children") node node_form gs s e
 
 keyword_sound : (k : Keyword) (gs : List Glyph) (s : Sense) → rest_by (Some k) gs ≡ Some (s, []) → IsForm (text (keyword_word k) ∷ gs) s
 keyword_sound keyword.Policy gs s e = version_sound gs s e

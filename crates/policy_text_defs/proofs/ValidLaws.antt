@@ -19,7 +19,7 @@ use Rattle.policy_text_defs.specs.Sense.{Sense}
 use Rattle.policy_text_defs.specs.Statements.{IsTarget, variable_target, rank_target, unset, with_attribute, AttributesFrom, no_more, set, Attributes, Range, single, between, Address, whole, prefix, IsCondition, field, protocol, source, dest, ipv4, ipv6, Conditions, last, also, Guard, unguarded, guarded, IsForm, version_form, transaction_form, keep_form, each_form, push_form, pop_form, class_form, leaf_form, node_form}
 use Rattle.policy_text_defs.specs.Text.{LineOf, IsWritten}
 use Rattle.policy_text_defs.specs.Valid.{HasOperands, IsValidPhrase, IsAttributeNumber, AreValidAttributes, IsValidAddress, IsValidCondition, IsValid}
-use Rattle.policy_text_defs.proofs.Lexed.{IsLexed, Says-lexed}
+use Rattle.policy_text_defs.proofs.NumberLimits.{IsLexed, Says-lexed}
 
 abbrev AreLexed : List Glyph → Type 0
 AreLexed gs = AllByRecursion IsLexed gs

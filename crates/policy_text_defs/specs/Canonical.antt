@@ -125,14 +125,22 @@ abbrev pub names_text : List (List ℕ) → List ℕ
 names_text [] = []
 names_text (n ∷ ns) = codes " " ++ (n ++ names_text ns)
 
+-- `KEYWORD NAME LOW..HIGH = FIRST`
+abbrev pub declaration_text : List ℕ → List ℕ → Span → List ℕ
+declaration_text keyword n s = keyword ++ (n ++ (codes " " ++ span_text s))
+
+-- `KEYWORD NAME = EXPR`
+abbrev pub assignment_text : List ℕ → List ℕ → Phrase → List ℕ
+assignment_text keyword n a = keyword ++ (n ++ (codes " = " ++ term_text a))
+
 -- the line of a statement, without its end
 abbrev pub statement_text : Sense → List ℕ
 statement_text (version v) = codes "policy " ++ decimal v
 statement_text (transaction n) = codes "transaction " ++ n
-statement_text (keep n s) = codes "keep " ++ (n ++ (codes " " ++ span_text s))
-statement_text (each n s) = codes "each " ++ (n ++ (codes " " ++ span_text s))
-statement_text (push n a) = codes "push " ++ (n ++ (codes " = " ++ term_text a))
-statement_text (pop n a) = codes "pop " ++ (n ++ (codes " = " ++ term_text a))
+statement_text (keep n s) = declaration_text (codes "keep ") n s
+statement_text (each n s) = declaration_text (codes "each ") n s
+statement_text (push n a) = assignment_text (codes "push ") n a
+statement_text (pop n a) = assignment_text (codes "pop ") n a
 statement_text (class n a cs) = codes "class " ++ (n ++ (attributes_text a ++ guard_text cs))
 statement_text (leaf n u a ns) = codes "leaf " ++ (n ++ (codes " using " ++ (u ++ (attributes_text a ++ (codes " classes" ++ names_text ns)))))
 statement_text (node n u a ns) = codes "node " ++ (n ++ (codes " using " ++ (u ++ (attributes_text a ++ (codes " children" ++ names_text ns)))))

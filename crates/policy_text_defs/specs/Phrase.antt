@@ -1,6 +1,7 @@
 -- An expression apart from where it lies in memory.
 use Rattle.std.specs.Prelude.{ℕ, suc, max, List}
 use Rattle.rank_defs.specs.declared.expression.Op.{Op}
+use Rattle.rank_defs.specs.Shapes.{max_depth}
 use Rattle.policy_text_defs.specs.declared.term.Term.{Term}
 use Rattle.policy_text_defs.specs.declared.term.Term.TheVariants.{Number, Word, Two', Not', If'}
 
@@ -28,7 +29,7 @@ depth (choice a b c) = suc (max (depth a) (max (depth b) (depth c)))
 
 -- the greatest depth of an expression, and the most parentheses that are open at once
 abbrev pub most_depth : ℕ
-most_depth = 64
+most_depth = max_depth
 
 abbrev pub most_open : ℕ
 most_open = 64

@@ -1,5 +1,6 @@
 -- The ranges of the numbers that are written.
 use Rattle.std.specs.Prelude.{ℕ}
+use Rattle.rank_defs.specs.Shapes.{max_len, max_prio, max_weight, max_slack}
 use Rattle.policy_text_defs.specs.declared.attribute.Attribute.{Attribute}
 use Rattle.policy_text_defs.specs.declared.attribute.Attribute.TheVariants as attribute
 use Rattle.policy_text_defs.specs.declared.condition.FieldName.{FieldName}
@@ -12,9 +13,9 @@ attribute_least attribute.Weight = 1
 attribute_least attribute.Slack = 0
 
 abbrev pub attribute_most : Attribute → ℕ
-attribute_most attribute.Prio = 65535
-attribute_most attribute.Weight = 65535
-attribute_most attribute.Slack = 1000000000000
+attribute_most attribute.Prio = max_prio
+attribute_most attribute.Weight = max_weight
+attribute_most attribute.Slack = max_slack
 
 -- the greatest number of a field
 abbrev pub field_most : FieldName → ℕ
@@ -23,7 +24,7 @@ field_most field.Dscp = 63
 field_most field.Proto = 255
 field_most field.Sport = 65535
 field_most field.Dport = 65535
-field_most field.Len = 4294967295
+field_most field.Len = max_len
 
 -- the greatest of the four numbers of an address, and the longest prefix
 abbrev pub most_octet : ℕ

@@ -1,12 +1,12 @@
 -- The statements of a text, and the least of its lines that is at fault.
-use Rattle.std.specs.Prelude.{◌≡◌, ℕ, suc, ◌≤◌, Bool, true, false, List, [], ◌∷◌, length, take, codes}
+use Rattle.std.specs.Prelude.{◌≡◌, ℕ, suc, ◌≤◌, ◌↔◌, Bool, true, false, List, [], ◌∷◌, length, take, codes}
 use Rattle.std.specs.List.{prefix_len, list_all}
 use Rattle.std.specs.Str.{bytes_eq}
 use Rattle.text_core.specs.Lines.{is_clean_text, statements_of}
 use Rattle.text_core.specs.Tokens.{is_blank, is_word_byte}
 use Rattle.policy_text_defs.specs.Ranges.{most_text}
 use Rattle.text_core.specs.Glyphs.{Glyph}
-use Rattle.policy_text_defs.specs.Sense.{Sense, Entry, entry}
+use Rattle.policy_text_defs.specs.Sense.{Sense, Entry, entry, numbered}
 use Rattle.policy_text_defs.specs.Statements.{IsForm}
 use Rattle.text_core.specs.Says.{Says, skipped}
 
@@ -44,6 +44,10 @@ pub data Entries : ℕ → List (List ℕ) → List Entry → Type 0 where
 pub record HasEntries (text : List ℕ) (es : List Entry) : Type 0 where
   pub short : length text ≤ most_text
   pub entries : Entries 1 (statements_of text) es
+
+-- a text that isn't too long has just these statements, one a line from line 1 on
+abbrev pub ReadsBack : List ℕ → List Sense → Type 0
+ReadsBack text ss = length text ≤ most_text → (es : List Entry) → HasEntries text es ↔ (es ≡ numbered 1 ss)
 
 -- why a line is refused
 pub data Fault : Type 0 where

@@ -1,5 +1,5 @@
 -- What a statement is like that some line has: names are names, numbers are in range, expressions aren't too deep.
-use Rattle.std.specs.Prelude.{◌≡◌, ℕ, ◌<◌, ◌≤◌, true, Option, Some, None}
+use Rattle.std.specs.Prelude.{◌≡◌, ℕ, ◌<◌, ◌≤◌, ◌^◌, true, Option, Some, None}
 use Rattle.std.specs.List.{AllByRecursion}
 use Rattle.rank_defs.specs.declared.transaction.Span.{Span}
 use Rattle.text_core.specs.Decimals.{max}
@@ -51,7 +51,7 @@ pub record AreValidAttributes (a : Attrs) : Type 0 where
 
 -- an IPv4 address and the length of its prefix
 pub record IsValidAddress (a l : ℕ) : Type 0 where
-  pub address : a < 4294967296
+  pub address : a < 2 ^ 32
   pub prefix : l ≤ most_prefix
 
 -- the ends of a range

@@ -4,6 +4,7 @@ ghost use Rattle.policy_text_defs.specs.Words.{attribute_of};
 ghost use Rattle.policy_text_defs.specs.Ranges.{attribute_least, attribute_most};
 
 use crate::word::is;
+use rank_defs::{MAX_PRIO, MAX_SLACK, MAX_WEIGHT};
 
 /// The attributes that were written for a class, leaf or node.
 #[derive(Clone, Copy, PartialEq, Eq, Debug)]
@@ -53,8 +54,9 @@ impl Attribute {
         ensures { result ≡ attribute_most self }
     {
         match self {
-            Attribute::Prio | Attribute::Weight => 65_535,
-            Attribute::Slack => 1_000_000_000_000,
+            Attribute::Prio => u64::from(MAX_PRIO),
+            Attribute::Weight => u64::from(MAX_WEIGHT),
+            Attribute::Slack => MAX_SLACK,
         }
     }
 }

@@ -1,8 +1,7 @@
 //! The laws of the canonical text.
-ghost use Rattle.std.specs.Prelude.{◌≡◌, ◌↔◌, List, All, length, ◌≤◌, ℕ};
-ghost use Rattle.policy_text_defs.specs.Sense.{Sense, Entry, numbered};
-ghost use Rattle.policy_text_defs.specs.Text.{Carries, IsWritten, HasEntries};
-ghost use Rattle.policy_text_defs.specs.Ranges.{most_text};
+ghost use Rattle.std.specs.Prelude.{◌≡◌, ◌↔◌, List, All, ℕ};
+ghost use Rattle.policy_text_defs.specs.Sense.{Sense, Entry};
+ghost use Rattle.policy_text_defs.specs.Text.{Carries, IsWritten, HasEntries, ReadsBack};
 ghost use Rattle.policy_text_defs.specs.Valid.{IsValid};
 ghost use Rattle.policy_text_defs.specs.Canonical.{statement_text, canonical_text};
 
@@ -16,7 +15,7 @@ pub fn written_statements_are_valid()
 #[tactic(auto, using(crate::proofs::CanonicalLaws::statement_text_carries, crate::proofs::CanonicalLaws::canonical_text_has))]
 pub fn canonical_text_reads_back()
     ensures line { (s : Sense) → IsWritten s → Carries (statement_text s) s }
-    ensures text { (ss : List Sense) → All IsWritten ss → length (canonical_text ss) ≤ most_text → (es : List Entry) → HasEntries (canonical_text ss) es ↔ (es ≡ numbered 1 ss) }
+    ensures text { (ss : List Sense) → All IsWritten ss → ReadsBack (canonical_text ss) ss }
 {}
 
 /// A line has at most one statement, and a text one list of them.

@@ -1,2 +1,2 @@
-mod Leasts
-mod Refused
+mod LeastLines
+mod ErrorLemmas

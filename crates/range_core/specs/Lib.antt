@@ -1,4 +1,5 @@
 pub mod Bounds
 pub mod Codes
-pub mod Leasts
+pub mod LeastLines
+pub mod Refusals
 pub mod Samples

@@ -1,11 +1,10 @@
 //! What is known of an expression's values.
 ghost use Rattle.std.specs.Prelude.{◌≡◌, pos};
-ghost use Rattle.std.specs.Option.{SomeIff};
 ghost use Rattle.rank_defs.specs.Formulas.{formula_of};
 ghost use Rattle.rank_defs.specs.Programs.{program_of, span_at};
 ghost use Rattle.rank_defs.specs.Shapes.{IsShaped};
-ghost use Rattle.rank_defs.specs.Ranges.{declared as declared_of, range as range_from, range_of_span, ArePartsNarrow};
-ghost use Rattle.range_core.specs.Bounds.{bounds_of};
+ghost use Rattle.rank_defs.specs.Ranges.{declared as declared_of, range as range_from, range_of_span};
+ghost use Rattle.range_core.specs.Bounds.{AreBoundsOf};
 
 use crate::interval::{combined, joined, narrow, never_divides_by_zero};
 use rank_defs::{Expr, MAX_PRIO, MAX_RANK, MAX_SLACK, MAX_WEIGHT, Range, Span, Transaction, Var};
@@ -56,7 +55,7 @@ fn declared(transaction: &Transaction, var: Var) -> Range
 /// What is known of an expression, unless the interval of a part is too wide.
 pub fn bounds_of(transaction: &Transaction, e: &Expr) -> Option<Bounds>
     requires { IsShaped (program_of transaction.now) }
-    ensures { SomeIff result (ArePartsNarrow (declared_of (program_of transaction.now)) (formula_of e.now)) (bounds_of (program_of transaction.now) (formula_of e.now)) }
+    ensures { AreBoundsOf (program_of transaction.now) (formula_of e.now) result }
 {
     match e {
         Expr::Number(n) => {

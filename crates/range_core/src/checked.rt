@@ -1,10 +1,11 @@
 //! Transactions that pass the checks.
-ghost use Rattle.std.specs.Prelude.{◌≡◌, ◌↔◌, ℕ, map, Err, OnOk, IfOk};
+ghost use Rattle.std.specs.Prelude.{◌≡◌, map, Err, OnOk, IfOk};
 ghost use Rattle.std.specs.List.{AllByRecursion};
 ghost use Rattle.rank_defs.specs.Programs.{program_of};
 ghost use Rattle.rank_defs.specs.Shapes.{IsShaped};
 ghost use Rattle.rank_defs.specs.Checks.{IsChecked, AreChecked, ClashesFirstAt, IsWideFirstAt, DividesByZeroFirstAt};
 ghost use Rattle.rank_defs.specs.Tame.{IsAlwaysTame};
+ghost use Rattle.range_core.specs.Refusals.{Refuses};
 
 use crate::fault::RangeFault;
 use crate::lines::first_fault;
@@ -72,9 +73,9 @@ fn hold(transactions: List<Transaction>) -> Result<List<Checked>, AllocError>
 /// fault. On refusal the list is given up.
 pub fn check(transactions: List<Transaction>) -> Result<List<Checked>, RangeFault>
     requires shaped { AllByRecursion IsShaped (map program_of transactions) }
-    ensures clash { (line : ℕ) → (result ≡ Err (RangeFault.TypeClash line)) ↔ ClashesFirstAt (map program_of transactions) line }
-    ensures wide { (line : ℕ) → (result ≡ Err (RangeFault.Wide line)) ↔ IsWideFirstAt (map program_of transactions) line }
-    ensures zero { (line : ℕ) → (result ≡ Err (RangeFault.DivZero line)) ↔ DividesByZeroFirstAt (map program_of transactions) line }
+    ensures clash { Refuses result RangeFault.TypeClash (ClashesFirstAt (map program_of transactions)) }
+    ensures wide { Refuses result RangeFault.Wide (IsWideFirstAt (map program_of transactions)) }
+    ensures zero { Refuses result RangeFault.DivZero (DividesByZeroFirstAt (map program_of transactions)) }
     ensures memory { result ≡ Err RangeFault.NoMemory → AreChecked (map program_of transactions) }
     ensures checked { OnOk result (AreChecked (map program_of transactions)) }
     ensures tame { OnOk result (AllByRecursion IsAlwaysTame (map program_of transactions)) }

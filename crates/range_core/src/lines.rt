@@ -1,10 +1,11 @@
 //! The least lines at fault.
-ghost use Rattle.std.specs.Prelude.{◌≡◌, ◌≢◌, ◌↔◌, ℕ, List, [], ◌∷◌, ◌++◌, map, Some, None};
+ghost use Rattle.std.specs.Prelude.{◌≡◌, ◌≢◌, List, [], ◌∷◌, ◌++◌, map, Some, None};
 ghost use Rattle.std.specs.List.{AllByRecursion};
 ghost use Rattle.rank_defs.specs.Programs.{Program, assignment_of, assignments, program_of};
 ghost use Rattle.rank_defs.specs.Shapes.{IsShaped};
 ghost use Rattle.rank_defs.specs.Checks.{AreChecked, Entry, entry, entries, Clashes, IsLeastLine, ClashesFirstAt, IsWideFirstAt, DividesByZeroFirstAt, lesser_line};
-ghost use Rattle.range_core.specs.Leasts.{AreLeast};
+ghost use Rattle.range_core.specs.LeastLines.{AreLeast};
+ghost use Rattle.range_core.specs.Refusals.{Finds};
 
 use crate::bounds::bounds_of;
 use crate::fault::RangeFault;
@@ -125,9 +126,9 @@ fn lines_of_all(transactions: &[Transaction]) -> Lines
 /// divisors.
 pub fn first_fault(transactions: &[Transaction]) -> Option<RangeFault>
     requires { AllByRecursion IsShaped (map program_of transactions.now) }
-    ensures clash { (line : ℕ) → (result ≡ Some (RangeFault.TypeClash line)) ↔ ClashesFirstAt (map program_of transactions.now) line }
-    ensures wide { (line : ℕ) → (result ≡ Some (RangeFault.Wide line)) ↔ IsWideFirstAt (map program_of transactions.now) line }
-    ensures zero { (line : ℕ) → (result ≡ Some (RangeFault.DivZero line)) ↔ DividesByZeroFirstAt (map program_of transactions.now) line }
+    ensures clash { Finds result RangeFault.TypeClash (ClashesFirstAt (map program_of transactions.now)) }
+    ensures wide { Finds result RangeFault.Wide (IsWideFirstAt (map program_of transactions.now)) }
+    ensures zero { Finds result RangeFault.DivZero (DividesByZeroFirstAt (map program_of transactions.now)) }
     ensures checked { result ≡ None → AreChecked (map program_of transactions.now) }
     ensures memory { result ≢ Some RangeFault.NoMemory }
 {

@@ -18,7 +18,7 @@ use Rattle.policy_defs.specs.Policy.{Policy}
 use Rattle.policy_text_defs.specs.Ranges.{most_text}
 use Rattle.policy_text_defs.specs.Sense.{Entry}
 use Rattle.policy_text_defs.specs.Text.{HasEntries}
-use Rattle.policy_laws.proofs.Faultless.{accepted}
+use Rattle.policy_laws.proofs.FaultlessStatements.{accepted}
 use Rattle.policy_laws.proofs.SomePolicy.{a_policy}
 use Rattle.policy_laws.proofs.TextAnswers.{an_answer, sound_entries}
 use Rattle.policy_rules.specs.Accepted.{AreAccepted}

@@ -1,4 +1,4 @@
-//! Lines and tokens of a text as spans, what tokens say, and decimal numbers.
+//! Lines and tokens of a text as spans, what tokens say, and decimal numbers. Begin with specs/Tokens.antt.
 #![tactic(auto)]
 
 mod item;

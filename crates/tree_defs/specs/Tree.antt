@@ -34,6 +34,10 @@ module _ {Q : Type 0} where
   root_of (leaf q) = q
   root_of (inner q ts) = q
 
+-- the most levels below a root of a tree that is run, since each level is a call within a call
+abbrev pub most_levels : ℕ
+most_levels = 64
+
 -- the part of a tree at an address
 abbrev mutual
   pub subtree : {Q : Type 0} → Tree Q → Address → Option (Tree Q)

@@ -4,6 +4,7 @@ use Rattle.std.proofs.Math.ListN.{set, length-set}
 use Rattle.std.proofs.lemmas.Bool.{cases_eq}
 use Rattle.std.proofs.lemmas.List.{get_or_default, get_or-set_same, get_or-set_other, take_more}
 use Rattle.std.proofs.lemmas.List.Elements.{Contains-push, Contains-push_cases, Contains-append_left}
+use Rattle.tree_defs.specs.Tree.{most_levels}
 use Rattle.tree_graph.specs.Descent.{Graph, Leads, IsBelow, IsForest, IsDeep, ArePointed}
 use Rattle.tree_graph.specs.Marks.{is_marked}
 use Rattle.tree_graph.proofs.Steps.{one_depth}
@@ -21,7 +22,7 @@ pub deep-if-none : (D : Type 0) (P : ℕ → Type 0) (o : Option ℕ) (none : Bo
 deep-if-none D P None none h e was_true = h
 deep-if-none D P (Some d) none h e was_true = absurd (true≢false (e ∙ ap not was_true))
 
-pub shallow-if-some : (g : Graph) (root a : ℕ) → IsForest g root → (D : Type 0) (o : Option ℕ) (none : Bool) → MatchOption o D (λ d. (d ≤ 64) × Leads g d root a) → is_some o ≡ not none → none ≡ false → IsDeep g root a → ⊥
+pub shallow-if-some : (g : Graph) (root a : ℕ) → IsForest g root → (D : Type 0) (o : Option ℕ) (none : Bool) → MatchOption o D (λ d. (d ≤ most_levels) × Leads g d root a) → is_some o ≡ not none → none ≡ false → IsDeep g root a → ⊥
 shallow-if-some g root a forest D None none h e was_false deep = true≢false (sym (e ∙ ap not was_false))
 shallow-if-some g root a forest D (Some d) none h e was_false deep = (let same : deep.0 ≡ d = one_depth g root forest deep.0 d a deep.2 h.1 in omega (arith, h.0, deep.1))
 

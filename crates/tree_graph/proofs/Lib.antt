@@ -1,11 +1,11 @@
 pub mod Steps
-pub mod Marking
+pub mod MarkLemmas
 pub mod FirstFaults
-pub mod Growing
+pub mod GrowthLemmas
 pub mod Shapes
-pub mod Once
-pub mod Pointing
+pub mod NodesOnce
+pub mod ParentLemmas
 pub mod PreorderLaws
-pub mod Sound
+pub mod WholeTree
 pub mod OneTree
 pub mod Example

@@ -6,7 +6,7 @@ use Rattle.tree_defs.specs.Tree.{Tree, leaf, inner, Trees, none, more, Address, 
 use Rattle.tree_defs.specs.Topology.{topology_of, topologies_of, IsBranched, AreBranched}
 use Rattle.tree_graph.specs.Row.{Row, row, row_at, nodes_of}
 use Rattle.tree_graph.specs.Preorder.{starts, rows, rows_below, preorder, preorder_below}
-use Rattle.tree_graph.proofs.Growing.{length-rows, nodes-some}
+use Rattle.tree_graph.proofs.GrowthLemmas.{length-rows, nodes-some}
 
 nodes_of-append : (xs ys : List Row) → nodes_of (xs ++ ys) ≡ nodes_of xs ++ nodes_of ys
 nodes_of-append [] ys = refl

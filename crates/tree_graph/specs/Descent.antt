@@ -1,6 +1,7 @@
 -- Nodes by number. A graph is, for each node, the list of its children.
-use Rattle.std.specs.Prelude.{ℕ, zero, suc, ◌≡◌, ◌≢◌, ◌<◌, ◌≤◌, ◌+◌, refl, List, [], ◌∷◌, map, length, slice_index, slice_index_or, Contains, Vec, count_by, nat_eq, ◌⊎◌}
+use Rattle.std.specs.Prelude.{ℕ, zero, suc, ◌≡◌, ◌≢◌, ◌<◌, ◌≤◌, ◌+◌, refl, List, [], ◌∷◌, map, length, slice_index, slice_index_or, Option, Contains, Vec, count_by, nat_eq, MatchOption, ◌⊎◌}
 use Rattle.std.specs.declared.alloc.Global.{Global}
+use Rattle.tree_defs.specs.Tree.{most_levels}
 
 abbrev pub Graph : Type 0
 Graph = List (List ℕ)
@@ -28,9 +29,13 @@ Leads g (suc k) a b = (m : ℕ) × IsChild g a m × Leads g k m b
 abbrev pub IsBelow : Graph → ℕ → ℕ → Type 0
 IsBelow g a b = (k : ℕ) × Leads g (suc k) a b
 
--- a node is deeper than 64 below the root
+-- a node is more than the most levels below the root
 abbrev pub IsDeep : Graph → ℕ → ℕ → Type 0
-IsDeep g root a = (k : ℕ) × (64 < k) × Leads g k root a
+IsDeep g root a = (k : ℕ) × (most_levels < k) × Leads g k root a
+
+-- how many steps lead from the root to a node; nothing where it is too deep
+abbrev pub IsDepthOf : Graph → ℕ → ℕ → Option ℕ → Type 0
+IsDepthOf g root node found = MatchOption found (IsDeep g root node) (λ d. (d ≤ most_levels) × Leads g d root node)
 
 -- how often a node stands in a list
 abbrev pub times : ℕ → List ℕ → ℕ
@@ -64,6 +69,10 @@ pub record IsLeast (n : ℕ) (P : ℕ → Type 0) (a : ℕ) : Type 0 where
   pub within : a < n
   pub holds : P a
   pub least : (b : ℕ) → b < a → ¬ P b
+
+-- the first of n numbers for which a fact holds; nothing where it holds for none
+abbrev pub IsFirst : ℕ → (ℕ → Type 0) → Option ℕ → Type 0
+IsFirst n P found = MatchOption found ((a : ℕ) → a < n → ¬ P a) (IsLeast n P)
 
 -- the nodes of a list have this parent, and the others the one that they had
 pub record ArePointed (parent : ℕ) (nodes old new : List ℕ) : Type 0 where

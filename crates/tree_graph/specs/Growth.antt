@@ -1,5 +1,5 @@
 -- A tree on its way: some rows stand, and a node comes with all below it.
-use Rattle.std.specs.Prelude.{ℕ, ◌≡◌, ◌≤◌, ◌+◌, List, ◌++◌}
+use Rattle.std.specs.Prelude.{ℕ, ◌≡◌, ◌≤◌, ◌+◌, List, ◌++◌, length}
 use Rattle.tree_defs.specs.Tree.{Tree, leaf, inner, Trees, none, more, Address, root_of, nodes}
 use Rattle.tree_defs.specs.Topology.{Topology, topology_of}
 use Rattle.tree_graph.specs.Descent.{Graph, children}
@@ -20,10 +20,10 @@ abbrev mutual
 abbrev pub HasRoom : Graph → ℕ → ℕ → ℕ → Type 0
 HasRoom g i n limit = (t : Tree ℕ) → IsPartOf g t → root_of t ≡ i → n + nodes t ≤ limit
 
--- the tree below a node came behind n rows, at an address
-pub record HasGrown (g : Graph) (i n : ℕ) (a : Address) (old new : List Row) (shape : Topology) : Type 0 where
+-- the tree below a node came behind the rows that stood, at an address
+pub record HasGrown (g : Graph) (i : ℕ) (a : Address) (old new : List Row) (shape : Topology) : Type 0 where
   pub tree : Tree ℕ
   pub root_is : root_of tree ≡ i
   pub is_tree : IsTreeOf g tree
-  pub rows_are : new ≡ old ++ rows n a tree
+  pub rows_are : new ≡ old ++ rows (length old) a tree
   pub topology_is : shape ≡ topology_of tree

@@ -1,6 +1,6 @@
 -- The tree of a graph below a node, and its nodes in preorder.
 use Rattle.std.specs.Prelude.{ℕ, ◌≡◌, ◌<◌, ◌≤◌, ◌+◌, ◌^◌, refl, List, [], ◌∷◌, ◌++◌}
-use Rattle.tree_defs.specs.Tree.{Tree, leaf, inner, Trees, none, more, Address, HasChild, root_of, nodes, depth}
+use Rattle.tree_defs.specs.Tree.{Tree, leaf, inner, Trees, none, more, Address, HasChild, root_of, nodes, depth, most_levels}
 use Rattle.tree_defs.specs.Topology.{Topology, topology_of, IsBranched}
 use Rattle.tree_graph.specs.Descent.{Graph, children, two_below_a_root}
 use Rattle.tree_graph.specs.Row.{Row, row}
@@ -66,11 +66,11 @@ pub record IsTreeBelow (g : Graph) (root : ℕ) (all : Numbered) : Type 0 where
   pub is_tree : IsTreeOf g tree
   pub numbered : IsNumberedBy tree all.rows all.topology
 
--- they come from a tree of at most 64 levels below the root, with fewer than 2^32 nodes, and a child at each inner node
+-- they come from a tree that isn't too deep, with fewer than 2^32 nodes, and a child at each inner node
 pub record IsSound (all : List Row) (shape : Topology) : Type 0 where
   pub tree : Tree ℕ
   pub numbered : IsNumberedBy tree all shape
-  pub levels : depth tree ≤ 64
+  pub levels : depth tree ≤ most_levels
   pub few : nodes tree < 2 ^ 32
   pub branched : IsBranched shape
 

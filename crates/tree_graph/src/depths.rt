@@ -1,16 +1,19 @@
 //! How deep nodes are, by parent links.
-ghost use Rattle.std.specs.Prelude.{◌≡◌, ℕ, ◌<◌, ◌≤◌, ◌^◌, length, MatchOption, All};
-ghost use Rattle.tree_graph.specs.Descent.{IsForest, AreParents, IsDeep, IsLeast, Leads};
+ghost use Rattle.std.specs.Prelude.{◌<◌, ◌^◌, length, All};
+ghost use Rattle.tree_graph.specs.Descent.{IsForest, AreParents, IsDeep, IsDepthOf, IsFirst};
 
-/// How many steps lead from the root to a node, if they are at most 64.
+/// The most levels below a root.
+const MOST_LEVELS: u32 = 64;
+
+/// How many steps lead from the root to a node, unless they are too many.
 /// The graph itself is not looked at: `parents` is made from it.
 pub fn depth(parents: &[u32], root: u32, node: u32) -> Option<u32>
     requires within { node < length parents.now }
     requires in_range { All (λ p. p < length parents.now) parents.now }
-    ensures depth { (g : _) → IsForest g root → AreParents g parents.now → MatchOption result (IsDeep g root node) (λ d. (d ≤ 64) × Leads g d root node) }
+    ensures depth { (g : _) → IsForest g root → AreParents g parents.now → IsDepthOf g root node result }
 {
     let mut at = node;
-    for depth in 0..65 {
+    for depth in 0..MOST_LEVELS + 1 {
         if at == root {
             return Some(depth);
         }
@@ -19,11 +22,11 @@ pub fn depth(parents: &[u32], root: u32, node: u32) -> Option<u32>
     None
 }
 
-/// The first node that is deeper than 64 below the root.
+/// The first node that is too deep below the root.
 pub fn first_deep(parents: &[u32], root: u32) -> Option<u32>
     requires in_range { All (λ p. p < length parents.now) parents.now }
     requires small { length parents.now < 2 ^ 32 }
-    ensures first { (g : _) → IsForest g root → AreParents g parents.now → MatchOption result ((a : ℕ) → a < length parents.now → ¬ IsDeep g root a) (IsLeast (length parents.now) (IsDeep g root)) }
+    ensures first { (g : _) → IsForest g root → AreParents g parents.now → IsFirst (length parents.now) (IsDeep g root) result }
 {
     for node in 0..parents.len() as u32 {
         if depth(parents, root, node).is_none() {

@@ -1,6 +1,6 @@
 //! Descendants of nodes, and cycles.
-ghost use Rattle.std.specs.Prelude.{◌≡◌, ℕ, ◌<◌, ◌^◌, length, All, IfOk, OnOk, IsTrue, MatchOption, ◌↔◌};
-ghost use Rattle.tree_graph.specs.Descent.{lists, IsBelow, AreInRange, IsLeast};
+ghost use Rattle.std.specs.Prelude.{◌≡◌, ℕ, ◌<◌, ◌^◌, length, All, IfOk, OnOk, IsTrue, ◌↔◌};
+ghost use Rattle.tree_graph.specs.Descent.{lists, IsBelow, AreInRange, IsFirst};
 ghost use Rattle.tree_graph.specs.Marks.{MarksMore, MarksBelow, is_marked};
 
 use std::alloc::{AllocError, Global};
@@ -43,7 +43,7 @@ pub fn below(alloc: Global, graph: &[Vec<u32>], node: u32) -> Result<Vec<bool>, 
 pub fn first_on_cycle(alloc: Global, graph: &[Vec<u32>]) -> Result<Option<u32>, AllocError>
     requires in_range { AreInRange (lists graph.now) }
     requires small { length graph.now < 2 ^ 32 }
-    ensures first { IfOk result (λ r. MatchOption r ((a : ℕ) → a < length graph.now → ¬ IsBelow (lists graph.now) a a) (IsLeast (length graph.now) (λ a. IsBelow (lists graph.now) a a))) }
+    ensures first { IfOk result (IsFirst (length graph.now) (λ a. IsBelow (lists graph.now) a a)) }
 {
     for node in 0..graph.len() as u32 {
         let marks = below(alloc, graph, node)?;

@@ -1,6 +1,6 @@
 //! A tree that grows node by node, in preorder.
 ghost use Rattle.std.specs.Prelude.{◌≡◌, ◌<◌, ◌^◌, map, length, IfOk, OnOk};
-ghost use Rattle.tree_defs.specs.Tree.{trees_of};
+ghost use Rattle.tree_defs.specs.Tree.{trees_of, most_levels};
 ghost use Rattle.tree_core.specs.Shape.{topology};
 ghost use Rattle.tree_core.specs.TreeContents.{branch};
 ghost use Rattle.tree_graph.specs.Descent.{lists, AreInRange, IsWithin};
@@ -21,9 +21,9 @@ pub fn grow(
     requires within { node < length graph.now }
     requires in_range { AreInRange (lists graph.now) }
     requires small { length graph.now < 2 ^ 32 }
-    requires shallow { IsWithin (lists graph.now) node 64 (length address.old.items) }
+    requires shallow { IsWithin (lists graph.now) node most_levels (length address.old.items) }
     requires room { HasRoom (lists graph.now) node (length places.old.items) (length graph.now) }
-    ensures grown { IfOk result (λ t. HasGrown (lists graph.now) node (length places.old.items) address.old.items places.old.items places.new.items (topology t)) }
+    ensures grown { IfOk result (λ t. HasGrown (lists graph.now) node address.old.items places.old.items places.new.items (topology t)) }
     ensures address { OnOk result (address.new.items ≡ address.old.items) }
 {
     let number = places.len();

@@ -1,4 +1,5 @@
-//! Nodes by number, each with the list of its children: descendants, depths, and the tree below a root.
+//! Nodes by number, each with the list of its children: descendants, depths, and the tree below a root. Begin with
+//! specs/Descent.antt.
 #![tactic(auto)]
 
 mod depths;

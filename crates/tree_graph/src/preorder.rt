@@ -1,6 +1,6 @@
 //! The tree of a graph below its root, its nodes numbered in preorder.
 ghost use Rattle.std.specs.Prelude.{◌≡◌, ℕ, ◌<◌, ◌≤◌, ◌++◌, ◌∷◌, [], ◌^◌, ◌↔◌, length, slice_index, IfOk, IsTrue};
-ghost use Rattle.tree_defs.specs.Tree.{depth as levels, LeadsToLeaf};
+ghost use Rattle.tree_defs.specs.Tree.{depth as levels, LeadsToLeaf, most_levels};
 ghost use Rattle.tree_defs.specs.Topology.{IsBranched};
 ghost use Rattle.tree_core.specs.Shape.{topology};
 ghost use Rattle.tree_graph.specs.Descent.{lists, IsForest, IsDeep, times};
@@ -54,15 +54,15 @@ impl Preorder {
     pub fn topo(&self) -> &Topo
         ensures topology { topology result.now ≡ self.now.topology }
         ensures branched { IsBranched self.now.topology }
-        ensures levels { levels self.now.topology ≤ 64 }
+        ensures levels { levels self.now.topology ≤ most_levels }
     {
         &self.topo
     }
 
-    /// How many levels lie below the root: at most 64.
+    /// How many levels lie below the root.
     pub fn depth(&self) -> u32
         ensures levels { result ≡ levels self.now.topology }
-        ensures limit { result ≤ 64 }
+        ensures limit { result ≤ most_levels }
     {
         depth(&self.topo)
     }

@@ -1,10 +1,11 @@
 //! Printing a statement.
-ghost use Rattle.std.specs.Prelude.{◌≡◌, ◌++◌, OnOk, codes};
+ghost use Rattle.std.specs.Prelude.{◌≡◌, ◌++◌, OnOk};
 ghost use Rattle.std.specs.Fmt.{decimal};
 ghost use Rattle.policy_text_defs.specs.declared.attribute.Attribute.TheVariants as attribute;
 ghost use Rattle.policy_text_defs.specs.Phrase.{phrase_of};
 ghost use Rattle.policy_text_defs.specs.Sense.{sense_of};
-ghost use Rattle.policy_text_defs.specs.Canonical.{term_text, span_text, attribute_text, attributes_text, names_text, statement_text};
+ghost use Rattle.policy_text.specs.Printing.{vertex_text};
+ghost use Rattle.policy_text_defs.specs.Canonical.{span_text, attribute_text, attributes_text, names_text, declaration_text, assignment_text, statement_text};
 
 use crate::printing::condition::{put_between, put_guard};
 use crate::printing::expression::put_term;
@@ -86,7 +87,7 @@ fn put_declaration(
     name: &Name,
     span: &Span,
 ) -> Result<(), AllocError>
-    ensures { OnOk result (into.new.items ≡ into.old.items ++ (keyword.now ++ (name.now ++ (codes " " ++ span_text span.now)))) }
+    ensures { OnOk result (into.new.items ≡ into.old.items ++ declaration_text keyword.now name.now span.now) }
 {
     into.extend_from_slice(keyword)?;
     put_name(into, name)?;
@@ -100,7 +101,7 @@ fn put_assignment(
     name: &Name,
     value: &Term,
 ) -> Result<(), AllocError>
-    ensures { OnOk result (into.new.items ≡ into.old.items ++ (keyword.now ++ (name.now ++ (codes " = " ++ term_text (phrase_of value.now))))) }
+    ensures { OnOk result (into.new.items ≡ into.old.items ++ assignment_text keyword.now name.now (phrase_of value.now)) }
 {
     into.extend_from_slice(keyword)?;
     put_name(into, name)?;
@@ -116,7 +117,7 @@ fn put_vertex(
     used: &Name,
     attrs: &Attrs,
 ) -> Result<(), AllocError>
-    ensures { OnOk result (into.new.items ≡ into.old.items ++ (keyword.now ++ (name.now ++ (codes " using " ++ (used.now ++ attributes_text attrs.now))))) }
+    ensures { OnOk result (into.new.items ≡ into.old.items ++ vertex_text keyword.now name.now used.now attrs.now) }
 {
     into.extend_from_slice(keyword)?;
     put_name(into, name)?;

@@ -3,7 +3,6 @@ ghost use Rattle.std.specs.Prelude.{◌≡◌, [], ◌∷◌, map, codes, IfOk};
 ghost use Rattle.policy_text_defs.specs.Sense.{sense_of, version, transaction};
 
 use super::parse;
-use crate::fault::TextFault;
 use crate::lines::Lines;
 use list_core::{List, Name};
 use policy_text_defs::{Statement, Term};
@@ -16,11 +15,7 @@ fn answer(rt: &HostRuntime, text: &[u8]) -> Result<String, Fail> {
     let alloc = rt.alloc();
     Ok(match parse(alloc, text) {
         Ok(lines) => format!(in alloc; "{} statements", lines.entries().len())?,
-        Err(TextFault::TooLong) => format!(in alloc; "too long")?,
-        Err(TextFault::NotText(line)) => format!(in alloc; "not text {line}")?,
-        Err(TextFault::Syntax(line)) => format!(in alloc; "syntax {line}")?,
-        Err(TextFault::Shaping(line)) => format!(in alloc; "shaping {line}")?,
-        Err(TextFault::NoMemory) => format!(in alloc; "no memory")?,
+        Err(fault) => format!(in alloc; "{fault:?}")?,
     })
 }
 
@@ -35,29 +30,29 @@ fn texts_and_faults(rt: HostRuntime) -> Result<(), Fail> {
         ),
         (
             b"policy 1\nclass \xc3 all\nleaf root using fifo classes all\n",
-            "not text 2",
+            "NotText(2)",
         ),
         (
             b"policy 1\nclass\nleaf root using fifo classes all\n",
-            "syntax 2",
+            "Syntax(2)",
         ),
         (
             b"policy 1\nclass all\nleaf root using fifo classes all\nshape root 5\n",
-            "shaping 4",
+            "Shaping(4)",
         ),
-        (b"\tshape$", "shaping 1"),
-        (b"shape1 root", "syntax 1"),
-        (b"policy 2\nshape", "syntax 1"),
+        (b"\tshape$", "Shaping(1)"),
+        (b"shape1 root", "Syntax(1)"),
+        (b"policy 2\nshape", "Syntax(1)"),
         (
             b"class c slack 1 weight 65535 prio 0 when proto tcp and src 10.9.0.0/16 and ipv4",
             "1 statements",
         ),
-        (b"class c weight 0", "syntax 1"),
-        (b"class c prio 1 prio 1", "syntax 1"),
-        (b"class c when dscp 64", "syntax 1"),
-        (b"class limit", "syntax 1"),
-        (b"keep w 0..7 = 8", "syntax 1"),
-        (b"node n using fifo children", "syntax 1"),
+        (b"class c weight 0", "Syntax(1)"),
+        (b"class c prio 1 prio 1", "Syntax(1)"),
+        (b"class c when dscp 64", "Syntax(1)"),
+        (b"class limit", "Syntax(1)"),
+        (b"keep w 0..7 = 8", "Syntax(1)"),
+        (b"node n using fifo children", "Syntax(1)"),
     ] {
         assert_eq!(rt; answer(&rt, text)?.as_str(), want);
     }
@@ -67,7 +62,7 @@ fn texts_and_faults(rt: HostRuntime) -> Result<(), Fail> {
 #[test]
 fn one_byte_too_many(rt: HostRuntime) -> Result<(), Fail> {
     let text = vec![in rt.alloc(); b'#'; 1_048_577]?;
-    assert_eq!(rt; answer(&rt, &text)?.as_str(), "too long");
+    assert_eq!(rt; answer(&rt, &text)?.as_str(), "TooLong");
     assert_eq!(rt; answer(&rt, &text[1..])?.as_str(), "0 statements");
     Ok(())
 }
@@ -89,9 +84,9 @@ fn repeated(rt: &HostRuntime, before: &[u8], behind: &[u8], count: u32) -> Resul
 #[test]
 fn limits_of_expressions(rt: HostRuntime) -> Result<(), Fail> {
     assert_eq!(rt; repeated(&rt, b"(", b")", 64)?.as_str(), "1 statements");
-    assert_eq!(rt; repeated(&rt, b"(", b")", 65)?.as_str(), "syntax 1");
+    assert_eq!(rt; repeated(&rt, b"(", b")", 65)?.as_str(), "Syntax(1)");
     assert_eq!(rt; repeated(&rt, b"", b" - 1", 63)?.as_str(), "1 statements");
-    assert_eq!(rt; repeated(&rt, b"", b" - 1", 64)?.as_str(), "syntax 1");
+    assert_eq!(rt; repeated(&rt, b"", b" - 1", 64)?.as_str(), "Syntax(1)");
     assert_eq!(rt; repeated(&rt, b"not(", b")", 63)?.as_str(), "1 statements");
     Ok(())
 }
@@ -109,19 +104,22 @@ fn described(rt: &HostRuntime, line: u32, statement: &Statement) -> Result<Strin
     })
 }
 
+/// The line numbers and the forms of all statements, one a line.
+fn listed(rt: &HostRuntime, lines: &Lines) -> Result<String, Fail> {
+    let mut told = String::new(rt.alloc());
+    for (line, statement) in lines.entries() {
+        told.push_str(described(rt, *line, statement)?.as_str())?;
+        told.push('\n')?;
+    }
+    Ok(told)
+}
+
 #[test]
 fn lines_keep_their_numbers(rt: HostRuntime) -> Result<(), Fail> {
     let text = b"policy   1 # one\n\ntransaction t\npush rank=min(len,prio)*2\n";
-    let want = ["1 policy 1", "3 transaction t", "4 push rank = a product"];
-    match parse(rt.alloc(), text) {
-        Ok(lines) => {
-            assert_eq!(rt; lines.entries().len(), want.len());
-            for ((line, statement), want) in lines.entries().iter().zip(want) {
-                assert_eq!(rt; described(&rt, *line, statement)?.as_str(), want);
-            }
-        }
-        Err(fault) => panic!(rt; "{fault:?}"),
-    }
+    let lines = parse(rt.alloc(), text).expect(&rt, "a text in form");
+    let want = "1 policy 1\n3 transaction t\n4 push rank = a product\n";
+    assert_eq!(rt; listed(&rt, &lines)?.as_str(), want);
     Ok(())
 }
 
@@ -138,10 +136,9 @@ fn two_statements(alloc: Global) -> Result<List<Statement>, AllocError>
 fn statements_are_numbered_from_line_1(rt: HostRuntime) -> Result<(), Fail> {
     let alloc = rt.alloc();
     let lines = Lines::of(alloc, two_statements(alloc)?)?;
-    let want = ["1 policy 1", "2 transaction t"];
-    assert_eq!(rt; lines.entries().len(), want.len());
-    for ((line, statement), want) in lines.entries().iter().zip(want) {
-        assert_eq!(rt; described(&rt, *line, statement)?.as_str(), want);
-    }
+    assert_eq!(rt;
+        listed(&rt, &lines)?.as_str(),
+        "1 policy 1\n2 transaction t\n"
+    );
     Ok(())
 }

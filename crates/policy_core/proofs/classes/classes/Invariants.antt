@@ -1,4 +1,4 @@
-use Rattle.policy_core.proofs.Making.{AreMade}
+use Rattle.policy_core.proofs.ClassLemmas.{AreMade}
 use Rattle.policy_core.proofs.classes.classes.Given as goal
 
 abbrev pub invariant-loop-statement : goal.invariant-loop-statement

@@ -1,4 +1,4 @@
-use Rattle.policy_core.proofs.Told.{rows-told}
+use Rattle.policy_core.proofs.RowTrees.{rows-told}
 use Rattle.policy_core.proofs.laws.rows_tell_the_tree.Goals as goal
 
 pub returns : goal.returns

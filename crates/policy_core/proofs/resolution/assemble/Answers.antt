@@ -6,11 +6,11 @@ use Rattle.policy_rules.specs.Graph.{graph_of, nodes_in}
 use Rattle.policy_rules.specs.Resolved.{Resolved, IsResolved}
 use Rattle.tree_graph.specs.Descent.{Graph, lists, IsForest, IsDeep}
 use Rattle.tree_graph.specs.Preorder.{Numbered, IsSound}
-use Rattle.policy_programs.proofs.Known.{shaped_known}
-use Rattle.policy_family.proofs.Verdicts.{is-forest, is-shallow}
+use Rattle.policy_programs.proofs.KnownPrograms.{shaped_known}
+use Rattle.policy_family.proofs.FamilyFaults.{is-forest, is-shallow}
 use Rattle.policy_places.specs.Homes.{AreHomes}
 use Rattle.policy_core.specs.Made.{nodes_told}
-use Rattle.policy_core.proofs.Assembled.{root-is, root-small, graph-few, homes-count, below-is, leaves-there, few-made, catch-all-made, stations-there, accepted-made, resolved-made}
+use Rattle.policy_core.proofs.AssembledParts.{root-is, root-small, graph-few, homes-count, below-is, leaves-there, few-made, catch-all-made, stations-there, accepted-made, resolved-made}
 use Rattle.policy_core.proofs.resolution.assemble.Goals as goal
 
 pub overflow_cast-root : goal.overflow_cast-root

@@ -4,7 +4,7 @@ use Rattle.policy_text_defs.specs.declared.statement.Statement.{Statement}
 use Rattle.policy_text.specs.Entries.{IsRising, AreWritten}
 use Rattle.policy_rules.specs.Accepted.{AreAccepted, IsFault}
 use Rattle.policy_rules.specs.Entries.{entries_of}
-use Rattle.policy_core.proofs.Written.{rising, valid}
+use Rattle.policy_core.proofs.WrittenLines.{rising, valid}
 use Rattle.policy_core.proofs.resolution.resolve.Goals as goal
 
 pub accept-requires-clause-rising : goal.accept-requires-clause-rising

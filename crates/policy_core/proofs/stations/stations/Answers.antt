@@ -7,7 +7,7 @@ use Rattle.policy_rules.specs.Entries.{entries_of}
 use Rattle.policy_rules.specs.Graph.{node_in}
 use Rattle.policy_core.specs.Made.{AreMore}
 use Rattle.policy_rules.proofs.Lines.{given-more}
-use Rattle.policy_core.proofs.Passing.{known-here}
+use Rattle.policy_core.proofs.StatementUses.{known-here}
 use Rattle.policy_core.proofs.stations.stations.Goals as goal
 
 pub loop-statement-preserved : goal.loop-statement-preserved

@@ -3,7 +3,7 @@ use Rattle.policy_text_defs.specs.Sense.{Entry}
 use Rattle.policy_rules.specs.Clauses.{is_known}
 use Rattle.policy_rules.specs.Entries.{entries_of}
 use Rattle.policy_declarations.specs.Kept.{AreVariables}
-use Rattle.policy_declarations.proofs.Turns.{ends_here, goes_on}
+use Rattle.policy_declarations.proofs.PassLemmas.{ends_here, goes_on}
 use Rattle.policy_declarations.proofs.known.first_unknown.Goals as goal
 
 pub returns-then-not-is_known : goal.returns-then-not-is_known

@@ -5,7 +5,7 @@ use Rattle.policy_rules.specs.Entries.{entries_of}
 use Rattle.policy_declarations.specs.Kept.{last_sense, is_placed_behind}
 use Rattle.policy_declarations.proofs.Bodies.{placed_behind, last_sense-push}
 use Rattle.policy_rules.proofs.Lines.{entry_of}
-use Rattle.policy_declarations.proofs.Turns.{ends_here, goes_on}
+use Rattle.policy_declarations.proofs.PassLemmas.{ends_here, goes_on}
 use Rattle.policy_declarations.proofs.placing.first_misplaced.Goals as goal
 
 pub returns-then-not-is_placed : goal.returns-then-not-is_placed

@@ -3,7 +3,7 @@ use Rattle.policy_text_defs.specs.Sense.{Entry}
 use Rattle.policy_rules.specs.Clauses.{is_declared}
 use Rattle.policy_rules.specs.Entries.{entries_of}
 use Rattle.policy_declarations.specs.Kept.{AreSpaces, AreVariables}
-use Rattle.policy_declarations.proofs.Turns.{ends_here, goes_on, none_fails}
+use Rattle.policy_declarations.proofs.PassLemmas.{ends_here, goes_on, none_fails}
 use Rattle.policy_declarations.proofs.spaces.declared.Goals as goal
 
 pub returns-then-is_declared-clause-fault : goal.returns-then-is_declared-clause-fault

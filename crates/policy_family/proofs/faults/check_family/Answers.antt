@@ -6,8 +6,8 @@ use Rattle.policy_rules.specs.Clauses.{IsLeastLine}
 use Rattle.policy_rules.specs.Families.{IsCyclic, IsTooDeep}
 use Rattle.policy_rules.specs.Accepted.{AreAcyclic}
 use Rattle.tree_graph.specs.Descent.{lists, AreParents, IsLeast, IsBelow, IsDeep}
-use Rattle.policy_family.proofs.Named.{few-names}
-use Rattle.policy_family.proofs.Verdicts.{rooted-named, root_at, root-is, graph-range, graph-nodes, graph-small, parents-all, cycle-line, no-cycle, graph-forest, deep-line, no-deep}
+use Rattle.policy_family.proofs.NodeNames.{few-names}
+use Rattle.policy_family.proofs.FamilyFaults.{rooted-named, root_at, root-is, graph-range, graph-nodes, graph-small, parents-all, cycle-line, no-cycle, graph-forest, deep-line, no-deep}
 use Rattle.policy_family.proofs.faults.check_family.Goals as goal
 
 pub first_on_cycle-requires-clause-in_range : goal.first_on_cycle-requires-clause-in_range

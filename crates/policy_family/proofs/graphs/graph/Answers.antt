@@ -2,7 +2,7 @@ use Rattle.std.proofs.Common.{arith}
 use Rattle.tree_graph.specs.Descent.{lists}
 use Rattle.policy_rules.specs.Entries.{entries_of}
 use Rattle.policy_family.proofs.Kinship.{graph-more, graph-size}
-use Rattle.policy_family.proofs.Named.{named, few-names, known-at}
+use Rattle.policy_family.proofs.NodeNames.{named, few-names, known-at}
 use Rattle.policy_family.proofs.graphs.graph.Goals as goal
 
 pub add_family-requires-clause-small : goal.add_family-requires-clause-small

@@ -1,4 +1,4 @@
-use Rattle.policy_laws.proofs.Faultless.{accepted}
+use Rattle.policy_laws.proofs.FaultlessStatements.{accepted}
 use Rattle.policy_laws.proofs.laws.faultless_are_accepted.Goals as goal
 
 pub returns : goal.returns

@@ -2,10 +2,10 @@ use Rattle.std.proofs.Common.{◌≡◌, ℕ, ◌+◌, ◌<◌, List, length, �
 use Rattle.std.proofs.lemmas.List.{get_or_default}
 use Rattle.policy_text_defs.specs.Sense.{sense_of}
 use Rattle.policy_rules.specs.Names.{Name, node_name}
-use Rattle.tree_graph.proofs.Marking.{given_back}
-use Rattle.policy_places.proofs.Putting.{ArePut}
-use Rattle.policy_places.proofs.Passing.{IsPassing, node-within, pass-leaf, pass-node, pass-other, neither}
-use Rattle.policy_places.proofs.Homing.{homes-all}
+use Rattle.tree_graph.proofs.MarkLemmas.{given_back}
+use Rattle.policy_places.proofs.LeafPlaces.{ArePut}
+use Rattle.policy_places.proofs.HomePasses.{IsPassing, node-within, pass-leaf, pass-node, pass-other, neither}
+use Rattle.policy_places.proofs.HomeLaws.{homes-all}
 use Rattle.policy_places.proofs.homes.leaves.Goals.{in-Leaf, in-Node, in_default}
 use Rattle.policy_places.proofs.homes.leaves.Goals as goal
 

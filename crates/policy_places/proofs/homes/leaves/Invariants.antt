@@ -1,4 +1,4 @@
-use Rattle.policy_places.proofs.Passing.{IsPassing}
+use Rattle.policy_places.proofs.HomePasses.{IsPassing}
 use Rattle.policy_places.proofs.homes.leaves.Given as goal
 
 abbrev pub invariant-loop-statement : goal.invariant-loop-statement

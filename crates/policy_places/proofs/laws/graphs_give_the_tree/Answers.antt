@@ -1,4 +1,4 @@
-use Rattle.policy_places.proofs.Resolving.{node-tree}
+use Rattle.policy_places.proofs.ResolvedTrees.{node-tree}
 use Rattle.policy_places.proofs.laws.graphs_give_the_tree.Goals as goal
 
 pub returns : goal.returns

@@ -1,4 +1,4 @@
-use Rattle.policy_places.proofs.Acceptable.{acceptable}
+use Rattle.policy_places.proofs.AcceptedPolicies.{acceptable}
 use Rattle.policy_places.proofs.laws.resolved_policies_are_accepted.Goals as goal
 
 pub returns : goal.returns

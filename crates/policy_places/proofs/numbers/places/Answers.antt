@@ -1,5 +1,5 @@
 use Rattle.std.proofs.Common.{ℕ, ◌+◌, sym, subst, arith, set}
-use Rattle.policy_places.proofs.Inverse.{ArePlacesTo, node-within, places-more, places-all}
+use Rattle.policy_places.proofs.InverseNumbers.{ArePlacesTo, node-within, places-more, places-all}
 use Rattle.policy_places.proofs.numbers.places.Goals as goal
 
 pub index_mut-requires : goal.index_mut-requires

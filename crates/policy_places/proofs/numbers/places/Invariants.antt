@@ -1,4 +1,4 @@
-use Rattle.policy_places.proofs.Inverse.{ArePlacesTo}
+use Rattle.policy_places.proofs.InverseNumbers.{ArePlacesTo}
 use Rattle.policy_places.proofs.numbers.places.Given as goal
 
 abbrev pub invariant-loop-number : goal.invariant-loop-number

@@ -1,4 +1,4 @@
-use Rattle.policy_programs.proofs.Written.{begun_requires, begun_more}
+use Rattle.policy_programs.proofs.WrittenPrograms.{begun_requires, begun_more}
 use Rattle.policy_programs.proofs.bodies.add_written.Goals as goal
 
 pub add_begun-requires : goal.add_begun-requires

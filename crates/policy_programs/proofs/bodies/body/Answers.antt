@@ -4,7 +4,7 @@ use Rattle.std.proofs.lemmas.Iterator.Search.{position_from_yields_List}
 use Rattle.policy_text_defs.specs.Sense.{sense_of}
 use Rattle.policy_rules.specs.Bodies.{is_body}
 use Rattle.policy_rules.proofs.Lines.{Line, entry_of}
-use Rattle.policy_programs.proofs.Fronts.{front_some, front_none}
+use Rattle.policy_programs.proofs.BodyFronts.{front_some, front_none}
 use Rattle.policy_programs.proofs.bodies.body.Goals as goal
 
 pub returns-in-Some : goal.returns-in-Some

@@ -4,7 +4,7 @@ use Rattle.rank_defs.specs.Programs.{Program}
 use Rattle.rank_defs.specs.Shapes.{IsShaped}
 use Rattle.policy_rules.specs.Entries.{entries_of}
 use Rattle.policy_rules.specs.Programs.{programs}
-use Rattle.policy_programs.proofs.Known.{shaped_known, fault_answered}
+use Rattle.policy_programs.proofs.KnownPrograms.{shaped_known, fault_answered}
 use Rattle.policy_programs.proofs.checked.checked_transactions.Goals as goal
 
 pub check-requires : goal.check-requires

@@ -1,4 +1,4 @@
-use Rattle.policy_programs.proofs.Known.{shaped_known, checked_known}
+use Rattle.policy_programs.proofs.KnownPrograms.{shaped_known, checked_known}
 use Rattle.policy_programs.proofs.laws.known_programs_are_checked.Goals as goal
 
 pub returns-clause-shaped : goal.returns-clause-shaped

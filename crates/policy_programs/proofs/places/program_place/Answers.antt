@@ -1,5 +1,5 @@
 use Rattle.std.proofs.Common.{sym}
-use Rattle.policy_programs.proofs.Named.{absent, absent_known, placed, placed_known}
+use Rattle.policy_programs.proofs.NamedPrograms.{absent, absent_known, placed, placed_known}
 use Rattle.policy_programs.proofs.places.program_place.Goals as goal
 
 pub returns-in_err-place-in-None-clause-place : goal.returns-in_err-place-in-None-clause-place

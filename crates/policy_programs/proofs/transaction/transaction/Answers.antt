@@ -1,4 +1,4 @@
-use Rattle.policy_programs.proofs.Joins.{program_line}
+use Rattle.policy_programs.proofs.JoinedPrograms.{program_line}
 use Rattle.policy_programs.proofs.transaction.transaction.Goals as goal
 
 pub loop-line-preserved : goal.loop-line-preserved

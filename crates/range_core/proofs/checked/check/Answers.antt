@@ -3,8 +3,8 @@ use Rattle.rank_defs.specs.declared.transaction.Transaction.{Transaction}
 use Rattle.rank_defs.specs.Programs.{program_of}
 use Rattle.rank_defs.specs.Checks.{ClashesFirstAt, IsWideFirstAt, DividesByZeroFirstAt}
 use Rattle.range_core.specs.declared.fault.RangeFault.TheVariants.{TypeClash, Wide, DivZero}
-use Rattle.range_core.proofs.Leasts.{all-tame}
-use Rattle.range_core.proofs.Refused.{as-error}
+use Rattle.range_core.proofs.LeastLines.{all-tame}
+use Rattle.range_core.proofs.ErrorLemmas.{as-error}
 use Rattle.range_core.proofs.checked.check.Goals as goal
 
 pub returns-in-Some-clause-clash : goal.returns-in-Some-clause-clash

@@ -2,8 +2,8 @@ use Rattle.std.proofs.Common.{List, map, take, ◌∷◌, [], subst, sym, add-on
 use Rattle.std.proofs.lemmas.List.{map-append}
 use Rattle.rank_defs.specs.Programs.{program_of, assignment_of}
 use Rattle.rank_defs.specs.Checks.{Entry, entry}
-use Rattle.range_core.specs.Leasts.{AreLeast}
-use Rattle.range_core.proofs.Leasts.{map-next}
+use Rattle.range_core.specs.LeastLines.{AreLeast}
+use Rattle.range_core.proofs.LeastLines.{map-next}
 use Rattle.range_core.proofs.lines.lines_of_each.Goals as goal
 
 pub loop-assign-preserved : goal.loop-assign-preserved

@@ -1,4 +1,4 @@
-use Rattle.tree_graph.proofs.Marking.{seen-at, new-at}
+use Rattle.tree_graph.proofs.MarkLemmas.{seen-at, new-at}
 use Rattle.tree_graph.proofs.descendants.mark_all.Goals as goal
 use Rattle.tree_graph.proofs.descendants.mark_all.Goals.{then-not-marks-node+in_ok-push, else-not-marks-node}
 use Rattle.std.proofs.Common.{◌<◌, get_or, length, arith}

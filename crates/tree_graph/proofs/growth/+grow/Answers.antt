@@ -3,8 +3,8 @@ use Rattle.tree_core.specs.Shape.{topology}
 use Rattle.tree_graph.specs.Descent.{lists, IsWithin, IsChild, children}
 use Rattle.tree_graph.specs.Growth.{HasRoom}
 use Rattle.tree_graph.specs.Row.{Row, row}
-use Rattle.tree_graph.proofs.Marking.{length-lists}
-use Rattle.tree_graph.proofs.Growing.{growing-start, grown, closed, child-here, children-here, popped-off, within-child, child-within, room-child, room-here, digit-small}
+use Rattle.tree_graph.proofs.MarkLemmas.{length-lists}
+use Rattle.tree_graph.proofs.GrowthLemmas.{growing-start, grown, closed, child-here, children-here, popped-off, within-child, child-within, room-child, room-here, digit-small}
 use Rattle.tree_graph.proofs.growth.+grow.Goals as goal
 
 pub loop-digit-init : goal.loop-digit-init

@@ -1,7 +1,7 @@
 use Rattle.std.proofs.Common.{◌-◌, length, map}
 use Rattle.tree_core.specs.Shape.{topology}
 use Rattle.tree_graph.specs.Descent.{lists}
-use Rattle.tree_graph.proofs.Growing.{Growing}
+use Rattle.tree_graph.proofs.GrowthLemmas.{Growing}
 use Rattle.tree_graph.proofs.growth.+grow.Given as goal
 
 abbrev pub decreases-grow : goal.decreases-grow

@@ -1,7 +1,7 @@
 use Rattle.std.proofs.Common.{◌≡◌, ◌+◌, ◌<◌, ◌∙◌, ◌++◌, ℕ, List, subst, sym, ap, length, arith, All, take, drop}
 use Rattle.tree_graph.specs.Descent.{lists, children, ArePointed}
-use Rattle.tree_graph.proofs.Marking.{length-lists, children-at, children-within, given_back}
-use Rattle.tree_graph.proofs.Pointing.{ArePointedTo, pointed-on, pointed-all}
+use Rattle.tree_graph.proofs.MarkLemmas.{length-lists, children-at, children-within, given_back}
+use Rattle.tree_graph.proofs.ParentLemmas.{ArePointedTo, pointed-on, pointed-all}
 use Rattle.tree_graph.proofs.kinship.parents.Goals as goal
 
 pub point_to-requires : goal.point_to-requires

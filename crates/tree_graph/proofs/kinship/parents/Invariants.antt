@@ -1,5 +1,5 @@
 use Rattle.tree_graph.specs.Descent.{lists}
-use Rattle.tree_graph.proofs.Pointing.{ArePointedTo}
+use Rattle.tree_graph.proofs.ParentLemmas.{ArePointedTo}
 use Rattle.tree_graph.proofs.kinship.parents.Given as goal
 
 abbrev pub invariant-loop-node : goal.invariant-loop-node

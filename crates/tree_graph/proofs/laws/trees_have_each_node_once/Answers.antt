@@ -1,4 +1,4 @@
-use Rattle.tree_graph.proofs.Once.{each_once}
+use Rattle.tree_graph.proofs.NodesOnce.{each_once}
 use Rattle.tree_graph.proofs.laws.trees_have_each_node_once.Goals as goal
 
 pub returns : goal.returns

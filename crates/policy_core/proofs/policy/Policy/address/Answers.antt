@@ -1,5 +1,5 @@
 use Rattle.std.proofs.Common.{◌∙◌}
-use Rattle.policy_core.proofs.Whole.{within, address-is}
+use Rattle.policy_core.proofs.PolicyParts.{within, address-is}
 use Rattle.policy_core.proofs.policy.Policy.address.Goals as goal
 
 pub address-requires : goal.address-requires

@@ -1,4 +1,4 @@
-use Rattle.policy_core.proofs.Whole.{within, own-station, program-within, program-is}
+use Rattle.policy_core.proofs.PolicyParts.{within, own-station, program-within, program-is}
 use Rattle.policy_core.proofs.policy.Policy.checked.Goals as goal
 
 pub station_of-station-requires-clause-there : goal.station_of-station-requires-clause-there

@@ -1,5 +1,5 @@
 use Rattle.std.proofs.Common.{arith}
-use Rattle.policy_core.proofs.Whole.{within, count-is, child-there, child-address, child-is}
+use Rattle.policy_core.proofs.PolicyParts.{within, count-is, child-there, child-address, child-is}
 use Rattle.policy_core.proofs.policy.Policy.child.Goals as goal
 
 pub child-requires-clause-there : goal.child-requires-clause-there

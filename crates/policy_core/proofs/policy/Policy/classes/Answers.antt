@@ -5,7 +5,7 @@ use Rattle.tree_defs.specs.Tree.{nodes}
 use Rattle.policy_core.specs.declared.parts.Class.{Class}
 use Rattle.policy_core.specs.Parts.{HasCatchAll, most_classes}
 use Rattle.policy_rules.specs.Resolved.{Resolved}
-use Rattle.policy_core.proofs.Whole.{leaves-there}
+use Rattle.policy_core.proofs.PolicyParts.{leaves-there}
 use Rattle.policy_core.proofs.policy.Policy.classes.Goals as goal
 
 pub returns-clause-leaves : goal.returns-clause-leaves

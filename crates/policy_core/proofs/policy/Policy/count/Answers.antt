@@ -1,5 +1,5 @@
 use Rattle.std.proofs.Common.{◌∙◌, arith}
-use Rattle.policy_core.proofs.Whole.{count-is}
+use Rattle.policy_core.proofs.PolicyParts.{count-is}
 use Rattle.policy_core.proofs.policy.Policy.count.Goals as goal
 
 pub returns : goal.returns

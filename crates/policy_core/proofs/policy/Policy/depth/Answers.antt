@@ -1,5 +1,5 @@
 use Rattle.std.proofs.Common.{◌∙◌}
-use Rattle.policy_core.proofs.Whole.{levels-is}
+use Rattle.policy_core.proofs.PolicyParts.{levels-is}
 use Rattle.policy_core.proofs.policy.Policy.depth.Goals as goal
 
 pub returns-clause-levels : goal.returns-clause-levels

@@ -1,4 +1,4 @@
-use Rattle.policy_core.proofs.Whole.{within, leaf-is}
+use Rattle.policy_core.proofs.PolicyParts.{within, leaf-is}
 use Rattle.policy_core.proofs.policy.Policy.is_leaf.Goals as goal
 
 pub is_leaf-requires : goal.is_leaf-requires

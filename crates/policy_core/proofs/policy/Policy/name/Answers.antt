@@ -1,4 +1,4 @@
-use Rattle.policy_core.proofs.Whole.{within, own-station, name-is, name-length}
+use Rattle.policy_core.proofs.PolicyParts.{within, own-station, name-is, name-length}
 use Rattle.policy_core.proofs.policy.Policy.name.Goals as goal
 
 pub station_of-requires-clause-there : goal.station_of-requires-clause-there

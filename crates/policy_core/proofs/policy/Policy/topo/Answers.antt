@@ -1,7 +1,7 @@
 use Rattle.std.proofs.Common.{◌∙◌, ◌≤◌, subst}
 use Rattle.tree_defs.specs.Tree.{depth}
 use Rattle.tree_defs.specs.Topology.{Topology, IsBranched}
-use Rattle.policy_core.proofs.Whole.{topology-is, few-nodes}
+use Rattle.policy_core.proofs.PolicyParts.{topology-is, few-nodes}
 use Rattle.policy_core.proofs.policy.Policy.topo.Goals as goal
 
 pub returns-clause-topology : goal.returns-clause-topology

@@ -1,4 +1,4 @@
-use Rattle.policy_core.proofs.Naming.{name-found}
+use Rattle.policy_core.proofs.NodeNames.{name-found}
 use Rattle.policy_core.proofs.policy.PolicyNodeNames.name.Goals as goal
 
 pub returns : goal.returns

@@ -1,5 +1,5 @@
 use Rattle.std.proofs.Common.{◌∙◌, sym, ap, unwrap_or}
-use Rattle.policy_programs.proofs.Words.{aim_kept, aim_each}
+use Rattle.policy_programs.proofs.WordVariables.{aim_kept, aim_each}
 use Rattle.policy_programs.proofs.variables.Variables.aim.Goals as goal
 
 pub returns-in-Some : goal.returns-in-Some

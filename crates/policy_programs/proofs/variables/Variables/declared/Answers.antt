@@ -3,7 +3,7 @@ use Rattle.policy_rules.specs.Names.{Name}
 use Rattle.policy_rules.specs.Clauses.{most_variables}
 use Rattle.policy_rules.specs.Entries.{entries_of}
 use Rattle.policy_programs.proofs.Lines.{keeps_line, eaches_line}
-use Rattle.policy_programs.proofs.Sound.{few_keeps_at, few_eaches_at}
+use Rattle.policy_programs.proofs.SoundBodies.{few_keeps_at, few_eaches_at}
 use Rattle.policy_programs.proofs.variables.Variables.declared.Goals as goal
 
 pub loop-statement-preserved : goal.loop-statement-preserved

@@ -1,5 +1,5 @@
 use Rattle.std.proofs.Common.{◌∙◌, sym, ap, unwrap_or}
-use Rattle.policy_programs.proofs.Words.{variable_kept, variable_each}
+use Rattle.policy_programs.proofs.WordVariables.{variable_kept, variable_each}
 use Rattle.policy_programs.proofs.variables.Variables.variable.Goals as goal
 
 pub returns-in-Some : goal.returns-in-Some

@@ -1,4 +1,4 @@
-use Rattle.range_core.proofs.Leasts.{AreLeast-append}
+use Rattle.range_core.proofs.LeastLines.{AreLeast-append}
 use Rattle.range_core.proofs.lines.Lines.and.Goals as goal
 
 pub returns : goal.returns

@@ -1,7 +1,7 @@
 use Rattle.std.proofs.Common.{◌<◌, arith, get_or}
 use Rattle.std.proofs.lemmas.Result.{on_ok_weaker}
 use Rattle.tree_defs.specs.Tree.{nodes}
-use Rattle.policy_core.proofs.Whole.{all-at}
+use Rattle.policy_core.proofs.PolicyParts.{all-at}
 use Rattle.sched_nodes.specs.Agreement.{policy_of}
 use Rattle.sched_nodes.proofs.Leaves.{class-within, leaf-leads, leaf-number}
 use Rattle.sched_nodes.proofs.Reserving.{flow-belongs, stations-reserved, values-reserved, room-reserved, room-made}

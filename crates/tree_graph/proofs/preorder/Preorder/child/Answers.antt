@@ -1,6 +1,6 @@
 use Rattle.std.proofs.Common.{arith, slice_index}
 use Rattle.tree_graph.proofs.PreorderLaws.{IsChildRow}
-use Rattle.tree_graph.proofs.Sound.{child-found, child-address}
+use Rattle.tree_graph.proofs.WholeTree.{child-found, child-address}
 use Rattle.tree_graph.proofs.preorder.Preorder.child.Goals as goal
 
 pub returns-clause-later : goal.returns-clause-later

@@ -1,5 +1,5 @@
 use Rattle.std.proofs.Common.{arith}
-use Rattle.tree_graph.proofs.Sound.{rows-few}
+use Rattle.tree_graph.proofs.WholeTree.{rows-few}
 use Rattle.tree_graph.proofs.preorder.Preorder.count.Goals as goal
 
 pub overflow_cast-result : goal.overflow_cast-result

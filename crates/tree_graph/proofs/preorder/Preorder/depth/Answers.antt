@@ -1,5 +1,5 @@
 use Rattle.std.proofs.Common.{arith}
-use Rattle.tree_graph.proofs.Sound.{levels-few}
+use Rattle.tree_graph.proofs.WholeTree.{levels-few}
 use Rattle.tree_graph.proofs.preorder.Preorder.depth.Goals as goal
 
 pub depth-requires : goal.depth-requires

@@ -1,4 +1,4 @@
-use Rattle.tree_graph.proofs.Sound.{leaf-tested}
+use Rattle.tree_graph.proofs.WholeTree.{leaf-tested}
 use Rattle.tree_graph.proofs.preorder.Preorder.is_leaf.Goals as goal
 
 pub returns-clause-leaf_address : goal.returns-clause-leaf_address

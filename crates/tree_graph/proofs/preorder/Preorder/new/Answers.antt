@@ -2,9 +2,9 @@ use Rattle.std.proofs.Common.{◌∙◌, ℕ, ap, sym, subst, length, arith}
 use Rattle.tree_core.specs.Shape.{topology}
 use Rattle.tree_graph.specs.Descent.{lists, IsWithin}
 use Rattle.tree_graph.specs.Growth.{HasRoom}
-use Rattle.tree_graph.proofs.Marking.{length-lists}
-use Rattle.tree_graph.proofs.Once.{room-root}
-use Rattle.tree_graph.proofs.Sound.{shallow-root, grown-whole, sound, all-there, all-once}
+use Rattle.tree_graph.proofs.MarkLemmas.{length-lists}
+use Rattle.tree_graph.proofs.NodesOnce.{room-root}
+use Rattle.tree_graph.proofs.WholeTree.{shallow-root, grown-whole, sound, all-there, all-once}
 use Rattle.tree_graph.proofs.preorder.Preorder.new.Goals as goal
 
 pub grow-requires-clause-shallow : goal.grow-requires-clause-shallow

@@ -19,7 +19,7 @@ use Rattle.policy_rules.specs.Programs.{program_in, programs, body_named, or_wri
 use Rattle.policy_rules.proofs.Spaces.{declared-few}
 use Rattle.policy_names.proofs.Texts.{position-map}
 use Rattle.policy_programs.specs.Known.{known_programs}
-use Rattle.policy_programs.proofs.Words.{any_position}
+use Rattle.policy_programs.proofs.WordVariables.{any_position}
 
 -- ---- built-in names
 

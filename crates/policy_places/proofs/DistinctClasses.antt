@@ -10,7 +10,7 @@ use Rattle.policy_rules.specs.Names.{Name, has, times, is_once, declared, class_
 use Rattle.policy_rules.specs.Clauses.{NoLine, is_declared, IsAgain, is_stray}
 use Rattle.policy_rules.specs.Entries.{AreRising}
 use Rattle.policy_rules.proofs.Spaces.{declared-distinct}
-use Rattle.policy_places.proofs.Accepting.{holds}
+use Rattle.policy_places.proofs.AcceptedStatements.{holds}
 
 -- a class that isn't declared again is new
 new-class : (earlier : List Entry) (s : Sense) → is_declared earlier s ≡ false → option_map_or (has (declared class_name earlier)) (class_name s) false ≡ false

@@ -13,7 +13,7 @@ use Rattle.policy_rules.specs.Programs.{program_in, programs}
 use Rattle.policy_rules.proofs.Lines.{Line, entry_of, within-entries, entry-at}
 use Rattle.policy_programs.specs.Bodies.{IsSoundBody}
 use Rattle.policy_programs.proofs.Lines.{drop_line}
-use Rattle.policy_programs.proofs.Ready.{sound_begun}
+use Rattle.policy_programs.proofs.StatementBodies.{sound_begun}
 
 -- the entries behind a line
 behind : (lines : List Line) (i : ℕ) → entries_of (take (length lines - i) (drop i lines)) ≡ drop i (entries_of lines)

@@ -8,7 +8,7 @@ use Rattle.std.specs.declared.alloc.Global.{Global}
 use Rattle.tree_defs.specs.Tree.{Tree, leaf, inner, Trees, none, more, Address, root_of, nodes, nodes_below, count_of, trees_of}
 use Rattle.tree_defs.specs.Topology.{Topology, topology_of, topologies_of}
 use Rattle.tree_core.specs.TreeContents.{branch}
-use Rattle.tree_graph.proofs.Marking.{children-at}
+use Rattle.tree_graph.proofs.MarkLemmas.{children-at}
 use Rattle.tree_graph.specs.Descent.{lists, Graph, children, IsChild, IsWithin}
 use Rattle.tree_graph.specs.Row.{Row, row}
 use Rattle.tree_graph.specs.Preorder.{labels, IsTreeOf, AreTreesOf, starts, rows, rows_below}
@@ -125,7 +125,7 @@ growing-digit : (g : Graph) (i n : ℕ) (a : Address) (cs : List ℕ) (d : ℕ) 
 growing-digit g i n a cs d old now address places shapes short so_far = omega (arith, length-labels so_far.done, ap length so_far.labels_are, length-take d cs, short)
 
 growing-step : (g : Graph) (i n : ℕ) (a : Address) (cs : List ℕ) (d : ℕ) (old now new : List Row) (address address' : Address) (places : List ℕ) (shapes : List Topology) (shape : Topology) → n ≡ length old → d < length cs → Growing g i n a cs d old now address places shapes
-    → HasGrown g (get_or cs d 0) (length now) (address ++ d ∷ []) now new shape → address' ≡ address → Growing g i n a cs (d + 1) old new address' (places ++ length now ∷ []) (shapes ++ shape ∷ [])
+    → HasGrown g (get_or cs d 0) (address ++ d ∷ []) now new shape → address' ≡ address → Growing g i n a cs (d + 1) old new address' (places ++ length now ∷ []) (shapes ++ shape ∷ [])
 growing-step g i n a cs d old now new address address' places shapes shape at short so_far has back = record {
   done = snoc so_far.done has.tree;
   labels_are = labels-snoc so_far.done has.tree ∙ ap (λ l. l ++ root_of has.tree ∷ []) so_far.labels_are ∙ ap (λ k. take d cs ++ k ∷ []) has.root_is ∙ sym (take_more cs d 0 short);
@@ -149,14 +149,14 @@ set-middle [] x y rest = refl
 set-middle (o ∷ old) x y rest = ap (λ l. o ∷ l) (set-middle old x y rest)
 
 growing-end : (g : Graph) (i n : ℕ) (a : Address) (cs : List ℕ) (d : ℕ) (old now : List Row) (address : Address) (places : List ℕ) (shapes : List Topology) (shape : Topology) → n ≡ length old → length cs ≤ d → cs ≡ children g i → Growing g i n a cs d old now address places shapes
-    → shape ≡ branch tt (trees_of shapes) → HasGrown g i n a old (set now n (row i a places)) shape
+    → shape ≡ branch tt (trees_of shapes) → HasGrown g i a old (set now n (row i a places)) shape
 growing-end g i n a cs d old now address places shapes shape at over are so_far made = record {
   tree = branch i so_far.done;
   root_is = root-branch i so_far.done;
   is_tree = tree-branch g i so_far.done (so_far.labels_are ∙ take_all d cs over ∙ are) so_far.are_trees;
   rows_are = ap (λ l. set l n (row i a places)) so_far.rows_are ∙ ap (λ k. set (old ++ (row i a [] ∷ rows_below (n + 1) a 0 so_far.done)) k (row i a places)) at
       ∙ set-middle old (row i a []) (row i a places) (rows_below (n + 1) a 0 so_far.done) ∙ ap (λ l. old ++ (row i a l ∷ rows_below (n + 1) a 0 so_far.done)) so_far.places_are
-      ∙ ap (λ l. old ++ l) (sym (rows-branch n a i so_far.done));
+      ∙ ap (λ l. old ++ l) (sym (rows-branch n a i so_far.done)) ∙ ap (λ k. old ++ rows k a (branch i so_far.done)) at;
   topology_is = made ∙ ap (λ (us : Trees (Unit {0})). branch tt us) so_far.shapes_are ∙ topology-branch i so_far.done;
 }
 
@@ -224,21 +224,20 @@ map-push f [] x = refl
 map-push f (y ∷ xs) x = ap (λ l. f y ∷ l) (map-push f xs x)
 
 pub grown : {T : Type 0} (f : T → Topology) (g : Graph) (i n : ℕ) (a : Address) (cs : List ℕ) (d : ℕ) (old now new : List Row) (address address' pushed : Address) (places places' : List ℕ) (m : ℕ) (topos topos' : List T) (topo : T) → n ≡ length old → d < length cs
-    → Growing g i n a cs d old now address places (map f topos) → pushed ≡ address ++ d ∷ [] → HasGrown g (get_or cs d 0) (length now) pushed now new (f topo) → address' ≡ address → places' ≡ places ++ m ∷ [] → m ≡ length now → topos' ≡ topos ++ topo ∷ []
+    → Growing g i n a cs d old now address places (map f topos) → pushed ≡ address ++ d ∷ [] → HasGrown g (get_or cs d 0) pushed now new (f topo) → address' ≡ address → places' ≡ places ++ m ∷ [] → m ≡ length now → topos' ≡ topos ++ topo ∷ []
     → Growing g i n a cs (d + 1) old new address' places' (map f topos')
 grown f g i n a cs d old now new address address' pushed places places' m topos topos' topo at short so_far longer has back put size more' =
     subst (λ (l : List ℕ). Growing g i n a cs (d + 1) old new address' l (map f topos')) (sym (put ∙ ap (λ k. places ++ k ∷ []) size))
     (subst (λ (s : List Topology). Growing g i n a cs (d + 1) old new address' (places ++ length now ∷ []) s) (sym (ap (map f) more' ∙ map-push f topos topo))
-    (growing-step g i n a cs d old now new address address' places (map f topos) (f topo) at short so_far (subst (λ (l : List ℕ). HasGrown g (get_or cs d 0) (length now) l now new (f topo)) longer has) back))
+    (growing-step g i n a cs d old now new address address' places (map f topos) (f topo) at short so_far (subst (λ (l : List ℕ). HasGrown g (get_or cs d 0) l now new (f topo)) longer has) back))
 
 row-at : (old : List Row) (x : Row) (rest : List Row) (d : Row) → get_or (old ++ (x ∷ rest)) (length old) d ≡ x
 row-at [] x rest d = refl
 row-at (o ∷ old) x rest d = row-at old x rest d
 
 pub closed : (g : Graph) (i n : ℕ) (a : Address) (cs : List ℕ) (d : ℕ) (old now : List Row) (address : Address) (places : List ℕ) (shapes : List Topology) (shape : Topology) (place place' : Row) → n ≡ length old → length cs ≤ d → cs ≡ children g i
-    → Growing g i n a cs d old now address places shapes → place ≡ get_or now n place → place' ≡ row place.node place.address places → shape ≡ branch tt (trees_of shapes) → HasGrown g i (length old) a old (set now n place') shape
+    → Growing g i n a cs d old now address places shapes → place ≡ get_or now n place → place' ≡ row place.node place.address places → shape ≡ branch tt (trees_of shapes) → HasGrown g i a old (set now n place') shape
 closed g i n a cs d old now address places shapes shape place place' at over are so_far is put made =
     let here : place ≡ row i a [] = is ∙ ap (λ l. get_or l n place) so_far.rows_are ∙ ap (λ k. get_or (old ++ (row i a [] ∷ rows_below (n + 1) a 0 so_far.done)) k place) at ∙ row-at old (row i a []) (rows_below (n + 1) a 0 so_far.done) place in
     let now' : place' ≡ row i a places = put ∙ ap (λ (p : Row). row p.node p.address places) here in
-    subst (λ (k : ℕ). HasGrown g i k a old (set now n place') shape) at
-    (subst (λ (p : Row). HasGrown g i n a old (set now n p) shape) (sym now') (growing-end g i n a cs d old now address places shapes shape at over are so_far made))
+    subst (λ (p : Row). HasGrown g i a old (set now n p) shape) (sym now') (growing-end g i n a cs d old now address places shapes shape at over are so_far made)

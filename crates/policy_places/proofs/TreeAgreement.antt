@@ -13,11 +13,11 @@ use Rattle.tree_graph.specs.Preorder.{IsTreeOf, AreTreesOf, labels, preorder, pr
 use Rattle.policy_places.specs.Labels.{map_tree, map_trees, node_numbered, nodes_at}
 use Rattle.policy_rules.proofs.Places.{place-within}
 use Rattle.policy_rules.proofs.Lists.{all-append, all-first, all-second, all-weaker}
-use Rattle.policy_places.proofs.Stated.{families, IsStated, stated}
-use Rattle.policy_places.proofs.Resolving.{children-at, known-of, family-known, places-within}
-use Rattle.policy_places.proofs.Accepting.{known-there, root-there}
-use Rattle.policy_places.proofs.Homing.{length-nodes}
-use Rattle.policy_places.proofs.Passing.{length-graph}
+use Rattle.policy_places.proofs.NodeStatements.{families, IsStated, stated}
+use Rattle.policy_places.proofs.ResolvedTrees.{children-at, known-of, family-known, places-within}
+use Rattle.policy_places.proofs.AcceptedStatements.{known-there, root-there}
+use Rattle.policy_places.proofs.HomeLaws.{length-nodes}
+use Rattle.policy_places.proofs.HomePasses.{length-graph}
 
 -- functions that agree at the numbers of a tree give one tree
 mutual

@@ -23,21 +23,21 @@ use Rattle.policy_rules.specs.Entries.{AreRising}
 use Rattle.tree_graph.specs.Descent.{times}
 use Rattle.tree_graph.specs.Row.{Row, row, row_at, nodes_of}
 use Rattle.tree_graph.specs.Preorder.{Numbered, rows, IsTreeBelow, IsSound}
-use Rattle.tree_graph.proofs.Growing.{length-rows}
+use Rattle.tree_graph.proofs.GrowthLemmas.{length-rows}
 use Rattle.policy_places.specs.Labels.{node_numbered, nodes_at}
 use Rattle.policy_places.specs.Homes.{IsHome, AreHomes, classes_at}
 use Rattle.policy_places.specs.Laws.{AreValid, IsNodeTree}
-use Rattle.policy_places.proofs.Agreement.{nodes-agree}
+use Rattle.policy_places.proofs.TreeAgreement.{nodes-agree}
 use Rattle.policy_places.proofs.Classes.{classes-of, names-classes}
-use Rattle.policy_places.proofs.Resolving.{node-tree}
+use Rattle.policy_places.proofs.ResolvedTrees.{node-tree}
 use Rattle.policy_places.proofs.Shape.{topology-map}
-use Rattle.policy_places.proofs.Acceptable.{acceptable}
-use Rattle.policy_places.proofs.Accepting.{root-there}
+use Rattle.policy_places.proofs.AcceptedPolicies.{acceptable}
+use Rattle.policy_places.proofs.AcceptedStatements.{root-there}
 use Rattle.policy_rules.proofs.Places.{found, place-within}
-use Rattle.policy_places.proofs.Passing.{length-graph}
-use Rattle.policy_places.proofs.Homing.{length-nodes}
-use Rattle.policy_places.proofs.Inverse.{node-within}
-use Rattle.policy_family.proofs.Named.{named}
+use Rattle.policy_places.proofs.HomePasses.{length-graph}
+use Rattle.policy_places.proofs.HomeLaws.{length-nodes}
+use Rattle.policy_places.proofs.InverseNumbers.{node-within}
+use Rattle.policy_family.proofs.NodeNames.{named}
 use Rattle.policy_core.specs.declared.parts.Station.{Station}
 use Rattle.policy_core.specs.declared.parts.Class.{Class}
 use Rattle.policy_core.specs.Numbering.{nodes_from, address_at}
@@ -46,7 +46,7 @@ use Rattle.policy_core.specs.Made.{Made, made, made_of, nodes_told}
 use Rattle.policy_core.proofs.FewClasses.{few-classes, catch-all}
 use Rattle.policy_core.proofs.Numbers.{address_at-topology, topology_of-nodes}
 use Rattle.policy_core.proofs.Rows.{row-numbered}
-use Rattle.policy_core.proofs.Told.{rows-told}
+use Rattle.policy_core.proofs.RowTrees.{rows-told}
 
 zip-length : (es : List Entry) (rows : List Row) (names : List Name) (ms : List ℕ) → AllZip (IsHome es rows) names ms → length ms ≡ length names
 zip-length es rows [] [] h = refl

@@ -3,20 +3,20 @@ use Rattle.std.proofs.Common.{◌≡◌, ℕ, zero, suc, ◌+◌, ◌<◌, ◌�
 use Rattle.std.proofs.lemmas.Bool.{cases_lt, eqb-true}
 use Rattle.std.proofs.lemmas.List.{get_or_default}
 use Rattle.std.proofs.lemmas.List.Elements.{Contains-append_right, Contains-get_or}
-use Rattle.tree_defs.specs.Tree.{Tree, leaf, inner, Trees, none, more, root_of, nodes, depth, depth_below, LeadsToLeaf}
+use Rattle.tree_defs.specs.Tree.{Tree, leaf, inner, Trees, none, more, root_of, nodes, depth, depth_below, LeadsToLeaf, most_levels}
 use Rattle.tree_defs.specs.Topology.{Topology, topology_of, topologies_of, IsBranched, AreBranched}
 use Rattle.tree_graph.specs.Descent.{Graph, IsChild, Leads, IsForest, IsDeep, IsWithin, times}
 use Rattle.tree_graph.specs.Row.{Row, row, row_at, nodes_of}
 use Rattle.tree_graph.specs.Preorder.{labels, IsTreeOf, AreTreesOf, rows, Numbered, numbered, IsTreeBelow, IsSound}
 use Rattle.tree_graph.specs.Growth.{HasGrown}
 use Rattle.tree_graph.proofs.Steps.{below-within}
-use Rattle.tree_graph.proofs.Growing.{within-child, length-rows, tree-is_part}
-use Rattle.tree_graph.proofs.Once.{each_once, nodes-all, room-root}
+use Rattle.tree_graph.proofs.GrowthLemmas.{within-child, length-rows, tree-is_part}
+use Rattle.tree_graph.proofs.NodesOnce.{each_once, nodes-all, room-root}
 use Rattle.tree_graph.proofs.PreorderLaws.{nodes_of-rows, children_at, IsChildRow, child-row, leaf-address}
 
 -- no node too deep is no way too long
-pub shallow-root : (g : Graph) (root : ℕ) → IsForest g root → ((a : ℕ) → a < length g → ¬ IsDeep g root a) → IsWithin g root 64 0
-shallow-root g root forest none_deep k b way = elim (cases_lt 64 k) [
+pub shallow-root : (g : Graph) (root : ℕ) → IsForest g root → ((a : ℕ) → a < length g → ¬ IsDeep g root a) → IsWithin g root most_levels 0
+shallow-root g root forest none_deep k b way = elim (cases_lt most_levels k) [
   | inl deep ↦ absurd (none_deep b (inside k way) (k, deep, way))
   | inr near ↦ omega (arith, near)
 ]
@@ -50,7 +50,7 @@ mutual
       let rest : depth_below ts + above ≤ limit = levels_below g i ts above limit (λ c there. each c (Contains-append_right (root_of t ∷ []) (labels ts) c there)) h.1 shallow in
       grind (arith, first, rest, max-le)
 
-pub tree-below : (g : Graph) (root : ℕ) (new : List Row) (shape : Topology) → HasGrown g root 0 [] [] new shape → IsTreeBelow g root (numbered new shape)
+pub tree-below : (g : Graph) (root : ℕ) (new : List Row) (shape : Topology) → HasGrown g root [] [] new shape → IsTreeBelow g root (numbered new shape)
 tree-below g root new shape has = record {
   tree = has.tree;
   root_is = has.root_is;
@@ -61,17 +61,17 @@ tree-below g root new shape has = record {
 pub size-is : (g : Graph) (root : ℕ) (t : Tree ℕ) → IsForest g root → IsTreeOf g t → root_of t ≡ root → nodes t ≡ length g
 size-is g root t forest tree top = omega (arith, nodes-all g root t forest tree top, room-root g root forest t (tree-is_part g t tree) top)
 
-pub all-there : (g : Graph) (root : ℕ) (new : List Row) (shape : Topology) → IsForest g root → HasGrown g root 0 [] [] new shape → length new ≡ length g
+pub all-there : (g : Graph) (root : ℕ) (new : List Row) (shape : Topology) → IsForest g root → HasGrown g root [] [] new shape → length new ≡ length g
 all-there g root new shape forest has = ap length has.rows_are ∙ length-rows 0 [] has.tree ∙ size-is g root has.tree forest has.is_tree has.root_is
 
-pub all-once : (g : Graph) (root : ℕ) (new : List Row) (shape : Topology) → IsForest g root → HasGrown g root 0 [] [] new shape → (a : ℕ) → a < length g → times a (nodes_of new) ≡ 1
+pub all-once : (g : Graph) (root : ℕ) (new : List Row) (shape : Topology) → IsForest g root → HasGrown g root [] [] new shape → (a : ℕ) → a < length g → times a (nodes_of new) ≡ 1
 all-once g root new shape forest has a within = ap (λ l. times a (nodes_of l)) has.rows_are ∙ ap (times a) (nodes_of-rows 0 [] has.tree) ∙ each_once g root has.tree forest has.is_tree has.root_is a within
 
-pub sound : (g : Graph) (root : ℕ) (new : List Row) (shape : Topology) → IsForest g root → IsWithin g root 64 0 → length g < 2 ^ 32 → HasGrown g root 0 [] [] new shape → IsSound new shape
+pub sound : (g : Graph) (root : ℕ) (new : List Row) (shape : Topology) → IsForest g root → IsWithin g root most_levels 0 → length g < 2 ^ 32 → HasGrown g root [] [] new shape → IsSound new shape
 sound g root new shape forest shallow small has = record {
   tree = has.tree;
   numbered = record { rows_are = has.rows_are; topology_is = has.topology_is };
-  levels = (let r : depth has.tree + 0 ≤ 64 = levels g has.tree 0 64 has.is_tree (subst (λ (x : ℕ). IsWithin g x 64 0) (sym has.root_is) shallow) in omega (arith, r));
+  levels = (let r : depth has.tree + 0 ≤ most_levels = levels g has.tree 0 most_levels has.is_tree (subst (λ (x : ℕ). IsWithin g x most_levels 0) (sym has.root_is) shallow) in omega (arith, r));
   few = omega (arith, size-is g root has.tree forest has.is_tree has.root_is, small);
   branched = subst (λ (u : Topology). IsBranched u) (sym has.topology_is) (branched g has.tree has.is_tree);
 }
@@ -111,16 +111,16 @@ leaf-found p items shape k view s short =
     subst (λ (u : Topology). (children_at p.rows k ≡ []) ↔ LeadsToLeaf u (row_at p.rows k).address) (sym top)
     (subst (λ (l : List Row). (children_at l k ≡ []) ↔ LeadsToLeaf (topology_of s.tree) (row_at l k).address) (sym all) at)
 
-pub levels-few : (items : List Row) (shape : Topology) → IsSound items shape → depth shape ≤ 64
+pub levels-few : (items : List Row) (shape : Topology) → IsSound items shape → depth shape ≤ most_levels
 levels-few items shape s = omega (arith, ap depth s.numbered.topology_is, depth-topology s.tree, s.levels)
 
 pub rows-few : (items : List Row) (shape : Topology) → IsSound items shape → length items < 2 ^ 32
 rows-few items shape s = omega (arith, ap length s.numbered.rows_are, length-rows 0 [] s.tree, s.few)
 
 -- nothing stood before the root
-pub grown-whole : (g : Graph) (root : ℕ) (new : List Row) (shape : Topology) (old : List Row) (a : List ℕ) → old ≡ [] → a ≡ [] → HasGrown g root (length old) a old new shape → HasGrown g root 0 [] [] new shape
+pub grown-whole : (g : Graph) (root : ℕ) (new : List Row) (shape : Topology) (old : List Row) (a : List ℕ) → old ≡ [] → a ≡ [] → HasGrown g root a old new shape → HasGrown g root [] [] new shape
 grown-whole g root new shape old a none_old none_above has =
-    subst (λ (l : List Row). HasGrown g root (length l) [] l new shape) none_old (subst (λ (b : List ℕ). HasGrown g root (length old) b old new shape) none_above has)
+    subst (λ (l : List Row). HasGrown g root [] l new shape) none_old (subst (λ (b : List ℕ). HasGrown g root b old new shape) none_above has)
 
 test-empty : (cs : List ℕ) (b : Bool) → b ≡ nat_eq (length cs) 0 → IsTrue b ↔ (cs ≡ [])
 test-empty [] b tested = ((λ _. refl), (λ _. tested))

@@ -14,7 +14,7 @@ use Rattle.policy_rules.specs.Resolved.{Resolved}
 use Rattle.policy_rules.proofs.Lists.{all-weaker}
 use Rattle.tree_graph.specs.Row.{Row, row, row_at}
 use Rattle.tree_graph.specs.Preorder.{Numbered}
-use Rattle.tree_graph.proofs.Growing.{length-rows}
+use Rattle.tree_graph.proofs.GrowthLemmas.{length-rows}
 use Rattle.policy_core.specs.declared.parts.Station.{Station}
 use Rattle.policy_core.specs.declared.parts.Class.{Class}
 use Rattle.policy_core.specs.Numbering.{address_at}

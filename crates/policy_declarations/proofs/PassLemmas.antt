@@ -6,7 +6,7 @@ use Rattle.policy_text_defs.specs.Sense.{Sense, Entry, sense_of}
 use Rattle.policy_rules.specs.Names.{before}
 use Rattle.policy_rules.specs.Clauses.{IsLeastLine, NoLine}
 use Rattle.policy_rules.specs.Entries.{entries_of, AreRising}
-use Rattle.policy_rules.proofs.Earlier.{before-take}
+use Rattle.policy_rules.proofs.EarlierLines.{before-take}
 use Rattle.policy_rules.proofs.Lines.{entry_of, length-entries, within-entries, entry-at, take-line, least-line, fine-line}
 use Rattle.policy_declarations.specs.Passes.{Fails, Passed}
 

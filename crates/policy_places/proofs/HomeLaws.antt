@@ -15,10 +15,10 @@ use Rattle.policy_rules.specs.Graph.{graph_of, nodes_in}
 use Rattle.tree_graph.specs.Row.{Row}
 use Rattle.policy_places.specs.Numbers.{ArePlaces}
 use Rattle.policy_places.specs.Homes.{IsLeafWith, IsHome, AreHomes}
-use Rattle.policy_places.proofs.Stated.{names-nodes}
+use Rattle.policy_places.proofs.NodeStatements.{names-nodes}
 use Rattle.policy_rules.proofs.Places.{has-at, place-at}
-use Rattle.policy_places.proofs.Distinct.{distinct-classes, classes-listed}
-use Rattle.policy_places.proofs.Passing.{IsLeafPlace, IsPassing, length-graph}
+use Rattle.policy_places.proofs.DistinctClasses.{distinct-classes, classes-listed}
+use Rattle.policy_places.proofs.HomePasses.{IsLeafPlace, IsPassing, length-graph}
 
 zip-by : {X Y : Type 0} (R : X → Y → Type 0) (xs : List X) (ys : List Y) (d : X) (e : Y) → length xs ≡ length ys → ((k : ℕ) → k < length xs → R (get_or xs k d) (get_or ys k e)) → AllZip R xs ys
 zip-by R [] [] d e size each = tt

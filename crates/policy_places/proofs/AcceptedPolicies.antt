@@ -23,7 +23,7 @@ use Rattle.policy_rules.specs.Accepted.{AreAccepted}
 use Rattle.policy_rules.specs.Resolved.{Resolved, IsResolved, IsNodeOf, IsLeafOf, IsInnerOf, IsTreeIn, AreTreesIn, AreClassesOf, Declared, classes_in, marks_of, names_of}
 use Rattle.policy_places.specs.Laws.{AreValid}
 use Rattle.policy_places.proofs.Programs.{none-some, some-same, program-holds}
-use Rattle.policy_places.proofs.Accepting.{checked-there, catch_all-there}
+use Rattle.policy_places.proofs.AcceptedStatements.{checked-there, catch_all-there}
 
 -- ---- programs
 shaped-parts : (bs : List Builtin) → AllByRecursion (λ (b : Builtin). IsShaped b.program × IsChecked b.program) bs → AllByRecursion (λ (b : Builtin). IsShaped b.program) bs

@@ -6,7 +6,7 @@ use Rattle.tree_defs.specs.Topology.{topology_of, topologies_of}
 use Rattle.tree_defs.proofs.Shapes.{nodes-topology}
 use Rattle.tree_graph.specs.Row.{Row, row, row_at}
 use Rattle.tree_graph.specs.Preorder.{rows, rows_below}
-use Rattle.tree_graph.proofs.Growing.{length-rows}
+use Rattle.tree_graph.proofs.GrowthLemmas.{length-rows}
 use Rattle.policy_core.specs.Numbering.{nodes_from, nodes_from_below}
 use Rattle.policy_places.specs.Labels.{map_tree, map_trees}
 

@@ -11,10 +11,10 @@ use Rattle.policy_rules.specs.Graph.{graph_of}
 use Rattle.policy_rules.specs.Accepted.{HaveRoot, AreAcyclic, AreShallow}
 use Rattle.policy_rules.proofs.Places.{place-within}
 use Rattle.tree_graph.specs.Descent.{Graph, lists, AreInRange, IsLeast, IsBelow, IsDeep, IsForest, AreParents}
-use Rattle.tree_graph.proofs.Marking.{length-lists}
+use Rattle.tree_graph.proofs.MarkLemmas.{length-lists}
 use Rattle.policy_family.specs.Lines.{node_entries, line_at}
 use Rattle.policy_family.proofs.Kinship.{length-names, length-graph}
-use Rattle.policy_family.proofs.Named.{IsNamed, named}
+use Rattle.policy_family.proofs.NodeNames.{IsNamed, named}
 use Rattle.policy_family.proofs.Descents.{graph-in-range, leads-same, leads-inside, descendants-same, below-inside}
 use Rattle.policy_family.proofs.Forest.{forest}
 use Rattle.policy_family.proofs.LeastLines.{least-line, no-line, no-number}

@@ -21,9 +21,9 @@ use Rattle.policy_rules.specs.Graph.{family, graph_of, nodes_in}
 use Rattle.policy_rules.proofs.Lines.{Line, entry_of, entries-more, given-more, given-within}
 use Rattle.policy_places.specs.Labels.{node_numbered}
 use Rattle.policy_places.specs.Homes.{IsLeafWith}
-use Rattle.policy_places.proofs.Putting.{ArePut}
-use Rattle.policy_places.proofs.Stated.{families, length-families, names-nodes}
-use Rattle.policy_places.proofs.Resolving.{name-at, children-at}
+use Rattle.policy_places.proofs.LeafPlaces.{ArePut}
+use Rattle.policy_places.proofs.NodeStatements.{families, length-families, names-nodes}
+use Rattle.policy_places.proofs.ResolvedTrees.{name-at, children-at}
 
 entries-split : (lines : List (ℕ × Statement)) (i : ℕ) (l : ℕ × Statement) → i < length lines → l ≡ get_or lines i l → entries_of lines ≡ entries_of (take i lines) ++ entry l.0 (sense_of l.1) ∷ entries_of (drop (suc i) lines)
 entries-split lines i l short is = ap entries_of (split_at lines i l short ∙ ap (λ (k : Line). take i lines ++ k ∷ drop (suc i) lines) (sym is)) ∙ map-append entry_of (take i lines) (l ∷ drop (suc i) lines)

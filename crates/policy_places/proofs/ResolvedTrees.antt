@@ -19,9 +19,9 @@ use Rattle.policy_rules.specs.Accepted.{AreAccepted}
 use Rattle.policy_places.specs.Laws.{AreValid, IsNodeTree}
 use Rattle.policy_places.specs.Labels.{map_tree, map_trees, node_numbered, nodes_at}
 use Rattle.policy_rules.proofs.Places.{place-within, at-place, at-places}
-use Rattle.policy_places.proofs.Stated.{families, IsStated, stated, names-nodes}
+use Rattle.policy_places.proofs.NodeStatements.{families, IsStated, stated, names-nodes}
 use Rattle.policy_places.proofs.Programs.{none-some, some-same, program-there}
-use Rattle.policy_places.proofs.Accepting.{known-at, known-there, root-there}
+use Rattle.policy_places.proofs.AcceptedStatements.{known-at, known-there, root-there}
 
 -- ---- one statement
 is-node : (es : List Entry) (n : Node) (name used : Name) (a : Attrs) → Some (said es name used a) ≡ Some n → is_transaction_known es used ≡ true → IsNodeOf es n name used a

@@ -23,7 +23,7 @@ use Rattle.policy_rules.specs.Clauses.{are_operands_known}
 use Rattle.policy_rules.specs.Programs.{place, variable_of, formula_in, aim_of, keep_span, each_span, push_in, pop_in, program_in}
 use Rattle.policy_rules.proofs.Places.{place-within}
 use Rattle.policy_programs.specs.Bodies.{AreSoundBehind, IsSoundBody}
-use Rattle.policy_programs.proofs.Sound.{AreBody, AreBody-push, open_own}
+use Rattle.policy_programs.proofs.SoundBodies.{AreBody, AreBody-push, open_own}
 
 -- ---- spans
 

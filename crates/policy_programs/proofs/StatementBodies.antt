@@ -12,11 +12,11 @@ use Rattle.policy_rules.specs.Bodies.{is_body, open_body, opened, bodies}
 use Rattle.policy_rules.specs.Clauses.{is_declared, is_known, is_beyond}
 use Rattle.policy_rules.specs.Accepted.{AreFew}
 use Rattle.policy_rules.specs.Entries.{AreRising}
-use Rattle.policy_rules.proofs.Earlier.{before-take}
+use Rattle.policy_rules.proofs.EarlierLines.{before-take}
 use Rattle.policy_rules.proofs.Lists.{all-append}
-use Rattle.policy_rules.proofs.Open.{open_body-line, open_body-opened}
+use Rattle.policy_rules.proofs.OpenBodies.{open_body-line, open_body-opened}
 use Rattle.policy_programs.specs.Bodies.{IsSoundLine, AreSoundBehind, IsSoundBody}
-use Rattle.policy_programs.proofs.Sound.{AreBody, AreBody-push, body_line, open_own}
+use Rattle.policy_programs.proofs.SoundBodies.{AreBody, AreBody-push, body_line, open_own}
 
 -- ---- a line of a body is seen alike behind lines with the same open body
 

@@ -22,8 +22,8 @@ use Rattle.policy_rules.specs.Programs.{program_in, programs}
 use Rattle.policy_rules.proofs.Lists.{all-append}
 use Rattle.policy_programs.specs.Bodies.{IsSoundBody}
 use Rattle.policy_programs.specs.Known.{known_programs, fault_of}
-use Rattle.policy_programs.proofs.Ready.{all_sound}
-use Rattle.policy_programs.proofs.Shaped.{shaped}
+use Rattle.policy_programs.proofs.StatementBodies.{all_sound}
+use Rattle.policy_programs.proofs.ShapedPrograms.{shaped}
 
 over_map : {X Y : Type 0} (f : X → Y) (P : X → Type 0) (Q : Y → Type 0) → ((x : X) → P x → Q (f x)) → (xs : List X) → AllByRecursion P xs → AllByRecursion Q (map f xs)
 over_map f P Q each [] all = tt

@@ -11,7 +11,7 @@ use Rattle.rank_defs.specs.Checks.{Entry, entry, entries, AreChecked, IsWide, Cl
 use Rattle.rank_defs.proofs.Faults.{SomeAt-left, SomeAt-right}
 use Rattle.rank_defs.proofs.LeastFaults.{least-append}
 use Rattle.range_core.specs.declared.lines.Lines.{Lines}
-use Rattle.range_core.specs.Leasts.{AreLeast}
+use Rattle.range_core.specs.LeastLines.{AreLeast}
 
 -- the lesser lines of two
 abbrev pub lesser_lines : Lines → Lines → Lines
