@@ -139,7 +139,7 @@ class Copy:
         for place, command in enumerate(commands):
             if wanted[place]:
                 told = shlex.quote(str(self.told / str(place)))
-                lines.append("{ eval %s\n} </dev/null >%s 2>&1" % (shlex.quote(command.text), told))
+                lines.append("{ eval %s\n} >%s 2>&1" % (shlex.quote(command.text), told))
                 lines.append("status_here=$?; echo $status_here >%s.status; (exit $status_here)" % told)
         run_shell("\n".join(lines), self.top)
         answers = [self.answer(place) if is_wanted else None for place, is_wanted in enumerate(wanted)]

@@ -3,6 +3,7 @@ import contextlib
 import importlib.machinery
 import importlib.util
 import io
+import os
 import pathlib
 import shutil
 import tempfile
@@ -62,6 +63,10 @@ class Check(unittest.TestCase):
         self.assert_right(1, "    $ echo told >&2", "    told")
         self.assert_right(2, "    $ printf 'a b\\n' > new.report", "    $ cat new.report", "    a b")
         self.assert_right(1, "    $ wc -c", "    0")
+
+    def test_the_launcher_builds_nothing(self):
+        os.utime(self.program, (0, 0))
+        self.assert_right(2, "    $ ./zovatsemo check", "    one", "", "    two", "    $ echo $?", "    3")
 
     def test_a_wrong_output(self):
         for command, shown, said in (
