@@ -21,7 +21,7 @@ TIMEOUT = 900  # seconds for a section
 LEFT_OUT = shutil.ignore_patterns(".git", "out", "dist", "__pycache__")
 OTHER_COMMANDS = ("apt-get", "git", "rt")
 
-# The commands that are shown and not run, each with the reason. What prints something else by them isn't seen.
+# The commands that pages show and that aren't run, each with the reason. No page can show what they print.
 NOT_RUN = {
     ".ci/run": "proves everything, and runs this check",
     ".ci/run > ../gate.log 2>&1 && tools/release ../gate.log": "proves everything, and runs this check",
