@@ -1,0 +1,174 @@
+"""The commands of a page, what the page shows behind each, and a shell that runs them in a copy of the checkout.
+
+A page is a text in Markdown. A block is what is indented by four spaces; one that begins with `$ ` holds commands, each
+on a line of its own behind `$ `, and behind a command the lines that it prints. The commands of a section, from one
+heading to the next, are run in one shell that begins at the top of the checkout.
+"""
+import os
+import pathlib
+import re
+import shlex
+import shutil
+import signal
+import subprocess
+import tempfile
+
+TOP = pathlib.Path(__file__).resolve().parent.parent.parent
+PROGRAM = "crates/replay_main/out/replay_main"
+MARK, INDENT = "$ ", "    "
+ASK_STATUS = "echo $?"
+TIMEOUT = 900  # seconds for a section
+LEFT_OUT = shutil.ignore_patterns(".git", "out", "dist", "__pycache__")
+OTHER_COMMANDS = ("apt-get", "git", "rt")
+
+# The commands that pages show and that aren't run, each with the reason. No page can show what they print.
+NOT_RUN = {
+    ".ci/run": "proves everything, and runs this check",
+    ".ci/run > ../gate.log 2>&1 && tools/release ../gate.log": "proves everything, and runs this check",
+    "apt-get install python3-matplotlib python3-dpkt": "changes the machine; tests/look/run does it where CI=true",
+}
+
+
+class PageError(Exception):
+    """What isn't in form on a page, with the line."""
+
+
+class Command:
+    """A command of a page: its line, its text, what is shown behind it, and whether the status is asked for next."""
+
+    def __init__(self, line, text):
+        self.line, self.text, self.shown, self.asks_status = line, text, [], False
+
+
+class Answer:
+    """What a command printed, and its status; None where it didn't come to its end."""
+
+    def __init__(self, printed, status):
+        self.printed, self.status = printed, status
+
+
+# reading ------------------------------------------------------------------
+
+def blocks(text):
+    """For each section the blocks in it, and for each block its lines with their numbers."""
+    found, block, blank = [[]], None, []
+    for number, line in enumerate(text.splitlines(), 1):
+        if line.startswith(INDENT) and line.strip():
+            if block is None:
+                block = []
+                found[-1].append(block)
+            else:
+                block.extend(blank)
+            block.append((number, line[len(INDENT):]))
+            blank = []
+        elif not line.strip():
+            blank.append((number, ""))
+        else:
+            block, blank = None, []
+            if re.match(r"#{1,6} ", line):
+                found.append([])
+            elif line.startswith((MARK, "```", "~~~")):
+                raise PageError("%d: a block is indented by four spaces, and has no fence: %s" % (number, line))
+    return found
+
+
+def is_command(line):
+    """Whether a line begins with a command of the checkout or of the toolchain, with no mark before it."""
+    word = line.split()[0]
+    return word in OTHER_COMMANDS or "/" in word and os.access(TOP / word, os.X_OK) and (TOP / word).is_file()
+
+
+def commands_of(block):
+    """The commands of a block; none where it holds no command."""
+    number, first = block[0]
+    if not first.startswith(MARK):
+        for number, line in block:
+            if line.startswith(MARK):
+                raise PageError("%d: a block of commands begins with one: %s" % (number, line))
+        number, first = block[0]
+        if is_command(first):
+            raise PageError("%d: a command has no `$ ` before it: %s" % (number, first))
+        return []
+    found = []
+    for number, line in block:
+        if line.startswith(MARK):
+            found.append(Command(number, line[len(MARK):]))
+        else:
+            found[-1].shown.append(line)
+    for command in found:
+        while command.shown and not command.shown[-1]:
+            command.shown.pop()
+    for command, behind in zip(found, found[1:]):
+        command.asks_status = behind.text == ASK_STATUS
+    return found
+
+
+def sections(text):
+    """For each section of a page its commands, where it has some."""
+    found = [[command for block in section for command in commands_of(block)] for section in blocks(text)]
+    return [commands for commands in found if commands]
+
+
+# running ------------------------------------------------------------------
+
+class Copy:
+    """A copy of the checkout with the built program, which is gone in the end.
+
+    The program is copied last, so the launcher finds no source that is newer, and runs it.
+    """
+
+    def __init__(self, program, checkout=TOP):
+        self.program, self.checkout = program, checkout
+
+    def __enter__(self):
+        self.room = pathlib.Path(tempfile.mkdtemp(prefix="pages-"))
+        self.top, self.told = self.room / "checkout", self.room / "told"
+        self.told.mkdir()
+        shutil.copytree(self.checkout, self.top, symlinks=True, ignore=LEFT_OUT)
+        placed = self.top / PROGRAM
+        placed.parent.mkdir(parents=True)
+        shutil.copy(self.program, placed)
+        return self
+
+    def __exit__(self, *_):
+        shutil.rmtree(self.room, ignore_errors=True)
+
+    def run(self, commands):
+        """The answer to each command of a section; None for one that isn't run."""
+        lines, wanted = [], [command.text not in NOT_RUN for command in commands]
+        for place, command in enumerate(commands):
+            if wanted[place]:
+                told = shlex.quote(str(self.told / str(place)))
+                lines.append("{ eval %s\n} >%s 2>&1" % (shlex.quote(command.text), told))
+                lines.append("status_here=$?; echo $status_here >%s.status; (exit $status_here)" % told)
+        run_shell("\n".join(lines), self.top)
+        answers = [self.answer(place) if is_wanted else None for place, is_wanted in enumerate(wanted)]
+        for path in self.told.iterdir():
+            path.unlink()
+        return answers
+
+    def answer(self, place):
+        printed, status = self.told / str(place), self.told / ("%d.status" % place)
+        return Answer(printed.read_text(errors="replace") if printed.exists() else "",
+                      int(status.read_text()) if status.exists() else None)
+
+    def changed(self):
+        """The files of the checkout that aren't in the copy as they were, but for the pictures."""
+        for folder, _, names in os.walk(self.top):
+            for name in names:
+                path = pathlib.Path(folder, name)
+                kept = self.checkout / path.relative_to(self.top)
+                is_picture = kept.parent == self.checkout / "docs/pictures"
+                if kept.is_file() and not is_picture and path.relative_to(self.top) != pathlib.Path(PROGRAM):
+                    if path.read_bytes() != kept.read_bytes():
+                        yield str(path.relative_to(self.top))
+
+
+def run_shell(script, folder):
+    """Runs a script in a folder, and ends it where it takes too long."""
+    with subprocess.Popen(["bash", "-c", script], cwd=folder, stdin=subprocess.DEVNULL, stdout=subprocess.DEVNULL,
+                          stderr=subprocess.DEVNULL, start_new_session=True) as process:
+        try:
+            process.wait(TIMEOUT)
+        except subprocess.TimeoutExpired:
+            os.killpg(process.pid, signal.SIGKILL)
