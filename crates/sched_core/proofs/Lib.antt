@@ -1,2 +1,2 @@
-pub mod Leaves
-pub mod Popped
+pub mod LeafNumbers
+pub mod PoppedPackets

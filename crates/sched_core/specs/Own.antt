@@ -33,3 +33,7 @@ IsOfEach own P = ForEachState owns (policy_in own) own tt P
 pub record PopsNext (s : SourceState) (number : ℕ) (digits ranks : List ℕ) : Type 0 where
   pub left : SourceTree
   pub popped : pop s.tree ≡ Some (record { value = number; digits = digits; ranks = ranks; left = left })
+
+-- P holds of each sound state whose it is and from which this is popped next
+abbrev pub IsOfEachPopping : Own → ℕ → List ℕ → List ℕ → (SourceState → Type 0) → Type 0
+IsOfEachPopping own number digits ranks P = IsOfEach own (λ s. PopsNext s number digits ranks → P s)

@@ -6,6 +6,7 @@ use Rattle.packet_defs.specs.declared.packet.Packet.{Packet}
 use Rattle.policy_defs.specs.Policy.{Policy}
 use Rattle.sched_defs.specs.SourceState.{SourceState, class_of, arrival_ranks, arrived, departed}
 use Rattle.sched_defs.specs.Events.{Event, Arrive, Depart}
+use Rattle.sched_core.specs.Origins.{Origin, images_of}
 
 -- a count that rose, where it is told
 abbrev pub raised : Option ℕ → ℕ → Option ℕ
@@ -15,6 +16,10 @@ raised told more = option_map (λ n. n + more) told
 abbrev pub arrival_spills : Option (Tree Address) → Policy → Packet → SourceState → ℕ
 arrival_spills None policy p s = 0
 arrival_spills (Some images) policy p s = push_spills images s.tree (class_of policy p).leaf (arrival_ranks policy p s)
+
+-- the same along the images in the target where the queues stand, if they do
+abbrev pub spills_at : Option Origin → Policy → Packet → SourceState → ℕ
+spills_at origin policy p s = arrival_spills (images_of origin) policy p s
 
 -- the spills of all arrivals among events in a row
 abbrev pub spills_in : Option (Tree Address) → Policy → List Event → SourceState → ℕ

@@ -13,3 +13,10 @@ pub record StandForOne {C U : Type 0} (stands : C → U → SourceState → Type
 -- P holds of each sound state of the policy for which they stand
 abbrev pub ForEachState : {C U : Type 0} → (C → U → SourceState → Type 0) → Policy → C → U → (SourceState → Type 0) → Type 0
 ForEachState stands policy c u P = (s : SourceState) → IsSound policy s → stands c u s → P s
+
+-- the same of the policy that a scheduler has
+abbrev pub ForOne : {C U : Type 0} → (C → U → SourceState → Type 0) → (C → Policy) → C → U → (Policy → SourceState → Type 0) → Type 0
+ForOne stands policy c u P = StandForOne stands (policy c) c u (P (policy c))
+
+abbrev pub ForEach : {C U : Type 0} → (C → U → SourceState → Type 0) → (C → Policy) → C → U → (Policy → SourceState → Type 0) → Type 0
+ForEach stands policy c u P = ForEachState stands (policy c) c u (P (policy c))

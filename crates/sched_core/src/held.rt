@@ -1,6 +1,5 @@
 //! The packets that are held.
-ghost use Rattle.std.specs.Prelude.{◌≡◌, ◌+◌, ◌^◌, ◌<◌, ◌≤◌, ℕ, None, Some, length, nat_eq, IfOk, OnOk, OnErr};
-ghost use Rattle.indexmap.specs.IndexMap.{get, spare, index_map_len};
+ghost use Rattle.std.specs.Prelude.{◌≡◌, ◌<◌, ℕ, None, length, OnOk, OnErr};
 ghost use Rattle.sched_defs.specs.SourceState.{with_packet, without};
 ghost use Rattle.sched_defs.specs.Laws.{AreNumbersOf};
 ghost use Rattle.sched_core.specs.Held.{held_at, numbers_in};

@@ -1,4 +1,5 @@
-//! Schedulers of packets, by a policy, over queues that another owns.
+//! Schedulers of packets, by a policy, over queues that another owns. Begin with src/scheduler.rt and
+//! specs/Standing.antt.
 #![tactic(auto)]
 
 mod direct;

@@ -1,16 +1,15 @@
 //! What each scheduler keeps itself.
-ghost use Rattle.std.specs.Prelude.{◌≡◌, ◌<◌, ◌≤◌, ◌+◌, ◌^◌, ℕ, Some, option_map, is_ok, if◌then◌else◌, OnOk, OnErr, IfOk};
+ghost use Rattle.std.specs.Prelude.{◌≡◌, ◌<◌, ◌≤◌, ◌+◌, ◌^◌, ℕ, Some, is_ok, if◌then◌else◌, OnOk, OnErr, IfOk};
 ghost use Rattle.std.proofs.Props.{props};
 ghost use Rattle.tree_defs.specs.Tree.{depth};
 ghost use Rattle.tree_defs.specs.SourceTree.{size};
 ghost use Rattle.packet_defs.specs.declared.packet.Packet.{Packet as Known};
 ghost use Rattle.policy_defs.specs.Accepted.{IsAccepted};
-ghost use Rattle.policy_defs.specs.Numbers.{number_at};
-ghost use Rattle.sched_defs.specs.SourceState.{SourceState, start, class_of, arrival_ranks, arrived, departed, leaver};
+ghost use Rattle.sched_defs.specs.SourceState.{SourceState, start, class_of, arrival_ranks, arrived, departed};
 ghost use Rattle.sched_defs.specs.Sound.{IsKnown};
 ghost use Rattle.sched_defs.specs.Events.{CanArrive};
 ghost use Rattle.sched_nodes.specs.Agreement.{HasFlowRoom};
-ghost use Rattle.sched_core.specs.Departures.{departed_packet};
+ghost use Rattle.sched_core.specs.Departures.{next_departed, leaf_number};
 ghost use Rattle.sched_core.specs.Held.{held_at};
 
 use crate::held::Held;
@@ -33,7 +32,7 @@ pub struct Own<'a> {
 }
 
 impl<'a> Own<'a> {
-    ghost use Rattle.sched_core.specs.Own.{policy_in, IsOwn, IsOfOne, IsOfEach, PopsNext};
+    ghost use Rattle.sched_core.specs.Own.{policy_in, IsOwn, IsOfOne, IsOfEach, IsOfEachPopping, PopsNext};
 
     /// No packet came yet. The error is want of memory.
     pub fn new(alloc: Global, policy: &'a Policy) -> Result<Own<'a>, AllocError>
@@ -54,7 +53,7 @@ impl<'a> Own<'a> {
     /// The number of the leaf of a packet's class.
     fn leaf(&self, packet: &Packet) -> u32
         requires known { IsKnown (policy_in self.now) packet.now }
-        ensures number { result ≡ number_at (policy_in self.now).tree (class_of (policy_in self.now) packet.now).leaf }
+        ensures number { result ≡ leaf_number (policy_in self.now) packet.now }
     {
         self.stations.policy().classes()[packet.class as usize].leaf
     }
@@ -77,7 +76,7 @@ impl<'a> Own<'a> {
         requires few { self.old.arrivals < 2 ^ 61 }
 
         ensures ok { OnOk result (IsOfEach self.old (λ s. IsOwn self.new (arrived (policy_in self.old) packet.now s))) }
-        ensures leaf { IfOk result (λ leaf. leaf ≡ number_at (policy_in self.old).tree (class_of (policy_in self.old) packet.now).leaf) }
+        ensures leaf { IfOk result (λ leaf. leaf ≡ leaf_number (policy_in self.old) packet.now) }
         ensures digits { OnOk result (trace.new.digits ≡ (class_of (policy_in self.old) packet.now).leaf) }
         ensures ranks { OnOk result (IsOfEach self.old (λ s. trace.new.ranks ≡ arrival_ranks (policy_in self.old) packet.now s)) }
         ensures err { OnErr result (IsOfEach self.old (λ s. IsOwn self.new s)) }
@@ -101,8 +100,8 @@ impl<'a> Own<'a> {
         requires stands { IsOfOne self.old (λ s. PopsNext s number digits.now ranks.now) }
         requires few { self.old.departures < 2 ^ 61 }
 
-        ensures state { IsOfEach self.old (λ s. PopsNext s number digits.now ranks.now → IsOwn self.new (departed (policy_in self.old) s)) }
-        ensures value { IsOfEach self.old (λ s. PopsNext s number digits.now ranks.now → option_map (departed_packet (policy_in self.old)) (leaver s) ≡ Some result) }
+        ensures state { IsOfEachPopping self.old number digits.now ranks.now (λ s. IsOwn self.new (departed (policy_in self.old) s)) }
+        ensures value { IsOfEachPopping self.old number digits.now ranks.now (λ s. next_departed (policy_in self.old) s ≡ Some result) }
         ensures arrivals { self.new.arrivals ≡ self.old.arrivals }
         ensures departures { self.new.departures ≡ self.old.departures + 1 }
         ensures policy { policy_in self.new ≡ policy_in self.old }

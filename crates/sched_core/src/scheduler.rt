@@ -1,16 +1,15 @@
 //! The trait of what drives queues by a policy.
-ghost use Rattle.std.specs.Prelude.{◌≡◌, ◌<◌, ◌≤◌, ◌+◌, ◌^◌, ◌↔◌, ℕ, Option, option_map, is_ok, if◌then◌else◌, IsNone, OnOk, OnErr, IfOk, IfSome, IfNone};
+ghost use Rattle.std.specs.Prelude.{◌≡◌, ◌<◌, ◌≤◌, ◌+◌, ◌^◌, ◌↔◌, ℕ, Option, is_ok, if◌then◌else◌, IsNone, OnOk, OnErr, IfOk, IfSome, IfNone};
 ghost use Rattle.tree_defs.specs.Tree.{depth};
 ghost use Rattle.tree_defs.specs.SourceTree.{size};
 ghost use Rattle.policy_defs.specs.Policy.{Policy};
 ghost use Rattle.policy_defs.specs.Accepted.{IsAccepted};
-ghost use Rattle.policy_defs.specs.Numbers.{number_at};
 ghost use Rattle.sched_defs.specs.SourceState.{SourceState, class_of, arrival_ranks, arrived, departed, leaver};
 ghost use Rattle.sched_defs.specs.Events.{CanArrive};
-ghost use Rattle.sched_core.specs.Standing.{StandForOne, ForEachState};
-ghost use Rattle.sched_core.specs.Origins.{Origin, images_of};
-ghost use Rattle.sched_core.specs.Spills.{raised, arrival_spills};
-ghost use Rattle.sched_core.specs.Departures.{departed_packet, IsTaken};
+ghost use Rattle.sched_core.specs.Standing.{ForOne, ForEach};
+ghost use Rattle.sched_core.specs.Origins.{Origin};
+ghost use Rattle.sched_core.specs.Spills.{raised, spills_at};
+ghost use Rattle.sched_core.specs.Departures.{IsTaken, next_departed, leaf_number};
 
 use packet_defs::{Departed, Packet};
 use std::alloc::AllocError;
@@ -47,18 +46,19 @@ pub trait Scheduler {
         trace: &mut Taken,
     ) -> Result<u32, AllocError>
         requires accepted { IsAccepted (policy self.old) }
-        requires stands { StandForOne stands (policy self.old) self.old under.old (λ s. CanArrive (policy self.old) s packet.now) }
+        requires stands { ForOne stands policy self.old under.old (λ p s. CanArrive p s packet.now) }
         requires room { depth (policy self.old).tree ≤ trace.old.room }
         requires few { arrivals self.old < 2 ^ 61 }
 
-        ensures ok { OnOk result (ForEachState stands (policy self.old) self.old under.old (λ s. stands self.new under.new (arrived (policy self.old) packet.now s))) }
-        ensures leaf { IfOk result (λ leaf. leaf ≡ number_at (policy self.old).tree (class_of (policy self.old) packet.now).leaf) }
+        ensures ok { OnOk result (ForEach stands policy self.old under.old (λ p s. stands self.new under.new (arrived p packet.now s))) }
+        ensures leaf { IfOk result (λ leaf. leaf ≡ leaf_number (policy self.old) packet.now) }
         ensures digits { OnOk result (trace.new.digits ≡ (class_of (policy self.old) packet.now).leaf) }
-        ensures ranks { OnOk result (ForEachState stands (policy self.old) self.old under.old (λ s. trace.new.ranks ≡ arrival_ranks (policy self.old) packet.now s)) }
-        ensures err { OnErr result (ForEachState stands (policy self.old) self.old under.old (λ s. stands self.new under.new s)) }
+        ensures ranks { OnOk result (ForEach stands policy self.old under.old (λ p s. trace.new.ranks ≡ arrival_ranks p packet.now s)) }
+        ensures err { OnErr result (ForEach stands policy self.old under.old (λ _ s. stands self.new under.new s)) }
         ensures trace { OnErr result (trace.new ≡ trace.old) }
         ensures room { trace.new.room ≡ trace.old.room }
-        ensures spilled { OnOk result (ForEachState stands (policy self.old) self.old under.old (λ s. spilled self.new under.new ≡ raised (spilled self.old under.old) (arrival_spills (images_of (origin self.old)) (policy self.old) packet.now s))) }
+        ensures spilled { OnOk result (ForEach stands policy self.old under.old (λ p s.
+            spilled self.new under.new ≡ raised (spilled self.old under.old) (spills_at (origin self.old) p packet.now s))) }
         ensures spilled_stays { OnErr result (spilled self.new under.new ≡ spilled self.old under.old) }
         ensures arrivals { arrivals self.new ≡ (if is_ok result then arrivals self.old + 1 else arrivals self.old) }
         ensures departures { departures self.new ≡ departures self.old }
@@ -69,14 +69,14 @@ pub trait Scheduler {
     /// gets with the digits. Takes no memory.
     fn depart(&mut self, under: &mut Self::Under, trace: &mut Taken) -> Option<Departed>
         requires accepted { IsAccepted (policy self.old) }
-        requires stands { StandForOne stands (policy self.old) self.old under.old (λ _. Unit {0}) }
+        requires stands { ForOne stands policy self.old under.old (λ _ _. Unit {0}) }
         requires room { depth (policy self.old).tree ≤ trace.old.room }
         requires few { departures self.old < 2 ^ 61 }
 
-        ensures state { ForEachState stands (policy self.old) self.old under.old (λ s. stands self.new under.new (departed (policy self.old) s)) }
-        ensures value { ForEachState stands (policy self.old) self.old under.old (λ s. result ≡ option_map (departed_packet (policy self.old)) (leaver s)) }
-        ensures none { ForEachState stands (policy self.old) self.old under.old (λ s. IsNone result ↔ (size s.tree ≡ 0)) }
-        ensures taken { ForEachState stands (policy self.old) self.old under.old (λ s. IfSome (leaver s) (λ l. IsTaken l trace.new)) }
+        ensures state { ForEach stands policy self.old under.old (λ p s. stands self.new under.new (departed p s)) }
+        ensures value { ForEach stands policy self.old under.old (λ p s. result ≡ next_departed p s) }
+        ensures none { ForEach stands policy self.old under.old (λ _ s. IsNone result ↔ (size s.tree ≡ 0)) }
+        ensures taken { ForEach stands policy self.old under.old (λ _ s. IfSome (leaver s) (λ l. IsTaken l trace.new)) }
         ensures trace { IfNone result (trace.new ≡ trace.old) }
         ensures room { trace.new.room ≡ trace.old.room }
         ensures spilled { spilled self.new under.new ≡ spilled self.old under.old }
@@ -87,9 +87,9 @@ pub trait Scheduler {
 
     /// How many packets are held.
     fn held(&self) -> u64
-        ensures { (under : Self.Under) → ForEachState stands (policy self.now) self.now under (λ s. result ≡ size s.tree) };
+        ensures { (under : Self.Under) → ForEach stands policy self.now under (λ _ s. result ≡ size s.tree) };
 
     /// The greatest moment of the packets so far, in nanoseconds.
     fn now(&self) -> u64
-        ensures { (under : Self.Under) → ForEachState stands (policy self.now) self.now under (λ s. result ≡ s.now) };
+        ensures { (under : Self.Under) → ForEach stands policy self.now under (λ _ s. result ≡ s.now) };
 }

@@ -1,4 +1,4 @@
-pub mod Shapes
+pub mod MapShapes
 pub mod LowRanks
-pub mod Moves
-pub mod Departing
+pub mod LiftMoves
+pub mod DepartedPackets

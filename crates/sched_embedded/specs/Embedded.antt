@@ -1,5 +1,6 @@
 -- Which source states a scheduler over a fabric stands for.
-use Rattle.std.specs.Prelude.{◌≡◌, ◌+◌}
+use Rattle.std.specs.Prelude.{◌≡◌, ◌+◌, ℕ, List}
+use Rattle.tree_defs.specs.Tree.{Tree, Address}
 use Rattle.embed_defs.specs.Images.{image_map}
 use Rattle.embed_lift_defs.specs.Lift.{IsLift}
 use Rattle.fabric_core.specs.declared.fabric.Fabric.{Ghosts}
@@ -11,6 +12,10 @@ use Rattle.sched_embedded.specs.declared.embedded.Embedded.{Embedded}
 -- where the queues stand in the target
 abbrev pub origin_of : {F : Type 0} → Embedded F → Origin
 origin_of c = record { images = c.embedding.images; arities = c.embedding.arities; pushes = c.pushes_before; pops = c.pops_before }
+
+-- images and arities in a fabric that was pushed and popped before
+abbrev pub origin_in : {F : Type 0} → Ghosts F → Tree Address → List ℕ → F → Origin
+origin_in fabrics images arities fabric = record { images = images; arities = arities; pushes = fabrics.pushed fabric; pops = fabrics.popped fabric }
 
 -- The queues are the lift of the source tree, in the target's shape. The fabric was pushed once for each arrival and popped
 -- once for each departure, beside what was before.

@@ -1,7 +1,7 @@
 -- A tree laid into a complete tree of queues.
 use Rattle.std.specs.Prelude.{◌≡◌, ◌+◌, ℕ, List, length, Some}
 use Rattle.tree_defs.specs.Tree.{Tree, Address, LeadsToLeaf, SameShape}
-use Rattle.tree_defs.specs.SourceTree.{SourceTree, pop, IsWellFormed}
+use Rattle.tree_defs.specs.SourceTree.{SourceTree, push, pop, IsWellFormed}
 use Rattle.tree_core.specs.Paths.{Way}
 use Rattle.fabric_defs.specs.Family.{Family, IsLeafAddress}
 use Rattle.embed_defs.specs.Images.{image_map}
@@ -37,8 +37,20 @@ IsLiftOfOne l queues = (t : SourceTree) × HoldsLift l queues t
 abbrev pub ForEachLifted : Laid → Family → (SourceTree → Type 0) → Type 0
 ForEachLifted l queues P = (t : SourceTree) → HoldsLift l queues t → P t
 
+-- a push of a packet's number on a way
+abbrev pub push_on : Way → ℕ → SourceTree → SourceTree
+push_on way number t = push t way.digits way.ranks number
+
+-- each of them becomes another one, of which the queues are the lift then
+abbrev pub EachLiftBecomes : Laid → Family → Family → (SourceTree → SourceTree) → Type 0
+EachLiftBecomes l old new f = ForEachLifted l old (λ t. HoldsLift l new (f t))
+
 -- a pop of the source tree gives this number on this way, and leaves one of which the queues are the lift
 pub record PopsTo (l : Laid) (t : SourceTree) (number : ℕ) (way : Way) (queues : Family) : Type 0 where
   pub left : SourceTree
   pub popped : pop t ≡ Some (record { value = number; digits = way.digits; ranks = way.ranks; left = left })
   pub lift : HoldsLift l queues left
+
+-- so does a pop of each source tree of which the queues were the lift
+abbrev pub EachLiftPops : Laid → Family → ℕ → Way → Family → Type 0
+EachLiftPops l old number way new = ForEachLifted l old (λ t. PopsTo l t number way new)

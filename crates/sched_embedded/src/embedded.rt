@@ -1,5 +1,5 @@
 //! The scheduler over the queues of a fabric.
-ghost use Rattle.std.specs.Prelude.{◌≡◌, ◌+◌, ◌^◌, ◌<◌, IfOk, OnErr};
+ghost use Rattle.std.specs.Prelude.{◌≡◌, ◌^◌, ◌<◌, IfOk, OnErr};
 ghost use Rattle.tree_defs.specs.Tree.{SameShape};
 ghost use Rattle.tree_defs.specs.Topology.{topology_of, complete};
 ghost use Rattle.fabric_defs.specs.Family.{SameQueues};
@@ -34,7 +34,7 @@ pub struct Embedded<'a, F> {
 }
 
 impl<'a, F: Fabric> Embedded<'a, F> {
-    ghost use Rattle.sched_embedded.specs.Embedded.{EmbeddedStands, origin_of};
+    ghost use Rattle.sched_embedded.specs.Embedded.{EmbeddedStands, origin_of, origin_in};
 
     /// A scheduler that saw no event yet. It takes the target's shape for the fabric, whose queues are then empty. The error is
     /// want of memory, and leaves the fabric as it was.
@@ -55,7 +55,7 @@ impl<'a, F: Fabric> Embedded<'a, F> {
         ensures policy { IfOk result (λ c. policy_in c.own ≡ policy.now.policy) }
         ensures arrivals { IfOk result (λ c. c.own.arrivals ≡ 0) }
         ensures departures { IfOk result (λ c. c.own.departures ≡ 0) }
-        ensures origin { IfOk result (λ c. origin_of c ≡ record { images = map; arities = target.now.arities; pushes = F.pushed fabric.old; pops = F.popped fabric.old }) }
+        ensures origin { IfOk result (λ c. origin_of c ≡ origin_in F.Fabric map target.now.arities fabric.old) }
         ensures shape { OnErr result (F.shape fabric.new ≡ F.shape fabric.old) }
         ensures queues { OnErr result (SameQueues (F.queues fabric.new) (F.queues fabric.old)) }
         ensures pushed { F.pushed fabric.new ≡ F.pushed fabric.old }

@@ -6,7 +6,7 @@ ghost use Rattle.fabric_defs.specs.Family.{IsLeafAddress, HasRoomAlong, AreRanks
 ghost use Rattle.embed_defs.specs.Images.{image_map};
 ghost use Rattle.embed_lift_defs.specs.Spilling.{push_spills};
 ghost use Rattle.sched_core.specs.Spills.{raised};
-ghost use Rattle.sched_embedded.specs.Laid.{IsLaid, IsLiftOfOne, ForEachLifted, HoldsLift, PopsTo};
+ghost use Rattle.sched_embedded.specs.Laid.{IsLaid, IsLiftOfOne, ForEachLifted, EachLiftBecomes, EachLiftPops, push_on};
 
 use embed_core::{Map, lift, pick};
 use fabric_core::Fabric;
@@ -85,12 +85,13 @@ impl Embedding {
         requires room { HasRoomAlong (F.room fabric.old) (image_map self.old.images way.now.digits) }
         requires few { F.pushed fabric.old < 2 ^ 62 }
 
-        ensures lift { ForEachLifted self.old (F.queues fabric.old) (λ t. HoldsLift self.old (F.queues fabric.new) (push t way.now.digits way.now.ranks number)) }
+        ensures lift { EachLiftBecomes self.old (F.queues fabric.old) (F.queues fabric.new) (push_on way.now number) }
         ensures embedding { self.new ≡ self.old }
         ensures shape { F.shape fabric.new ≡ F.shape fabric.old }
         ensures pushed { F.pushed fabric.new ≡ F.pushed fabric.old + 1 }
         ensures popped { F.popped fabric.new ≡ F.popped fabric.old }
-        ensures spilled { ForEachLifted self.old (F.queues fabric.old) (λ t. F.spilled fabric.new ≡ raised (F.spilled fabric.old) (push_spills self.old.images t way.now.digits way.now.ranks)) }
+        ensures spilled { ForEachLifted self.old (F.queues fabric.old) (λ t.
+            F.spilled fabric.new ≡ raised (F.spilled fabric.old) (push_spills self.old.images t way.now.digits way.now.ranks)) }
     {
         lift(&self.map, way, &mut self.digits, &mut self.ranks);
         fabric.push(&self.digits, &self.ranks, number);
@@ -106,7 +107,7 @@ impl Embedding {
 
         ensures none { IfNone result (ForEachLifted self.old (F.queues fabric.old) (λ t. pop t ≡ None)) }
         ensures stay { IfNone result (SameQueues (F.queues fabric.new) (F.queues fabric.old)) }
-        ensures taken { IfSome result (λ number. ForEachLifted self.old (F.queues fabric.old) (λ t. PopsTo self.old t number trace.new (F.queues fabric.new))) }
+        ensures taken { IfSome result (λ number. EachLiftPops self.old (F.queues fabric.old) number trace.new (F.queues fabric.new)) }
         ensures trace { IfNone result (trace.new ≡ trace.old) }
         ensures room { trace.new.room ≡ trace.old.room }
         ensures embedding { self.new ≡ self.old }

@@ -17,3 +17,11 @@ AreStates s values = HaveValues (policy_of s).tree s.states.items values
 -- the leaf of a packet's class has room for the packet's flow
 abbrev pub HasFlowRoom : Stations → Packet → Type 0
 HasFlowRoom s p = HasRoomAt (policy_of s).tree s.states.items (class_of (policy_of s) p).leaf (Flow p.flow)
+
+-- P holds of all values that the variables have
+abbrev pub ForStates : Stations → (States → Type 0) → Type 0
+ForStates s P = (values : States) → AreStates s values → P values
+
+-- whatever values the variables had, they have others now
+abbrev pub StatesBecome : Stations → Stations → (States → States) → Type 0
+StatesBecome old new f = ForStates old (λ values. AreStates new (f values))

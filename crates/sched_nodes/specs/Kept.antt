@@ -11,11 +11,16 @@ use Rattle.rank_core.specs.declared.node.NodeState.{NodeState}
 use Rattle.rank_core.specs.Node.{state_of, children_of, BelongsTo, HasRoom}
 use Rattle.policy_defs.specs.Policy.{Node}
 use Rattle.policy_defs.specs.Numbers.{number_at}
+use Rattle.policy_core.specs.Numbering.{address_at}
 use Rattle.sched_defs.specs.Visits.{States}
 
 -- the part of a tree at an address; the whole where there is none
 abbrev pub part_at : {Q : Type 0} → Tree Q → Address → Tree Q
 part_at tree a = unwrap_or (subtree tree a) tree
+
+-- the part at the node with a number
+abbrev pub numbered_part : Tree Node → ℕ → Tree Node
+numbered_part tree node = part_at tree (address_at tree node)
 
 -- of an inner node, how many children it has; none of a leaf
 abbrev pub arity : {Q : Type 0} → Tree Q → Option ℕ

@@ -2,11 +2,10 @@
 ghost use Rattle.std.specs.Prelude.{◌≡◌, ◌<◌, IfOk};
 ghost use Rattle.tree_defs.specs.Tree.{IsAddressOf, root_of, nodes};
 ghost use Rattle.tree_core.specs.Shape.{topology};
-ghost use Rattle.rank_defs.specs.States.{SameState, first_state};
-ghost use Rattle.rank_core.specs.Node.{state_of};
-ghost use Rattle.policy_core.specs.Numbering.{address_at};
+ghost use Rattle.rank_defs.specs.States.{first_state};
+ghost use Rattle.rank_core.specs.Node.{HasState};
 ghost use Rattle.sched_defs.specs.SourceState.{first_states};
-ghost use Rattle.sched_nodes.specs.Kept.{part_at, arity, IsStationOf, AreStations, HaveValues};
+ghost use Rattle.sched_nodes.specs.Kept.{part_at, arity, IsStationOf, AreStations, HaveValues, numbered_part};
 
 use policy_core::Policy;
 use rank_core::NodeState;
@@ -29,8 +28,8 @@ fn arity(topo: &Topo, address: &[u32]) -> Option<usize>
 
 fn first_state(alloc: Global, policy: &Policy, node: u32) -> Result<NodeState, AllocError>
     requires there { node < nodes policy.now.policy.tree }
-    ensures station { IfOk result (IsStationOf (part_at policy.now.policy.tree (address_at policy.now.policy.tree node))) }
-    ensures first { IfOk result (λ x. SameState (state_of x) (first_state (root_of (part_at policy.now.policy.tree (address_at policy.now.policy.tree node))).program)) }
+    ensures station { IfOk result (IsStationOf (numbered_part policy.now.policy.tree node)) }
+    ensures first { IfOk result (λ x. HasState x (first_state (root_of (numbered_part policy.now.policy.tree node)).program)) }
 {
     let transaction = policy.checked(node).transaction();
     match arity(policy.topo(), policy.address(node)) {

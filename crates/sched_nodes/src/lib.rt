@@ -1,4 +1,4 @@
-//! The variables of a policy's nodes, and the push and pop steps along a packet's way.
+//! The variables of a policy's nodes, and the push and pop steps along a packet's way. Begin with specs/Agreement.antt.
 #![tactic(auto)]
 
 mod first;

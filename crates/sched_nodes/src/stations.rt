@@ -1,6 +1,5 @@
 //! The stations of a policy.
 ghost use Rattle.std.specs.Prelude.{◌≡◌, ◌≤◌, ◌<◌, ◌+◌, length, IfOk, OnOk};
-ghost use Rattle.std.specs.List.{AllByRecursion};
 ghost use Rattle.tree_defs.specs.Tree.{depth};
 ghost use Rattle.rank_defs.specs.Programs.{max_rank};
 ghost use Rattle.packet_defs.specs.declared.packet.Packet.{Packet as Known};
@@ -27,7 +26,8 @@ pub struct Stations<'a> {
 }
 
 impl<'a> Stations<'a> {
-    ghost use Rattle.sched_nodes.specs.Agreement.{policy_of, AreStates, HasFlowRoom};
+    ghost use Rattle.sched_nodes.specs.Agreement.{policy_of, AreStates, HasFlowRoom, ForStates, StatesBecome};
+    ghost use Rattle.sched_nodes.specs.Ways.{AreLowRanks};
 
     /// All variables hold their first values. The error is want of memory.
     pub fn new(alloc: Global, policy: &'a Policy) -> Result<Stations<'a>, AllocError>
@@ -66,9 +66,9 @@ impl<'a> Stations<'a> {
         requires room { HasFlowRoom self.old packet.now }
         requires levels { depth (policy_of self.old).tree ≤ trace.old.room }
         ensures digits { trace.new.digits ≡ (class_of (policy_of self.old) packet.now).leaf }
-        ensures ranks { (values : States) → AreStates self.old values → trace.new.ranks ≡ ranks_pushed values (way_in (policy_of self.old) packet.now moment) }
-        ensures states { (values : States) → AreStates self.old values → AreStates self.new (after_pushes (way_in (policy_of self.old) packet.now moment) values) }
-        ensures limit { AllByRecursion (λ r. r ≤ max_rank) trace.new.ranks }
+        ensures ranks { ForStates self.old (λ v. trace.new.ranks ≡ ranks_pushed v (way_in (policy_of self.old) packet.now moment)) }
+        ensures states { StatesBecome self.old self.new (after_pushes (way_in (policy_of self.old) packet.now moment)) }
+        ensures limit { AreLowRanks trace.new.ranks }
         ensures kept { (other : Known) → HasFlowRoom self.old other → HasFlowRoom self.new other }
         ensures policy { policy_of self.new ≡ policy_of self.old }
         ensures spare { trace.new.room ≡ trace.old.room }
@@ -93,8 +93,8 @@ impl<'a> Stations<'a> {
         requires room { HasFlowRoom self.old packet.now }
         requires leaf_address { digits.now ≡ (class_of (policy_of self.old) packet.now).leaf }
         requires even { length ranks.now ≡ length digits.now + 1 }
-        requires limit { AllByRecursion (λ r. r ≤ max_rank) ranks.now }
-        ensures states { (values : States) → AreStates self.old values → AreStates self.new (after_pops (way_out (policy_of self.old) packet.now digits.now moment) ranks.now values) }
+        requires limit { AreLowRanks ranks.now }
+        ensures states { StatesBecome self.old self.new (after_pops (way_out (policy_of self.old) packet.now digits.now moment) ranks.now) }
         ensures kept { (other : Known) → HasFlowRoom self.old other → HasFlowRoom self.new other }
         ensures policy { policy_of self.new ≡ policy_of self.old }
     {

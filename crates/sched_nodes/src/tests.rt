@@ -1,6 +1,5 @@
 //! Tests of the variables of nodes, children and flows.
-ghost use Rattle.std.specs.Prelude.{◌≡◌, [], ◌∷◌, map, IfOk};
-ghost use Rattle.rank_defs.specs.Programs.{program_of};
+ghost use Rattle.std.specs.Prelude.{◌≡◌, [], IfOk};
 ghost use Rattle.rank_defs.specs.Builtins.{stfq};
 ghost use Rattle.tree_graph.specs.Descent.{lists, two_below_a_root};
 ghost use Rattle.policy_core.specs.Samples.{station};

@@ -1,13 +1,9 @@
 //! The steps of the nodes on a packet's way.
-ghost use Rattle.std.specs.Prelude.{◌≡◌, ◌≤◌, ◌+◌, ◌++◌, ◌∷◌, [], length, slice_index};
-ghost use Rattle.std.specs.List.{AllByRecursion};
-ghost use Rattle.tree_defs.specs.Tree.{Address};
+ghost use Rattle.std.specs.Prelude.{◌≡◌, ◌≤◌, ◌+◌, ◌++◌, ◌∷◌, [], length};
 ghost use Rattle.rank_defs.specs.Programs.{max_rank};
-ghost use Rattle.rank_defs.specs.Steps.{after_push, after_pop};
-ghost use Rattle.rank_defs.specs.declared.environment.Who.{Who as WhoOf};
-ghost use Rattle.sched_defs.specs.Visits.{States, with_state, rank_at, ranks_pushed, after_pushes, after_pops};
-ghost use Rattle.sched_nodes.specs.Kept.{AreStations, HaveValues, HasRoomAt};
-ghost use Rattle.sched_nodes.specs.Ways.{IsReady, IsOnTheWay, tree_for, place, stop, way};
+ghost use Rattle.sched_defs.specs.Visits.{rank_at, ranks_pushed, after_pushes, after_pops};
+ghost use Rattle.sched_nodes.specs.Kept.{AreStations};
+ghost use Rattle.sched_nodes.specs.Ways.{IsReady, IsOnTheWay, tree_for, stop, way, HasRoomOnWay, AreLowRanks, ForValues, ValuesBecome, KeepsRoom};
 
 use crate::passage::Passage;
 use rank_core::{NodeState, Who, run_pop, run_push};
@@ -18,11 +14,11 @@ fn push_at(states: &mut [NodeState], passage: &Passage, node: u32, digits: &[u32
     requires ready { IsReady passage.now }
     requires way { IsOnTheWay passage.now node digits.now }
     requires kept { AreStations (tree_for passage.now) states.old }
-    requires room { HasRoomAt (tree_for passage.now) states.old (place passage.now node ++ digits.now) (Who.Flow passage.now.packet.now.flow) }
-    ensures rank { (values : States) → HaveValues (tree_for passage.now) states.old values → result ≡ rank_at values (stop passage.now node digits.now) }
-    ensures values { (values : States) → HaveValues (tree_for passage.now) states.old values → HaveValues (tree_for passage.now) states.new (after_pushes (stop passage.now node digits.now ∷ []) values) }
+    requires room { HasRoomOnWay passage.now states.old node digits.now }
+    ensures rank { ForValues passage.now states.old (λ v. result ≡ rank_at v (stop passage.now node digits.now)) }
+    ensures values { ValuesBecome passage.now states.old states.new (after_pushes (stop passage.now node digits.now ∷ [])) }
     ensures kept { AreStations (tree_for passage.now) states.new }
-    ensures room { (a : Address) (who : WhoOf) → HasRoomAt (tree_for passage.now) states.old a who → HasRoomAt (tree_for passage.now) states.new a who }
+    ensures room { KeepsRoom passage.now states.old states.new }
     ensures limit { result ≤ max_rank }
 {
     let transaction = passage.policy.checked(node).transaction();
@@ -36,11 +32,11 @@ fn pop_at(states: &mut [NodeState], passage: &Passage, node: u32, digits: &[u32]
     requires ready { IsReady passage.now }
     requires way { IsOnTheWay passage.now node digits.now }
     requires kept { AreStations (tree_for passage.now) states.old }
-    requires room { HasRoomAt (tree_for passage.now) states.old (place passage.now node ++ digits.now) (Who.Flow passage.now.packet.now.flow) }
+    requires room { HasRoomOnWay passage.now states.old node digits.now }
     requires limit { rank ≤ max_rank }
-    ensures values { (values : States) → HaveValues (tree_for passage.now) states.old values → HaveValues (tree_for passage.now) states.new (after_pops (stop passage.now node digits.now ∷ []) (rank ∷ []) values) }
+    ensures values { ValuesBecome passage.now states.old states.new (after_pops (stop passage.now node digits.now ∷ []) (rank ∷ [])) }
     ensures kept { AreStations (tree_for passage.now) states.new }
-    ensures room { (a : Address) (who : WhoOf) → HasRoomAt (tree_for passage.now) states.old a who → HasRoomAt (tree_for passage.now) states.new a who }
+    ensures room { KeepsRoom passage.now states.old states.new }
 {
     let transaction = passage.policy.checked(node).transaction();
     let who = passage.who(digits);
@@ -59,15 +55,16 @@ pub fn push_from(
     requires ready { IsReady passage.now }
     requires way { IsOnTheWay passage.now node digits.now }
     requires kept { AreStations (tree_for passage.now) states.old }
-    requires room { HasRoomAt (tree_for passage.now) states.old (place passage.now node ++ digits.now) (Who.Flow passage.now.packet.now.flow) }
+    requires room { HasRoomOnWay passage.now states.old node digits.now }
     requires levels { length trace.old.digits + length digits.now ≤ trace.old.room }
     requires even { length trace.old.ranks ≡ length trace.old.digits }
     ensures digits { trace.new.digits ≡ trace.old.digits ++ digits.now }
-    ensures ranks { (values : States) → HaveValues (tree_for passage.now) states.old values → trace.new.ranks ≡ trace.old.ranks ++ ranks_pushed values (way passage.now node digits.now) }
-    ensures values { (values : States) → HaveValues (tree_for passage.now) states.old values → HaveValues (tree_for passage.now) states.new (after_pushes (way passage.now node digits.now) values) }
+    ensures ranks { ForValues passage.now states.old (λ v.
+        trace.new.ranks ≡ trace.old.ranks ++ ranks_pushed v (way passage.now node digits.now)) }
+    ensures values { ValuesBecome passage.now states.old states.new (after_pushes (way passage.now node digits.now)) }
     ensures kept { AreStations (tree_for passage.now) states.new }
-    ensures room { (a : Address) (who : WhoOf) → HasRoomAt (tree_for passage.now) states.old a who → HasRoomAt (tree_for passage.now) states.new a who }
-    ensures limit { AllByRecursion (λ r. r ≤ max_rank) trace.old.ranks → AllByRecursion (λ r. r ≤ max_rank) trace.new.ranks }
+    ensures room { KeepsRoom passage.now states.old states.new }
+    ensures limit { AreLowRanks trace.old.ranks → AreLowRanks trace.new.ranks }
     ensures spare { trace.new.room ≡ trace.old.room }
 {
     let rank = push_at(states, passage, node, digits);
@@ -92,12 +89,12 @@ pub fn pop_from(
     requires ready { IsReady passage.now }
     requires way { IsOnTheWay passage.now node digits.now }
     requires kept { AreStations (tree_for passage.now) states.old }
-    requires room { HasRoomAt (tree_for passage.now) states.old (place passage.now node ++ digits.now) (Who.Flow passage.now.packet.now.flow) }
+    requires room { HasRoomOnWay passage.now states.old node digits.now }
     requires even { length ranks.now ≡ length digits.now + 1 }
-    requires limit { AllByRecursion (λ r. r ≤ max_rank) ranks.now }
-    ensures values { (values : States) → HaveValues (tree_for passage.now) states.old values → HaveValues (tree_for passage.now) states.new (after_pops (way passage.now node digits.now) ranks.now values) }
+    requires limit { AreLowRanks ranks.now }
+    ensures values { ValuesBecome passage.now states.old states.new (after_pops (way passage.now node digits.now) ranks.now) }
     ensures kept { AreStations (tree_for passage.now) states.new }
-    ensures room { (a : Address) (who : WhoOf) → HasRoomAt (tree_for passage.now) states.old a who → HasRoomAt (tree_for passage.now) states.new a who }
+    ensures room { KeepsRoom passage.now states.old states.new }
 {
     pop_at(states, passage, node, digits, ranks[0]);
     if let [digit, deeper @ ..] = digits {

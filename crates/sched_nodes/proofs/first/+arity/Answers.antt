@@ -1,8 +1,8 @@
 use Rattle.std.proofs.Common.{rules, ◌≡◌, ◌∙◌, ◌<◌, arith, length, get_or}
 use Rattle.tree_defs.specs.Tree.{inner}
-use Rattle.tree_core.proofs.Grown.{topology_inner}
+use Rattle.tree_core.proofs.NewTrees.{topology_inner}
 use Rattle.tree_core.specs.Shape.{topology}
-use Rattle.sched_nodes.proofs.Topos.{shapes, digit-within, part-there, arity-below, arity-here}
+use Rattle.sched_nodes.proofs.ChildCounts.{shapes, digit-within, part-there, arity-below, arity-here}
 use Rattle.sched_nodes.proofs.first.+arity.Goals as goal
 
 pub index-requires : goal.index-requires

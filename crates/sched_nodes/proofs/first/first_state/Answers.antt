@@ -1,7 +1,7 @@
 use Rattle.std.proofs.Common.{◌<◌, ◌^◌, ◌∙◌, sym, arith}
 use Rattle.policy_core.specs.Numbering.{address_at}
 use Rattle.sched_nodes.specs.Kept.{part_at}
-use Rattle.sched_nodes.proofs.Beginning.{program-of, shape-has, arity-is, fits, inner-station, leaf-station, first-values}
+use Rattle.sched_nodes.proofs.FirstStates.{program-of, shape-has, arity-is, fits, inner-station, leaf-station, first-values}
 use Rattle.sched_nodes.proofs.first.first_state.Goals as goal
 
 pub arity-requires : goal.arity-requires

@@ -1,6 +1,6 @@
 use Rattle.std.proofs.Common.{◌≡◌, subst, arith}
 use Rattle.tree_defs.specs.Tree.{nodes}
-use Rattle.sched_nodes.proofs.Beginning.{AreFirst, first-more, first-stations, first-have_values}
+use Rattle.sched_nodes.proofs.FirstStates.{AreFirst, first-more, first-stations, first-have_values}
 use Rattle.sched_nodes.proofs.first.first_states.Goals as goal
 
 pub loop-node-preserved : goal.loop-node-preserved

@@ -1,4 +1,4 @@
-use Rattle.sched_nodes.proofs.Beginning.{AreFirst}
+use Rattle.sched_nodes.proofs.FirstStates.{AreFirst}
 use Rattle.sched_nodes.proofs.first.first_states.Given as goal
 
 abbrev pub invariant-loop-node : goal.invariant-loop-node

@@ -6,7 +6,7 @@ use Rattle.policy_core.specs.declared.parts.Class.{Class}
 use Rattle.policy_core.specs.Parts.{resolved}
 use Rattle.policy_defs.specs.Accepted.{IsAccepted}
 use Rattle.sched_nodes.specs.Samples.{one_program, tree, stations}
-use Rattle.sched_nodes.proofs.Fair.{fair-accepted}
+use Rattle.sched_nodes.proofs.FairPolicy.{fair-accepted}
 use Rattle.sched_nodes.proofs.tests.fair.Goals as goal
 
 pub new-requires-clause-catch_all : goal.new-requires-clause-catch_all

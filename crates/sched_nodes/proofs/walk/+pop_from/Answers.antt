@@ -5,9 +5,9 @@ use Rattle.sched_defs.specs.Visits.{Visit, after_pops}
 use Rattle.sched_nodes.specs.Kept.{HaveValues, HasRoomAt}
 use Rattle.sched_nodes.specs.Ways.{tree_for, stop, way}
 use Rattle.sched_defs.proofs.Ranks.{AreLow, rest_low}
-use Rattle.sched_nodes.proofs.Parts.{later, later-is, later-ranks}
-use Rattle.sched_nodes.proofs.Stops.{child-there}
-use Rattle.sched_nodes.proofs.Onward.{still-on_the_way, way-on, place-on, way-ends}
+use Rattle.sched_nodes.proofs.TreeParts.{later, later-is, later-ranks}
+use Rattle.sched_nodes.proofs.NodeSteps.{child-there}
+use Rattle.sched_nodes.proofs.ChildWays.{still-on_the_way, way-on, place-on, way-ends}
 use Rattle.sched_nodes.proofs.walk.+pop_from.Goals as goal
 
 pub child-child-requires-clause-child : goal.child-child-requires-clause-child

@@ -6,8 +6,8 @@ use Rattle.rank_defs.specs.Steps.{after_push}
 use Rattle.sched_defs.specs.Visits.{Visit, ranks_pushed, after_pushes}
 use Rattle.sched_nodes.specs.Kept.{HaveValues, HasRoomAt}
 use Rattle.sched_nodes.specs.Ways.{tree_for, stop}
-use Rattle.sched_nodes.proofs.Stops.{child-there}
-use Rattle.sched_nodes.proofs.Onward.{still-on_the_way, way-on, place-on, later-length, ranks-told, way-ends}
+use Rattle.sched_nodes.proofs.NodeSteps.{child-there}
+use Rattle.sched_nodes.proofs.ChildWays.{still-on_the_way, way-on, place-on, later-length, ranks-told, way-ends}
 use Rattle.sched_nodes.proofs.walk.+push_from.Goals as goal
 
 pub child-child-requires-clause-child : goal.child-child-requires-clause-child

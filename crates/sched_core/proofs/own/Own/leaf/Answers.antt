@@ -5,7 +5,7 @@ use Rattle.policy_defs.specs.Policy.{Policy, Class as Aimed, no_marks}
 use Rattle.policy_defs.specs.Numbers.{number_at}
 use Rattle.sched_defs.specs.SourceState.{class_of}
 use Rattle.sched_core.specs.Own.{policy_in}
-use Rattle.sched_core.proofs.Leaves.{leaf-number}
+use Rattle.sched_core.proofs.LeafNumbers.{leaf-number}
 use Rattle.sched_core.proofs.own.Own.leaf.Goals as goal
 
 pub returns : goal.returns

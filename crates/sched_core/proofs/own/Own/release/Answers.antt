@@ -7,7 +7,7 @@ use Rattle.sched_defs.specs.SourceState.{class_of, way_out}
 use Rattle.sched_defs.specs.Laws.{LeavesItsLeaf}
 use Rattle.sched_nodes.specs.Agreement.{AreStates}
 use Rattle.sched_core.specs.Own.{policy_in}
-use Rattle.sched_core.proofs.Popped.{is_held, leaves, leaver-popped, departed-popped}
+use Rattle.sched_core.proofs.PoppedPackets.{is_held, leaves, leaver-popped, departed-popped}
 use Rattle.sched_core.proofs.own.Own.release.Goals as goal
 
 pub unreachable-requires : goal.unreachable-requires

@@ -6,7 +6,7 @@ use Rattle.embed_defs.specs.Images.{image_map}
 use Rattle.embed_lift_defs.specs.Lift.{IsLift}
 use Rattle.embed_lift_defs.proofs.EmbeddedMaps.{embeddings_are_good_maps as good_map}
 use Rattle.policy_defs.specs.Policy.{Policy}
-use Rattle.sched_embedded.proofs.Shapes.{topology-same, embedding-laid, empty-lifted}
+use Rattle.sched_embedded.proofs.MapShapes.{topology-same, embedding-laid, empty-lifted}
 use Rattle.sched_embedded.proofs.embedded.Embedded.new.Goals as goal
 
 pub new-requires-2 : goal.new-requires-2

@@ -11,8 +11,8 @@ use Rattle.sched_defs.proofs.Leaving.{arrives_at_a_leaf}
 use Rattle.sched_core.specs.Own.{policy_in}
 use Rattle.sched_core.specs.Spills.{raised}
 use Rattle.sched_embedded.specs.Laid.{Laid, HoldsLift}
-use Rattle.sched_embedded.proofs.Shapes.{same_leaves, sound-shape, sound-holds}
-use Rattle.sched_embedded.proofs.Moves.{lift-same}
+use Rattle.sched_embedded.proofs.MapShapes.{same_leaves, sound-shape, sound-holds}
+use Rattle.sched_embedded.proofs.LiftMoves.{lift-same}
 use Rattle.sched_embedded.proofs.embedded.EmbeddedScheduler.arrive.Goals as goal
 
 pub image-requires : goal.image-requires

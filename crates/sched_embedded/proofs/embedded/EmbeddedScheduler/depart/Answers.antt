@@ -8,9 +8,9 @@ use Rattle.sched_defs.specs.SourceState.{departed}
 use Rattle.sched_defs.proofs.Leaving.{pop_size}
 use Rattle.sched_core.specs.Own.{policy_in}
 use Rattle.sched_embedded.specs.Laid.{Laid, PopsTo}
-use Rattle.sched_embedded.proofs.Shapes.{same_depth, sound-holds}
-use Rattle.sched_embedded.proofs.Moves.{lift-same}
-use Rattle.sched_embedded.proofs.Departing.{next, departed-tree, leaver-taken, not-empty}
+use Rattle.sched_embedded.proofs.MapShapes.{same_depth, sound-holds}
+use Rattle.sched_embedded.proofs.LiftMoves.{lift-same}
+use Rattle.sched_embedded.proofs.DepartedPackets.{next, departed-tree, leaver-taken, not-empty}
 use Rattle.sched_embedded.proofs.embedded.EmbeddedScheduler.depart.Goals as goal
 
 pub pop-requires-clause-lift : goal.pop-requires-clause-lift

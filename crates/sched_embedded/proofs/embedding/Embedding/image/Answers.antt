@@ -1,7 +1,7 @@
 use Rattle.std.proofs.Common.{sym, subst}
 use Rattle.tree_defs.specs.Tree.{LeadsToLeaf}
 use Rattle.sched_embedded.specs.Laid.{Laid}
-use Rattle.sched_embedded.proofs.Shapes.{leaf-image}
+use Rattle.sched_embedded.proofs.MapShapes.{leaf-image}
 use Rattle.sched_embedded.proofs.embedding.Embedding.image.Goals as goal
 
 pub unreachable-requires : goal.unreachable-requires

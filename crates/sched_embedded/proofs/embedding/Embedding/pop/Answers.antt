@@ -7,7 +7,7 @@ use Rattle.embed_lift_defs.specs.Lift.{picked_ranks}
 use Rattle.embed_lift_defs.specs.GoodMaps.{IsGoodMap}
 use Rattle.embed_core.specs.Picks.{IsLeafImage}
 use Rattle.sched_embedded.specs.Laid.{Laid}
-use Rattle.sched_embedded.proofs.Moves.{picked, leaf_image, pops_nothing}
+use Rattle.sched_embedded.proofs.LiftMoves.{picked, leaf_image, pops_nothing}
 use Rattle.sched_embedded.proofs.embedding.Embedding.pop.Goals as goal
 
 pub returns-in_err-number-clause-none : goal.returns-in_err-number-clause-none

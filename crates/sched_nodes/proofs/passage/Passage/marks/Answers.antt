@@ -1,4 +1,4 @@
-use Rattle.sched_nodes.proofs.Stops.{child-there, marks-are, marks-in_range}
+use Rattle.sched_nodes.proofs.NodeSteps.{child-there, marks-are, marks-in_range}
 use Rattle.sched_nodes.proofs.passage.Passage.marks.Goals as goal
 
 pub child-requires-clause-child : goal.child-requires-clause-child

@@ -7,8 +7,8 @@ use Rattle.sched_defs.specs.Visits.{Visit, after_pops}
 use Rattle.sched_defs.specs.SourceState.{class_of, way_out}
 use Rattle.sched_nodes.specs.Kept.{HaveValues}
 use Rattle.sched_nodes.specs.Agreement.{policy_of}
-use Rattle.sched_nodes.proofs.Leaves.{class-within, class-is, class-prepared}
-use Rattle.sched_nodes.proofs.Root.{from-root, whole-way, room-from_root}
+use Rattle.sched_nodes.proofs.ClassLeaves.{class-within, class-is, class-prepared}
+use Rattle.sched_nodes.proofs.RootWays.{from-root, whole-way, room-from_root}
 use Rattle.sched_nodes.proofs.stations.Stations.pop_steps.Goals as goal
 
 pub pop_from-requires-clause-way : goal.pop_from-requires-clause-way

@@ -8,8 +8,8 @@ use Rattle.sched_defs.specs.Visits.{Visit, visits_from, ranks_pushed, after_push
 use Rattle.sched_defs.specs.SourceState.{class_of, way_in}
 use Rattle.sched_nodes.specs.Kept.{HaveValues}
 use Rattle.sched_nodes.specs.Agreement.{policy_of}
-use Rattle.sched_nodes.proofs.Leaves.{class-within, class-is, class-prepared, leaf-depth}
-use Rattle.sched_nodes.proofs.Root.{from-root, ready, whole-way, room-from_root, begun}
+use Rattle.sched_nodes.proofs.ClassLeaves.{class-within, class-is, class-prepared, leaf-depth}
+use Rattle.sched_nodes.proofs.RootWays.{from-root, ready, whole-way, room-from_root, begun}
 use Rattle.sched_nodes.proofs.stations.Stations.push_steps.Goals as goal
 
 pub push_from-requires-clause-ready : goal.push_from-requires-clause-ready

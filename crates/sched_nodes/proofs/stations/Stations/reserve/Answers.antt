@@ -3,8 +3,8 @@ use Rattle.std.proofs.lemmas.Result.{on_ok_weaker}
 use Rattle.tree_defs.specs.Tree.{nodes}
 use Rattle.policy_core.proofs.PolicyParts.{all-at}
 use Rattle.sched_nodes.specs.Agreement.{policy_of}
-use Rattle.sched_nodes.proofs.Leaves.{class-within, leaf-leads, leaf-number}
-use Rattle.sched_nodes.proofs.Reserving.{flow-belongs, stations-reserved, values-reserved, room-reserved, room-made}
+use Rattle.sched_nodes.proofs.ClassLeaves.{class-within, leaf-leads, leaf-number}
+use Rattle.sched_nodes.proofs.RoomLaws.{flow-belongs, stations-reserved, values-reserved, room-reserved, room-made}
 use Rattle.sched_nodes.proofs.stations.Stations.reserve.Goals as goal
 
 pub reserve-requires : goal.reserve-requires

@@ -18,8 +18,8 @@ use Rattle.policy_core.specs.Numbering.{address_at}
 use Rattle.policy_core.proofs.Numbers.{address-undone, number-undone}
 use Rattle.sched_defs.specs.SourceState.{first_states, no_state}
 use Rattle.sched_nodes.specs.Kept.{part_at, arity, Keeps, IsStationOf, AreStations, HaveValues}
-use Rattle.sched_nodes.proofs.Parts.{some-is, some-and, part-is, part-known, node-of_part}
-use Rattle.sched_nodes.proofs.Topos.{arity-told, shape-there, few-children}
+use Rattle.sched_nodes.proofs.TreeParts.{some-is, some-and, part-is, part-known, node-of_part}
+use Rattle.sched_nodes.proofs.ChildCounts.{arity-told, shape-there, few-children}
 
 module _ (tree : Tree Node) (node : ℕ) (within : node < nodes tree) where
   abbrev here : Tree Node

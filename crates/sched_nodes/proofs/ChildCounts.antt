@@ -8,7 +8,7 @@ use Rattle.tree_core.specs.Shape.{topology}
 use Rattle.policy_defs.specs.Policy.{Node}
 use Rattle.policy_defs.specs.Accepted.{HasFewChildren, HaveFewChildren}
 use Rattle.sched_nodes.specs.Kept.{part_at, arity}
-use Rattle.sched_nodes.proofs.Parts.{some-is, part-is, part-known, later, later-cons}
+use Rattle.sched_nodes.proofs.TreeParts.{some-is, part-is, part-known, later, later-cons}
 
 abbrev pub shapes : List Topo → Trees (Unit {0})
 shapes ks = trees_of (map topology ks)

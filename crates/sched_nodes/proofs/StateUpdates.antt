@@ -14,7 +14,7 @@ use Rattle.policy_core.specs.Numbering.{address_at}
 use Rattle.policy_core.proofs.Numbers.{number-undone, address-undone}
 use Rattle.sched_defs.specs.Visits.{States, with_state}
 use Rattle.sched_nodes.specs.Kept.{part_at, Keeps, IsStationOf, AreStations, HaveValues, HasRoomAt}
-use Rattle.sched_nodes.proofs.Parts.{some-is, part-known}
+use Rattle.sched_nodes.proofs.TreeParts.{some-is, part-known}
 
 -- an item of a list with one replaced is that one, or stood there before
 pub set-cases : {X P : Type 0} (xs : List X) (k j : ℕ) (x y : X) → slice_get (slice_set xs k x) j ≡ Some y → (j ≡ k → y ≡ x → P) → (j ≢ k → slice_get xs j ≡ Some y → P) → P

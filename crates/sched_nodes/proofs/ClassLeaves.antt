@@ -14,7 +14,7 @@ use Rattle.policy_core.specs.Parts.{class_in}
 use Rattle.sched_defs.specs.SourceState.{class_of}
 use Rattle.sched_defs.proofs.Visits.{class_ready}
 use Rattle.sched_nodes.specs.Kept.{part_at, arity}
-use Rattle.sched_nodes.proofs.Parts.{part-known}
+use Rattle.sched_nodes.proofs.TreeParts.{part-known}
 
 record EndsAtLeaf {Q : Type 0} (part : Option (Tree Q)) : Type 0 where
   here : Q

@@ -11,7 +11,7 @@ use Rattle.sched_defs.specs.Sound.{IsSound}
 use Rattle.sched_defs.proofs.Leaving.{pop_size}
 use Rattle.sched_core.specs.Departures.{IsTaken}
 use Rattle.sched_core.specs.Own.{PopsNext}
-use Rattle.sched_core.proofs.Popped.{is_held, leaver-popped, departed-popped, taken}
+use Rattle.sched_core.proofs.PoppedPackets.{is_held, leaver-popped, departed-popped, taken}
 use Rattle.sched_embedded.specs.Laid.{Laid, PopsTo}
 
 module _ (policy : Policy) (s : SourceState) (sound : IsSound policy s) (l : Laid) (number : ℕ) (way : Way) (queues : Family) (p : PopsTo l s.tree number way queues) where

@@ -10,7 +10,7 @@ use Rattle.policy_core.specs.Parts.{told}
 use Rattle.policy_defs.specs.Policy.{Node, node_at}
 use Rattle.policy_defs.specs.Accepted.{IsAccepted, IsNodeReady, AreMarksInRange}
 use Rattle.sched_nodes.specs.Samples.{fair}
-use Rattle.sched_nodes.proofs.Parts.{some-is}
+use Rattle.sched_nodes.proofs.TreeParts.{some-is}
 
 shaped : IsShaped stfq
 shaped = search rules

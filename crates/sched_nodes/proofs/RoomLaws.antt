@@ -7,7 +7,7 @@ use Rattle.rank_defs.specs.declared.environment.FlowKey.{FlowKey}
 use Rattle.rank_defs.specs.declared.environment.Who.{Who}
 use Rattle.rank_defs.specs.declared.environment.Who.TheVariants.{Child, Flow}
 use Rattle.rank_defs.specs.States.{SameState}
-use Rattle.rank_defs.proofs.Same.{same-sym, same-trans, in_range-same}
+use Rattle.rank_defs.proofs.SameStates.{same-sym, same-trans, in_range-same}
 use Rattle.rank_core.specs.declared.node.NodeState.{NodeState}
 use Rattle.rank_core.specs.Node.{state_of, children_of, BelongsTo, HasRoom}
 use Rattle.policy_defs.specs.Policy.{Node}
@@ -16,9 +16,9 @@ use Rattle.policy_core.specs.Numbering.{address_at}
 use Rattle.policy_core.proofs.Numbers.{address-undone}
 use Rattle.sched_defs.specs.Visits.{States}
 use Rattle.sched_nodes.specs.Kept.{part_at, IsStationOf, AreStations, HaveValues, HasRoomAt}
-use Rattle.sched_nodes.proofs.Parts.{part-is}
-use Rattle.sched_nodes.proofs.Sets.{set-cases, stations-set, room-set}
-use Rattle.sched_nodes.proofs.Leaves.{leaf-arity}
+use Rattle.sched_nodes.proofs.TreeParts.{part-is}
+use Rattle.sched_nodes.proofs.StateUpdates.{set-cases, stations-set, room-set}
+use Rattle.sched_nodes.proofs.ClassLeaves.{leaf-arity}
 
 module _ (tree : Tree Node) (states : List NodeState) (k : ℕ) (x : NodeState) (within : k < nodes tree) (short : k < length states) (kept : AreStations tree states) (read : x ≡ get_or states k x) where
   held : slice_get states k ≡ Some x

@@ -14,7 +14,7 @@ use Rattle.sched_defs.specs.Sound.{IsKnown}
 use Rattle.sched_nodes.specs.declared.passage.Passage.{Passage}
 use Rattle.sched_nodes.specs.Kept.{part_at, HasRoomAt}
 use Rattle.sched_nodes.specs.Ways.{IsReady, IsOnTheWay, tree_for, class_for, part}
-use Rattle.sched_nodes.proofs.Parts.{root-part, part-known}
+use Rattle.sched_nodes.proofs.TreeParts.{root-part, part-known}
 
 root-address : {Q : Type 0} (t : Tree Q) → address_at t 0 ≡ []
 root-address (leaf q) = refl

@@ -1,5 +1,6 @@
 -- A step of one node on the way.
 use Rattle.std.proofs.Common.{◌≡◌, ◌≤◌, ℕ, List, [], ◌∷◌, ◌++◌, length, Some, sym, ap, ◌∙◌, subst, arith, get_or, append-nil}
+use Rattle.std.proofs.lemmas.Option.{slice_get-get_or}
 use Rattle.std.specs.Prelude.{◌↔◌, slice_get, slice_set, slice_index, IsSomeAnd}
 use Rattle.tree_defs.specs.Tree.{Address, IsAddressOf, subtree, root_of}
 use Rattle.rank_defs.specs.declared.environment.Env.{Env}
@@ -9,7 +10,7 @@ use Rattle.rank_defs.specs.Programs.{Program}
 use Rattle.rank_defs.specs.States.{State, SameState}
 use Rattle.rank_defs.specs.Shapes.{IsStateInRange}
 use Rattle.rank_defs.specs.Steps.{push_rank, after_push, after_pop}
-use Rattle.rank_defs.proofs.Same.{same-trans, push_step-same, after_push-same, after_pop-same}
+use Rattle.rank_defs.proofs.SameStates.{same-trans, push_step-same, after_push-same, after_pop-same}
 use Rattle.rank_core.specs.declared.node.NodeState.{NodeState}
 use Rattle.rank_core.specs.Node.{state_of, children_of, HasRoom}
 use Rattle.policy_defs.specs.Policy.{Marks, node_at}
@@ -20,14 +21,18 @@ use Rattle.sched_defs.specs.Visits.{States, Visit, rank_at, after_pushes, after_
 use Rattle.sched_nodes.specs.declared.passage.Passage.{Passage}
 use Rattle.sched_nodes.specs.Kept.{Keeps, IsStationOf, AreStations, HaveValues, HasRoomAt}
 use Rattle.sched_nodes.specs.Ways.{IsReady, IsOnTheWay, tree_for, class_for, place, part, who_on, marks_on, stop}
-use Rattle.sched_nodes.proofs.Parts.{some-and, part-is, part-down, node-of_part, next}
-use Rattle.sched_nodes.proofs.Sets.{stations-set, values-set, room-set}
+use Rattle.sched_nodes.proofs.TreeParts.{some-and, part-is, part-down, node-of_part, next}
+use Rattle.sched_nodes.proofs.StateUpdates.{stations-set, values-set, room-set}
 
 pub here : (e : Passage) (node : ℕ) (digits : List ℕ) → IsOnTheWay e node digits → subtree (tree_for e) (place e node) ≡ Some (part e node)
 here e node digits w = part-is (tree_for e) (place e node) (address-undone (tree_for e) node w.there).there
 
 pub node-here : (e : Passage) (node : ℕ) (digits : List ℕ) → IsOnTheWay e node digits → node_at (tree_for e) (place e node) ≡ Some (root_of (part e node))
 node-here e node digits w = node-of_part (tree_for e) (place e node) (part e node) (here e node digits w)
+
+-- a state is held at the node's number
+pub held-here : (e : Passage) (node : ℕ) (digits : List ℕ) → IsOnTheWay e node digits → (states : List NodeState) (x : NodeState) → AreStations (tree_for e) states → slice_get states node ≡ Some (get_or states node x)
+held-here e node digits w states x kept = slice_get-get_or states node x (omega (arith, w.there, kept.count))
 
 -- the child to which the way goes on stands in the tree
 pub there : (e : Passage) (node i : ℕ) (digits : List ℕ) → (w : IsOnTheWay e node (i ∷ digits)) → subtree (tree_for e) (place e node ++ i ∷ []) ≡ Some (next (part e node) i digits w.leads).child

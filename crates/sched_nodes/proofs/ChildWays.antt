@@ -10,9 +10,9 @@ use Rattle.policy_rules.proofs.Lists.{all-weaker}
 use Rattle.sched_defs.specs.Visits.{States, Visit, visits_from, visits_below, with_state, rank_at, ranks_pushed}
 use Rattle.sched_nodes.specs.declared.passage.Passage.{Passage}
 use Rattle.sched_nodes.specs.Ways.{IsOnTheWay, tree_for, class_for, place, part, stop, way}
-use Rattle.sched_nodes.proofs.Parts.{later, later-cons, part-known, next, ends}
-use Rattle.sched_nodes.proofs.Sets.{with-apart}
-use Rattle.sched_nodes.proofs.Stops.{there}
+use Rattle.sched_nodes.proofs.TreeParts.{later, later-cons, part-known, next, ends}
+use Rattle.sched_nodes.proofs.StateUpdates.{with-apart}
+use Rattle.sched_nodes.proofs.NodeSteps.{there}
 
 -- ---- the addresses on the way are no shorter than that where it begins
 abbrev pub IsNoShorter : Address → Visit → Type 0

@@ -17,10 +17,10 @@ use Rattle.embed_lift_defs.specs.GoodMaps.{IsGoodMap}
 use Rattle.embed_lift_defs.specs.Laws.{Maps, IsLiftedPop, PopsAsTheTree}
 use Rattle.embed_lift_defs.proofs.LawProofs.{lifts_are_one, pushes_of_lifts_are_lifts, pops_of_lifts_are_lifted_pops, maps_stay}
 use Rattle.embed_lift_defs.proofs.SpillsOfLifts.{spills_of_lifts}
-use Rattle.embed_lift_defs.proofs.Reading.{nodes_have_images_of_their_own, picked_ranks_are_those_lifted}
+use Rattle.embed_lift_defs.proofs.PathsReadBack.{nodes_have_images_of_their_own, picked_ranks_are_those_lifted}
 use Rattle.embed_core.specs.Picks.{IsLeafImage}
 use Rattle.sched_embedded.specs.Laid.{Laid, HoldsLift, PopsTo}
-use Rattle.sched_embedded.proofs.Shapes.{same_leaves}
+use Rattle.sched_embedded.proofs.MapShapes.{same_leaves}
 
 -- nothing is popped where the root's queue is empty
 nothing-along : (h : ℕ) (F : Family) → F [] ≡ [] → pop_along h F ≡ None
