@@ -6,7 +6,7 @@ use Rattle.sched_run.proofs.FrameLaws.{continues_then, keeps_then}
 use Rattle.events_core.specs.declared.step.Step.TheVariants.{Arrive}
 use Rattle.sched_run.proofs.StepLaws.{if_ok_turned, on_err_given}
 use Rattle.sched_run.proofs.CourseLaws.{run_none, run_over, run_halts, run_goes, run_ends, run_stops, run_ready, run_room}
-use Rattle.sched_run.proofs.course.Run.play_steps.Goals as goal
+use Rattle.sched_run.proofs.run.Run.play_steps.Goals as goal
 
 pub loop-step-init : goal.loop-step-init
 loop-step-init g c = record {

@@ -5,7 +5,7 @@ use Rattle.sched_run.proofs.FrameLaws.{continues_then, keeps_then}
 use Rattle.sched_defs.specs.Events.{Arrive}
 use Rattle.sched_defs.proofs.Runs.{departures_in-arrivals}
 use Rattle.sched_run.proofs.PacketsInTurn.{some_is, none_is, one_after, room_after, arrives_none, arrives_more, arrives_end, arrivals_stop}
-use Rattle.sched_run.proofs.arrivals.Run.arrive_some.Goals as goal
+use Rattle.sched_run.proofs.run.Run.arrive_some.Goals as goal
 
 pub loop-sent-init : goal.loop-sent-init
 loop-sent-init g c = record {

@@ -5,7 +5,7 @@ use Rattle.sched_defs.specs.Events.{Depart}
 use Rattle.sched_core.specs.Standing.{ForEachState}
 use Rattle.sched_run.specs.Frames.{Continues}
 use Rattle.sched_run.specs.Played.{Plays}
-use Rattle.sched_run.proofs.lines.Run.depart_lines.Given as goal
+use Rattle.sched_run.proofs.run.Run.depart_lines.Given as goal
 
 abbrev pub invariant-loop-done : goal.invariant-loop-done
 invariant-loop-done g l =

@@ -1,9 +1,9 @@
 use Rattle.std.proofs.Common.{refl, arith}
 use Rattle.std.proofs.lemmas.Result.{err_from_is_err_and}
 use Rattle.sched_run.proofs.ReportLaws.{Fitting, fitting, runs_told, breaks_told, breaks_amid}
-use Rattle.sched_run.proofs.course.Run.play.Given.{Over}
-use Rattle.sched_run.proofs.course.Run.play.Goals.{After-held-held}
-use Rattle.sched_run.proofs.course.Run.play.Goals as goal
+use Rattle.sched_run.proofs.run.Run.play.Given.{Over}
+use Rattle.sched_run.proofs.run.Run.play.Goals.{After-held-held}
+use Rattle.sched_run.proofs.run.Run.play.Goals as goal
 
 pub returns-in_err-ending-clause-err : goal.returns-in_err-ending-clause-err
 returns-in_err-ending-clause-err g c =

@@ -9,7 +9,7 @@ use Rattle.sched_defs.specs.SourceState.{class_of}
 use Rattle.sched_defs.specs.Events.{Arrive}
 use Rattle.sched_run.proofs.JoinedEvents.{cut_unwritten, made_arrival, made_all, made_some_none}
 use Rattle.sched_run.proofs.LineLaws.{arrives, arrival_few, named_leaf, lines_arrived}
-use Rattle.sched_run.proofs.lines.Run.arrive_line.Goals as goal
+use Rattle.sched_run.proofs.run.Run.arrive_line.Goals as goal
 
 pub returns-in_err-leaf-clause-err : goal.returns-in_err-leaf-clause-err
 returns-in_err-leaf-clause-err g c =

@@ -1,17 +1,17 @@
-use Rattle.std.proofs.Common.{◌≡◌, ◌≤◌, ◌+◌, ◌-◌, ℕ, IsTrue, None}
+use Rattle.std.proofs.Common.{◌≡◌, ◌≤◌, ◌+◌, IsTrue, None}
 use Rattle.outside_core.specs.Kept.{KeepsSink}
 use Rattle.sched_run.specs.Stages.{stage_of}
 use Rattle.sched_run.specs.Frames.{Continues, KeepsPackets, IsFurther}
 use Rattle.sched_run.specs.Turns.{Arrives}
-use Rattle.sched_run.proofs.arrivals.Run.arrive_rest.Given as goal
+use Rattle.sched_run.proofs.run.Run.arrive_some.Given as goal
 
-abbrev pub invariant-loop-ending : goal.invariant-loop-ending
-invariant-loop-ending g l =
+abbrev pub invariant-loop-sent : goal.invariant-loop-sent
+invariant-loop-sent g l =
     let S = g.C.Scheduler in
     let P = g.P.Packets in
     let written = g.K.Sink.written in
     record {
-      arrives : (n : ℕ) × Arrives S (S.policy l.fn.self.scheduler) n None (P.left l.fn.packets l.fn.source) (P.left l.packets l.source)
+      arrives : Arrives S (S.policy l.fn.self.scheduler) l._sent None (P.left l.fn.packets l.fn.source) (P.left l.packets l.source)
           (stage_of l.fn.self l.fn.under (written l.fn.sink) (P.given l.fn.packets))
           (stage_of l.self l.under (written l.sink) (P.given l.packets));
       further : IsFurther P l.fn.packets l.packets l.source l.fn.self.tally l.self.tally;
@@ -20,6 +20,3 @@ invariant-loop-ending g l =
       kept_packets : KeepsPackets P l.fn.packets l.packets l.fn.source l.source;
       live : IsTrue l.self.report.live;
     }
-
-abbrev pub decreases-loop-ending : goal.decreases-loop-ending
-decreases-loop-ending g l = 4294967296 - g.P.Packets.given l.packets

@@ -6,7 +6,7 @@ use Rattle.sched_defs.specs.Events.{Arrive}
 use Rattle.sched_defs.proofs.Runs.{arrivals_in-arrivals, departures_in-arrivals}
 use Rattle.sched_run.proofs.PacketsInTurn.{fewer_left, one_after, room_after, arrives_none, arrives_more, arrives_end, arrivals_stop}
 use Rattle.sched_run.proofs.StepLaws.{rest_done, rest_stops}
-use Rattle.sched_run.proofs.arrivals.Run.arrive_rest.Goals as goal
+use Rattle.sched_run.proofs.run.Run.arrive_rest.Goals as goal
 
 pub loop-ending-init : goal.loop-ending-init
 loop-ending-init g c = record {

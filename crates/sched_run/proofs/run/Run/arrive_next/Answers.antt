@@ -4,7 +4,7 @@ use Rattle.policy_defs.specs.Policy.{Policy}
 use Rattle.sched_defs.specs.Numbered.{IsSendable}
 use Rattle.sched_run.proofs.MadeEvents.{makes_none, stops_here}
 use Rattle.sched_run.proofs.PacketsInTurn.{none_first, one_first}
-use Rattle.sched_run.proofs.arrivals.Run.arrive_next.Goals as goal
+use Rattle.sched_run.proofs.run.Run.arrive_next.Goals as goal
 
 pub returns-in_err-arrive_line-in-Ok-Some-clause-err :
     goal.returns-in_err-arrive_line-in-Ok-Some-clause-err

@@ -1,7 +1,7 @@
 use Rattle.std.proofs.Common.{refl}
 use Rattle.std.proofs.lemmas.Result.{err_from_is_err_and}
 use Rattle.sched_run.proofs.MadeEvents.{makes_departures, stops_departures}
-use Rattle.sched_run.proofs.steps.Run.depart_some.Goals as goal
+use Rattle.sched_run.proofs.run.Run.depart_some.Goals as goal
 
 pub returns-clause-ok : goal.returns-clause-ok
 returns-clause-ok g c given =

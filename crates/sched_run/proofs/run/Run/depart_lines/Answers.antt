@@ -12,7 +12,7 @@ use Rattle.sched_defs.specs.Events.{Depart, after, outcome}
 use Rattle.sched_defs.specs.Report.{outcome_line}
 use Rattle.sched_defs.proofs.Runs.{sound_departures, departures_in-departures}
 use Rattle.sched_run.proofs.JoinedEvents.{made_departure, depart_next, depart_cut, each_state}
-use Rattle.sched_run.proofs.lines.Run.depart_lines.Goals as goal
+use Rattle.sched_run.proofs.run.Run.depart_lines.Goals as goal
 
 pub depart_line-requires-clause-accepted : goal.depart_line-requires-clause-accepted
 depart_line-requires-clause-accepted g c = subst IsAccepted (sym c.loop-done.invariant.kept.policy) c.requires.set.accepted
