@@ -3,7 +3,7 @@ use Rattle.std.proofs.Common.{ℕ, zero, suc, ◌≤◌, List, [], ◌∷◌, le
 use Rattle.std.specs.List.{AllByRecursion}
 use Rattle.std.proofs.lemmas.List.{length-replicate}
 use Rattle.toml.specs.Data.{Items, no_items, item, Members}
-use Rattle.target_defs.specs.Target.{IsArity, least_arity, most_arity, most_levels}
+use Rattle.target_defs.specs.Target.{IsArity, least_arity, most_arity, most_height}
 use Rattle.target_core.specs.Laws.{AcceptedTargetsAreInRange}
 use Rattle.target_core.specs.TargetText.{AreArities, first_arity, GivesArities, one_arity, each_arity}
 
@@ -21,7 +21,7 @@ pub narrow_target : (t : Members) (ns : List ℕ) (a : ℕ) → GivesArities t n
 narrow_target t ns a (one_arity d h k p q) = narrow_replicate h d p.least p.most
 narrow_target t ns a (each_arity ds ns' k p q f) = narrow_items ds ns' q
 
-short_target : (t : Members) (ns : List ℕ) (a : ℕ) → GivesArities t ns a → length ns ≤ most_levels
+short_target : (t : Members) (ns : List ℕ) (a : ℕ) → GivesArities t ns a → length ns ≤ most_height
 short_target t ns a (one_arity d h k p q) = omega (arith, length-replicate h d, q.most)
 short_target t ns a (each_arity ds ns' k p q f) = f
 

@@ -2,7 +2,7 @@
 use Rattle.std.specs.Prelude.{◌≡◌, ℕ, suc, ◌≤◌, ◌<◌, pos, List, [], ◌∷◌, length, replicate, Some, codes, IsUtf8}
 use Rattle.toml.specs.Data.{integer, array, Items, no_items, item, Members, no_members, member, get_member}
 use Rattle.toml.specs.Parse.{parse_document}
-use Rattle.target_defs.specs.Target.{leaves, least_arity, most_arity, most_levels, most_leaves}
+use Rattle.target_defs.specs.Target.{leaves, least_arity, most_arity, most_height, most_leaves}
 use Rattle.target_core.specs.declared.fault.TargetFault.TheVariants.{NotToml, Key, Large, TooLong}
 use Rattle.target_core.specs.Codes.{code_of}
 
@@ -39,8 +39,8 @@ first_arity (n ∷ ns) = n
 
 -- the arities from the root down that the table gives, and that of all levels above the root
 pub data GivesArities (table : Members) : List ℕ → ℕ → Type 0 where
-  one_arity : (arity height : ℕ) → keys table ≡ 2 → HasNumber table (codes "arity") least_arity most_arity arity → HasNumber table (codes "height") 0 most_levels height → GivesArities table (replicate height arity) arity
-  each_arity : (items : Items) (arities : List ℕ) → keys table ≡ 1 → get_member (codes "arities") table ≡ Some (array items) → AreArities items arities → length arities ≤ most_levels → GivesArities table arities (first_arity arities)
+  one_arity : (arity height : ℕ) → keys table ≡ 2 → HasNumber table (codes "arity") least_arity most_arity arity → HasNumber table (codes "height") 0 most_height height → GivesArities table (replicate height arity) arity
+  each_arity : (items : Items) (arities : List ℕ) → keys table ≡ 1 → get_member (codes "arities") table ≡ Some (array items) → AreArities items arities → length arities ≤ most_height → GivesArities table arities (first_arity arities)
 
 -- the text is accepted, with these arities from the root down and this one above them
 pub record IsTargetText (bytes : List ℕ) (arities : List ℕ) (above : ℕ) : Type 0 where

@@ -11,8 +11,8 @@ use list_core::List;
 use std::alloc::Global;
 use toml::{Table, Value};
 
-/// The most levels of a target.
-const MOST_LEVELS: usize = 16;
+/// The greatest height of a target, in levels.
+const MOST_HEIGHT: usize = 16;
 
 /// The fewest children of a node.
 const LEAST_ARITY: u32 = 2;
@@ -52,7 +52,7 @@ fn each_arity(alloc: Global, table: &Table) -> Result<Target, TargetFault>
     ensures refused { IfErr result (λ fault. fault ≢ TargetFault.NoMemory → IsKeyFault fault (table_view table.now)) }
 {
     let items = array_at(table, "arities").ok_or(TargetFault::Key)?;
-    if items.len() > MOST_LEVELS {
+    if items.len() > MOST_HEIGHT {
         return Err(TargetFault::Key);
     }
     let arities = arities_of(alloc, items)?;
@@ -67,7 +67,7 @@ fn one_arity(alloc: Global, table: &Table) -> Result<Target, TargetFault>
     ensures refused { IfErr result (λ fault. fault ≢ TargetFault.NoMemory → IsKeyFault fault (table_view table.now)) }
 {
     let arity = number_at(table, "arity", LEAST_ARITY, MOST_ARITY).ok_or(TargetFault::Key)?;
-    let height = number_at(table, "height", 0, MOST_LEVELS as u32).ok_or(TargetFault::Key)?;
+    let height = number_at(table, "height", 0, MOST_HEIGHT as u32).ok_or(TargetFault::Key)?;
     let arities = vec![in alloc; arity; height as usize]?;
     Ok(Target {
         arities: List::from_vec(arities),

@@ -7,9 +7,9 @@ abbrev pub leaves : List ℕ → ℕ
 leaves [] = 1
 leaves (d ∷ arities) = d * leaves arities
 
--- the most levels of a target
-abbrev pub most_levels : ℕ
-most_levels = 16
+-- the greatest height of a target, in levels
+abbrev pub most_height : ℕ
+most_height = 16
 
 -- the fewest children of a node, and the most
 abbrev pub least_arity : ℕ
@@ -27,7 +27,7 @@ IsArity d = (least_arity ≤ d) × (d ≤ most_arity)
 
 -- arities that a target may have: at most 16 levels, each of 2 to 64 children, and at most 65,536 leaves in all
 pub record IsTarget (arities : List ℕ) : Type 0 where
-  pub levels : length arities ≤ most_levels
+  pub levels : length arities ≤ most_height
   pub narrow : AllByRecursion IsArity arities
   pub few : leaves arities ≤ most_leaves
 

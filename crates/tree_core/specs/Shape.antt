@@ -1,14 +1,9 @@
 -- The topology that a `Topo` stands for.
-use Rattle.std.specs.Prelude.{ℕ}
 use Rattle.tree_defs.specs.Tree.{leaf, inner, trees_of}
 use Rattle.tree_defs.specs.Topology.{Topology}
 use Rattle.tree_core.specs.declared.topo.Topo.{Topo}
 use Rattle.tree_core.specs.declared.topo.Topo.TheOpen.{Topo-F, Leaf, Inner}
 use Rattle.tree_core.specs.declared.topo.Topo.TheFolds.{fold-Topo}
-
--- the most levels below a root: each is a call within a call
-abbrev pub max_levels : ℕ
-max_levels = 64
 
 -- one node, with the topology of each child in its place
 abbrev pub topology_step : Topo-F Topology → Topology

@@ -1,7 +1,7 @@
 //! The shape of a tree.
 ghost use Rattle.std.specs.Prelude.{◌≡◌, ◌≤◌, map};
-ghost use Rattle.tree_defs.specs.Tree.{leaf, inner, trees_of, depth as levels};
-ghost use Rattle.tree_core.specs.Shape.{topology, max_levels};
+ghost use Rattle.tree_defs.specs.Tree.{leaf, inner, trees_of, depth as levels, most_levels};
+ghost use Rattle.tree_core.specs.Shape.{topology};
 
 /// A leaf, or an inner node with its children in order.
 #[derive(Drop)]
@@ -27,7 +27,7 @@ impl Topo {
 
 /// How many levels lie below the root: at most 64, since each level is a call within a call.
 pub fn depth(topo: &Topo) -> u32
-    requires levels { levels (topology topo.now) ≤ max_levels }
+    requires levels { levels (topology topo.now) ≤ most_levels }
     ensures levels { result ≡ levels (topology topo.now) }
 {
     match topo {

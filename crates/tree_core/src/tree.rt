@@ -1,10 +1,10 @@
 //! A source tree: a queue at each node, and children.
 ghost use Rattle.std.specs.Prelude.{◌≡◌, ◌+◌, ◌^◌, ◌<◌, ◌≤◌, ◌↔◌, length, OnOk, IsNone, IfNone, IfSome, IfOk};
-ghost use Rattle.tree_defs.specs.Tree.{LeadsToLeaf, depth};
+ghost use Rattle.tree_defs.specs.Tree.{LeadsToLeaf, depth, most_levels};
 ghost use Rattle.tree_defs.specs.Topology.{IsBranched};
 ghost use Rattle.tree_defs.specs.SourceTree.{push, pop, IsWellFormed, size, empty_tree};
 ghost use Rattle.tree_core.specs.Paths.{digits, ranks, digits_of, ranks_of};
-ghost use Rattle.tree_core.specs.Shape.{topology, max_levels};
+ghost use Rattle.tree_core.specs.Shape.{topology};
 ghost use Rattle.tree_core.specs.Places.{HasRoom, HasNoFewer, without_places};
 ghost use Rattle.tree_core.specs.TreeContents.{PopsOnto, PopsTo};
 
@@ -45,7 +45,7 @@ impl SourceTree {
     /// The tree of a topology of at most 64 levels, since each level is a call within a call, with all queues empty. The error
     /// is want of memory.
     pub fn new(alloc: Global, topo: &Topo) -> Result<SourceTree, AllocError>
-        requires levels { depth (topology topo.now) ≤ max_levels }
+        requires levels { depth (topology topo.now) ≤ most_levels }
         requires branched { IsBranched (topology topo.now) }
         ensures tree { IfOk result (λ t. t.tree ≡ empty_tree (topology topo.now)) }
         ensures pushes { IfOk result (λ t. t.pushes ≡ 0) }
