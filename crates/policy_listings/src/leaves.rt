@@ -1,11 +1,11 @@
 //! The leaf of each class, and the class for all packets.
-ghost use Rattle.std.specs.Prelude.{◌≡◌, ℕ, List, true, MatchOption, OnOk, IfErr};
+ghost use Rattle.std.specs.Prelude.{◌≡◌, List, true, OnOk, IfErr};
 ghost use Rattle.policy_text_defs.specs.Sense.{sense_of};
 ghost use Rattle.policy_rules.specs.Entries.{entries_of, AreRising};
-ghost use Rattle.policy_rules.specs.Names.{listed, leaf_classes};
-ghost use Rattle.policy_rules.specs.Clauses.{IsLeastLine, NoLine, IsStray, is_stray, has_catch_all};
+ghost use Rattle.policy_rules.specs.Names.{Name, listed, leaf_classes};
+ghost use Rattle.policy_rules.specs.Clauses.{IsFirst, NoLine, IsStray, is_stray, has_catch_all};
 ghost use Rattle.policy_rules.specs.Accepted.{AreShallow, IsFault};
-ghost use Rattle.policy_names.specs.Names.{IsTally};
+ghost use Rattle.policy_names.specs.Names.{IsTallyOf};
 
 use crate::tallies::tally_classes;
 use policy_names::Tally;
@@ -15,7 +15,7 @@ use std::alloc::Global;
 
 /// Whether a statement declares a class that isn't listed once.
 fn is_stray(tally: &Tally, statement: &Statement) -> bool
-    ensures { (all : List (List ℕ)) → IsTally tally.now.seen tally.now.again all → result ≡ is_stray all (sense_of statement.now) }
+    ensures { (all : List Name) → IsTallyOf tally.now all → result ≡ is_stray all (sense_of statement.now) }
 {
     match statement {
         Statement::Class(name, _, _) => !tally.is_once(name.as_str()),
@@ -26,8 +26,8 @@ fn is_stray(tally: &Tally, statement: &Statement) -> bool
 /// The first line whose class isn't listed once.
 fn first_stray(lines: &[(u32, Statement)], tally: &Tally) -> Option<u32>
     requires rising { AreRising (entries_of lines.now) }
-    requires tally { IsTally tally.now.seen tally.now.again (listed leaf_classes (entries_of lines.now)) }
-    ensures first { MatchOption result (NoLine (IsStray (entries_of lines.now)) (entries_of lines.now)) (IsLeastLine (IsStray (entries_of lines.now)) (entries_of lines.now)) }
+    requires tally { IsTallyOf tally.now (listed leaf_classes (entries_of lines.now)) }
+    ensures first { IsFirst (IsStray (entries_of lines.now)) (entries_of lines.now) result }
 {
     for (line, statement) in lines {
         if is_stray(tally, statement) {

@@ -1,4 +1,5 @@
-//! What an accepted policy lists: the children of its nodes, and the classes of its leaves.
+//! What an accepted policy lists: the children of its nodes, and the classes of its leaves. Begin with
+//! specs/Statements.antt.
 #![tactic(auto)]
 
 mod leaves;

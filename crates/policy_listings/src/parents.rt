@@ -1,11 +1,11 @@
 //! The parent of each node and leaf, and the root.
-ghost use Rattle.std.specs.Prelude.{◌≡◌, ℕ, List, true, MatchOption, OnOk, IfErr};
+ghost use Rattle.std.specs.Prelude.{◌≡◌, List, true, OnOk, IfErr};
 ghost use Rattle.policy_text_defs.specs.Sense.{sense_of};
 ghost use Rattle.policy_rules.specs.Entries.{entries_of, AreRising};
-ghost use Rattle.policy_rules.specs.Names.{listed, children};
-ghost use Rattle.policy_rules.specs.Clauses.{IsLeastLine, NoLine, IsOrphan, is_orphan, has_root};
+ghost use Rattle.policy_rules.specs.Names.{Name, listed, children};
+ghost use Rattle.policy_rules.specs.Clauses.{IsFirst, NoLine, IsOrphan, is_orphan, has_root};
 ghost use Rattle.policy_rules.specs.Accepted.{AreComputable, IsFault};
-ghost use Rattle.policy_names.specs.Names.{IsTally};
+ghost use Rattle.policy_names.specs.Names.{IsTallyOf};
 ghost use Rattle.policy_listings.specs.Statements.{is_root};
 
 use crate::tallies::tally_children;
@@ -16,7 +16,7 @@ use std::alloc::Global;
 
 /// Whether a statement declares a node or leaf that isn't the root and isn't listed once.
 fn is_orphan(tally: &Tally, statement: &Statement) -> bool
-    ensures { (all : List (List ℕ)) → IsTally tally.now.seen tally.now.again all → result ≡ is_orphan all (sense_of statement.now) }
+    ensures { (all : List Name) → IsTallyOf tally.now all → result ≡ is_orphan all (sense_of statement.now) }
 {
     match statement {
         Statement::Leaf(name, _, _, _) | Statement::Node(name, _, _, _) => {
@@ -29,8 +29,8 @@ fn is_orphan(tally: &Tally, statement: &Statement) -> bool
 /// The first line whose node or leaf isn't the root and isn't listed once.
 fn first_orphan(lines: &[(u32, Statement)], tally: &Tally) -> Option<u32>
     requires rising { AreRising (entries_of lines.now) }
-    requires tally { IsTally tally.now.seen tally.now.again (listed children (entries_of lines.now)) }
-    ensures first { MatchOption result (NoLine (IsOrphan (entries_of lines.now)) (entries_of lines.now)) (IsLeastLine (IsOrphan (entries_of lines.now)) (entries_of lines.now)) }
+    requires tally { IsTallyOf tally.now (listed children (entries_of lines.now)) }
+    ensures first { IsFirst (IsOrphan (entries_of lines.now)) (entries_of lines.now) result }
 {
     for (line, statement) in lines {
         if is_orphan(tally, statement) {

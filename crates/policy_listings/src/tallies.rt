@@ -1,8 +1,8 @@
 //! How often names are listed.
-ghost use Rattle.std.specs.Prelude.{ℕ, List, ◌++◌, OnOk, IfOk};
+ghost use Rattle.std.specs.Prelude.{List, ◌++◌, OnOk, IfOk};
 ghost use Rattle.policy_rules.specs.Entries.{entries_of};
-ghost use Rattle.policy_rules.specs.Names.{listed, children, leaf_classes};
-ghost use Rattle.policy_names.specs.Names.{IsTally};
+ghost use Rattle.policy_rules.specs.Names.{Name as Bytes, listed, children, leaf_classes};
+ghost use Rattle.policy_names.specs.Names.{IsTallyOf};
 
 use list_core::Name;
 use policy_names::Tally;
@@ -11,7 +11,7 @@ use std::alloc::{AllocError, Global};
 
 /// Counts the names of one list. The error is want of memory.
 fn tally_names<'a>(tally: &mut Tally<'a>, names: &'a [Name]) -> Result<(), AllocError>
-    ensures more { (all : List (List ℕ)) → IsTally tally.old.seen tally.old.again all → OnOk result (IsTally tally.new.seen tally.new.again (all ++ names.entry.now)) }
+    ensures more { (all : List Bytes) → IsTallyOf tally.old all → OnOk result (IsTallyOf tally.new (all ++ names.entry.now)) }
 {
     for name in names {
         tally.add(name.as_str())?;
@@ -24,7 +24,7 @@ pub fn tally_children<'a>(
     alloc: Global,
     lines: &'a [(u32, Statement)],
 ) -> Result<Tally<'a>, AllocError>
-    ensures tally { IfOk result (λ t. IsTally t.seen t.again (listed children (entries_of lines.entry.now))) }
+    ensures tally { IfOk result (λ t. IsTallyOf t (listed children (entries_of lines.entry.now))) }
 {
     let mut tally = Tally::new(alloc);
     for (_, statement) in lines {
@@ -40,7 +40,7 @@ pub fn tally_classes<'a>(
     alloc: Global,
     lines: &'a [(u32, Statement)],
 ) -> Result<Tally<'a>, AllocError>
-    ensures tally { IfOk result (λ t. IsTally t.seen t.again (listed leaf_classes (entries_of lines.entry.now))) }
+    ensures tally { IfOk result (λ t. IsTallyOf t (listed leaf_classes (entries_of lines.entry.now))) }
 {
     let mut tally = Tally::new(alloc);
     for (_, statement) in lines {

@@ -1,7 +1,7 @@
 //! Which names came, and which came again.
-ghost use Rattle.std.specs.Prelude.{◌≡◌, ◌∷◌, ◌++◌, [], ℕ, List, OnOk, OnErr};
-ghost use Rattle.policy_rules.specs.Names.{is_once};
-ghost use Rattle.policy_names.specs.Names.{IsTally};
+ghost use Rattle.std.specs.Prelude.{◌≡◌, ◌∷◌, ◌++◌, [], List, OnOk, OnErr};
+ghost use Rattle.policy_rules.specs.Names.{Name as Bytes, is_once};
+ghost use Rattle.policy_names.specs.Names.{IsTallyOf};
 
 use crate::names::Names;
 use std::alloc::{AllocError, Global};
@@ -15,7 +15,7 @@ pub struct Tally<'a> {
 
 impl<'a> Tally<'a> {
     pub fn new(alloc: Global) -> Tally<'a>
-        ensures { IsTally result.seen result.again [] }
+        ensures { IsTallyOf result [] }
     {
         Tally {
             seen: Names::new(alloc),
@@ -25,7 +25,7 @@ impl<'a> Tally<'a> {
 
     /// One more name came. The error is want of memory, and leaves what came before.
     pub fn add(&mut self, name: &'a str) -> Result<(), AllocError>
-        ensures tally { (all : List (List ℕ)) → IsTally self.old.seen self.old.again all → OnOk result (IsTally self.new.seen self.new.again (all ++ name.entry.now ∷ [])) }
+        ensures tally { (all : List Bytes) → IsTallyOf self.old all → OnOk result (IsTallyOf self.new (all ++ name.entry.now ∷ [])) }
         ensures seen { OnErr result (self.new.seen ≡ self.old.seen) }
         ensures again { OnErr result (self.new.again ≡ self.old.again) }
     {
@@ -37,7 +37,7 @@ impl<'a> Tally<'a> {
 
     /// Whether the name came exactly once.
     pub fn is_once(&self, name: &str) -> bool
-        ensures { (all : List (List ℕ)) → IsTally self.now.seen self.now.again all → result ≡ is_once all name.now }
+        ensures { (all : List Bytes) → IsTallyOf self.now all → result ≡ is_once all name.now }
     {
         self.seen.contains(name) && !self.again.contains(name)
     }
