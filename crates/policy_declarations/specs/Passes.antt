@@ -1,13 +1,8 @@
 -- Passes over statements that look for the first at fault.
-use Rattle.std.specs.Prelude.{ℕ, Bool, IsTrue, Option, List, take, MatchOption}
+use Rattle.std.specs.Prelude.{ℕ, Bool, IsTrue, List, take}
 use Rattle.std.specs.List.{AllWithin}
 use Rattle.policy_text_defs.specs.Sense.{Sense, Entry}
 use Rattle.policy_rules.specs.Names.{before}
-use Rattle.policy_rules.specs.Clauses.{IsLeastLine, NoLine}
-
--- the least line at fault, where there is one
-abbrev pub IsFirst : (Entry → Type 0) → List Entry → Option ℕ → Type 0
-IsFirst Fails entries found = MatchOption found (NoLine Fails entries) (IsLeastLine Fails entries)
 
 -- a statement fails a test that those on earlier lines decide
 abbrev pub Fails : (List Entry → Sense → Bool) → List Entry → Entry → Type 0

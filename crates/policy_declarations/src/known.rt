@@ -5,9 +5,8 @@ ghost use Rattle.std.specs.Str.{bytes_eq};
 ghost use Rattle.policy_text_defs.specs.Phrase.{phrase_of};
 ghost use Rattle.policy_text_defs.specs.Sense.{Entry, sense_of};
 ghost use Rattle.policy_rules.specs.Names.{has};
-ghost use Rattle.policy_rules.specs.Clauses.{IsUnknown, is_known, are_operands_known, is_transaction_known};
+ghost use Rattle.policy_rules.specs.Clauses.{IsFirst, IsUnknown, is_known, are_operands_known, is_transaction_known};
 ghost use Rattle.policy_rules.specs.Entries.{entries_of, AreRising};
-ghost use Rattle.policy_declarations.specs.Passes.{IsFirst};
 ghost use Rattle.policy_declarations.specs.Kept.{AreSpaces, AreVariables};
 
 use crate::spaces::Spaces;
@@ -62,7 +61,8 @@ fn is_transaction_known(spaces: &Spaces, name: &str) -> bool
 
 /// Whether all names that a statement uses are declared.
 fn is_known(spaces: &Spaces, variables: &Names, statement: &Statement) -> bool
-    ensures { (entries earlier : List Entry) → AreSpaces entries spaces.now → AreVariables earlier variables.now → result ≡ is_known entries earlier (sense_of statement.now) }
+    ensures { (entries earlier : List Entry) → AreSpaces entries spaces.now → AreVariables earlier variables.now
+        → result ≡ is_known entries earlier (sense_of statement.now) }
 {
     match statement {
         Statement::Push(name, value) => {

@@ -1,5 +1,5 @@
 //! The names that a policy's statements declare, where each statement stands where it may, no name is declared twice or
-//! unknown, and no statement is one too many.
+//! unknown, and no statement is one too many. Begin with specs/Kept.antt.
 #![tactic(auto)]
 
 mod clauses;

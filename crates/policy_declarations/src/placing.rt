@@ -1,9 +1,8 @@
 //! Which statement may follow which.
 ghost use Rattle.std.specs.Prelude.{◌≡◌, option_map};
 ghost use Rattle.policy_text_defs.specs.Sense.{sense_of};
-ghost use Rattle.policy_rules.specs.Clauses.{IsMisplaced};
+ghost use Rattle.policy_rules.specs.Clauses.{IsFirst, IsMisplaced};
 ghost use Rattle.policy_rules.specs.Entries.{entries_of, AreRising};
-ghost use Rattle.policy_declarations.specs.Passes.{IsFirst};
 ghost use Rattle.policy_declarations.specs.Kept.{is_placed_behind};
 
 use policy_text_defs::Statement;

@@ -1,10 +1,9 @@
 //! How many transactions, classes and nodes a policy has room for.
-ghost use Rattle.std.specs.Prelude.{◌≡◌, ◌+◌, ◌∷◌, ◌++◌, [], ℕ, List, true, not, ◌==◌};
-ghost use Rattle.policy_text_defs.specs.Sense.{Entry, entry, sense_of};
-ghost use Rattle.policy_rules.specs.Clauses.{IsBeyond, is_beyond};
+ghost use Rattle.std.specs.Prelude.{◌≡◌, ◌+◌, [], List, true, not, ◌==◌};
+ghost use Rattle.policy_text_defs.specs.Sense.{Entry, sense_of};
+ghost use Rattle.policy_rules.specs.Clauses.{IsFirst, IsBeyond, is_beyond};
 ghost use Rattle.policy_rules.specs.Entries.{entries_of, AreRising};
-ghost use Rattle.policy_declarations.specs.Passes.{IsFirst};
-ghost use Rattle.policy_declarations.specs.Kept.{IsRoom};
+ghost use Rattle.policy_declarations.specs.Kept.{IsRoom, IsRoomAfter};
 
 use policy_text_defs::Statement;
 
@@ -57,7 +56,7 @@ impl Room {
     /// Gives a statement its room. False where there is none.
     fn admit(&mut self, statement: &Statement) -> bool
         ensures beyond { (earlier : List Entry) → IsRoom earlier self.old → not result ≡ is_beyond earlier (sense_of statement.now) }
-        ensures room { (earlier : List Entry) (line : ℕ) → IsRoom earlier self.old → result ≡ true → IsRoom (earlier ++ entry line (sense_of statement.now) ∷ []) self.new }
+        ensures room { result ≡ true → IsRoomAfter self.old (sense_of statement.now) self.new }
     {
         match statement {
             Statement::Version(_) => true,

@@ -1,11 +1,11 @@
 //! The spaces of names, in which each name is declared once.
-ghost use Rattle.std.specs.Prelude.{◌≡◌, ◌≤◌, ℕ, List, ◌∷◌, ◌++◌, [], false, IfOk, OnOk, IfErr};
-ghost use Rattle.policy_text_defs.specs.Sense.{Entry, entry, sense_of};
+ghost use Rattle.std.specs.Prelude.{◌≡◌, ◌≤◌, List, [], IfOk, OnOk, IfErr};
+ghost use Rattle.policy_text_defs.specs.Sense.{Entry, sense_of};
 ghost use Rattle.policy_rules.specs.Accepted.{ArePlaced, AreNew, IsFault};
 ghost use Rattle.policy_rules.specs.Clauses.{is_declared};
 ghost use Rattle.policy_rules.specs.Codes.{code_of};
 ghost use Rattle.policy_rules.specs.Entries.{entries_of, AreRising};
-ghost use Rattle.policy_declarations.specs.Kept.{AreSpaces, AreVariables};
+ghost use Rattle.policy_declarations.specs.Kept.{AreSpaces, AreSpacesAfter, AreVariables};
 
 use crate::variables::variables_after;
 use crate::words::is_builtin;
@@ -35,7 +35,8 @@ impl<'a> Spaces<'a> {
 
     /// Whether the statement's name is taken.
     fn is_declared(&self, variables: &Names, statement: &Statement) -> bool
-        ensures { (earlier : List Entry) → AreSpaces earlier self.now → AreVariables earlier variables.now → result ≡ is_declared earlier (sense_of statement.now) }
+        ensures { (earlier : List Entry) → AreSpaces earlier self.now → AreVariables earlier variables.now
+            → result ≡ is_declared earlier (sense_of statement.now) }
     {
         match statement {
             Statement::Version(_) | Statement::Push(..) | Statement::Pop(..) => false,
@@ -54,7 +55,7 @@ impl<'a> Spaces<'a> {
 
     /// Adds the name of a statement whose name isn't taken.
     fn add(&mut self, statement: &'a Statement) -> Result<(), AllocError>
-        ensures { (earlier : List Entry) (line : ℕ) → AreSpaces earlier self.old → is_declared earlier (sense_of statement.entry.now) ≡ false → OnOk result (AreSpaces (earlier ++ entry line (sense_of statement.entry.now) ∷ []) self.new) }
+        ensures { OnOk result (AreSpacesAfter self.old (sense_of statement.entry.now) self.new) }
     {
         match statement {
             Statement::Transaction(name) => {

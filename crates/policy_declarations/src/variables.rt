@@ -1,7 +1,7 @@
 //! The variables of a transaction.
-ghost use Rattle.std.specs.Prelude.{◌≡◌, ℕ, List, ◌∷◌, ◌++◌, [], IfOk};
-ghost use Rattle.policy_text_defs.specs.Sense.{Entry, entry, sense_of};
-ghost use Rattle.policy_declarations.specs.Kept.{AreVariables};
+ghost use Rattle.std.specs.Prelude.{IfOk};
+ghost use Rattle.policy_text_defs.specs.Sense.{sense_of};
+ghost use Rattle.policy_declarations.specs.Kept.{AreVariablesAfter};
 
 use policy_names::Names;
 use policy_text_defs::Statement;
@@ -13,7 +13,7 @@ pub fn variables_after<'a>(
     mut variables: Names<'a>,
     statement: &'a Statement,
 ) -> Result<Names<'a>, AllocError>
-    ensures { (earlier : List Entry) (line : ℕ) → AreVariables earlier variables.entry → IfOk result (AreVariables (earlier ++ entry line (sense_of statement.entry.now) ∷ [])) }
+    ensures { IfOk result (AreVariablesAfter variables.entry (sense_of statement.entry.now)) }
 {
     match statement {
         Statement::Transaction(_) => Ok(Names::new(alloc)),

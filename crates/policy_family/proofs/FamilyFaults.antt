@@ -1,10 +1,11 @@
 -- What the first node on a cycle and the first deep one say of the statements.
 use Rattle.std.proofs.Common.{◌≡◌, ℕ, ◌<◌, ◌^◌, ◌↔◌, true, List, length, sym, ap, subst, ◌∙◌, arith, Vec}
 use Rattle.std.specs.declared.alloc.Global.{Global}
+use Rattle.tree_defs.specs.Tree.{most_levels}
 use Rattle.policy_text_defs.specs.Sense.{Entry}
 use Rattle.policy_rules.specs.Names.{Name, has, node_name, declared}
 use Rattle.policy_rules.specs.Clauses.{IsLeastLine, root}
-use Rattle.policy_rules.specs.Families.{IsDescendant, IsCyclic, IsTooDeep, NamesLead, most_levels}
+use Rattle.policy_rules.specs.Families.{IsDescendant, IsCyclic, IsTooDeep, NamesLead}
 use Rattle.policy_rules.specs.Entries.{AreRising}
 use Rattle.policy_rules.specs.Programs.{place}
 use Rattle.policy_rules.specs.Graph.{graph_of}

@@ -13,6 +13,6 @@ use Rattle.tree_graph.specs.Descent.{IsForest, IsDeep}
 abbrev pub FamiliesAreForests : Type 0
 FamiliesAreForests = (entries : List Entry) → AreRising entries → AreAcyclic entries → IsForest (graph_of entries) (place (declared node_name entries) root)
 
--- no node is deeper than 64 below it
+-- no node is too deep below it
 abbrev pub FamiliesAreShallow : Type 0
 FamiliesAreShallow = (entries : List Entry) → AreRising entries → AreShallow entries → (a : ℕ) → ¬ IsDeep (graph_of entries) (place (declared node_name entries) root) a

@@ -15,7 +15,7 @@ use policy_text_defs::Statement;
 use std::alloc::Global;
 use tree_graph::{first_deep, first_on_cycle, parents};
 
-/// Refuses a node among its own descendants, and then a node or leaf more than 64 levels below the root.
+/// Refuses a node among its own descendants, and then a node or leaf that is too deep below the root.
 pub fn check_family(
     alloc: Global,
     lines: &[(u32, Statement)],

@@ -49,7 +49,8 @@ fn add_family(
 ) -> Result<(), AllocError>
     requires small { length nodes.now < 2 ^ 32 }
     requires declared { list_all (has nodes.now) (children (sense_of statement.now)) ≡ true }
-    ensures { OnOk result (lists graph.new.items ≡ lists graph.old.items ++ map (map (place nodes.now)) (option_to_list (family (sense_of statement.now)))) }
+    ensures { OnOk result (lists graph.new.items ≡ lists graph.old.items
+        ++ map (map (place nodes.now)) (option_to_list (family (sense_of statement.now)))) }
 {
     match statement {
         Statement::Leaf(_, _, _, _) => graph.push(Vec::new(alloc))?,

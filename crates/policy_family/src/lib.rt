@@ -1,4 +1,5 @@
 //! The nodes of a policy by number: the graph of their children, the first on a cycle and the first that is too deep.
+//! Begin with specs/Lines.antt.
 #![tactic(auto)]
 
 mod faults;

@@ -3,7 +3,7 @@ use Rattle.std.proofs.Common.{◌≡◌, ℕ, zero, suc, ◌≤◌, ◌<◌, ◌
 use Rattle.std.proofs.lemmas.Bool.{and_parts}
 use Rattle.std.specs.List.{AllByRecursion}
 use Rattle.std.proofs.lemmas.List.Elements.{recursion_from_All}
-use Rattle.tree_defs.specs.Tree.{Tree, leaf as leaf_of, inner, Trees, none, more, Address, nodes, nodes_below, count_of, depth}
+use Rattle.tree_defs.specs.Tree.{Tree, leaf as leaf_of, inner, Trees, none, more, Address, nodes, nodes_below, count_of, depth, most_levels}
 use Rattle.rank_defs.specs.Builtins.{Builtin, builtins}
 use Rattle.rank_defs.specs.Shapes.{IsShaped, max_prio, max_weight, max_slack}
 use Rattle.rank_defs.specs.Checks.{IsChecked}
@@ -15,7 +15,7 @@ use Rattle.policy_text_defs.specs.Statements.{IsName}
 use Rattle.policy_text_defs.specs.Valid.{IsValid, IsValidAttribute, AreValidAttributes}
 use Rattle.policy_text_defs.specs.Sense.{Sense, Entry, version, transaction, keep, each, push, pop, class, leaf, node}
 use Rattle.policy_defs.specs.Policy.{Node, Class, node_at, node_below}
-use Rattle.policy_defs.specs.Accepted.{AreMarksInRange, IsNodeReady, IsClassReady, HasFewChildren, HaveFewChildren, IsAccepted, max_levels}
+use Rattle.policy_defs.specs.Accepted.{AreMarksInRange, IsNodeReady, IsClassReady, HasFewChildren, HaveFewChildren, IsAccepted, max_name}
 use Rattle.policy_rules.specs.Names.{Name}
 use Rattle.policy_rules.specs.Clauses.{has_catch_all_behind}
 use Rattle.policy_rules.specs.Programs.{programs}
@@ -35,7 +35,7 @@ checked-parts [] all = tt
 checked-parts (b ∷ bs) all = (all.0.1, checked-parts bs all.1)
 
 -- ---- names and marks
-name-short : (w : Name) → IsName w → length w ≤ 64
+name-short : (w : Name) → IsName w → length w ≤ max_name
 name-short w named =
     let rest : IsTrue (is_word w) × IsTrue (nat_le (length w) most_name && not (is_reserved w)) = and_parts (is_word w) (nat_le (length w) most_name && not (is_reserved w)) named in
     let short : IsTrue (nat_le (length w) most_name) × IsTrue (not (is_reserved w)) = and_parts (nat_le (length w) most_name) (not (is_reserved w)) rest.1 in
@@ -71,7 +71,7 @@ node-ready es n name used a accepted shaped named valid said = record {
   shaped = program-holds IsShaped es used n.program (shaped-parts builtins builtins-checked) shaped said.program_is;
   checked = program-holds IsChecked es used n.program (checked-parts builtins builtins-checked) (checked-there es accepted) said.program_is;
   marks = subst AreMarksInRange (sym said.marks_are) (marks-in_range a valid);
-  name = subst (λ (w : Name). length w ≤ 64) (sym said.name_is) (name-short name named);
+  name = subst (λ (w : Name). length w ≤ max_name) (sym said.name_is) (name-short name named);
 }
 
 leaf-ready : (es : List Entry) (n : Node) (s : Sense) → AreAccepted es → AllByRecursion IsShaped (programs es) → IsValid s → IsLeafOf es n s → IsNodeReady n
@@ -171,7 +171,7 @@ mutual
   few-children_below (more t ts) limit is few = (few-children t limit is (omega (arith, few)), few-children_below ts limit is (omega (arith, few)))
 
 pub acceptable : (es : List Entry) (r : Resolved) → AreAccepted es → AreValid es → AllByRecursion IsShaped (programs es) → IsResolved es r
-    → depth r.policy.tree ≤ max_levels → nodes r.policy.tree < 2 ^ 32 → IsAccepted r.policy
+    → depth r.policy.tree ≤ most_levels → nodes r.policy.tree < 2 ^ 32 → IsAccepted r.policy
 acceptable es r accepted valid shaped resolved low few = record {
   nodes = λ a n at. nodes-ready es r.policy.tree a n accepted shaped valid resolved.tree at;
   classes = classes-ready es r.policy.tree (classes_in es) r.policy.classes (classes-valid es (recursion_from_All (λ (e : Entry). IsValid e.1) es valid)) resolved.classes;

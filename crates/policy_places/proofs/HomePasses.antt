@@ -21,7 +21,7 @@ use Rattle.policy_rules.specs.Graph.{family, graph_of, nodes_in}
 use Rattle.policy_rules.proofs.Lines.{Line, entry_of, entries-more, given-more, given-within}
 use Rattle.policy_places.specs.Labels.{node_numbered}
 use Rattle.policy_places.specs.Homes.{IsLeafWith}
-use Rattle.policy_places.proofs.LeafPlaces.{ArePut}
+use Rattle.policy_places.specs.Homes.{ArePut}
 use Rattle.policy_places.proofs.NodeStatements.{families, length-families, names-nodes}
 use Rattle.policy_places.proofs.ResolvedTrees.{name-at, children-at}
 

@@ -10,12 +10,8 @@ use Rattle.std.specs.Str.{bytes_eq}
 use Rattle.policy_rules.specs.Names.{Name, has}
 use Rattle.policy_rules.specs.Programs.{place}
 use Rattle.policy_rules.proofs.Places.{found, place-within, at-place}
+use Rattle.policy_places.specs.Homes.{ArePut}
 use Rattle.policy_places.proofs.Programs.{none-some, some-same}
-
--- the classes of a list have the leaf, and the others what they had
-pub record ArePut (classes listed : List Name) (leaf : ℕ) (old new : List ℕ) : Type 0 where
-  pub len : length new ≡ length old
-  pub put : (a : Name) → has classes a ≡ true → slice_index new (place classes a) ≡ (if has listed a then leaf else slice_index old (place classes a))
 
 -- names at one place are one name
 same-place : (names : List Name) (a b : Name) → has names a ≡ true → has names b ≡ true → place names a ≡ place names b → a ≡ b

@@ -1,9 +1,10 @@
 -- The leaves that hold the packets of classes.
-use Rattle.std.specs.Prelude.{◌≡◌, ◌<◌, ℕ, List, [], ◌∷◌, length, Any}
+use Rattle.std.specs.Prelude.{◌≡◌, ◌<◌, ℕ, true, if◌then◌else◌, slice_index, List, [], ◌∷◌, length, Any}
 use Rattle.std.specs.List.{AllZip}
 use Rattle.policy_text_defs.specs.Sense.{Entry}
 use Rattle.policy_defs.specs.Policy.{Class}
-use Rattle.policy_rules.specs.Names.{Name, class_name, declared}
+use Rattle.policy_rules.specs.Names.{Name, has, class_name, declared}
+use Rattle.policy_rules.specs.Programs.{place}
 use Rattle.policy_rules.specs.Graph.{graph_of, nodes_in}
 use Rattle.policy_rules.specs.Resolved.{Declared, ListsClass}
 use Rattle.tree_graph.specs.Descent.{children}
@@ -24,6 +25,11 @@ pub record IsHome (entries : List Entry) (rows : List Row) (class_name : Name) (
 -- for each class that is declared, in order, a row that has a leaf of it
 abbrev pub AreHomes : List Entry → List Row → List ℕ → Type 0
 AreHomes entries rows numbers = AllZip (IsHome entries rows) (declared class_name entries) numbers
+
+-- the classes of a list have the leaf, and the others what they had
+pub record ArePut (classes listed : List Name) (leaf : ℕ) (old new : List ℕ) : Type 0 where
+  pub len : length new ≡ length old
+  pub put : (a : Name) → has classes a ≡ true → slice_index new (place classes a) ≡ (if has listed a then leaf else slice_index old (place classes a))
 
 -- the classes that are declared, each at the row of a number
 abbrev pub classes_at : List Row → List Declared → List ℕ → List Class

@@ -1,13 +1,12 @@
 //! The leaves that list classes.
-ghost use Rattle.std.specs.Prelude.{◌≡◌, ℕ, ◌<◌, true, length, slice_index, if◌then◌else◌, IfOk};
-ghost use Rattle.policy_rules.specs.Names.{Name as Bytes, has, declared, class_name};
+ghost use Rattle.std.specs.Prelude.{◌≡◌, ℕ, ◌<◌, length, IfOk};
+ghost use Rattle.policy_rules.specs.Names.{declared, class_name};
 ghost use Rattle.policy_rules.specs.Entries.{entries_of, AreRising};
 ghost use Rattle.policy_rules.specs.Clauses.{NoLine, IsAgain, IsStray};
 ghost use Rattle.policy_rules.specs.Graph.{graph_of};
-ghost use Rattle.policy_rules.specs.Programs.{place};
 ghost use Rattle.tree_graph.specs.Descent.{times};
 ghost use Rattle.tree_graph.specs.Row.{nodes_of};
-ghost use Rattle.policy_places.specs.Homes.{AreHomes};
+ghost use Rattle.policy_places.specs.Homes.{AreHomes, ArePut};
 
 use crate::numbers::places;
 use list_core::Name;
@@ -19,8 +18,7 @@ use tree_graph::Preorder;
 /// Puts a leaf at the places of the classes that it lists.
 fn put(leaves: &mut [u32], classes: &Names<'_>, listed: &[Name], leaf: u32)
     requires len { length leaves.old ≡ length classes.now }
-    ensures len { length leaves.new ≡ length leaves.old }
-    ensures put { (a : Bytes) → has classes.now a ≡ true → slice_index leaves.new (place classes.now a) ≡ (if has listed.now a then leaf else slice_index leaves.old (place classes.now a)) }
+    ensures { ArePut classes.now listed.now leaf leaves.old leaves.new }
 {
     for name in listed {
         if let Some(place) = classes.place(name.as_str()) {

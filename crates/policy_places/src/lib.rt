@@ -1,4 +1,4 @@
-//! The tree of a policy's nodes, and the leaf of each class.
+//! The tree of a policy's nodes, and the leaf of each class. Begin with specs/Homes.antt.
 #![tactic(auto)]
 
 mod homes;

@@ -1,12 +1,13 @@
 -- The lines of a body, and what they compute.
-use Rattle.std.specs.Prelude.{◌≡◌, true, false, Option, Some, None, List, [], ◌∷◌, ◌++◌, filter_map}
-use Rattle.rank_defs.specs.Programs.{Program}
-use Rattle.policy_text_defs.specs.Sense.{Entry}
+use Rattle.std.specs.Prelude.{◌≡◌, true, false, Option, Some, None, List, [], ◌∷◌, ◌++◌, map, filter_map}
+use Rattle.rank_defs.specs.declared.transaction.Transaction.{Transaction}
+use Rattle.rank_defs.specs.Programs.{Program, program_of}
+use Rattle.policy_text_defs.specs.Sense.{Sense, Entry}
 use Rattle.policy_text_defs.specs.Valid.{IsValid}
 use Rattle.policy_rules.specs.Names.{Name}
-use Rattle.policy_rules.specs.Bodies.{is_body}
+use Rattle.policy_rules.specs.Bodies.{is_body, opened}
 use Rattle.policy_rules.specs.Clauses.{is_declared, is_known, is_beyond}
-use Rattle.policy_rules.specs.Programs.{keep_span, each_span, push_in, pop_in}
+use Rattle.policy_rules.specs.Programs.{keep_span, each_span, push_in, pop_in, program_in}
 use Rattle.policy_names.specs.Names.{with_name}
 
 -- the names, with one more if there is one
@@ -38,6 +39,14 @@ program_over keeps eaches lines = record {
   push = filter_map (push_in keeps eaches) lines;
   pop = filter_map (pop_in keeps eaches) lines;
 }
+
+-- the program that a statement begins, if it does, with these lines behind it
+abbrev pub programs_begun : Sense → List Entry → List Program
+programs_begun s behind = map (λ b. program_in b.lines) (opened s behind)
+
+-- the transactions got those of these programs behind them
+abbrev pub AreMore : List Program → List Transaction → List Transaction → Type 0
+AreMore programs old new = map program_of new ≡ map program_of old ++ programs
 
 -- the lines of one program, and those of another behind them
 abbrev pub joined : Program → Program → Program

@@ -1,5 +1,5 @@
 -- All programs that names mean.
-use Rattle.std.specs.Prelude.{List, map, ◌++◌, All}
+use Rattle.std.specs.Prelude.{◌≡◌, ℕ, Option, option_and_then, slice_get, List, map, ◌++◌, All}
 use Rattle.std.specs.List.{AllByRecursion}
 use Rattle.rank_defs.specs.Shapes.{IsShaped}
 use Rattle.rank_defs.specs.Checks.{AreChecked}
@@ -13,11 +13,20 @@ use Rattle.range_core.specs.declared.fault.RangeFault.TheVariants as range
 use Rattle.policy_text_defs.specs.Sense.{Entry}
 use Rattle.policy_rules.specs.declared.fault.PolicyFault.{PolicyFault}
 use Rattle.policy_rules.specs.declared.fault.PolicyFault.TheVariants.{TypeClash, Wide, DivZero, NoMemory}
+use Rattle.policy_rules.specs.Names.{Name, declared, transaction_name}
 use Rattle.policy_rules.specs.Programs.{programs}
 
 -- the built-in programs, and those that are written behind them
 abbrev pub known_programs : List Entry → List Program
 known_programs entries = map (λ b. b.program) builtins ++ programs entries
+
+-- the program at a place among all, if there is one
+abbrev pub program_at : List Entry → Option ℕ → Option Program
+program_at entries place = option_and_then (λ i. slice_get (known_programs entries) i) place
+
+-- what holds of all statements that declare these transactions in their order, where no clause up to the limits fails
+abbrev pub WhereDeclared : List Name → (List Entry → Type 0) → Type 0
+WhereDeclared transactions Holds = (es : List Entry) → AreRising es → AreFew es → transactions ≡ declared transaction_name es → Holds es
 
 -- a refusal of transactions, as a refusal of the policy
 abbrev pub fault_of : RangeFault → PolicyFault

@@ -1,14 +1,13 @@
 //! All transactions that are written.
-ghost use Rattle.std.specs.Prelude.{◌≡◌, All, map, ◌++◌, take_while, OnOk};
+ghost use Rattle.std.specs.Prelude.{◌≡◌, All, take_while, OnOk};
 ghost use Rattle.std.specs.List.{AllByRecursion};
-ghost use Rattle.rank_defs.specs.Programs.{program_of};
 ghost use Rattle.policy_text_defs.specs.Sense.{sense_of};
 ghost use Rattle.policy_text_defs.specs.Valid.{IsValid};
 ghost use Rattle.policy_rules.specs.Accepted.{AreFew};
 ghost use Rattle.policy_rules.specs.Bodies.{is_body, opened};
 ghost use Rattle.policy_rules.specs.Entries.{entries_of, AreRising};
-ghost use Rattle.policy_rules.specs.Programs.{program_in, programs};
-ghost use Rattle.policy_programs.specs.Bodies.{IsSoundBody};
+ghost use Rattle.policy_rules.specs.Programs.{programs};
+ghost use Rattle.policy_programs.specs.Bodies.{IsSoundBody, programs_begun, AreMore};
 
 use crate::transaction::transaction;
 use list_core::List;
@@ -46,7 +45,7 @@ fn add_begun(
     behind: &[(u32, Statement)],
 ) -> Result<(), AllocError>
     requires { AllByRecursion (λ b. IsSoundBody b.lines) (opened (sense_of statement.now) (entries_of behind.now)) }
-    ensures { OnOk result (map program_of transactions.new ≡ map program_of transactions.old ++ map (λ b. program_in b.lines) (opened (sense_of statement.now) (entries_of behind.now))) }
+    ensures { OnOk result (AreMore (programs_begun (sense_of statement.now) (entries_of behind.now)) transactions.old transactions.new) }
 {
     match statement {
         Statement::Transaction(_) => transactions.push(transaction(alloc, body(behind))?),
@@ -63,7 +62,7 @@ pub fn add_written(
     requires rising { AreRising (entries_of lines.now) }
     requires few { AreFew (entries_of lines.now) }
     requires valid { All (λ e. IsValid e.1) (entries_of lines.now) }
-    ensures { OnOk result (map program_of transactions.new ≡ map program_of transactions.old ++ programs (entries_of lines.now)) }
+    ensures { OnOk result (AreMore (programs (entries_of lines.now)) transactions.old transactions.new) }
 {
     for (place, (_, statement)) in lines.iter().enumerate() {
         add_begun(alloc, transactions, statement, &lines[place + 1..])?;

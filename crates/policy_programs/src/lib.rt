@@ -1,5 +1,5 @@
 //! The transactions that the statements of a policy use: built in or written, their names bound to variables, and
-//! checked.
+//! checked. Begin with specs/Known.antt.
 #![tactic(auto)]
 
 mod bodies;

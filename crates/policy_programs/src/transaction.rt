@@ -47,7 +47,8 @@ fn assign(
 ) -> Result<Assign, AllocError>
     requires few_keeps { length variables.now.keeps ≤ most_variables }
     requires few_eaches { length variables.now.eaches ≤ most_variables }
-    ensures { IfOk result (λ a. assignment_of a ≡ assignment_in variables.now.keeps variables.now.eaches line name.now (phrase_of value.now)) }
+    ensures { IfOk result (λ a. assignment_of a
+        ≡ assignment_in variables.now.keeps variables.now.eaches line name.now (phrase_of value.now)) }
 {
     Ok(Assign {
         line,
@@ -77,7 +78,8 @@ fn add(
 ) -> Result<(), AllocError>
     requires few_keeps { length variables.now.keeps ≤ most_variables }
     requires few_eaches { length variables.now.eaches ≤ most_variables }
-    ensures { OnOk result (program_of transaction.new ≡ joined (program_of transaction.old) (program_over variables.now.keeps variables.now.eaches (entry line (sense_of statement.now) ∷ []))) }
+    ensures { OnOk result (program_of transaction.new ≡ joined (program_of transaction.old)
+        (program_over variables.now.keeps variables.now.eaches (entry line (sense_of statement.now) ∷ []))) }
 {
     match statement {
         Statement::Keep(_, span) => transaction.keeps.push(*span)?,

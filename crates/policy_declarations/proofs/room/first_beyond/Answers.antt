@@ -19,4 +19,4 @@ loop-line-preserved c =
     goes_on (λ done. IsRoom done c.loop-line.room) is_beyond c.args.lines.now c.loop-line.line-index c.loop-line-item.result
     c.requires.rising c.loop-line-test.true c.loop-line-item.is c.loop-line.invariant _
     (sym (c.admit.ensures.beyond done c.loop-line.invariant.keeps) ∙ ap not c.if-not-admit.false)
-    (c.admit.ensures.room done c.loop-line-item.result.0 c.loop-line.invariant.keeps c.if-not-admit.false)
+    (c.admit.ensures.room c.if-not-admit.false done c.loop-line-item.result.0 c.loop-line.invariant.keeps)

@@ -3,7 +3,7 @@ use Rattle.std.proofs.lemmas.List.{get_or_default}
 use Rattle.policy_text_defs.specs.Sense.{sense_of}
 use Rattle.policy_rules.specs.Names.{Name, node_name}
 use Rattle.tree_graph.proofs.MarkLemmas.{given_back}
-use Rattle.policy_places.proofs.LeafPlaces.{ArePut}
+use Rattle.policy_places.specs.Homes.{ArePut}
 use Rattle.policy_places.proofs.HomePasses.{IsPassing, node-within, pass-leaf, pass-node, pass-other, neither}
 use Rattle.policy_places.proofs.HomeLaws.{homes-all}
 use Rattle.policy_places.proofs.homes.leaves.Goals.{in-Leaf, in-Node, in_default}
@@ -41,7 +41,7 @@ loop-statement-preserved c = elim c.match-statement.branch [
       ∙ given_back c.loop-statement.leaves.len w.put.new.leaves c.loop-statement.leaves.items (omega (arith, w.put.ensures.len, ap length w.as_mut_slice.ensures.value, c.loop-statement.leaves.ok)) (omega (arith, c.loop-statement.leaves.ok)) in
       let put : ArePut c.args.classes.now w.in-Leaf.listed w.index.result.now c.loop-statement.leaves.items w.put.new.leaves =
       subst (λ (old : List ℕ). ArePut c.args.classes.now w.in-Leaf.listed w.index.result.now old w.put.new.leaves) w.as_mut_slice.ensures.value
-      (subst (λ (names : List Name). ArePut c.args.classes.now names w.index.result.now w.as_mut_slice.result.now w.put.new.leaves) w.as_slice.ensures (record { len = w.put.ensures.len; put = w.put.ensures.put })) in
+      (subst (λ (names : List Name). ArePut c.args.classes.now names w.index.result.now w.as_mut_slice.result.now w.put.new.leaves) w.as_slice.ensures w.put.ensures) in
       subst (λ (n : ℕ). IsPassing c.args.lines.now c.args.classes.now c.in_ok-places.places.items (c.loop-statement.statement-index + 1) n c.match-statement.leaves.items) (sym w.node-is)
       (subst (λ (new : List ℕ). IsPassing c.args.lines.now c.args.classes.now c.in_ok-places.places.items (c.loop-statement.statement-index + 1) (c.loop-statement.node + 1) new) (sym back)
       (pass-leaf c.args.lines.now c.args.classes.now c.in_ok-places.places.items c.loop-statement.leaves.items w.put.new.leaves c.loop-statement.statement-index c.loop-statement.node w.index.result.now c.loop-statement-item.result _ _ _ w.in-Leaf.listed

@@ -1,6 +1,7 @@
 use Rattle.std.proofs.Common.{◌≡◌, ◌∙◌, ℕ, ◌+◌, List, position, subst, sym, ap, take}
 use Rattle.std.specs.Str.{bytes_eq}
-use Rattle.policy_places.proofs.LeafPlaces.{ArePut, put-some, put-none}
+use Rattle.policy_places.specs.Homes.{ArePut}
+use Rattle.policy_places.proofs.LeafPlaces.{put-some, put-none}
 use Rattle.policy_places.proofs.homes.put.Goals.{in-Some, in_default}
 use Rattle.policy_places.proofs.homes.put.Goals as goal
 

@@ -1,5 +1,5 @@
 use Rattle.std.proofs.Common.{take}
-use Rattle.policy_places.proofs.LeafPlaces.{ArePut}
+use Rattle.policy_places.specs.Homes.{ArePut}
 use Rattle.policy_places.proofs.homes.put.Given as goal
 
 abbrev pub invariant-loop-name : goal.invariant-loop-name
