@@ -16,6 +16,7 @@ use Rattle.sched_defs.specs.declared.ending.Ending.{Ending}
 use Rattle.outside_core.specs.declared.stop.Stop.{Stop}
 use Rattle.sched_defs.specs.Packets.{Left}
 use Rattle.sched_run.specs.Courses.{course_of}
+use Rattle.sched_run.proofs.StepLaws.{on_err_given}
 use Rattle.sched_run.proofs.EventCounts.{pushed_in-outcomes, popped_or_empty}
 use Rattle.sched_packets.specs.Arrivals.{Begins}
 use Rattle.sched_embedded.specs.declared.embedded.Embedded.{Embedded}
@@ -67,3 +68,12 @@ module _ {F : Type 0} (fabrics : Ghosts F) (policy : Resolved) (laid : Laid) (st
   left_amid (Ok e) told left Q old new into begins each = tt
   left_amid (Err stop) None left Q old new into begins each = tt
   left_amid (Err stop) (Some file) left Q old new into begins each = of_file file left Q (λ run. LeavesPart fabrics run old new) (λ l q. inr (into l q)) begins each
+
+  -- nothing was made yet
+  pub none_amid : (r : Result Ending Stop) (told : Option (List ℕ)) (left : Option Left) (old new : F) → ((l : Left) → HoldsAmid fabrics (over l) old new) →
+      IfSome told (λ file. Begins policy (capture_of file) left) → OnErr r (IfSome told (λ file. LeavesPart fabrics (run_of policy.policy laid (direct_answer policy steps file).events) old new))
+  none_amid r told left old new each begins = left_amid r told left (λ l. Unit {0}) old new (λ l _. each l) begins (on_err_given r (IfSome left (λ l. Unit {0})) (always left))
+    where
+      always : (o : Option Left) → IfSome o (λ l. Unit {0})
+      always None = tt
+      always (Some l) = tt

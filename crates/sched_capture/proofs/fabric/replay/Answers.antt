@@ -1,7 +1,9 @@
+use Rattle.std.proofs.Common.{[], refl, sym, arith}
 use Rattle.std.proofs.lemmas.Result.{on_err_weaker}
 use Rattle.sched_packets.specs.Arrivals.{left_of}
 use Rattle.sched_embedded.specs.Laid.{Laid}
-use Rattle.sched_capture.proofs.FabricRuns.{holds_after, left_by, left_amid}
+use Rattle.sched_run.proofs.JoinedEvents.{raised_nothing}
+use Rattle.sched_capture.proofs.FabricRuns.{holds_after, left_by, left_amid, none_amid}
 use Rattle.sched_capture.proofs.fabric.replay.Goals as goal
 
 pub returns-in-Err-clause-part : goal.returns-in-Err-clause-part
@@ -30,3 +32,18 @@ returns-clause-fabric_part g c =
           some.leaves.state some.leaves.arrived some.leaves.departed some.leaves.origin some.leaves.spilled;
     })
     c.in-Ok.ensures.begins c.run_over.ensures.amid
+
+pub returns-in_err-run-clause-fabric_part : goal.returns-in_err-run-clause-fabric_part
+returns-in_err-run-clause-fabric_part g c =
+    let policy = c.args.policy.now in
+    let laid : Laid = record { images = c.args.placement.map; arities = c.args.placement.target.arities } in
+    let n = c.in-Ok-new.ensures in
+    none_amid g.F.Fabric policy laid c.args.steps.now _ (g.S.Shelf.left c.args.shelf.now) (left_of c.in-Ok.packets (g.S.Shelf.left c.begin.new.shelf)) c.args.fabric.now c.new.new.fabric
+    (λ l. record {
+      made = [];
+      unmade = _;
+      whole = refl;
+      holds = holds_after g.F.Fabric policy.policy laid c.in-Ok-new.scheduler c.args.fabric.now c.new.new.fabric n.origin n.arrivals n.departures n.spilled [] c.in-Ok-new.scheduler c.new.new.fabric
+          n.stands (omega arith) (omega arith) refl (sym (raised_nothing _));
+    })
+    c.in-Ok.ensures.begins
