@@ -1,6 +1,5 @@
 -- What is kept by one call and then by another.
-use Rattle.std.proofs.Common.{◌≡◌, ◌≤◌, ℕ, Bool, Option, None, Some, List, [], ◌++◌, refl, sym, ap, ◌∙◌, arith, append_assoc, append-nil}
-use Rattle.outside_core.specs.Files.{KeepsFiles}
+use Rattle.std.proofs.Common.{ℕ, Bool, Option, None, Some, List, [], ◌++◌, refl, sym, ap, ◌∙◌, arith, append_assoc, append-nil}
 use Rattle.outside_core.specs.Kept.{Begins, KeepsShelf, KeepsSink}
 
 -- what is told begins with itself

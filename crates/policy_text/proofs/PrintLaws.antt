@@ -3,7 +3,7 @@ use Rattle.std.proofs.Common.{◌≡◌, ℕ, ◌≤◌, List, length, map, sym,
 use Rattle.std.specs.Prelude.{◌↔◌}
 use Rattle.std.proofs.lemmas.List.Elements.{All-map}
 use Rattle.policy_text_defs.specs.Ranges.{most_text}
-use Rattle.policy_text_defs.specs.Sense.{Entry, numbered}
+use Rattle.policy_text_defs.specs.Sense.{numbered}
 use Rattle.policy_text_defs.specs.Text.{IsWritten, HasEntries, ReadsBack}
 use Rattle.policy_text_defs.specs.Canonical.{canonical_text}
 use Rattle.policy_text_defs.proofs.CanonicalLaws.{canonical_text_has}

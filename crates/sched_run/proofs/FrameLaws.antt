@@ -1,5 +1,5 @@
 -- What calls in a row keep.
-use Rattle.std.proofs.Common.{◌≡◌, ◌≤◌, ℕ, ◌∙◌, arith}
+use Rattle.std.proofs.Common.{◌∙◌, arith}
 use Rattle.sched_defs.specs.declared.packets.Packets as packets
 use Rattle.sched_core.specs.declared.scheduler.Scheduler.{Ghosts}
 use Rattle.sched_run.specs.declared.run.Run.{Run}

@@ -10,7 +10,7 @@ use Rattle.policy_defs.specs.Policy.{Policy}
 use Rattle.policy_defs.specs.Accepted.{IsAccepted}
 use Rattle.sched_defs.specs.SourceState.{SourceState}
 use Rattle.sched_defs.specs.Sound.{IsSound}
-use Rattle.sched_defs.specs.Events.{Event, Outcome, after, outcomes, arrivals_in}
+use Rattle.sched_defs.specs.Events.{Event, after, outcomes, arrivals_in}
 use Rattle.sched_defs.specs.Script.{Course}
 use Rattle.sched_defs.specs.Numbered.{IsHeldBelow}
 use Rattle.sched_defs.specs.Report.{pushed_in, popped_in, empty_in, last_line, course_report}

@@ -1,4 +1,4 @@
-use Rattle.std.proofs.Common.{refl, sym, ◌∙◌, arith, map}
+use Rattle.std.proofs.Common.{refl, sym, arith, map}
 use Rattle.std.proofs.lemmas.Result.{err_from_is_err_and}
 use Rattle.outside_core.proofs.KeptLaws.{sink-same, sink-then}
 use Rattle.sched_run.proofs.FrameLaws.{continues_then, keeps_then}

@@ -1,4 +1,4 @@
-use Rattle.std.proofs.Common.{◌≡◌, ◌≤◌, IsTrue, replicate}
+use Rattle.std.proofs.Common.{◌≡◌, IsTrue, replicate}
 use Rattle.outside_core.specs.Kept.{KeepsSink}
 use Rattle.report_core.specs.Gathered.{text_of}
 use Rattle.sched_defs.specs.Events.{Depart}

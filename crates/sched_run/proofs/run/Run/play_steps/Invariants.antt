@@ -1,4 +1,4 @@
-use Rattle.std.proofs.Common.{◌≡◌, ◌≤◌, ◌+◌, IsTrue, drop}
+use Rattle.std.proofs.Common.{IsTrue, drop}
 use Rattle.outside_core.specs.Kept.{KeepsSink}
 use Rattle.sched_run.specs.Stages.{stage_of}
 use Rattle.sched_run.specs.Frames.{Continues, KeepsPackets, IsFurther}
