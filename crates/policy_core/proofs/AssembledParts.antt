@@ -13,7 +13,7 @@ use Rattle.policy_text_defs.specs.Sense.{Entry}
 use Rattle.policy_defs.specs.Policy.{Node, Class as Aimed}
 use Rattle.policy_defs.specs.Accepted.{IsAccepted}
 use Rattle.policy_rules.specs.Names.{Name, declared, class_name, node_name}
-use Rattle.policy_rules.specs.Clauses.{root, most_nodes}
+use Rattle.policy_rules.specs.Clauses.{root, most_nodes, most_classes}
 use Rattle.policy_rules.specs.Programs.{place, programs}
 use Rattle.policy_rules.specs.Accepted.{AreAccepted}
 use Rattle.policy_rules.specs.Graph.{graph_of, nodes_in}
@@ -37,11 +37,12 @@ use Rattle.policy_rules.proofs.Places.{found, place-within}
 use Rattle.policy_places.proofs.HomePasses.{length-graph}
 use Rattle.policy_places.proofs.HomeLaws.{length-nodes}
 use Rattle.policy_places.proofs.InverseNumbers.{node-within}
+use Rattle.policy_programs.specs.Known.{known_programs}
 use Rattle.policy_family.proofs.NodeNames.{named}
 use Rattle.policy_core.specs.declared.parts.Station.{Station}
 use Rattle.policy_core.specs.declared.parts.Class.{Class}
 use Rattle.policy_core.specs.Numbering.{nodes_from, address_at}
-use Rattle.policy_core.specs.Parts.{resolved, tree_of, node_of, station_at, no_station, class_in, HaveLeaves, HaveStations, HasCatchAll, most_classes}
+use Rattle.policy_core.specs.Parts.{resolved, tree_of, node_of, station_at, no_station, class_in, HaveLeaves, HaveStations, HasCatchAll}
 use Rattle.policy_core.specs.Made.{Made, made, made_of, nodes_told}
 use Rattle.policy_core.proofs.FewClasses.{few-classes, catch-all}
 use Rattle.policy_core.proofs.Numbers.{address_at-topology, topology_of-nodes}
@@ -58,9 +59,36 @@ zip-length es rows (n ∷ names) (m ∷ ms) h = ap suc (zip-length es rows names
 pub homes-count : (es : List Entry) (rows : List Row) (ms : List ℕ) → AreHomes es rows ms → length ms ≡ length (classes_in es)
 homes-count es rows ms homes = zip-length es rows (declared class_name es) ms homes ∙ ap length (sym (names-classes es)) ∙ length-map (classes_in es) (λ (d : Declared). d.name)
 
-module _ (es : List Entry) (accepted : AreAccepted es) (tree : Numbered) (below : IsTreeBelow (graph_of es) (place (declared node_name es) root) tree)
-    (ss : List Station) (ps : List Program) (stations : nodes_told ps ss ≡ nodes_in es) (ns : List ℕ) (homes : AreHomes es tree.rows ns)
-    (cs : List Class) (classes : map made cs ≡ made_of (classes_in es) ns) where
+-- the tree of the nodes, their stations over all programs, a leaf for each class, and the classes
+pub record AreParts (es : List Entry) (tree : Numbered) (ss : List Station) (ps : List Program) (ns : List ℕ) (cs : List Class) : Type 0 where
+  pub below : IsTreeBelow (graph_of es) (place (declared node_name es) root) tree
+  pub stations : nodes_told ps ss ≡ nodes_in es
+  pub homes : AreHomes es tree.rows ns
+  pub classes : map made cs ≡ made_of (classes_in es) ns
+
+-- what each call makes, put together
+pub parts-made : (es : List Entry) (g : List (List ℕ)) (r : ℕ) (tree : Numbered) (ss : List Station) (ps : List Program) (ns leaves : List ℕ) (cs : List Class) → g ≡ graph_of es → r ≡ place (declared node_name es) root → IsTreeBelow g r tree
+    → ps ≡ known_programs es → nodes_told (known_programs es) ss ≡ nodes_in es → ns ≡ leaves → AreHomes es tree.rows leaves → map made cs ≡ made_of (classes_in es) ns → AreParts es tree ss ps ns cs
+parts-made es g r tree ss ps ns leaves cs graph at below known stations same homes classes = record {
+  below = subst (λ (h : List (List ℕ)). IsTreeBelow h (place (declared node_name es) root) tree) graph (subst (λ (n : ℕ). IsTreeBelow g n tree) at below);
+  stations = subst (λ (all : List Program). nodes_told all ss ≡ nodes_in es) (sym known) stations;
+  homes = subst (λ (ms : List ℕ). AreHomes es tree.rows ms) (sym same) homes;
+  classes = classes;
+}
+
+module _ (es : List Entry) (accepted : AreAccepted es) (tree : Numbered) (ss : List Station) (ps : List Program) (ns : List ℕ) (cs : List Class) (parts : AreParts es tree ss ps ns cs) where
+  abbrev below : IsTreeBelow (graph_of es) (place (declared node_name es) root) tree
+  below = parts.below
+
+  stations : nodes_told ps ss ≡ nodes_in es
+  stations = parts.stations
+
+  homes : AreHomes es tree.rows ns
+  homes = parts.homes
+
+  classes : map made cs ≡ made_of (classes_in es) ns
+  classes = parts.classes
+
   at-place : (i : ℕ) → i < length (nodes_in es) → node_of ps (station_at ss i) ≡ node_numbered es i
   at-place i within =
       let there : i < length ss = omega (arith, within, ap length stations, length-map ss (node_of ps)) in
@@ -192,7 +220,3 @@ root-small es rising accepted = omega (arith, place-within (declared node_name e
 
 pub graph-few : (es : List Entry) (g : List (List ℕ)) → AreRising es → AreAccepted es → g ≡ graph_of es → length g ≤ most_nodes
 graph-few es g rising accepted is = omega (arith, ap length is, length-graph es, (named es rising accepted.0.0.0.0.0.0.0).few)
-
--- the tree below the root of the graph
-pub below-is : (es : List Entry) (g : List (List ℕ)) (r : ℕ) (p : Numbered) → g ≡ graph_of es → r ≡ place (declared node_name es) root → IsTreeBelow g r p → IsTreeBelow (graph_of es) (place (declared node_name es) root) p
-below-is es g r p graph at below = subst (λ (h : List (List ℕ)). IsTreeBelow h (place (declared node_name es) root) p) graph (subst (λ (n : ℕ). IsTreeBelow g n p) at below)

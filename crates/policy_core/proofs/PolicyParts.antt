@@ -8,7 +8,7 @@ use Rattle.tree_defs.specs.Topology.{Topology, topology_of}
 use Rattle.tree_defs.proofs.Shapes.{nodes-topology, depth-topology, LeadsToLeaf-topology}
 use Rattle.rank_defs.specs.Programs.{Program}
 use Rattle.policy_defs.specs.Policy.{Node, node_at}
-use Rattle.policy_defs.specs.Accepted.{IsAccepted}
+use Rattle.policy_defs.specs.Accepted.{IsAccepted, max_name}
 use Rattle.policy_defs.specs.Numbers.{number_at}
 use Rattle.policy_rules.specs.Resolved.{Resolved}
 use Rattle.policy_rules.proofs.Lists.{all-weaker}
@@ -111,7 +111,7 @@ module _ (tree : Numbered) (ss : List Station) (ps : List Program) (cs : List Cl
       subst (λ (t : Tree Node). node_at t (address_at t k) ≡ Some (node_of ps (station_at ss (row_at tree.rows k).node))) tree-is
       (node_numbered (λ n. node_of ps (station_at ss (row_at tree.rows n).node)) tree.topology k (omega (arith, within k l, rows-count tree w.numbered)))
 
-  pub name-short : (k : ℕ) → k < nodes r.policy.tree → length (station_at ss (row_at tree.rows k).node).name ≤ 64
+  pub name-short : (k : ℕ) → k < nodes r.policy.tree → length (station_at ss (row_at tree.rows k).node).name ≤ max_name
   name-short k l = (accepted-is.nodes (address_at r.policy.tree k) (node_of ps (station_at ss (row_at tree.rows k).node)) (node-is k l)).name
 
   pub program-there : (k : ℕ) → k < nodes r.policy.tree → (station_at ss (row_at tree.rows k).node).program < length ps
@@ -139,5 +139,5 @@ module _ (tree : Numbered) (ss : List Station) (ps : List Program) (cs : List Cl
   pub name-is : (k : ℕ) (s : Station) (name : List ℕ) → k < nodes r.policy.tree → s ≡ station_at ss (row_at tree.rows k).node → name ≡ s.name → IsSomeAnd (node_at r.policy.tree (address_at r.policy.tree k)) (λ n. name ≡ n.name)
   name-is k s name l own is = some-and _ _ (λ n. name ≡ n.name) (node-is k l) (is ∙ ap (λ (x : Station). x.name) own)
 
-  pub name-length : (k : ℕ) (s : Station) (name : List ℕ) → k < nodes r.policy.tree → s ≡ station_at ss (row_at tree.rows k).node → name ≡ s.name → length name ≤ 64
+  pub name-length : (k : ℕ) (s : Station) (name : List ℕ) → k < nodes r.policy.tree → s ≡ station_at ss (row_at tree.rows k).node → name ≡ s.name → length name ≤ max_name
   name-length k s name l own is = omega (arith, name-short k l, ap length is, ap (λ (x : Station). length x.name) own)

@@ -1,7 +1,8 @@
 -- Trees that are read by the numbers of their nodes, counted in preorder from the root, which is 0.
-use Rattle.std.specs.Prelude.{◌≡◌, refl, ℕ, zero, suc, ◌+◌, ◌-◌, nat_lt, if◌then◌else◌, [], ◌∷◌}
+use Rattle.std.specs.Prelude.{◌≡◌, refl, ℕ, zero, suc, ◌+◌, ◌-◌, nat_lt, if◌then◌else◌, [], ◌∷◌, IsSomeAnd}
 use Rattle.tree_defs.specs.Tree.{Tree, leaf, inner, Trees, none, more, Address, nodes}
 use Rattle.tree_defs.specs.Topology.{Topology, office}
+use Rattle.policy_defs.specs.Policy.{Node, node_at}
 
 -- a tree of this shape, with at each node what its number gives; the first has number n
 abbrev mutual
@@ -29,6 +30,10 @@ abbrev mutual
   pub address_below : {Q : Type 0} → Trees Q → ℕ → Address
   address_below none n = []
   address_below (more t ts) n = if nat_lt n (nodes t) then address_at t n else address_below ts (n - nodes t)
+
+-- what holds of the node with a number
+abbrev pub HasAt : Tree Node → ℕ → (Node → Type 0) → Type 0
+HasAt tree n Holds = IsSomeAnd (node_at tree (address_at tree n)) Holds
 
 pub address_at-root : address_at office 0 ≡ []
 address_at-root = refl

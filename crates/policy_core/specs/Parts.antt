@@ -6,7 +6,7 @@ use Rattle.rank_defs.specs.Programs.{Program}
 use Rattle.policy_text_defs.specs.declared.condition.Condition.{Condition}
 use Rattle.policy_defs.specs.Policy.{Node, Class as Aimed, Marks as Told}
 use Rattle.policy_defs.specs.Accepted.{IsAccepted}
-use Rattle.policy_rules.specs.Clauses.{most_nodes}
+use Rattle.policy_rules.specs.Clauses.{most_nodes, most_classes}
 use Rattle.policy_rules.specs.Resolved.{Resolved}
 use Rattle.tree_graph.specs.Row.{row_at}
 use Rattle.tree_graph.specs.Preorder.{Numbered, IsNumberedBy}
@@ -61,10 +61,6 @@ HavePrograms stations programs = AllByRecursion (λ s. s.program < length progra
 -- the leaf of each class is the number of a node
 abbrev pub HaveLeaves : Numbered → List Class → Type 0
 HaveLeaves tree classes = AllByRecursion (λ c. c.leaf < length tree.rows) classes
-
--- the most classes
-abbrev pub most_classes : ℕ
-most_classes = 256
 
 -- the last class has no condition
 abbrev pub HasCatchAll : List (List Condition) → Type 0

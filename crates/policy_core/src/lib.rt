@@ -1,4 +1,5 @@
-//! A policy that can be run: a tree of numbered nodes, each with its transaction, and classes of packets, each with its leaf.
+//! A policy that can be run: a tree of numbered nodes, each with its transaction, and classes of packets, each with its leaf. Begin
+//! with specs/Parts.antt.
 #![tactic(auto)]
 
 mod classes;

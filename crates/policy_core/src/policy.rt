@@ -1,16 +1,15 @@
 //! An accepted policy and what its nodes and classes say.
-ghost use Rattle.std.specs.Prelude.{◌≡◌, ◌<◌, ◌≤◌, ◌++◌, ◌∷◌, [], ◌↔◌, map, length, IsTrue, IsSomeAnd};
+ghost use Rattle.std.specs.Prelude.{◌≡◌, ◌<◌, ◌≤◌, ◌++◌, ◌∷◌, [], ◌↔◌, map, length, IsTrue};
 ghost use Rattle.std.specs.List.{AllByRecursion};
-ghost use Rattle.tree_defs.specs.Tree.{depth as levels, nodes, IsAddressOf, LeadsToLeaf};
+ghost use Rattle.tree_defs.specs.Tree.{depth as levels, nodes, IsAddressOf, LeadsToLeaf, most_levels};
 ghost use Rattle.tree_defs.specs.Topology.{topology_of, IsBranched};
 ghost use Rattle.tree_core.specs.Shape.{topology};
-ghost use Rattle.policy_defs.specs.Policy.{node_at};
-ghost use Rattle.policy_defs.specs.Accepted.{IsAccepted};
+ghost use Rattle.policy_defs.specs.Accepted.{IsAccepted, max_name};
 ghost use Rattle.policy_defs.specs.Numbers.{number_at};
-ghost use Rattle.policy_core.specs.Numbering.{address_at};
-ghost use Rattle.policy_core.specs.Parts.{resolved, told, class_in, AreNumbered, HaveStations, HavePrograms, HaveLeaves, HasCatchAll, most_classes, station_at};
+ghost use Rattle.policy_core.specs.Numbering.{address_at, HasAt};
+ghost use Rattle.policy_core.specs.Parts.{resolved, told, class_in, AreNumbered, HaveStations, HavePrograms, HaveLeaves, HasCatchAll, station_at};
 ghost use Rattle.tree_graph.specs.Row.{row_at};
-ghost use Rattle.policy_rules.specs.Clauses.{most_nodes};
+ghost use Rattle.policy_rules.specs.Clauses.{most_nodes, most_classes};
 
 use crate::parts::{Class, Marks, Station};
 use list_core::List;
@@ -74,7 +73,7 @@ impl Policy {
         ensures topology { topology result.now ≡ topology_of self.now.policy.tree }
         ensures branched { IsBranched (topology_of self.now.policy.tree) }
         ensures few { nodes (topology_of self.now.policy.tree) ≤ most_nodes }
-        ensures levels { levels (topology_of self.now.policy.tree) ≤ 64 }
+        ensures levels { levels (topology_of self.now.policy.tree) ≤ most_levels }
         ensures accepted { IsAccepted self.now.policy }
     {
         self.tree.topo()
@@ -83,13 +82,13 @@ impl Policy {
     /// How many levels lie below the root.
     pub fn depth(&self) -> u32
         ensures levels { result ≡ levels self.now.policy.tree }
-        ensures limit { result ≤ 64 }
+        ensures limit { result ≤ most_levels }
         ensures accepted { IsAccepted self.now.policy }
     {
         self.tree.depth()
     }
 
-    /// The number of nodes and leaves, at most 1,024.
+    /// The number of nodes and leaves.
     pub fn count(&self) -> u32
         ensures count { result ≡ nodes self.now.policy.tree }
         ensures limit { result ≤ most_nodes }
@@ -97,11 +96,11 @@ impl Policy {
         self.tree.count()
     }
 
-    /// The name of a node or leaf, at most 64 bytes.
+    /// The name of a node or leaf.
     pub fn name(&self, node: u32) -> &str
         requires there { node < nodes self.now.policy.tree }
-        ensures name { IsSomeAnd (node_at self.now.policy.tree (address_at self.now.policy.tree node)) (λ n. result.now ≡ n.name) }
-        ensures short { length result.now ≤ 64 }
+        ensures name { HasAt self.now.policy.tree node (λ n. result.now ≡ n.name) }
+        ensures short { length result.now ≤ max_name }
     {
         station_of(&self.tree, self.stations.as_slice(), node)
             .name
@@ -137,7 +136,7 @@ impl Policy {
     /// The transaction of a node or leaf.
     pub fn checked(&self, node: u32) -> &Checked
         requires there { node < nodes self.now.policy.tree }
-        ensures program { IsSomeAnd (node_at self.now.policy.tree (address_at self.now.policy.tree node)) (λ n. result.now ≡ n.program) }
+        ensures program { HasAt self.now.policy.tree node (λ n. result.now ≡ n.program) }
     {
         let station = station_of(&self.tree, self.stations.as_slice(), node);
         &self.programs.as_slice()[station.program]
@@ -146,7 +145,7 @@ impl Policy {
     /// The marks of a node or leaf.
     pub fn attrs(&self, node: u32) -> Marks
         requires there { node < nodes self.now.policy.tree }
-        ensures marks { IsSomeAnd (node_at self.now.policy.tree (address_at self.now.policy.tree node)) (λ n. told result ≡ n.marks) }
+        ensures marks { HasAt self.now.policy.tree node (λ n. told result ≡ n.marks) }
     {
         station_of(&self.tree, self.stations.as_slice(), node).marks
     }

@@ -7,7 +7,7 @@ ghost use Rattle.policy_rules.specs.Entries.{entries_of, AreRising};
 ghost use Rattle.policy_rules.specs.Graph.{nodes_in};
 ghost use Rattle.policy_rules.specs.Names.{declared, transaction_name};
 ghost use Rattle.policy_rules.specs.Resolved.{marks_of};
-ghost use Rattle.policy_programs.specs.Known.{known_programs};
+ghost use Rattle.policy_programs.specs.Known.{known_programs, WhereDeclared};
 ghost use Rattle.policy_core.specs.Made.{nodes_told, IsPlaceOf, IsStationOf, AreMore};
 ghost use Rattle.policy_core.specs.Parts.{HavePrograms, told};
 
@@ -31,8 +31,7 @@ pub(crate) fn marks(attrs: &Attrs) -> Marks
 
 /// The place of the program that a name means.
 fn program(transactions: &Names<'_>, used: &str) -> usize
-    ensures program { (es : List Entry) → AreRising es → AreFew es → transactions.now ≡ declared transaction_name es → is_transaction_known es used.now ≡ true
-        → IsPlaceOf es used.now result }
+    ensures program { WhereDeclared transactions.now (λ es. is_transaction_known es used.now ≡ true → IsPlaceOf es used.now result) }
 {
     program_place(transactions, used).unwrap_or(0)
 }
@@ -45,8 +44,8 @@ fn station(
     used: &Name,
     attrs: &Attrs,
 ) -> Result<Station, AllocError>
-    ensures station { (es : List Entry) → AreRising es → AreFew es → transactions.now ≡ declared transaction_name es → is_transaction_known es used.now ≡ true
-        → IfOk result (IsStationOf es name.now used.now attrs.now) }
+    ensures station { WhereDeclared transactions.now (λ es. is_transaction_known es used.now ≡ true
+        → IfOk result (IsStationOf es name.now used.now attrs.now)) }
 {
     Ok(Station {
         name: Name::new(alloc, name.as_str())?,
@@ -62,8 +61,8 @@ fn add_station(
     transactions: &Names<'_>,
     statement: &Statement,
 ) -> Result<(), AllocError>
-    ensures added { (es earlier : List Entry) → AreRising es → AreFew es → transactions.now ≡ declared transaction_name es → is_known es earlier (sense_of statement.now) ≡ true
-        → HavePrograms stations.old (known_programs es) → OnOk result (AreMore es (sense_of statement.now) stations.old stations.new) }
+    ensures added { WhereDeclared transactions.now (λ es. (earlier : List Entry) → is_known es earlier (sense_of statement.now) ≡ true
+        → HavePrograms stations.old (known_programs es) → OnOk result (AreMore es (sense_of statement.now) stations.old stations.new)) }
 {
     match statement {
         Statement::Leaf(name, used, attrs, _) | Statement::Node(name, used, attrs, _) => {

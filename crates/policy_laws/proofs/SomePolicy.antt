@@ -5,7 +5,7 @@ use Rattle.std.proofs.lemmas.Bool.{cases_Bool, eqb-true}
 use Rattle.std.proofs.lemmas.List.{get_or-map, length-map}
 use Rattle.std.proofs.lemmas.List.Elements.{recursion_from_All}
 use Rattle.std.proofs.lemmas.List.Sums.{sum_by-cons}
-use Rattle.tree_defs.specs.Tree.{Tree}
+use Rattle.tree_defs.specs.Tree.{Tree, most_levels}
 use Rattle.policy_text_defs.specs.Sense.{Sense, Entry, version, transaction, keep, each, push, pop, class, leaf, node}
 use Rattle.policy_rules.specs.Names.{Name, has, declared, node_name, class_name, children, leaf_classes}
 use Rattle.policy_rules.specs.Clauses.{root}
@@ -105,11 +105,11 @@ module _ (es : List Entry) (rising : AreRising es) (accepted : AreAccepted es) w
   forest : IsForest (graph_of es) (place (declared node_name es) root)
   forest = is-forest es rising accepted.0.0.0
 
-  shallow : IsWithin (graph_of es) (place (declared node_name es) root) 64 0
+  shallow : IsWithin (graph_of es) (place (declared node_name es) root) most_levels 0
   shallow = shallow-root (graph_of es) (place (declared node_name es) root) forest (λ i within. is-shallow es rising accepted.0.0 i)
 
   below : HasTree (graph_of es) (place (declared node_name es) root)
-  below = tree-there (graph_of es) (place (declared node_name es) root) 64 shallow
+  below = tree-there (graph_of es) (place (declared node_name es) root) most_levels shallow
 
   home : (c : Name) → has (declared class_name es) c ≡ true → (k : ℕ) × IsHome es (rows 0 [] below.tree) c k
   home c declares =

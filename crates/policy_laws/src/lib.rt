@@ -1,4 +1,4 @@
-//! Texts of policies have an answer, and accepted statements give one policy.
+//! Texts of policies have an answer, and accepted statements give one policy. Begin with specs/Laws.antt.
 #![tactic(auto)]
 
 mod laws;

@@ -1,16 +1,14 @@
 use Rattle.std.proofs.Common.{◌≡◌, ◌∙◌, ℕ, List, ap, sym, subst, length, arith}
 use Rattle.std.proofs.lemmas.List.{length-map}
-use Rattle.rank_defs.specs.Programs.{Program}
 use Rattle.policy_rules.specs.Entries.{entries_of}
-use Rattle.policy_rules.specs.Graph.{graph_of, nodes_in}
+use Rattle.policy_rules.specs.Graph.{graph_of}
 use Rattle.policy_rules.specs.Resolved.{Resolved, IsResolved}
 use Rattle.tree_graph.specs.Descent.{Graph, lists, IsForest, IsDeep}
 use Rattle.tree_graph.specs.Preorder.{Numbered, IsSound}
 use Rattle.policy_programs.proofs.KnownPrograms.{shaped_known}
 use Rattle.policy_family.proofs.FamilyFaults.{is-forest, is-shallow}
 use Rattle.policy_places.specs.Homes.{AreHomes}
-use Rattle.policy_core.specs.Made.{nodes_told}
-use Rattle.policy_core.proofs.AssembledParts.{root-is, root-small, graph-few, homes-count, below-is, leaves-there, few-made, catch-all-made, stations-there, accepted-made, resolved-made}
+use Rattle.policy_core.proofs.AssembledParts.{root-is, root-small, graph-few, homes-count, parts-made, leaves-there, few-made, catch-all-made, stations-there, accepted-made, resolved-made}
 use Rattle.policy_core.proofs.resolution.assemble.Goals as goal
 
 pub overflow_cast-root : goal.overflow_cast-root
@@ -49,63 +47,51 @@ new-requires-2-clause-few_nodes c =
 pub new-requires-2-clause-stations : goal.new-requires-2-clause-stations
 new-requires-2-clause-stations c =
     let es = entries_of c.args.lines.now in
-    let tree = c.in_ok-tree.tree in
     let at = root-is es c.args.spaces.now.nodes c.place.result c.unwrap_or-root.result c.requires.accepted c.requires.spaces.nodes_are c.place.ensures c.unwrap_or-root.ensures in
-    let below = below-is es (lists c.args.graph.now) c.unwrap_or-root.result tree c.requires.graph at c.in_ok-tree.ensures.tree in
-    let stations : nodes_told c.args.programs c.in_ok-stations.stations ≡ nodes_in es = subst (λ (ps : List Program). nodes_told ps c.in_ok-stations.stations ≡ nodes_in es) (sym c.requires.programs) c.in_ok-stations.ensures.nodes in
-    let homes : AreHomes es tree.rows c.as_slice.result.now = subst (λ (ns : List ℕ). AreHomes es tree.rows ns) (sym c.as_slice.ensures.value) c.in_ok-leaves.ensures.homes in
-    stations-there es c.requires.accepted tree below c.in_ok-stations.stations c.args.programs stations c.as_slice.result.now homes c.in_ok-classes.classes c.in_ok-classes.ensures.classes
+    let parts = parts-made es (lists c.args.graph.now) c.unwrap_or-root.result c.in_ok-tree.tree c.in_ok-stations.stations c.args.programs c.as_slice.result.now _ c.in_ok-classes.classes c.requires.graph at c.in_ok-tree.ensures.tree
+        c.requires.programs c.in_ok-stations.ensures.nodes c.as_slice.ensures.value c.in_ok-leaves.ensures.homes c.in_ok-classes.ensures.classes in
+    stations-there es c.requires.accepted _ _ _ _ _ parts
     (c.in_ok-tree.ensures.count ∙ sym (length-map c.args.graph.now (λ v. v.items)) ∙ ap length c.requires.graph)
     (λ a l. c.in_ok-tree.ensures.once a (omega (arith, l, c.in_ok-tree.ensures.count)))
 
 pub new-requires-2-clause-leaves : goal.new-requires-2-clause-leaves
 new-requires-2-clause-leaves c =
     let es = entries_of c.args.lines.now in
-    let tree = c.in_ok-tree.tree in
     let at = root-is es c.args.spaces.now.nodes c.place.result c.unwrap_or-root.result c.requires.accepted c.requires.spaces.nodes_are c.place.ensures c.unwrap_or-root.ensures in
-    let below = below-is es (lists c.args.graph.now) c.unwrap_or-root.result tree c.requires.graph at c.in_ok-tree.ensures.tree in
-    let stations : nodes_told c.args.programs c.in_ok-stations.stations ≡ nodes_in es = subst (λ (ps : List Program). nodes_told ps c.in_ok-stations.stations ≡ nodes_in es) (sym c.requires.programs) c.in_ok-stations.ensures.nodes in
-    let homes : AreHomes es tree.rows c.as_slice.result.now = subst (λ (ns : List ℕ). AreHomes es tree.rows ns) (sym c.as_slice.ensures.value) c.in_ok-leaves.ensures.homes in
-    leaves-there es c.requires.accepted tree below c.in_ok-stations.stations c.args.programs stations c.as_slice.result.now homes c.in_ok-classes.classes c.in_ok-classes.ensures.classes
+    let parts = parts-made es (lists c.args.graph.now) c.unwrap_or-root.result c.in_ok-tree.tree c.in_ok-stations.stations c.args.programs c.as_slice.result.now _ c.in_ok-classes.classes c.requires.graph at c.in_ok-tree.ensures.tree
+        c.requires.programs c.in_ok-stations.ensures.nodes c.as_slice.ensures.value c.in_ok-leaves.ensures.homes c.in_ok-classes.ensures.classes in
+    leaves-there es c.requires.accepted _ _ _ _ _ parts
 
 pub new-requires-2-clause-few : goal.new-requires-2-clause-few
 new-requires-2-clause-few c =
     let es = entries_of c.args.lines.now in
-    let tree = c.in_ok-tree.tree in
     let at = root-is es c.args.spaces.now.nodes c.place.result c.unwrap_or-root.result c.requires.accepted c.requires.spaces.nodes_are c.place.ensures c.unwrap_or-root.ensures in
-    let below = below-is es (lists c.args.graph.now) c.unwrap_or-root.result tree c.requires.graph at c.in_ok-tree.ensures.tree in
-    let stations : nodes_told c.args.programs c.in_ok-stations.stations ≡ nodes_in es = subst (λ (ps : List Program). nodes_told ps c.in_ok-stations.stations ≡ nodes_in es) (sym c.requires.programs) c.in_ok-stations.ensures.nodes in
-    let homes : AreHomes es tree.rows c.as_slice.result.now = subst (λ (ns : List ℕ). AreHomes es tree.rows ns) (sym c.as_slice.ensures.value) c.in_ok-leaves.ensures.homes in
-    few-made es c.requires.accepted tree below c.in_ok-stations.stations c.args.programs stations c.as_slice.result.now homes c.in_ok-classes.classes c.in_ok-classes.ensures.classes c.requires.rising
+    let parts = parts-made es (lists c.args.graph.now) c.unwrap_or-root.result c.in_ok-tree.tree c.in_ok-stations.stations c.args.programs c.as_slice.result.now _ c.in_ok-classes.classes c.requires.graph at c.in_ok-tree.ensures.tree
+        c.requires.programs c.in_ok-stations.ensures.nodes c.as_slice.ensures.value c.in_ok-leaves.ensures.homes c.in_ok-classes.ensures.classes in
+    few-made es c.requires.accepted _ _ _ _ _ parts c.requires.rising
 
 pub new-requires-2-clause-catch_all : goal.new-requires-2-clause-catch_all
 new-requires-2-clause-catch_all c =
     let es = entries_of c.args.lines.now in
-    let tree = c.in_ok-tree.tree in
     let at = root-is es c.args.spaces.now.nodes c.place.result c.unwrap_or-root.result c.requires.accepted c.requires.spaces.nodes_are c.place.ensures c.unwrap_or-root.ensures in
-    let below = below-is es (lists c.args.graph.now) c.unwrap_or-root.result tree c.requires.graph at c.in_ok-tree.ensures.tree in
-    let stations : nodes_told c.args.programs c.in_ok-stations.stations ≡ nodes_in es = subst (λ (ps : List Program). nodes_told ps c.in_ok-stations.stations ≡ nodes_in es) (sym c.requires.programs) c.in_ok-stations.ensures.nodes in
-    let homes : AreHomes es tree.rows c.as_slice.result.now = subst (λ (ns : List ℕ). AreHomes es tree.rows ns) (sym c.as_slice.ensures.value) c.in_ok-leaves.ensures.homes in
-    catch-all-made es c.requires.accepted tree below c.in_ok-stations.stations c.args.programs stations c.as_slice.result.now homes c.in_ok-classes.classes c.in_ok-classes.ensures.classes
+    let parts = parts-made es (lists c.args.graph.now) c.unwrap_or-root.result c.in_ok-tree.tree c.in_ok-stations.stations c.args.programs c.as_slice.result.now _ c.in_ok-classes.classes c.requires.graph at c.in_ok-tree.ensures.tree
+        c.requires.programs c.in_ok-stations.ensures.nodes c.as_slice.ensures.value c.in_ok-leaves.ensures.homes c.in_ok-classes.ensures.classes in
+    catch-all-made es c.requires.accepted _ _ _ _ _ parts
 
 pub new-requires-2-clause-accepted : goal.new-requires-2-clause-accepted
 new-requires-2-clause-accepted c =
     let es = entries_of c.args.lines.now in
-    let tree = c.in_ok-tree.tree in
     let at = root-is es c.args.spaces.now.nodes c.place.result c.unwrap_or-root.result c.requires.accepted c.requires.spaces.nodes_are c.place.ensures c.unwrap_or-root.ensures in
-    let below = below-is es (lists c.args.graph.now) c.unwrap_or-root.result tree c.requires.graph at c.in_ok-tree.ensures.tree in
-    let stations : nodes_told c.args.programs c.in_ok-stations.stations ≡ nodes_in es = subst (λ (ps : List Program). nodes_told ps c.in_ok-stations.stations ≡ nodes_in es) (sym c.requires.programs) c.in_ok-stations.ensures.nodes in
-    let homes : AreHomes es tree.rows c.as_slice.result.now = subst (λ (ns : List ℕ). AreHomes es tree.rows ns) (sym c.as_slice.ensures.value) c.in_ok-leaves.ensures.homes in
-    accepted-made es c.requires.accepted tree below c.in_ok-stations.stations c.args.programs stations c.as_slice.result.now homes c.in_ok-classes.classes c.in_ok-classes.ensures.classes c.requires.rising c.requires.valid
+    let parts = parts-made es (lists c.args.graph.now) c.unwrap_or-root.result c.in_ok-tree.tree c.in_ok-stations.stations c.args.programs c.as_slice.result.now _ c.in_ok-classes.classes c.requires.graph at c.in_ok-tree.ensures.tree
+        c.requires.programs c.in_ok-stations.ensures.nodes c.as_slice.ensures.value c.in_ok-leaves.ensures.homes c.in_ok-classes.ensures.classes in
+    accepted-made es c.requires.accepted _ _ _ _ _ parts c.requires.rising c.requires.valid
     (shaped_known es c.requires.rising c.requires.accepted.0.0.0.0.0.0.0 c.requires.valid).1.1.1.1.1.1
     (subst (λ (p : Numbered). IsSound p.rows p.topology) c.tree.view_is c.tree.invariant)
 
 pub returns : goal.returns
 returns c =
     let es = entries_of c.args.lines.now in
-    let tree = c.in_ok-tree.tree in
     let at = root-is es c.args.spaces.now.nodes c.place.result c.unwrap_or-root.result c.requires.accepted c.requires.spaces.nodes_are c.place.ensures c.unwrap_or-root.ensures in
-    let below = below-is es (lists c.args.graph.now) c.unwrap_or-root.result tree c.requires.graph at c.in_ok-tree.ensures.tree in
-    let stations : nodes_told c.args.programs c.in_ok-stations.stations ≡ nodes_in es = subst (λ (ps : List Program). nodes_told ps c.in_ok-stations.stations ≡ nodes_in es) (sym c.requires.programs) c.in_ok-stations.ensures.nodes in
-    let homes : AreHomes es tree.rows c.as_slice.result.now = subst (λ (ns : List ℕ). AreHomes es tree.rows ns) (sym c.as_slice.ensures.value) c.in_ok-leaves.ensures.homes in
-    record { policy = subst (λ (r : Resolved). IsResolved es r) (sym c.new-2.ensures.policy) (resolved-made es c.requires.accepted tree below c.in_ok-stations.stations c.args.programs stations c.as_slice.result.now homes c.in_ok-classes.classes c.in_ok-classes.ensures.classes c.requires.valid) }
+    let parts = parts-made es (lists c.args.graph.now) c.unwrap_or-root.result c.in_ok-tree.tree c.in_ok-stations.stations c.args.programs c.as_slice.result.now _ c.in_ok-classes.classes c.requires.graph at c.in_ok-tree.ensures.tree
+        c.requires.programs c.in_ok-stations.ensures.nodes c.as_slice.ensures.value c.in_ok-leaves.ensures.homes c.in_ok-classes.ensures.classes in
+    record { policy = subst (λ (r : Resolved). IsResolved es r) (sym c.new-2.ensures.policy) (resolved-made es c.requires.accepted _ _ _ _ _ parts c.requires.valid) }

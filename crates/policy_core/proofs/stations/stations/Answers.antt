@@ -16,7 +16,7 @@ loop-statement-preserved c =
     let l = c.loop-statement-item.result in
     let i = c.loop-statement.statement-index in
     let more : AreMore es (sense_of l.1) c.loop-statement.stations c.add_station.new.stations =
-    c.in_ok-add_station.ensures.added es (before l.0 es) c.requires.rising c.requires.few c.requires.transactions
+    c.in_ok-add_station.ensures.added es c.requires.rising c.requires.few c.requires.transactions (before l.0 es)
     (known-here c.args.lines.now i l c.requires.few.0.1 c.loop-statement-test.true c.loop-statement-item.is) c.loop-statement.invariant.programs in
     record {
       nodes = more.nodes

@@ -1,5 +1,5 @@
 use Rattle.std.proofs.Common.{◌∙◌, ◌≤◌, subst}
-use Rattle.tree_defs.specs.Tree.{depth}
+use Rattle.tree_defs.specs.Tree.{depth, most_levels}
 use Rattle.tree_defs.specs.Topology.{Topology, IsBranched}
 use Rattle.policy_core.proofs.PolicyParts.{topology-is, few-nodes}
 use Rattle.policy_core.proofs.policy.Policy.topo.Goals as goal
@@ -14,4 +14,4 @@ pub returns-clause-few : goal.returns-clause-few
 returns-clause-few c = few-nodes _ _ _ _ c.args.self.now c.self.view_is c.self.invariant
 
 pub returns-clause-levels : goal.returns-clause-levels
-returns-clause-levels c = subst (λ (t : Topology). depth t ≤ 64) (topology-is _ _ _ _ c.args.self.now c.self.view_is c.self.invariant) c.topo.ensures.levels
+returns-clause-levels c = subst (λ (t : Topology). depth t ≤ most_levels) (topology-is _ _ _ _ c.args.self.now c.self.view_is c.self.invariant) c.topo.ensures.levels
