@@ -1,4 +1,4 @@
-use Rattle.std.proofs.Common.{◌≡◌, ◌∙◌, ℕ, List, ap, sym, subst, length, arith}
+use Rattle.std.proofs.Common.{◌∙◌, ℕ, List, ap, sym, subst, length, arith}
 use Rattle.std.proofs.lemmas.List.{length-map}
 use Rattle.policy_rules.specs.Entries.{entries_of}
 use Rattle.policy_rules.specs.Graph.{graph_of}
@@ -49,7 +49,7 @@ new-requires-2-clause-stations c =
     let es = entries_of c.args.lines.now in
     let at = root-is es c.args.spaces.now.nodes c.place.result c.unwrap_or-root.result c.requires.accepted c.requires.spaces.nodes_are c.place.ensures c.unwrap_or-root.ensures in
     let parts = parts-made es (lists c.args.graph.now) c.unwrap_or-root.result c.in_ok-tree.tree c.in_ok-stations.stations c.args.programs c.as_slice.result.now _ c.in_ok-classes.classes c.requires.graph at c.in_ok-tree.ensures.tree
-        c.requires.programs c.in_ok-stations.ensures.nodes c.as_slice.ensures.value c.in_ok-leaves.ensures.homes c.in_ok-classes.ensures.classes in
+    c.requires.programs c.in_ok-stations.ensures.nodes c.as_slice.ensures.value c.in_ok-leaves.ensures.homes c.in_ok-classes.ensures.classes in
     stations-there es c.requires.accepted _ _ _ _ _ parts
     (c.in_ok-tree.ensures.count ∙ sym (length-map c.args.graph.now (λ v. v.items)) ∙ ap length c.requires.graph)
     (λ a l. c.in_ok-tree.ensures.once a (omega (arith, l, c.in_ok-tree.ensures.count)))
@@ -59,7 +59,7 @@ new-requires-2-clause-leaves c =
     let es = entries_of c.args.lines.now in
     let at = root-is es c.args.spaces.now.nodes c.place.result c.unwrap_or-root.result c.requires.accepted c.requires.spaces.nodes_are c.place.ensures c.unwrap_or-root.ensures in
     let parts = parts-made es (lists c.args.graph.now) c.unwrap_or-root.result c.in_ok-tree.tree c.in_ok-stations.stations c.args.programs c.as_slice.result.now _ c.in_ok-classes.classes c.requires.graph at c.in_ok-tree.ensures.tree
-        c.requires.programs c.in_ok-stations.ensures.nodes c.as_slice.ensures.value c.in_ok-leaves.ensures.homes c.in_ok-classes.ensures.classes in
+    c.requires.programs c.in_ok-stations.ensures.nodes c.as_slice.ensures.value c.in_ok-leaves.ensures.homes c.in_ok-classes.ensures.classes in
     leaves-there es c.requires.accepted _ _ _ _ _ parts
 
 pub new-requires-2-clause-few : goal.new-requires-2-clause-few
@@ -67,7 +67,7 @@ new-requires-2-clause-few c =
     let es = entries_of c.args.lines.now in
     let at = root-is es c.args.spaces.now.nodes c.place.result c.unwrap_or-root.result c.requires.accepted c.requires.spaces.nodes_are c.place.ensures c.unwrap_or-root.ensures in
     let parts = parts-made es (lists c.args.graph.now) c.unwrap_or-root.result c.in_ok-tree.tree c.in_ok-stations.stations c.args.programs c.as_slice.result.now _ c.in_ok-classes.classes c.requires.graph at c.in_ok-tree.ensures.tree
-        c.requires.programs c.in_ok-stations.ensures.nodes c.as_slice.ensures.value c.in_ok-leaves.ensures.homes c.in_ok-classes.ensures.classes in
+    c.requires.programs c.in_ok-stations.ensures.nodes c.as_slice.ensures.value c.in_ok-leaves.ensures.homes c.in_ok-classes.ensures.classes in
     few-made es c.requires.accepted _ _ _ _ _ parts c.requires.rising
 
 pub new-requires-2-clause-catch_all : goal.new-requires-2-clause-catch_all
@@ -75,7 +75,7 @@ new-requires-2-clause-catch_all c =
     let es = entries_of c.args.lines.now in
     let at = root-is es c.args.spaces.now.nodes c.place.result c.unwrap_or-root.result c.requires.accepted c.requires.spaces.nodes_are c.place.ensures c.unwrap_or-root.ensures in
     let parts = parts-made es (lists c.args.graph.now) c.unwrap_or-root.result c.in_ok-tree.tree c.in_ok-stations.stations c.args.programs c.as_slice.result.now _ c.in_ok-classes.classes c.requires.graph at c.in_ok-tree.ensures.tree
-        c.requires.programs c.in_ok-stations.ensures.nodes c.as_slice.ensures.value c.in_ok-leaves.ensures.homes c.in_ok-classes.ensures.classes in
+    c.requires.programs c.in_ok-stations.ensures.nodes c.as_slice.ensures.value c.in_ok-leaves.ensures.homes c.in_ok-classes.ensures.classes in
     catch-all-made es c.requires.accepted _ _ _ _ _ parts
 
 pub new-requires-2-clause-accepted : goal.new-requires-2-clause-accepted
@@ -83,7 +83,7 @@ new-requires-2-clause-accepted c =
     let es = entries_of c.args.lines.now in
     let at = root-is es c.args.spaces.now.nodes c.place.result c.unwrap_or-root.result c.requires.accepted c.requires.spaces.nodes_are c.place.ensures c.unwrap_or-root.ensures in
     let parts = parts-made es (lists c.args.graph.now) c.unwrap_or-root.result c.in_ok-tree.tree c.in_ok-stations.stations c.args.programs c.as_slice.result.now _ c.in_ok-classes.classes c.requires.graph at c.in_ok-tree.ensures.tree
-        c.requires.programs c.in_ok-stations.ensures.nodes c.as_slice.ensures.value c.in_ok-leaves.ensures.homes c.in_ok-classes.ensures.classes in
+    c.requires.programs c.in_ok-stations.ensures.nodes c.as_slice.ensures.value c.in_ok-leaves.ensures.homes c.in_ok-classes.ensures.classes in
     accepted-made es c.requires.accepted _ _ _ _ _ parts c.requires.rising c.requires.valid
     (shaped_known es c.requires.rising c.requires.accepted.0.0.0.0.0.0.0 c.requires.valid).1.1.1.1.1.1
     (subst (λ (p : Numbered). IsSound p.rows p.topology) c.tree.view_is c.tree.invariant)
@@ -93,5 +93,5 @@ returns c =
     let es = entries_of c.args.lines.now in
     let at = root-is es c.args.spaces.now.nodes c.place.result c.unwrap_or-root.result c.requires.accepted c.requires.spaces.nodes_are c.place.ensures c.unwrap_or-root.ensures in
     let parts = parts-made es (lists c.args.graph.now) c.unwrap_or-root.result c.in_ok-tree.tree c.in_ok-stations.stations c.args.programs c.as_slice.result.now _ c.in_ok-classes.classes c.requires.graph at c.in_ok-tree.ensures.tree
-        c.requires.programs c.in_ok-stations.ensures.nodes c.as_slice.ensures.value c.in_ok-leaves.ensures.homes c.in_ok-classes.ensures.classes in
+    c.requires.programs c.in_ok-stations.ensures.nodes c.as_slice.ensures.value c.in_ok-leaves.ensures.homes c.in_ok-classes.ensures.classes in
     record { policy = subst (λ (r : Resolved). IsResolved es r) (sym c.new-2.ensures.policy) (resolved-made es c.requires.accepted _ _ _ _ _ parts c.requires.valid) }
