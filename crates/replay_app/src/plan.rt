@@ -40,7 +40,8 @@ fn write_plan<K: Sink>(alloc: Global, plan: &PlanText, sink: &mut K) -> Result<S
     ensures status { IfOk result (λ s. status_code s ≡ (plan_answer plan.now.fits plan.now.text.items).status) }
     ensures statuses { IfOk result (λ s. IsOneOf (5 ∷ 0 ∷ []) (status_code s)) }
     ensures text { OnOk result (Appended (K.written sink.old) (K.written sink.new) (plan_answer plan.now.fits plan.now.text.items).text) }
-    ensures part { OnErr result (AppendedPrefix (K.written sink.old) (K.written sink.new) (plan_answer plan.now.fits plan.now.text.items).text) }
+    ensures part { OnErr result (AppendedPrefix (K.written sink.old) (K.written sink.new)
+        (plan_answer plan.now.fits plan.now.text.items).text) }
     ensures cause { IfErr result (λ stop. HasSinkCause stop K.faults sink.old sink.new) }
 {
     if !plan.fits {

@@ -30,7 +30,8 @@ fn script_in(alloc: Global, text: &[u8]) -> Result<Read<Script>, AllocError>
 pub fn read_script<S: Shelf>(alloc: Global, shelf: &mut S, name: &str) -> Result<Read<Script>, Stop>
     requires lent { IsTrue (S.lends shelf.old name.now) }
 
-    ensures read { IfOk result (λ read. IfSome (S.content shelf.old name.now) (λ text. IsRead (IsScriptRefused text) (IsScript text) read)) }
+    ensures read { IfOk result (λ read. IfSome (S.content shelf.old name.now) (λ text.
+        IsRead (IsScriptRefused text) (IsScript text) read)) }
     ensures short { IfOk result (λ read. IfAccepted read (λ steps. counts_of steps ≤ most_count)) }
     ensures kept { KeepsShelf S.lends S.content S.faults shelf.old shelf.new }
     ensures cause { IfErr result (λ stop. HasSourceCause stop S.faults shelf.old shelf.new) }

@@ -37,7 +37,8 @@ pub fn read_target_file<S: Shelf>(
 ) -> Result<Read<Target>, Stop>
     requires lent { IsTrue (S.lends shelf.old name.now) }
 
-    ensures read { IfOk result (λ read. IfSome (S.content shelf.old name.now) (λ text. IsRead (IsTargetRefused text) (IsTargetOf text) read)) }
+    ensures read { IfOk result (λ read. IfSome (S.content shelf.old name.now) (λ text.
+        IsRead (IsTargetRefused text) (IsTargetOf text) read)) }
     ensures range { IfOk result (λ read. IfAccepted read (λ t. IsInRange t.arities t.above)) }
     ensures kept { KeepsShelf S.lends S.content S.faults shelf.old shelf.new }
     ensures cause { IfErr result (λ stop. HasSourceCause stop S.faults shelf.old shelf.new) }

@@ -15,7 +15,8 @@ impl Buffer {
         requires leaf { length leaf.now ≤ 64 }
         requires few { length ranks.now ≤ 65 }
         requires room { length self.old ≤ limit }
-        ensures text { self.new ≡ self.old ++ join_with_byte 32 (letter.now ∷ decimal event ∷ decimal packet ∷ leaf.now ∷ ranks_text ranks.now ∷ []) }
+        ensures text { self.new ≡ self.old ++
+            join_with_byte 32 (letter.now ∷ decimal event ∷ decimal packet ∷ leaf.now ∷ ranks_text ranks.now ∷ []) }
         ensures short { length self.new ≤ length self.old + 2747 }
     {
         self.put_bytes(letter);

@@ -99,7 +99,8 @@ impl Report {
         requires leaf { length leaf.now ≤ 64 }
         requires few { length ranks.now ≤ 65 }
 
-        ensures ok { OnOk result (Tells K.written sink.old self.old sink.new self.new (departure_line event packet leaf.now ranks.now start)) }
+        ensures ok { OnOk result (Tells K.written sink.old self.old sink.new self.new
+            (departure_line event packet leaf.now ranks.now start)) }
         ensures cut { OnErr result (CutsOff K.written sink.old self.old sink.new (departure_line event packet leaf.now ranks.now start)) }
         ensures kept { KeepsSink K.written K.faults sink.old sink.new }
         ensures cause { OnErr result (Rose (K.faults sink.old) (K.faults sink.new)) }

@@ -207,7 +207,8 @@ fn leave<C: Scheduler>(
     requires stands { StandForOne C.stands policy.now.policy scheduler.old under.old (λ _. Unit {0}) }
     requires room { depth policy.now.policy.tree ≤ trace.old.room }
     requires few { C.departures scheduler.old < 2 ^ 61 }
-    ensures stands { (n : ℕ) → StandForOne C.stands policy.now.policy scheduler.old under.old (λ s. IsHeldBelow n s.held) → StandForOne C.stands policy.now.policy scheduler.new under.new (λ s. IsHeldBelow n s.held) }
+    ensures stands { (n : ℕ) → StandForOne C.stands policy.now.policy scheduler.old under.old (λ s. IsHeldBelow n s.held) →
+        StandForOne C.stands policy.now.policy scheduler.new under.new (λ s. IsHeldBelow n s.held) }
     ensures policy { C.policy scheduler.new ≡ policy.now.policy }
     ensures room { trace.new.room ≡ trace.old.room }
     ensures arrivals { C.arrivals scheduler.new ≡ C.arrivals scheduler.old }
@@ -304,7 +305,8 @@ fn come_both<C: Scheduler>(
     requires can { CanMake policy.now.policy (Arrive first.now ∷ Arrive second.now ∷ []) (start policy.now.policy) }
     requires room { depth policy.now.policy.tree ≤ trace.old.room }
     requires no_arrivals { C.arrivals scheduler.old ≡ 0 }
-    ensures stands { OnOk result (C.stands scheduler.new under.new (after policy.now.policy (Arrive first.now ∷ Arrive second.now ∷ []) (start policy.now.policy))) }
+    ensures stands { OnOk result (C.stands scheduler.new under.new
+        (after policy.now.policy (Arrive first.now ∷ Arrive second.now ∷ []) (start policy.now.policy))) }
     ensures arrivals { OnOk result (C.arrivals scheduler.new ≡ 2) }
     ensures departures { C.departures scheduler.new ≡ C.departures scheduler.old }
     ensures policy { C.policy scheduler.new ≡ policy.now.policy }
@@ -329,9 +331,11 @@ fn fill<'a, F: Fabric>(
     requires no_pushes { F.pushed fabric.old ≡ 0 }
     requires no_pops { F.popped fabric.old ≡ 0 }
     requires can { CanMake policy.now.policy (Arrive first.now ∷ Arrive second.now ∷ []) (start policy.now.policy) }
-    ensures stands { IfOk result (λ r. EmbeddedStands F.Fabric r.0 fabric.new (after policy.now.policy (Arrive first.now ∷ Arrive second.now ∷ []) (start policy.now.policy))) }
+    ensures stands { IfOk result (λ r. EmbeddedStands F.Fabric r.0 fabric.new
+        (after policy.now.policy (Arrive first.now ∷ Arrive second.now ∷ []) (start policy.now.policy))) }
     ensures policy { IfOk result (λ r. policy_in r.0.own ≡ policy.now.policy) }
-    ensures images { IfOk result (λ r. IsCanonical (levels_of target.now) (length target.now.arities) (topology_of policy.now.policy.tree) (origin_of r.0).images) }
+    ensures images { IfOk result (λ r. IsCanonical (levels_of target.now) (length target.now.arities)
+        (topology_of policy.now.policy.tree) (origin_of r.0).images) }
     ensures arities { IfOk result (λ r. (origin_of r.0).arities ≡ target.now.arities) }
     ensures pushes { IfOk result (λ r. (origin_of r.0).pushes ≡ 0) }
     ensures pops { IfOk result (λ r. (origin_of r.0).pops ≡ 0) }

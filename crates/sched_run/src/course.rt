@@ -120,7 +120,8 @@ impl<'a, C: Scheduler + Drop, N: NodeNames> Run<'a, C, N> {
         requires short { counts_of steps.now ≤ most_count }
 
         ensures ok { IfOk result (λ e. Courses C.Scheduler (C.policy self.old.scheduler) steps.now e (P.left packets.old source.old)
-            (stage_of self.old under.old (K.written sink.old) (P.given packets.old)) (stage_of self.new under.new (K.written sink.new) (P.given packets.new))) }
+            (stage_of self.old under.old (K.written sink.old) (P.given packets.old))
+            (stage_of self.new under.new (K.written sink.new) (P.given packets.new))) }
         ensures err { OnErr result (StopsAmid C.Scheduler (C.policy self.old.scheduler)
             (λ l s. (course_of (C.policy self.old.scheduler) steps.now l s (event_of self.old.tally)).events) (P.left packets.old source.old)
             (stage_of self.old under.old (K.written sink.old) (P.given packets.old)) self.new.scheduler under.new (K.written sink.new)) }
@@ -159,14 +160,14 @@ impl<'a, C: Scheduler + Drop, N: NodeNames> Run<'a, C, N> {
         requires few { P.given packets.old ≤ most_packets }
         requires short { counts_of steps.now ≤ most_count }
 
-        ensures ok { OnOk result (OnCourse C.stands (C.policy self.old.scheduler) self.old.scheduler under.old (P.given packets.old)
-            (P.left packets.old source.old) steps.now (λ s run.
+        ensures ok { OnOk result (OnCourse C.stands (C.policy self.old.scheduler) self.old.scheduler under.old
+            (P.given packets.old) (P.left packets.old source.old) steps.now (λ s run.
             Runs C.Scheduler (C.policy self.old.scheduler) run s self.old.scheduler under.old self.new.scheduler under.new
             (text_of (K.written sink.old) self.old.report) (K.written sink.new))) }
-        ensures ending { IfOk result (λ e. OnCourse C.stands (C.policy self.old.scheduler) self.old.scheduler under.old (P.given packets.old)
-            (P.left packets.old source.old) steps.now (λ s run. e ≡ run.ending)) }
-        ensures err { OnErr result (OnCourse C.stands (C.policy self.old.scheduler) self.old.scheduler under.old (P.given packets.old)
-            (P.left packets.old source.old) steps.now (λ s run.
+        ensures ending { IfOk result (λ e. OnCourse C.stands (C.policy self.old.scheduler) self.old.scheduler under.old
+            (P.given packets.old) (P.left packets.old source.old) steps.now (λ s run. e ≡ run.ending)) }
+        ensures err { OnErr result (OnCourse C.stands (C.policy self.old.scheduler) self.old.scheduler under.old
+            (P.given packets.old) (P.left packets.old source.old) steps.now (λ s run.
             Breaks C.Scheduler (C.policy self.old.scheduler) run s self.old.scheduler under.old self.new.scheduler under.new
             (text_of (K.written sink.old) self.old.report) (K.written sink.new))) }
         ensures kept { Continues C.Scheduler self.old self.new }

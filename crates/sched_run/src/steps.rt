@@ -69,8 +69,10 @@ impl<'a, C: Scheduler + Drop, N: NodeNames> Run<'a, C, N> {
 
         ensures ok { IfOk result (λ e. Turns C.Scheduler (C.policy self.old.scheduler) (step_of step) e
             (P.left packets.old source.old) (P.left packets.new source.new)
-            (stage_of self.old under.old (K.written sink.old) (P.given packets.old)) (stage_of self.new under.new (K.written sink.new) (P.given packets.new))) }
-        ensures err { OnErr result (StopsAmid C.Scheduler (C.policy self.old.scheduler) (λ l s. step_events (step_of step) l.packets s) (P.left packets.old source.old)
+            (stage_of self.old under.old (K.written sink.old) (P.given packets.old))
+            (stage_of self.new under.new (K.written sink.new) (P.given packets.new))) }
+        ensures err { OnErr result (StopsAmid C.Scheduler (C.policy self.old.scheduler) (λ l s. step_events (step_of step) l.packets s)
+            (P.left packets.old source.old)
             (stage_of self.old under.old (K.written sink.old) (P.given packets.old)) self.new.scheduler under.new (K.written sink.new)) }
         ensures kept { Continues C.Scheduler self.old self.new }
         ensures kept_sink { KeepsSink K.written K.faults sink.old sink.new }
