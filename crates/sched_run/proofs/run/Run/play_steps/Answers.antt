@@ -57,6 +57,7 @@ loop-step-preserved g c =
     let run = rw (drop-cons c.args.steps.now c.loop-step.step-index (Arrive 0) below) at i.run in
     let e = c.in_ok-ending.ensures in
     let turns = rw (i.kept.policy, c.in_default.is) at e.ok in
+    let further = rw c.in_default.is at e.further in
     record {
       run = rw (add-one c.loop-step.step-index) (run_goes S (S.policy c.args.self.now.scheduler) c.requires.set.accepted c.args.steps.now _ _ _ _ _ _ i.further.given run _ _ turns);
       further = record { ready = further.ready; given = omega (arith, i.further.given, further.given); few = further.few };
