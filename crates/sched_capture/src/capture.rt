@@ -97,5 +97,13 @@ pub fn direct<S: Shelf, K: Sink>(
         return Err(Stop::Memory);
     };
     let mut run = Run::new(alloc, policy, policy.depth(), scheduler)?;
-    run_over(&mut run, &mut tree, steps, &mut packets, shelf, sink)
+    run_over(
+        policy,
+        &mut run,
+        &mut tree,
+        steps,
+        &mut packets,
+        shelf,
+        sink,
+    )
 }

@@ -19,8 +19,9 @@ use sched_defs::Ending;
 use sched_packets::Arrivals;
 use sched_run::Run;
 
-/// Runs the packets that come through any scheduler that stands for the start, and writes the report.
+/// Runs the packets that come through any scheduler of this policy that stands for the start, and writes the report.
 pub fn run_over<C: Scheduler + Drop, S: Shelf, K: Sink>(
+    policy: &Policy,
     run: &mut Run<'_, C, Policy>,
     under: &mut C::Under,
     steps: &[Step],
@@ -30,27 +31,28 @@ pub fn run_over<C: Scheduler + Drop, S: Shelf, K: Sink>(
 ) -> Result<Ending, Stop>
     requires set { IsSet C.Scheduler (λ p. p.policy) run.old }
     requires fresh { run.old.report.unwritten ≡ [] }
-    requires policy { policy_of packets.old ≡ C.policy run.old.scheduler }
+    requires policy { C.policy run.old.scheduler ≡ policy.now.policy }
+    requires packets { policy_of packets.old ≡ policy.now.policy }
     requires none_given { given_by packets.old ≡ 0 }
     requires ready { IsReady packets.old (S.begun shelf.old) }
     requires short { counts_of steps.now ≤ most_count }
-    requires stands { C.stands run.old.scheduler under.old (start (C.policy run.old.scheduler)) }
+    requires stands { C.stands run.old.scheduler under.old (start policy.now.policy) }
     requires no_arrivals { C.arrivals run.old.scheduler ≡ 0 }
     requires no_departures { C.departures run.old.scheduler ≡ 0 }
 
     ensures ending { IfOk result (λ e. IfSome (left_of packets.old (S.left shelf.old)) (λ l.
-        e ≡ (answer_of (C.policy run.old.scheduler) steps.now l.packets l.fault).ending)) }
+        e ≡ (answer_of policy.now.policy steps.now l.packets l.fault).ending)) }
     ensures text { OnOk result (IfSome (left_of packets.old (S.left shelf.old)) (λ l.
-        Appended (K.written sink.old) (K.written sink.new) (answer_of (C.policy run.old.scheduler) steps.now l.packets l.fault).text)) }
+        Appended (K.written sink.old) (K.written sink.new) (answer_of policy.now.policy steps.now l.packets l.fault).text)) }
     ensures part { OnErr result (IfSome (left_of packets.old (S.left shelf.old)) (λ l.
-        AppendedPrefix (K.written sink.old) (K.written sink.new) (answer_of (C.policy run.old.scheduler) steps.now l.packets l.fault).text)) }
+        AppendedPrefix (K.written sink.old) (K.written sink.new) (answer_of policy.now.policy steps.now l.packets l.fault).text)) }
     ensures state { OnOk result (IfSome (left_of packets.old (S.left shelf.old)) (λ l.
-        HasMade C.Scheduler (C.policy run.old.scheduler)
-        (course_of (C.policy run.old.scheduler) steps.now l (start (C.policy run.old.scheduler)) 1).events (start (C.policy run.old.scheduler))
+        HasMade C.Scheduler policy.now.policy
+        (course_of policy.now.policy steps.now l (start policy.now.policy) 1).events (start policy.now.policy)
         run.old.scheduler under.old run.new.scheduler under.new)) }
     ensures amid { OnErr result (IfSome (left_of packets.old (S.left shelf.old)) (λ l.
-        HasMadeSome C.Scheduler (C.policy run.old.scheduler)
-        (course_of (C.policy run.old.scheduler) steps.now l (start (C.policy run.old.scheduler)) 1).events (start (C.policy run.old.scheduler))
+        HasMadeSome C.Scheduler policy.now.policy
+        (course_of policy.now.policy steps.now l (start policy.now.policy) 1).events (start policy.now.policy)
         run.old.scheduler under.old run.new.scheduler under.new)) }
     ensures kept_run { Continues C.Scheduler run.old run.new }
     ensures kept { KeepsSink K.written K.faults sink.old sink.new }

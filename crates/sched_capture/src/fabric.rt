@@ -74,5 +74,5 @@ pub fn replay<S: Shelf, K: Sink, F: Fabric>(
         return Err(Stop::Memory);
     };
     let mut run = Run::new(alloc, policy, policy.depth(), scheduler)?;
-    run_over(&mut run, fabric, steps, &mut packets, shelf, sink)
+    run_over(policy, &mut run, fabric, steps, &mut packets, shelf, sink)
 }

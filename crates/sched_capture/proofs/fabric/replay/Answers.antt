@@ -1,6 +1,7 @@
-use Rattle.std.proofs.Common.{[], refl, sym, arith}
+use Rattle.std.proofs.Common.{[], refl, sym, ap, ◌∙◌, arith}
 use Rattle.std.proofs.lemmas.Result.{on_err_weaker}
 use Rattle.sched_packets.specs.Arrivals.{left_of}
+use Rattle.sched_embedded.specs.Embedded.{origin_of}
 use Rattle.sched_embedded.specs.Laid.{Laid}
 use Rattle.sched_run.proofs.JoinedEvents.{raised_nothing}
 use Rattle.sched_capture.proofs.FabricRuns.{holds_after, left_by, left_amid, none_amid}
@@ -14,8 +15,9 @@ returns-clause-fabric g c =
     let policy = c.args.policy.now in
     let laid : Laid = record { images = c.args.placement.map; arities = c.args.placement.target.arities } in
     let n = c.in-Ok-new.ensures in
+    let runs = c.in_ok-run.ensures.scheduler in
     left_by g.F.Fabric policy laid c.args.steps.now c.run_over.result (g.S.Shelf.left c.args.shelf.now) (left_of c.in-Ok.packets (g.S.Shelf.left c.begin.new.shelf)) _ c.args.fabric.now c.run_over.new.under
-    (λ l made. holds_after g.F.Fabric policy.policy laid c.in-Ok-new.scheduler c.args.fabric.now c.new.new.fabric n.origin n.arrivals n.departures n.spilled _ c.run_over.new.run.scheduler c.run_over.new.under made.state made.arrived made.departed made.origin made.spilled)
+    (λ l made. holds_after g.F.Fabric policy.policy laid c.in_ok-run.run'.scheduler c.args.fabric.now c.new.new.fabric (ap (λ s. origin_of s) runs ∙ n.origin) (ap (λ s. s.own.arrivals) runs ∙ n.arrivals) (ap (λ s. s.own.departures) runs ∙ n.departures) n.spilled _ c.run_over.new.run.scheduler c.run_over.new.under made.state made.arrived made.departed made.origin made.spilled)
     c.in-Ok.ensures.begins c.run_over.ensures.state
 
 pub returns-clause-fabric_part : goal.returns-clause-fabric_part
@@ -23,12 +25,13 @@ returns-clause-fabric_part g c =
     let policy = c.args.policy.now in
     let laid : Laid = record { images = c.args.placement.map; arities = c.args.placement.target.arities } in
     let n = c.in-Ok-new.ensures in
+    let runs = c.in_ok-run.ensures.scheduler in
     left_amid g.F.Fabric policy laid c.args.steps.now c.run_over.result (g.S.Shelf.left c.args.shelf.now) (left_of c.in-Ok.packets (g.S.Shelf.left c.begin.new.shelf)) _ c.args.fabric.now c.run_over.new.under
     (λ l some. record {
       made = some.made;
       unmade = some.unmade;
       whole = some.whole;
-      holds = holds_after g.F.Fabric policy.policy laid c.in-Ok-new.scheduler c.args.fabric.now c.new.new.fabric n.origin n.arrivals n.departures n.spilled some.made c.run_over.new.run.scheduler c.run_over.new.under
+      holds = holds_after g.F.Fabric policy.policy laid c.in_ok-run.run'.scheduler c.args.fabric.now c.new.new.fabric (ap (λ s. origin_of s) runs ∙ n.origin) (ap (λ s. s.own.arrivals) runs ∙ n.arrivals) (ap (λ s. s.own.departures) runs ∙ n.departures) n.spilled some.made c.run_over.new.run.scheduler c.run_over.new.under
           some.leaves.state some.leaves.arrived some.leaves.departed some.leaves.origin some.leaves.spilled;
     })
     c.in-Ok.ensures.begins c.run_over.ensures.amid
