@@ -1,9 +1,7 @@
 -- Contents that are told, and what is told of endings.
 use Rattle.std.proofs.Common.{◌≡◌, ◌<◌, ◌≤◌, ℕ, Bool, Option, None, Some, List, [], ◌∷◌, map, refl, ap, ◌∙◌, arith, inl, inr}
 use Rattle.std.specs.Prelude.{IfSome, Result, Ok, Err, IfOk}
-use Rattle.outside_core.specs.Faults.{Rose}
 use Rattle.outside_core.specs.Files.{KeepsFiles}
-use Rattle.outside_core.specs.Kept.{HasCause}
 use Rattle.policy_text_defs.specs.Canonical.{canonical_text}
 use Rattle.policy_text_defs.specs.Sense.{Sense}
 use Rattle.policy_text.specs.Entries.{Numbered, entry_of, sense_at}
@@ -83,16 +81,3 @@ pub high_stop : (stop : Stop) → 8 ≤ stop_status stop
 high_stop Source = omega arith
 high_stop Sink = omega arith
 high_stop Memory = omega arith
-
--- what stopped the program is where the count of faults rose
-pub shelf-rose : {S K : Type 0} (stop : Stop) (shelf_faults : S → ℕ) (s s' : S) (sink_faults : K → ℕ) (k k' : K) (n : ℕ) → HasCause stop shelf_faults s s' sink_faults k k' → n ≡ stop_status stop → n ≡ 8
-    → Rose (shelf_faults s) (shelf_faults s')
-shelf-rose Source shelf_faults s s' sink_faults k k' n cause is eight = cause
-shelf-rose Sink shelf_faults s s' sink_faults k k' n cause is eight = absurd (omega (arith, is, eight))
-shelf-rose Memory shelf_faults s s' sink_faults k k' n cause is eight = absurd (omega (arith, is, eight))
-
-pub sink-rose : {S K : Type 0} (stop : Stop) (shelf_faults : S → ℕ) (s s' : S) (sink_faults : K → ℕ) (k k' : K) (n : ℕ) → HasCause stop shelf_faults s s' sink_faults k k' → n ≡ stop_status stop → n ≡ 9
-    → Rose (sink_faults k) (sink_faults k')
-sink-rose Source shelf_faults s s' sink_faults k k' n cause is nine = absurd (omega (arith, is, nine))
-sink-rose Sink shelf_faults s s' sink_faults k k' n cause is nine = cause
-sink-rose Memory shelf_faults s s' sink_faults k k' n cause is nine = absurd (omega (arith, is, nine))

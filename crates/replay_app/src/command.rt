@@ -1,7 +1,6 @@
 //! The one call of the program.
-ghost use Rattle.std.specs.Prelude.{◌≡◌, ◌≢◌, ◌<◌, ◌^◌, ◌∷◌, [], IfOk, IsErrOf, IfErr};
+ghost use Rattle.std.specs.Prelude.{◌≡◌, ◌≢◌, ◌<◌, ◌^◌, ◌∷◌, [], IfOk, IsErrOf};
 ghost use Rattle.outside_core.specs.Faults.{Rose};
-ghost use Rattle.outside_core.specs.Kept.{HasCause};
 ghost use Rattle.sched_embedded.specs.Fabrics.{IsAsItWas};
 ghost use Rattle.replay_app.specs.Answer.{IsLeft, IsTold};
 ghost use Rattle.replay_app.specs.Fabrics.{IsLeftBehind, UsesNoFabric};
@@ -46,7 +45,8 @@ fn answer<S: Shelf, K: Sink, F: Fabric>(
     ensures refused { IfOk result (λ s. IsRefusal (status_code s) → IsAsItWas F.Fabric fabric.old fabric.new) }
     ensures untouched { UsesNoFabric (form_in words.now) → IsAsItWas F.Fabric fabric.old fabric.new }
     ensures no_files { file_words (form_in words.now) ≡ [] → IsErrOf result Stop.Source → ⊥ }
-    ensures cause { IfErr result (λ stop. HasCause stop S.faults shelf.old shelf.new K.faults sink.old sink.new) }
+    ensures shelf_cause { IsErrOf result Stop.Source → Rose (S.faults shelf.old) (S.faults shelf.new) }
+    ensures sink_cause { IsErrOf result Stop.Sink → Rose (K.faults sink.old) (K.faults sink.new) }
 {
     match command_of(words) {
         Some(Command::Replay(files)) => replay_files(alloc, &files, shelf, sink, fabric),

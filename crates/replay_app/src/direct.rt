@@ -1,6 +1,6 @@
 //! Runs through a policy's own tree of queues.
-ghost use Rattle.std.specs.Prelude.{◌≡◌, ◌≤◌, ◌∷◌, [], IfOk, IfSome, OnOk, OnErr, IsTrue, IfErr};
-ghost use Rattle.outside_core.specs.Kept.{HasCause};
+ghost use Rattle.std.specs.Prelude.{◌≡◌, ◌≤◌, ◌∷◌, [], IfOk, IfSome, OnOk, OnErr, IsTrue, IsErrOf};
+ghost use Rattle.outside_core.specs.Faults.{Rose};
 ghost use Rattle.outside_core.specs.Written.{Appended, AppendedPrefix};
 ghost use Rattle.events_core.specs.Script.{most_count};
 ghost use Rattle.events_core.specs.Steps.{counts_of};
@@ -44,7 +44,8 @@ fn direct_capture<S: Shelf, K: Sink>(
         Appended (K.written sink.old) (K.written sink.new) (direct_answer policy.now task.steps.now file).text)) }
     ensures part { OnErr result (IfSome (S.content shelf.old task.capture.now) (λ file.
         AppendedPrefix (K.written sink.old) (K.written sink.new) (direct_answer policy.now task.steps.now file).text)) }
-    ensures cause { IfErr result (λ stop. HasCause stop S.faults shelf.old shelf.new K.faults sink.old sink.new) }
+    ensures shelf_cause { IsErrOf result Stop.Source → Rose (S.faults shelf.old) (S.faults shelf.new) }
+    ensures sink_cause { IsErrOf result Stop.Sink → Rose (K.faults sink.old) (K.faults sink.new) }
 {
     shelf.begin(task.capture)?;
     Ok(Status::of_run(direct(alloc, policy, task.steps, shelf, sink)?))
@@ -63,7 +64,8 @@ fn direct_script<S: Shelf, K: Sink>(
     ensures answer { WhereTold (S.content shelf.old) (files.now.capture.now ∷ files.now.script.now ∷ []) (λ contents.
         IsTold (BehindPolicy policy.now (contents files.now.script.now) (contents files.now.capture.now)) result (K.written sink.old) (K.written sink.new)) }
     ensures statuses { IfOk result (λ s. IsOneOf run_statuses (status_code s)) }
-    ensures cause { IfErr result (λ stop. HasCause stop S.faults shelf.old shelf.new K.faults sink.old sink.new) }
+    ensures shelf_cause { IsErrOf result Stop.Source → Rose (S.faults shelf.old) (S.faults shelf.new) }
+    ensures sink_cause { IsErrOf result Stop.Sink → Rose (K.faults sink.old) (K.faults sink.new) }
 {
     match read_script(alloc, shelf, files.script)? {
         Read::Accepted(script) => {
@@ -89,7 +91,8 @@ pub fn direct_files<S: Shelf, K: Sink>(
     ensures answer { WhereTold (S.content shelf.old) (file_words (direct_form files.now)) (λ contents.
         IsTold (IsOutput (direct_form files.now) contents) result (K.written sink.old) (K.written sink.new)) }
     ensures statuses { IfOk result (λ s. IsOneOf (statuses_of (direct_form files.now)) (status_code s)) }
-    ensures cause { IfErr result (λ stop. HasCause stop S.faults shelf.old shelf.new K.faults sink.old sink.new) }
+    ensures shelf_cause { IsErrOf result Stop.Source → Rose (S.faults shelf.old) (S.faults shelf.new) }
+    ensures sink_cause { IsErrOf result Stop.Sink → Rose (K.faults sink.old) (K.faults sink.new) }
 {
     match read_policy(alloc, shelf, files.policy)? {
         Read::Accepted(judged) => direct_script(alloc, &judged.policy, files, shelf, sink),

@@ -1,6 +1,7 @@
 //! Files read whole, up to a limit.
-ghost use Rattle.std.specs.Prelude.{◌≡◌, ◌≤◌, ◌<◌, ◌^◌, None, length, IfOk, IfSome, IsTrue, IfErr};
-ghost use Rattle.outside_core.specs.Kept.{KeepsShelf, HasSourceCause};
+ghost use Rattle.std.specs.Prelude.{◌≡◌, ◌≤◌, ◌<◌, ◌^◌, None, length, IfOk, IfSome, IsTrue, IsErrOf};
+ghost use Rattle.outside_core.specs.Faults.{Rose};
+ghost use Rattle.outside_core.specs.Kept.{KeepsShelf};
 
 use outside_core::{LoadError, Shelf, Stop, load};
 use std::alloc::Global;
@@ -19,7 +20,8 @@ pub fn load_short<S: Shelf>(
     ensures bound { IfOk result (λ o. IfSome o (λ v. length v.items ≤ most)) }
     ensures too_long { IfOk result (λ o. IfSome (S.content shelf.old name.now) (λ bytes. o ≡ None → most < length bytes)) }
     ensures kept { KeepsShelf S.lends S.content S.faults shelf.old shelf.new }
-    ensures cause { IfErr result (λ stop. HasSourceCause stop S.faults shelf.old shelf.new) }
+    ensures cause { IsErrOf result Stop.Source → Rose (S.faults shelf.old) (S.faults shelf.new) }
+    ensures writes_nothing { IsErrOf result Stop.Sink → ⊥ }
 {
     match load(alloc, shelf, name, most) {
         Ok(bytes) => Ok(Some(bytes)),

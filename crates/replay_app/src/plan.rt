@@ -1,6 +1,6 @@
 //! Where a policy's tree is laid in a target.
-ghost use Rattle.std.specs.Prelude.{◌≡◌, ◌∷◌, [], false, IfOk, OnOk, OnErr, IsTrue, IfErr};
-ghost use Rattle.outside_core.specs.Kept.{HasCause, HasSinkCause};
+ghost use Rattle.std.specs.Prelude.{◌≡◌, ◌∷◌, [], false, IfOk, OnOk, OnErr, IsTrue, IsErrOf};
+ghost use Rattle.outside_core.specs.Faults.{Rose};
 ghost use Rattle.outside_core.specs.Written.{Appended, AppendedPrefix};
 ghost use Rattle.replay_app.specs.Answer.{IsTold};
 ghost use Rattle.replay_app.specs.Named.{plan_form};
@@ -26,7 +26,8 @@ fn refuse_size<K: Sink>(alloc: Global, text: &[u8], sink: &mut K) -> Result<Stat
     ensures status { IfOk result (λ s. s ≡ Status.NoRoom) }
     ensures text { OnOk result (Appended (K.written sink.old) (K.written sink.new) (plan_answer false text.now).text) }
     ensures part { OnErr result (AppendedPrefix (K.written sink.old) (K.written sink.new) (plan_answer false text.now).text) }
-    ensures cause { IfErr result (λ stop. HasSinkCause stop K.faults sink.old sink.new) }
+    ensures sink_cause { IsErrOf result Stop.Sink → Rose (K.faults sink.old) (K.faults sink.new) }
+    ensures reads_nothing { IsErrOf result Stop.Source → ⊥ }
 {
     let mut report = Report::new(alloc)?;
     report.piece(sink, text)?;
@@ -42,7 +43,8 @@ fn write_plan<K: Sink>(alloc: Global, plan: &PlanText, sink: &mut K) -> Result<S
     ensures text { OnOk result (Appended (K.written sink.old) (K.written sink.new) (plan_answer plan.now.fits plan.now.text.items).text) }
     ensures part { OnErr result (AppendedPrefix (K.written sink.old) (K.written sink.new)
         (plan_answer plan.now.fits plan.now.text.items).text) }
-    ensures cause { IfErr result (λ stop. HasSinkCause stop K.faults sink.old sink.new) }
+    ensures sink_cause { IsErrOf result Stop.Sink → Rose (K.faults sink.old) (K.faults sink.new) }
+    ensures reads_nothing { IsErrOf result Stop.Source → ⊥ }
 {
     if !plan.fits {
         return refuse_size(alloc, &plan.text, sink);
@@ -64,7 +66,8 @@ fn plan_target<S: Shelf, K: Sink>(
     ensures answer { WhereTold (S.content shelf.old) (name.now ∷ []) (λ contents.
         IsTold (ForTarget (contents name.now) (IsPlanned policy.now.policy)) result (K.written sink.old) (K.written sink.new)) }
     ensures statuses { IfOk result (λ s. IsOneOf (4 ∷ 5 ∷ 0 ∷ []) (status_code s)) }
-    ensures cause { IfErr result (λ stop. HasCause stop S.faults shelf.old shelf.new K.faults sink.old sink.new) }
+    ensures shelf_cause { IsErrOf result Stop.Source → Rose (S.faults shelf.old) (S.faults shelf.new) }
+    ensures sink_cause { IsErrOf result Stop.Sink → Rose (K.faults sink.old) (K.faults sink.new) }
 {
     match read_target_file(alloc, shelf, name)? {
         Read::Accepted(target) => {
@@ -87,7 +90,8 @@ pub fn plan_files<S: Shelf, K: Sink>(
     ensures answer { WhereTold (S.content shelf.old) (file_words (plan_form files.now)) (λ contents.
         IsTold (IsOutput (plan_form files.now) contents) result (K.written sink.old) (K.written sink.new)) }
     ensures statuses { IfOk result (λ s. IsOneOf (statuses_of (plan_form files.now)) (status_code s)) }
-    ensures cause { IfErr result (λ stop. HasCause stop S.faults shelf.old shelf.new K.faults sink.old sink.new) }
+    ensures shelf_cause { IsErrOf result Stop.Source → Rose (S.faults shelf.old) (S.faults shelf.new) }
+    ensures sink_cause { IsErrOf result Stop.Sink → Rose (K.faults sink.old) (K.faults sink.new) }
 {
     match read_policy(alloc, shelf, files.policy)? {
         Read::Accepted(judged) => plan_target(alloc, &judged.policy, files.target, shelf, sink),

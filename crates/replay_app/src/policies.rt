@@ -1,6 +1,7 @@
 //! Policies read from files, and judged.
-ghost use Rattle.std.specs.Prelude.{◌≡◌, ◌≢◌, ◌≤◌, ℕ, List, IfOk, OnOk, IfSome, IsTrue, IfErr};
-ghost use Rattle.outside_core.specs.Kept.{KeepsShelf, HasSourceCause};
+ghost use Rattle.std.specs.Prelude.{◌≡◌, ◌≢◌, ◌≤◌, ℕ, List, IfOk, OnOk, IfSome, IsTrue, IsErrOf};
+ghost use Rattle.outside_core.specs.Faults.{Rose};
+ghost use Rattle.outside_core.specs.Kept.{KeepsShelf};
 ghost use Rattle.policy_rules.specs.Codes.{code_of, line_of};
 ghost use Rattle.replay_app.specs.Policies.{IsTextRead, IsPolicyRead};
 
@@ -44,7 +45,8 @@ fn read_lines<S: Shelf>(alloc: Global, shelf: &mut S, name: &str) -> Result<Read
 
     ensures read { IfOk result (λ read. IfSome (S.content shelf.old name.now) (λ text. IsTextRead text read)) }
     ensures kept { KeepsShelf S.lends S.content S.faults shelf.old shelf.new }
-    ensures cause { IfErr result (λ stop. HasSourceCause stop S.faults shelf.old shelf.new) }
+    ensures cause { IsErrOf result Stop.Source → Rose (S.faults shelf.old) (S.faults shelf.new) }
+    ensures writes_nothing { IsErrOf result Stop.Sink → ⊥ }
 {
     match load_short(alloc, shelf, name, MOST_POLICY)? {
         Some(text) => Ok(lines_in(alloc, &text)?),
@@ -85,7 +87,8 @@ pub fn read_policy<S: Shelf>(alloc: Global, shelf: &mut S, name: &str) -> Result
 
     ensures read { IfOk result (λ read. IfSome (S.content shelf.old name.now) (λ text. IsPolicyRead text read)) }
     ensures kept { KeepsShelf S.lends S.content S.faults shelf.old shelf.new }
-    ensures cause { IfErr result (λ stop. HasSourceCause stop S.faults shelf.old shelf.new) }
+    ensures cause { IsErrOf result Stop.Source → Rose (S.faults shelf.old) (S.faults shelf.new) }
+    ensures writes_nothing { IsErrOf result Stop.Sink → ⊥ }
 {
     let read = read_lines(alloc, shelf, name)?;
     Ok(judge(alloc, read)?)

@@ -1,6 +1,6 @@
 //! Runs through a fabric into which a policy's tree is laid.
-ghost use Rattle.std.specs.Prelude.{◌≡◌, ◌≤◌, ◌<◌, ◌^◌, ◌∷◌, [], IfOk, IfSome, OnOk, OnErr, IsTrue, IfErr};
-ghost use Rattle.outside_core.specs.Kept.{HasCause};
+ghost use Rattle.std.specs.Prelude.{◌≡◌, ◌≤◌, ◌<◌, ◌^◌, ◌∷◌, [], IfOk, IfSome, OnOk, OnErr, IsTrue, IsErrOf};
+ghost use Rattle.outside_core.specs.Faults.{Rose};
 ghost use Rattle.outside_core.specs.Written.{Appended, AppendedPrefix};
 ghost use Rattle.tree_defs.specs.Tree.{SameShape};
 ghost use Rattle.tree_defs.specs.Topology.{topology_of, complete};
@@ -68,7 +68,8 @@ fn replay_capture<S: Shelf, K: Sink, F: Fabric>(
         Leaves F.Fabric (run_of policy.now.policy (laid_by placement) (direct_answer policy.now task.steps.now file).events) fabric.old fabric.new)) }
     ensures fabric_part { OnErr result (IfSome (S.content shelf.old task.capture.now) (λ file.
         LeavesPart F.Fabric (run_of policy.now.policy (laid_by placement) (direct_answer policy.now task.steps.now file).events) fabric.old fabric.new)) }
-    ensures cause { IfErr result (λ stop. HasCause stop S.faults shelf.old shelf.new K.faults sink.old sink.new) }
+    ensures shelf_cause { IsErrOf result Stop.Source → Rose (S.faults shelf.old) (S.faults shelf.new) }
+    ensures sink_cause { IsErrOf result Stop.Sink → Rose (K.faults sink.old) (K.faults sink.new) }
 {
     shelf.begin(task.capture)?;
     let ending = replay(alloc, policy, placement, task.steps, shelf, sink, fabric)?;
@@ -97,7 +98,8 @@ fn replay_script<S: Shelf, K: Sink, F: Fabric>(
     ensures fabric { WhereTold (S.content shelf.old) (files.now.capture.now ∷ files.now.script.now ∷ []) (λ contents.
         IsLeft F.Fabric (BehindRoom policy.now (laid_by placement) (contents files.now.script.now) (contents files.now.capture.now)) result fabric.old fabric.new) }
     ensures statuses { IfOk result (λ s. IsOneOf run_statuses (status_code s)) }
-    ensures cause { IfErr result (λ stop. HasCause stop S.faults shelf.old shelf.new K.faults sink.old sink.new) }
+    ensures shelf_cause { IsErrOf result Stop.Source → Rose (S.faults shelf.old) (S.faults shelf.new) }
+    ensures sink_cause { IsErrOf result Stop.Sink → Rose (K.faults sink.old) (K.faults sink.new) }
 {
     match read_script(alloc, shelf, files.script)? {
         Read::Accepted(script) => {
@@ -132,7 +134,8 @@ fn replay_placed<S: Shelf, K: Sink, F: Fabric>(
         IsLeft F.Fabric (BehindTarget policy.now target (contents files.now.script.now) (contents files.now.capture.now)) result fabric.old fabric.new) }
     ensures statuses { IfOk result (λ s. IsOneOf (5 ∷ run_statuses) (status_code s)) }
     ensures refused { IfOk result (λ s. IsRefusal (status_code s) → IsAsItWas F.Fabric fabric.old fabric.new) }
-    ensures cause { IfErr result (λ stop. HasCause stop S.faults shelf.old shelf.new K.faults sink.old sink.new) }
+    ensures shelf_cause { IsErrOf result Stop.Source → Rose (S.faults shelf.old) (S.faults shelf.new) }
+    ensures sink_cause { IsErrOf result Stop.Sink → Rose (K.faults sink.old) (K.faults sink.new) }
 {
     match embed(alloc, policy.topo(), &target) {
         Ok(map) => {
@@ -163,7 +166,8 @@ fn replay_target<S: Shelf, K: Sink, F: Fabric>(
         IsLeft F.Fabric (BehindTargetText policy.now (contents files.now.target.now) (contents files.now.script.now) (contents files.now.capture.now)) result fabric.old fabric.new) }
     ensures statuses { IfOk result (λ s. IsOneOf (4 ∷ 5 ∷ run_statuses) (status_code s)) }
     ensures refused { IfOk result (λ s. IsRefusal (status_code s) → IsAsItWas F.Fabric fabric.old fabric.new) }
-    ensures cause { IfErr result (λ stop. HasCause stop S.faults shelf.old shelf.new K.faults sink.old sink.new) }
+    ensures shelf_cause { IsErrOf result Stop.Source → Rose (S.faults shelf.old) (S.faults shelf.new) }
+    ensures sink_cause { IsErrOf result Stop.Sink → Rose (K.faults sink.old) (K.faults sink.new) }
 {
     match read_target_file(alloc, shelf, files.target)? {
         Read::Accepted(target) => replay_placed(alloc, policy, target, files, shelf, sink, fabric),
@@ -190,7 +194,8 @@ pub fn replay_files<S: Shelf, K: Sink, F: Fabric>(
         IsLeft F.Fabric (IsOutput (replay_form files.now) contents) result fabric.old fabric.new) }
     ensures statuses { IfOk result (λ s. IsOneOf (statuses_of (replay_form files.now)) (status_code s)) }
     ensures refused { IfOk result (λ s. IsRefusal (status_code s) → IsAsItWas F.Fabric fabric.old fabric.new) }
-    ensures cause { IfErr result (λ stop. HasCause stop S.faults shelf.old shelf.new K.faults sink.old sink.new) }
+    ensures shelf_cause { IsErrOf result Stop.Source → Rose (S.faults shelf.old) (S.faults shelf.new) }
+    ensures sink_cause { IsErrOf result Stop.Sink → Rose (K.faults sink.old) (K.faults sink.new) }
 {
     match read_policy(alloc, shelf, files.policy)? {
         Read::Accepted(judged) => replay_target(alloc, &judged.policy, files, shelf, sink, fabric),

@@ -1,6 +1,7 @@
 //! Scripts read from files.
-ghost use Rattle.std.specs.Prelude.{◌≤◌, IfOk, IfSome, IsTrue, IfErr};
-ghost use Rattle.outside_core.specs.Kept.{KeepsShelf, HasSourceCause};
+ghost use Rattle.std.specs.Prelude.{◌≤◌, IfOk, IfSome, IsTrue, IsErrOf};
+ghost use Rattle.outside_core.specs.Faults.{Rose};
+ghost use Rattle.outside_core.specs.Kept.{KeepsShelf};
 ghost use Rattle.events_core.specs.Script.{IsScript, most_count};
 ghost use Rattle.events_core.specs.Steps.{counts_of};
 ghost use Rattle.replay_app.specs.Follows.{IsRead, IfAccepted};
@@ -34,7 +35,8 @@ pub fn read_script<S: Shelf>(alloc: Global, shelf: &mut S, name: &str) -> Result
         IsRead (IsScriptRefused text) (IsScript text) read)) }
     ensures short { IfOk result (λ read. IfAccepted read (λ steps. counts_of steps ≤ most_count)) }
     ensures kept { KeepsShelf S.lends S.content S.faults shelf.old shelf.new }
-    ensures cause { IfErr result (λ stop. HasSourceCause stop S.faults shelf.old shelf.new) }
+    ensures cause { IsErrOf result Stop.Source → Rose (S.faults shelf.old) (S.faults shelf.new) }
+    ensures writes_nothing { IsErrOf result Stop.Sink → ⊥ }
 {
     match load_short(alloc, shelf, name, MOST_BYTES)? {
         Some(text) => Ok(script_in(alloc, &text)?),

@@ -1,6 +1,7 @@
 //! Targets read from files.
-ghost use Rattle.std.specs.Prelude.{◌≤◌, IfOk, IfSome, IsTrue, IfErr};
-ghost use Rattle.outside_core.specs.Kept.{KeepsShelf, HasSourceCause};
+ghost use Rattle.std.specs.Prelude.{◌≤◌, IfOk, IfSome, IsTrue, IsErrOf};
+ghost use Rattle.outside_core.specs.Faults.{Rose};
+ghost use Rattle.outside_core.specs.Kept.{KeepsShelf};
 ghost use Rattle.target_defs.specs.Target.{IsInRange};
 ghost use Rattle.replay_app.specs.Follows.{IsRead, IfAccepted};
 ghost use Rattle.replay_app.specs.Targets.{IsTargetRefused, IsTargetOf};
@@ -41,7 +42,8 @@ pub fn read_target_file<S: Shelf>(
         IsRead (IsTargetRefused text) (IsTargetOf text) read)) }
     ensures range { IfOk result (λ read. IfAccepted read (λ t. IsInRange t.arities t.above)) }
     ensures kept { KeepsShelf S.lends S.content S.faults shelf.old shelf.new }
-    ensures cause { IfErr result (λ stop. HasSourceCause stop S.faults shelf.old shelf.new) }
+    ensures cause { IsErrOf result Stop.Source → Rose (S.faults shelf.old) (S.faults shelf.new) }
+    ensures writes_nothing { IsErrOf result Stop.Sink → ⊥ }
 {
     match load_short(alloc, shelf, name, MOST_TARGET)? {
         Some(text) => Ok(target_in(alloc, &text)?),

@@ -1,6 +1,6 @@
 //! Texts that are written whole.
-ghost use Rattle.std.specs.Prelude.{◌≡◌, IfOk, OnOk, OnErr, IfErr};
-ghost use Rattle.outside_core.specs.Kept.{HasSinkCause};
+ghost use Rattle.std.specs.Prelude.{◌≡◌, IfOk, OnOk, OnErr, IsErrOf};
+ghost use Rattle.outside_core.specs.Faults.{Rose};
 ghost use Rattle.outside_core.specs.Written.{Appended, AppendedPrefix};
 ghost use Rattle.replay_app.specs.Answer.{refusal};
 ghost use Rattle.replay_app.specs.Statuses.{kind_status};
@@ -8,7 +8,7 @@ ghost use Rattle.replay_app.specs.Statuses.{kind_status};
 use crate::refusal::Refusal;
 use crate::status::Status;
 use outside_core::{Sink, Stop};
-use report_core::{FaultKind, Report, write_fault};
+use report_core::{FaultKind, Report};
 use std::alloc::Global;
 
 /// Writes the line of a refusal as the whole text.
@@ -21,9 +21,12 @@ pub fn refuse<K: Sink>(
     ensures status { IfOk result (λ s. s ≡ kind_status kind) }
     ensures text { OnOk result (Appended (K.written sink.old) (K.written sink.new) (refusal kind cause.code cause.place).text) }
     ensures part { OnErr result (AppendedPrefix (K.written sink.old) (K.written sink.new) (refusal kind cause.code cause.place).text) }
-    ensures cause { IfErr result (λ stop. HasSinkCause stop K.faults sink.old sink.new) }
+    ensures sink_cause { IsErrOf result Stop.Sink → Rose (K.faults sink.old) (K.faults sink.new) }
+    ensures reads_nothing { IsErrOf result Stop.Source → ⊥ }
 {
-    write_fault(alloc, sink, kind, cause.code, u64::from(cause.place))?;
+    let mut report = Report::new(alloc)?;
+    report.fault(sink, kind, cause.code, u64::from(cause.place))?;
+    report.finish(sink)?;
     Ok(Status::refused(kind))
 }
 
@@ -31,7 +34,8 @@ pub fn refuse<K: Sink>(
 pub fn write<K: Sink>(alloc: Global, text: &[u8], sink: &mut K) -> Result<(), Stop>
     ensures text { OnOk result (Appended (K.written sink.old) (K.written sink.new) text.now) }
     ensures part { OnErr result (AppendedPrefix (K.written sink.old) (K.written sink.new) text.now) }
-    ensures cause { IfErr result (λ stop. HasSinkCause stop K.faults sink.old sink.new) }
+    ensures sink_cause { IsErrOf result Stop.Sink → Rose (K.faults sink.old) (K.faults sink.new) }
+    ensures reads_nothing { IsErrOf result Stop.Source → ⊥ }
 {
     let mut report = Report::new(alloc)?;
     report.piece(sink, text)?;

@@ -3,3 +3,4 @@ pub mod Refusals
 pub mod FabricRuns
 pub mod EventTurns
 pub mod Exchanges
+pub mod FileRuns

@@ -1,5 +1,6 @@
 //! A script over a capture through the policy's own tree of queues.
-ghost use Rattle.std.specs.Prelude.{◌≡◌, ◌≤◌, List, codes, IfOk, IfErr, IfSome, IsTrue, OnOk, OnErr};
+ghost use Rattle.std.specs.Prelude.{◌≡◌, ◌≤◌, List, codes, IfOk, IfErr, IfSome, IsTrue, OnOk, OnErr, IsErrOf};
+ghost use Rattle.outside_core.specs.Faults.{Rose};
 ghost use Rattle.outside_core.specs.Kept.{KeepsSink, HasCause, HasSinkCause};
 ghost use Rattle.outside_core.specs.Written.{Appended, AppendedPrefix};
 ghost use Rattle.report_defs.specs.Report.{fault_line};
@@ -85,9 +86,10 @@ pub fn direct<S: Shelf, K: Sink>(
         Appended (K.written sink.old) (K.written sink.new) (direct_answer policy.now steps.now file).text)) }
     ensures part { OnErr result (IfSome (S.left shelf.old) (λ file.
         AppendedPrefix (K.written sink.old) (K.written sink.new) (direct_answer policy.now steps.now file).text)) }
+    ensures sink_cause { IsErrOf result Stop.Sink → Rose (K.faults sink.old) (K.faults sink.new) }
+    ensures source_cause { IsErrOf result Stop.Source → Rose (S.faults shelf.old) (S.faults shelf.new) }
     ensures kept { KeepsSink K.written K.faults sink.old sink.new }
     ensures later { S.faults shelf.old ≤ S.faults shelf.new }
-    ensures cause { IfErr result (λ stop. HasCause stop S.faults shelf.old shelf.new K.faults sink.old sink.new) }
 {
     let mut packets = match begin(alloc, policy, shelf, sink) {
         Ok(packets) => packets,

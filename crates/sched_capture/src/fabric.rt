@@ -1,6 +1,7 @@
 //! A script over a capture through the hardware's queues.
-ghost use Rattle.std.specs.Prelude.{◌≡◌, ◌≤◌, ◌<◌, ◌^◌, length, IfOk, IfSome, IfErr, IsTrue, OnOk, OnErr};
-ghost use Rattle.outside_core.specs.Kept.{KeepsSink, HasCause};
+ghost use Rattle.std.specs.Prelude.{◌≡◌, ◌≤◌, ◌<◌, ◌^◌, length, IfOk, IfSome, IsTrue, OnOk, OnErr, IsErrOf};
+ghost use Rattle.outside_core.specs.Faults.{Rose};
+ghost use Rattle.outside_core.specs.Kept.{KeepsSink};
 ghost use Rattle.outside_core.specs.Written.{Appended, AppendedPrefix};
 ghost use Rattle.tree_defs.specs.Tree.{SameShape};
 ghost use Rattle.tree_defs.specs.Topology.{topology_of, complete};
@@ -61,9 +62,10 @@ pub fn replay<S: Shelf, K: Sink, F: Fabric>(
         Leaves F.Fabric (run_of policy.now.policy (laid_by placement) (direct_answer policy.now steps.now file).events) fabric.old fabric.new)) }
     ensures fabric_part { OnErr result (IfSome (S.left shelf.old) (λ file.
         LeavesPart F.Fabric (run_of policy.now.policy (laid_by placement) (direct_answer policy.now steps.now file).events) fabric.old fabric.new)) }
+    ensures sink_cause { IsErrOf result Stop.Sink → Rose (K.faults sink.old) (K.faults sink.new) }
+    ensures source_cause { IsErrOf result Stop.Source → Rose (S.faults shelf.old) (S.faults shelf.new) }
     ensures kept { KeepsSink K.written K.faults sink.old sink.new }
     ensures later { S.faults shelf.old ≤ S.faults shelf.new }
-    ensures cause { IfErr result (λ stop. HasCause stop S.faults shelf.old shelf.new K.faults sink.old sink.new) }
 {
     let mut packets = match begin(alloc, policy, shelf, sink) {
         Ok(packets) => packets,

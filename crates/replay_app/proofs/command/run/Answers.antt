@@ -1,6 +1,6 @@
 use Rattle.std.proofs.Common.{sym, subst, inr, arith}
 use Rattle.replay_app.specs.Statuses.{IsStop}
-use Rattle.replay_app.proofs.AnswerLaws.{low_code, is_stop, high_stop, shelf-rose, sink-rose}
+use Rattle.replay_app.proofs.AnswerLaws.{low_code, is_stop, high_stop}
 use Rattle.replay_app.proofs.command.run.Goals as goal
 
 pub returns-in-Ok-clause-fabric : goal.returns-in-Ok-clause-fabric
@@ -16,9 +16,3 @@ pub returns-in-Err-clause-fabric : goal.returns-in-Err-clause-fabric
 returns-in-Err-clause-fabric g c = λ contents told.
     let high = high_stop c.in-Err.stop in
     record { whole = λ below. absurd (omega (arith, high, below, c.stop_status.ensures)); part = λ above. (c.in-Err.ensures.fabric contents told).part }
-
-pub returns-in-Err-clause-shelf_cause : goal.returns-in-Err-clause-shelf_cause
-returns-in-Err-clause-shelf_cause g c = shelf-rose c.in-Err.stop g.S.Shelf.faults _ _ g.K.Sink.faults c.args.sink.now c.answer.new.sink _ c.in-Err.ensures.cause c.stop_status.ensures
-
-pub returns-in-Err-clause-sink_cause : goal.returns-in-Err-clause-sink_cause
-returns-in-Err-clause-sink_cause g c = sink-rose c.in-Err.stop g.S.Shelf.faults c.args.shelf.now c.answer.new.shelf g.K.Sink.faults _ _ _ c.in-Err.ensures.cause c.stop_status.ensures

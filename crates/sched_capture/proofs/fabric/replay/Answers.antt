@@ -1,6 +1,9 @@
 use Rattle.std.proofs.Common.{[], refl, sym, ap, ◌∙◌, arith}
 use Rattle.std.proofs.lemmas.Result.{on_err_weaker}
+use Rattle.report_core.proofs.WholeTexts.{nothing_written}
 use Rattle.sched_packets.specs.Arrivals.{left_of}
+use Rattle.sched_capture.specs.Answers.{direct_answer}
+use Rattle.sched_capture.proofs.FileRuns.{ending_of, text_of_file, part_of_file, sink_rose, source_rose}
 use Rattle.sched_embedded.specs.Embedded.{origin_of}
 use Rattle.sched_embedded.specs.Laid.{Laid}
 use Rattle.sched_run.proofs.JoinedEvents.{raised_nothing}
@@ -50,3 +53,37 @@ returns-in_err-run-clause-fabric_part g c =
           n.stands (omega arith) (omega arith) refl (sym (raised_nothing _));
     })
     c.in-Ok.ensures.begins
+
+pub returns-in_default-clause-part : goal.returns-in_default-clause-part
+returns-in_default-clause-part g c =
+    rw (c.in-Ok.ensures.unwritten) (nothing_written (g.S.Shelf.left c.args.shelf.now) (g.K.Sink.written c.args.sink.now) (λ file. (direct_answer c.args.policy.now c.args.steps.now file).text))
+
+pub returns-in-Err-clause-sink_cause : goal.returns-in-Err-clause-sink_cause
+returns-in-Err-clause-sink_cause g c =
+    sink_rose g.S.Shelf.faults c.args.shelf.now c.args.shelf.now c.begin.new.shelf g.K.Sink.faults c.args.sink.now c.args.sink.now c.begin.new.sink c.in-Err.answer (omega arith) c.in-Err.ensures.cause
+
+pub returns-in-Err-clause-source_cause : goal.returns-in-Err-clause-source_cause
+returns-in-Err-clause-source_cause g c =
+    source_rose g.S.Shelf.faults c.args.shelf.now c.args.shelf.now c.begin.new.shelf g.K.Sink.faults c.args.sink.now c.args.sink.now c.begin.new.sink c.in-Err.answer (omega arith) c.in-Err.ensures.cause
+
+pub returns-clause-ending : goal.returns-clause-ending
+returns-clause-ending g c =
+    ending_of c.args.policy.now c.args.steps.now c.run_over.result (g.S.Shelf.left c.args.shelf.now) (left_of c.in-Ok.packets (g.S.Shelf.left c.begin.new.shelf)) c.in-Ok.ensures.begins c.run_over.ensures.ending
+
+pub returns-clause-text : goal.returns-clause-text
+returns-clause-text g c =
+    text_of_file c.args.policy.now c.args.steps.now c.run_over.result (g.S.Shelf.left c.args.shelf.now) (left_of c.in-Ok.packets (g.S.Shelf.left c.begin.new.shelf)) (g.K.Sink.written c.args.sink.now) (g.K.Sink.written c.run_over.new.sink)
+    c.in-Ok.ensures.begins (rw (c.in-Ok.ensures.unwritten) at c.run_over.ensures.text)
+
+pub returns-clause-part : goal.returns-clause-part
+returns-clause-part g c =
+    part_of_file c.args.policy.now c.args.steps.now c.run_over.result (g.S.Shelf.left c.args.shelf.now) (left_of c.in-Ok.packets (g.S.Shelf.left c.begin.new.shelf)) (g.K.Sink.written c.args.sink.now) (g.K.Sink.written c.run_over.new.sink)
+    c.in-Ok.ensures.begins (rw (c.in-Ok.ensures.unwritten) at c.run_over.ensures.part)
+
+pub returns-clause-sink_cause : goal.returns-clause-sink_cause
+returns-clause-sink_cause g c =
+    sink_rose g.S.Shelf.faults c.args.shelf.now c.begin.new.shelf c.run_over.new.shelf g.K.Sink.faults c.args.sink.now c.begin.new.sink c.run_over.new.sink c.run_over.result c.in-Ok.ensures.kept.later c.run_over.ensures.cause
+
+pub returns-clause-source_cause : goal.returns-clause-source_cause
+returns-clause-source_cause g c =
+    source_rose g.S.Shelf.faults c.args.shelf.now c.begin.new.shelf c.run_over.new.shelf g.K.Sink.faults c.args.sink.now c.begin.new.sink c.run_over.new.sink c.run_over.result c.in-Ok.ensures.later c.run_over.ensures.cause
