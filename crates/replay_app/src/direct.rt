@@ -30,20 +30,20 @@ use std::alloc::Global;
 fn direct_capture<S: Shelf, K: Sink>(
     alloc: Global,
     policy: &Policy,
-    task: Task<'_>,
+    task: &Task<'_>,
     shelf: &mut S,
     sink: &mut K,
 ) -> Result<Status, Stop>
-    requires lent { IsTrue (S.lends shelf.old task.capture.now) }
-    requires short { counts_of task.steps.now ≤ most_count }
+    requires lent { IsTrue (S.lends shelf.old task.now.capture.now) }
+    requires short { counts_of task.now.steps.now ≤ most_count }
 
-    ensures status { IfOk result (λ s. IfSome (S.content shelf.old task.capture.now) (λ file.
-        status_code s ≡ ending_status (direct_answer policy.now task.steps.now file).ending)) }
+    ensures status { IfOk result (λ s. IfSome (S.content shelf.old task.now.capture.now) (λ file.
+        status_code s ≡ ending_status (direct_answer policy.now task.now.steps.now file).ending)) }
     ensures statuses { IfOk result (λ s. IsOneOf run_statuses (status_code s)) }
-    ensures text { OnOk result (IfSome (S.content shelf.old task.capture.now) (λ file.
-        Appended (K.written sink.old) (K.written sink.new) (direct_answer policy.now task.steps.now file).text)) }
-    ensures part { OnErr result (IfSome (S.content shelf.old task.capture.now) (λ file.
-        AppendedPrefix (K.written sink.old) (K.written sink.new) (direct_answer policy.now task.steps.now file).text)) }
+    ensures text { OnOk result (IfSome (S.content shelf.old task.now.capture.now) (λ file.
+        Appended (K.written sink.old) (K.written sink.new) (direct_answer policy.now task.now.steps.now file).text)) }
+    ensures part { OnErr result (IfSome (S.content shelf.old task.now.capture.now) (λ file.
+        AppendedPrefix (K.written sink.old) (K.written sink.new) (direct_answer policy.now task.now.steps.now file).text)) }
     ensures shelf_cause { IsErrOf result Stop.Source → Rose (S.faults shelf.old) (S.faults shelf.new) }
     ensures sink_cause { IsErrOf result Stop.Sink → Rose (K.faults sink.old) (K.faults sink.new) }
 {
@@ -73,7 +73,7 @@ fn direct_script<S: Shelf, K: Sink>(
                 steps: script.steps(),
                 capture: files.capture,
             };
-            direct_capture(alloc, policy, task, shelf, sink)
+            direct_capture(alloc, policy, &task, shelf, sink)
         }
         Read::Refused(refusal) => refuse(alloc, sink, FaultKind::Script, refusal),
     }

@@ -44,30 +44,30 @@ fn replay_capture<S: Shelf, K: Sink, F: Fabric>(
     alloc: Global,
     policy: &Policy,
     placement: Placement,
-    task: Task<'_>,
+    task: &Task<'_>,
     shelf: &mut S,
     sink: &mut K,
     fabric: &mut F,
 ) -> Result<Status, Stop>
-    requires lent { IsTrue (S.lends shelf.old task.capture.now) }
-    requires short { counts_of task.steps.now ≤ most_count }
+    requires lent { IsTrue (S.lends shelf.old task.now.capture.now) }
+    requires short { counts_of task.now.steps.now ≤ most_count }
     requires range { IsInRange placement.target.arities placement.target.above }
     requires map_shape { SameShape (topology_of policy.now.policy.tree) placement.map }
     requires embedding { IsEmbedding (topology_of policy.now.policy.tree) (complete placement.target.arities) (image_map placement.map) }
     requires pushes { F.pushed fabric.old < 2 ^ 61 }
     requires pops { F.popped fabric.old < 2 ^ 61 }
 
-    ensures status { IfOk result (λ s. IfSome (S.content shelf.old task.capture.now) (λ file.
-        status_code s ≡ ending_status (direct_answer policy.now task.steps.now file).ending)) }
+    ensures status { IfOk result (λ s. IfSome (S.content shelf.old task.now.capture.now) (λ file.
+        status_code s ≡ ending_status (direct_answer policy.now task.now.steps.now file).ending)) }
     ensures statuses { IfOk result (λ s. IsOneOf run_statuses (status_code s)) }
-    ensures text { OnOk result (IfSome (S.content shelf.old task.capture.now) (λ file.
-        Appended (K.written sink.old) (K.written sink.new) (direct_answer policy.now task.steps.now file).text)) }
-    ensures part { OnErr result (IfSome (S.content shelf.old task.capture.now) (λ file.
-        AppendedPrefix (K.written sink.old) (K.written sink.new) (direct_answer policy.now task.steps.now file).text)) }
-    ensures fabric { OnOk result (IfSome (S.content shelf.old task.capture.now) (λ file.
-        Leaves F.Fabric (run_of policy.now.policy (laid_by placement) (direct_answer policy.now task.steps.now file).events) fabric.old fabric.new)) }
-    ensures fabric_part { OnErr result (IfSome (S.content shelf.old task.capture.now) (λ file.
-        LeavesPart F.Fabric (run_of policy.now.policy (laid_by placement) (direct_answer policy.now task.steps.now file).events) fabric.old fabric.new)) }
+    ensures text { OnOk result (IfSome (S.content shelf.old task.now.capture.now) (λ file.
+        Appended (K.written sink.old) (K.written sink.new) (direct_answer policy.now task.now.steps.now file).text)) }
+    ensures part { OnErr result (IfSome (S.content shelf.old task.now.capture.now) (λ file.
+        AppendedPrefix (K.written sink.old) (K.written sink.new) (direct_answer policy.now task.now.steps.now file).text)) }
+    ensures fabric { OnOk result (IfSome (S.content shelf.old task.now.capture.now) (λ file.
+        Leaves F.Fabric (run_of policy.now.policy (laid_by placement) (direct_answer policy.now task.now.steps.now file).events) fabric.old fabric.new)) }
+    ensures fabric_part { OnErr result (IfSome (S.content shelf.old task.now.capture.now) (λ file.
+        LeavesPart F.Fabric (run_of policy.now.policy (laid_by placement) (direct_answer policy.now task.now.steps.now file).events) fabric.old fabric.new)) }
     ensures shelf_cause { IsErrOf result Stop.Source → Rose (S.faults shelf.old) (S.faults shelf.new) }
     ensures sink_cause { IsErrOf result Stop.Sink → Rose (K.faults sink.old) (K.faults sink.new) }
 {
@@ -107,7 +107,7 @@ fn replay_script<S: Shelf, K: Sink, F: Fabric>(
                 steps: script.steps(),
                 capture: files.capture,
             };
-            replay_capture(alloc, policy, placement, task, shelf, sink, fabric)
+            replay_capture(alloc, policy, placement, &task, shelf, sink, fabric)
         }
         Read::Refused(refusal) => refuse(alloc, sink, FaultKind::Script, refusal),
     }
