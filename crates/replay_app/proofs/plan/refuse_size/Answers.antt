@@ -24,7 +24,7 @@ returns-in_err-finish-clause-part g c =
     let f = c.in_ok-piece.ensures in
     let d = c.in_ok-fault.ensures in
     let e = c.in_err-finish.ensures in
-    rw (p.1) (cut_end _ _ _ _ _ _ c.in_ok-report.ensures.empty (Begins-trans _ _ _ f.kept.begins d.begins) e.kept.begins (appended_in_turn _ _ _ _ _ f.ok d.ok) e.cut)
+    rw (p.1) (cut_end _ _ _ _ _ _ c.in_ok-report.ensures.empty (Begins-trans _ _ _ f.kept.begins d.kept.begins) e.kept.begins (appended_in_turn _ _ _ _ _ f.ok d.ok) e.cut)
 
 pub returns-clause-text : goal.returns-clause-text
 returns-clause-text g c =
