@@ -25,6 +25,7 @@ OTHER_COMMANDS = ("apt-get", "git", "rt")
 NOT_RUN = {
     ".ci/run": "proves everything, and runs this check",
     ".ci/run > ../gate.log 2>&1 && tools/release ../gate.log": "proves everything, and runs this check",
+    "tests/look/run": "packs the commit of a checkout, which a copy of its files is not; the gate runs it before this check",
     "apt-get install python3-matplotlib python3-dpkt": "changes the machine; tests/look/run does it where CI=true",
 }
 
