@@ -6,10 +6,6 @@ use Rattle.target_defs.specs.Target.{lowest}
 use Rattle.target_core.specs.declared.target.Target.{Target}
 use Rattle.embed_defs.specs.Embedding.{HasEmbedding}
 
--- the most nodes of a topology that is laid into a target
-abbrev pub most_nodes : ℕ
-most_nodes = 1024
-
 abbrev pub levels_of : Target → Arities
 levels_of t = levels t.arities t.above
 

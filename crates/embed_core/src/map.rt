@@ -1,6 +1,6 @@
 //! The canonical map of a topology into a complete tree.
 ghost use Rattle.std.specs.Prelude.{◌≡◌, ◌+◌, ◌≤◌, ◌++◌, length, replicate, drop, IfOk, MatchOption, Some, None, Err};
-ghost use Rattle.tree_defs.specs.Tree.{nodes, depth as levels, root_of, LeadsToLeaf, SameShape};
+ghost use Rattle.tree_defs.specs.Tree.{nodes, depth as levels, root_of, LeadsToLeaf, SameShape, most_nodes};
 ghost use Rattle.tree_defs.specs.Topology.{IsBranched, complete};
 ghost use Rattle.tree_core.specs.Shape.{topology};
 ghost use Rattle.target_defs.specs.Target.{IsInRange, lowest};
@@ -10,7 +10,7 @@ ghost use Rattle.embed_defs.specs.Canonical.{canonical, IsCanonical};
 ghost use Rattle.embed_defs.specs.Images.{image_at, image_map};
 ghost use Rattle.embed_lift_defs.specs.Lift.{lift_ranks, picked_ranks};
 ghost use Rattle.embed_lift_defs.specs.GoodMaps.{IsGoodMap, IsDeep, IsNested};
-ghost use Rattle.embed_core.specs.Range.{levels_of, FitsInLevels, most_nodes};
+ghost use Rattle.embed_core.specs.Range.{levels_of, FitsInLevels};
 ghost use Rattle.embed_core.specs.Picks.{IsLeafImage, PicksOnto};
 
 use crate::block::block_start;
@@ -34,11 +34,10 @@ impl Model for Map {
     ghost use Rattle.std.specs.Coded.{coded_ℕ, coded_list};
     ghost use Rattle.std.specs.Prelude.{◌≤◌, length};
     ghost use Rattle.std.proofs.Common.{arith};
-    ghost use Rattle.tree_defs.specs.Tree.{Tree, Address, trees_of, nodes};
+    ghost use Rattle.tree_defs.specs.Tree.{Tree, Address, trees_of, nodes, most_nodes};
     ghost use Rattle.tree_defs.specs.Codes.{tree_code};
     ghost use Rattle.tree_core.specs.TreeContents.{branch};
     ghost use Rattle.embed_core.specs.Shrinking.{most_le-nodes};
-    ghost use Rattle.embed_core.specs.Range.{most_nodes};
     ghost use Rattle.embed_core.specs.ImageOrder.{IsImageOrder};
 
     ghost Value = { Tree Address };

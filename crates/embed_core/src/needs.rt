@@ -1,12 +1,12 @@
 //! The heights that the nodes of a topology need.
 ghost use Rattle.std.specs.Prelude.{◌≡◌, ◌==◌, ◌^◌, ◌<◌, ◌≤◌, ◌↔◌, IfOk, IsTrue, EachIndex, slice_index, count_by};
-ghost use Rattle.tree_defs.specs.Tree.{nodes, trees_of, root_of};
+ghost use Rattle.tree_defs.specs.Tree.{nodes, trees_of, root_of, most_nodes};
 ghost use Rattle.tree_defs.specs.Topology.{IsBranched};
 ghost use Rattle.tree_core.specs.Shape.{topology};
 ghost use Rattle.tree_core.specs.TreeContents.{branch};
 ghost use Rattle.embed_defs.specs.Need.{IsLeast, FitsBelow, AreNeedsOf, HasHeight, enough};
 ghost use Rattle.target_defs.specs.Target.{IsInRange};
-ghost use Rattle.embed_core.specs.Range.{levels_of, most_nodes};
+ghost use Rattle.embed_core.specs.Range.{levels_of};
 
 use std::alloc::{AllocError, Global};
 use std::marker::Model;

@@ -1,8 +1,7 @@
 //! The children of a node in the order of their images, and the search among them.
 ghost use Rattle.std.specs.Prelude.{◌≡◌, ℕ, ◌≤◌, length, IfOk};
 ghost use Rattle.embed_core.specs.ImageOrder.{IsImageOrder, AreApart, IsOnSide, is_behind};
-ghost use Rattle.tree_defs.specs.Tree.{root_of};
-ghost use Rattle.embed_core.specs.Range.{most_nodes};
+ghost use Rattle.tree_defs.specs.Tree.{root_of, most_nodes};
 
 use crate::map::Map;
 use std::alloc::{AllocError, Global};

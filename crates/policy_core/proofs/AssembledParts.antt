@@ -4,7 +4,7 @@ use Rattle.std.specs.Prelude.{unwrap_or}
 use Rattle.std.specs.Str.{bytes_eq}
 use Rattle.std.specs.List.{AllByRecursion, AllZip}
 use Rattle.std.proofs.lemmas.List.{get_or-map, get_or_default, length-map}
-use Rattle.tree_defs.specs.Tree.{Tree, Address, root_of, nodes, depth}
+use Rattle.tree_defs.specs.Tree.{Tree, Address, root_of, nodes, depth, most_nodes}
 use Rattle.tree_defs.specs.Topology.{Topology, topology_of}
 use Rattle.rank_defs.specs.Shapes.{IsShaped}
 use Rattle.rank_defs.specs.Programs.{Program}
@@ -13,7 +13,7 @@ use Rattle.policy_text_defs.specs.Sense.{Entry}
 use Rattle.policy_defs.specs.Policy.{Node, Class as Aimed}
 use Rattle.policy_defs.specs.Accepted.{IsAccepted}
 use Rattle.policy_rules.specs.Names.{Name, declared, class_name, node_name}
-use Rattle.policy_rules.specs.Clauses.{root, most_nodes, most_classes}
+use Rattle.policy_rules.specs.Clauses.{root, most_classes}
 use Rattle.policy_rules.specs.Programs.{place, programs}
 use Rattle.policy_rules.specs.Accepted.{AreAccepted}
 use Rattle.policy_rules.specs.Graph.{graph_of, nodes_in}

@@ -3,12 +3,13 @@ use Rattle.std.proofs.Common.{◌≡◌, ℕ, ◌<◌, ◌≤◌, ◌↔◌, Boo
 use Rattle.std.specs.Prelude.{IsSomeAnd, IsTrue}
 use Rattle.std.specs.List.{AllByRecursion}
 use Rattle.std.proofs.lemmas.List.{get_or_default}
-use Rattle.tree_defs.specs.Tree.{Tree, Address, nodes, depth, IsAddressOf, LeadsToLeaf}
+use Rattle.tree_defs.specs.Tree.{Tree, Address, nodes, depth, IsAddressOf, LeadsToLeaf, most_nodes}
 use Rattle.tree_defs.specs.Topology.{Topology, topology_of}
 use Rattle.tree_defs.proofs.Shapes.{nodes-topology, depth-topology, LeadsToLeaf-topology}
 use Rattle.rank_defs.specs.Programs.{Program}
 use Rattle.policy_defs.specs.Policy.{Node, node_at}
-use Rattle.policy_defs.specs.Accepted.{IsAccepted, max_name}
+use Rattle.policy_defs.specs.Accepted.{IsAccepted}
+use Rattle.text_core.specs.Tokens.{most_name}
 use Rattle.policy_defs.specs.Numbers.{number_at}
 use Rattle.policy_rules.specs.Resolved.{Resolved}
 use Rattle.policy_rules.proofs.Lists.{all-weaker}
@@ -18,7 +19,6 @@ use Rattle.tree_graph.proofs.GrowthLemmas.{length-rows}
 use Rattle.policy_core.specs.declared.parts.Station.{Station}
 use Rattle.policy_core.specs.declared.parts.Class.{Class}
 use Rattle.policy_core.specs.Numbering.{address_at}
-use Rattle.policy_rules.specs.Clauses.{most_nodes}
 use Rattle.policy_core.specs.Parts.{resolved, tree_of, node_of, station_at, no_station, no_program, told, AreNumbered, IsWhole}
 use Rattle.policy_core.proofs.Numbers.{IsAddress, address-undone, address_at-topology, address-down, address-up, topology_of-nodes, node_numbered}
 use Rattle.policy_core.proofs.Rows.{IsRowAt, row-numbered}
@@ -111,7 +111,7 @@ module _ (tree : Numbered) (ss : List Station) (ps : List Program) (cs : List Cl
       subst (λ (t : Tree Node). node_at t (address_at t k) ≡ Some (node_of ps (station_at ss (row_at tree.rows k).node))) tree-is
       (node_numbered (λ n. node_of ps (station_at ss (row_at tree.rows n).node)) tree.topology k (omega (arith, within k l, rows-count tree w.numbered)))
 
-  pub name-short : (k : ℕ) → k < nodes r.policy.tree → length (station_at ss (row_at tree.rows k).node).name ≤ max_name
+  pub name-short : (k : ℕ) → k < nodes r.policy.tree → length (station_at ss (row_at tree.rows k).node).name ≤ most_name
   name-short k l = (accepted-is.nodes (address_at r.policy.tree k) (node_of ps (station_at ss (row_at tree.rows k).node)) (node-is k l)).name
 
   pub program-there : (k : ℕ) → k < nodes r.policy.tree → (station_at ss (row_at tree.rows k).node).program < length ps
@@ -139,5 +139,5 @@ module _ (tree : Numbered) (ss : List Station) (ps : List Program) (cs : List Cl
   pub name-is : (k : ℕ) (s : Station) (name : List ℕ) → k < nodes r.policy.tree → s ≡ station_at ss (row_at tree.rows k).node → name ≡ s.name → IsSomeAnd (node_at r.policy.tree (address_at r.policy.tree k)) (λ n. name ≡ n.name)
   name-is k s name l own is = some-and _ _ (λ n. name ≡ n.name) (node-is k l) (is ∙ ap (λ (x : Station). x.name) own)
 
-  pub name-length : (k : ℕ) (s : Station) (name : List ℕ) → k < nodes r.policy.tree → s ≡ station_at ss (row_at tree.rows k).node → name ≡ s.name → length name ≤ max_name
+  pub name-length : (k : ℕ) (s : Station) (name : List ℕ) → k < nodes r.policy.tree → s ≡ station_at ss (row_at tree.rows k).node → name ≡ s.name → length name ≤ most_name
   name-length k s name l own is = omega (arith, name-short k l, ap length is, ap (λ (x : Station). length x.name) own)

@@ -1,12 +1,12 @@
 -- The policy that a tree of numbered nodes, stations, transactions and classes give.
 use Rattle.std.specs.Prelude.{◌≡◌, ◌<◌, ◌≤◌, ℕ, List, [], ◌∷◌, ◌++◌, map, length, slice_index_or}
 use Rattle.std.specs.List.{AllByRecursion}
-use Rattle.tree_defs.specs.Tree.{Tree}
+use Rattle.tree_defs.specs.Tree.{Tree, most_nodes}
 use Rattle.rank_defs.specs.Programs.{Program}
 use Rattle.policy_text_defs.specs.declared.condition.Condition.{Condition}
 use Rattle.policy_defs.specs.Policy.{Node, Class as Aimed, Marks as Told}
 use Rattle.policy_defs.specs.Accepted.{IsAccepted}
-use Rattle.policy_rules.specs.Clauses.{most_nodes, most_classes}
+use Rattle.policy_rules.specs.Clauses.{most_classes}
 use Rattle.policy_rules.specs.Resolved.{Resolved}
 use Rattle.tree_graph.specs.Row.{row_at}
 use Rattle.tree_graph.specs.Preorder.{Numbered, IsNumberedBy}

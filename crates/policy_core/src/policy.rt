@@ -1,15 +1,16 @@
 //! An accepted policy and what its nodes and classes say.
 ghost use Rattle.std.specs.Prelude.{◌≡◌, ◌<◌, ◌≤◌, ◌++◌, ◌∷◌, [], ◌↔◌, map, length, IsTrue};
 ghost use Rattle.std.specs.List.{AllByRecursion};
-ghost use Rattle.tree_defs.specs.Tree.{depth as levels, nodes, IsAddressOf, LeadsToLeaf, most_levels};
+ghost use Rattle.tree_defs.specs.Tree.{depth as levels, nodes, IsAddressOf, LeadsToLeaf, most_levels, most_nodes};
 ghost use Rattle.tree_defs.specs.Topology.{topology_of, IsBranched};
 ghost use Rattle.tree_core.specs.Shape.{topology};
-ghost use Rattle.policy_defs.specs.Accepted.{IsAccepted, max_name};
+ghost use Rattle.policy_defs.specs.Accepted.{IsAccepted};
+ghost use Rattle.text_core.specs.Tokens.{most_name};
 ghost use Rattle.policy_defs.specs.Numbers.{number_at};
 ghost use Rattle.policy_core.specs.Numbering.{address_at, HasAt};
 ghost use Rattle.policy_core.specs.Parts.{resolved, told, class_in, AreNumbered, HaveStations, HavePrograms, HaveLeaves, HasCatchAll, station_at};
 ghost use Rattle.tree_graph.specs.Row.{row_at};
-ghost use Rattle.policy_rules.specs.Clauses.{most_nodes, most_classes};
+ghost use Rattle.policy_rules.specs.Clauses.{most_classes};
 
 use crate::parts::{Class, Marks, Station};
 use list_core::List;
@@ -100,7 +101,7 @@ impl Policy {
     pub fn name(&self, node: u32) -> &str
         requires there { node < nodes self.now.policy.tree }
         ensures name { HasAt self.now.policy.tree node (λ n. result.now ≡ n.name) }
-        ensures short { length result.now ≤ max_name }
+        ensures short { length result.now ≤ most_name }
     {
         station_of(&self.tree, self.stations.as_slice(), node)
             .name

@@ -5,7 +5,8 @@ use Rattle.policy_declarations.specs.declared.spaces.Spaces.{Spaces}
 use Rattle.policy_declarations.specs.declared.room.Room.{Room}
 use Rattle.policy_rules.specs.Names.{Name, has, transaction_name, class_name, node_name, variable_name, declared}
 use Rattle.policy_rules.specs.Bodies.{stage, is_body, open_body}
-use Rattle.policy_rules.specs.Clauses.{is_version, may_follow, last_of, most_classes, most_nodes, most_transactions, most_variables, most_assignments, assignments_in, is_declared}
+use Rattle.policy_rules.specs.Clauses.{is_version, may_follow, last_of, most_classes, most_transactions, most_variables, most_assignments, assignments_in, is_declared}
+use Rattle.tree_defs.specs.Tree.{most_nodes}
 
 -- the last statement, if there is one
 abbrev pub last_sense : List Entry → Option Sense

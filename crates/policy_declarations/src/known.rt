@@ -5,7 +5,7 @@ ghost use Rattle.std.specs.Str.{bytes_eq};
 ghost use Rattle.policy_text_defs.specs.Phrase.{phrase_of};
 ghost use Rattle.policy_text_defs.specs.Sense.{Entry, sense_of};
 ghost use Rattle.policy_rules.specs.Names.{has};
-ghost use Rattle.policy_rules.specs.Clauses.{IsFirst, IsUnknown, is_known, are_operands_known, is_transaction_known};
+ghost use Rattle.policy_rules.specs.Clauses.{IsFirstLine, IsUnknown, is_known, are_operands_known, is_transaction_known};
 ghost use Rattle.policy_rules.specs.Entries.{entries_of, AreRising};
 ghost use Rattle.policy_declarations.specs.Kept.{AreSpaces, AreVariables};
 
@@ -95,7 +95,7 @@ pub fn first_unknown(
 ) -> Result<Option<u32>, AllocError>
     requires rising { AreRising (entries_of lines.now) }
     requires spaces { AreSpaces (entries_of lines.now) spaces.now }
-    ensures { IfOk result (IsFirst (IsUnknown (entries_of lines.now)) (entries_of lines.now)) }
+    ensures { IfOk result (IsFirstLine (IsUnknown (entries_of lines.now)) (entries_of lines.now)) }
 {
     let mut variables = Names::new(alloc);
     for (line, statement) in lines {

@@ -1,7 +1,7 @@
 //! Which statement may follow which.
 ghost use Rattle.std.specs.Prelude.{◌≡◌, option_map};
 ghost use Rattle.policy_text_defs.specs.Sense.{sense_of};
-ghost use Rattle.policy_rules.specs.Clauses.{IsFirst, IsMisplaced};
+ghost use Rattle.policy_rules.specs.Clauses.{IsFirstLine, IsMisplaced};
 ghost use Rattle.policy_rules.specs.Entries.{entries_of, AreRising};
 ghost use Rattle.policy_declarations.specs.Kept.{is_placed_behind};
 
@@ -45,7 +45,7 @@ fn is_placed(last: Option<&Statement>, statement: &Statement) -> bool
 /// The line of the first statement that stands where it may not.
 pub fn first_misplaced(lines: &[(u32, Statement)]) -> Option<u32>
     requires rising { AreRising (entries_of lines.now) }
-    ensures { IsFirst (IsMisplaced (entries_of lines.now)) (entries_of lines.now) result }
+    ensures { IsFirstLine (IsMisplaced (entries_of lines.now)) (entries_of lines.now) result }
 {
     let mut last = None;
     for (line, statement) in lines {

@@ -1,7 +1,7 @@
 //! How many transactions, classes and nodes a policy has room for.
 ghost use Rattle.std.specs.Prelude.{◌≡◌, ◌+◌, [], List, true, not, ◌==◌};
 ghost use Rattle.policy_text_defs.specs.Sense.{Entry, sense_of};
-ghost use Rattle.policy_rules.specs.Clauses.{IsFirst, IsBeyond, is_beyond};
+ghost use Rattle.policy_rules.specs.Clauses.{IsFirstLine, IsBeyond, is_beyond};
 ghost use Rattle.policy_rules.specs.Entries.{entries_of, AreRising};
 ghost use Rattle.policy_declarations.specs.Kept.{IsRoom, IsRoomAfter};
 
@@ -76,7 +76,7 @@ impl Room {
 /// The line of the first statement that is one too many.
 pub fn first_beyond(lines: &[(u32, Statement)]) -> Option<u32>
     requires rising { AreRising (entries_of lines.now) }
-    ensures { IsFirst (IsBeyond (entries_of lines.now)) (entries_of lines.now) result }
+    ensures { IsFirstLine (IsBeyond (entries_of lines.now)) (entries_of lines.now) result }
 {
     let mut room = Room::new();
     for (line, statement) in lines {

@@ -1,14 +1,11 @@
 -- What is needed of a policy, so that its queues can be run.
 use Rattle.std.specs.Prelude.{◌≡◌, ◌≤◌, ◌<◌, ◌^◌, ℕ, Some, length}
 use Rattle.std.specs.List.{AllByRecursion}
+use Rattle.text_core.specs.Tokens.{most_name}
 use Rattle.tree_defs.specs.Tree.{Tree, leaf, inner, Trees, none, more, Address, LeadsToLeaf, depth, count_of, most_levels}
 use Rattle.rank_defs.specs.Shapes.{IsShaped, max_prio, max_weight, max_slack}
 use Rattle.rank_defs.specs.Checks.{IsChecked}
 use Rattle.policy_defs.specs.Policy.{Policy, Marks, Node, Class, node_at}
-
--- the greatest length of a name in bytes
-abbrev pub max_name : ℕ
-max_name = 64
 
 pub record AreMarksInRange (m : Marks) : Type 0 where
   pub prio : m.prio ≤ max_prio
@@ -21,7 +18,7 @@ pub record IsNodeReady (n : Node) : Type 0 where
   pub shaped : IsShaped n.program
   pub checked : IsChecked n.program
   pub marks : AreMarksInRange n.marks
-  pub name : length n.name ≤ max_name
+  pub name : length n.name ≤ most_name
 
 -- a class whose packets have a leaf
 pub record IsClassReady (tree : Tree Node) (c : Class) : Type 0 where

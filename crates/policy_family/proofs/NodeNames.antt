@@ -8,7 +8,8 @@ use Rattle.std.specs.Str.{bytes_eq}
 use Rattle.policy_text_defs.specs.Sense.{Sense, Entry, version, transaction, keep, each, push, pop, class, leaf, node, sense_of}
 use Rattle.policy_text_defs.specs.declared.statement.Statement.{Statement}
 use Rattle.policy_rules.specs.Names.{Name, has, node_name, children, declared, before}
-use Rattle.policy_rules.specs.Clauses.{is_declared, is_known, is_beyond, is_transaction_known, most_nodes}
+use Rattle.policy_rules.specs.Clauses.{is_declared, is_known, is_beyond, is_transaction_known}
+use Rattle.tree_defs.specs.Tree.{most_nodes}
 use Rattle.policy_rules.specs.Entries.{AreRising, entries_of}
 use Rattle.policy_rules.specs.Accepted.{AreFew}
 use Rattle.policy_rules.proofs.Lines.{entry_of, within-entries, entry-at}

@@ -4,7 +4,7 @@ ghost use Rattle.std.specs.List.{list_all};
 ghost use Rattle.std.specs.Option.{option_to_list};
 ghost use Rattle.policy_text_defs.specs.Sense.{sense_of};
 ghost use Rattle.policy_rules.specs.Names.{has, declared, node_name, children};
-ghost use Rattle.policy_rules.specs.Clauses.{most_nodes};
+ghost use Rattle.tree_defs.specs.Tree.{most_nodes};
 ghost use Rattle.policy_rules.specs.Entries.{entries_of, AreRising};
 ghost use Rattle.policy_rules.specs.Programs.{place};
 ghost use Rattle.policy_rules.specs.Graph.{family, graph_of};

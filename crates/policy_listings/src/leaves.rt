@@ -3,7 +3,7 @@ ghost use Rattle.std.specs.Prelude.{◌≡◌, List, true, OnOk, IfErr};
 ghost use Rattle.policy_text_defs.specs.Sense.{sense_of};
 ghost use Rattle.policy_rules.specs.Entries.{entries_of, AreRising};
 ghost use Rattle.policy_rules.specs.Names.{Name, listed, leaf_classes};
-ghost use Rattle.policy_rules.specs.Clauses.{IsFirst, NoLine, IsStray, is_stray, has_catch_all};
+ghost use Rattle.policy_rules.specs.Clauses.{IsFirstLine, NoLine, IsStray, is_stray, has_catch_all};
 ghost use Rattle.policy_rules.specs.Accepted.{AreShallow, IsFault};
 ghost use Rattle.policy_names.specs.Names.{IsTallyOf};
 
@@ -27,7 +27,7 @@ fn is_stray(tally: &Tally, statement: &Statement) -> bool
 fn first_stray(lines: &[(u32, Statement)], tally: &Tally) -> Option<u32>
     requires rising { AreRising (entries_of lines.now) }
     requires tally { IsTallyOf tally.now (listed leaf_classes (entries_of lines.now)) }
-    ensures first { IsFirst (IsStray (entries_of lines.now)) (entries_of lines.now) result }
+    ensures first { IsFirstLine (IsStray (entries_of lines.now)) (entries_of lines.now) result }
 {
     for (line, statement) in lines {
         if is_stray(tally, statement) {

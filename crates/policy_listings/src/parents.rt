@@ -3,7 +3,7 @@ ghost use Rattle.std.specs.Prelude.{◌≡◌, List, true, OnOk, IfErr};
 ghost use Rattle.policy_text_defs.specs.Sense.{sense_of};
 ghost use Rattle.policy_rules.specs.Entries.{entries_of, AreRising};
 ghost use Rattle.policy_rules.specs.Names.{Name, listed, children};
-ghost use Rattle.policy_rules.specs.Clauses.{IsFirst, NoLine, IsOrphan, is_orphan, has_root};
+ghost use Rattle.policy_rules.specs.Clauses.{IsFirstLine, NoLine, IsOrphan, is_orphan, has_root};
 ghost use Rattle.policy_rules.specs.Accepted.{AreComputable, IsFault};
 ghost use Rattle.policy_names.specs.Names.{IsTallyOf};
 ghost use Rattle.policy_listings.specs.Statements.{is_root};
@@ -30,7 +30,7 @@ fn is_orphan(tally: &Tally, statement: &Statement) -> bool
 fn first_orphan(lines: &[(u32, Statement)], tally: &Tally) -> Option<u32>
     requires rising { AreRising (entries_of lines.now) }
     requires tally { IsTallyOf tally.now (listed children (entries_of lines.now)) }
-    ensures first { IsFirst (IsOrphan (entries_of lines.now)) (entries_of lines.now) result }
+    ensures first { IsFirstLine (IsOrphan (entries_of lines.now)) (entries_of lines.now) result }
 {
     for (line, statement) in lines {
         if is_orphan(tally, statement) {

@@ -10,12 +10,13 @@ use Rattle.rank_defs.specs.Checks.{IsChecked}
 use Rattle.rank_defs.proofs.Table.{builtins-checked}
 use Rattle.policy_text_defs.specs.declared.attribute.Attrs.{Attrs}
 use Rattle.policy_text_defs.specs.declared.attribute.Attribute.TheVariants as attribute
-use Rattle.policy_text_defs.specs.Words.{is_word, is_reserved, most_name}
+use Rattle.policy_text_defs.specs.Words.{is_word, is_reserved}
+use Rattle.text_core.specs.Tokens.{most_name}
 use Rattle.policy_text_defs.specs.Statements.{IsName}
 use Rattle.policy_text_defs.specs.Valid.{IsValid, IsValidAttribute, AreValidAttributes}
 use Rattle.policy_text_defs.specs.Sense.{Sense, Entry, version, transaction, keep, each, push, pop, class, leaf, node}
 use Rattle.policy_defs.specs.Policy.{Node, Class, node_at, node_below}
-use Rattle.policy_defs.specs.Accepted.{AreMarksInRange, IsNodeReady, IsClassReady, HasFewChildren, HaveFewChildren, IsAccepted, max_name}
+use Rattle.policy_defs.specs.Accepted.{AreMarksInRange, IsNodeReady, IsClassReady, HasFewChildren, HaveFewChildren, IsAccepted}
 use Rattle.policy_rules.specs.Names.{Name}
 use Rattle.policy_rules.specs.Clauses.{has_catch_all_behind}
 use Rattle.policy_rules.specs.Programs.{programs}
@@ -35,7 +36,7 @@ checked-parts [] all = tt
 checked-parts (b ∷ bs) all = (all.0.1, checked-parts bs all.1)
 
 -- ---- names and marks
-name-short : (w : Name) → IsName w → length w ≤ max_name
+name-short : (w : Name) → IsName w → length w ≤ most_name
 name-short w named =
     let rest : IsTrue (is_word w) × IsTrue (nat_le (length w) most_name && not (is_reserved w)) = and_parts (is_word w) (nat_le (length w) most_name && not (is_reserved w)) named in
     let short : IsTrue (nat_le (length w) most_name) × IsTrue (not (is_reserved w)) = and_parts (nat_le (length w) most_name) (not (is_reserved w)) rest.1 in
@@ -71,7 +72,7 @@ node-ready es n name used a accepted shaped named valid said = record {
   shaped = program-holds IsShaped es used n.program (shaped-parts builtins builtins-checked) shaped said.program_is;
   checked = program-holds IsChecked es used n.program (checked-parts builtins builtins-checked) (checked-there es accepted) said.program_is;
   marks = subst AreMarksInRange (sym said.marks_are) (marks-in_range a valid);
-  name = subst (λ (w : Name). length w ≤ max_name) (sym said.name_is) (name-short name named);
+  name = subst (λ (w : Name). length w ≤ most_name) (sym said.name_is) (name-short name named);
 }
 
 leaf-ready : (es : List Entry) (n : Node) (s : Sense) → AreAccepted es → AllByRecursion IsShaped (programs es) → IsValid s → IsLeafOf es n s → IsNodeReady n

@@ -3,6 +3,7 @@ use Rattle.std.specs.Prelude.{ℕ, ◌≡◌, ◌≤◌, ◌==◌, nat_le, Bool,
 use Rattle.std.specs.List.{list_all}
 use Rattle.std.specs.Option.{option_map_or}
 use Rattle.std.specs.Str.{bytes_eq}
+use Rattle.tree_defs.specs.Tree.{most_nodes}
 use Rattle.rank_defs.specs.Builtins.{builtin}
 use Rattle.policy_text_defs.specs.Words.{is_variable}
 use Rattle.policy_text_defs.specs.Phrase.{Phrase, number, word, two, negation, choice}
@@ -19,8 +20,8 @@ abbrev pub NoLine : (Entry → Type 0) → List Entry → Type 0
 NoLine Fails entries = All (λ e. ¬ Fails e) entries
 
 -- the least line at fault, where there is one
-abbrev pub IsFirst : (Entry → Type 0) → List Entry → Option ℕ → Type 0
-IsFirst Fails entries found = MatchOption found (NoLine Fails entries) (IsLeastLine Fails entries)
+abbrev pub IsFirstLine : (Entry → Type 0) → List Entry → Option ℕ → Type 0
+IsFirstLine Fails entries found = MatchOption found (NoLine Fails entries) (IsLeastLine Fails entries)
 
 -- ---- 1: a statement stands where it may not
 abbrev pub is_version : Sense → Bool
@@ -91,9 +92,6 @@ IsUnknown entries e = IsTrue (not (is_known entries (before e.0 entries) e.1))
 -- ---- 4: one too many
 abbrev pub most_classes : ℕ
 most_classes = 256
-
-abbrev pub most_nodes : ℕ
-most_nodes = 1024
 
 abbrev pub most_transactions : ℕ
 most_transactions = 64

@@ -1,5 +1,5 @@
 -- Steps of reading the lines of a text.
-use Rattle.std.proofs.Common.{◌≡◌, ℕ, zero, suc, ◌+◌, ◌<◌, ◌≤◌, List, [], ◌∷◌, ◌++◌, length, take, drop, map, get_or, Result, Ok, Err, Option, Some, None, true, sym, refl, ap, ◌∙◌, subst, arith, inl, inr, IfOk, IfErr}
+use Rattle.std.proofs.Common.{◌≡◌, ◌≢◌, ℕ, zero, suc, ◌+◌, ◌<◌, ◌≤◌, List, [], ◌∷◌, ◌++◌, length, take, drop, map, get_or, Result, Ok, Err, Option, Some, None, true, sym, refl, ap, ◌∙◌, subst, arith, inl, inr, IfOk, IfErr}
 use Rattle.std.specs.Prelude.{◌⊎◌}
 use Rattle.std.specs.List.{list_all}
 use Rattle.std.proofs.lemmas.List.{length-map, take_all}
@@ -101,7 +101,7 @@ pub sofar_start : (text : List ℕ) (held : List Numbered) → held ≡ [] → S
 sofar_start text held none = subst (λ h. Entries 1 [] (map entry_of h)) (sym none) (over 1)
 
 -- a text in form has no cause of a refusal
-entries_no_cause : (text : List ℕ) (es : List Entry) (e : TextFault) → HasEntries text es → IsCause text e → ⊥
+pub entries_no_cause : (text : List ℕ) (es : List Entry) (e : TextFault) → HasEntries text es → IsCause text e → ⊥
 entries_no_cause text es fault.TooLong has cause = let short = has.short in absurd (omega arith)
 entries_no_cause text es (fault.NotText n) has cause = entries_no_fault 1 (statements_of text) es n not_text has.entries cause.first
 entries_no_cause text es (fault.Syntax n) has cause = entries_no_fault 1 (statements_of text) es n syntax_fault has.entries cause.first
@@ -132,6 +132,30 @@ tag not_text = 0
 tag shaping = 1
 tag syntax_fault = 2
 
+-- a cause is one that is told
+told_cause : (text : List ℕ) (e : TextFault) → IsCause text e → HasCause text e
+told_cause text fault.TooLong p = p
+told_cause text (fault.NotText n) p = p
+told_cause text (fault.Syntax n) p = p
+told_cause text (fault.Shaping n) p = p
+told_cause text fault.NoMemory p = tt
+
+-- want of memory has no cause
+no_want : (text : List ℕ) (e : TextFault) → IsCause text e → IsWant e → ⊥
+no_want text fault.TooLong p want = want
+no_want text (fault.NotText n) p want = want
+no_want text (fault.Syntax n) p want = want
+no_want text (fault.Shaping n) p want = want
+no_want text fault.NoMemory p want = p
+
+-- a cause that is told is one, but for want of memory
+pub cause_told : (text : List ℕ) (e : TextFault) → e ≢ fault.NoMemory → HasCause text e → IsCause text e
+cause_told text fault.TooLong some p = p
+cause_told text (fault.NotText n) some p = p
+cause_told text (fault.Syntax n) some p = p
+cause_told text (fault.Shaping n) some p = p
+cause_told text fault.NoMemory some p = some refl
+
 -- two causes of one text are causes of one fault
 same_cause : (text : List ℕ) (e f : TextFault) → HasCause text e → IsCause text f → (e ≡ f) ⊎ IsWant e
 same_cause text fault.NoMemory f p q = inr tt
@@ -152,6 +176,13 @@ same_cause text (fault.Syntax n) (fault.Shaping m) p q = let differ = ap tag (fi
 same_cause text (fault.Shaping n) (fault.NotText m) p q = let differ = ap tag (first_one text n m shaping not_text p q).1 in absurd (omega arith)
 same_cause text (fault.Shaping n) (fault.Syntax m) p q = let differ = ap tag (first_one text n m shaping syntax_fault p q).1 in absurd (omega arith)
 same_cause text (fault.Shaping n) (fault.Shaping m) p q = inl (ap fault.Shaping (first_one text n m shaping shaping p q).0)
+
+-- a text has one cause of a refusal
+pub one_cause : (text : List ℕ) (e f : TextFault) → IsCause text e → IsCause text f → e ≡ f
+one_cause text e f p q = elim (same_cause text e f (told_cause text e p) q) [
+  | inl same ↦ same
+  | inr want ↦ absurd (no_want text e p want)
+]
 
 pub told_fails : (text : List ℕ) (result : Result Lines TextFault) (f : TextFault) → Told text result → IsCause text f → Fails result f
 told_fails text (Ok lines) f told cause = entries_no_cause text (map entry_of lines.held) f told cause

@@ -1,3 +1,4 @@
+pub mod Codes
 pub mod Entries
 pub mod Parsing
 pub mod Printing

@@ -1,4 +1,7 @@
 //! Why a text has no statements.
+ghost use Rattle.std.specs.Prelude.{◌≡◌};
+ghost use Rattle.policy_text.specs.Codes.{code_of, line_of};
+
 use std::alloc::{AllocError, AllocFailed};
 
 /// Why a text has no statements. A line is named by its number, counted from 1.
@@ -13,6 +16,31 @@ pub enum TextFault {
     /// The line asks for a shaping transaction.
     Shaping(u32),
     NoMemory,
+}
+
+impl TextFault {
+    /// The number of the fault in a report; 0 for want of memory.
+    pub fn code(&self) -> u32
+        ensures { result ≡ code_of self.now }
+    {
+        match self {
+            TextFault::TooLong => 21,
+            TextFault::NotText(_) => 22,
+            TextFault::Syntax(_) => 23,
+            TextFault::Shaping(_) => 24,
+            TextFault::NoMemory => 0,
+        }
+    }
+
+    /// The line at fault, 0 where there is none.
+    pub fn line(&self) -> u32
+        ensures { result ≡ line_of self.now }
+    {
+        match self {
+            TextFault::NotText(line) | TextFault::Syntax(line) | TextFault::Shaping(line) => *line,
+            TextFault::TooLong | TextFault::NoMemory => 0,
+        }
+    }
 }
 
 impl From<AllocError> for TextFault {

@@ -4,7 +4,8 @@ use Rattle.std.specs.Prelude.{◌&&◌, ◌||◌, nat_le, not}
 use Rattle.std.specs.List.{list_all, list_any}
 use Rattle.std.specs.Str.{bytes_eq}
 use Rattle.std.proofs.lemmas.Slice.Eq.{bytes_eq-Decides}
-use Rattle.policy_text_defs.specs.Words.{most_name, is_reserved, is_word, is_name, variables, is_variable, is_operand, is_target}
+use Rattle.policy_text_defs.specs.Words.{is_reserved, is_word, is_name, variables, is_variable, is_operand, is_target}
+use Rattle.text_core.specs.Tokens.{most_name}
 use Rattle.policy_text_defs.proofs.TokenLaws.{both_true}
 
 abbrev IsWord : List ℕ → Type 0

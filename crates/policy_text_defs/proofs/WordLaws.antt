@@ -7,8 +7,8 @@ use Rattle.std.specs.Int.{is_in_range}
 use Rattle.std.proofs.lemmas.Bool.{leb-true, eqb-true}
 use Rattle.std.proofs.lemmas.Str.{IsUtf8-from_ascii}
 use Rattle.std.proofs.lemmas.Slice.Eq.{bytes_eq-Decides}
-use Rattle.text_core.specs.Tokens.{begins_word, is_word_byte}
-use Rattle.policy_text_defs.specs.Words.{most_name, is_reserved, is_word, is_name, variables, is_variable, is_operand, is_target}
+use Rattle.text_core.specs.Tokens.{begins_word, is_word_byte, most_name}
+use Rattle.policy_text_defs.specs.Words.{is_reserved, is_word, is_name, variables, is_variable, is_operand, is_target}
 use Rattle.policy_text_defs.proofs.TokenLaws.{both_true}
 
 below : (low high b : ℕ) → is_in_range low high b ≡ true → b ≤ high

@@ -2,7 +2,7 @@
 use Rattle.std.specs.Prelude.{ℕ, nat_le, Bool, not, ◌&&◌, ◌||◌, List, [], ◌∷◌, length, Option, Some, None, if◌then◌else◌, codes}
 use Rattle.std.specs.List.{list_all, list_any}
 use Rattle.std.specs.Str.{bytes_eq}
-use Rattle.text_core.specs.Tokens.{begins_word, is_word_byte}
+use Rattle.text_core.specs.Tokens.{begins_word, is_word_byte, most_name}
 use Rattle.rank_defs.specs.declared.expression.Op.TheVariants as op
 use Rattle.policy_text_defs.specs.declared.function.Function.{Function}
 use Rattle.policy_text_defs.specs.declared.function.Function.TheVariants as function
@@ -14,10 +14,6 @@ use Rattle.policy_text_defs.specs.declared.condition.FieldName.{FieldName}
 use Rattle.policy_text_defs.specs.declared.condition.FieldName.TheVariants as field
 use Rattle.policy_text_defs.specs.declared.condition.Subject.{Subject}
 use Rattle.policy_text_defs.specs.declared.condition.Subject.TheVariants as subject
-
--- the most bytes of a name
-abbrev pub most_name : ℕ
-most_name = 64
 
 -- the words that aren't names
 abbrev pub reserved : List (List ℕ)

@@ -9,17 +9,18 @@ use Rattle.target_defs.specs.Levels.{levels}
 use Rattle.embed_defs.specs.Canonical.{IsCanonical}
 use Rattle.embed_defs.specs.Embedding.{IsEmbedding}
 use Rattle.embed_defs.specs.Images.{image_map}
-use Rattle.policy_text_defs.specs.Ranges.{most_text}
 use Rattle.policy_text_defs.specs.Sense.{Entry}
 use Rattle.policy_text_defs.specs.Text.{HasEntries}
-use Rattle.policy_text_defs.proofs.TextLaws.{Entries-one, FirstFault-one, entries_no_fault}
+use Rattle.policy_text_defs.proofs.TextLaws.{Entries-one}
 use Rattle.policy_rules.specs.Accepted.{AreAccepted, IsFault}
 use Rattle.policy_rules.specs.Codes.{code_of, line_of}
 use Rattle.policy_rules.specs.Entries.{AreRising}
 use Rattle.policy_rules.specs.declared.fault.PolicyFault.{PolicyFault}
 use Rattle.policy_rules.specs.declared.fault.PolicyFault.TheVariants.{NoMemory}
 use Rattle.policy_rules.proofs.OneFault.{one-fault, accepted-fault}
+use Rattle.policy_text.specs.Codes.{code_of as text_code, line_of as text_line}
 use Rattle.policy_text.proofs.EntryLaws.{Rises, entries_rise}
+use Rattle.policy_text.proofs.TextSteps.{entries_no_cause, one_cause}
 use Rattle.policy_laws.proofs.OnePolicy.{one-policy}
 use Rattle.policy_defs.specs.Policy.{Policy}
 use Rattle.events_core.specs.Script as script
@@ -27,24 +28,20 @@ use Rattle.events_core.proofs.ScriptLaws.{IsScript-one, IsFirstFault-one, IsScri
 use Rattle.target_core.specs.declared.target.Target.{Target}
 use Rattle.target_core.proofs.OneTarget.{one_answer-holds}
 use Rattle.embed_defs.proofs.Laws.{canonical_placements_are_one-holds}
-use Rattle.replay_app.specs.Policies.{IsTextRefused, too_long, at_fault, fault_code, IsPolicyRefused, text_refused, statements_refused, Judged, IsPolicy}
+use Rattle.replay_app.specs.Policies.{IsTextRefused, at_fault, IsPolicyRefused, text_refused, statements_refused, Judged, IsPolicy}
 use Rattle.replay_app.specs.Scripts as scripts
 use Rattle.replay_app.specs.Targets.{IsTargetRefused, IsTargetOf, HasNoRoom, IsPlacement}
 use Rattle.replay_app.proofs.FollowLaws.{AreOne}
 
 -- ---- a policy
 one-text-refusal : (text : List ℕ) (code line d m : ℕ) → IsTextRefused text code line → IsTextRefused text d m → (code ≡ d) × (line ≡ m)
-one-text-refusal text code line d m (too_long h) (too_long k) = (refl, refl)
-one-text-refusal text code line d m (too_long h) (at_fault n f k) = let short : length text ≤ most_text = k.short in absurd (omega arith)
-one-text-refusal text code line d m (at_fault n f h) (too_long k) = let short : length text ≤ most_text = h.short in absurd (omega arith)
-one-text-refusal text code line d m (at_fault n f h) (at_fault k g i) =
-    let same = FirstFault-one 1 _ n k f g h.first i.first in
-    (ap fault_code same.1, same.0)
+one-text-refusal text code line d m (at_fault f h) (at_fault g k) =
+    let same : f ≡ g = one_cause text f g h k in
+    (ap text_code same, ap text_line same)
 
 -- a text that has statements isn't refused
 none-refused : (text : List ℕ) (es : List Entry) (code line : ℕ) → HasEntries text es → IsTextRefused text code line → ⊥
-none-refused text es code line has (too_long h) = let short : length text ≤ most_text = has.short in absurd (omega arith)
-none-refused text es code line has (at_fault n f h) = entries_no_fault 1 _ es n f has.entries h.first
+none-refused text es code line has (at_fault f h) = entries_no_cause text es f has h
 
 -- statements that are accepted aren't refused
 none-faulty : (text : List ℕ) (es fs : List Entry) (f : PolicyFault) → HasEntries text es → AreAccepted es → HasEntries text fs → f ≢ NoMemory → IsFault fs f → ⊥

@@ -1,4 +1,5 @@
 pub mod LoadLaws
+pub mod ScriptFaults
 pub mod FollowLaws
 pub mod Inputs
 pub mod OneAnswer

@@ -17,7 +17,8 @@ use Rattle.embed_plan.proofs.PlanExists.{all_levels, a_plan}
 use Rattle.policy_defs.specs.Policy.{Policy}
 use Rattle.policy_text_defs.specs.Ranges.{most_text}
 use Rattle.policy_text_defs.specs.Sense.{Entry}
-use Rattle.policy_text_defs.specs.Text.{HasEntries}
+use Rattle.policy_text_defs.specs.Text.{Fault, not_text, syntax_fault, shaping, HasEntries, IsFirstFault}
+use Rattle.policy_text.specs.declared.fault.TextFault.TheVariants as fault
 use Rattle.policy_laws.proofs.FaultlessStatements.{accepted}
 use Rattle.policy_laws.proofs.SomePolicy.{a_policy}
 use Rattle.policy_laws.proofs.TextAnswers.{an_answer, sound_entries}
@@ -29,7 +30,7 @@ use Rattle.events_core.proofs.ScriptAnswers.{an_answer as script_answer}
 use Rattle.report_core.specs.declared.fault.FaultKind.TheVariants as kind
 use Rattle.replay_app.specs.Answer.{Answer}
 use Rattle.replay_app.specs.Laws.{HaveAnAnswer}
-use Rattle.replay_app.specs.Policies.{too_long, at_fault, fault_code, IsPolicyRefused, text_refused, statements_refused, Judged, IsPolicy}
+use Rattle.replay_app.specs.Policies.{at_fault, IsPolicyRefused, text_refused, statements_refused, Judged, IsPolicy}
 use Rattle.replay_app.specs.Scripts as scripts
 use Rattle.replay_app.specs.Targets.{IsTargetRefused, IsTargetOf, HasNoRoom, IsPlacement, IsPlanned, planned, plan_answer}
 use Rattle.replay_app.specs.Words.{replay, check, plan, direct, no_form}
@@ -43,10 +44,15 @@ policy_of_text text none none' es has =
     let r = a_policy es sound.rising sound.valid are in
     none (record { entries = es; policy = r.0 }) (record { has = has; accepted = are; gives = r.1 })
 
+refused_at : (text : List ℕ) (n : ℕ) (f : Fault) → IsFirstFault text n f → ((code line : ℕ) → IsPolicyRefused text code line → ⊥) → ⊥
+refused_at text n not_text first none' = none' 22 n (text_refused 22 n (at_fault (fault.NotText n) first))
+refused_at text n syntax_fault first none' = none' 23 n (text_refused 23 n (at_fault (fault.Syntax n) first))
+refused_at text n shaping first none' = none' 24 n (text_refused 24 n (at_fault (fault.Shaping n) first))
+
 read_policies : (text : List ℕ) → ((j : Judged) → IsPolicy text j → ⊥) → ((code line : ℕ) → IsPolicyRefused text code line → ⊥) → ⊥
 read_policies text none none' = elim (cases_lt most_text (length text)) [
-  | inl long ↦ none' 21 0 (text_refused 21 0 (too_long long))
-  | inr short ↦ an_answer text short (policy_of_text text none none') (λ n f first. none' (fault_code f) n (text_refused (fault_code f) n (at_fault n f first)))
+  | inl long ↦ none' 21 0 (text_refused 21 0 (at_fault fault.TooLong long))
+  | inr short ↦ an_answer text short (policy_of_text text none none') (λ n f first. refused_at text n f first none')
 ]
 
 read_targets : (text : List ℕ) → ((t : Target) → IsTargetOf text t → ⊥) → ((code place : ℕ) → IsTargetRefused text code place → ⊥) → ⊥

@@ -1,12 +1,14 @@
 -- What is read of a policy's text.
-use Rattle.std.specs.Prelude.{◌≢◌, ◌<◌, ℕ, List, length, map}
+use Rattle.std.specs.Prelude.{◌≢◌, ℕ, List, map}
 use Rattle.report_core.specs.declared.fault.FaultKind.TheVariants.{Policy}
 use Rattle.policy_text_defs.specs.Canonical.{canonical_text}
-use Rattle.policy_text_defs.specs.Ranges.{most_text}
 use Rattle.policy_text_defs.specs.Sense.{Sense, Entry}
-use Rattle.policy_text_defs.specs.Text.{Fault, not_text, shaping, syntax_fault, HasEntries, IsFirstFault}
+use Rattle.policy_text_defs.specs.Text.{HasEntries}
 use Rattle.policy_text.specs.declared.lines.Lines.{Lines}
+use Rattle.policy_text.specs.declared.fault.TextFault.{TextFault}
+use Rattle.policy_text.specs.Codes.{code_of as text_code, line_of as text_line}
 use Rattle.policy_text.specs.Entries.{entry_of}
+use Rattle.policy_text.specs.Parsing.{IsCause}
 use Rattle.policy_rules.specs.Accepted.{AreAccepted, IsFault}
 use Rattle.policy_rules.specs.Codes.{code_of, line_of}
 use Rattle.policy_rules.specs.Resolved.{Resolved, IsResolved}
@@ -25,16 +27,9 @@ senses_of es = map (λ e. e.1) es
 abbrev pub entries_in : Lines → List Entry
 entries_in lines = map entry_of lines.held
 
--- the code of the fault of a line
-abbrev pub fault_code : Fault → ℕ
-fault_code not_text = 22
-fault_code syntax_fault = 23
-fault_code shaping = 24
-
 -- the code and the line with which a text is refused: it is too long, or its first line at fault decides
 pub data IsTextRefused (text : List ℕ) : ℕ → ℕ → Type 0 where
-  too_long : most_text < length text → IsTextRefused text 21 0
-  at_fault : (n : ℕ) (f : Fault) → IsFirstFault text n f → IsTextRefused text (fault_code f) n
+  at_fault : (f : TextFault) → IsCause text f → IsTextRefused text (text_code f) (text_line f)
 
 -- the code and the line with which a policy is refused: its text is, or its statements are by the first clause that they fail
 pub data IsPolicyRefused (text : List ℕ) : ℕ → ℕ → Type 0 where

@@ -2,6 +2,7 @@
 ghost use Rattle.std.specs.Prelude.{◌≡◌, ◌≢◌, ◌≤◌, ℕ, List, IfOk, OnOk, IfSome, IsTrue, IsErrOf};
 ghost use Rattle.outside_core.specs.Faults.{Rose};
 ghost use Rattle.outside_core.specs.Kept.{KeepsShelf};
+ghost use Rattle.policy_text.specs.Codes.{code_of as text_code, line_of as text_line};
 ghost use Rattle.policy_rules.specs.Codes.{code_of, line_of};
 ghost use Rattle.replay_app.specs.Policies.{IsTextRead, IsPolicyRead};
 
@@ -9,14 +10,8 @@ use crate::load::load_short;
 use crate::refusal::{Read, Refusal};
 use outside_core::{Shelf, Stop};
 use policy_core::{Policy, PolicyFault, resolve};
-use policy_text::{Lines, TextFault, parse};
+use policy_text::{Lines, MOST_TEXT, TextFault, parse};
 use std::alloc::{AllocError, Global};
-
-/// The most bytes of a policy text.
-const MOST_POLICY: usize = 1_048_576;
-
-/// Why a text that is too long is refused.
-const TOO_LONG: Refusal = Refusal { code: 21, place: 0 };
 
 /// The statements of an accepted policy, and the policy that they give.
 #[derive(Drop)]
@@ -25,17 +20,27 @@ pub struct Judged {
     pub policy: Policy,
 }
 
+/// How the fault of a text is told. The error is want of memory.
+fn told_of(fault: TextFault) -> Result<Refusal, AllocError>
+    ensures memory { OnOk result (fault ≢ TextFault.NoMemory) }
+    ensures told { IfOk result (λ r. r ≡ record { code = text_code fault; place = text_line fault }) }
+{
+    match fault {
+        TextFault::NoMemory => Err(AllocError),
+        _ => Ok(Refusal {
+            code: fault.code(),
+            place: fault.line(),
+        }),
+    }
+}
+
 /// What a policy text says, or why it is refused. The error is want of memory.
 fn lines_in(alloc: Global, text: &[u8]) -> Result<Read<Lines>, AllocError>
     ensures { IfOk result (IsTextRead text.now) }
 {
     match parse(alloc, text) {
         Ok(lines) => Ok(Read::Accepted(lines)),
-        Err(TextFault::TooLong) => Ok(Read::Refused(TOO_LONG)),
-        Err(TextFault::NotText(place)) => Ok(Read::Refused(Refusal { code: 22, place })),
-        Err(TextFault::Syntax(place)) => Ok(Read::Refused(Refusal { code: 23, place })),
-        Err(TextFault::Shaping(place)) => Ok(Read::Refused(Refusal { code: 24, place })),
-        Err(TextFault::NoMemory) => Err(AllocError),
+        Err(fault) => Ok(Read::Refused(told_of(fault)?)),
     }
 }
 
@@ -48,9 +53,9 @@ fn read_lines<S: Shelf>(alloc: Global, shelf: &mut S, name: &str) -> Result<Read
     ensures cause { IsErrOf result Stop.Source → Rose (S.faults shelf.old) (S.faults shelf.new) }
     ensures writes_nothing { IsErrOf result Stop.Sink → ⊥ }
 {
-    match load_short(alloc, shelf, name, MOST_POLICY)? {
+    match load_short(alloc, shelf, name, MOST_TEXT)? {
         Some(text) => Ok(lines_in(alloc, &text)?),
-        None => Ok(Read::Refused(TOO_LONG)),
+        None => Ok(Read::Refused(told_of(TextFault::TooLong)?)),
     }
 }
 

@@ -1,8 +1,8 @@
 //! Scripts read from files.
-ghost use Rattle.std.specs.Prelude.{◌≤◌, IfOk, IfSome, IsTrue, IsErrOf};
+ghost use Rattle.std.specs.Prelude.{◌≡◌, ◌≢◌, ◌≤◌, IfOk, OnOk, IfSome, IsTrue, IsErrOf};
 ghost use Rattle.outside_core.specs.Faults.{Rose};
 ghost use Rattle.outside_core.specs.Kept.{KeepsShelf};
-ghost use Rattle.events_core.specs.Script.{IsScript, most_count};
+ghost use Rattle.events_core.specs.Script.{IsScript, most_count, code_of, place_of};
 ghost use Rattle.events_core.specs.Steps.{counts_of};
 ghost use Rattle.replay_app.specs.Follows.{IsRead, IfAccepted};
 ghost use Rattle.replay_app.specs.Scripts.{IsScriptRefused};
@@ -13,6 +13,20 @@ use events_core::{MOST_BYTES, Script, ScriptFault, parse_events};
 use outside_core::{Shelf, Stop};
 use std::alloc::{AllocError, Global};
 
+/// How the fault of a script is told. The error is want of memory.
+fn told_of(fault: ScriptFault) -> Result<Refusal, AllocError>
+    ensures memory { OnOk result (fault ≢ ScriptFault.NoMemory) }
+    ensures told { IfOk result (λ r. r ≡ record { code = code_of fault; place = place_of fault }) }
+{
+    match fault {
+        ScriptFault::NoMemory => Err(AllocError),
+        _ => Ok(Refusal {
+            code: fault.code(),
+            place: fault.place(),
+        }),
+    }
+}
+
 /// What the text of a script says, or why it is refused. The error is want of memory.
 fn script_in(alloc: Global, text: &[u8]) -> Result<Read<Script>, AllocError>
     ensures read { IfOk result (λ read. IsRead (IsScriptRefused text.now) (IsScript text.now) read) }
@@ -20,10 +34,7 @@ fn script_in(alloc: Global, text: &[u8]) -> Result<Read<Script>, AllocError>
 {
     match parse_events(alloc, text) {
         Ok(script) => Ok(Read::Accepted(script)),
-        Err(ScriptFault::Line(place)) => Ok(Read::Refused(Refusal { code: 1, place })),
-        Err(ScriptFault::TooMany(place)) => Ok(Read::Refused(Refusal { code: 2, place })),
-        Err(ScriptFault::TooLong) => Ok(Read::Refused(Refusal { code: 4, place: 0 })),
-        Err(ScriptFault::NoMemory) => Err(AllocError),
+        Err(fault) => Ok(Read::Refused(told_of(fault)?)),
     }
 }
 
@@ -40,6 +51,6 @@ pub fn read_script<S: Shelf>(alloc: Global, shelf: &mut S, name: &str) -> Result
 {
     match load_short(alloc, shelf, name, MOST_BYTES)? {
         Some(text) => Ok(script_in(alloc, &text)?),
-        None => Ok(Read::Refused(Refusal { code: 4, place: 0 })),
+        None => Ok(Read::Refused(told_of(ScriptFault::TooLong)?)),
     }
 }

@@ -1,8 +1,9 @@
 //! Targets read from files.
-ghost use Rattle.std.specs.Prelude.{◌≤◌, IfOk, IfSome, IsTrue, IsErrOf};
+ghost use Rattle.std.specs.Prelude.{◌≡◌, ◌≢◌, ◌≤◌, IfOk, OnOk, IfSome, IsTrue, IsErrOf};
 ghost use Rattle.outside_core.specs.Faults.{Rose};
 ghost use Rattle.outside_core.specs.Kept.{KeepsShelf};
 ghost use Rattle.target_defs.specs.Target.{IsInRange};
+ghost use Rattle.target_core.specs.Codes.{code_of};
 ghost use Rattle.replay_app.specs.Follows.{IsRead, IfAccepted};
 ghost use Rattle.replay_app.specs.Targets.{IsTargetRefused, IsTargetOf};
 
@@ -11,9 +12,21 @@ use crate::refusal::{Read, Refusal};
 use embed_core::{Target, TargetFault, read_target};
 use outside_core::{Shelf, Stop};
 use std::alloc::{AllocError, Global};
+use target_core::MOST_BYTES;
 
-/// The most bytes of a target's text.
-const MOST_TARGET: usize = 65_536;
+/// How the fault of a target, which has no place is told. The error is want of memory.
+fn told_of(fault: TargetFault) -> Result<Refusal, AllocError>
+    ensures memory { OnOk result (fault ≢ TargetFault.NoMemory) }
+    ensures told { IfOk result (λ r. r ≡ record { code = code_of fault; place = 0 }) }
+{
+    match fault {
+        TargetFault::NoMemory => Err(AllocError),
+        _ => Ok(Refusal {
+            code: fault.code(),
+            place: 0,
+        }),
+    }
+}
 
 /// What the text of a target says, or why it is refused. The error is want of memory.
 fn target_in(alloc: Global, text: &[u8]) -> Result<Read<Target>, AllocError>
@@ -22,11 +35,7 @@ fn target_in(alloc: Global, text: &[u8]) -> Result<Read<Target>, AllocError>
 {
     match read_target(alloc, text) {
         Ok(target) => Ok(Read::Accepted(target)),
-        Err(TargetFault::NoMemory) => Err(AllocError),
-        Err(fault) => Ok(Read::Refused(Refusal {
-            code: fault.code(),
-            place: 0,
-        })),
+        Err(fault) => Ok(Read::Refused(told_of(fault)?)),
     }
 }
 
@@ -45,8 +54,8 @@ pub fn read_target_file<S: Shelf>(
     ensures cause { IsErrOf result Stop.Source → Rose (S.faults shelf.old) (S.faults shelf.new) }
     ensures writes_nothing { IsErrOf result Stop.Sink → ⊥ }
 {
-    match load_short(alloc, shelf, name, MOST_TARGET)? {
+    match load_short(alloc, shelf, name, MOST_BYTES)? {
         Some(text) => Ok(target_in(alloc, &text)?),
-        None => Ok(Read::Refused(Refusal { code: 4, place: 0 })),
+        None => Ok(Read::Refused(told_of(TargetFault::TooLong)?)),
     }
 }

@@ -8,7 +8,7 @@ ghost use Rattle.replay_app.specs.Statuses.{kind_status};
 use crate::refusal::Refusal;
 use crate::status::Status;
 use outside_core::{Sink, Stop};
-use report_core::{FaultKind, Report};
+use report_core::{FaultKind, Report, write_fault};
 use std::alloc::Global;
 
 /// Writes the line of a refusal as the whole text.
@@ -24,9 +24,7 @@ pub fn refuse<K: Sink>(
     ensures sink_cause { IsErrOf result Stop.Sink → Rose (K.faults sink.old) (K.faults sink.new) }
     ensures reads_nothing { IsErrOf result Stop.Source → ⊥ }
 {
-    let mut report = Report::new(alloc)?;
-    report.fault(sink, kind, cause.code, u64::from(cause.place))?;
-    report.finish(sink)?;
+    write_fault(alloc, sink, kind, cause.code, u64::from(cause.place))?;
     Ok(Status::refused(kind))
 }
 

@@ -1,6 +1,7 @@
 //! The lines of a report as bytes.
 ghost use Rattle.std.specs.Prelude.{◌≡◌, ◌+◌, ◌≤◌, [], ◌∷◌, ◌++◌, length, decimal, codes};
 ghost use Rattle.std.specs.List.{join_with_byte};
+ghost use Rattle.text_core.specs.Tokens.{most_name};
 ghost use Rattle.report_defs.specs.Report.{arrival_line, departure_line, empty_line, end_line, fault_line, ranks_text};
 ghost use Rattle.report_core.specs.Faults.{word_of};
 ghost use Rattle.report_core.specs.Gathered.{limit, longest, room};
@@ -12,7 +13,7 @@ impl Buffer {
     /// What the lines of an arrival and of a departure share, with the letter before it.
     fn put_visit(&mut self, letter: &[u8], event: u64, packet: u64, leaf: &str, ranks: &[u64])
         requires letter { length letter.now ≡ 1 }
-        requires leaf { length leaf.now ≤ 64 }
+        requires leaf { length leaf.now ≤ most_name }
         requires few { length ranks.now ≤ 65 }
         requires room { length self.old ≤ limit }
         ensures text { self.new ≡ self.old ++
@@ -31,7 +32,7 @@ impl Buffer {
     }
 
     pub fn put_arrival(&mut self, event: u64, packet: u64, leaf: &str, ranks: &[u64])
-        requires leaf { length leaf.now ≤ 64 }
+        requires leaf { length leaf.now ≤ most_name }
         requires few { length ranks.now ≤ 65 }
         requires room { length self.old ≤ limit }
         ensures text { self.new ≡ self.old ++ arrival_line event packet leaf.now ranks.now }
@@ -49,7 +50,7 @@ impl Buffer {
         ranks: &[u64],
         start: Option<u128>,
     )
-        requires leaf { length leaf.now ≤ 64 }
+        requires leaf { length leaf.now ≤ most_name }
         requires few { length ranks.now ≤ 65 }
         requires room { length self.old ≤ limit }
         ensures text { self.new ≡ self.old ++ departure_line event packet leaf.now ranks.now start }

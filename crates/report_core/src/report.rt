@@ -3,6 +3,7 @@ ghost use Rattle.std.specs.Prelude.{◌≡◌, ◌≤◌, [], ◌++◌, length, 
 ghost use Rattle.outside_core.specs.Faults.{Rose};
 ghost use Rattle.outside_core.specs.Kept.{KeepsSink};
 ghost use Rattle.outside_core.specs.Written.{Appended};
+ghost use Rattle.text_core.specs.Tokens.{most_name};
 ghost use Rattle.report_defs.specs.Report.{arrival_line, departure_line, empty_line, end_line, fault_line};
 ghost use Rattle.report_core.specs.Faults.{word_of};
 ghost use Rattle.report_core.specs.Gathered.{limit, text_of, Tells, CutsOff};
@@ -69,7 +70,7 @@ impl Report {
         ranks: &[u64],
     ) -> Result<(), WriteFault>
         requires live { IsTrue self.old.live }
-        requires leaf { length leaf.now ≤ 64 }
+        requires leaf { length leaf.now ≤ most_name }
         requires few { length ranks.now ≤ 65 }
 
         ensures ok { OnOk result (Tells K.written sink.old self.old sink.new self.new (arrival_line event packet leaf.now ranks.now)) }
@@ -96,7 +97,7 @@ impl Report {
         start: Option<u128>,
     ) -> Result<(), WriteFault>
         requires live { IsTrue self.old.live }
-        requires leaf { length leaf.now ≤ 64 }
+        requires leaf { length leaf.now ≤ most_name }
         requires few { length ranks.now ≤ 65 }
 
         ensures ok { OnOk result (Tells K.written sink.old self.old sink.new self.new

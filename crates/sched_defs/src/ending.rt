@@ -2,6 +2,9 @@
 ghost use Rattle.std.specs.Prelude.{◌≡◌};
 ghost use Rattle.sched_defs.specs.Script.{ends_at_fault};
 
+/// The code of a script that asks for a packet past the last, behind the codes of a script that is in no form.
+pub const PAST_LAST: u32 = 3;
+
 /// How a run that isn't stopped ends.
 #[derive(Clone, Copy, PartialEq, Eq, Debug)]
 pub enum Ending {

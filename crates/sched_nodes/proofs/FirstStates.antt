@@ -62,13 +62,13 @@ module _ {E : Type 0} (t : Tree Node) (p : Program) (program : p ≡ (root_of t)
   first-values r h = subst (λ (q : Program). IfOk r (λ x. SameState (state_of x) (first_state q))) program h
 
 -- ---- one after another
-pub record IsFirst (tree : Tree Node) (k : ℕ) (x : NodeState) : Type 0 where
+pub record IsFirstState (tree : Tree Node) (k : ℕ) (x : NodeState) : Type 0 where
   pub station : IsStationOf (part_at tree (address_at tree k)) x
   pub first : SameState (state_of x) (first_state (root_of (part_at tree (address_at tree k))).program)
 
 pub record AreFirst (tree : Tree Node) (states : List NodeState) (n : ℕ) : Type 0 where
   pub count : length states ≡ n
-  pub each : (k : ℕ) (x : NodeState) → slice_get states k ≡ Some x → IsFirst tree k x
+  pub each : (k : ℕ) (x : NodeState) → slice_get states k ≡ Some x → IsFirstState tree k x
 
 last-cases : {X P : Type 0} (xs : List X) (k : ℕ) (y x : X) → slice_get (xs ++ y ∷ []) k ≡ Some x → (slice_get xs k ≡ Some x → P) → (k ≡ length xs → y ≡ x → P) → P
 last-cases [] zero y x e old new = new refl (some-is e)
@@ -84,12 +84,12 @@ pub first-more : (tree : Tree Node) (states more : List NodeState) (n : ℕ) (y 
     → SameState (state_of y) (first_state (root_of (part_at tree (address_at tree n))).program) → AreFirst tree more (n + 1)
 first-more tree states more n y h is station first = record { count = ap length is ∙ length-append states (y ∷ []) ∙ ap (λ m. m + 1) h.count; each = each }
   where
-    each : (k : ℕ) (x : NodeState) → slice_get more k ≡ Some x → IsFirst tree k x
+    each : (k : ℕ) (x : NodeState) → slice_get more k ≡ Some x → IsFirstState tree k x
     each k x at = last-cases states k y x (ap (λ (l : List NodeState). slice_get l k) (sym is) ∙ at) (h.each k x)
-        (λ last same. subst (λ (j : ℕ). IsFirst tree j x) (sym (last ∙ h.count)) (subst (λ (z : NodeState). IsFirst tree n z) same (record { station = station; first = first })))
+        (λ last same. subst (λ (j : ℕ). IsFirstState tree j x) (sym (last ∙ h.count)) (subst (λ (z : NodeState). IsFirstState tree n z) same (record { station = station; first = first })))
 
 module _ (tree : Tree Node) (states : List NodeState) (h : AreFirst tree states (nodes tree)) where
-  at-address : (a : Address) (x : NodeState) → IsAddressOf tree a → Keeps tree states a x → IsFirst tree (number_at tree a) x
+  at-address : (a : Address) (x : NodeState) → IsAddressOf tree a → Keeps tree states a x → IsFirstState tree (number_at tree a) x
   at-address a x p keeps = h.each (number_at tree a) x keeps
 
   back : (a : Address) → IsAddressOf tree a → address_at tree (number_at tree a) ≡ a

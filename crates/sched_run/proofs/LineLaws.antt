@@ -1,6 +1,7 @@
 -- The numbers and names of leaves.
 use Rattle.std.proofs.Common.{◌≡◌, ◌≤◌, ◌<◌, ℕ, zero, suc, ◌+◌, List, [], ◌∷◌, length, Option, Some, None, IfSome, option_map, refl, sym, ap, ◌∙◌, subst, arith}
 use Rattle.std.specs.Option.{option_map_or}
+use Rattle.text_core.specs.Tokens.{most_name}
 use Rattle.tree_defs.specs.Tree.{Tree, leaf, inner, Trees, none, more, Address, subtree_in, IsAddressOf, LeadsToLeaf, LeadsBelow, SameShape, nodes, nodes_below, depth, depth_below}
 use Rattle.tree_defs.specs.Topology.{Topology, topology_of}
 use Rattle.tree_defs.proofs.Shapes.{topology_of-same, LeadsToLeaf-topology}
@@ -67,10 +68,10 @@ leads_same t u a same l =
     let n : LeadsToLeaf (topology_of u) a = subst (λ (z : Topology). LeadsToLeaf z a) (topology_of-same t u same) m in
     subst (λ (T : Type 0). T) (sym (LeadsToLeaf-topology u a)) n
 
-pub name_short : (policy : Policy) (a : Address) → IsAccepted policy → length (name_at policy a) ≤ 64
+pub name_short : (policy : Policy) (a : Address) → IsAccepted policy → length (name_at policy a) ≤ most_name
 name_short policy a accepted = by_node (node_at policy.tree a) refl
   where
-    by_node : (o : Option Node) → node_at policy.tree a ≡ o → length (option_map_or (λ n. n.name) o []) ≤ 64
+    by_node : (o : Option Node) → node_at policy.tree a ≡ o → length (option_map_or (λ n. n.name) o []) ≤ most_name
     by_node None e = omega arith
     by_node (Some n) e = (accepted.nodes a n e).name
 
@@ -81,7 +82,7 @@ pub record IsLeafOf (policy : Policy) (a : Address) : Type 0 where
   pub number : number_at policy.tree a < nodes policy.tree
   pub levels : length a ≤ depth policy.tree
   pub few : length a ≤ 64
-  pub name : length (name_at policy a) ≤ 64
+  pub name : length (name_at policy a) ≤ most_name
 
 pub leaf_of : (policy : Policy) (a : Address) → IsAccepted policy → LeadsToLeaf policy.tree a → IsLeafOf policy a
 leaf_of policy a accepted l = record {

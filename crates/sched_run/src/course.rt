@@ -15,10 +15,7 @@ use outside_core::{Sink, Stop};
 use policy_defs::NodeNames;
 use report_core::{FaultKind, Report, WriteFault};
 use sched_core::Scheduler;
-use sched_defs::{Ending, Halt, Packets};
-
-/// The code of a script that asks for a packet past the last.
-const PAST_LAST: u32 = 3;
+use sched_defs::{Ending, Halt, PAST_LAST, Packets};
 
 /// Reads the packets that are left, and answers how the run ends behind them.
 fn count_unsent<P: Packets>(packets: &mut P, source: &mut P::Source) -> Result<Ending, Stop>

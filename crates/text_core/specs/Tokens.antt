@@ -19,6 +19,10 @@ is_word_start b = is_ascii_alphabetic b || b == 95
 abbrev pub is_word_byte : ℕ → Bool
 is_word_byte b = is_word_start b || is_digit b
 
+-- the most bytes of a name
+abbrev pub most_name : ℕ
+most_name = 64
+
 -- what begins with a letter or `_`
 abbrev pub begins_word : List ℕ → Bool
 begins_word [] = false

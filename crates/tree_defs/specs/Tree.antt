@@ -38,6 +38,10 @@ module _ {Q : Type 0} where
 abbrev pub most_levels : ℕ
 most_levels = 64
 
+-- the most nodes and leaves of such a tree
+abbrev pub most_nodes : ℕ
+most_nodes = 1024
+
 -- the part of a tree at an address
 abbrev mutual
   pub subtree : {Q : Type 0} → Tree Q → Address → Option (Tree Q)

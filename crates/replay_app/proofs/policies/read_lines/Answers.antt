@@ -1,9 +1,13 @@
+use Rattle.std.proofs.Common.{sym, subst}
 use Rattle.policy_text_defs.specs.Ranges.{most_text}
-use Rattle.replay_app.specs.Policies.{IsTextRead, too_long}
+use Rattle.policy_text.specs.declared.fault.TextFault.TheVariants.{TooLong}
+use Rattle.replay_app.specs.declared.refusal.Refusal.{Refusal}
 use Rattle.replay_app.specs.declared.refusal.Read.TheVariants.{Refused}
+use Rattle.replay_app.specs.Policies.{IsTextRead, IsTextRefused, at_fault}
 use Rattle.replay_app.proofs.LoadLaws.{unloaded}
 use Rattle.replay_app.proofs.policies.read_lines.Goals as goal
 
-pub returns-in-None-clause-read : goal.returns-in-None-clause-read
-returns-in-None-clause-read g c =
-    unloaded c.in_ok-text.field-0 _ most_text (λ text. IsTextRead text (Refused (record { code = 21; place = 0 }))) c.in-None.is c.in_ok-text.ensures.too_long (λ text long. too_long long)
+pub returns-in_ok-told_of-in-None-clause-read : goal.returns-in_ok-told_of-in-None-clause-read
+returns-in_ok-told_of-in-None-clause-read g c =
+    unloaded c.in_ok-text.field-0 _ most_text (λ text. IsTextRead text (Refused c.in_ok-told_of-in-None.field-0)) c.in-None.is c.in_ok-text.ensures.too_long
+    (λ text long. subst (λ (r : Refusal). IsTextRefused text r.code r.place) (sym c.in_ok-told_of-in-None.ensures.told) (at_fault TooLong long))
