@@ -68,10 +68,23 @@ fn files(
     files_for(alloc, policy, TARGET, capture, script)
 }
 
+/// The status with which the program answers words over files, and what it writes.
+fn answer_to(
+    alloc: Global,
+    list: &[&str],
+    held: Vec<(String, Vec<u8>)>,
+) -> Result<(u8, Vec<u8>), Fail> {
+    let words = words(alloc, list)?;
+    let mut shelf = PlainShelf::new(held);
+    let mut sink = PlainSink::new(alloc, 200)?;
+    let mut fabric = FlatFabric::new(alloc)?;
+    let status = run(alloc, &words, &mut shelf, &mut sink, &mut fabric);
+    Ok((status, sink.bytes().to_vec(alloc)?))
+}
+
 #[test]
 fn replays_over_memory(rt: HostRuntime) -> Result<(), Fail> {
     let alloc = rt.alloc();
-    let words = words(alloc, &["replay", "p", "t", "c", "e"])?;
     let table: [(&[u8], &[u8], &[u8], &[u8], u8, &[u8]); 12] = [
         (
             POLICY,
@@ -152,12 +165,9 @@ fn replays_over_memory(rt: HostRuntime) -> Result<(), Fail> {
         ),
     ];
     for (policy, target, capture, script, status, text) in table {
-        let mut shelf = PlainShelf::new(files_for(alloc, policy, target, capture, script)?);
-        let mut sink = PlainSink::new(alloc, 200)?;
-        let mut fabric = FlatFabric::new(alloc)?;
-        let answer = run(alloc, &words, &mut shelf, &mut sink, &mut fabric);
-        assert_eq!(rt; answer, status);
-        assert_eq!(rt; sink.bytes(), text);
+        let held = files_for(alloc, policy, target, capture, script)?;
+        let (answer, written) = answer_to(alloc, &["replay", "p", "t", "c", "e"], held)?;
+        assert_eq!(rt; (answer, written.as_slice()), (status, text));
     }
     Ok(())
 }
@@ -165,7 +175,6 @@ fn replays_over_memory(rt: HostRuntime) -> Result<(), Fail> {
 #[test]
 fn checks_over_memory(rt: HostRuntime) -> Result<(), Fail> {
     let alloc = rt.alloc();
-    let words = words(alloc, &["check", "p"])?;
     let table: [(&[u8], u8, &[u8]); 15] = [
         (SPELLED, 0, POLICY),
         (&POLICY[9..], 3, b"fault policy 1 1\n"),
@@ -226,12 +235,8 @@ fn checks_over_memory(rt: HostRuntime) -> Result<(), Fail> {
     for (policy, status, text) in table {
         let mut held = Vec::new(alloc);
         held.push(file(alloc, "p", policy)?)?;
-        let mut shelf = PlainShelf::new(held);
-        let mut sink = PlainSink::new(alloc, 200)?;
-        let mut fabric = FlatFabric::new(alloc)?;
-        let answer = run(alloc, &words, &mut shelf, &mut sink, &mut fabric);
-        assert_eq!(rt; answer, status);
-        assert_eq!(rt; sink.bytes(), text);
+        let (answer, written) = answer_to(alloc, &["check", "p"], held)?;
+        assert_eq!(rt; (answer, written.as_slice()), (status, text));
     }
     Ok(())
 }
@@ -239,7 +244,6 @@ fn checks_over_memory(rt: HostRuntime) -> Result<(), Fail> {
 #[test]
 fn directs_over_memory(rt: HostRuntime) -> Result<(), Fail> {
     let alloc = rt.alloc();
-    let words = words(alloc, &["direct", "p", "c", "e"])?;
     let table: [(&[u8], &[u8], &[u8], u8, &[u8]); 7] = [
         (
             POLICY,
@@ -269,12 +273,9 @@ fn directs_over_memory(rt: HostRuntime) -> Result<(), Fail> {
         (POLICY, b"", b"drain\n", 7, b"fault capture 1 0\n"),
     ];
     for (policy, capture, script, status, text) in table {
-        let mut shelf = PlainShelf::new(files(alloc, policy, capture, script)?);
-        let mut sink = PlainSink::new(alloc, 200)?;
-        let mut fabric = FlatFabric::new(alloc)?;
-        let answer = run(alloc, &words, &mut shelf, &mut sink, &mut fabric);
-        assert_eq!(rt; answer, status);
-        assert_eq!(rt; sink.bytes(), text);
+        let held = files(alloc, policy, capture, script)?;
+        let (answer, written) = answer_to(alloc, &["direct", "p", "c", "e"], held)?;
+        assert_eq!(rt; (answer, written.as_slice()), (status, text));
     }
     Ok(())
 }
@@ -282,7 +283,6 @@ fn directs_over_memory(rt: HostRuntime) -> Result<(), Fail> {
 #[test]
 fn plans_over_memory(rt: HostRuntime) -> Result<(), Fail> {
     let alloc = rt.alloc();
-    let words = words(alloc, &["plan", "p", "t"])?;
     let table: [(&[u8], &[u8], u8, &[u8]); 6] = [
         (POLICY, TARGET, 0, b"least 0\nmap root - -\n"),
         (
@@ -302,15 +302,11 @@ fn plans_over_memory(rt: HostRuntime) -> Result<(), Fail> {
         (b"policy 1\n", b"arity =\n", 3, b"fault policy 9 0\n"),
     ];
     for (policy, target, status, text) in table {
-        let mut files = Vec::new(alloc);
-        files.push(file(alloc, "p", policy)?)?;
-        files.push(file(alloc, "t", target)?)?;
-        let mut shelf = PlainShelf::new(files);
-        let mut sink = PlainSink::new(alloc, 200)?;
-        let mut fabric = FlatFabric::new(alloc)?;
-        let answer = run(alloc, &words, &mut shelf, &mut sink, &mut fabric);
-        assert_eq!(rt; answer, status);
-        assert_eq!(rt; sink.bytes(), text);
+        let mut held = Vec::new(alloc);
+        held.push(file(alloc, "p", policy)?)?;
+        held.push(file(alloc, "t", target)?)?;
+        let (answer, written) = answer_to(alloc, &["plan", "p", "t"], held)?;
+        assert_eq!(rt; (answer, written.as_slice()), (status, text));
     }
     Ok(())
 }
