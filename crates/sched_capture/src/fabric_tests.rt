@@ -276,16 +276,31 @@ fn run_office<C: Scheduler, R: Abort>(
     Ok(())
 }
 
+/// Runs the office's events through a fabric that holds nothing yet, in which `normal` stands a level deeper than in the policy.
+fn pass_office<F: Fabric, R: Abort>(
+    rt: &R,
+    alloc: Global,
+    policy: &Policy,
+    target: &Target,
+    fabric: &mut F,
+) -> Result<(), Fail>
+    requires range { IsInRange target.now.arities target.now.above }
+    requires no_pushes { F.pushed fabric.old ≡ 0 }
+    requires no_pops { F.popped fabric.old ≡ 0 }
+{
+    let map = embed(alloc, policy.topo(), target)?;
+    assert_eq!(rt; map.image(&[1]), Some([0, 1].as_slice()));
+    let mut scheduler = Embedded::new(alloc, policy, map, target, fabric)?;
+    Ok(run_office(rt, alloc, policy, &mut scheduler, fabric)?)
+}
+
 #[test]
 fn the_office_passes_through_transit_nodes(rt: HostRuntime) -> Result<(), Fail> {
     let alloc = rt.alloc();
     let policy = policy_of(alloc, OFFICE)?;
     let target = read_target(alloc, b"arity = 4\nheight = 3\n")?;
-    let map = embed(alloc, policy.topo(), &target)?;
-    assert_eq!(rt; map.image(&[1]), Some([0, 1].as_slice()));
     let mut fabric = FlatFabric::new(alloc)?;
-    let mut scheduler = Embedded::new(alloc, &policy, map, &target, &mut fabric)?;
-    run_office(&rt, alloc, &policy, &mut scheduler, &mut fabric)?;
+    pass_office(&rt, alloc, &policy, &target, &mut fabric)?;
     assert_eq!(rt; (fabric.pushes(), fabric.pops()), (8, 8));
     Ok(())
 }
