@@ -1,0 +1,6 @@
+pub mod Fronts
+pub mod LongerFronts
+pub mod WholeBlocks
+pub mod FaultCauses
+pub mod OptionSteps
+pub mod Readings

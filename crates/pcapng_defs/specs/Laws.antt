@@ -1,0 +1,59 @@
+-- What follows from the definition of a pcapng capture.
+use Rattle.std.specs.Prelude.{◌≡◌, ◌≢◌, ℕ, ◌+◌, ◌≤◌, Bool, Option, Some, None, List, ◌++◌, length}
+use Rattle.std.specs.List.{AllByRecursion}
+use Rattle.pcap_defs.specs.Record.{most_captured}
+use Rattle.pcapng_defs.specs.Fault.{BlockFault, block_cut, code, place}
+use Rattle.pcapng_defs.specs.Interface.{unit_of, at_option, option_front}
+use Rattle.pcapng_defs.specs.Moment.{most_moment}
+use Rattle.pcapng_defs.specs.Packet.{CapturedPacket}
+use Rattle.pcapng_defs.specs.Block.{Carried}
+use Rattle.pcapng_defs.specs.NgCapture.{broken, found, front_of, at_front, behind, reading_of, ng_capture_of, most_blocks}
+
+-- what is left is read block by block, with what is carried from each to the next
+abbrev pub GoesBlockByBlock : Type 0
+GoesBlockByBlock = (c : Carried) (rest : List ℕ) → reading_of c rest ≡ at_front reading_of c (front_of c rest)
+
+-- the unit that options give is that at the front, or the one that the options behind it give
+abbrev pub UnitsGoOptionByOption : Type 0
+UnitsGoOptionByOption = (big : Bool) (bytes : List ℕ) → unit_of big bytes ≡ at_option (unit_of big) (option_front big bytes)
+
+-- a whole block without a fault gives the same whatever follows it
+abbrev pub BlocksStand : Type 0
+BlocksStand =
+    (c after : Carried) (packet : Option CapturedPacket) (rest others more : List ℕ) →
+    front_of c rest ≡ found packet after others → front_of c (rest ++ more) ≡ found packet after (others ++ more)
+
+-- a fault other than a cut block stands whatever follows it
+abbrev pub FaultsStand : Type 0
+FaultsStand =
+    (c : Carried) (fault : BlockFault) (rest more : List ℕ) →
+    front_of c rest ≡ broken fault → fault ≢ block_cut (c.blocks + 1) → front_of c (rest ++ more) ≡ broken fault
+
+-- What goes on behind whole blocks has their packets and then those of the rest, and the fault of the rest.
+abbrev pub GoesOnBehindBlocks : Type 0
+GoesOnBehindBlocks =
+    (c : Carried) (first others : List ℕ) → (reading_of c first).fault ≡ None
+    → reading_of c (first ++ others) ≡ behind (reading_of c first).packets (reading_of (reading_of c first).carried others)
+
+-- A fault's code and block.
+pub record IsNumbered (fault : BlockFault) (blocks : ℕ) : Type 0 where
+  pub least_code : 11 ≤ code fault
+  pub most_code : code fault ≤ 19
+  pub next : place fault ≡ blocks + 1
+  pub most_place : place fault ≤ 4294967296
+
+-- the fault of a file has a code of 11 to 19, and is that of the block behind those that came
+abbrev pub FaultsAreNumbered : Type 0
+FaultsAreNumbered = (file : List ℕ) (fault : BlockFault) → (ng_capture_of file).fault ≡ Some fault → IsNumbered fault (ng_capture_of file).carried.blocks
+
+-- a packet captures no more than a record of a classic capture may, and has no greater moment than the greatest
+pub record IsBounded (p : CapturedPacket) : Type 0 where
+  pub short : length p.captured ≤ most_captured
+  pub early : p.moment ≤ most_moment
+
+abbrev pub PacketsAreBounded : Type 0
+PacketsAreBounded = (file : List ℕ) → AllByRecursion IsBounded (ng_capture_of file).packets
+
+-- there are no more packets than blocks that came, and no more of these than may come
+abbrev pub PacketsAreFew : Type 0
+PacketsAreFew = (file : List ℕ) → (length (ng_capture_of file).packets ≤ (ng_capture_of file).carried.blocks) × ((ng_capture_of file).carried.blocks ≤ most_blocks)
