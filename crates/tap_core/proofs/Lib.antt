@@ -1,0 +1,4 @@
+pub mod LineLaws
+pub mod Entries
+pub mod SlotLaws
+pub mod Passes

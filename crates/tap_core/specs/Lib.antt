@@ -1,0 +1,5 @@
+pub mod Steps
+pub mod Lines
+pub mod Held
+pub mod Lists
+pub mod Rows

@@ -1,0 +1,89 @@
+//! The tap that counts the packets that leave out of order.
+ghost use Rattle.std.specs.Prelude.{◌≡◌};
+ghost use Rattle.tap_core.specs.Steps.{first_state};
+
+use crate::kinds::{Dropped, Seen, TapKind};
+use crate::line::put_line;
+use crate::tally::sum_up_to_max;
+use crate::tap::Tap;
+use packet_defs::Departed;
+use std::alloc::AllocError;
+
+/// Counts the packets that leave behind one whose number isn't less.
+#[derive(Drop)]
+pub struct OrderTap {
+    greatest: u64,
+    late: u64,
+}
+
+impl OrderTap {
+    ghost use Rattle.tap_core.specs.declared.kinds.TapKind.TheVariants.{Order};
+    ghost use Rattle.tap_core.specs.Held.{order_state};
+
+    /// A tap that has counted nothing.
+    pub fn new() -> OrderTap
+        ensures { order_state result ≡ first_state Order }
+    {
+        OrderTap {
+            greatest: 0,
+            late: 0,
+        }
+    }
+}
+
+impl Tap for OrderTap {
+    ghost use Rattle.tap_core.specs.declared.kinds.TapKind.TheVariants.{Order};
+    ghost use Rattle.tap_core.specs.Held.{order_state};
+
+    ghost kind_of = { λ _. Order };
+
+    ghost state_of = { order_state };
+
+    fn kind(&self) -> TapKind {
+        TapKind::Order
+    }
+
+    fn see(&mut self, departed: &Departed) -> Seen {
+        if departed.packet > self.greatest {
+            self.greatest = departed.packet;
+        } else {
+            self.late = sum_up_to_max(self.late, 1);
+        }
+        Seen::More
+    }
+
+    fn lose(&mut self, _dropped: &Dropped) {}
+
+    fn say(&self, into: &mut Vec<u8>) -> Result<(), AllocError> {
+        put_line(into, TapKind::Order.name(), &[self.late, self.greatest])
+    }
+}
+
+#[cfg(test)]
+mod tests {
+    //! Tests of late packets.
+    use super::*;
+    use rank_defs::MAX_RANK;
+
+    #[test]
+    fn an_equal_number_is_late(rt: HostRuntime) {
+        for (greatest, late, packet, want) in [
+            (0, 0, 0, (0, 1)),
+            (3, 0, 3, (3, 1)),
+            (3, 0, 4, (4, 0)),
+            (3, MAX_RANK - 1, 2, (3, MAX_RANK)),
+            (3, MAX_RANK, 3, (3, MAX_RANK)),
+            (u64::MAX - 1, MAX_RANK, u64::MAX, (u64::MAX, MAX_RANK)),
+        ] {
+            let mut tap = OrderTap { greatest, late };
+            let seen = tap.see(&Departed {
+                packet,
+                class: 0,
+                leaf: 0,
+                len: 0,
+            });
+            assert_eq!(rt; seen, Seen::More);
+            assert_eq!(rt; (tap.greatest, tap.late), want);
+        }
+    }
+}

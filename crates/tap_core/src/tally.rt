@@ -1,0 +1,66 @@
+//! Counts that stay at the greatest rank once they reach it.
+ghost use Rattle.std.specs.Prelude.{◌≡◌, ◌∷◌, []};
+ghost use Rattle.tap_core.specs.Steps.{sum_up_to_max, counted};
+ghost use Rattle.tap_core.specs.Held.{numbers_of};
+
+use rank_defs::MAX_RANK;
+
+/// A sum, and `MAX_RANK` where it is above that.
+pub fn sum_up_to_max(a: u64, b: u64) -> u64
+    ensures { result ≡ sum_up_to_max a b }
+{
+    a.saturating_add(b).min(MAX_RANK)
+}
+
+/// How many packets, and how many bytes they have together.
+#[derive(Clone, Copy, PartialEq, Eq, Debug)]
+pub struct Tally {
+    packets: u64,
+    bytes: u64,
+}
+
+impl Tally {
+    pub fn new() -> Tally
+        ensures { numbers_of result ≡ 0 ∷ 0 ∷ [] }
+    {
+        Tally {
+            packets: 0,
+            bytes: 0,
+        }
+    }
+
+    /// Counts a packet of this length in bytes.
+    pub fn count(&mut self, len: u32)
+        ensures { numbers_of self.new ≡ counted len (numbers_of self.old) }
+    {
+        self.packets = sum_up_to_max(self.packets, 1);
+        self.bytes = sum_up_to_max(self.bytes, u64::from(len));
+    }
+
+    pub fn numbers(&self) -> [u64; 2]
+        ensures { result ≡ numbers_of self.now }
+    {
+        [self.packets, self.bytes]
+    }
+}
+
+#[cfg(test)]
+mod tests {
+    //! Tests of counts near the greatest rank.
+    use super::*;
+
+    #[test]
+    fn counts_stay_at_the_greatest_rank(rt: HostRuntime) {
+        for (packets, bytes, len, want) in [
+            (MAX_RANK - 2, 0, 0, [MAX_RANK - 1, 0]),
+            (MAX_RANK - 1, MAX_RANK - 1, 1, [MAX_RANK, MAX_RANK]),
+            (MAX_RANK, MAX_RANK - 1, 2, [MAX_RANK, MAX_RANK]),
+            (MAX_RANK, MAX_RANK, u32::MAX, [MAX_RANK, MAX_RANK]),
+            (u64::MAX, u64::MAX, u32::MAX, [MAX_RANK, MAX_RANK]),
+        ] {
+            let mut tally = Tally { packets, bytes };
+            tally.count(len);
+            assert_eq!(rt; tally.numbers(), want);
+        }
+    }
+}

@@ -1,0 +1,38 @@
+//! The trait of taps.
+ghost use Rattle.std.specs.Prelude.{◌≡◌, ◌↔◌, ◌++◌, ℕ, List, IsTrue, OnOk, OnErr};
+ghost use Rattle.tap_core.specs.declared.kinds.TapKind.{TapKind};
+ghost use Rattle.tap_core.specs.Steps.{departure_step, drop_step, is_full};
+ghost use Rattle.tap_core.specs.Lines.{line};
+
+use crate::kinds::{Dropped, Seen, TapKind};
+use packet_defs::Departed;
+use std::alloc::AllocError;
+
+/// Watches the packets that leave and those that are dropped.
+pub trait Tap: Drop {
+    /// What it counts.
+    ghost kind_of: { Self → TapKind };
+
+    /// What it has counted so far.
+    ghost state_of: { Self → List ℕ };
+
+    /// What it counts.
+    fn kind(&self) -> TapKind
+        ensures { result ≡ kind_of self.now };
+
+    /// Takes notice of a packet that left. Takes no memory.
+    fn see(&mut self, departed: &Departed) -> Seen
+        ensures kind { kind_of self.new ≡ kind_of self.old }
+        ensures state { state_of self.new ≡ departure_step (kind_of self.old) departed.now (state_of self.old) }
+        ensures done { (result ≡ Seen.Done) ↔ IsTrue (is_full (kind_of self.new) (state_of self.new)) };
+
+    /// Takes notice of a packet that was dropped. Takes no memory.
+    fn lose(&mut self, dropped: &Dropped)
+        ensures kind { kind_of self.new ≡ kind_of self.old }
+        ensures state { state_of self.new ≡ drop_step (kind_of self.old) dropped.now (state_of self.old) };
+
+    /// Appends its line. The error is want of memory.
+    fn say(&self, into: &mut Vec<u8>) -> Result<(), AllocError>
+        ensures ok { OnOk result (into.new.items ≡ into.old.items ++ line (kind_of self.now) (state_of self.now)) }
+        ensures err { OnErr result (into.new.items ≡ into.old.items) };
+}

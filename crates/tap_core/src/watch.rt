@@ -1,0 +1,168 @@
+//! A list of boxed taps during a run, and the lines of those that are done.
+ghost use Rattle.std.specs.Prelude.{◌≡◌, ◌≤◌, ◌↔◌, ◌++◌, None, List, map, replicate, vec_len, length, OnOk, IfOk, IsTrue};
+ghost use Rattle.tap_core.specs.Lines.{line};
+ghost use Rattle.tap_core.specs.Lists.{Entry, entry, entries, is_named, named_entries, departed, dropped, stepped, full, left_after_one, lines_of, Slot, Tracks, waiting};
+
+use crate::kinds::{Dropped, Seen, TapKind};
+use crate::tap::Tap;
+use packet_defs::Departed;
+use std::alloc::{AllocError, Global};
+
+/// The kinds that are named, whatever their limits.
+#[derive(Clone, Copy, PartialEq, Eq, Debug)]
+pub struct Named {
+    pub bytes: bool,
+    pub order: bool,
+    pub first: bool,
+    pub drops: bool,
+}
+
+impl Named {
+    ghost use Rattle.tap_core.specs.Lists.{is_named};
+
+    /// Whether taps of this kind are named.
+    pub fn has(self, kind: TapKind) -> bool
+        ensures { result ≡ is_named self kind }
+    {
+        match kind {
+            TapKind::Bytes => self.bytes,
+            TapKind::Order => self.order,
+            TapKind::First(_) => self.first,
+            TapKind::Drops => self.drops,
+        }
+    }
+}
+
+/// Drops the taps whose kind isn't named. Takes no memory.
+pub fn keep_named(taps: &mut Vec<Box<dyn Tap>>, named: Named)
+    ensures kept { entries kind_of state_of taps.new.items
+        ≡ named_entries named (entries kind_of state_of taps.old.items) }
+    ensures fewer { vec_len taps.new ≤ vec_len taps.old }
+{
+    taps.retain(
+        |tap: &Box<dyn Tap>| -> bool
+            ensures { result ≡ is_named named (kind_of tap.now) }
+        { named.has(tap.kind()) },
+    );
+}
+
+/// Shows a departure to one tap.
+fn see_one(tap: &mut Box<dyn Tap>, packet: &Departed) -> Seen
+    ensures after { entry (kind_of tap.new) (state_of tap.new)
+        ≡ stepped (departed packet.now) (entry (kind_of tap.old) (state_of tap.old)) }
+    ensures done { (result ≡ Seen.Done) ↔ IsTrue (full (entry (kind_of tap.new) (state_of tap.new))) }
+{
+    tap.see(packet)
+}
+
+/// Shows a drop to one tap.
+fn lose_one(tap: &mut Box<dyn Tap>, packet: &Dropped)
+    ensures after { entry (kind_of tap.new) (state_of tap.new)
+        ≡ stepped (dropped packet.now) (entry (kind_of tap.old) (state_of tap.old)) }
+{
+    tap.lose(packet);
+}
+
+/// Appends the line of a tap.
+fn say_one(tap: &Box<dyn Tap>, into: &mut Vec<u8>) -> Result<(), AllocError>
+    ensures { OnOk result (into.new.items ≡ into.old.items ++ line (kind_of tap.now) (state_of tap.now)) }
+{
+    tap.say(into)
+}
+
+/// The line of a tap.
+fn line_of(alloc: Global, tap: &Box<dyn Tap>) -> Result<Vec<u8>, AllocError>
+    ensures { IfOk result (λ said. said.items ≡ line (kind_of tap.now) (state_of tap.now)) }
+{
+    let mut said = Vec::new(alloc);
+    say_one(tap, &mut said)?;
+    Ok(said)
+}
+
+fn empty_slots(alloc: Global, count: usize) -> Result<Vec<Option<Vec<u8>>>, AllocError>
+    ensures { IfOk result (λ slots. slots.items ≡ replicate count None) }
+{
+    let mut slots = Vec::with_capacity(alloc, count)?;
+    for _ in 0..count {
+        slots.push(None)?;
+    }
+    Ok(slots)
+}
+
+/// A slot without a line for each tap. The error is want of memory.
+#[tactic(auto, using(crate::proofs::SlotLaws::slots_at_first, crate::proofs::SlotLaws::all_waiting))]
+pub fn slots(alloc: Global, taps: &[Box<dyn Tap>]) -> Result<Vec<Option<Vec<u8>>>, AllocError>
+    ensures counted { IfOk result (λ slots. waiting slots.items ≡ length taps.now) }
+    ensures tracked { IfOk result (λ slots. Tracks (entries kind_of state_of taps.now) slots.items
+        (entries kind_of state_of taps.now)) }
+{
+    empty_slots(alloc, taps.len())
+}
+
+/// Shows a drop to each tap. None is done by it. Takes no memory.
+pub fn show_dropped(taps: &mut [Box<dyn Tap>], packet: &Dropped)
+    ensures left { entries kind_of state_of taps.new
+        ≡ left_after_one (dropped packet.now) (entries kind_of state_of taps.old) }
+    ensures tracked { (all : List Entry) (slots : List Slot) → Tracks all slots (entries kind_of state_of taps.old)
+        → Tracks (map (stepped (dropped packet.now)) all) slots (entries kind_of state_of taps.new) }
+{
+    for tap in taps.iter_mut() {
+        lose_one(tap, packet);
+    }
+}
+
+/// Shows a departure to each tap in turn. A tap that is done is dropped after its line was put into its slot: there is a
+/// slot for each tap that was there at first, in order. The error is want of memory for a line.
+pub fn show_departed(
+    alloc: Global,
+    slots: &mut [Option<Vec<u8>>],
+    taps: &mut Vec<Box<dyn Tap>>,
+    packet: &Departed,
+) -> Result<(), AllocError>
+    requires counted { waiting slots.old ≡ vec_len taps.old }
+    ensures left { OnOk result (entries kind_of state_of taps.new.items
+        ≡ left_after_one (departed packet.now) (entries kind_of state_of taps.old.items)) }
+    ensures tracked { (all : List Entry) → Tracks all slots.old (entries kind_of state_of taps.old.items)
+        → OnOk result (Tracks (map (stepped (departed packet.now)) all) slots.new (entries kind_of state_of taps.new.items)) }
+    ensures counted { OnOk result (waiting slots.new ≡ vec_len taps.new) }
+    ensures fewer { vec_len taps.new ≤ vec_len taps.old }
+{
+    let mut i = 0;
+    for slot in slots.iter_mut() {
+        if slot.is_none() {
+            match see_one(&mut taps[i], packet) {
+                Seen::More => i += 1,
+                Seen::Done => {
+                    let tap = taps.remove(i);
+                    *slot = Some(line_of(alloc, &tap)?);
+                }
+            }
+        }
+    }
+    Ok(())
+}
+
+/// The lines of all taps, in order: those in the slots, and in place of an empty slot that of the tap that is left. The
+/// error is want of memory.
+pub fn lines(
+    alloc: Global,
+    slots: &[Option<Vec<u8>>],
+    taps: &[Box<dyn Tap>],
+) -> Result<Vec<u8>, AllocError>
+    requires counted { waiting slots.now ≡ length taps.now }
+    ensures text { (all : List Entry) → Tracks all slots.now (entries kind_of state_of taps.now)
+        → IfOk result (λ text. text.items ≡ lines_of all) }
+{
+    let mut text = Vec::new(alloc);
+    let mut i = 0;
+    for slot in slots {
+        match slot {
+            Some(said) => text.extend_from_slice(said)?,
+            None => {
+                say_one(&taps[i], &mut text)?;
+                i += 1;
+            }
+        }
+    }
+    Ok(text)
+}
