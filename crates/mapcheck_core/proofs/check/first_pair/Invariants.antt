@@ -1,0 +1,9 @@
+use Rattle.std.proofs.Common.{◌<◌, None, ℕ}
+use Rattle.tree_core.specs.Shape.{topology}
+use Rattle.tree_defs.specs.Tree.{nodes}
+use Rattle.mapcheck_core.specs.Numbers.{span_at}
+use Rattle.mapcheck_core.specs.Checks.{IsFirstBroken}
+use Rattle.mapcheck_core.proofs.check.first_pair.Given as goal
+
+abbrev pub invariant-loop-first : goal.invariant-loop-first
+invariant-loop-first l = (a : ℕ) → a < l.first → IsFirstBroken l.given a (span_at (topology l.topo) a) (nodes (topology l.topo)) None

@@ -1,0 +1,6 @@
+use Rattle.tree_core.specs.Shape.{topology}
+use Rattle.mapcheck_core.specs.Checks.{breaks_at, IsLeast}
+use Rattle.mapcheck_core.proofs.check.least_line.Given as goal
+
+abbrev pub invariant-loop-number : goal.invariant-loop-number
+invariant-loop-number l = IsLeast (breaks_at l.demand (topology l.topo) (topology l.middle) l.given) l.given.lines l.number l.least

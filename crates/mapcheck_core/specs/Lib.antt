@@ -1,0 +1,5 @@
+pub mod Numbers
+pub mod GivenMaps
+pub mod MapFaults
+pub mod Checks
+pub mod Rows

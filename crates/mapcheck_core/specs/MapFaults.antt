@@ -1,0 +1,30 @@
+-- The faults of a given map, in a report.
+use Rattle.std.specs.Prelude.{◌≡◌, refl, ℕ, [], ◌∷◌, map}
+use Rattle.mapcheck_core.specs.declared.fault.MapFault.{MapFault}
+use Rattle.mapcheck_core.specs.declared.fault.MapFault.TheVariants as fault
+
+abbrev pub code_of : MapFault → ℕ
+code_of fault.TooLong = 1
+code_of (fault.Line n) = 2
+code_of (fault.Unknown n) = 3
+code_of (fault.Twice n) = 4
+code_of (fault.Missing n) = 5
+code_of (fault.NoAddress n) = 6
+code_of (fault.Root n) = 7
+code_of (fault.Leaf n) = 8
+code_of (fault.Prefix a b) = 9
+code_of fault.NoMemory = 0
+
+-- the line or the node that the fault holds, 0 where it holds neither
+abbrev pub place_of : MapFault → ℕ
+place_of (fault.Line n) = n
+place_of (fault.Unknown n) = n
+place_of (fault.Twice n) = n
+place_of (fault.Missing n) = n
+place_of (fault.NoAddress n) = n
+place_of (fault.Root n) = n
+place_of (fault.Leaf n) = n
+place_of _ = 0
+
+a_pair_is_no_place : map place_of (fault.Leaf 4 ∷ fault.Prefix 1 2 ∷ []) ≡ 4 ∷ 0 ∷ []
+a_pair_is_no_place = refl

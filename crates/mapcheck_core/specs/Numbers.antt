@@ -1,0 +1,51 @@
+-- The nodes of a topology by number, in preorder.
+use Rattle.std.specs.Prelude.{◌≡◌, refl, ℕ, zero, suc, ◌+◌, ◌-◌, nat_lt, Bool, true, false, if◌then◌else◌, [], ◌∷◌, map, Option, Some, None}
+use Rattle.tree_defs.specs.Tree.{leaf, inner, Trees, none, more, Address, subtree, nodes, nodes_below}
+use Rattle.tree_defs.specs.Topology.{Topology, office}
+
+-- the number of an address: the root has 0, each node stands before its children, and the first of these first
+abbrev mutual
+  pub number_of : Topology → Address → ℕ
+  number_of (leaf u) a = 0
+  number_of (inner u ts) [] = 0
+  number_of (inner u ts) (i ∷ a) = suc (number_below ts i a)
+
+  pub number_below : Trees (Unit {0}) → ℕ → Address → ℕ
+  number_below none i a = 0
+  number_below (more t ts) zero a = number_of t a
+  number_below (more t ts) (suc i) a = nodes t + number_below ts i a
+
+-- how many nodes the part has whose root has a number
+abbrev mutual
+  pub span_at : Topology → ℕ → ℕ
+  span_at (leaf u) n = 1
+  span_at (inner u ts) zero = nodes_below ts + 1
+  span_at (inner u ts) (suc n) = span_below ts n
+
+  pub span_below : Trees (Unit {0}) → ℕ → ℕ
+  span_below none n = 0
+  span_below (more t ts) n = if nat_lt n (nodes t) then span_at t n else span_below ts (n - nodes t)
+
+abbrev pub is_there : Option Topology → Bool
+is_there None = false
+is_there (Some t) = true
+
+abbrev pub is_address : Topology → Address → Bool
+is_address t a = is_there (subtree t a)
+
+abbrev pub is_leaf : Option Topology → Bool
+is_leaf None = false
+is_leaf (Some (leaf u)) = true
+is_leaf (Some (inner u ts)) = false
+
+abbrev pub is_leaf_at : Topology → Address → Bool
+is_leaf_at t a = is_leaf (subtree t a)
+
+office_in_preorder : map (number_of office) ([] ∷ (0 ∷ []) ∷ (1 ∷ []) ∷ (1 ∷ 0 ∷ []) ∷ (1 ∷ 1 ∷ []) ∷ []) ≡ 0 ∷ 1 ∷ 2 ∷ 3 ∷ 4 ∷ []
+office_in_preorder = refl
+
+spans_of_office : map (span_at office) (0 ∷ 1 ∷ 2 ∷ 3 ∷ 4 ∷ []) ≡ 5 ∷ 1 ∷ 3 ∷ 1 ∷ 1 ∷ []
+spans_of_office = refl
+
+leaves_of_office : map (is_leaf_at office) ([] ∷ (0 ∷ []) ∷ (1 ∷ 1 ∷ []) ∷ (0 ∷ 0 ∷ []) ∷ []) ≡ false ∷ true ∷ true ∷ false ∷ []
+leaves_of_office = refl
