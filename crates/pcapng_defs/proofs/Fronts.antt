@@ -7,7 +7,8 @@ use Rattle.pcap_defs.specs.Number.{long_at, short_at}
 use Rattle.pcap_defs.specs.Record.{most_captured}
 use Rattle.pcapng_defs.specs.declared.interface.Interface.{Interface}
 use Rattle.pcapng_defs.specs.Fault.{BlockFault, code, place}
-use Rattle.pcapng_defs.specs.Moment.{moment_in, most_moment, units_a_second}
+use Rattle.rank_defs.specs.Programs.{max_rank}
+use Rattle.pcapng_defs.specs.Moment.{moment_in, units_a_second}
 use Rattle.pcapng_defs.specs.Packet.{CapturedPacket}
 use Rattle.pcapng_defs.specs.Block.{Carried, BlockKind, section, interface, enhanced, simple, other, kind_of, least_total, most_total, ng_major, most_interfaces, packet_at, enhanced_at, simple_at, simple_len, block_gives}
 use Rattle.pcapng_defs.specs.NgCapture.{BlockFront, nothing, broken, found, front_of, front_at, front_in, front_with, order_at, fits_kind, block_len, most_blocks, packets_in}
@@ -22,8 +23,8 @@ pub record IsNextFault (c : Carried) (fault : BlockFault) : Type 0 where
 -- a block more came, and moments stay bounded
 pub record IsNext (c : Carried) (packet : Option CapturedPacket) (after : Carried) : Type 0 where
   pub counted : after.blocks ≡ c.blocks + 1
-  pub early : c.moment ≤ most_moment → after.moment ≤ most_moment
-  pub bounded : c.moment ≤ most_moment → AllByRecursion IsBounded (packets_in packet)
+  pub early : c.moment ≤ max_rank → after.moment ≤ max_rank
+  pub bounded : c.moment ≤ max_rank → AllByRecursion IsBounded (packets_in packet)
 
 -- what holds of what a whole block gives
 abbrev pub GivesSays : Carried → Result (Option CapturedPacket × Carried) BlockFault → Type 0
@@ -36,7 +37,7 @@ Says c rest nothing = rest ≡ []
 Says c rest (broken fault) = IsNextFault c fault
 Says c rest (found packet after others) = IsNext c packet after × (length others < length rest) × (c.blocks ≢ most_blocks)
 
-packet_at-says : (c : Carried) (i : Interface) (moment original count at : ℕ) (block : List ℕ) → (c.moment ≤ most_moment → moment ≤ most_moment)
+packet_at-says : (c : Carried) (i : Interface) (moment original count at : ℕ) (block : List ℕ) → (c.moment ≤ max_rank → moment ≤ max_rank)
     → GivesSays c (packet_at c i moment original count at block)
 packet_at-says c i moment original count at block early =
     cond_both (leb count most_captured && leb (at + count + 4) (length block)) _ _ (GivesSays c)
@@ -45,7 +46,7 @@ packet_at-says c i moment original count at block early =
     record { counted = refl; early = early; bounded = λ h. (record { short = short; early = early h }, tt) })
     (λ e. record { least_code = omega arith; most_code = omega arith; next = refl })
 
-moment-early : (x : ℕ) → min x most_moment ≤ most_moment
+moment-early : (x : ℕ) → min x max_rank ≤ max_rank
 moment-early x = omega arith
 
 enhanced_at-says : (c : Carried) (big : Bool) (block : List ℕ) (i : Option Interface) → GivesSays c (enhanced_at c big block i)

@@ -4,7 +4,7 @@ use Rattle.std.specs.Prelude.{unwrap_or}
 use Rattle.std.specs.Bool.{⊤}
 use Rattle.std.specs.List.{AllByRecursion}
 use Rattle.pcapng_defs.specs.Fault.{BlockFault}
-use Rattle.pcapng_defs.specs.Moment.{most_moment}
+use Rattle.rank_defs.specs.Programs.{max_rank}
 use Rattle.pcapng_defs.specs.Packet.{CapturedPacket}
 use Rattle.pcapng_defs.specs.Block.{Carried, at_start}
 use Rattle.pcapng_defs.specs.NgCapture.{BlockFront, nothing, broken, found, front_of, most_blocks, Reading, behind, packets_in, at_front, read_from, reading_of}
@@ -78,15 +78,15 @@ bounded_append : (packets others : List CapturedPacket) → AllByRecursion IsBou
 bounded_append [] others h k = k
 bounded_append (p ∷ packets) others h k = (h.0, bounded_append packets others h.1 k)
 
-at_front-bounded : (n : ℕ) (c : Carried) (rest : List ℕ) (front : BlockFront) → Says c rest front → c.moment ≤ most_moment
-    → ((after : Carried) (others : List ℕ) → after.moment ≤ most_moment → AllByRecursion IsBounded (read_from n after others).packets)
+at_front-bounded : (n : ℕ) (c : Carried) (rest : List ℕ) (front : BlockFront) → Says c rest front → c.moment ≤ max_rank
+    → ((after : Carried) (others : List ℕ) → after.moment ≤ max_rank → AllByRecursion IsBounded (read_from n after others).packets)
     → AllByRecursion IsBounded (at_front (λ after others. read_from n after others) c front).packets
 at_front-bounded n c rest nothing h early next = tt
 at_front-bounded n c rest (broken fault) h early next = tt
 at_front-bounded n c rest (found packet after others) h early next =
     bounded_append (packets_in packet) (read_from n after others).packets (h.0.bounded early) (next after others (h.0.early early))
 
-read_from-bounded : (n : ℕ) (c : Carried) (rest : List ℕ) → c.moment ≤ most_moment → AllByRecursion IsBounded (read_from n c rest).packets
+read_from-bounded : (n : ℕ) (c : Carried) (rest : List ℕ) → c.moment ≤ max_rank → AllByRecursion IsBounded (read_from n c rest).packets
 unfolding read_from
 read_from-bounded zero c rest early = tt
 read_from-bounded (suc n) c rest early =

@@ -1,10 +1,10 @@
 -- What follows from the definition of a pcapng capture.
 use Rattle.std.specs.Prelude.{◌≡◌, ◌≢◌, ℕ, ◌+◌, ◌≤◌, Bool, Option, Some, None, List, ◌++◌, length}
 use Rattle.std.specs.List.{AllByRecursion}
+use Rattle.rank_defs.specs.Programs.{max_rank}
 use Rattle.pcap_defs.specs.Record.{most_captured}
 use Rattle.pcapng_defs.specs.Fault.{BlockFault, block_cut, code, place}
 use Rattle.pcapng_defs.specs.Interface.{unit_of, at_option, option_front}
-use Rattle.pcapng_defs.specs.Moment.{most_moment}
 use Rattle.pcapng_defs.specs.Packet.{CapturedPacket}
 use Rattle.pcapng_defs.specs.Block.{Carried}
 use Rattle.pcapng_defs.specs.NgCapture.{broken, found, front_of, at_front, behind, reading_of, ng_capture_of, most_blocks}
@@ -49,7 +49,7 @@ FaultsAreNumbered = (file : List ℕ) (fault : BlockFault) → (ng_capture_of fi
 -- a packet captures no more than a record of a classic capture may, and has no greater moment than the greatest
 pub record IsBounded (p : CapturedPacket) : Type 0 where
   pub short : length p.captured ≤ most_captured
-  pub early : p.moment ≤ most_moment
+  pub early : p.moment ≤ max_rank
 
 abbrev pub PacketsAreBounded : Type 0
 PacketsAreBounded = (file : List ℕ) → AllByRecursion IsBounded (ng_capture_of file).packets
