@@ -1,9 +1,10 @@
 //! Tests of the variables of nodes, children and flows.
-ghost use Rattle.std.specs.Prelude.{◌≡◌, [], IfOk};
+ghost use Rattle.std.specs.Prelude.{◌≡◌, ◌≤◌, [], IfOk, OnOk};
 ghost use Rattle.rank_defs.specs.Builtins.{stfq};
 ghost use Rattle.tree_graph.specs.Descent.{lists, two_below_a_root};
 ghost use Rattle.policy_core.specs.Samples.{station};
-ghost use Rattle.sched_nodes.specs.Samples.{one_program, tree, stations, classes, fair};
+ghost use Rattle.sched_nodes.specs.Samples.{one_program, tree, stations, classes, fair, deep};
+ghost use Rattle.sched_nodes.specs.Agreement.{policy_of, HasFlowRoom};
 
 use crate::Stations;
 use list_core::{List, Name};
@@ -12,6 +13,7 @@ use policy_core::{Class, Marks, Policy, Station};
 use range_core::{Checked, check};
 use rank_core::{FlowKey, Transaction, builtin};
 use std::alloc::{AllocError, Global};
+use std::process::Abort;
 use std::test::Fail;
 use tree_core::Taken;
 use tree_graph::Preorder;
@@ -123,22 +125,43 @@ fn fair(alloc: Global, programs: List<Checked>) -> Result<Policy, AllocError>
     Ok(Policy::new(tree, stations, programs, classes))
 }
 
-/// A child has its own weight at its parent, and a flow that of its class; a flow that comes later begins no lower than what left.
+/// Two packets of a flow come: a child has its own weight at its parent, and a flow that of its class.
+fn come<R: Abort>(rt: &R, stations: &mut Stations<'_>, trace: &mut Taken) -> Result<(), AllocError>
+    requires policy { policy_of stations.old ≡ fair.policy }
+    requires levels { 2 ≤ trace.old.room }
+    ensures policy { policy_of stations.new ≡ fair.policy }
+    ensures levels { trace.new.room ≡ trace.old.room }
+    ensures room { OnOk result (HasFlowRoom stations.new deep) }
+{
+    stations.reserve(&DEEP)?;
+    stations.push_steps(&DEEP, 5, trace);
+    assert_eq!(rt; trace.digits(), [0, 0].as_slice());
+    assert_eq!(rt; trace.ranks(), [0, 0, 0].as_slice());
+    stations.push_steps(&DEEP, 5, trace);
+    assert_eq!(rt; trace.ranks(), [50_000, 100_000, 100_000].as_slice());
+    Ok(())
+}
+
+/// The later one leaves, and a packet of another flow comes: its flow begins no lower than what left.
+fn go_on<R: Abort>(rt: &R, stations: &mut Stations<'_>, trace: &mut Taken) -> Result<(), AllocError>
+    requires policy { policy_of stations.old ≡ fair.policy }
+    requires levels { 2 ≤ trace.old.room }
+    requires room { HasFlowRoom stations.old deep }
+{
+    stations.pop_steps(&DEEP, &[0, 0], &[50_000, 100_000, 100_000], 5);
+    stations.reserve(&OTHER)?;
+    stations.push_steps(&OTHER, 5, trace);
+    assert_eq!(rt; trace.ranks(), [100_000, 200_000, 100_000].as_slice());
+    Ok(())
+}
+
 #[test]
 fn each_node_ranks_by_its_own_variables(rt: HostRuntime) -> Result<(), Fail> {
     let alloc = rt.alloc();
     let policy = fair(alloc, programs(alloc)?)?;
     let mut stations = Stations::new(alloc, &policy)?;
     let mut trace = Taken::new(alloc, policy.depth())?;
-    stations.reserve(&DEEP)?;
-    stations.push_steps(&DEEP, 5, &mut trace);
-    assert_eq!(rt; trace.digits(), [0, 0].as_slice());
-    assert_eq!(rt; trace.ranks(), [0, 0, 0].as_slice());
-    stations.push_steps(&DEEP, 5, &mut trace);
-    assert_eq!(rt; trace.ranks(), [50_000, 100_000, 100_000].as_slice());
-    stations.pop_steps(&DEEP, &[0, 0], &[50_000, 100_000, 100_000], 5);
-    stations.reserve(&OTHER)?;
-    stations.push_steps(&OTHER, 5, &mut trace);
-    assert_eq!(rt; trace.ranks(), [100_000, 200_000, 100_000].as_slice());
+    come(&rt, &mut stations, &mut trace)?;
+    go_on(&rt, &mut stations, &mut trace)?;
     Ok(())
 }
