@@ -1,10 +1,11 @@
 -- Prefixes by number, and the tests of addresses, leaves and prefixes.
 use Rattle.std.proofs.Common.{◌≡◌, ℕ, ◌+◌, ◌-◌, ◌<◌, ◌≤◌, true, ◌++◌, Option, Some, None, refl, sym, ap, ◌∙◌, subst, arith, leb, ltb}
+use Rattle.std.specs.Prelude.{is_some}
 use Rattle.std.proofs.lemmas.Bool.{leb-true, ltb-true, le-leb, lt-ltb, and_parts, and_from}
 use Rattle.tree_defs.specs.Tree.{leaf, inner, Address, subtree, nodes, IsAddressOf, LeadsToLeaf}
 use Rattle.tree_defs.specs.Topology.{Topology, IsBranched, after, IsPrefixOf}
 use Rattle.tree_defs.proofs.TopologyLaws.{leaf_at, leads_to, after-append, after-is}
-use Rattle.mapcheck_core.specs.Numbers.{number_of, span_at, is_there, is_address, is_leaf, is_leaf_at}
+use Rattle.mapcheck_core.specs.Numbers.{number_of, span_at, is_address, is_leaf, is_leaf_at}
 use Rattle.mapcheck_core.specs.Checks as check
 use Rattle.mapcheck_core.proofs.NumberLaws.{at_number, number_inside, one_address, span_is, part_branched, single_is_leaf, part_of_part, number_in_part}
 
@@ -26,27 +27,23 @@ inside_prefix t a b u v e f low high =
 
 -- ---- tests
 
-pub there : (o : Option Topology) → is_there o ≡ true → (u : Topology) × (o ≡ Some u)
+pub there : {X : Type 0} (o : Option X) → is_some o ≡ true → (x : X) × (o ≡ Some x)
 there None e = cc
-there (Some u) e = (u, refl)
+there (Some x) e = (x, refl)
 
 pub leaf_there : (o : Option Topology) → is_leaf o ≡ true → (q : Unit {0}) × (o ≡ Some (leaf q))
 leaf_there None e = cc
 leaf_there (Some (leaf q)) e = (q, refl)
 leaf_there (Some (inner q ts)) e = cc
 
-pub rest_there : (o : Option Address) → check.is_there o ≡ true → (c : Address) × (o ≡ Some c)
-rest_there None e = cc
-rest_there (Some c) e = (c, refl)
-
 pub prefix_true : (a b : Address) → IsPrefixOf a b → check.is_prefix a b ≡ true
-prefix_true a b p = ap check.is_there p.1
+prefix_true a b p = ap is_some p.1
 
 pub true_prefix : (a b : Address) → check.is_prefix a b ≡ true → IsPrefixOf a b
-true_prefix a b e = rest_there (after a b) e
+true_prefix a b e = there (after a b) e
 
 pub address_true : (t : Topology) (a : Address) → IsAddressOf t a → is_address t a ≡ true
-address_true t a h = ap is_there h.1
+address_true t a h = ap is_some h.1
 
 pub leaf_true : (t : Topology) (a : Address) → LeadsToLeaf t a → is_leaf_at t a ≡ true
 leaf_true t a l = ap is_leaf (leaf_at t a l).1

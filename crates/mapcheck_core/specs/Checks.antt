@@ -1,5 +1,5 @@
 -- The clauses of an embedding as tests of numbers.
-use Rattle.std.specs.Prelude.{◌≡◌, ℕ, ◌-◌, ◌<◌, ◌≤◌, ◌==◌, nat_le, nat_lt, min, Bool, true, false, not, ◌&&◌, List, Option, Some, None, slice_index, slice_index_or, []}
+use Rattle.std.specs.Prelude.{◌≡◌, ℕ, ◌-◌, ◌<◌, ◌≤◌, ◌==◌, nat_le, nat_lt, min, Bool, true, false, not, ◌&&◌, List, Option, Some, None, slice_index, slice_index_or, [], is_some}
 use Rattle.tree_defs.specs.Tree.{Address}
 use Rattle.tree_defs.specs.Topology.{Topology, after}
 use Rattle.mapcheck_core.specs.declared.given.Given.{Given}
@@ -24,13 +24,9 @@ abbrev pub lower_of : Option ℕ → ℕ → ℕ
 lower_of None n = n
 lower_of (Some m) n = min m n
 
-abbrev pub is_there : Option Address → Bool
-is_there None = false
-is_there (Some a) = true
-
 -- one address is a prefix of another
 abbrev pub is_prefix : Address → Address → Bool
-is_prefix a b = is_there (after a b)
+is_prefix a b = is_some (after a b)
 
 -- whether a node lies in the part of so many nodes that begins at another
 abbrev pub lies_in : ℕ → ℕ → ℕ → Bool

@@ -26,5 +26,8 @@ place_of (fault.Root n) = n
 place_of (fault.Leaf n) = n
 place_of _ = 0
 
+codes_of_a_leaf_and_a_pair : map code_of (fault.Leaf 4 ∷ fault.Prefix 1 2 ∷ []) ≡ 8 ∷ 9 ∷ []
+codes_of_a_leaf_and_a_pair = refl
+
 a_pair_is_no_place : map place_of (fault.Leaf 4 ∷ fault.Prefix 1 2 ∷ []) ≡ 4 ∷ 0 ∷ []
 a_pair_is_no_place = refl

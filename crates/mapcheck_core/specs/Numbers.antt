@@ -1,5 +1,5 @@
 -- The nodes of a topology by number, in preorder.
-use Rattle.std.specs.Prelude.{◌≡◌, refl, ℕ, zero, suc, ◌+◌, ◌-◌, nat_lt, Bool, true, false, if◌then◌else◌, [], ◌∷◌, map, Option, Some, None}
+use Rattle.std.specs.Prelude.{◌≡◌, refl, ℕ, zero, suc, ◌+◌, ◌-◌, nat_lt, Bool, true, false, if◌then◌else◌, [], ◌∷◌, map, Option, Some, None, is_some}
 use Rattle.tree_defs.specs.Tree.{leaf, inner, Trees, none, more, Address, subtree, nodes, nodes_below}
 use Rattle.tree_defs.specs.Topology.{Topology, office}
 
@@ -26,18 +26,16 @@ abbrev mutual
   span_below none n = 0
   span_below (more t ts) n = if nat_lt n (nodes t) then span_at t n else span_below ts (n - nodes t)
 
-abbrev pub is_there : Option Topology → Bool
-is_there None = false
-is_there (Some t) = true
-
+-- an address leads to a node
 abbrev pub is_address : Topology → Address → Bool
-is_address t a = is_there (subtree t a)
+is_address t a = is_some (subtree t a)
 
 abbrev pub is_leaf : Option Topology → Bool
 is_leaf None = false
 is_leaf (Some (leaf u)) = true
 is_leaf (Some (inner u ts)) = false
 
+-- an address leads to a leaf
 abbrev pub is_leaf_at : Topology → Address → Bool
 is_leaf_at t a = is_leaf (subtree t a)
 

@@ -5,7 +5,7 @@ ghost use Rattle.mapcheck_core.specs.MapFaults.{code_of, place_of};
 use std::alloc::{AllocError, AllocFailed};
 
 /// Why a text is no map, or a map no embedding. Lines are counted from 1, nodes from 0 in preorder.
-#[derive(Debug, Drop)]
+#[derive(Clone, Copy, PartialEq, Eq, Debug)]
 pub enum MapFault {
     /// The text is too long.
     TooLong,

@@ -6,34 +6,32 @@ ghost use Rattle.mapcheck_core.specs.Numbers.{is_address, is_leaf_at};
 
 use tree_core::Topo;
 
+/// The part of a topology whose root is at an address, if a node is there.
+fn part<'a>(topo: &'a Topo, address: &[u32]) -> Option<&'a Topo>
+    ensures { option_map (λ part. topology part.now) result ≡ subtree (topology topo.now) address.now }
+{
+    match address {
+        [] => Some(topo),
+        [digit, deeper @ ..] => match topo {
+            Topo::Leaf => None,
+            Topo::Inner(children) => match children.get(*digit as usize) {
+                Some(child) => part(child, deeper),
+                None => None,
+            },
+        },
+    }
+}
+
 /// Whether an address leads to a node.
 pub(crate) fn is_address(topo: &Topo, address: &[u32]) -> bool
     ensures { result ≡ is_address (topology topo.now) address.now }
 {
-    match address {
-        [] => true,
-        [digit, deeper @ ..] => match topo {
-            Topo::Leaf => false,
-            Topo::Inner(children) => match children.get(*digit as usize) {
-                Some(child) => is_address(child, deeper),
-                None => false,
-            },
-        },
-    }
+    part(topo, address).is_some()
 }
 
 /// Whether an address leads to a leaf.
 pub(crate) fn is_leaf_at(topo: &Topo, address: &[u32]) -> bool
     ensures { result ≡ is_leaf_at (topology topo.now) address.now }
 {
-    match topo {
-        Topo::Leaf => address.is_empty(),
-        Topo::Inner(children) => match address {
-            [] => false,
-            [digit, deeper @ ..] => match children.get(*digit as usize) {
-                Some(child) => is_leaf_at(child, deeper),
-                None => false,
-            },
-        },
-    }
+    matches!(part(topo, address), Some(Topo::Leaf))
 }

@@ -50,30 +50,14 @@ fn given(
     })
 }
 
-/// The code and the place of the fault, 0 and 0 where there is none.
-fn verdict(topo: &Topo, middle: &Topo, given: &Given) -> (u32, u32)
+/// What is said of a map of the three leaves.
+fn checked(topo: &Topo, middle: &Topo, given: &Given) -> Result<(), MapFault>
     requires topo { topology topo.now ≡ three_leaves }
     requires middle { topology middle.now ≡ two_leaves_and_a_node }
     requires images { length given.now.images ≡ 4 }
     requires lines { length given.now.lines ≡ 4 }
 {
-    match check_map(topo, middle, given) {
-        Ok(()) => (0, 0),
-        Err(fault) => (fault.code(), fault.place()),
-    }
-}
-
-/// The nodes of which one doesn't keep the other as a prefix.
-fn pair(topo: &Topo, middle: &Topo, given: &Given) -> Option<(u32, u32)>
-    requires topo { topology topo.now ≡ three_leaves }
-    requires middle { topology middle.now ≡ two_leaves_and_a_node }
-    requires images { length given.now.images ≡ 4 }
-    requires lines { length given.now.lines ≡ 4 }
-{
-    match check_map(topo, middle, given) {
-        Err(MapFault::Prefix(first, second)) => Some((first, second)),
-        _ => None,
-    }
+    check_map(topo, middle, given)
 }
 
 #[test]
@@ -83,15 +67,27 @@ fn three_leaves_in_two_and_a_node(rt: HostRuntime) -> Result<(), Fail> {
     let middle = two_leaves_and_a_node(alloc)?;
     let order = [1, 2, 3, 4];
     let map = given(alloc, order, &[], &[0], &[1], &[2, 0])?;
-    assert_eq!(rt; verdict(&topo, &middle, &map), (0, 0));
+    assert_eq!(rt; checked(&topo, &middle, &map), Ok(()));
     let c_at_the_node = given(alloc, order, &[], &[0], &[1], &[2])?;
-    assert_eq!(rt; verdict(&topo, &middle, &c_at_the_node), (8, 4));
+    assert_eq!(rt;
+        checked(&topo, &middle, &c_at_the_node),
+        Err(MapFault::Leaf(4))
+    );
     let b_at_as_leaf = given(alloc, order, &[], &[0], &[0], &[2, 0])?;
-    assert_eq!(rt; verdict(&topo, &middle, &b_at_as_leaf), (9, 0));
+    assert_eq!(rt;
+        checked(&topo, &middle, &b_at_as_leaf),
+        Err(MapFault::Prefix(1, 2))
+    );
     let c_nowhere = given(alloc, order, &[], &[0], &[1], &[2, 1])?;
-    assert_eq!(rt; verdict(&topo, &middle, &c_nowhere), (6, 4));
+    assert_eq!(rt;
+        checked(&topo, &middle, &c_nowhere),
+        Err(MapFault::NoAddress(4))
+    );
     let root_at_the_node = given(alloc, order, &[2], &[0], &[1], &[2, 0])?;
-    assert_eq!(rt; verdict(&topo, &middle, &root_at_the_node), (7, 1));
+    assert_eq!(rt;
+        checked(&topo, &middle, &root_at_the_node),
+        Err(MapFault::Root(1))
+    );
     Ok(())
 }
 
@@ -102,11 +98,20 @@ fn the_least_line_is_told(rt: HostRuntime) -> Result<(), Fail> {
     let middle = two_leaves_and_a_node(alloc)?;
     let order = [9, 7, 5, 3];
     let three_nowhere = given(alloc, order, &[], &[0, 0], &[3], &[2, 1])?;
-    assert_eq!(rt; verdict(&topo, &middle, &three_nowhere), (6, 3));
+    assert_eq!(rt;
+        checked(&topo, &middle, &three_nowhere),
+        Err(MapFault::NoAddress(3))
+    );
     let two_at_the_node = given(alloc, order, &[], &[2], &[2], &[0])?;
-    assert_eq!(rt; verdict(&topo, &middle, &two_at_the_node), (8, 5));
+    assert_eq!(rt;
+        checked(&topo, &middle, &two_at_the_node),
+        Err(MapFault::Leaf(5))
+    );
     let root_at_a_leaf = given(alloc, order, &[0], &[2], &[2], &[0])?;
-    assert_eq!(rt; verdict(&topo, &middle, &root_at_a_leaf), (7, 9));
+    assert_eq!(rt;
+        checked(&topo, &middle, &root_at_a_leaf),
+        Err(MapFault::Root(9))
+    );
     Ok(())
 }
 
@@ -116,6 +121,9 @@ fn the_first_pair_is_told(rt: HostRuntime) -> Result<(), Fail> {
     let topo = three_leaves(alloc)?;
     let middle = two_leaves_and_a_node(alloc)?;
     let two_at_one_leaf = given(alloc, [1, 2, 3, 4], &[], &[1], &[0], &[0])?;
-    assert_eq!(rt; pair(&topo, &middle, &two_at_one_leaf), Some((2, 3)));
+    assert_eq!(rt;
+        checked(&topo, &middle, &two_at_one_leaf),
+        Err(MapFault::Prefix(2, 3))
+    );
     Ok(())
 }

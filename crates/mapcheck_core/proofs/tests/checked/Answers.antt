@@ -1,6 +1,6 @@
 use Rattle.tree_core.specs.Shape.{topology}
 use Rattle.mapcheck_core.proofs.RowLaws.{three_within, node_within, given_for}
-use Rattle.mapcheck_core.proofs.tests.verdict.Goals as goal
+use Rattle.mapcheck_core.proofs.tests.checked.Goals as goal
 
 pub check_map-requires-clause-topo : goal.check_map-requires-clause-topo
 check_map-requires-clause-topo c = three_within (topology c.args.topo.now) c.requires.topo
