@@ -13,7 +13,7 @@ use Rattle.policy_text_defs.specs.Sense.{Entry}
 use Rattle.policy_defs.specs.Policy.{Node, Class as Aimed}
 use Rattle.policy_defs.specs.Accepted.{IsAccepted}
 use Rattle.policy_rules.specs.Names.{Name, declared, class_name, node_name}
-use Rattle.policy_rules.specs.Clauses.{root, most_classes}
+use Rattle.policy_rules.specs.Clauses.{root, most_classes, version_of}
 use Rattle.policy_rules.specs.Programs.{place, programs}
 use Rattle.policy_rules.specs.Accepted.{AreAccepted}
 use Rattle.policy_rules.specs.Graph.{graph_of, nodes_in}
@@ -153,10 +153,11 @@ module _ (es : List Entry) (accepted : AreAccepted es) (tree : Numbered) (ss : L
   conditions-made = conditions-of cs ∙ ap (map (λ (m : Made). m.conditions)) classes ∙ told-of (classes_in es) ns leaves-count
 
   -- what was made is the policy of the statements
-  pub resolved-made : AreValid es → IsResolved es (resolved tree ss ps cs)
-  resolved-made valid =
+  pub resolved-made : (v : ℕ) → v ≡ version_of es → AreValid es → IsResolved es (resolved v tree ss ps cs)
+  resolved-made v version valid =
       let t : IsNodeTree es below.tree = node-tree es below.tree accepted valid below.is_tree below.root_is in
       record {
+        version_is = version;
         root_is = ap (λ (u : Tree Node). (root_of u).name) tree-made ∙ t.root_is;
         tree = subst (λ (u : Tree Node). IsTreeIn es u) (sym tree-made) t.tree;
         classes = subst (λ (u : Tree Node). AreClassesOf es u (classes_in es) (map (class_in u) cs)) (sym tree-made)
@@ -185,11 +186,11 @@ module _ (es : List Entry) (accepted : AreAccepted es) (tree : Numbered) (ss : L
 
   pub few-made : AreRising es → length cs ≤ most_classes
   few-made rising =
-      (let few : length (classes_in es) ≤ most_classes = few-classes es rising accepted.0.0.0.0.0.0.0.1 in
+      (let few : length (classes_in es) ≤ most_classes = few-classes es rising accepted.0.0.0.0.0.0.0.0.1 in
       omega (arith, few, length-map cs made, ap length classes, made-count (classes_in es) ns leaves-count))
 
   pub catch-all-made : HasCatchAll (map (λ (c : Class). c.conditions) cs)
-  catch-all-made = subst (λ (all : List (List Condition)). HasCatchAll all) (sym conditions-made) (catch-all es accepted.1)
+  catch-all-made = subst (λ (all : List (List Condition)). HasCatchAll all) (sym conditions-made) (catch-all es accepted.0.1)
 
   each-of : {X : Type 0} (P : X → Type 0) (xs : List X) (d : X) → ((k : ℕ) → k < length xs → P (get_or xs k d)) → AllByRecursion P xs
   each-of P [] d h = tt
@@ -203,10 +204,10 @@ module _ (es : List Entry) (accepted : AreAccepted es) (tree : Numbered) (ss : L
   topology-made : topology_of (tree_of tree ss ps) ≡ tree.topology
   topology-made = topology_of-nodes _ 0 tree.topology
 
-  pub accepted-made : AreRising es → AreValid es → AllByRecursion IsShaped (programs es) → IsSound tree.rows tree.topology → IsAccepted (resolved tree ss ps cs).policy
-  accepted-made rising valid shaped sound =
+  pub accepted-made : (v : ℕ) → v ≡ version_of es → AreRising es → AreValid es → AllByRecursion IsShaped (programs es) → IsSound tree.rows tree.topology → IsAccepted (resolved v tree ss ps cs).policy
+  accepted-made v version rising valid shaped sound =
       let made_topology : topology_of (tree_of tree ss ps) ≡ topology_of sound.tree = topology-made ∙ sound.numbered.topology_is in
-      acceptable es (resolved tree ss ps cs) accepted valid shaped (resolved-made valid)
+      acceptable es (resolved v tree ss ps cs) accepted valid shaped (resolved-made v version valid)
       (omega (arith, sound.levels, depth-topology (tree_of tree ss ps), ap (λ (u : Topology). depth u) made_topology, depth-topology sound.tree))
       (omega (arith, sound.few, nodes-topology (tree_of tree ss ps), ap (λ (u : Topology). nodes u) made_topology, nodes-topology sound.tree))
 
@@ -216,7 +217,7 @@ root-is es nodes r n accepted names at is =
     is ∙ ap (λ o. unwrap_or o 0) (at ∙ ap (λ (all : List Name). position (bytes_eq root) all) names ∙ found (declared node_name es) root (root-there es accepted))
 
 pub root-small : (es : List Entry) → AreRising es → AreAccepted es → place (declared node_name es) root < 4294967296
-root-small es rising accepted = omega (arith, place-within (declared node_name es) root (root-there es accepted), (named es rising accepted.0.0.0.0.0.0.0).few)
+root-small es rising accepted = omega (arith, place-within (declared node_name es) root (root-there es accepted), (named es rising accepted.0.0.0.0.0.0.0.0).few)
 
 pub graph-few : (es : List Entry) (g : List (List ℕ)) → AreRising es → AreAccepted es → g ≡ graph_of es → length g ≤ most_nodes
-graph-few es g rising accepted is = omega (arith, ap length is, length-graph es, (named es rising accepted.0.0.0.0.0.0.0).few)
+graph-few es g rising accepted is = omega (arith, ap length is, length-graph es, (named es rising accepted.0.0.0.0.0.0.0.0).few)

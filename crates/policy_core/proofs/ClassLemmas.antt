@@ -63,5 +63,5 @@ no-class (statement.Each n s) not = refl
 no-class (statement.Push n t) not = refl
 no-class (statement.Pop n t) not = refl
 no-class (statement.Class n a cs) not = absurd (not n a cs refl)
-no-class (statement.Leaf n u a ns) not = refl
+no-class (statement.Leaf n u a l ns) not = refl
 no-class (statement.Node n u a ns) not = refl

@@ -55,7 +55,7 @@ module _ (tree : Numbered) (h : AreNumbered tree) where
       (subst (λ (w : Address). IsAddressOf tree.topology (w ++ d ∷ [])) (address-same k) p)))
 
 -- ---- the value
-module _ (tree : Numbered) (ss : List Station) (ps : List Program) (cs : List Class) (r : Resolved) (view : resolved tree ss ps cs ≡ r) (w : IsWhole tree ss ps cs) where
+module _ (v : ℕ) (tree : Numbered) (ss : List Station) (ps : List Program) (cs : List Class) (r : Resolved) (view : resolved v tree ss ps cs ≡ r) (w : IsWhole v tree ss ps cs) where
   tree-is : tree_of tree ss ps ≡ r.policy.tree
   tree-is = ap (λ (q : Resolved). q.policy.tree) view
 
@@ -135,6 +135,12 @@ module _ (tree : Numbered) (ss : List Station) (ps : List Program) (cs : List Cl
 
   pub marks-are : (k : ℕ) (s : Station) → k < nodes r.policy.tree → s ≡ station_at ss (row_at tree.rows k).node → IsSomeAnd (node_at r.policy.tree (address_at r.policy.tree k)) (λ n. told s.marks ≡ n.marks)
   marks-are k s l own = some-and _ _ (λ n. told s.marks ≡ n.marks) (node-is k l) (ap (λ (x : Station). told x.marks) own)
+
+  pub limit-is : (k : ℕ) (s : Station) → k < nodes r.policy.tree → s ≡ station_at ss (row_at tree.rows k).node → IsSomeAnd (node_at r.policy.tree (address_at r.policy.tree k)) (λ n. s.limit ≡ n.limit)
+  limit-is k s l own = some-and _ _ (λ n. s.limit ≡ n.limit) (node-is k l) (ap (λ (x : Station). x.limit) own)
+
+  pub using-is : (k : ℕ) (s : Station) (used : List ℕ) → k < nodes r.policy.tree → s ≡ station_at ss (row_at tree.rows k).node → used ≡ s.using → IsSomeAnd (node_at r.policy.tree (address_at r.policy.tree k)) (λ n. used ≡ n.using)
+  using-is k s used l own is = some-and _ _ (λ n. used ≡ n.using) (node-is k l) (is ∙ ap (λ (x : Station). x.using) own)
 
   pub name-is : (k : ℕ) (s : Station) (name : List ℕ) → k < nodes r.policy.tree → s ≡ station_at ss (row_at tree.rows k).node → name ≡ s.name → IsSomeAnd (node_at r.policy.tree (address_at r.policy.tree k)) (λ n. name ≡ n.name)
   name-is k s name l own is = some-and _ _ (λ n. name ≡ n.name) (node-is k l) (is ∙ ap (λ (x : Station). x.name) own)

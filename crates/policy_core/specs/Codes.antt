@@ -1,6 +1,6 @@
 -- How a policy is stored as a ghost value.
-use Rattle.std.specs.Prelude.{ℕ, List, refl}
-use Rattle.std.specs.Coded.{Coded, code_by, coded×, coded_ℕ, coded_list}
+use Rattle.std.specs.Prelude.{ℕ, Option, List, refl}
+use Rattle.std.specs.Coded.{Coded, code_by, coded×, coded_ℕ, coded_list, coded_option}
 use Rattle.tree_defs.specs.Tree.{Tree, Address}
 use Rattle.tree_defs.specs.Codes.{tree_code}
 use Rattle.rank_defs.specs.Programs.{Program}
@@ -17,13 +17,17 @@ abbrev pub marks_code : Coded Marks
 marks_code = code_by (ℕ × (ℕ × ℕ)) (coded× coded_ℕ (coded× coded_ℕ coded_ℕ)) (λ m. (m.prio, (m.weight, m.slack))) (λ p. record { prio = p.0; weight = p.1.0; slack = p.1.1 }) (λ _. refl)
 
 abbrev pub node_code : Coded Node
-node_code = code_by (List ℕ × (Program × Marks)) (coded× (coded_list coded_ℕ) (coded× program_code marks_code)) (λ n. (n.name, (n.program, n.marks))) (λ p. record { name = p.0; program = p.1.0; marks = p.1.1 }) (λ _. refl)
+node_code =
+    code_by (List ℕ × (List ℕ × (Program × (Marks × Option ℕ)))) (coded× (coded_list coded_ℕ) (coded× (coded_list coded_ℕ) (coded× program_code (coded× marks_code (coded_option coded_ℕ)))))
+    (λ n. (n.name, (n.using, (n.program, (n.marks, n.limit))))) (λ p. record { name = p.0; using = p.1.0; program = p.1.1.0; marks = p.1.1.1.0; limit = p.1.1.1.1 }) (λ _. refl)
 
 abbrev pub class_code : Coded Class
 class_code = code_by (Marks × Address) (coded× marks_code (coded_list coded_ℕ)) (λ c. (c.marks, c.leaf)) (λ p. record { marks = p.0; leaf = p.1 }) (λ _. refl)
 
 abbrev pub policy_code : Coded Policy
-policy_code = code_by (Tree Node × List Class) (coded× (tree_code node_code) (coded_list class_code)) (λ p. (p.tree, p.classes)) (λ p. record { tree = p.0; classes = p.1 }) (λ _. refl)
+policy_code =
+    code_by (ℕ × (Tree Node × List Class)) (coded× coded_ℕ (coded× (tree_code node_code) (coded_list class_code)))
+    (λ p. (p.version, (p.tree, p.classes))) (λ p. record { version = p.0; tree = p.1.0; classes = p.1.1 }) (λ _. refl)
 
 abbrev pub resolved_code : Coded Resolved
 resolved_code = code_by (Policy × List (List Condition)) (coded× policy_code (coded_list (coded_list condition_code))) (λ r. (r.policy, r.conditions)) (λ p. record { policy = p.0; conditions = p.1 }) (λ _. refl)

@@ -1,5 +1,5 @@
 -- What is made of statements: the stations of nodes and leaves, and the classes.
-use Rattle.std.specs.Prelude.{◌≡◌, ◌<◌, ℕ, List, [], ◌∷◌, ◌++◌, map, length, slice_index_or, unwrap_or}
+use Rattle.std.specs.Prelude.{◌≡◌, ◌<◌, ℕ, Option, List, [], ◌∷◌, ◌++◌, map, length, slice_index_or, unwrap_or}
 use Rattle.std.specs.List.{cons_option}
 use Rattle.rank_defs.specs.Builtins.{fifo}
 use Rattle.rank_defs.specs.Programs.{Program}
@@ -26,9 +26,9 @@ pub record IsPlaceOf (es : List Entry) (used : Name) (place : ℕ) : Type 0 wher
   pub program_is : slice_index_or (known_programs es) place no_program ≡ unwrap_or (program_named es used) fifo
 
 -- the station has a program, and is what is said of the node
-pub record IsStationOf (es : List Entry) (name used : Name) (a : Attrs) (s : Station) : Type 0 where
+pub record IsStationOf (es : List Entry) (name used : Name) (a : Attrs) (limit : Option ℕ) (s : Station) : Type 0 where
   pub within : s.program < length (known_programs es)
-  pub node_is : node_of (known_programs es) s ≡ said es name used a
+  pub node_is : node_of (known_programs es) s ≡ said es name used a limit
 
 -- the stations got one more, where the statement declares a node or leaf
 pub record AreMore (es : List Entry) (s : Sense) (old new : List Station) : Type 0 where

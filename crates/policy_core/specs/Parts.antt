@@ -1,5 +1,5 @@
 -- The policy that a tree of numbered nodes, stations, transactions and classes give.
-use Rattle.std.specs.Prelude.{◌≡◌, ◌<◌, ◌≤◌, ℕ, List, [], ◌∷◌, ◌++◌, map, length, slice_index_or}
+use Rattle.std.specs.Prelude.{◌≡◌, ◌<◌, ◌≤◌, ℕ, None, List, [], ◌∷◌, ◌++◌, map, length, slice_index_or}
 use Rattle.std.specs.List.{AllByRecursion}
 use Rattle.tree_defs.specs.Tree.{Tree, most_nodes}
 use Rattle.rank_defs.specs.Programs.{Program}
@@ -20,7 +20,7 @@ told m = record { prio = m.prio; weight = m.weight; slack = m.slack }
 
 -- what stands past the end of a list
 abbrev pub no_station : Station
-no_station = record { name = []; program = 0; marks = record { prio = 0; weight = 1; slack = 0 } }
+no_station = record { name = []; using = []; program = 0; marks = record { prio = 0; weight = 1; slack = 0 }; limit = None }
 
 abbrev pub no_program : Program
 no_program = record { keeps = []; eaches = []; push = []; pop = [] }
@@ -30,7 +30,7 @@ station_at stations i = slice_index_or stations i no_station
 
 -- a station, with its transaction
 abbrev pub node_of : List Program → Station → Node
-node_of programs s = record { name = s.name; program = slice_index_or programs s.program no_program; marks = told s.marks }
+node_of programs s = record { name = s.name; using = s.using; program = slice_index_or programs s.program no_program; marks = told s.marks; limit = s.limit }
 
 -- at each node the station that its row names
 abbrev pub tree_of : Numbered → List Station → List Program → Tree Node
@@ -40,9 +40,9 @@ tree_of tree stations programs = nodes_from (λ n. node_of programs (station_at 
 abbrev pub class_in : Tree Node → Class → Aimed
 class_in tree c = record { marks = told c.marks; leaf = address_at tree c.leaf }
 
-abbrev pub resolved : Numbered → List Station → List Program → List Class → Resolved
-resolved tree stations programs classes = record {
-  policy = record { tree = tree_of tree stations programs; classes = map (class_in (tree_of tree stations programs)) classes };
+abbrev pub resolved : ℕ → Numbered → List Station → List Program → List Class → Resolved
+resolved version tree stations programs classes = record {
+  policy = record { version = version; tree = tree_of tree stations programs; classes = map (class_in (tree_of tree stations programs)) classes };
   conditions = map (λ c. c.conditions) classes;
 }
 
@@ -66,7 +66,7 @@ HaveLeaves tree classes = AllByRecursion (λ c. c.leaf < length tree.rows) class
 abbrev pub HasCatchAll : List (List Condition) → Type 0
 HasCatchAll conditions = (others : List (List Condition)) × (conditions ≡ others ++ [] ∷ [])
 
-pub record IsWhole (tree : Numbered) (ss : List Station) (ps : List Program) (cs : List Class) : Type 0 where
+pub record IsWhole (version : ℕ) (tree : Numbered) (ss : List Station) (ps : List Program) (cs : List Class) : Type 0 where
   pub numbered : AreNumbered tree
   pub few_nodes : length tree.rows ≤ most_nodes
   pub stations : HaveStations tree ss
@@ -74,4 +74,4 @@ pub record IsWhole (tree : Numbered) (ss : List Station) (ps : List Program) (cs
   pub leaves : HaveLeaves tree cs
   pub few : length cs ≤ most_classes
   pub catch_all : HasCatchAll (map (λ c. c.conditions) cs)
-  pub accepted : IsAccepted (resolved tree ss ps cs).policy
+  pub accepted : IsAccepted (resolved version tree ss ps cs).policy

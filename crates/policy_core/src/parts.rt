@@ -10,12 +10,15 @@ pub struct Marks {
     pub slack: u64,
 }
 
-/// A node or a leaf: its name, the place of its transaction among the checked ones, and its marks.
+/// A node or a leaf: its name, the name of its transaction and its place among the checked ones, its marks, and the most
+/// packets that it holds, where it is a leaf with a limit.
 #[derive(Drop)]
 pub struct Station {
     pub name: Name,
+    pub using: Name,
     pub program: usize,
     pub marks: Marks,
+    pub limit: Option<u32>,
 }
 
 /// A class of packets: its marks, what a packet of it has to meet, and the number in preorder of the leaf that holds its packets.

@@ -23,6 +23,7 @@ use tree_graph::Preorder;
 /// An accepted policy. Its nodes and leaves are numbered in preorder from the root, which is 0.
 #[derive(Drop)]
 pub struct Policy {
+    version: u32,
     tree: Preorder,
     stations: List<Station>,
     programs: List<Checked>,
@@ -38,14 +39,15 @@ impl Model for Policy {
 
     ghost coded = { resolved_code };
 
-    ghost view = { λ p. resolved p.tree p.stations p.programs p.classes };
+    ghost view = { λ p. resolved p.version p.tree p.stations p.programs p.classes };
 
-    ghost invariant = { λ p. IsWhole p.tree p.stations p.programs p.classes };
+    ghost invariant = { λ p. IsWhole p.version p.tree p.stations p.programs p.classes };
 }
 
 impl Policy {
-    /// A policy of these parts: each node of the tree is the place of its station, each station has the place of its transaction.
+    /// A policy of this version and these parts: each node of the tree is the place of its station, each station has the place of its transaction.
     pub fn new(
+        version: u32,
         tree: Preorder,
         stations: List<Station>,
         programs: List<Checked>,
@@ -58,15 +60,23 @@ impl Policy {
         requires leaves { HaveLeaves tree classes }
         requires few { length classes ≤ most_classes }
         requires catch_all { HasCatchAll (map (λ c. c.conditions) classes) }
-        requires accepted { IsAccepted (resolved tree stations programs classes).policy }
-        ensures policy { result ≡ resolved tree stations programs classes }
+        requires accepted { IsAccepted (resolved version tree stations programs classes).policy }
+        ensures policy { result ≡ resolved version tree stations programs classes }
     {
         Policy {
+            version,
             tree,
             stations,
             programs,
             classes,
         }
+    }
+
+    /// The version that the policy's first line says.
+    pub fn version(&self) -> u32
+        ensures version { result ≡ self.now.policy.version }
+    {
+        self.version
     }
 
     /// The shape of the tree.
@@ -149,6 +159,24 @@ impl Policy {
         ensures marks { HasAt self.now.policy.tree node (λ n. told result ≡ n.marks) }
     {
         station_of(&self.tree, self.stations.as_slice(), node).marks
+    }
+
+    /// The most packets that a leaf holds. None for an inner node and for a leaf without a limit.
+    pub fn limit(&self, node: u32) -> Option<u32>
+        requires there { node < nodes self.now.policy.tree }
+        ensures limit { HasAt self.now.policy.tree node (λ n. result ≡ n.limit) }
+    {
+        station_of(&self.tree, self.stations.as_slice(), node).limit
+    }
+
+    /// The name of a node's or leaf's transaction, as it is written.
+    pub fn using(&self, node: u32) -> &str
+        requires there { node < nodes self.now.policy.tree }
+        ensures using { HasAt self.now.policy.tree node (λ n. result.now ≡ n.using) }
+    {
+        station_of(&self.tree, self.stations.as_slice(), node)
+            .using
+            .as_str()
     }
 
     /// The classes, the first to be tried first, each with the number of its leaf.

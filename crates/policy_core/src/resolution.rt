@@ -15,7 +15,7 @@ use crate::stations::stations;
 use list_core::List;
 use policy_declarations::{Spaces, declarations};
 use policy_family::{check_family, graph};
-use policy_listings::{check_leaves, check_parents};
+use policy_listings::{check_leaves, check_limits, check_parents, version};
 use policy_places::leaves;
 use policy_programs::checked_transactions;
 use policy_rules::PolicyFault;
@@ -46,7 +46,7 @@ fn assemble(
     let stations = stations(alloc, lines, &spaces.transactions)?;
     let leaves = leaves(alloc, lines, &spaces.classes, &tree)?;
     let classes = classes(alloc, lines, leaves.as_slice())?;
-    Ok(Policy::new(tree, stations, programs, classes))
+    Ok(Policy::new(version(lines), tree, stations, programs, classes))
 }
 
 /// The policy that statements give, or the first clause that they fail.
@@ -63,6 +63,7 @@ fn accept(alloc: Global, lines: &[(u32, Statement)]) -> Result<Policy, PolicyFau
     let graph = graph(alloc, lines, &spaces.nodes)?;
     check_family(alloc, lines, &spaces.nodes, graph.as_slice())?;
     check_leaves(alloc, lines)?;
+    check_limits(lines)?;
     Ok(assemble(alloc, lines, &spaces, programs, graph.as_slice())?)
 }
 

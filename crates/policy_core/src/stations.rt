@@ -43,14 +43,17 @@ fn station(
     name: &Name,
     used: &Name,
     attrs: &Attrs,
+    limit: Option<u32>,
 ) -> Result<Station, AllocError>
     ensures station { WhereDeclared transactions.now (λ es. is_transaction_known es used.now ≡ true
-        → IfOk result (IsStationOf es name.now used.now attrs.now)) }
+        → IfOk result (IsStationOf es name.now used.now attrs.now limit)) }
 {
     Ok(Station {
         name: Name::new(alloc, name.as_str())?,
+        using: Name::new(alloc, used.as_str())?,
         program: program(transactions, used.as_str()),
         marks: marks(attrs),
+        limit,
     })
 }
 
@@ -65,8 +68,11 @@ fn add_station(
         → HavePrograms stations.old (known_programs es) → OnOk result (AreMore es (sense_of statement.now) stations.old stations.new)) }
 {
     match statement {
-        Statement::Leaf(name, used, attrs, _) | Statement::Node(name, used, attrs, _) => {
-            stations.push(station(alloc, transactions, name, used, attrs)?)
+        Statement::Leaf(name, used, attrs, limit, _) => {
+            stations.push(station(alloc, transactions, name, used, attrs, *limit)?)
+        }
+        Statement::Node(name, used, attrs, _) => {
+            stations.push(station(alloc, transactions, name, used, attrs, None)?)
         }
         _ => Ok(()),
     }

@@ -2,7 +2,7 @@
 ghost use Rattle.std.specs.Prelude.{◌<◌};
 ghost use Rattle.tree_defs.specs.Tree.{nodes};
 
-use crate::{Marks, Policy, resolve};
+use crate::{Marks, Policy, PolicyFault, resolve};
 use policy_defs::NodeNames;
 use policy_text::parse;
 use std::alloc::Global;
@@ -19,6 +19,19 @@ const THREE_LEVELS: &[u8] = b"policy 1\n\
 
 const ONE_LEAF: &[u8] = b"policy 1\nclass all\nleaf root using fifo classes all\n";
 
+/// A root above a leaf and a node that is above two, of which one has the least limit and one the greatest.
+const LIMITED: &[u8] = b"policy 2\n\
+    transaction own\n\
+    push rank = now\n\
+    class first when ipv4\n\
+    class second when ipv6\n\
+    class rest\n\
+    leaf deep using own limit 4194304 classes first\n\
+    leaf right using fifo limit 1 classes second\n\
+    leaf open using own classes rest\n\
+    node left using shortest children deep right\n\
+    node root using own children left open\n";
+
 const PLAIN: Marks = Marks {
     prio: 0,
     weight: 1,
@@ -34,6 +47,13 @@ const URGENT: Marks = Marks {
 fn policy(alloc: Global, text: &[u8]) -> Result<Policy, Fail> {
     let lines = parse(alloc, text)?;
     Ok(resolve(alloc, &lines)?)
+}
+
+/// The clause that a version with these statements fails, and the line.
+fn fault(alloc: Global, version: u32, statements: &str) -> Result<Option<PolicyFault>, Fail> {
+    let text = format!(in alloc; "policy {version}\n{statements}")?;
+    let lines = parse(alloc, text.as_bytes())?;
+    Ok(resolve(alloc, &lines).err())
 }
 
 /// The name of a node, by the bound alone.
@@ -56,6 +76,14 @@ fn told(policy: &Policy, node: u32) -> Option<(&str, &str, usize, bool, usize, M
         policy.checked(node).transaction().push.len(),
         policy.attrs(node),
     ))
+}
+
+/// A node's name, that of its transaction, and its limit.
+fn held(policy: &Policy, node: u32) -> Option<(&str, &str, Option<u32>)> {
+    if node >= policy.count() {
+        return None;
+    }
+    Some((policy.name(node), policy.using(node), policy.limit(node)))
 }
 
 /// The child of a node at a digit, where another node has the address of the node with the digit behind it.
@@ -119,5 +147,65 @@ fn one_leaf_is_a_policy(rt: HostRuntime) -> Result<(), Fail> {
     assert_eq!(rt; policy.depth(), 0);
     assert_eq!(rt; told(&policy, 0), Some(("root", "root", 0, true, 0, PLAIN)));
     assert_eq!(rt; policy.classes().len(), 1);
+    Ok(())
+}
+
+#[test]
+fn version_1_has_no_limits(rt: HostRuntime) -> Result<(), Fail> {
+    let policy = policy(rt.alloc(), THREE_LEVELS)?;
+    assert_eq!(rt; policy.version(), 1);
+    for (node, expected) in [
+        (0, ("root", "fifo", None)),
+        (1, ("left", "shortest", None)),
+        (2, ("deep", "fifo", None)),
+        (3, ("right", "fifo", None)),
+    ] {
+        assert_eq!(rt; held(&policy, node), Some(expected), "node {node}");
+    }
+    Ok(())
+}
+
+#[test]
+fn limits_of_leaves_are_told(rt: HostRuntime) -> Result<(), Fail> {
+    let policy = policy(rt.alloc(), LIMITED)?;
+    assert_eq!(rt; policy.version(), 2);
+    for (node, expected) in [
+        (0, ("root", "own", None)),
+        (1, ("left", "shortest", None)),
+        (2, ("deep", "own", Some(4_194_304))),
+        (3, ("right", "fifo", Some(1))),
+        (4, ("open", "own", None)),
+    ] {
+        assert_eq!(rt; held(&policy, node), Some(expected), "node {node}");
+    }
+    Ok(())
+}
+
+#[test]
+fn a_limit_is_refused_in_version_1_after_all_else(rt: HostRuntime) -> Result<(), Fail> {
+    let leaf = "class all\nleaf root using fifo limit 9 classes all\n";
+    let leaves =
+        "class a when ipv4\nclass b when ipv6\nclass all\nnode root using rr children c d e\n\
+        leaf c using fifo classes a\n# the second and the third leaf have limits\n\
+        leaf d using fifo limit 64 classes b\nleaf e using fifo limit 1 classes all\n";
+    let caught_by_none = "leaf root using fifo limit 9 classes all\nclass all when ipv4\n";
+    let listed_by_none = "leaf root using fifo limit 9 classes a\nclass a\nclass all\n";
+    let named_twice = "leaf root using fifo limit 9 classes all\nclass all\nclass all\n";
+    for (version, statements, expected) in [
+        (1, leaf, Some(PolicyFault::OldVersion(3))),
+        (2, leaf, None),
+        (1, leaves, Some(PolicyFault::OldVersion(8))),
+        (2, leaves, None),
+        (1, caught_by_none, Some(PolicyFault::NoCatchAll)),
+        (2, caught_by_none, Some(PolicyFault::NoCatchAll)),
+        (1, listed_by_none, Some(PolicyFault::ClassLeaf(4))),
+        (1, named_twice, Some(PolicyFault::Twice(4))),
+    ] {
+        assert_eq!(rt;
+            fault(rt.alloc(), version, statements)?,
+            expected,
+            "version {version}: {statements}"
+        );
+    }
     Ok(())
 }

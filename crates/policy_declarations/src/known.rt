@@ -71,7 +71,7 @@ fn is_known(spaces: &Spaces, variables: &Names, statement: &Statement) -> bool
         Statement::Pop(name, value) => {
             variables.contains(name.as_str()) && are_operands_known(variables, value)
         }
-        Statement::Leaf(_, used, _, classes) => {
+        Statement::Leaf(_, used, _, _, classes) => {
             is_transaction_known(spaces, used.as_str())
                 && are_among(classes.as_slice(), &spaces.classes)
         }

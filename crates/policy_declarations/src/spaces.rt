@@ -47,7 +47,7 @@ impl<'a> Spaces<'a> {
                 variables.contains(name.as_str())
             }
             Statement::Class(name, _, _) => self.classes.contains(name.as_str()),
-            Statement::Leaf(name, _, _, _) | Statement::Node(name, _, _, _) => {
+            Statement::Leaf(name, _, _, _, _) | Statement::Node(name, _, _, _) => {
                 self.nodes.contains(name.as_str())
             }
         }
@@ -66,7 +66,7 @@ impl<'a> Spaces<'a> {
                 self.classes.add(name.as_str())?;
                 Ok(())
             }
-            Statement::Leaf(name, _, _, _) | Statement::Node(name, _, _, _) => {
+            Statement::Leaf(name, _, _, _, _) | Statement::Node(name, _, _, _) => {
                 self.nodes.add(name.as_str())?;
                 Ok(())
             }

@@ -47,6 +47,7 @@ fn leaf(alloc: Global, name: &str, used: &str, class: &str) -> Result<Statement,
         Name::new(alloc, name)?,
         Name::new(alloc, used)?,
         UNSET,
+        None,
         listed,
     ))
 }

@@ -1,4 +1,5 @@
--- An accepted policy: a tree of nodes, each with a transaction, and classes of packets, each with a leaf.
+-- An accepted policy: a tree of nodes, each with a transaction, and classes of packets, each with a leaf, which may have a
+-- limit on its packets.
 use Rattle.std.specs.Prelude.{ℕ, zero, suc, List, [], ◌∷◌, Option, Some, None, codes, slice_get}
 use Rattle.std.specs.Option.{option_map_or}
 use Rattle.tree_defs.specs.Tree.{Tree, leaf, inner, Trees, none, more, Address}
@@ -18,8 +19,12 @@ no_marks = record { prio = 0; weight = 1; slack = 0 }
 -- what the policy says of a node or a leaf
 pub record Node : Type 0 where
   pub name : List ℕ
+  -- the transaction's name, as it is written
+  pub using : List ℕ
   pub program : Program
   pub marks : Marks
+  -- the most packets that a leaf holds, where it has a limit
+  pub limit : Option ℕ
 
 -- a class of packets: its marks, and the address of the leaf that holds its packets
 pub record Class : Type 0 where
@@ -27,6 +32,7 @@ pub record Class : Type 0 where
   pub leaf : Address
 
 pub record Policy : Type 0 where
+  pub version : ℕ
   pub tree : Tree Node
   pub classes : List Class
 
@@ -47,6 +53,10 @@ abbrev mutual
 abbrev pub name_at : Policy → Address → List ℕ
 name_at policy a = option_map_or (λ n. n.name) (node_at policy.tree a) []
 
+-- the limit of the leaf at an address, if it has one
+abbrev pub limit_at : Policy → Address → Option ℕ
+limit_at policy a = option_map_or (λ n. n.limit) (node_at policy.tree a) None
+
 -- the class of a number
 abbrev pub class_at : Policy → ℕ → Option Class
 class_at policy n = slice_get policy.classes n
@@ -54,6 +64,7 @@ class_at policy n = slice_get policy.classes n
 -- one leaf, `root`, served first in first out, for all packets
 abbrev pub one_leaf : Policy
 one_leaf = record {
-  tree = leaf (record { name = codes "root"; program = fifo; marks = no_marks });
+  version = 1;
+  tree = leaf (record { name = codes "root"; using = codes "fifo"; program = fifo; marks = no_marks; limit = None });
   classes = record { marks = no_marks; leaf = [] } ∷ [];
 }

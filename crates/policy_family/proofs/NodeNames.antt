@@ -31,7 +31,7 @@ not-again earlier (each n s) h = refl
 not-again earlier (push n t) h = refl
 not-again earlier (pop n t) h = refl
 not-again earlier (class n a cs) h = refl
-not-again earlier (leaf n u a ns) h = h
+not-again earlier (leaf n u a l ns) h = h
 not-again earlier (node n u a ns) h = h
 
 children-known : (es earlier : List Entry) (s : Sense) → is_known es earlier s ≡ true → list_all (has (declared node_name es)) (children s) ≡ true
@@ -42,7 +42,7 @@ children-known es earlier (each n s) h = refl
 children-known es earlier (push n t) h = refl
 children-known es earlier (pop n t) h = refl
 children-known es earlier (class n a cs) h = refl
-children-known es earlier (leaf n u a ns) h = refl
+children-known es earlier (leaf n u a l ns) h = refl
 children-known es earlier (node n u a ns) h = (and_parts (is_transaction_known es u) (list_all (has (declared node_name es)) ns) h).1
 
 room-before : (earlier : List Entry) (s : Sense) → is_beyond earlier s ≡ false → length (declared node_name earlier) ≤ most_nodes → length (declared node_name earlier ++ cons_option (node_name s) []) ≤ most_nodes
@@ -53,7 +53,7 @@ room-before earlier (each n s) h few = omega (arith, few, length-append (declare
 room-before earlier (push n t) h few = omega (arith, few, length-append (declared node_name earlier) [])
 room-before earlier (pop n t) h few = omega (arith, few, length-append (declared node_name earlier) [])
 room-before earlier (class n a cs) h few = omega (arith, few, length-append (declared node_name earlier) [])
-room-before earlier (leaf n u a ns) h few = (let ne : length (declared node_name earlier) ≢ most_nodes = eqb-false _ _ h in omega (arith, few, ne, length-append (declared node_name earlier) (n ∷ [])))
+room-before earlier (leaf n u a l ns) h few = (let ne : length (declared node_name earlier) ≢ most_nodes = eqb-false _ _ h in omega (arith, few, ne, length-append (declared node_name earlier) (n ∷ [])))
 room-before earlier (node n u a ns) h few = (let ne : length (declared node_name earlier) ≢ most_nodes = eqb-false _ _ h in omega (arith, few, ne, length-append (declared node_name earlier) (n ∷ [])))
 
 pub some-entry : Entry

@@ -53,7 +53,7 @@ fn add_family(
         ++ map (map (place nodes.now)) (option_to_list (family (sense_of statement.now)))) }
 {
     match statement {
-        Statement::Leaf(_, _, _, _) => graph.push(Vec::new(alloc))?,
+        Statement::Leaf(..) => graph.push(Vec::new(alloc))?,
         Statement::Node(_, _, _, children) => {
             graph.push(numbers(alloc, nodes, children.as_slice())?)?
         }

@@ -1,5 +1,5 @@
 //! Tests of parents, children and the root.
-ghost use Rattle.std.specs.Prelude.{◌≡◌, [], ◌∷◌, codes, IfOk};
+ghost use Rattle.std.specs.Prelude.{◌≡◌, None, [], ◌∷◌, codes, IfOk};
 ghost use Rattle.policy_text_defs.specs.Sense.{sense_of, leaf, node};
 ghost use Rattle.policy_rules.specs.Entries.{entries_of};
 ghost use Rattle.policy_rules.specs.Rows.{nothing_set};
@@ -20,12 +20,12 @@ const NOTHING_SET: Attrs = Attrs {
 };
 
 fn leaf(alloc: Global, name: &str) -> Result<Statement, AllocError>
-    ensures { IfOk result (λ s. sense_of s ≡ leaf name.now (codes "fifo") nothing_set []) }
+    ensures { IfOk result (λ s. sense_of s ≡ leaf name.now (codes "fifo") nothing_set None []) }
 {
     let name = Name::new(alloc, name)?;
     let used = Name::new(alloc, "fifo")?;
     let classes = List::from_vec(Vec::new(alloc));
-    Ok(Statement::Leaf(name, used, NOTHING_SET, classes))
+    Ok(Statement::Leaf(name, used, NOTHING_SET, None, classes))
 }
 
 fn node(alloc: Global, name: &str, child: &str) -> Result<Statement, AllocError>

@@ -5,12 +5,12 @@ use Rattle.std.proofs.lemmas.List.{get_or_default}
 use Rattle.rank_defs.specs.Checks.{Entry as Assigning, SomeAt, NoneAt, IsLeastAt, Clashes, IsWide, MayDivideByZero, entries as assignments_of}
 use Rattle.rank_defs.proofs.Faults.{faultless-checked}
 use Rattle.policy_text_defs.specs.Sense.{Entry}
-use Rattle.policy_rules.specs.Clauses.{IsLeastLine, NoLine, IsMisplaced, IsAgain, IsUnknown, IsBeyond, IsOrphan, has_root, IsStray, has_catch_all}
+use Rattle.policy_rules.specs.Clauses.{IsLeastLine, NoLine, IsMisplaced, IsAgain, IsUnknown, IsBeyond, IsOrphan, has_root, IsStray, has_catch_all, IsAhead}
 use Rattle.policy_rules.specs.Families.{IsCyclic, IsTooDeep}
 use Rattle.policy_rules.specs.Programs.{programs}
-use Rattle.policy_rules.specs.Accepted.{ArePlaced, AreNew, AreKnown, AreFew, AreComputable, HaveParents, HaveRoot, AreAcyclic, AreShallow, HaveLeaves, IsFault}
+use Rattle.policy_rules.specs.Accepted.{ArePlaced, AreNew, AreKnown, AreFew, AreComputable, HaveParents, HaveRoot, AreAcyclic, AreShallow, HaveLeaves, HaveCatchAll, IsFault}
 use Rattle.policy_rules.specs.declared.fault.PolicyFault.{PolicyFault}
-use Rattle.policy_rules.specs.declared.fault.PolicyFault.TheVariants.{Misplaced, Twice, Unknown, TooMany, TypeClash, Wide, DivZero, Parents, NoRoot, Cycle, Deep, ClassLeaf, NoCatchAll, NoMemory}
+use Rattle.policy_rules.specs.declared.fault.PolicyFault.TheVariants.{Misplaced, Twice, Unknown, TooMany, TypeClash, Wide, DivZero, Parents, NoRoot, Cycle, Deep, ClassLeaf, NoCatchAll, OldVersion, NoMemory}
 use Rattle.policy_laws.specs.Laws.{FaultlessAreAccepted}
 
 -- ---- where no line is the least, there is none
@@ -87,5 +87,8 @@ module _ (es : List Entry) (none : (f : PolicyFault) → (f ≡ NoMemory → ⊥
   leaves : HaveLeaves es
   leaves = (shallow, no-line (IsStray es) es (λ n h. none (ClassLeaf n) (λ e. cc) (shallow, h)))
 
+  caught : HaveCatchAll es
+  caught = (leaves, true-unless (has_catch_all es) (λ h. none NoCatchAll (λ e. cc) (leaves, h)))
+
 pub accepted : FaultlessAreAccepted
-accepted es none = (leaves es none, true-unless (has_catch_all es) (λ h. none NoCatchAll (λ e. cc) (leaves es none, h)))
+accepted es none = (caught es none, no-line (IsAhead es) es (λ n h. none (OldVersion n) (λ e. cc) (caught es none, h)))

@@ -24,13 +24,13 @@ use Rattle.policy_laws.proofs.OnePlace.{one-address}
 
 -- ---- what accepted statements have
 new-there : (es : List Entry) → AreAccepted es → NoLine (IsAgain es) es
-new-there es accepted = (let r : HaveRoot es = accepted.0.0.0.0 in let known : AreKnown es = r.0.0.0.0 in known.0.1)
+new-there es accepted = (let r : HaveRoot es = accepted.0.0.0.0.0 in let known : AreKnown es = r.0.0.0.0 in known.0.1)
 
 parents-there : (es : List Entry) → AreAccepted es → NoLine (IsOrphan es) es
-parents-there es accepted = (let r : HaveRoot es = accepted.0.0.0.0 in r.0.1)
+parents-there es accepted = (let r : HaveRoot es = accepted.0.0.0.0.0 in r.0.1)
 
 acyclic-there : (es : List Entry) → AreAccepted es → NoLine (IsCyclic es) es
-acyclic-there es accepted = (let r : AreAcyclic es = accepted.0.0.0 in r.1)
+acyclic-there es accepted = (let r : AreAcyclic es = accepted.0.0.0.0 in r.1)
 
 -- ---- the leaf of a class
 lister-name : (n c : Name) (s : Sense) → ListsClass n c s → node_name s ≡ Some n
@@ -41,7 +41,7 @@ lister-name n c (each m s) h = absurd h
 lister-name n c (push m t) h = absurd h
 lister-name n c (pop m t) h = absurd h
 lister-name n c (class m a cs) h = absurd h
-lister-name n c (leaf m u a ns) h = ap Some h.0
+lister-name n c (leaf m u a l ns) h = ap Some h.0
 lister-name n c (node m u a ns) h = absurd h
 
 lister-classes : (n c : Name) (s : Sense) → ListsClass n c s → Contains (leaf_classes s) c
@@ -52,7 +52,7 @@ lister-classes n c (each m s) h = absurd h
 lister-classes n c (push m t) h = absurd h
 lister-classes n c (pop m t) h = absurd h
 lister-classes n c (class m a cs) h = absurd h
-lister-classes n c (leaf m u a ns) h = h.1
+lister-classes n c (leaf m u a l ns) h = h.1
 lister-classes n c (node m u a ns) h = absurd h
 
 -- leaves that list one class have one name
@@ -94,14 +94,15 @@ each-declared names [] all = tt
 each-declared names (d ∷ ds) all = (all.0, each-declared names ds all.1)
 
 -- ---- the policy
-one-resolved : (r s : Resolved) → r.policy.tree ≡ s.policy.tree → r.policy.classes ≡ s.policy.classes → r.conditions ≡ s.conditions → r ≡ s
-one-resolved r s trees classes conditions =
-    ap (λ (t : Tree Node). record { policy = record { tree = t; classes = r.policy.classes }; conditions = r.conditions }) trees
-    ∙ ap (λ (cs : List Class). record { policy = record { tree = s.policy.tree; classes = cs }; conditions = r.conditions }) classes
+one-resolved : (r s : Resolved) → r.policy.version ≡ s.policy.version → r.policy.tree ≡ s.policy.tree → r.policy.classes ≡ s.policy.classes → r.conditions ≡ s.conditions → r ≡ s
+one-resolved r s versions trees classes conditions =
+    ap (λ v. record { policy = record { version = v; tree = r.policy.tree; classes = r.policy.classes }; conditions = r.conditions }) versions
+    ∙ ap (λ (t : Tree Node). record { policy = record { version = s.policy.version; tree = t; classes = r.policy.classes }; conditions = r.conditions }) trees
+    ∙ ap (λ (cs : List Class). record { policy = record { version = s.policy.version; tree = s.policy.tree; classes = cs }; conditions = r.conditions }) classes
     ∙ ap (λ (l : List (List Condition)). record { policy = s.policy; conditions = l }) conditions
 
 pub one-policy : StatementsGiveOnePolicy
-one-policy es r s rising accepted h k = one-resolved r s trees classes (h.conditions ∙ sym k.conditions)
+one-policy es r s rising accepted h k = one-resolved r s (h.version_is ∙ sym k.version_is) trees classes (h.conditions ∙ sym k.conditions)
   where
     trees : r.policy.tree ≡ s.policy.tree
     trees = one-tree es rising (new-there es accepted) r.policy.tree s.policy.tree h.tree k.tree (h.root_is ∙ sym k.root_is)

@@ -1,5 +1,5 @@
 -- Two trees of one root are one.
-use Rattle.std.proofs.Common.{◌≡◌, suc, ◌∙◌, List, [], length, drop, get_or, refl, sym, ap, arith, Some, Any}
+use Rattle.std.proofs.Common.{◌≡◌, ℕ, suc, ◌∙◌, List, [], length, drop, get_or, refl, sym, ap, arith, Option, Some, None, Any}
 use Rattle.tree_defs.specs.Tree.{Tree, leaf as leaf_of, inner, Trees, none, more, root_of}
 use Rattle.rank_defs.specs.Programs.{Program}
 use Rattle.policy_text_defs.specs.declared.attribute.Attrs.{Attrs}
@@ -22,7 +22,7 @@ leaf-name es n (each m s) h = absurd h
 leaf-name es n (push m t) h = absurd h
 leaf-name es n (pop m t) h = absurd h
 leaf-name es n (class m a cs) h = absurd h
-leaf-name es n (leaf m u a ns) h = ap Some (sym h.name_is)
+leaf-name es n (leaf m u a l ns) h = ap Some (sym h.name_is)
 leaf-name es n (node m u a ns) h = absurd h
 
 pub inner-name : (es : List Entry) (n : Node) (names : List Name) (s : Sense) → IsInnerOf es n names s → node_name s ≡ Some n.name
@@ -33,7 +33,7 @@ inner-name es n names (each m s) h = absurd h
 inner-name es n names (push m t) h = absurd h
 inner-name es n names (pop m t) h = absurd h
 inner-name es n names (class m a cs) h = absurd h
-inner-name es n names (leaf m u a ns) h = absurd h
+inner-name es n names (leaf m u a l ns) h = absurd h
 inner-name es n names (node m u a ns) h = ap Some (sym h.0.name_is)
 
 -- and lists the children
@@ -45,14 +45,16 @@ inner-children es n names (each m s) h = absurd h
 inner-children es n names (push m t) h = absurd h
 inner-children es n names (pop m t) h = absurd h
 inner-children es n names (class m a cs) h = absurd h
-inner-children es n names (leaf m u a ns) h = absurd h
+inner-children es n names (leaf m u a l ns) h = absurd h
 inner-children es n names (node m u a ns) h = h.1
 
-one-node : (es : List Entry) (n m : Node) (name used : Name) (a : Attrs) → IsNodeOf es n name used a → IsNodeOf es m name used a → n ≡ m
-one-node es n m name used a h k =
-    ap (λ (x : Name). record { name = x; program = n.program; marks = n.marks }) (h.name_is ∙ sym k.name_is)
-    ∙ ap (λ (p : Program). record { name = m.name; program = p; marks = n.marks }) (some-same (sym h.program_is ∙ k.program_is))
-    ∙ ap (λ (x : Marks). record { name = m.name; program = m.program; marks = x }) (h.marks_are ∙ sym k.marks_are)
+one-node : (es : List Entry) (n m : Node) (name used : Name) (a : Attrs) (limit : Option ℕ) → IsNodeOf es n name used a limit → IsNodeOf es m name used a limit → n ≡ m
+one-node es n m name used a limit h k =
+    ap (λ (x : Name). record { name = x; using = n.using; program = n.program; marks = n.marks; limit = n.limit }) (h.name_is ∙ sym k.name_is)
+    ∙ ap (λ (x : Name). record { name = m.name; using = x; program = n.program; marks = n.marks; limit = n.limit }) (h.using_is ∙ sym k.using_is)
+    ∙ ap (λ (p : Program). record { name = m.name; using = m.using; program = p; marks = n.marks; limit = n.limit }) (some-same (sym h.program_is ∙ k.program_is))
+    ∙ ap (λ (x : Marks). record { name = m.name; using = m.using; program = m.program; marks = x; limit = n.limit }) (h.marks_are ∙ sym k.marks_are)
+    ∙ ap (λ (l : Option ℕ). record { name = m.name; using = m.using; program = m.program; marks = m.marks; limit = l }) (h.limit_is ∙ sym k.limit_is)
 
 one-leaf : (es : List Entry) (n m : Node) (s : Sense) → IsLeafOf es n s → IsLeafOf es m s → n ≡ m
 one-leaf es n m (version v) h k = absurd h
@@ -62,7 +64,7 @@ one-leaf es n m (each w s) h k = absurd h
 one-leaf es n m (push w t) h k = absurd h
 one-leaf es n m (pop w t) h k = absurd h
 one-leaf es n m (class w a cs) h k = absurd h
-one-leaf es n m (leaf w u a ns) h k = one-node es n m w u a h k
+one-leaf es n m (leaf w u a l ns) h k = one-node es n m w u a l h k
 one-leaf es n m (node w u a ns) h k = absurd h
 
 one-inner : (es : List Entry) (n m : Node) (names others : List Name) (s : Sense) → IsInnerOf es n names s → IsInnerOf es m others s → n ≡ m
@@ -73,8 +75,8 @@ one-inner es n m names others (each w s) h k = absurd h
 one-inner es n m names others (push w t) h k = absurd h
 one-inner es n m names others (pop w t) h k = absurd h
 one-inner es n m names others (class w a cs) h k = absurd h
-one-inner es n m names others (leaf w u a ns) h k = absurd h
-one-inner es n m names others (node w u a ns) h k = one-node es n m w u a h.0 k.0
+one-inner es n m names others (leaf w u a l ns) h k = absurd h
+one-inner es n m names others (node w u a ns) h k = one-node es n m w u a None h.0 k.0
 
 leaf-not_inner : (es : List Entry) (n m : Node) (names : List Name) (s : Sense) → IsLeafOf es n s → IsInnerOf es m names s → ⊥
 leaf-not_inner es n m names (version v) h k = h
@@ -84,7 +86,7 @@ leaf-not_inner es n m names (each w s) h k = h
 leaf-not_inner es n m names (push w t) h k = h
 leaf-not_inner es n m names (pop w t) h k = h
 leaf-not_inner es n m names (class w a cs) h k = h
-leaf-not_inner es n m names (leaf w u a ns) h k = k
+leaf-not_inner es n m names (leaf w u a l ns) h k = k
 leaf-not_inner es n m names (node w u a ns) h k = h
 
 -- ---- trees, whose statements are the same all the way down

@@ -8,7 +8,7 @@ use Rattle.std.proofs.lemmas.List.Sums.{sum_by-cons}
 use Rattle.tree_defs.specs.Tree.{Tree, most_levels}
 use Rattle.policy_text_defs.specs.Sense.{Sense, Entry, version, transaction, keep, each, push, pop, class, leaf, node}
 use Rattle.policy_rules.specs.Names.{Name, has, declared, node_name, class_name, children, leaf_classes}
-use Rattle.policy_rules.specs.Clauses.{root}
+use Rattle.policy_rules.specs.Clauses.{root, version_of}
 use Rattle.policy_rules.specs.Entries.{AreRising}
 use Rattle.policy_rules.specs.Programs.{place}
 use Rattle.policy_rules.specs.Accepted.{AreAccepted}
@@ -44,7 +44,7 @@ lister-childless n c (each m s) h = absurd h
 lister-childless n c (push m t) h = absurd h
 lister-childless n c (pop m t) h = absurd h
 lister-childless n c (class m a cs) h = absurd h
-lister-childless n c (leaf m u a ns) h = refl
+lister-childless n c (leaf m u a l ns) h = refl
 lister-childless n c (node m u a ns) h = absurd h
 
 -- the statement of a node lists the class, and so it is a leaf
@@ -103,10 +103,10 @@ all-homes es all (c ∷ names) has_each =
 -- ---- the policy
 module _ (es : List Entry) (rising : AreRising es) (accepted : AreAccepted es) where
   forest : IsForest (graph_of es) (place (declared node_name es) root)
-  forest = is-forest es rising accepted.0.0.0
+  forest = is-forest es rising accepted.0.0.0.0
 
   shallow : IsWithin (graph_of es) (place (declared node_name es) root) most_levels 0
-  shallow = shallow-root (graph_of es) (place (declared node_name es) root) forest (λ i within. is-shallow es rising accepted.0.0 i)
+  shallow = shallow-root (graph_of es) (place (declared node_name es) root) forest (λ i within. is-shallow es rising accepted.0.0.0 i)
 
   below : HasTree (graph_of es) (place (declared node_name es) root)
   below = tree-there (graph_of es) (place (declared node_name es) root) most_levels shallow
@@ -125,10 +125,11 @@ module _ (es : List Entry) (rising : AreRising es) (accepted : AreAccepted es) w
 policy-of : (es : List Entry) (t : Tree ℕ) (ks : List ℕ) → IsTreeOf (graph_of es) t → IsNodeTree es t → AreHomes es (rows 0 [] t) ks → (r : Resolved) × IsResolved es r
 policy-of es t ks is_tree named at = (
   record {
-    policy = record { tree = nodes_at es t; classes = classes_at (rows 0 [] t) (classes_in es) ks };
+    policy = record { version = version_of es; tree = nodes_at es t; classes = classes_at (rows 0 [] t) (classes_in es) ks };
     conditions = map (λ (d : Declared). d.conditions) (classes_in es);
   },
   record {
+    version_is = refl;
     root_is = named.root_is;
     tree = named.tree;
     classes = classes-of es t ks is_tree at;

@@ -32,7 +32,7 @@ declares-again earlier (each m s) a is there = absurd (none-some is)
 declares-again earlier (push m t) a is there = absurd (none-some is)
 declares-again earlier (pop m t) a is there = absurd (none-some is)
 declares-again earlier (class m c cs) a is there = absurd (none-some is)
-declares-again earlier (leaf m u c ns) a is there = ap (has (declared node_name earlier)) (some-same is) ∙ there
+declares-again earlier (leaf m u c l ns) a is there = ap (has (declared node_name earlier)) (some-same is) ∙ there
 declares-again earlier (node m u c ns) a is there = ap (has (declared node_name earlier)) (some-same is) ∙ there
 
 -- of two statements the later one declares another name

@@ -16,7 +16,7 @@ pub fn faultless_are_accepted()
     ensures law { FaultlessAreAccepted }
 {}
 
-/// Accepted statements on rising lines give no second policy: no other tree, no other classes and no other conditions.
+/// Accepted statements on rising lines give no second policy: no other version, no other tree, no other classes and no other conditions.
 pub fn statements_give_one_policy()
     ensures law { StatementsGiveOnePolicy }
 {}

@@ -20,7 +20,7 @@ behind-cons found (n, push v t) es = refl
 behind-cons found (n, pop v t) es = refl
 behind-cons found (n, class c a []) es = refl
 behind-cons found (n, class c a (x ∷ cs)) es = refl
-behind-cons found (n, leaf l u a ns) es = refl
+behind-cons found (n, leaf l u a o ns) es = refl
 behind-cons found (n, node l u a ns) es = refl
 
 behind-push : (found : Bool) (es : List Entry) (e : Entry) → has_catch_all_behind found (es ++ e ∷ []) ≡ is_catch_all (has_catch_all_behind found es) e.1
@@ -59,5 +59,5 @@ at_another found (Each n s) other = refl
 at_another found (Push n t) other = refl
 at_another found (Pop n t) other = refl
 at_another found (Class n a cs) other = absurd (other n a cs refl)
-at_another found (Leaf n u a ns) other = refl
+at_another found (Leaf n u a l ns) other = refl
 at_another found (Node n u a ns) other = refl

@@ -117,7 +117,7 @@ class-one_leaf entries a none there = one_lister leaf_classes entries a (class-o
 
 -- a statement that lists a class is that of a leaf
 pub lists-leaf : (s : Sense) (a : Name) → Contains (leaf_classes s) a → (n : Name) × ((node_name s ≡ Some n) × ListsClass n a s)
-lists-leaf (leaf n u m ns) a lists = (n, (refl, (refl, lists)))
+lists-leaf (leaf n u m l ns) a lists = (n, (refl, (refl, lists)))
 lists-leaf (version v) a lists = absurd (omega (arith, lists.1))
 lists-leaf (transaction n) a lists = absurd (omega (arith, lists.1))
 lists-leaf (keep n s) a lists = absurd (omega (arith, lists.1))

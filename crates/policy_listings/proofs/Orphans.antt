@@ -1,5 +1,5 @@
 -- A node or leaf that may be an orphan.
-use Rattle.std.proofs.Common.{◌≡◌, Bool, true, false, not, ◌&&◌, List, ap, sym, ◌∙◌, Some, ◌⊎◌, inl, inr}
+use Rattle.std.proofs.Common.{◌≡◌, Bool, true, false, not, ◌&&◌, ℕ, List, ap, sym, ◌∙◌, Option, Some, ◌⊎◌, inl, inr}
 use Rattle.std.specs.Option.{option_map_or}
 use Rattle.std.specs.Str.{bytes_eq}
 use Rattle.policy_text_defs.specs.declared.attribute.Attrs.{Attrs}
@@ -17,6 +17,6 @@ orphan-counted all s a differs once named told counted was_true =
     ∙ ap (λ b. b && not (is_once all a)) (sym (sym told ∙ was_true))
     ∙ sym (ap (λ o. option_map_or (λ n. not (bytes_eq n root) && not (is_once all n)) o false) named)
 
-pub named : (s : Statement) (a : Name) → ((u : Name) × (m : Attrs) × (ns : List Name) × (s ≡ Leaf a u m ns)) ⊎ ((u : Name) × (m : Attrs) × (ns : List Name) × (s ≡ Node a u m ns)) → node_name (sense_of s) ≡ Some a
-named s a (inl (u, m, ns, is)) = ap (λ t. node_name (sense_of t)) is
+pub named : (s : Statement) (a : Name) → ((u : Name) × (m : Attrs) × (l : Option ℕ) × (ns : List Name) × (s ≡ Leaf a u m l ns)) ⊎ ((u : Name) × (m : Attrs) × (ns : List Name) × (s ≡ Node a u m ns)) → node_name (sense_of s) ≡ Some a
+named s a (inl (u, m, l, ns, is)) = ap (λ t. node_name (sense_of t)) is
 named s a (inr (u, m, ns, is)) = ap (λ t. node_name (sense_of t)) is

@@ -19,7 +19,7 @@ fn is_orphan(tally: &Tally, statement: &Statement) -> bool
     ensures { (all : List Name) → IsTallyOf tally.now all → result ≡ is_orphan all (sense_of statement.now) }
 {
     match statement {
-        Statement::Leaf(name, _, _, _) | Statement::Node(name, _, _, _) => {
+        Statement::Leaf(name, ..) | Statement::Node(name, ..) => {
             name.as_str() != "root" && !tally.is_once(name.as_str())
         }
         _ => false,
@@ -45,7 +45,7 @@ fn is_root(statement: &Statement) -> bool
     ensures { result ≡ is_root (sense_of statement.now) }
 {
     match statement {
-        Statement::Leaf(name, _, _, _) | Statement::Node(name, _, _, _) => name.as_str() == "root",
+        Statement::Leaf(name, ..) | Statement::Node(name, ..) => name.as_str() == "root",
         _ => false,
     }
 }

@@ -44,7 +44,7 @@ pub fn tally_classes<'a>(
 {
     let mut tally = Tally::new(alloc);
     for (_, statement) in lines {
-        if let Statement::Leaf(_, _, _, classes) = statement {
+        if let Statement::Leaf(_, _, _, _, classes) = statement {
             tally_names(&mut tally, classes.as_slice())?;
         }
     }

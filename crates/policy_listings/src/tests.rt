@@ -1,8 +1,8 @@
-//! Tests of listed classes and children.
+//! Tests of listed classes and children, and of limits.
 ghost use Rattle.std.specs.Prelude.{IfOk};
 ghost use Rattle.policy_rules.specs.Entries.{entries_of, AreRising};
 
-use crate::{check_leaves, check_parents};
+use crate::{check_leaves, check_limits, check_parents, version};
 use list_core::{List, Name};
 use policy_rules::PolicyFault;
 use policy_text_defs::{Attrs, Condition, Statement};
@@ -32,6 +32,34 @@ fn class(alloc: Global, name: &str, condition: Option<Condition>) -> Result<Stat
     Ok(Statement::Class(Name::new(alloc, name)?, UNSET, List::from_vec(conditions)))
 }
 
+/// A leaf with its limit, if it has one, and its classes.
+fn leaf_of(
+    alloc: Global,
+    name: &str,
+    limit: Option<u32>,
+    classes: &[&str],
+) -> Result<Statement, AllocError> {
+    let used = Name::new(alloc, "fifo")?;
+    Ok(Statement::Leaf(
+        Name::new(alloc, name)?,
+        used,
+        UNSET,
+        limit,
+        names(alloc, classes)?,
+    ))
+}
+
+/// A node with its children.
+fn node_of(alloc: Global, name: &str, children: &[&str]) -> Result<Statement, AllocError> {
+    let used = Name::new(alloc, "rr")?;
+    Ok(Statement::Node(
+        Name::new(alloc, name)?,
+        used,
+        UNSET,
+        names(alloc, children)?,
+    ))
+}
+
 /// A condition of the last class, a leaf with its classes, and a node with its children.
 fn lines(
     alloc: Global,
@@ -43,19 +71,23 @@ fn lines(
 {
     let web = class(alloc, "web", Some(Condition::Ipv4))?;
     let all = class(alloc, "all", condition)?;
-    let leaf = Statement::Leaf(
-        Name::new(alloc, leaf.0)?,
-        Name::new(alloc, "fifo")?,
-        UNSET,
-        names(alloc, leaf.1)?,
-    );
-    let node = Statement::Node(
-        Name::new(alloc, node.0)?,
-        Name::new(alloc, "rr")?,
-        UNSET,
-        names(alloc, node.1)?,
-    );
+    let leaf = leaf_of(alloc, leaf.0, None, leaf.1)?;
+    let node = node_of(alloc, node.0, node.1)?;
     Ok(vec![in alloc; (2, web), (3, all), (5, leaf), (6, node)]?)
+}
+
+/// A version, and two leaves with their limits.
+fn limited(
+    alloc: Global,
+    version: u32,
+    limits: (Option<u32>, Option<u32>),
+) -> Result<Vec<(u32, Statement)>, AllocError>
+    ensures rising { IfOk result (λ v. AreRising (entries_of v.items)) }
+{
+    let said = Statement::Version(version);
+    let a = leaf_of(alloc, "a", limits.0, &["web"])?;
+    let b = leaf_of(alloc, "b", limits.1, &["all"])?;
+    Ok(vec![in alloc; (1, said), (4, a), (7, b)]?)
 }
 
 #[test]
@@ -117,5 +149,27 @@ fn what_policies_list(rt: HostRuntime) -> Result<(), Fail> {
     }
     assert_eq!(rt; check_parents(alloc, &[]), Err(PolicyFault::NoRoot));
     assert_eq!(rt; check_leaves(alloc, &[]), Err(PolicyFault::NoCatchAll));
+    Ok(())
+}
+
+#[test]
+fn limits_and_versions(rt: HostRuntime) -> Result<(), Fail> {
+    let alloc = rt.alloc();
+    let table = [
+        (1, (None, None), Ok(())),
+        (1, (Some(1), None), Err(PolicyFault::OldVersion(4))),
+        (1, (None, Some(64)), Err(PolicyFault::OldVersion(7))),
+        (1, (Some(64), Some(64)), Err(PolicyFault::OldVersion(4))),
+        (2, (None, None), Ok(())),
+        (2, (Some(1), None), Ok(())),
+        (2, (Some(64), Some(64)), Ok(())),
+    ];
+    for (said, limits, expected) in table {
+        let lines = limited(alloc, said, limits)?;
+        assert_eq!(rt; version(lines.as_slice()), said);
+        assert_eq!(rt; check_limits(lines.as_slice()), expected);
+    }
+    assert_eq!(rt; version(&[]), 0);
+    assert_eq!(rt; check_limits(&[]), Ok(()));
     Ok(())
 }

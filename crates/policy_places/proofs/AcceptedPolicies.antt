@@ -16,7 +16,7 @@ use Rattle.policy_text_defs.specs.Statements.{IsName}
 use Rattle.policy_text_defs.specs.Valid.{IsValid, IsValidAttribute, AreValidAttributes}
 use Rattle.policy_text_defs.specs.Sense.{Sense, Entry, version, transaction, keep, each, push, pop, class, leaf, node}
 use Rattle.policy_defs.specs.Policy.{Node, Class, node_at, node_below}
-use Rattle.policy_defs.specs.Accepted.{AreMarksInRange, IsNodeReady, IsClassReady, HasFewChildren, HaveFewChildren, IsAccepted}
+use Rattle.policy_defs.specs.Accepted.{AreMarksInRange, IsNodeReady, IsClassReady, HasFewChildren, HaveFewChildren, HasLimitsAtLeaves, HaveLimitsAtLeaves, IsAccepted}
 use Rattle.policy_rules.specs.Names.{Name}
 use Rattle.policy_rules.specs.Clauses.{has_catch_all_behind}
 use Rattle.policy_rules.specs.Programs.{programs}
@@ -67,8 +67,8 @@ marks-in_range a valid = record {
 }
 
 -- ---- nodes
-node-ready : (es : List Entry) (n : Node) (name used : Name) (a : Attrs) → AreAccepted es → AllByRecursion IsShaped (programs es) → IsName name → AreValidAttributes a → IsNodeOf es n name used a → IsNodeReady n
-node-ready es n name used a accepted shaped named valid said = record {
+node-ready : (es : List Entry) (n : Node) (name used : Name) (a : Attrs) (limit : Option ℕ) → AreAccepted es → AllByRecursion IsShaped (programs es) → IsName name → AreValidAttributes a → IsNodeOf es n name used a limit → IsNodeReady n
+node-ready es n name used a limit accepted shaped named valid said = record {
   shaped = program-holds IsShaped es used n.program (shaped-parts builtins builtins-checked) shaped said.program_is;
   checked = program-holds IsChecked es used n.program (checked-parts builtins builtins-checked) (checked-there es accepted) said.program_is;
   marks = subst AreMarksInRange (sym said.marks_are) (marks-in_range a valid);
@@ -83,7 +83,7 @@ leaf-ready es n (each m s) accepted shaped valid said = absurd said
 leaf-ready es n (push m t) accepted shaped valid said = absurd said
 leaf-ready es n (pop m t) accepted shaped valid said = absurd said
 leaf-ready es n (class m a cs) accepted shaped valid said = absurd said
-leaf-ready es n (leaf m u a ns) accepted shaped valid said = node-ready es n m u a accepted shaped valid.0 valid.2 said
+leaf-ready es n (leaf m u a l ns) accepted shaped valid said = node-ready es n m u a l accepted shaped valid.0 valid.2 said
 leaf-ready es n (node m u a ns) accepted shaped valid said = absurd said
 
 inner-ready : (es : List Entry) (n : Node) (names : List Name) (s : Sense) → AreAccepted es → AllByRecursion IsShaped (programs es) → IsValid s → IsInnerOf es n names s → IsNodeReady n
@@ -94,8 +94,8 @@ inner-ready es n names (each m s) accepted shaped valid said = absurd said
 inner-ready es n names (push m t) accepted shaped valid said = absurd said
 inner-ready es n names (pop m t) accepted shaped valid said = absurd said
 inner-ready es n names (class m a cs) accepted shaped valid said = absurd said
-inner-ready es n names (leaf m u a ns) accepted shaped valid said = absurd said
-inner-ready es n names (node m u a ns) accepted shaped valid said = node-ready es n m u a accepted shaped valid.0 valid.2 said.0
+inner-ready es n names (leaf m u a l ns) accepted shaped valid said = absurd said
+inner-ready es n names (node m u a ns) accepted shaped valid said = node-ready es n m u a None accepted shaped valid.0 valid.2 said.0
 
 -- a statement of a list is valid
 valid-there : (es : List Entry) (P : Sense → Type 0) (R : Type 0) → AreValid es → ((s : Sense) → IsValid s → P s → R) → Any (λ (e : Entry). P e.1) es → R
@@ -115,6 +115,27 @@ mutual
   below-ready es (more t ts) zero a n accepted shaped valid said at = nodes-ready es t a n accepted shaped valid said.0 at
   below-ready es (more t ts) (suc i) a n accepted shaped valid said at = below-ready es ts i a n accepted shaped valid said.1 at
 
+-- ---- limits
+inner-unlimited : (es : List Entry) (n : Node) (names : List Name) (s : Sense) → IsInnerOf es n names s → n.limit ≡ None
+inner-unlimited es n names (version v) said = absurd said
+inner-unlimited es n names (transaction t) said = absurd said
+inner-unlimited es n names (keep m s) said = absurd said
+inner-unlimited es n names (each m s) said = absurd said
+inner-unlimited es n names (push m t) said = absurd said
+inner-unlimited es n names (pop m t) said = absurd said
+inner-unlimited es n names (class m a cs) said = absurd said
+inner-unlimited es n names (leaf m u a l ns) said = absurd said
+inner-unlimited es n names (node m u a ns) said = said.0.limit_is
+
+mutual
+  limits-at_leaves : (es : List Entry) (tree : Tree Node) → IsTreeIn es tree → HasLimitsAtLeaves tree
+  limits-at_leaves es (leaf_of n) said = tt
+  limits-at_leaves es (inner n ts) said = (inner-unlimited es n (names_of ts) said.0.1.1 said.0.4, limits-below es ts said.1)
+
+  limits-below : (es : List Entry) (ts : Trees Node) → AreTreesIn es ts → HaveLimitsAtLeaves ts
+  limits-below es none said = tt
+  limits-below es (more t ts) said = (limits-at_leaves es t said.0, limits-below es ts said.1)
+
 -- ---- classes
 classes-valid : (es : List Entry) → AllByRecursion (λ (e : Entry). IsValid e.1) es → AllByRecursion (λ (d : Declared). AreMarksInRange d.marks) (classes_in es)
 classes-valid [] valid = tt
@@ -125,7 +146,7 @@ classes-valid ((n, each m s) ∷ es) valid = classes-valid es valid.1
 classes-valid ((n, push m t) ∷ es) valid = classes-valid es valid.1
 classes-valid ((n, pop m t) ∷ es) valid = classes-valid es valid.1
 classes-valid ((n, class m a cs) ∷ es) valid = (marks-in_range a valid.0.1, classes-valid es valid.1)
-classes-valid ((n, leaf m u a ns) ∷ es) valid = classes-valid es valid.1
+classes-valid ((n, leaf m u a l ns) ∷ es) valid = classes-valid es valid.1
 classes-valid ((n, node m u a ns) ∷ es) valid = classes-valid es valid.1
 
 classes-ready : (es : List Entry) (tree : Tree Node) (ds : List Declared) (cs : List Class) → AllByRecursion (λ (d : Declared). AreMarksInRange d.marks) ds → AreClassesOf es tree ds cs → AllByRecursion (IsClassReady tree) cs
@@ -149,7 +170,7 @@ some-class ((n, each m s) ∷ es) last = some-class es last
 some-class ((n, push m t) ∷ es) last = some-class es last
 some-class ((n, pop m t) ∷ es) last = some-class es last
 some-class ((n, class m a cs) ∷ es) last = omega arith
-some-class ((n, leaf m u a ns) ∷ es) last = some-class es last
+some-class ((n, leaf m u a l ns) ∷ es) last = some-class es last
 some-class ((n, node m u a ns) ∷ es) last = some-class es last
 
 -- ---- sizes
@@ -179,4 +200,5 @@ acceptable es r accepted valid shaped resolved low few = record {
   some_class = omega (arith, as-many es r.policy.tree (classes_in es) r.policy.classes resolved.classes, some-class es (catch_all-there es accepted));
   levels = low;
   children = few-children r.policy.tree (2 ^ 32) refl few;
+  limits = limits-at_leaves es r.policy.tree resolved.tree;
 }

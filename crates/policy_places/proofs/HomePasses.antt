@@ -60,22 +60,22 @@ contained ns a there =
     let at : (k : ℕ) × (x : Name) × (k < length ns) × (get_or ns k x ≡ x) × (bytes_eq a x ≡ true) = Any-from_list_any (bytes_eq a) ns there in
     subst (λ (x : Name). Contains ns x) (sym ((bytes_eq-Decides a at.1).0 at.4)) (at.0, at.2, at.3)
 
-leaf-with : (es before after : List Entry) (n : ℕ) (m u : Name) (at : Attrs) (ns : List Name) (a : Name) → es ≡ before ++ entry n (leaf m u at ns) ∷ after → has ns a ≡ true
+leaf-with : (es before after : List Entry) (n : ℕ) (m u : Name) (at : Attrs) (limit : Option ℕ) (ns : List Name) (a : Name) → es ≡ before ++ entry n (leaf m u at limit ns) ∷ after → has ns a ≡ true
     → IsLeafWith es a (length (declared node_name before))
-leaf-with es before after n m u at ns a split there = record {
+leaf-with es before after n m u at limit ns a split there = record {
   within = omega (arith, ap length names, length-append (declared node_name before) (m ∷ declared node_name after), sym (length-map (nodes_in es) (λ (d : Node). d.name)), ap length (names-nodes es es));
   childless = children-at es i ∙ ap (map (place (declared node_name es))) none;
-  lists = (length before, entry n (leaf m u at ns), omega (arith, ap length split, length-append before (entry n (leaf m u at ns) ∷ after)), ap (λ l. get_or l (length before) (entry n (leaf m u at ns))) split ∙ get_or-append_seam before (entry n (leaf m u at ns)) after _, (own, contained ns a there));
+  lists = (length before, entry n (leaf m u at limit ns), omega (arith, ap length split, length-append before (entry n (leaf m u at limit ns) ∷ after)), ap (λ l. get_or l (length before) (entry n (leaf m u at limit ns))) split ∙ get_or-append_seam before (entry n (leaf m u at limit ns)) after _, (own, contained ns a there));
 }
   where
     i : ℕ
     i = length (declared node_name before)
 
     names : declared node_name es ≡ declared node_name before ++ m ∷ declared node_name after
-    names = ap (declared node_name) split ∙ filter_map-append (λ (f : Entry). node_name f.1) before (entry n (leaf m u at ns) ∷ after)
+    names = ap (declared node_name) split ∙ filter_map-append (λ (f : Entry). node_name f.1) before (entry n (leaf m u at limit ns) ∷ after)
 
     kin : families es ≡ families before ++ [] ∷ families after
-    kin = ap families split ∙ filter_map-append (λ (f : Entry). family f.1) before (entry n (leaf m u at ns) ∷ after)
+    kin = ap families split ∙ filter_map-append (λ (f : Entry). family f.1) before (entry n (leaf m u at limit ns) ∷ after)
 
     none : get_or (families es) i [] ≡ []
     none = ap (λ l. get_or l i []) kin ∙ ap (λ k. get_or (families before ++ [] ∷ families after) k []) (sym (length-families before)) ∙ get_or-append_seam (families before) [] (families after) []
@@ -108,15 +108,15 @@ pub node-within : (lines : List (ℕ × Statement)) (classes : List Name) (place
     → node_name (sense_of l.1) ≡ Some a → length places ≡ length (graph_of (entries_of lines)) → IsPassing lines classes places i node leaves → node < length places
 node-within lines classes places leaves i node l a short is declares size so_far = omega (arith, given-within node_name lines i l a short is declares, length-graph (entries_of lines), size, so_far.node_is)
 
-pub pass-leaf : (lines : List (ℕ × Statement)) (classes : List Name) (places leaves leaves' : List ℕ) (i node leaf : ℕ) (l : ℕ × Statement) (m u : Name) (at : Attrs) (ns : List Name) → i < length lines → l ≡ get_or lines i l
-    → l.1 ≡ statement.Leaf m u at ns → leaf ≡ slice_index places node → ArePut classes ns leaf leaves leaves' → IsPassing lines classes places i node leaves → IsPassing lines classes places (i + 1) (node + 1) leaves'
-pass-leaf lines classes places leaves leaves' i node home l m u at ns short is own there put so_far = record {
+pub pass-leaf : (lines : List (ℕ × Statement)) (classes : List Name) (places leaves leaves' : List ℕ) (i node leaf : ℕ) (l : ℕ × Statement) (m u : Name) (at : Attrs) (limit : Option ℕ) (ns : List Name) → i < length lines → l ≡ get_or lines i l
+    → l.1 ≡ statement.Leaf m u at limit ns → leaf ≡ slice_index places node → ArePut classes ns leaf leaves leaves' → IsPassing lines classes places i node leaves → IsPassing lines classes places (i + 1) (node + 1) leaves'
+pass-leaf lines classes places leaves leaves' i node home l m u at limit ns short is own there put so_far = record {
   node_is = omega (arith, so_far.node_is, counted-more node_name lines i l m short is (ap (λ s. node_name (sense_of s)) own));
   len = put.len ∙ so_far.len;
   placed = λ a listed_now known. by a listed_now known (cases_Bool (has ns a));
 }
   where
-    split : entries_of lines ≡ entries_of (take i lines) ++ entry l.0 (sense_of (statement.Leaf m u at ns)) ∷ entries_of (drop (suc i) lines)
+    split : entries_of lines ≡ entries_of (take i lines) ++ entry l.0 (sense_of (statement.Leaf m u at limit ns)) ∷ entries_of (drop (suc i) lines)
     split = entries-split lines i l short is ∙ ap (λ s. entries_of (take i lines) ++ entry l.0 (sense_of s) ∷ entries_of (drop (suc i) lines)) own
 
     more : (a : Name) → has (listed leaf_classes (entries_of (take (i + 1) lines))) a ≡ (has (listed leaf_classes (entries_of (take i lines))) a || has ns a)
@@ -127,7 +127,7 @@ pass-leaf lines classes places leaves leaves' i node home l m u at ns short is o
     by : (a : Name) → has (listed leaf_classes (entries_of (take (i + 1) lines))) a ≡ true → has classes a ≡ true → (has ns a ≡ true) ⊎ (has ns a ≡ false) → IsLeafPlace (entries_of lines) places a (slice_index leaves' (place classes a))
     by a listed_now known (inl here) = record {
       number = length (declared node_name (entries_of (take i lines)));
-      leaf = leaf-with (entries_of lines) (entries_of (take i lines)) (entries_of (drop (suc i) lines)) l.0 m u at ns a split here;
+      leaf = leaf-with (entries_of lines) (entries_of (take i lines)) (entries_of (drop (suc i) lines)) l.0 m u at limit ns a split here;
       at = put.put a known ∙ ap (λ b. if b then home else slice_index leaves (place classes a)) here ∙ there ∙ ap (slice_index places) so_far.node_is;
     }
     by a listed_now known (inr other) =
@@ -152,7 +152,7 @@ pub record IsNeither (s : Statement) : Type 0 where
   pub unnamed : node_name (sense_of s) ≡ None
   pub unlisted : leaf_classes (sense_of s) ≡ []
 
-pub neither : (s : Statement) → ((n u : Name) (a : Attrs) (ns : List Name) → s ≡ statement.Leaf n u a ns → ⊥) → ((n u : Name) (a : Attrs) (ns : List Name) → s ≡ statement.Node n u a ns → ⊥) → IsNeither s
+pub neither : (s : Statement) → ((n u : Name) (a : Attrs) (l : Option ℕ) (ns : List Name) → s ≡ statement.Leaf n u a l ns → ⊥) → ((n u : Name) (a : Attrs) (ns : List Name) → s ≡ statement.Node n u a ns → ⊥) → IsNeither s
 neither (statement.Version v) no_leaf no_node = record { unnamed = refl; unlisted = refl }
 neither (statement.Transaction n) no_leaf no_node = record { unnamed = refl; unlisted = refl }
 neither (statement.Keep n s) no_leaf no_node = record { unnamed = refl; unlisted = refl }
@@ -160,7 +160,7 @@ neither (statement.Each n s) no_leaf no_node = record { unnamed = refl; unlisted
 neither (statement.Push n t) no_leaf no_node = record { unnamed = refl; unlisted = refl }
 neither (statement.Pop n t) no_leaf no_node = record { unnamed = refl; unlisted = refl }
 neither (statement.Class n a cs) no_leaf no_node = record { unnamed = refl; unlisted = refl }
-neither (statement.Leaf n u a ns) no_leaf no_node = absurd (no_leaf n u a ns refl)
+neither (statement.Leaf n u a l ns) no_leaf no_node = absurd (no_leaf n u a l ns refl)
 neither (statement.Node n u a ns) no_leaf no_node = absurd (no_node n u a ns refl)
 
 pub pass-other : (lines : List (ℕ × Statement)) (classes : List Name) (places leaves : List ℕ) (i node : ℕ) (l : ℕ × Statement) → i < length lines → l ≡ get_or lines i l → IsNeither l.1

@@ -1,5 +1,5 @@
 -- The tree of nodes that statements declare, from the tree of their numbers.
-use Rattle.std.proofs.Common.{◌≡◌, ℕ, suc, ◌<◌, ◌∙◌, true, List, [], ◌∷◌, length, map, get_or, refl, sym, ap, subst, arith, IsTrue, Some, All}
+use Rattle.std.proofs.Common.{◌≡◌, ℕ, suc, ◌<◌, ◌∙◌, true, List, [], ◌∷◌, length, map, get_or, refl, sym, ap, subst, arith, IsTrue, Option, Some, None, All}
 use Rattle.std.proofs.lemmas.Bool.{and_parts}
 use Rattle.std.specs.List.{list_all, AllByRecursion}
 use Rattle.std.proofs.Math.ListN.{get_or-map}
@@ -24,8 +24,8 @@ use Rattle.policy_places.proofs.Programs.{none-some, some-same, program-there}
 use Rattle.policy_places.proofs.AcceptedStatements.{known-at, known-there, root-there}
 
 -- ---- one statement
-is-node : (es : List Entry) (n : Node) (name used : Name) (a : Attrs) → Some (said es name used a) ≡ Some n → is_transaction_known es used ≡ true → IsNodeOf es n name used a
-is-node es n name used a e known = subst (λ (m : Node). IsNodeOf es m name used a) (some-same e) (record { name_is = refl; program_is = program-there es used known; marks_are = refl })
+is-node : (es : List Entry) (n : Node) (name used : Name) (a : Attrs) (limit : Option ℕ) → Some (said es name used a limit) ≡ Some n → is_transaction_known es used ≡ true → IsNodeOf es n name used a limit
+is-node es n name used a limit e known = subst (λ (m : Node). IsNodeOf es m name used a limit) (some-same e) (record { name_is = refl; using_is = refl; program_is = program-there es used known; marks_are = refl; limit_is = refl })
 
 pub is-leaf : (es earlier : List Entry) (n : Node) (s : Sense) → IsValid s → family s ≡ Some [] → node_in es s ≡ Some n → is_known es earlier s ≡ true → IsLeafOf es n s
 is-leaf es earlier n (version v) valid f e known = absurd (none-some f)
@@ -35,7 +35,7 @@ is-leaf es earlier n (each m s) valid f e known = absurd (none-some f)
 is-leaf es earlier n (push m t) valid f e known = absurd (none-some f)
 is-leaf es earlier n (pop m t) valid f e known = absurd (none-some f)
 is-leaf es earlier n (class m a cs) valid f e known = absurd (none-some f)
-is-leaf es earlier n (leaf m u a ns) valid f e known = is-node es n m u a e (and_parts _ _ known).0
+is-leaf es earlier n (leaf m u a l ns) valid f e known = is-node es n m u a l e (and_parts _ _ known).0
 is-leaf es earlier n (node m u a ns) valid f e known = (let none : length ns ≡ 0 = ap length (some-same f) in absurd (omega (arith, none, valid.3.some)))
 
 pub is-inner : (es earlier : List Entry) (n : Node) (names ns : List Name) (s : Sense) → 0 < length ns → names ≡ ns → family s ≡ Some ns → node_in es s ≡ Some n → is_known es earlier s ≡ true → IsInnerOf es n names s
@@ -46,8 +46,8 @@ is-inner es earlier n names ns (each m s) some same f e known = absurd (none-som
 is-inner es earlier n names ns (push m t) some same f e known = absurd (none-some f)
 is-inner es earlier n names ns (pop m t) some same f e known = absurd (none-some f)
 is-inner es earlier n names ns (class m a cs) some same f e known = absurd (none-some f)
-is-inner es earlier n names ns (leaf m u a ms) some same f e known = (let none : length ns ≡ 0 = ap length (sym (some-same f)) in absurd (omega (arith, none, some)))
-is-inner es earlier n names ns (node m u a ms) some same f e known = (is-node es n m u a e (and_parts _ _ known).0, same ∙ sym (some-same f))
+is-inner es earlier n names ns (leaf m u a l ms) some same f e known = (let none : length ns ≡ 0 = ap length (sym (some-same f)) in absurd (omega (arith, none, some)))
+is-inner es earlier n names ns (node m u a ms) some same f e known = (is-node es n m u a None e (and_parts _ _ known).0, same ∙ sym (some-same f))
 
 -- what a node lists is known
 pub family-known : (es earlier : List Entry) (ns : List Name) (s : Sense) → family s ≡ Some ns → is_known es earlier s ≡ true → list_all (has (declared node_name es)) ns ≡ true
@@ -58,7 +58,7 @@ family-known es earlier ns (each m s) f known = absurd (none-some f)
 family-known es earlier ns (push m t) f known = absurd (none-some f)
 family-known es earlier ns (pop m t) f known = absurd (none-some f)
 family-known es earlier ns (class m a cs) f known = absurd (none-some f)
-family-known es earlier ns (leaf m u a ms) f known = ap (list_all (has (declared node_name es))) (sym (some-same f))
+family-known es earlier ns (leaf m u a l ms) f known = ap (list_all (has (declared node_name es))) (sym (some-same f))
 family-known es earlier ns (node m u a ms) f known = ap (list_all (has (declared node_name es))) (sym (some-same f)) ∙ (and_parts _ _ known).1
 
 -- ---- one number

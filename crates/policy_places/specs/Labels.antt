@@ -1,5 +1,5 @@
 -- Trees of nodes, from trees of their numbers.
-use Rattle.std.specs.Prelude.{ℕ, List, [], slice_index_or}
+use Rattle.std.specs.Prelude.{ℕ, None, List, [], slice_index_or}
 use Rattle.tree_defs.specs.Tree.{Tree, leaf, inner, Trees, none, more}
 use Rattle.rank_defs.specs.Builtins.{fifo}
 use Rattle.policy_text_defs.specs.Sense.{Entry}
@@ -18,7 +18,7 @@ abbrev mutual
 
 -- the node that has a number, where nodes are numbered in the order of their statements
 abbrev pub node_numbered : List Entry → ℕ → Node
-node_numbered entries i = slice_index_or (nodes_in entries) i (record { name = []; program = fifo; marks = no_marks })
+node_numbered entries i = slice_index_or (nodes_in entries) i (record { name = []; using = []; program = fifo; marks = no_marks; limit = None })
 
 -- the nodes where their numbers stand
 abbrev pub nodes_at : List Entry → Tree ℕ → Tree Node

@@ -47,7 +47,7 @@ pub fn leaves(
     let mut node = 0;
     for (_, statement) in lines {
         match statement {
-            Statement::Leaf(_, _, _, listed) => {
+            Statement::Leaf(_, _, _, _, listed) => {
                 put(
                     leaves.as_mut_slice(),
                     classes,

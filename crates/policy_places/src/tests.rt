@@ -32,11 +32,16 @@ fn class(alloc: Global, text: &str) -> Result<Statement, AllocError>
     Ok(Statement::Class(Name::new(alloc, text)?, UNSET, conditions))
 }
 
-fn leaf(alloc: Global, text: &str, classes: List<Name>) -> Result<Statement, AllocError>
-    ensures { IfOk result (λ s. sense_of s ≡ leaf text.now (codes "fifo") nothing_set classes) }
+fn leaf(
+    alloc: Global,
+    text: &str,
+    limit: Option<u32>,
+    classes: List<Name>,
+) -> Result<Statement, AllocError>
+    ensures { IfOk result (λ s. sense_of s ≡ leaf text.now (codes "fifo") nothing_set limit classes) }
 {
     let used = Name::new(alloc, "fifo")?;
-    Ok(Statement::Leaf(Name::new(alloc, text)?, used, UNSET, classes))
+    Ok(Statement::Leaf(Name::new(alloc, text)?, used, UNSET, limit, classes))
 }
 
 fn node(alloc: Global, text: &str, children: List<Name>) -> Result<Statement, AllocError>
@@ -46,19 +51,19 @@ fn node(alloc: Global, text: &str, children: List<Name>) -> Result<Statement, Al
     Ok(Statement::Node(Name::new(alloc, text)?, used, UNSET, children))
 }
 
-/// Below the root an inner node with one leaf, and a leaf; each leaf has a class.
+/// Below the root an inner node with one leaf, and a leaf that holds ten packets; each leaf has a class.
 fn four_nodes(alloc: Global) -> Result<Vec<(u32, Statement)>, AllocError>
     ensures { IfOk result (λ l. entries_of l.items ≡ four_nodes) }
 {
     let web = class(alloc, "web")?;
     let rest = class(alloc, "rest")?;
     let upper = node(alloc, "upper", names(alloc, "deep")?)?;
-    let side = leaf(alloc, "side", names(alloc, "rest")?)?;
+    let side = leaf(alloc, "side", Some(10), names(alloc, "rest")?)?;
     let mut children = names(alloc, "upper")?;
     children.push(Name::new(alloc, "side")?)?;
     let root = node(alloc, "root", children)?;
-    let deep = leaf(alloc, "deep", names(alloc, "web")?)?;
-    let version = Statement::Version(1);
+    let deep = leaf(alloc, "deep", None, names(alloc, "web")?)?;
+    let version = Statement::Version(2);
     Ok(vec![in alloc;
         (1, version),
         (2, web),

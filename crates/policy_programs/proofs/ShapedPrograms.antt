@@ -39,7 +39,7 @@ keep_spans earlier ((n, each a s) ∷ es) sound = keep_spans _ es sound.1
 keep_spans earlier ((n, push a t) ∷ es) sound = keep_spans _ es sound.1
 keep_spans earlier ((n, pop a t) ∷ es) sound = keep_spans _ es sound.1
 keep_spans earlier ((n, class a c cs) ∷ es) sound = keep_spans _ es sound.1
-keep_spans earlier ((n, leaf a u c ns) ∷ es) sound = keep_spans _ es sound.1
+keep_spans earlier ((n, leaf a u c l ns) ∷ es) sound = keep_spans _ es sound.1
 keep_spans earlier ((n, node a u c ns) ∷ es) sound = keep_spans _ es sound.1
 
 each_spans : (earlier lines : List Entry) → AreSoundBehind earlier lines → AllByRecursion IsSpan (filter_map (λ e. each_span e.1) lines)
@@ -51,7 +51,7 @@ each_spans earlier ((n, keep a s) ∷ es) sound = each_spans _ es sound.1
 each_spans earlier ((n, push a t) ∷ es) sound = each_spans _ es sound.1
 each_spans earlier ((n, pop a t) ∷ es) sound = each_spans _ es sound.1
 each_spans earlier ((n, class a c cs) ∷ es) sound = each_spans _ es sound.1
-each_spans earlier ((n, leaf a u c ns) ∷ es) sound = each_spans _ es sound.1
+each_spans earlier ((n, leaf a u c l ns) ∷ es) sound = each_spans _ es sound.1
 each_spans earlier ((n, node a u c ns) ∷ es) sound = each_spans _ es sound.1
 
 -- a span for each name
@@ -64,7 +64,7 @@ as_many_keeps ((n, each a s) ∷ es) = as_many_keeps es
 as_many_keeps ((n, push a t) ∷ es) = as_many_keeps es
 as_many_keeps ((n, pop a t) ∷ es) = as_many_keeps es
 as_many_keeps ((n, class a c cs) ∷ es) = as_many_keeps es
-as_many_keeps ((n, leaf a u c ns) ∷ es) = as_many_keeps es
+as_many_keeps ((n, leaf a u c l ns) ∷ es) = as_many_keeps es
 as_many_keeps ((n, node a u c ns) ∷ es) = as_many_keeps es
 
 pub as_many_eaches : (lines : List Entry) → length (declared each_name lines) ≡ length (filter_map (λ e. each_span e.1) lines)
@@ -76,7 +76,7 @@ as_many_eaches ((n, keep a s) ∷ es) = as_many_eaches es
 as_many_eaches ((n, push a t) ∷ es) = as_many_eaches es
 as_many_eaches ((n, pop a t) ∷ es) = as_many_eaches es
 as_many_eaches ((n, class a c cs) ∷ es) = as_many_eaches es
-as_many_eaches ((n, leaf a u c ns) ∷ es) = as_many_eaches es
+as_many_eaches ((n, leaf a u c l ns) ∷ es) = as_many_eaches es
 as_many_eaches ((n, node a u c ns) ∷ es) = as_many_eaches es
 
 -- ---- names
@@ -100,7 +100,7 @@ either_kind a ((n, transaction b) ∷ es) = either_kind a es
 either_kind a ((n, push b t) ∷ es) = either_kind a es
 either_kind a ((n, pop b t) ∷ es) = either_kind a es
 either_kind a ((n, class b c cs) ∷ es) = either_kind a es
-either_kind a ((n, leaf b u c ns) ∷ es) = either_kind a es
+either_kind a ((n, leaf b u c l ns) ∷ es) = either_kind a es
 either_kind a ((n, node b u c ns) ∷ es) = either_kind a es
 
 or_more : (a b : Bool) → a ≡ true → (a || b) ≡ true
@@ -211,7 +211,7 @@ module _ (all : List Entry) where
   pushes_shaped earlier ((n, version v) ∷ es) is body sound = absurd (true≢false (sym sound.0.body))
   pushes_shaped earlier ((n, transaction a) ∷ es) is body sound = absurd (true≢false (sym sound.0.body))
   pushes_shaped earlier ((n, class a c cs) ∷ es) is body sound = absurd (true≢false (sym sound.0.body))
-  pushes_shaped earlier ((n, leaf a u c ns) ∷ es) is body sound = absurd (true≢false (sym sound.0.body))
+  pushes_shaped earlier ((n, leaf a u c l ns) ∷ es) is body sound = absurd (true≢false (sym sound.0.body))
   pushes_shaped earlier ((n, node a u c ns) ∷ es) is body sound = absurd (true≢false (sym sound.0.body))
 
   with_rank : (r b : Bool) → b ≡ true → (r || b) ≡ true
@@ -232,7 +232,7 @@ module _ (all : List Entry) where
   pops_shaped earlier ((n, version v) ∷ es) is body sound = absurd (true≢false (sym sound.0.body))
   pops_shaped earlier ((n, transaction a) ∷ es) is body sound = absurd (true≢false (sym sound.0.body))
   pops_shaped earlier ((n, class a c cs) ∷ es) is body sound = absurd (true≢false (sym sound.0.body))
-  pops_shaped earlier ((n, leaf a u c ns) ∷ es) is body sound = absurd (true≢false (sym sound.0.body))
+  pops_shaped earlier ((n, leaf a u c l ns) ∷ es) is body sound = absurd (true≢false (sym sound.0.body))
   pops_shaped earlier ((n, node a u c ns) ∷ es) is body sound = absurd (true≢false (sym sound.0.body))
 
   pops_leave_rank : (earlier lines : List Entry) → AreSoundBehind earlier lines → AllByRecursion (λ (x : Assignment). x.aim ≢ aim.Rank) (filter_map (pop_in (declared keep_name all) (declared each_name all)) lines)
@@ -244,7 +244,7 @@ module _ (all : List Entry) where
   pops_leave_rank earlier ((n, each a s) ∷ es) sound = pops_leave_rank _ es sound.1
   pops_leave_rank earlier ((n, push a t) ∷ es) sound = pops_leave_rank _ es sound.1
   pops_leave_rank earlier ((n, class a c cs) ∷ es) sound = pops_leave_rank _ es sound.1
-  pops_leave_rank earlier ((n, leaf a u c ns) ∷ es) sound = pops_leave_rank _ es sound.1
+  pops_leave_rank earlier ((n, leaf a u c l ns) ∷ es) sound = pops_leave_rank _ es sound.1
   pops_leave_rank earlier ((n, node a u c ns) ∷ es) sound = pops_leave_rank _ es sound.1
 
 pub shaped : (lines : List Entry) → IsSoundBody lines → IsShaped (program_in lines)

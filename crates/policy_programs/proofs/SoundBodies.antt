@@ -26,7 +26,7 @@ body_line (n, each a s) is = refl
 body_line (n, push a t) is = refl
 body_line (n, pop a t) is = refl
 body_line (n, class a b cs) is = refl
-body_line (n, leaf a u b ns) is = refl
+body_line (n, leaf a u b l ns) is = refl
 body_line (n, node a u b ns) is = refl
 
 body_lines : (lines : List Entry) → AreBody lines → list_any is_transaction lines ≡ false
@@ -83,7 +83,7 @@ no_keep a ((n, each b s) ∷ es) none = no_keep a es (or_right (bytes_eq a b) _ 
 no_keep a ((n, push b t) ∷ es) none = no_keep a es none
 no_keep a ((n, pop b t) ∷ es) none = no_keep a es none
 no_keep a ((n, class b c cs) ∷ es) none = no_keep a es none
-no_keep a ((n, leaf b u c ns) ∷ es) none = no_keep a es none
+no_keep a ((n, leaf b u c l ns) ∷ es) none = no_keep a es none
 no_keep a ((n, node b u c ns) ∷ es) none = no_keep a es none
 
 pub no_each : (a : Name) (lines : List Entry) → has (declared variable_name lines) a ≡ false → has (declared each_name lines) a ≡ false
@@ -95,7 +95,7 @@ no_each a ((n, each b s) ∷ es) none = or_both (bytes_eq a b) _ _ none (no_each
 no_each a ((n, push b t) ∷ es) none = no_each a es none
 no_each a ((n, pop b t) ∷ es) none = no_each a es none
 no_each a ((n, class b c cs) ∷ es) none = no_each a es none
-no_each a ((n, leaf b u c ns) ∷ es) none = no_each a es none
+no_each a ((n, leaf b u c l ns) ∷ es) none = no_each a es none
 no_each a ((n, node b u c ns) ∷ es) none = no_each a es none
 
 added : (names : List Name) (o : Option Name) → ((a : Name) → o ≡ Some a → has names a ≡ false) → with_names names o ≡ names ++ cons_option o []
@@ -112,7 +112,7 @@ keep_new earlier (n, each b s) all new a is = absurd cc
 keep_new earlier (n, push b t) all new a is = absurd cc
 keep_new earlier (n, pop b t) all new a is = absurd cc
 keep_new earlier (n, class b c cs) all new a is = absurd cc
-keep_new earlier (n, leaf b u c ns) all new a is = absurd cc
+keep_new earlier (n, leaf b u c l ns) all new a is = absurd cc
 keep_new earlier (n, node b u c ns) all new a is = absurd cc
 
 each_new : (earlier : List Entry) (e : Entry) → AreBody earlier → is_declared earlier e.1 ≡ false → (a : Name) → each_name e.1 ≡ Some a → has (declared each_name earlier) a ≡ false
@@ -125,7 +125,7 @@ each_new earlier (n, keep b s) all new a is = absurd cc
 each_new earlier (n, push b t) all new a is = absurd cc
 each_new earlier (n, pop b t) all new a is = absurd cc
 each_new earlier (n, class b c cs) all new a is = absurd cc
-each_new earlier (n, leaf b u c ns) all new a is = absurd cc
+each_new earlier (n, leaf b u c l ns) all new a is = absurd cc
 each_new earlier (n, node b u c ns) all new a is = absurd cc
 
 -- one more line of a body
@@ -153,7 +153,7 @@ few_keeps-variables ((n, each b s) ∷ es) = longer _ _ (few_keeps-variables es)
 few_keeps-variables ((n, push b t) ∷ es) = few_keeps-variables es
 few_keeps-variables ((n, pop b t) ∷ es) = few_keeps-variables es
 few_keeps-variables ((n, class b c cs) ∷ es) = few_keeps-variables es
-few_keeps-variables ((n, leaf b u c ns) ∷ es) = few_keeps-variables es
+few_keeps-variables ((n, leaf b u c l ns) ∷ es) = few_keeps-variables es
 few_keeps-variables ((n, node b u c ns) ∷ es) = few_keeps-variables es
 
 pub few_eaches-variables : (lines : List Entry) → length (declared each_name lines) ≤ length (declared variable_name lines)
@@ -165,7 +165,7 @@ few_eaches-variables ((n, each b s) ∷ es) = omega (arith, few_eaches-variables
 few_eaches-variables ((n, push b t) ∷ es) = few_eaches-variables es
 few_eaches-variables ((n, pop b t) ∷ es) = few_eaches-variables es
 few_eaches-variables ((n, class b c cs) ∷ es) = few_eaches-variables es
-few_eaches-variables ((n, leaf b u c ns) ∷ es) = few_eaches-variables es
+few_eaches-variables ((n, leaf b u c l ns) ∷ es) = few_eaches-variables es
 few_eaches-variables ((n, node b u c ns) ∷ es) = few_eaches-variables es
 
 short : (n m : ℕ) → n ≤ m → n ≢ m → n + 1 ≤ m
@@ -185,7 +185,7 @@ room earlier (n, pop b t) all few is beyond = subst (λ (l : List Name). length 
 room earlier (n, version v) all few is beyond = absurd (true≢false (sym is))
 room earlier (n, transaction b) all few is beyond = absurd (true≢false (sym is))
 room earlier (n, class b c cs) all few is beyond = absurd (true≢false (sym is))
-room earlier (n, leaf b u c ns) all few is beyond = absurd (true≢false (sym is))
+room earlier (n, leaf b u c l ns) all few is beyond = absurd (true≢false (sym is))
 room earlier (n, node b u c ns) all few is beyond = absurd (true≢false (sym is))
 
 few_behind : (earlier es : List Entry) → AreBody earlier → length (declared variable_name earlier) ≤ most_variables → AreSoundBehind earlier es → length (declared variable_name (earlier ++ es)) ≤ most_variables

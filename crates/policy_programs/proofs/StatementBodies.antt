@@ -29,7 +29,7 @@ module _ (a b : List Entry) (same : open_body a ≡ open_body b) where
   declared_alike (version v) is = absurd (true≢false (sym is))
   declared_alike (transaction n) is = absurd (true≢false (sym is))
   declared_alike (class n c cs) is = absurd (true≢false (sym is))
-  declared_alike (leaf n u c ns) is = absurd (true≢false (sym is))
+  declared_alike (leaf n u c l ns) is = absurd (true≢false (sym is))
   declared_alike (node n u c ns) is = absurd (true≢false (sym is))
 
   known_alike : (es : List Entry) (s : Sense) → is_body s ≡ true → is_known [] b s ≡ is_known es a s
@@ -40,7 +40,7 @@ module _ (a b : List Entry) (same : open_body a ≡ open_body b) where
   known_alike es (version v) is = absurd (true≢false (sym is))
   known_alike es (transaction n) is = absurd (true≢false (sym is))
   known_alike es (class n c cs) is = absurd (true≢false (sym is))
-  known_alike es (leaf n u c ns) is = absurd (true≢false (sym is))
+  known_alike es (leaf n u c l ns) is = absurd (true≢false (sym is))
   known_alike es (node n u c ns) is = absurd (true≢false (sym is))
 
   beyond_alike : (s : Sense) → is_body s ≡ true → is_beyond b s ≡ is_beyond a s
@@ -51,7 +51,7 @@ module _ (a b : List Entry) (same : open_body a ≡ open_body b) where
   beyond_alike (version v) is = absurd (true≢false (sym is))
   beyond_alike (transaction n) is = absurd (true≢false (sym is))
   beyond_alike (class n c cs) is = absurd (true≢false (sym is))
-  beyond_alike (leaf n u c ns) is = absurd (true≢false (sym is))
+  beyond_alike (leaf n u c l ns) is = absurd (true≢false (sym is))
   beyond_alike (node n u c ns) is = absurd (true≢false (sym is))
 
 -- ---- a line between some lines and others
@@ -106,7 +106,7 @@ module _ (es : List Entry) (rising : AreRising es) (few : AreFew es) (valid : Al
   sound_opened pre rest (n, push a t) is = tt
   sound_opened pre rest (n, pop a t) is = tt
   sound_opened pre rest (n, class a c cs) is = tt
-  sound_opened pre rest (n, leaf a u c ns) is = tt
+  sound_opened pre rest (n, leaf a u c l ns) is = tt
   sound_opened pre rest (n, node a u c ns) is = tt
 
   -- the body that a line begins

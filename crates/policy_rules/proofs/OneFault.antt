@@ -6,12 +6,12 @@ use Rattle.rank_defs.specs.Programs.{Program}
 use Rattle.rank_defs.proofs.Faults.{checked-faultless, least-unique}
 use Rattle.policy_text_defs.specs.Sense.{Entry}
 use Rattle.policy_rules.specs.Accepted.{IsFault}
-use Rattle.policy_rules.specs.Clauses.{IsLeastLine, NoLine, IsMisplaced, IsAgain, IsUnknown, IsBeyond, IsOrphan, has_root, IsStray, has_catch_all}
+use Rattle.policy_rules.specs.Clauses.{IsLeastLine, NoLine, IsMisplaced, IsAgain, IsUnknown, IsBeyond, IsOrphan, has_root, IsStray, has_catch_all, IsAhead}
 use Rattle.policy_rules.specs.Families.{IsCyclic, IsTooDeep}
 use Rattle.policy_rules.specs.Laws.{HaveOneFault, AcceptedHaveNoFault}
 use Rattle.policy_rules.specs.Programs.{programs}
 use Rattle.policy_rules.specs.declared.fault.PolicyFault.{PolicyFault}
-use Rattle.policy_rules.specs.declared.fault.PolicyFault.TheVariants.{Misplaced, Twice, Unknown, TooMany, TypeClash, Wide, DivZero, Parents, NoRoot, Cycle, Deep, ClassLeaf, NoCatchAll, NoMemory}
+use Rattle.policy_rules.specs.declared.fault.PolicyFault.TheVariants.{Misplaced, Twice, Unknown, TooMany, TypeClash, Wide, DivZero, Parents, NoRoot, Cycle, Deep, ClassLeaf, NoCatchAll, OldVersion, NoMemory}
 
 -- ---- clauses in a row: what each says, and how it fails
 
@@ -139,24 +139,26 @@ clauses entries =
     let computable = next few (AreChecked (programs entries)) (ProgramsFail (programs entries)) (programs-sharp (programs entries)) in
     let with_root = more_whole (more computable (IsOrphan entries) entries Parents) (has_root entries) NoRoot in
     let shallow = more (more with_root (IsCyclic entries) entries Cycle) (IsTooDeep entries) entries Deep in
-    more_whole (more shallow (IsStray entries) entries ClassLeaf) (has_catch_all entries) NoCatchAll
+    let caught = more_whole (more shallow (IsStray entries) entries ClassLeaf) (has_catch_all entries) NoCatchAll in
+    more caught (IsAhead entries) entries OldVersion
 
 -- a fault is that of the first clause to fail
 fault-first : (entries : List Entry) (f : PolicyFault) → f ≢ NoMemory → IsFault entries f → FailFirst (clauses entries) f
 fault-first entries NoMemory some h = absurd (some refl)
-fault-first entries NoCatchAll some h = inr (h.0, (h.1, refl))
-fault-first entries (ClassLeaf n) some h = inl (inr (h.0, (n, h.1, refl)))
-fault-first entries (Deep n) some h = inl (inl (inr (h.0, (n, h.1, refl))))
-fault-first entries (Cycle n) some h = inl (inl (inl (inr (h.0, (n, h.1, refl)))))
-fault-first entries NoRoot some h = inl (inl (inl (inl (inr (h.0, (h.1, refl))))))
-fault-first entries (Parents n) some h = inl (inl (inl (inl (inl (inr (h.0, (n, h.1, refl)))))))
-fault-first entries (TypeClash n) some h = inl (inl (inl (inl (inl (inl (inr h))))))
-fault-first entries (Wide n) some h = inl (inl (inl (inl (inl (inl (inr h))))))
-fault-first entries (DivZero n) some h = inl (inl (inl (inl (inl (inl (inr h))))))
-fault-first entries (TooMany n) some h = inl (inl (inl (inl (inl (inl (inl (inr (h.0, (n, h.1, refl)))))))))
-fault-first entries (Unknown n) some h = inl (inl (inl (inl (inl (inl (inl (inl (inr (h.0, (n, h.1, refl))))))))))
-fault-first entries (Twice n) some h = inl (inl (inl (inl (inl (inl (inl (inl (inl (inr (h.0, (n, h.1, refl)))))))))))
-fault-first entries (Misplaced n) some h = inl (inl (inl (inl (inl (inl (inl (inl (inl (inl (n, h, refl))))))))))
+fault-first entries (OldVersion n) some h = inr (h.0, (n, h.1, refl))
+fault-first entries NoCatchAll some h = inl (inr (h.0, (h.1, refl)))
+fault-first entries (ClassLeaf n) some h = inl (inl (inr (h.0, (n, h.1, refl))))
+fault-first entries (Deep n) some h = inl (inl (inl (inr (h.0, (n, h.1, refl)))))
+fault-first entries (Cycle n) some h = inl (inl (inl (inl (inr (h.0, (n, h.1, refl))))))
+fault-first entries NoRoot some h = inl (inl (inl (inl (inl (inr (h.0, (h.1, refl)))))))
+fault-first entries (Parents n) some h = inl (inl (inl (inl (inl (inl (inr (h.0, (n, h.1, refl))))))))
+fault-first entries (TypeClash n) some h = inl (inl (inl (inl (inl (inl (inl (inr h)))))))
+fault-first entries (Wide n) some h = inl (inl (inl (inl (inl (inl (inl (inr h)))))))
+fault-first entries (DivZero n) some h = inl (inl (inl (inl (inl (inl (inl (inr h)))))))
+fault-first entries (TooMany n) some h = inl (inl (inl (inl (inl (inl (inl (inl (inr (h.0, (n, h.1, refl))))))))))
+fault-first entries (Unknown n) some h = inl (inl (inl (inl (inl (inl (inl (inl (inl (inr (h.0, (n, h.1, refl)))))))))))
+fault-first entries (Twice n) some h = inl (inl (inl (inl (inl (inl (inl (inl (inl (inl (inr (h.0, (n, h.1, refl))))))))))))
+fault-first entries (Misplaced n) some h = inl (inl (inl (inl (inl (inl (inl (inl (inl (inl (inl (n, h, refl)))))))))))
 
 pub one-fault : HaveOneFault
 one-fault entries f g some other h k = one-fails (clauses entries) f g (fault-first entries f some h) (fault-first entries g other k)

@@ -2,11 +2,11 @@
 use Rattle.std.specs.Prelude.{◌≡◌, true, false, List}
 use Rattle.rank_defs.specs.Checks.{ClashesFirstAt, IsWideFirstAt, DividesByZeroFirstAt, AreChecked}
 use Rattle.policy_text_defs.specs.Sense.{Entry}
-use Rattle.policy_rules.specs.Clauses.{IsLeastLine, NoLine, IsMisplaced, IsAgain, IsUnknown, IsBeyond, IsOrphan, has_root, IsStray, has_catch_all}
+use Rattle.policy_rules.specs.Clauses.{IsLeastLine, NoLine, IsMisplaced, IsAgain, IsUnknown, IsBeyond, IsOrphan, has_root, IsStray, has_catch_all, IsAhead}
 use Rattle.policy_rules.specs.Families.{IsCyclic, IsTooDeep}
 use Rattle.policy_rules.specs.Programs.{programs}
 use Rattle.policy_rules.specs.declared.fault.PolicyFault.{PolicyFault}
-use Rattle.policy_rules.specs.declared.fault.PolicyFault.TheVariants.{Misplaced, Twice, Unknown, TooMany, TypeClash, Wide, DivZero, Parents, NoRoot, Cycle, Deep, ClassLeaf, NoCatchAll, NoMemory}
+use Rattle.policy_rules.specs.declared.fault.PolicyFault.TheVariants.{Misplaced, Twice, Unknown, TooMany, TypeClash, Wide, DivZero, Parents, NoRoot, Cycle, Deep, ClassLeaf, NoCatchAll, OldVersion, NoMemory}
 
 -- no line fails a clause up to this one
 abbrev pub ArePlaced : List Entry → Type 0
@@ -40,9 +40,12 @@ AreShallow entries = AreAcyclic entries × NoLine (IsTooDeep entries) entries
 abbrev pub HaveLeaves : List Entry → Type 0
 HaveLeaves entries = AreShallow entries × NoLine (IsStray entries) entries
 
+abbrev pub HaveCatchAll : List Entry → Type 0
+HaveCatchAll entries = HaveLeaves entries × (has_catch_all entries ≡ true)
+
 -- no clause fails
 abbrev pub AreAccepted : List Entry → Type 0
-AreAccepted entries = HaveLeaves entries × (has_catch_all entries ≡ true)
+AreAccepted entries = HaveCatchAll entries × NoLine (IsAhead entries) entries
 
 -- the first clause to fail, and its least line; want of memory may come at any time
 abbrev pub IsFault : List Entry → PolicyFault → Type 0
@@ -59,4 +62,5 @@ IsFault entries (Cycle n) = HaveRoot entries × IsLeastLine (IsCyclic entries) e
 IsFault entries (Deep n) = AreAcyclic entries × IsLeastLine (IsTooDeep entries) entries n
 IsFault entries (ClassLeaf n) = AreShallow entries × IsLeastLine (IsStray entries) entries n
 IsFault entries NoCatchAll = HaveLeaves entries × (has_catch_all entries ≡ false)
+IsFault entries (OldVersion n) = HaveCatchAll entries × IsLeastLine (IsAhead entries) entries n
 IsFault entries NoMemory = Unit {0}

@@ -58,7 +58,7 @@ is_declared earlier (each n s) = has (declared variable_name (open_body earlier)
 is_declared earlier (push n t) = false
 is_declared earlier (pop n t) = false
 is_declared earlier (class n a cs) = has (declared class_name earlier) n
-is_declared earlier (leaf n u a ns) = has (declared node_name earlier) n
+is_declared earlier (leaf n u a l ns) = has (declared node_name earlier) n
 is_declared earlier (node n u a ns) = has (declared node_name earlier) n
 
 abbrev pub IsAgain : List Entry → Entry → Type 0
@@ -82,7 +82,7 @@ is_known entries earlier (push n t) =
     (bytes_eq n (codes "rank") || has (declared variable_name (open_body earlier)) n) && are_operands_known (declared variable_name (open_body earlier)) t
 is_known entries earlier (pop n t) =
     has (declared variable_name (open_body earlier)) n && are_operands_known (declared variable_name (open_body earlier)) t
-is_known entries earlier (leaf n u a ns) = is_transaction_known entries u && list_all (has (declared class_name entries)) ns
+is_known entries earlier (leaf n u a l ns) = is_transaction_known entries u && list_all (has (declared class_name entries)) ns
 is_known entries earlier (node n u a ns) = is_transaction_known entries u && list_all (has (declared node_name entries)) ns
 is_known entries earlier s = true
 
@@ -115,7 +115,7 @@ is_beyond earlier (each n s) = length (declared variable_name (open_body earlier
 is_beyond earlier (push n t) = assignments_in (open_body earlier) == most_assignments
 is_beyond earlier (pop n t) = assignments_in (open_body earlier) == most_assignments
 is_beyond earlier (class n a cs) = length (declared class_name earlier) == most_classes
-is_beyond earlier (leaf n u a ns) = length (declared node_name earlier) == most_nodes
+is_beyond earlier (leaf n u a l ns) = length (declared node_name earlier) == most_nodes
 is_beyond earlier (node n u a ns) = length (declared node_name earlier) == most_nodes
 
 abbrev pub IsBeyond : List Entry → Entry → Type 0
@@ -152,3 +152,16 @@ has_catch_all_behind found (e ∷ es) = has_catch_all_behind found es
 
 abbrev pub has_catch_all : List Entry → Bool
 has_catch_all entries = has_catch_all_behind false entries
+
+-- ---- 14: a limit in version 1, which has none
+-- the version that the first statement says
+abbrev pub version_of : List Entry → ℕ
+version_of ((n, version v) ∷ es) = v
+version_of es = 0
+
+abbrev pub has_limit : Sense → Bool
+has_limit (leaf n u a (Some l) ns) = true
+has_limit s = false
+
+abbrev pub IsAhead : List Entry → Entry → Type 0
+IsAhead entries e = IsTrue (version_of entries == 1 && has_limit e.1)

@@ -1,7 +1,7 @@
 -- The numbers with which a refusal is told.
 use Rattle.std.specs.Prelude.{ℕ}
 use Rattle.policy_rules.specs.declared.fault.PolicyFault.{PolicyFault}
-use Rattle.policy_rules.specs.declared.fault.PolicyFault.TheVariants.{Misplaced, Twice, Unknown, TooMany, TypeClash, Wide, DivZero, Parents, NoRoot, Cycle, Deep, ClassLeaf, NoCatchAll, NoMemory}
+use Rattle.policy_rules.specs.declared.fault.PolicyFault.TheVariants.{Misplaced, Twice, Unknown, TooMany, TypeClash, Wide, DivZero, Parents, NoRoot, Cycle, Deep, ClassLeaf, NoCatchAll, OldVersion, NoMemory}
 
 -- the clause that fails
 abbrev pub code_of : PolicyFault → ℕ
@@ -18,6 +18,7 @@ code_of (Cycle n) = 10
 code_of (Deep n) = 11
 code_of (ClassLeaf n) = 12
 code_of NoCatchAll = 13
+code_of (OldVersion n) = 14
 code_of NoMemory = 0
 
 -- its least line, and 0 where the clause is of no one line
@@ -35,4 +36,5 @@ line_of (Cycle n) = n
 line_of (Deep n) = n
 line_of (ClassLeaf n) = n
 line_of NoCatchAll = 0
+line_of (OldVersion n) = n
 line_of NoMemory = 0

@@ -10,7 +10,7 @@ use Rattle.policy_rules.specs.Resolved.{marks_of}
 
 -- the children of a node, and none of a leaf
 abbrev pub family : Sense → Option (List Name)
-family (leaf n u a ns) = Some []
+family (leaf n u a l ns) = Some []
 family (node n u a ns) = Some ns
 family s = None
 
@@ -19,12 +19,12 @@ abbrev pub graph_of : List Entry → List (List ℕ)
 graph_of entries = map (λ names. map (place (declared node_name entries)) names) (filter_map (λ e. family e.1) entries)
 
 -- what is said of a node or leaf; that its transaction is there was seen before
-abbrev pub said : List Entry → Name → Name → Attrs → Node
-said entries n u a = record { name = n; program = unwrap_or (program_named entries u) fifo; marks = marks_of a }
+abbrev pub said : List Entry → Name → Name → Attrs → Option ℕ → Node
+said entries n u a l = record { name = n; using = u; program = unwrap_or (program_named entries u) fifo; marks = marks_of a; limit = l }
 
 abbrev pub node_in : List Entry → Sense → Option Node
-node_in entries (leaf n u a ns) = Some (said entries n u a)
-node_in entries (node n u a ns) = Some (said entries n u a)
+node_in entries (leaf n u a l ns) = Some (said entries n u a l)
+node_in entries (node n u a ns) = Some (said entries n u a None)
 node_in entries s = None
 
 -- what is said of each node and leaf

@@ -29,7 +29,7 @@ class_name (class n a cs) = Some n
 class_name s = None
 
 abbrev pub node_name : Sense → Option Name
-node_name (leaf n u a ns) = Some n
+node_name (leaf n u a l ns) = Some n
 node_name (node n u a ns) = Some n
 node_name s = None
 
@@ -57,7 +57,7 @@ children (node n u a ns) = ns
 children s = []
 
 abbrev pub leaf_classes : Sense → List Name
-leaf_classes (leaf n u a ns) = ns
+leaf_classes (leaf n u a l ns) = ns
 leaf_classes s = []
 
 -- all names that statements list, as often as they list them

@@ -1,12 +1,12 @@
 -- The policy that accepted statements give.
-use Rattle.std.specs.Prelude.{◌≡◌, Option, Some, None, unwrap_or, List, [], ◌∷◌, map, Any, Contains, filter_map}
+use Rattle.std.specs.Prelude.{◌≡◌, ℕ, Option, Some, None, unwrap_or, List, [], ◌∷◌, map, Any, Contains, filter_map}
 use Rattle.tree_defs.specs.Tree.{Tree, leaf as leaf_of, inner, Trees, none, more, Address, LeadsToLeaf, root_of}
 use Rattle.policy_text_defs.specs.declared.attribute.Attrs.{Attrs}
 use Rattle.policy_text_defs.specs.declared.condition.Condition.{Condition}
 use Rattle.policy_text_defs.specs.Sense.{Sense, Entry, class, leaf, node}
 use Rattle.policy_defs.specs.Policy.{Policy, Node, Class, Marks, no_marks, node_at}
 use Rattle.policy_rules.specs.Names.{Name}
-use Rattle.policy_rules.specs.Clauses.{root}
+use Rattle.policy_rules.specs.Clauses.{root, version_of}
 use Rattle.policy_rules.specs.Programs.{program_named}
 
 -- a policy, with the conditions of its classes in their order
@@ -18,19 +18,21 @@ pub record Resolved : Type 0 where
 abbrev pub marks_of : Attrs → Marks
 marks_of a = record { prio = unwrap_or a.prio no_marks.prio; weight = unwrap_or a.weight no_marks.weight; slack = unwrap_or a.slack no_marks.slack }
 
--- a node has this name, the program of this transaction, and the marks of these attributes
-pub record IsNodeOf (entries : List Entry) (n : Node) (name used : Name) (a : Attrs) : Type 0 where
+-- a node has this name, this transaction and its program, the marks of these attributes, and this limit or none
+pub record IsNodeOf (entries : List Entry) (n : Node) (name used : Name) (a : Attrs) (limit : Option ℕ) : Type 0 where
   pub name_is : n.name ≡ name
+  pub using_is : n.using ≡ used
   pub program_is : program_named entries used ≡ Some n.program
   pub marks_are : n.marks ≡ marks_of a
+  pub limit_is : n.limit ≡ limit
 
 -- the statement of a leaf is this one, and that of an inner node, whose children have these names
 abbrev pub IsLeafOf : List Entry → Node → Sense → Type 0
-IsLeafOf entries n (leaf name used a ns) = IsNodeOf entries n name used a
+IsLeafOf entries n (leaf name used a l ns) = IsNodeOf entries n name used a l
 IsLeafOf entries n s = ⊥
 
 abbrev pub IsInnerOf : List Entry → Node → List Name → Sense → Type 0
-IsInnerOf entries n names (node name used a ns) = IsNodeOf entries n name used a × (names ≡ ns)
+IsInnerOf entries n names (node name used a ns) = IsNodeOf entries n name used a None × (names ≡ ns)
 IsInnerOf entries n names s = ⊥
 
 abbrev pub names_of : Trees Node → List Name
@@ -49,7 +51,7 @@ abbrev mutual
 
 -- a statement of this leaf lists the class
 abbrev pub ListsClass : Name → Name → Sense → Type 0
-ListsClass leaf_name class_name (leaf name used a ns) = (name ≡ leaf_name) × Contains ns class_name
+ListsClass leaf_name class_name (leaf name used a l ns) = (name ≡ leaf_name) × Contains ns class_name
 ListsClass leaf_name class_name s = ⊥
 
 -- the leaf at the address lists the class
@@ -80,6 +82,7 @@ AreClassesOf entries tree ds cs = ⊥
 
 -- the statements give this policy
 pub record IsResolved (entries : List Entry) (r : Resolved) : Type 0 where
+  pub version_is : r.policy.version ≡ version_of entries
   pub root_is : (root_of r.policy.tree).name ≡ root
   pub tree : IsTreeIn entries r.policy.tree
   pub classes : AreClassesOf entries r.policy.tree (classes_in entries) r.policy.classes

@@ -1,14 +1,14 @@
 -- Statements whose clauses are worked out.
-use Rattle.std.specs.Prelude.{◌≡◌, refl, true, false, None, List, [], ◌∷◌, codes}
+use Rattle.std.specs.Prelude.{◌≡◌, refl, ℕ, true, false, Some, None, List, [], ◌∷◌, codes}
 use Rattle.rank_defs.specs.declared.expression.Op.TheVariants.{Add}
 use Rattle.rank_defs.specs.declared.expression.Var.TheVariants as var
 use Rattle.rank_defs.specs.declared.transaction.Aim.TheVariants as aim
 use Rattle.rank_defs.specs.Formulas as formula
 use Rattle.policy_text_defs.specs.declared.attribute.Attrs.{Attrs}
 use Rattle.policy_text_defs.specs.Phrase.{number, word, two}
-use Rattle.policy_text_defs.specs.Sense.{Entry, numbered, version, transaction, keep, each, push, class, leaf}
+use Rattle.policy_text_defs.specs.Sense.{Entry, entry, numbered, version, transaction, keep, each, push, class, leaf}
 use Rattle.policy_rules.specs.Names.{before, listed, leaf_classes}
-use Rattle.policy_rules.specs.Clauses.{is_placed, is_declared, is_known, is_stray, has_root, has_catch_all}
+use Rattle.policy_rules.specs.Clauses.{is_placed, is_declared, is_known, is_stray, has_root, has_catch_all, version_of, IsAhead}
 use Rattle.policy_rules.specs.Programs.{programs}
 
 abbrev pub nothing_set : Attrs
@@ -17,7 +17,7 @@ nothing_set = record { prio = None; weight = None; slack = None }
 -- one leaf, one class, and a transaction that counts
 abbrev pub counting : List Entry
 counting = numbered 1 (
-    version 1 ∷ class (codes "all") nothing_set [] ∷ leaf (codes "root") (codes "count") nothing_set (codes "all" ∷ []) ∷
+    version 1 ∷ class (codes "all") nothing_set [] ∷ leaf (codes "root") (codes "count") nothing_set None (codes "all" ∷ []) ∷
     transaction (codes "count") ∷ keep (codes "n") (record { low = 0; high = 9; first = 0 }) ∷
     push (codes "n") (two Add (word (codes "n")) (number 1)) ∷ push (codes "rank") (word (codes "n")) ∷ [])
 
@@ -58,3 +58,19 @@ has_root-counting = refl
 
 pub has_catch_all-counting : has_catch_all counting ≡ true
 has_catch_all-counting = refl
+
+-- one leaf, which holds ten packets
+abbrev pub limited : ℕ → List Entry
+limited v = numbered 1 (version v ∷ class (codes "all") nothing_set [] ∷ leaf (codes "root") (codes "fifo") nothing_set (Some 10) (codes "all" ∷ []) ∷ [])
+
+pub version_of-limited : version_of (limited 2) ≡ 2
+version_of-limited = refl
+
+pub IsAhead-a_limit_in_version_1 : IsAhead (limited 1) (entry 3 (leaf (codes "root") (codes "fifo") nothing_set (Some 10) (codes "all" ∷ [])))
+IsAhead-a_limit_in_version_1 = refl
+
+pub IsAhead-a_limit_in_version_2 : ¬ IsAhead (limited 2) (entry 3 (leaf (codes "root") (codes "fifo") nothing_set (Some 10) (codes "all" ∷ [])))
+IsAhead-a_limit_in_version_2 h = cc
+
+pub IsAhead-a_leaf_without_a_limit : ¬ IsAhead counting (entry 3 (leaf (codes "root") (codes "count") nothing_set None (codes "all" ∷ [])))
+IsAhead-a_leaf_without_a_limit h = cc

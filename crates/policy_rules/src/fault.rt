@@ -35,6 +35,8 @@ pub enum PolicyFault {
     ClassLeaf(u32),
     /// The last class has a condition, or there is no class.
     NoCatchAll,
+    /// A leaf has a limit, and the policy is of version 1, which has none.
+    OldVersion(u32),
     NoMemory,
 }
 
@@ -50,7 +52,7 @@ impl From<AllocError> for PolicyFault {
 }
 
 impl PolicyFault {
-    /// The number of the clause that fails, from 1 to 13. `NoMemory` has 0.
+    /// The number of the clause that fails, from 1 to 14. `NoMemory` has 0.
     pub fn code(self) -> u32
         ensures { result ≡ code_of self }
     {
@@ -68,6 +70,7 @@ impl PolicyFault {
             PolicyFault::Deep(_) => 11,
             PolicyFault::ClassLeaf(_) => 12,
             PolicyFault::NoCatchAll => 13,
+            PolicyFault::OldVersion(_) => 14,
             PolicyFault::NoMemory => 0,
         }
     }
@@ -87,7 +90,8 @@ impl PolicyFault {
             | PolicyFault::Parents(line)
             | PolicyFault::Cycle(line)
             | PolicyFault::Deep(line)
-            | PolicyFault::ClassLeaf(line) => line,
+            | PolicyFault::ClassLeaf(line)
+            | PolicyFault::OldVersion(line) => line,
             PolicyFault::NoRoot | PolicyFault::NoCatchAll | PolicyFault::NoMemory => 0,
         }
     }

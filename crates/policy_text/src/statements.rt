@@ -19,6 +19,16 @@ use rank_defs::Span;
 use std::alloc::Global;
 use text_core::{Item, Mark, Refusal};
 
+const FIRST_VERSION: u64 = 1;
+
+const LAST_VERSION: u64 = 2;
+
+/// The fewest packets that a leaf may be limited to.
+const LIMIT_LEAST: u64 = 1;
+
+/// The most packets that a leaf may be limited to.
+const LIMIT_MOST: u64 = 4_194_304;
+
 const UNSET: Attrs = Attrs {
     prio: None,
     weight: None,
@@ -96,6 +106,21 @@ impl<'a> Cursor<'a> {
         }
         Ok(attrs)
     }
+
+    /// The number after `limit`, or none where that doesn't follow.
+    #[tactic(auto, unfolding(policy_text_defs::specs::StatementReading::limit, policy_text_defs::specs::StatementReading::limit_by))]
+    fn limit(&mut self) -> Result<Option<u32>, Refusal>
+        ensures { Reads same forms.limit result self.old.rest.now self.new.rest.now }
+    {
+        if !self.takes_word("limit") {
+            return Ok(None);
+        }
+        let limit = self.number()?;
+        if limit < LIMIT_LEAST || limit > LIMIT_MOST {
+            return Err(Refusal::NoForm);
+        }
+        Ok(Some(limit as u32))
+    }
 }
 
 /// One name or more.
@@ -115,10 +140,11 @@ fn names(alloc: Global, cursor: &mut Cursor<'_>) -> Result<List<Name>, Refusal>
 fn version(cursor: &mut Cursor<'_>) -> Result<Statement, Refusal>
     ensures { Reads sense_of (forms.rest_by (Some keyword.Policy)) result cursor.old.rest.now cursor.new.rest.now }
 {
-    match cursor.number()? {
-        1 => Ok(Statement::Version(1)),
-        _ => Err(Refusal::NoForm),
+    let version = cursor.number()?;
+    if version < FIRST_VERSION || version > LAST_VERSION {
+        return Err(Refusal::NoForm);
     }
+    Ok(Statement::Version(version as u32))
 }
 
 #[tactic(auto, unfolding(policy_text_defs::specs::StatementReading::transaction_rest))]
@@ -185,10 +211,11 @@ fn leaf(alloc: Global, cursor: &mut Cursor<'_>) -> Result<Statement, Refusal>
     cursor.literal("using")?;
     let used = cursor.name()?;
     let attrs = cursor.attributes()?;
+    let limit = cursor.limit()?;
     cursor.literal("classes")?;
     let classes = names(alloc, cursor)?;
     let used = Name::new(alloc, used)?;
-    Ok(Statement::Leaf(Name::new(alloc, name)?, used, attrs, classes))
+    Ok(Statement::Leaf(Name::new(alloc, name)?, used, attrs, limit, classes))
 }
 
 #[tactic(auto, unfolding(policy_text_defs::specs::StatementReading::node_rest))]

@@ -13,7 +13,7 @@ use Rattle.policy_text_defs.specs.Ranges.{attribute_least, attribute_most}
 use Rattle.policy_text_defs.specs.Statements.{IsName, unset, attribute_value, with_attribute, MaySet, AttributesFrom, no_more, set, Attributes, AreNames}
 use Rattle.policy_text_defs.specs.Reading.{pick, ahead}
 use Rattle.policy_text_defs.specs.StatementReading.{repeated, many, attribute_at, is_unset, set_to, set_next, attributes, name_ahead, name_last, names}
-use Rattle.policy_text_defs.proofs.StepLaws.{steps, same_value, same_rest, stands, ahead_at, in_table}
+use Rattle.policy_text_defs.proofs.StepLaws.{With, steps, same_value, same_rest, stands, ahead_at, in_table}
 use Rattle.policy_text_defs.proofs.TokenLaws.{numbered, kept, Kept, both_true, named_reads, name_was}
 use Rattle.policy_text_defs.proofs.RepeatLaws.{Leads, Goes, no_step, onward, repeated_ends, repeated_more, many_was, leads_shrink}
 
@@ -81,13 +81,7 @@ sets a b ts (onward us vs _ c _ is on) =
     let P : List Glyph → Type 0 = λ l. AttributesFrom a (l ++ vs) b in
     subst P (sym is.tokens) (set is.key is.value vs a b is.may later)
 
--- attributes were read
-pub record WithAttributes (gs : List Glyph) (a : Attrs) (left : List Glyph) : Type 0 where
-  pub front : List Glyph
-  pub split : gs ≡ front ++ left
-  pub is : Attributes front a
-
-pub attributes_were : (a : Attrs) (gs left : List Glyph) → attributes gs ≡ Some (a, left) → WithAttributes gs a left
+pub attributes_were : (a : Attrs) (gs left : List Glyph) → attributes gs ≡ Some (a, left) → With Attributes gs a left
 attributes_were a gs left e =
     let leads = many_was _ _ attribute_was unset a gs left e in
     record { front = leads.front; split = leads.split; is = sets unset a leads.front leads.is }

@@ -94,7 +94,7 @@ unshaped (each n s) = refl
 unshaped (push n a) = refl
 unshaped (pop n a) = refl
 unshaped (class n a cs) = refl
-unshaped (leaf n u a ns) = refl
+unshaped (leaf n u a l ns) = refl
 unshaped (node n u a ns) = refl
 
 statement_carried : (s : Sense) → IsValid s → Carries (statement_text s) s

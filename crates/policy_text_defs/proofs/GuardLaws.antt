@@ -6,7 +6,7 @@ use Rattle.policy_text_defs.specs.declared.condition.Condition.{Condition}
 use Rattle.policy_text_defs.specs.Statements.{IsCondition, Conditions, last, also, Guard, unguarded, guarded}
 use Rattle.policy_text_defs.specs.Reading.{Outcome, pick, pure, ahead}
 use Rattle.policy_text_defs.specs.StatementReading.{repeated, many, a_condition, word_ahead, condition_last, conditions, guard}
-use Rattle.policy_text_defs.proofs.StepLaws.{steps, same_value, same_rest}
+use Rattle.policy_text_defs.proofs.StepLaws.{With, steps, same_value, same_rest}
 use Rattle.policy_text_defs.proofs.ConditionLaws.{apart_end, apart_word, word_follows, condition_was, condition_reads}
 use Rattle.policy_text_defs.proofs.RepeatLaws.{Leads, Goes, no_step, onward, repeated_ends, repeated_more, many_was, leads_shrink}
 
@@ -62,19 +62,13 @@ conditions_were cs gs left e =
     let more = follow (first.value ∷ []) cs leads.front leads.is in
     record { front = was.front ++ leads.front; split = was.split ∙ ap (λ l. was.front ++ l) leads.split ∙ sym (append_assoc was.front leads.front left); are = subst (Conditions (was.front ++ leads.front)) more.same (joined was.front leads.front first.value more.conditions was.is more.are) }
 
--- what may follow attributes was read
-pub record WithGuard (gs : List Glyph) (cs : List Condition) (left : List Glyph) : Type 0 where
-  pub front : List Glyph
-  pub split : gs ≡ front ++ left
-  pub is : Guard front cs
-
-guard_case : (cs : List Condition) (gs left : List Glyph) (found : Outcome (Unit {0})) → ahead (word_ahead (codes "when")) gs ≡ found → pick found (pure [] gs) (λ t. conditions t.1) ≡ Some (cs, left) → WithGuard gs cs left
+guard_case : (cs : List Condition) (gs left : List Glyph) (found : Outcome (Unit {0})) → ahead (word_ahead (codes "when")) gs ≡ found → pick found (pure [] gs) (λ t. conditions t.1) ≡ Some (cs, left) → With Guard gs cs left
 guard_case cs gs left None is e = record { front = []; split = same_rest [] cs gs left e; is = subst (Guard []) (same_value [] cs gs left e) unguarded }
 guard_case cs gs left (Some t) is e =
     let were = conditions_were cs t.1 left e in
     record { front = text (codes "when") ∷ were.front; split = word_follows (codes "when") gs t.1 t.0 is ∙ ap (λ l. text (codes "when") ∷ l) were.split; is = guarded were.front cs were.are }
 
-pub guard_was : (cs : List Condition) (gs left : List Glyph) → guard gs ≡ Some (cs, left) → WithGuard gs cs left
+pub guard_was : (cs : List Condition) (gs left : List Glyph) → guard gs ≡ Some (cs, left) → With Guard gs cs left
 unfolding guard
 guard_was cs gs left e = guard_case cs gs left (ahead (word_ahead (codes "when")) gs) refl e
 

@@ -6,6 +6,7 @@ pub mod ConditionLaws
 pub mod ExpressionLaws
 pub mod GrammarLaws
 pub mod GuardLaws
+pub mod LimitLaws
 pub mod NumberLimits
 pub mod Pieces
 pub mod RepeatLaws

@@ -1,6 +1,6 @@
 -- The tokens of a canonical line are a form of its statement.
 use Rattle.std.proofs.Common.{◌≡◌, ℕ, ◌<◌, ◌≤◌, eqb, cond, Bool, true, false, List, [], ◌∷◌, ◌++◌, Option, Some, None, sym, refl, subst, arith}
-use Rattle.std.specs.Prelude.{codes, ◌||◌}
+use Rattle.std.specs.Prelude.{codes, ◌||◌, IfSome}
 use Rattle.std.specs.Str.{bytes_eq}
 use Rattle.std.proofs.lemmas.Slice.Eq.{bytes_eq-Decides}
 use Rattle.policy_text_defs.specs.Words.{is_name, is_target}
@@ -15,11 +15,11 @@ use Rattle.policy_text_defs.specs.declared.attribute.Attribute.TheVariants as at
 use Rattle.policy_text_defs.specs.declared.condition.Condition.{Condition}
 use Rattle.policy_text_defs.specs.declared.condition.Condition.TheVariants as condition
 use Rattle.policy_text_defs.specs.Sense.{Sense, version, transaction, keep, each, push, pop, class, leaf, node}
-use Rattle.policy_text_defs.specs.Statements.{IsTarget, variable_target, rank_target, unset, attribute_value, with_attribute, AttributesFrom, no_more, set, Attributes, Range, single, between, AreOctets, address_of, Address, prefix, IsCondition, field, source, dest, ipv4, ipv6, Conditions, last, also, Guard, unguarded, guarded, IsForm, version_form, transaction_form, keep_form, each_form, push_form, pop_form, class_form, leaf_form, node_form}
+use Rattle.policy_text_defs.specs.Statements.{IsTarget, variable_target, rank_target, unset, attribute_value, with_attribute, AttributesFrom, no_more, set, Attributes, Range, single, between, AreOctets, address_of, Address, prefix, IsCondition, field, source, dest, ipv4, ipv6, Conditions, last, also, Guard, unguarded, guarded, IsLimit, Limit, unlimited, limited, IsForm, version_form, transaction_form, keep_form, each_form, push_form, pop_form, class_form, leaf_form, node_form}
 use Rattle.policy_text_defs.specs.Canonical.{octets_of}
 use Rattle.policy_text_defs.specs.Valid.{IsValidAttribute, AreValidAttributes, IsValidAddress, IsValidCondition, IsValid}
 use Rattle.policy_text_defs.proofs.TermForms.{tokens_of-Spells}
-use Rattle.policy_text_defs.proofs.StatementTokens.{attribute_tokens, attributes_tokens, range_tokens, address_tokens, condition_tokens, more_conditions_tokens, guard_tokens, statement_tokens}
+use Rattle.policy_text_defs.proofs.StatementTokens.{attribute_tokens, attributes_tokens, limit_tokens, range_tokens, address_tokens, condition_tokens, more_conditions_tokens, guard_tokens, statement_tokens}
 
 -- ---- attributes
 
@@ -53,6 +53,10 @@ attributes_form a are =
     let third : Q (record { prio = a.prio; weight = a.weight; slack = None }) = subst S (append-nil (attribute_tokens attribute.Slack a.slack)) (attribute_form attribute.Slack a.slack [] (record { prio = a.prio; weight = a.weight; slack = None }) a refl are.slack last_set) in
     let second : P (record { prio = a.prio; weight = None; slack = None }) = attribute_form attribute.Weight a.weight (attribute_tokens attribute.Slack a.slack) (record { prio = a.prio; weight = None; slack = None }) a refl are.weight (subst Q (sym (weight_set a.prio a.weight)) third) in
     attribute_form attribute.Prio a.prio (attribute_tokens attribute.Weight a.weight ++ attribute_tokens attribute.Slack a.slack) unset a refl are.prio (subst P (sym (prio_set a.prio)) second)
+
+limit_form : (l : Option ℕ) → IfSome l IsLimit → Limit (limit_tokens l) l
+limit_form None is = unlimited
+limit_form (Some n) is = limited n is
 
 -- ---- conditions
 
@@ -101,14 +105,12 @@ IsTarget-from w is = target_case w (is_name w) (bytes_eq w (codes "rank")) refl 
 
 -- the tokens of a statement's canonical line are a form of it
 pub statement_form : (s : Sense) → IsValid s → IsForm (statement_tokens s) s
-statement_form (version v) is =
-    let P : ℕ → Type 0 = λ n. IsForm (statement_tokens (version n)) (version n) in
-    subst P (sym is) version_form
+statement_form (version v) is = version_form v is
 statement_form (transaction n) is = transaction_form n is
 statement_form (keep n s) is = keep_form n s is.0 is.1.ordered
 statement_form (each n s) is = each_form n s is.0 is.1.ordered
 statement_form (push n a) is = push_form n _ a (IsTarget-from n is.0) (tokens_of-Spells a is.1.operands is.1.low)
 statement_form (pop n a) is = pop_form n _ a is.0 (tokens_of-Spells a is.1.operands is.1.low)
 statement_form (class n a cs) is = class_form n (attributes_tokens a) (guard_tokens cs) a cs is.0 (attributes_form a is.1) (guard_form cs is.2)
-statement_form (leaf n u a ns) is = leaf_form n u (attributes_tokens a) a ns is.0 is.1 (attributes_form a is.2) is.3
+statement_form (leaf n u a l ns) is = leaf_form n u (attributes_tokens a) (limit_tokens l) a l ns is.0 is.1 (attributes_form a is.2) (limit_form l is.3) is.4
 statement_form (node n u a ns) is = node_form n u (attributes_tokens a) a ns is.0 is.1 (attributes_form a is.2) is.3

@@ -1,8 +1,8 @@
 -- Statements: what is read of all tokens is in a form, and what is in a form is read.
-use Rattle.std.proofs.Common.{◌≡◌, ℕ, List, [], ◌∷◌, ◌++◌, map, Option, Some, None, sym, refl, ap, ◌∙◌, subst, codes}
+use Rattle.std.proofs.Common.{◌≡◌, ℕ, List, [], ◌∷◌, ◌++◌, map, Option, Some, None, leb, sym, refl, ap, ◌∙◌, subst, codes}
 use Rattle.std.proofs.lemmas.List.{append-nil}
-use Rattle.std.proofs.lemmas.Bool.{eqb-true}
-use Rattle.std.specs.Prelude.{◌==◌}
+use Rattle.std.proofs.lemmas.Bool.{le-leb, leb-true}
+use Rattle.std.specs.Prelude.{◌&&◌}
 use Rattle.rank_defs.specs.declared.transaction.Span.{Span}
 use Rattle.text_core.specs.declared.mark.Mark.TheVariants as m
 use Rattle.text_core.specs.Glyphs.{Glyph, text, figure, sign}
@@ -11,15 +11,17 @@ use Rattle.policy_text_defs.specs.declared.condition.Condition.{Condition}
 use Rattle.policy_text_defs.specs.declared.keyword.Keyword.{Keyword}
 use Rattle.policy_text_defs.specs.declared.keyword.Keyword.TheVariants as keyword
 use Rattle.policy_text_defs.specs.Words.{keyword_of}
+use Rattle.policy_text_defs.specs.Ranges.{first_version, last_version}
 use Rattle.policy_text_defs.specs.Sense.{Sense, version, transaction, keep, each, push, pop, class, leaf, node}
-use Rattle.policy_text_defs.specs.Statements.{IsName, IsSpan, AreNames, Attributes, span_tokens, Guard, unguarded, guarded, IsForm, version_form, transaction_form, keep_form, each_form, push_form, pop_form, class_form, leaf_form, node_form}
+use Rattle.policy_text_defs.specs.Statements.{IsName, IsSpan, IsVersion, Limit, AreNames, Attributes, span_tokens, Guard, unguarded, guarded, IsForm, version_form, transaction_form, keep_form, each_form, push_form, pop_form, class_form, leaf_form, node_form}
 use Rattle.policy_text_defs.specs.Reading.{Reader, ◌>>=◌, ◌>>◌, pure, literal, ahead}
-use Rattle.policy_text_defs.specs.StatementReading.{name, names, span, attributes, a_number, attribute_at, version_by, transaction_rest, keep_rest, each_rest, push_rest, pop_rest, class_rest, leaf_rest, node_rest, rest_by, a_statement}
-use Rattle.policy_text_defs.proofs.StepLaws.{steps, same_value, same_rest, marked, worded, in_table}
-use Rattle.policy_text_defs.proofs.TokenLaws.{numbered, a_word_was, kept, Kept, named_reads, name_was, target_reads, target_was, span_reads, span_was}
+use Rattle.policy_text_defs.specs.StatementReading.{name, names, span, attributes, limit, a_number, attribute_at, version_by, transaction_rest, keep_rest, each_rest, push_rest, pop_rest, class_rest, leaf_rest, node_rest, rest_by, a_statement}
+use Rattle.policy_text_defs.proofs.StepLaws.{With, steps, same_value, same_rest, marked, worded, in_table}
+use Rattle.policy_text_defs.proofs.TokenLaws.{numbered, a_word_was, kept, Kept, both_true, named_reads, name_was, target_reads, target_was, span_reads, span_was}
 use Rattle.policy_text_defs.proofs.ExpressionLaws.{Spells-read, read-Spells}
 use Rattle.policy_text_defs.proofs.AttributeLaws.{read_attributes, attributes_were, read_names, names_were}
 use Rattle.policy_text_defs.proofs.GuardLaws.{read_guard, guard_was}
+use Rattle.policy_text_defs.proofs.LimitLaws.{limit_was, read_limit, limit_ends}
 
 -- how a statement begins
 abbrev keyword_word : Keyword → List ℕ
@@ -53,17 +55,18 @@ keyword_is w k e =
 formed : (w : List ℕ) (ts gs : List Glyph) (r s : Sense) → IsForm (text w ∷ ts) r → gs ≡ ts → r ≡ s → IsForm (text w ∷ gs) s
 formed w ts gs r s is split same = let P : List Glyph → Type 0 = λ l. IsForm (text w ∷ l) s in subst P (sym split) (subst (IsForm (text w ∷ ts)) same is)
 
-version_was : (n : ℕ) (gs : List Glyph) (s : Sense) → version_by n gs ≡ Some (s, []) → Kept (n == 1) (version 1) s gs []
+version_was : (n : ℕ) (gs : List Glyph) (s : Sense) → version_by n gs ≡ Some (s, []) → Kept (leb first_version n && leb n last_version) (version n) s gs []
 unfolding version_by
-version_was n gs s e = kept (n == 1) (version 1) s gs [] e
+version_was n gs s e = kept (leb first_version n && leb n last_version) (version n) s gs [] e
 
 version_sound : (gs : List Glyph) (s : Sense) → (a_number >>= version_by) gs ≡ Some (s, []) → IsForm (text (codes "policy") ∷ gs) s
 version_sound gs s e =
     let a = steps (a_number gs) version_by s [] e in
     let k = version_was a.value a.left s a.next in
-    let one : a.value ≡ 1 = eqb-true a.value 1 k.is in
-    let split : gs ≡ figure 1 ∷ [] = numbered gs a.left a.value a.read ∙ ap (λ l. figure a.value ∷ l) k.rest ∙ ap (λ n. figure n ∷ []) one in
-    formed (codes "policy") (figure 1 ∷ []) gs (version 1) s version_form split k.same
+    let both = both_true (leb first_version a.value) (leb a.value last_version) k.is in
+    let is : IsVersion a.value = record { above = leb-true first_version a.value both.0; below = leb-true a.value last_version both.1 } in
+    let split : gs ≡ figure a.value ∷ [] = numbered gs a.left a.value a.read ∙ ap (λ l. figure a.value ∷ l) k.rest in
+    formed (codes "policy") (figure a.value ∷ []) gs (version a.value) s (version_form a.value is) split k.same
 
 transaction_sound : (gs : List Glyph) (s : Sense) → transaction_rest gs ≡ Some (s, []) → IsForm (text (codes "transaction") ∷ gs) s
 unfolding transaction_rest
@@ -126,18 +129,19 @@ class_sound gs s e =
     let split : gs ≡ text a.value ∷ w.front ++ g.front = n.split ∙ ap (λ l. text a.value ∷ l) (w.split ∙ ap (λ l. w.front ++ l) guards) in
     formed (codes "class") (text a.value ∷ w.front ++ g.front) gs r s (class_form a.value w.front g.front b.value c.value n.is w.is g.is) split (same_value r s c.left [] c.next)
 
--- a leaf or node, under its keyword, with what it lists behind another word
-module _ (w list : List ℕ) (made : List ℕ → List ℕ → Attrs → List (List ℕ) → Sense) (form : (n u : List ℕ) (ts : List Glyph) (a : Attrs) (ns : List (List ℕ)) → IsName n → IsName u → Attributes ts a → AreNames ns
-    → IsForm (text w ∷ text n ∷ text (codes "using") ∷ text u ∷ ts ++ text list ∷ map text ns) (made n u a ns)) where
+-- a leaf or node, under its keyword, with what may follow its attributes and what it lists behind another word
+module _ {L : Type 0} (w list : List ℕ) (further : Reader L) (Is : List Glyph → L → Type 0) (further_was : (l : L) (gs left : List Glyph) → further gs ≡ Some (l, left) → With Is gs l left) (made : List ℕ → List ℕ → Attrs → L → List (List ℕ) → Sense)
+    (form : (n u : List ℕ) (ts ls : List Glyph) (a : Attrs) (l : L) (ns : List (List ℕ)) → IsName n → IsName u → Attributes ts a → Is ls l → AreNames ns → IsForm (text w ∷ text n ∷ text (codes "using") ∷ text u ∷ ts ++ (ls ++ text list ∷ map text ns)) (made n u a l ns)) where
   abbrev vertex_rest : Reader Sense
   vertex_rest = do
     n ← name
     literal (codes "using")
     u ← name
     a ← attributes
+    l ← further
     literal list
     ns ← names
-    pure (made n u a ns)
+    pure (made n u a l ns)
 
   vertex_sound : (gs : List Glyph) (s : Sense) → vertex_rest gs ≡ Some (s, []) → IsForm (text w ∷ gs) s
   vertex_sound gs s e =
@@ -145,26 +149,41 @@ module _ (w list : List ℕ) (made : List ℕ → List ℕ → Attrs → List (L
       let b = steps _ _ _ _ a.next in
       let c = steps _ _ _ _ b.next in
       let d = steps _ _ _ _ c.next in
-      let f = steps _ _ _ _ d.next in
+      let v = steps _ _ _ _ d.next in
+      let f = steps _ _ _ _ v.next in
       let h = steps _ _ _ _ f.next in
       let n = name_was a.value gs a.left a.read in
       let u = name_was c.value b.left c.left c.read in
       let k = attributes_were d.value c.left d.left d.read in
+      let o = further_was v.value d.left v.left v.read in
       let ns = names_were h.value f.left h.left h.read in
-      let r : Sense = made a.value c.value d.value h.value in
+      let r : Sense = made a.value c.value d.value v.value h.value in
       let listed : f.left ≡ map text h.value = ns.split ∙ ap (λ l. map text h.value ++ l) (same_rest r s h.left [] h.next) ∙ append-nil (map text h.value) in
-      let lists : d.left ≡ text list ∷ map text h.value = worded list d.left f.left f.value f.read ∙ ap (λ l. text list ∷ l) listed in
-      let attrs : c.left ≡ k.front ++ text list ∷ map text h.value = k.split ∙ ap (λ l. k.front ++ l) lists in
-      let using : a.left ≡ text (codes "using") ∷ text c.value ∷ k.front ++ text list ∷ map text h.value = worded (codes "using") a.left b.left b.value b.read ∙ ap (λ l. text (codes "using") ∷ l) (u.split ∙ ap (λ l. text c.value ∷ l) attrs) in
-      formed w (text a.value ∷ text (codes "using") ∷ text c.value ∷ k.front ++ text list ∷ map text h.value) gs r s (form a.value c.value k.front d.value h.value n.is u.is k.is ns.are) (n.split ∙ ap (λ l. text a.value ∷ l) using) (same_value r s h.left [] h.next)
+      let lists : v.left ≡ text list ∷ map text h.value = worded list v.left f.left f.value f.read ∙ ap (λ l. text list ∷ l) listed in
+      let behind : d.left ≡ o.front ++ text list ∷ map text h.value = o.split ∙ ap (λ l. o.front ++ l) lists in
+      let attrs : c.left ≡ k.front ++ (o.front ++ text list ∷ map text h.value) = k.split ∙ ap (λ l. k.front ++ l) behind in
+      let using : a.left ≡ text (codes "using") ∷ text c.value ∷ k.front ++ (o.front ++ text list ∷ map text h.value) = worded (codes "using") a.left b.left b.value b.read ∙ ap (λ l. text (codes "using") ∷ l) (u.split ∙ ap (λ l. text c.value ∷ l) attrs) in
+      formed w (text a.value ∷ text (codes "using") ∷ text c.value ∷ k.front ++ (o.front ++ text list ∷ map text h.value)) gs r s (form a.value c.value k.front o.front d.value v.value h.value n.is u.is k.is o.is ns.are) (n.split ∙ ap (λ l. text a.value ∷ l) using) (same_value r s h.left [] h.next)
 
 leaf_sound : (gs : List Glyph) (s : Sense) → leaf_rest gs ≡ Some (s, []) → IsForm (text (codes "leaf") ∷ gs) s
 unfolding leaf_rest
-leaf_sound gs s e = vertex_sound (codes "leaf") (codes "classes") leaf leaf_form gs s e
+leaf_sound gs s e = vertex_sound (codes "leaf") (codes "classes") limit Limit limit_was leaf leaf_form gs s e
+
+-- nothing more follows the attributes
+abbrev NoMore : List Glyph → Unit {0} → Type 0
+NoMore ls l = ls ≡ []
+
+no_more_was : (l : Unit {0}) (gs left : List Glyph) → pure tt gs ≡ Some (l, left) → With NoMore gs l left
+no_more_was l gs left e = record { front = []; split = same_rest tt l gs left e; is = refl }
+
+node_plain : (n u : List ℕ) (ts ls : List Glyph) (a : Attrs) (l : Unit {0}) (ns : List (List ℕ)) → IsName n → IsName u → Attributes ts a → NoMore ls l → AreNames ns → IsForm (text (codes "node") ∷ text n ∷ text (codes "using") ∷ text u ∷ ts ++ (ls ++ text (codes "children") ∷ map text ns)) (node n u a ns)
+node_plain n u ts ls a l ns name used attributes none are =
+    let P : List Glyph → Type 0 = λ ls. IsForm (text (codes "node") ∷ text n ∷ text (codes "using") ∷ text u ∷ ts ++ (ls ++ text (codes "children") ∷ map text ns)) (node n u a ns) in
+    subst P (sym none) (node_form n u ts a ns name used attributes are)
 
 node_sound : (gs : List Glyph) (s : Sense) → node_rest gs ≡ Some (s, []) → IsForm (text (codes "node") ∷ gs) s
 unfolding node_rest
-node_sound gs s e = vertex_sound (codes "node") (codes "children") node node_form gs s e
+node_sound gs s e = vertex_sound (codes "node") (codes "children") (pure tt) NoMore no_more_was (λ n u a l ns. node n u a ns) node_plain gs s e
 
 keyword_sound : (k : Keyword) (gs : List Glyph) (s : Sense) → rest_by (Some k) gs ≡ Some (s, []) → IsForm (text (keyword_word k) ∷ gs) s
 keyword_sound keyword.Policy gs s e = version_sound gs s e
@@ -198,14 +217,16 @@ span_alone s = refl
 
 pub read-IsForm : (gs : List Glyph) (s : Sense) → IsForm gs s → a_statement gs ≡ Some (s, [])
 unfolding a_statement version_by transaction_rest keep_rest each_rest push_rest pop_rest class_rest leaf_rest node_rest
-read-IsForm gs s version_form = refl
+read-IsForm gs s (version_form v is) = rw (le-leb first_version v is.above, le-leb v last_version is.below) refl
 read-IsForm gs s (transaction_form n is) = rw (named_reads n [] is) refl
 read-IsForm gs s (keep_form n r is range) = rw (named_reads n (span_tokens r) is, span_reads r [] range) refl
 read-IsForm gs s (each_form n r is range) = rw (named_reads n (span_tokens r) is, span_reads r [] range) refl
 read-IsForm gs s (push_form n ts a is spells) = rw (target_reads n (sign m.Is ∷ ts) is, read-Spells ts a spells) refl
 read-IsForm gs s (pop_form n ts a is spells) = rw (named_reads n (sign m.Is ∷ ts) is, read-Spells ts a spells) refl
 read-IsForm gs s (class_form n ts us a cs is attrs guards) = rw (named_reads n (ts ++ us) is, read_attributes a ts us attrs (guard_ends us cs guards), read_guard cs us guards) refl
-read-IsForm gs s (leaf_form n u ts a ns is using attrs are) = rw (named_reads n (text (codes "using") ∷ text u ∷ (ts ++ text (codes "classes") ∷ map text ns)) is, named_reads u (ts ++ text (codes "classes") ∷ map text ns) using, read_attributes a ts (text (codes "classes") ∷ map text ns) attrs refl, read_names ns are) refl
+read-IsForm gs s (leaf_form n u ts ls a l ns is using attrs may are) =
+    let list : List Glyph = text (codes "classes") ∷ map text ns in
+    rw (named_reads n (text (codes "using") ∷ text u ∷ (ts ++ (ls ++ list))) is, named_reads u (ts ++ (ls ++ list)) using, read_attributes a ts (ls ++ list) attrs (limit_ends l ls (map text ns) may), read_limit l ls (map text ns) may, read_names ns are) refl
 read-IsForm gs s (node_form n u ts a ns is using attrs are) = rw (named_reads n (text (codes "using") ∷ text u ∷ (ts ++ text (codes "children") ∷ map text ns)) is, named_reads u (ts ++ text (codes "children") ∷ map text ns) using, read_attributes a ts (text (codes "children") ∷ map text ns) attrs refl, read_names ns are) refl
 
 -- tokens are a form of one statement

@@ -1,6 +1,6 @@
 -- The canonical line of a statement says the statement's tokens.
 use Rattle.std.proofs.Common.{◌≡◌, ℕ, ◌≤◌, eqb, cond, Bool, true, false, List, [], ◌∷◌, ◌++◌, map, Option, Some, None, refl, arith}
-use Rattle.std.specs.Prelude.{codes}
+use Rattle.std.specs.Prelude.{codes, IfSome}
 use Rattle.std.specs.Fmt.{decimal}
 use Rattle.std.specs.List.{AllByRecursion}
 use Rattle.rank_defs.specs.declared.transaction.Span.{Span}
@@ -18,13 +18,13 @@ use Rattle.policy_text_defs.specs.declared.condition.FieldName.TheVariants as fi
 use Rattle.policy_text_defs.specs.Words.{is_word, attribute_word, field_word}
 use Rattle.policy_text_defs.specs.Ranges.{attribute_most, field_most}
 use Rattle.policy_text_defs.specs.Sense.{Sense, version, transaction, keep, each, push, pop, class, leaf, node}
-use Rattle.policy_text_defs.specs.Statements.{IsName, span_tokens}
-use Rattle.policy_text_defs.specs.Canonical.{between_text, span_text, range_text, octets_of, address_text, condition_text, more_conditions_text, guard_text, attribute_text, attributes_text, names_text, statement_text}
+use Rattle.policy_text_defs.specs.Statements.{IsName, IsLimit, span_tokens}
+use Rattle.policy_text_defs.specs.Canonical.{between_text, span_text, range_text, octets_of, address_text, condition_text, more_conditions_text, guard_text, attribute_text, attributes_text, limit_text, names_text, statement_text}
 use Rattle.policy_text_defs.specs.Valid.{IsValidAttribute, AreValidAttributes, IsValidSpan, IsValidAddress, IsValidCondition, IsValid}
 use Rattle.policy_text_defs.proofs.WordForms.{name_is_word, target_is_word}
 use Rattle.policy_text_defs.proofs.Pieces.{Anything, IsPiece, boundary-append, join, after, before, text_blank, text_slash, text_dots, text_dot, text_is, text_word, text_number}
 use Rattle.policy_text_defs.proofs.TermPieces.{text_term}
-use Rattle.policy_text_defs.proofs.StatementTokens.{attribute_tokens, attributes_tokens, range_tokens, address_tokens, condition_tokens, more_conditions_tokens, guard_tokens, statement_tokens}
+use Rattle.policy_text_defs.proofs.StatementTokens.{attribute_tokens, attributes_tokens, limit_tokens, range_tokens, address_tokens, condition_tokens, more_conditions_tokens, guard_tokens, statement_tokens}
 use Rattle.policy_text_defs.proofs.StatementForms.{octets_are}
 
 text_nothing : IsPiece IsBoundary [] []
@@ -61,6 +61,16 @@ text_attributes : (a : Attrs) → AreValidAttributes a → IsPiece IsBoundary (a
 text_attributes a are =
     before (text_attribute attribute.Prio a.prio are.prio) (boundary-append (attribute_text attribute.Weight a.weight) _ (attribute_boundary attribute.Weight a.weight) (attribute_boundary attribute.Slack a.slack))
     (before (text_attribute attribute.Weight a.weight are.weight) (attribute_boundary attribute.Slack a.slack) (text_attribute attribute.Slack a.slack are.slack))
+
+limit_boundary : (l : Option ℕ) → IsBoundary (limit_text l)
+limit_boundary None = tt
+limit_boundary (Some n) = refl
+
+text_limit : (l : Option ℕ) → IfSome l IsLimit → IsPiece IsBoundary (limit_text l) (limit_tokens l)
+text_limit None is = text_nothing
+text_limit (Some n) is =
+    let below = is.below in
+    after text_blank (after (text_key {w = codes "limit"} refl) (text_number n (omega arith)))
 
 -- ---- ranges, addresses and conditions
 
@@ -147,6 +157,7 @@ text_named {n = n} key is end t = after (text_key key) (before (text_word n is) 
 -- the canonical line of a statement says its tokens
 pub text_statement : (s : Sense) → IsValid s → IsPiece IsBoundary (statement_text s) (statement_tokens s)
 text_statement (version v) is =
+    let below = is.below in
     let small : v ≤ max = omega arith in
     after (text_key {w = codes "policy"} refl) (text_number v small)
 text_statement (transaction n) is = after (text_key {w = codes "transaction"} refl) (text_word n (name_is_word n is))
@@ -155,9 +166,10 @@ text_statement (each n s) is = text_named {w = codes "each"} refl (name_is_word 
 text_statement (push n a) is = text_named {w = codes "push"} refl (target_is_word n is.0) refl (after text_is (text_term a is.1.operands))
 text_statement (pop n a) is = text_named {w = codes "pop"} refl (name_is_word n is.0) refl (after text_is (text_term a is.1.operands))
 text_statement (class n a cs) is = text_named {w = codes "class"} refl (name_is_word n is.0) (boundary-append (attributes_text a) _ (attributes_boundary a) (guard_boundary cs)) (before (text_attributes a is.1) (guard_boundary cs) (text_guard cs is.2))
-text_statement (leaf n u a ns) is =
-    let names = after text_blank (before (text_word (codes "classes") refl) (names_boundary ns) (text_names ns is.3.each)) in
-    let behind = before (text_word u (name_is_word u is.1)) (boundary-append (attributes_text a) _ (attributes_boundary a) refl) (before (text_attributes a is.2) refl names) in
+text_statement (leaf n u a l ns) is =
+    let names = after text_blank (before (text_word (codes "classes") refl) (names_boundary ns) (text_names ns is.4.each)) in
+    let end = boundary-append (limit_text l) _ (limit_boundary l) refl in
+    let behind = before (text_word u (name_is_word u is.1)) (boundary-append (attributes_text a) _ (attributes_boundary a) end) (before (text_attributes a is.2) end (before (text_limit l is.3) refl names)) in
     text_named {w = codes "leaf"} refl (name_is_word n is.0) refl (after text_blank (after (text_key {w = codes "using"} refl) behind))
 text_statement (node n u a ns) is =
     let names = after text_blank (before (text_word (codes "children") refl) (names_boundary ns) (text_names ns is.3.each)) in

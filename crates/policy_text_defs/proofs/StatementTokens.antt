@@ -20,6 +20,10 @@ attribute_tokens k (Some n) = text (attribute_word k) ∷ figure n ∷ []
 abbrev pub attributes_tokens : Attrs → List Glyph
 attributes_tokens a = attribute_tokens attribute.Prio a.prio ++ (attribute_tokens attribute.Weight a.weight ++ attribute_tokens attribute.Slack a.slack)
 
+abbrev pub limit_tokens : Option ℕ → List Glyph
+limit_tokens None = []
+limit_tokens (Some n) = text (codes "limit") ∷ figure n ∷ []
+
 abbrev pub range_tokens : ℕ → ℕ → List Glyph
 range_tokens low high = if low == high then figure low ∷ [] else (figure low ∷ sign m.DotDot ∷ figure high ∷ [])
 
@@ -49,5 +53,5 @@ statement_tokens (each n s) = text (codes "each") ∷ text n ∷ span_tokens s
 statement_tokens (push n a) = text (codes "push") ∷ text n ∷ sign m.Is ∷ tokens_of a
 statement_tokens (pop n a) = text (codes "pop") ∷ text n ∷ sign m.Is ∷ tokens_of a
 statement_tokens (class n a cs) = text (codes "class") ∷ text n ∷ attributes_tokens a ++ guard_tokens cs
-statement_tokens (leaf n u a ns) = text (codes "leaf") ∷ text n ∷ text (codes "using") ∷ text u ∷ attributes_tokens a ++ text (codes "classes") ∷ map text ns
+statement_tokens (leaf n u a l ns) = text (codes "leaf") ∷ text n ∷ text (codes "using") ∷ text u ∷ attributes_tokens a ++ (limit_tokens l ++ text (codes "classes") ∷ map text ns)
 statement_tokens (node n u a ns) = text (codes "node") ∷ text n ∷ text (codes "using") ∷ text u ∷ attributes_tokens a ++ text (codes "children") ∷ map text ns

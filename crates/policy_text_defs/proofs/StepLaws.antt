@@ -1,5 +1,5 @@
 -- Steps of reading: what each took of the tokens.
-use Rattle.std.proofs.Common.{◌≡◌, ℕ, List, [], ◌∷◌, Option, Some, None, Bool, true, false, cond, sym, refl, ap, ◌∙◌, subst}
+use Rattle.std.proofs.Common.{◌≡◌, ℕ, List, [], ◌∷◌, ◌++◌, Option, Some, None, Bool, true, false, cond, sym, refl, ap, ◌∙◌, subst}
 use Rattle.std.specs.Str.{bytes_eq}
 use Rattle.std.proofs.lemmas.Slice.Eq.{bytes_eq-Decides}
 use Rattle.text_core.specs.declared.mark.Mark.{Mark}
@@ -25,6 +25,12 @@ same_value a b gs hs e = ap (λ v. pick v a (λ p. p.0)) e
 
 pub same_rest : {A : Type 0} (a b : A) (gs hs : List Glyph) → pure a gs ≡ Some (b, hs) → gs ≡ hs
 same_rest a b gs hs e = ap (λ v. pick v gs (λ p. p.1)) e
+
+-- a front of the tokens is the form of a value
+pub record With {A : Type 0} (Is : List Glyph → A → Type 0) (gs : List Glyph) (a : A) (left : List Glyph) : Type 0 where
+  pub front : List Glyph
+  pub split : gs ≡ front ++ left
+  pub is : Is front a
 
 -- the first token is something
 pub record Stands {A : Type 0} (test : Glyph → Option A) (gs : List Glyph) (a : A) (hs : List Glyph) : Type 0 where

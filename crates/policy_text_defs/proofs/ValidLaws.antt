@@ -1,6 +1,6 @@
 -- What holds of a statement that some line has.
 use Rattle.std.proofs.Common.{◌≡◌, ℕ, zero, suc, ◌≤◌, List, [], ◌∷◌, ◌++◌, Option, Some, None, Bool, true, false, cond, refl, arith}
-use Rattle.std.specs.Prelude.{codes}
+use Rattle.std.specs.Prelude.{codes, IfSome}
 use Rattle.std.specs.Str.{bytes_eq}
 use Rattle.std.specs.List.{AllByRecursion}
 use Rattle.rank_defs.specs.declared.expression.Op.{Op}
@@ -16,7 +16,7 @@ use Rattle.policy_text_defs.proofs.ValidProps.{IsValid-prop}
 use Rattle.policy_text_defs.specs.Phrase.{Phrase, two, most_open}
 use Rattle.policy_text_defs.specs.Grammar.{Form, GoesOn, ends, more, Grouped, grouped, Compared, alone, compared, Expression, IsOperand, named, variable, AtomOver, number_atom, word_atom, parens_atom, call_atom, not_atom, if_atom, NoForm, Atom, Spells}
 use Rattle.policy_text_defs.specs.Sense.{Sense}
-use Rattle.policy_text_defs.specs.Statements.{IsTarget, variable_target, rank_target, unset, with_attribute, AttributesFrom, no_more, set, Attributes, Range, single, between, Address, whole, prefix, IsCondition, field, protocol, source, dest, ipv4, ipv6, Conditions, last, also, Guard, unguarded, guarded, IsForm, version_form, transaction_form, keep_form, each_form, push_form, pop_form, class_form, leaf_form, node_form}
+use Rattle.policy_text_defs.specs.Statements.{IsTarget, variable_target, rank_target, unset, with_attribute, AttributesFrom, no_more, set, Attributes, Range, single, between, Address, whole, prefix, IsCondition, field, protocol, source, dest, ipv4, ipv6, Conditions, last, also, Guard, unguarded, guarded, IsLimit, Limit, unlimited, limited, IsForm, version_form, transaction_form, keep_form, each_form, push_form, pop_form, class_form, leaf_form, node_form}
 use Rattle.policy_text_defs.specs.Text.{LineOf, IsWritten}
 use Rattle.policy_text_defs.specs.Valid.{HasOperands, IsValidPhrase, IsAttributeNumber, AreValidAttributes, IsValidAddress, IsValidCondition, IsValid}
 use Rattle.policy_text_defs.proofs.NumberLimits.{IsLexed, Says-lexed}
@@ -90,6 +90,10 @@ attributes_from a gs b (set k n ts _ _ may later) are = attributes_from (with_at
 attributes_valid : (ts : List Glyph) (a : Attrs) → Attributes ts a → AreValidAttributes a
 attributes_valid ts a is = attributes_from unset ts a is (record { prio = tt; weight = tt; slack = tt })
 
+limit_valid : (ls : List Glyph) (l : Option ℕ) → Limit ls l → IfSome l IsLimit
+limit_valid ls l unlimited = tt
+limit_valid ls l (limited n is) = is
+
 -- ---- conditions
 
 range_ordered : (ts : List Glyph) (low high : ℕ) → Range ts low high → low ≤ high
@@ -139,14 +143,14 @@ target_is w (variable_target _ is) = rw is refl
 target_is w rank_target = refl
 
 form_valid : (gs : List Glyph) (s : Sense) → AreLexed gs → IsForm gs s → IsValid s
-form_valid gs s all version_form = refl
+form_valid gs s all (version_form v is) = is
 form_valid gs s all (transaction_form n name) = name
 form_valid gs s all (keep_form n span name ordered) = (name, record { ordered = ordered; low = all.1.1.0; high = all.1.1.1.1.0; first = all.1.1.1.1.1.1.0 })
 form_valid gs s all (each_form n span name ordered) = (name, record { ordered = ordered; low = all.1.1.0; high = all.1.1.1.1.0; first = all.1.1.1.1.1.1.0 })
 form_valid gs s all (push_form n ts a target spells) = (target_is n target, phrase_valid ts a all.1.1.1 spells)
 form_valid gs s all (pop_form n ts a name spells) = (name, phrase_valid ts a all.1.1.1 spells)
 form_valid gs s all (class_form n ts us a cs name attributes guard) = (name, attributes_valid ts a attributes, guard_valid us cs guard)
-form_valid gs s all (leaf_form n u ts a ns name used attributes names) = (name, used, attributes_valid ts a attributes, names)
+form_valid gs s all (leaf_form n u ts ls a l ns name used attributes limit names) = (name, used, attributes_valid ts a attributes, limit_valid ls l limit, names)
 form_valid gs s all (node_form n u ts a ns name used attributes names) = (name, used, attributes_valid ts a attributes, names)
 
 line_valid : (s : Sense) → LineOf s → IsValid s

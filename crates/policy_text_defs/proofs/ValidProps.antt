@@ -1,5 +1,6 @@
 -- That a statement can be printed has one proof.
 use Rattle.std.proofs.Common.{ℕ, List, Option, Some, None}
+use Rattle.std.specs.Prelude.{IfSome}
 use Rattle.std.specs.List.{AllByRecursion, AllByRecursion-prop}
 use Rattle.std.proofs.Props.{props}
 use Rattle.policy_text_defs.specs.declared.attribute.Attribute.{Attribute}
@@ -9,7 +10,7 @@ use Rattle.policy_text_defs.specs.declared.condition.Condition.{Condition}
 use Rattle.policy_text_defs.specs.declared.condition.Condition.TheVariants as condition
 use Rattle.policy_text_defs.specs.Phrase.{Phrase, number, word, two, negation, choice}
 use Rattle.policy_text_defs.specs.Sense.{Sense, version, transaction, keep, each, push, pop, class, leaf, node}
-use Rattle.policy_text_defs.specs.Statements.{IsName, AreNames}
+use Rattle.policy_text_defs.specs.Statements.{IsName, IsLimit, AreNames}
 use Rattle.policy_text_defs.specs.Valid.{HasOperands, IsValidPhrase, IsValidAttribute, AreValidAttributes, IsValidCondition, IsValid}
 
 names-prop : (a : Phrase) → IsProp (HasOperands a)
@@ -28,6 +29,10 @@ attribute-prop k (Some n) = hlevel props
 
 attributes-prop : (a : Attrs) → IsProp (AreValidAttributes a)
 attributes-prop a = hlevel (props, attribute-prop attribute.Prio a.prio, attribute-prop attribute.Weight a.weight, attribute-prop attribute.Slack a.slack)
+
+limit-prop : (l : Option ℕ) → IsProp (IfSome l IsLimit)
+limit-prop None = hlevel props
+limit-prop (Some n) = hlevel props
 
 condition-prop : (c : Condition) → IsProp (IsValidCondition c)
 condition-prop (condition.Field f low high) = hlevel props
@@ -56,5 +61,5 @@ IsValid-prop (each n s) = hlevel props
 IsValid-prop (push n a) = hlevel (props, phrase-prop a)
 IsValid-prop (pop n a) = hlevel (props, phrase-prop a)
 IsValid-prop (class n a cs) = hlevel (props, attributes-prop a, conditions-prop cs)
-IsValid-prop (leaf n u a ns) = hlevel (props, attributes-prop a, are-names-prop ns)
+IsValid-prop (leaf n u a l ns) = hlevel (props, attributes-prop a, limit-prop l, are-names-prop ns)
 IsValid-prop (node n u a ns) = hlevel (props, attributes-prop a, are-names-prop ns)

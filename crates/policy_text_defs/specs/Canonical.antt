@@ -120,6 +120,11 @@ attribute_text k (Some n) = codes " " ++ (attribute_word k ++ (codes " " ++ deci
 abbrev pub attributes_text : Attrs → List ℕ
 attributes_text a = attribute_text attribute.Prio a.prio ++ (attribute_text attribute.Weight a.weight ++ attribute_text attribute.Slack a.slack)
 
+-- a limit that was written, with the space before it
+abbrev pub limit_text : Option ℕ → List ℕ
+limit_text None = []
+limit_text (Some n) = codes " limit " ++ decimal n
+
 -- names, each with the space before it
 abbrev pub names_text : List (List ℕ) → List ℕ
 names_text [] = []
@@ -142,7 +147,7 @@ statement_text (each n s) = declaration_text (codes "each ") n s
 statement_text (push n a) = assignment_text (codes "push ") n a
 statement_text (pop n a) = assignment_text (codes "pop ") n a
 statement_text (class n a cs) = codes "class " ++ (n ++ (attributes_text a ++ guard_text cs))
-statement_text (leaf n u a ns) = codes "leaf " ++ (n ++ (codes " using " ++ (u ++ (attributes_text a ++ (codes " classes" ++ names_text ns)))))
+statement_text (leaf n u a l ns) = codes "leaf " ++ (n ++ (codes " using " ++ (u ++ (attributes_text a ++ (limit_text l ++ (codes " classes" ++ names_text ns))))))
 statement_text (node n u a ns) = codes "node " ++ (n ++ (codes " using " ++ (u ++ (attributes_text a ++ (codes " children" ++ names_text ns)))))
 
 -- the lines of statements in order, each ended by a line feed
@@ -166,6 +171,10 @@ addresses_have_a_length : statement_text (class (codes "backup") (record { prio 
 unfolding digits
 addresses_have_a_length = refl
 
-lines_have_ends : canonical_text (version 1 ∷ keep (codes "vt") (record { low = 0; high = 7; first = 0 }) ∷ leaf (codes "root") (codes "fifo") (record { prio = None; weight = Some 4; slack = None }) (codes "a" ∷ codes "b" ∷ []) ∷ []) ≡ codes "policy 1\nkeep vt 0..7 = 0\nleaf root using fifo weight 4 classes a b\n"
+lines_have_ends : canonical_text (version 1 ∷ keep (codes "vt") (record { low = 0; high = 7; first = 0 }) ∷ leaf (codes "root") (codes "fifo") (record { prio = None; weight = Some 4; slack = None }) None (codes "a" ∷ codes "b" ∷ []) ∷ []) ≡ codes "policy 1\nkeep vt 0..7 = 0\nleaf root using fifo weight 4 classes a b\n"
 unfolding digits
 lines_have_ends = refl
+
+a_limit_follows_the_attributes : canonical_text (version 2 ∷ leaf (codes "root") (codes "fifo") (record { prio = None; weight = Some 4; slack = None }) (Some 64) (codes "a" ∷ []) ∷ []) ≡ codes "policy 2\nleaf root using fifo weight 4 limit 64 classes a\n"
+unfolding digits
+a_limit_follows_the_attributes = refl

@@ -17,6 +17,20 @@ attribute_most attribute.Prio = max_prio
 attribute_most attribute.Weight = max_weight
 attribute_most attribute.Slack = max_slack
 
+-- the versions of the language
+abbrev pub first_version : ℕ
+first_version = 1
+
+abbrev pub last_version : ℕ
+last_version = 2
+
+-- how many packets a leaf may be limited to
+abbrev pub limit_least : ℕ
+limit_least = 1
+
+abbrev pub limit_most : ℕ
+limit_most = 4194304
+
 -- the greatest number of a field
 abbrev pub field_most : FieldName → ℕ
 field_most field.Vlan = 4095

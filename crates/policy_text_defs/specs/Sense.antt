@@ -1,5 +1,5 @@
 -- A statement apart from where it lies in memory.
-use Rattle.std.specs.Prelude.{ℕ, suc, List, [], ◌∷◌}
+use Rattle.std.specs.Prelude.{ℕ, suc, List, [], ◌∷◌, Option}
 use Rattle.rank_defs.specs.declared.transaction.Span.{Span}
 use Rattle.policy_text_defs.specs.declared.attribute.Attrs.{Attrs}
 use Rattle.policy_text_defs.specs.declared.condition.Condition.{Condition}
@@ -15,7 +15,7 @@ pub data Sense : Type 0 where
   push : (name : List ℕ) → Phrase → Sense
   pop : (name : List ℕ) → Phrase → Sense
   class : (name : List ℕ) → Attrs → List Condition → Sense
-  leaf : (name used : List ℕ) → Attrs → (classes : List (List ℕ)) → Sense
+  leaf : (name used : List ℕ) → Attrs → (limit : Option ℕ) → (classes : List (List ℕ)) → Sense
   node : (name used : List ℕ) → Attrs → (children : List (List ℕ)) → Sense
 
 abbrev pub sense_of : Statement → Sense
@@ -26,7 +26,7 @@ sense_of (statement.Each n s) = each n s
 sense_of (statement.Push n t) = push n (phrase_of t)
 sense_of (statement.Pop n t) = pop n (phrase_of t)
 sense_of (statement.Class n a cs) = class n a cs
-sense_of (statement.Leaf n u a ns) = leaf n u a ns
+sense_of (statement.Leaf n u a l ns) = leaf n u a l ns
 sense_of (statement.Node n u a ns) = node n u a ns
 
 -- a line's number and its statement

@@ -1,5 +1,5 @@
 -- Reading a statement from the left, token by token. It serves proofs, as Reading does.
-use Rattle.std.specs.Prelude.{ℕ, zero, suc, nat_le, ◌==◌, Bool, true, false, ◌&&◌, if◌then◌else◌, List, [], ◌∷◌, ◌++◌, length, Option, Some, None, codes}
+use Rattle.std.specs.Prelude.{ℕ, zero, suc, nat_le, Bool, true, false, ◌&&◌, if◌then◌else◌, List, [], ◌∷◌, ◌++◌, length, Option, Some, None, codes}
 use Rattle.rank_defs.specs.declared.transaction.Span.{Span}
 use Rattle.text_core.specs.declared.mark.Mark.TheVariants as m
 use Rattle.text_core.specs.Glyphs.{Glyph, text, figure, sign}
@@ -14,7 +14,7 @@ use Rattle.policy_text_defs.specs.declared.condition.Subject.TheVariants as subj
 use Rattle.policy_text_defs.specs.declared.keyword.Keyword.{Keyword}
 use Rattle.policy_text_defs.specs.declared.keyword.Keyword.TheVariants as keyword
 use Rattle.policy_text_defs.specs.Words.{is_name, is_target, attribute_of, subject_of, protocol_of, keyword_of, passing}
-use Rattle.policy_text_defs.specs.Ranges.{attribute_least, attribute_most, field_most, most_octet, most_prefix}
+use Rattle.policy_text_defs.specs.Ranges.{attribute_least, attribute_most, first_version, last_version, limit_least, limit_most, field_most, most_octet, most_prefix}
 use Rattle.policy_text_defs.specs.Phrase.{most_open}
 use Rattle.policy_text_defs.specs.Sense.{Sense, version, transaction, keep, each, push, pop, class, leaf, node}
 use Rattle.policy_text_defs.specs.Statements.{unset, attribute_value, with_attribute, Octets, address_of}
@@ -105,6 +105,16 @@ name_last w ns = pure (ns ++ w ∷ [])
 unfoldable pub names : Reader (List (List ℕ))
 names = name >>= (λ w. many (ahead name_ahead) name_last (w ∷ []))
 
+abbrev pub word_ahead : List ℕ → Glyph → Option (Unit {0})
+word_ahead w g = unit_if (is_text w g)
+
+unfoldable pub limit_by : ℕ → Reader (Option ℕ)
+limit_by n = if nat_le limit_least n && nat_le n limit_most then pure (Some n) else refuse
+
+-- the number after `limit`, or else none
+unfoldable pub limit : Reader (Option ℕ)
+limit gs = pick (ahead (word_ahead (codes "limit")) gs) (Some (None, gs)) (λ t. (a_number >>= limit_by) t.1)
+
 -- ---- conditions
 
 -- the number after `..`, or else the low one
@@ -174,9 +184,6 @@ condition_by (Some subject.Ipv6) = pure condition.Ipv6
 unfoldable pub a_condition : Reader Condition
 a_condition = a_word >>= (λ w. condition_by (subject_of w))
 
-abbrev pub word_ahead : List ℕ → Glyph → Option (Unit {0})
-word_ahead w g = unit_if (is_text w g)
-
 abbrev pub condition_last : Unit {0} → List Condition → Reader (List Condition)
 condition_last u cs = a_condition >>= (λ c. pure (cs ++ c ∷ []))
 
@@ -189,7 +196,7 @@ guard gs = pick (ahead (word_ahead (codes "when")) gs) (Some ([], gs)) (λ t. co
 -- ---- statements, after their first words
 
 unfoldable pub version_by : ℕ → Reader Sense
-version_by n = if n == 1 then pure (version 1) else refuse
+version_by n = if nat_le first_version n && nat_le n last_version then pure (version n) else refuse
 
 unfoldable pub transaction_rest : Reader Sense
 transaction_rest = name >>= (λ n. pure (transaction n))
@@ -233,9 +240,10 @@ leaf_rest = do
   literal (codes "using")
   u ← name
   a ← attributes
+  l ← limit
   literal (codes "classes")
   ns ← names
-  pure (leaf n u a ns)
+  pure (leaf n u a l ns)
 
 unfoldable pub node_rest : Reader Sense
 node_rest = do

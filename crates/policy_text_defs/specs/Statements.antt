@@ -11,7 +11,7 @@ use Rattle.policy_text_defs.specs.declared.condition.FieldName.TheVariants as fi
 use Rattle.policy_text_defs.specs.declared.condition.Condition.{Condition}
 use Rattle.policy_text_defs.specs.declared.condition.Condition.TheVariants as condition
 use Rattle.policy_text_defs.specs.Words.{is_name, attribute_word, field_word, protocol_of}
-use Rattle.policy_text_defs.specs.Ranges.{attribute_least, attribute_most, field_most, most_octet, most_prefix}
+use Rattle.policy_text_defs.specs.Ranges.{attribute_least, attribute_most, first_version, last_version, limit_least, limit_most, field_most, most_octet, most_prefix}
 use Rattle.text_core.specs.Glyphs.{Glyph, text, figure, sign}
 use Rattle.policy_text_defs.specs.Phrase.{Phrase}
 use Rattle.policy_text_defs.specs.Sense.{Sense, version, transaction, keep, each, push, pop, class, leaf, node}
@@ -114,6 +114,21 @@ pub data Guard : List Glyph → List Condition → Type 0 where
   unguarded : Guard [] []
   guarded : (ts : List Glyph) (cs : List Condition) → Conditions ts cs → Guard (text (codes "when") ∷ ts) cs
 
+-- a version of the language
+pub record IsVersion (v : ℕ) : Type 0 where
+  pub above : first_version ≤ v
+  pub below : v ≤ last_version
+
+-- how many packets a leaf may be limited to
+pub record IsLimit (n : ℕ) : Type 0 where
+  pub above : limit_least ≤ n
+  pub below : n ≤ limit_most
+
+-- [limit N]
+pub data Limit : List Glyph → Option ℕ → Type 0 where
+  unlimited : Limit [] None
+  limited : (n : ℕ) → IsLimit n → Limit (text (codes "limit") ∷ figure n ∷ []) (Some n)
+
 -- NAME {NAME}
 pub record AreNames (names : List (List ℕ)) : Type 0 where
   pub some : 0 < length names
@@ -121,12 +136,12 @@ pub record AreNames (names : List (List ℕ)) : Type 0 where
 
 -- the tokens of a line are a statement's form
 pub data IsForm : List Glyph → Sense → Type 0 where
-  version_form : IsForm (text (codes "policy") ∷ figure 1 ∷ []) (version 1)
+  version_form : (v : ℕ) → IsVersion v → IsForm (text (codes "policy") ∷ figure v ∷ []) (version v)
   transaction_form : (n : List ℕ) → IsName n → IsForm (text (codes "transaction") ∷ text n ∷ []) (transaction n)
   keep_form : (n : List ℕ) (s : Span) → IsName n → IsSpan s → IsForm (text (codes "keep") ∷ text n ∷ span_tokens s) (keep n s)
   each_form : (n : List ℕ) (s : Span) → IsName n → IsSpan s → IsForm (text (codes "each") ∷ text n ∷ span_tokens s) (each n s)
   push_form : (n : List ℕ) (ts : List Glyph) (a : Phrase) → IsTarget n → Spells ts a → IsForm (text (codes "push") ∷ text n ∷ sign m.Is ∷ ts) (push n a)
   pop_form : (n : List ℕ) (ts : List Glyph) (a : Phrase) → IsName n → Spells ts a → IsForm (text (codes "pop") ∷ text n ∷ sign m.Is ∷ ts) (pop n a)
   class_form : (n : List ℕ) (ts us : List Glyph) (a : Attrs) (cs : List Condition) → IsName n → Attributes ts a → Guard us cs → IsForm (text (codes "class") ∷ text n ∷ ts ++ us) (class n a cs)
-  leaf_form : (n u : List ℕ) (ts : List Glyph) (a : Attrs) (ns : List (List ℕ)) → IsName n → IsName u → Attributes ts a → AreNames ns → IsForm (text (codes "leaf") ∷ text n ∷ text (codes "using") ∷ text u ∷ ts ++ text (codes "classes") ∷ map text ns) (leaf n u a ns)
+  leaf_form : (n u : List ℕ) (ts ls : List Glyph) (a : Attrs) (l : Option ℕ) (ns : List (List ℕ)) → IsName n → IsName u → Attributes ts a → Limit ls l → AreNames ns → IsForm (text (codes "leaf") ∷ text n ∷ text (codes "using") ∷ text u ∷ ts ++ (ls ++ text (codes "classes") ∷ map text ns)) (leaf n u a l ns)
   node_form : (n u : List ℕ) (ts : List Glyph) (a : Attrs) (ns : List (List ℕ)) → IsName n → IsName u → Attributes ts a → AreNames ns → IsForm (text (codes "node") ∷ text n ∷ text (codes "using") ∷ text u ∷ ts ++ text (codes "children") ∷ map text ns) (node n u a ns)

@@ -1,5 +1,5 @@
 -- What a statement is like that some line has: names are names, numbers are in range, expressions aren't too deep.
-use Rattle.std.specs.Prelude.{◌≡◌, ℕ, ◌<◌, ◌≤◌, ◌^◌, true, Option, Some, None}
+use Rattle.std.specs.Prelude.{◌≡◌, ℕ, ◌<◌, ◌≤◌, ◌^◌, true, Option, Some, None, IfSome}
 use Rattle.std.specs.List.{AllByRecursion}
 use Rattle.rank_defs.specs.declared.transaction.Span.{Span}
 use Rattle.text_core.specs.Decimals.{max}
@@ -12,7 +12,7 @@ use Rattle.policy_text_defs.specs.Words.{is_operand, is_target}
 use Rattle.policy_text_defs.specs.Ranges.{attribute_least, attribute_most, field_most, most_prefix}
 use Rattle.policy_text_defs.specs.Phrase.{Phrase, number, word, two, negation, choice, depth, most_depth}
 use Rattle.policy_text_defs.specs.Sense.{Sense, version, transaction, keep, each, push, pop, class, leaf, node}
-use Rattle.policy_text_defs.specs.Statements.{IsName, IsSpan, AreNames}
+use Rattle.policy_text_defs.specs.Statements.{IsName, IsSpan, IsVersion, IsLimit, AreNames}
 
 -- numbers are at most `max`, and words are operands
 abbrev pub HasOperands : Phrase → Type 0
@@ -69,12 +69,12 @@ IsValidCondition condition.Ipv6 = Unit {0}
 
 -- the statement is one that some line has
 abbrev pub IsValid : Sense → Type 0
-IsValid (version v) = v ≡ 1
+IsValid (version v) = IsVersion v
 IsValid (transaction n) = IsName n
 IsValid (keep n s) = IsName n × IsValidSpan s
 IsValid (each n s) = IsName n × IsValidSpan s
 IsValid (push n a) = (is_target n ≡ true) × IsValidPhrase a
 IsValid (pop n a) = IsName n × IsValidPhrase a
 IsValid (class n a cs) = IsName n × AreValidAttributes a × AllByRecursion IsValidCondition cs
-IsValid (leaf n u a ns) = IsName n × IsName u × AreValidAttributes a × AreNames ns
+IsValid (leaf n u a l ns) = IsName n × IsName u × AreValidAttributes a × IfSome l IsLimit × AreNames ns
 IsValid (node n u a ns) = IsName n × IsName u × AreValidAttributes a × AreNames ns

@@ -18,8 +18,8 @@ pub enum Statement {
     Push(Name, Term),
     Pop(Name, Term),
     Class(Name, Attrs, List<Condition>),
-    /// The leaf, its transaction, its attributes and its classes.
-    Leaf(Name, Name, Attrs, List<Name>),
+    /// The leaf, its transaction, its attributes, the most packets that it holds (where it has a limit), and its classes.
+    Leaf(Name, Name, Attrs, Option<u32>, List<Name>),
     /// The node, its transaction, its attributes and its children.
     Node(Name, Name, Attrs, List<Name>),
 }

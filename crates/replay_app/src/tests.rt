@@ -17,6 +17,11 @@ const BELOW_A_ROOT: &[u8] =
 
 const TARGET: &[u8] = b"arity = 2\nheight = 0\n";
 
+/// One leaf that holds a packet at most.
+const FULL: &[u8] = b"policy 2\nclass all\nleaf root using fifo limit 1 classes all\n";
+/// The same with a version that has no limits.
+const TOO_OLD: &[u8] = b"policy 1\nclass all\nleaf root using fifo limit 1 classes all\n";
+
 /// A header and two records of four bytes each, as tcpdump writes them.
 const CAPTURE: &[u8] = b"\xd4\xc3\xb2\xa1\x02\0\x04\0\0\0\0\0\0\0\0\0\0\0\x04\0\x93\0\0\0\
     \x01\0\0\0\0\0\0\0\x04\0\0\0\x04\0\0\0\0\0\0\x01\
@@ -85,7 +90,7 @@ fn answer_to(
 #[test]
 fn replays_over_memory(rt: HostRuntime) -> Result<(), Fail> {
     let alloc = rt.alloc();
-    let table: [(&[u8], &[u8], &[u8], &[u8], u8, &[u8]); 12] = [
+    let table: [(&[u8], &[u8], &[u8], &[u8], u8, &[u8]); 14] = [
         (
             POLICY,
             TARGET,
@@ -127,9 +132,25 @@ fn replays_over_memory(rt: HostRuntime) -> Result<(), Fail> {
             7,
             b"a 1 1 root 0\nfault capture 6 2\n",
         ),
+        (
+            FULL,
+            TARGET,
+            CAPTURE,
+            b"a 2\nd 3\n",
+            0,
+            b"a 1 1 root 0\nx 2 2 root\nd 3 1 root 0\ne 4\ne 5\nend pushed 1 popped 1 empty 2 held 0 unsent 0 dropped 1\n",
+        ),
+        (
+            TOO_OLD,
+            TARGET,
+            CAPTURE,
+            b"a 2\nd 3\n",
+            3,
+            b"fault policy 14 3\n",
+        ),
         // Each input is refused before those behind it are read.
         (
-            b"policy 2\n",
+            b"policy 3\n",
             b"arity =\n",
             b"",
             b"e\n",
@@ -175,7 +196,7 @@ fn replays_over_memory(rt: HostRuntime) -> Result<(), Fail> {
 #[test]
 fn checks_over_memory(rt: HostRuntime) -> Result<(), Fail> {
     let alloc = rt.alloc();
-    let table: [(&[u8], u8, &[u8]); 15] = [
+    let table: [(&[u8], u8, &[u8]); 17] = [
         (SPELLED, 0, POLICY),
         (&POLICY[9..], 3, b"fault policy 1 1\n"),
         (
@@ -220,6 +241,8 @@ fn checks_over_memory(rt: HostRuntime) -> Result<(), Fail> {
             3,
             b"fault policy 13 0\n",
         ),
+        (FULL, 0, FULL),
+        (TOO_OLD, 3, b"fault policy 14 3\n"),
         (
             b"policy 1\nclass\nleaf root using fifo classes all\n",
             3,
@@ -244,7 +267,7 @@ fn checks_over_memory(rt: HostRuntime) -> Result<(), Fail> {
 #[test]
 fn directs_over_memory(rt: HostRuntime) -> Result<(), Fail> {
     let alloc = rt.alloc();
-    let table: [(&[u8], &[u8], &[u8], u8, &[u8]); 7] = [
+    let table: [(&[u8], &[u8], &[u8], u8, &[u8]); 8] = [
         (
             POLICY,
             CAPTURE,
@@ -265,6 +288,13 @@ fn directs_over_memory(rt: HostRuntime) -> Result<(), Fail> {
             b"rest\n",
             7,
             b"a 1 1 root 0\nfault capture 6 2\n",
+        ),
+        (
+            FULL,
+            CAPTURE,
+            b"rest\ndrain\n",
+            0,
+            b"a 1 1 root 0\nx 2 2 root\nd 3 1 root 0\nend pushed 1 popped 1 empty 0 held 0 unsent 0 dropped 1\n",
         ),
         (POLICY, CAPTURE, b"drain\ne\n", 6, b"fault script 1 2\n"),
         // The policy comes before the script, and the script before the capture.

@@ -4,7 +4,7 @@ ghost use Rattle.outside_core.specs.Faults.{Rose};
 ghost use Rattle.outside_core.specs.Kept.{KeepsSink};
 ghost use Rattle.outside_core.specs.Written.{Appended};
 ghost use Rattle.text_core.specs.Tokens.{most_name};
-ghost use Rattle.report_defs.specs.Report.{arrival_line, departure_line, empty_line, end_line, fault_line};
+ghost use Rattle.report_defs.specs.Report.{arrival_line, departure_line, drop_line, empty_line, end_line, fault_line};
 ghost use Rattle.report_core.specs.Faults.{word_of};
 ghost use Rattle.report_core.specs.Gathered.{limit, text_of, Tells, CutsOff};
 
@@ -131,7 +131,32 @@ impl Report {
         self.noted(sent)
     }
 
-    /// The run ended: how many packets were pushed, popped, found missing, are held and weren't sent.
+    /// A packet was dropped at a leaf that was full.
+    pub fn dropped<K: Sink>(
+        &mut self,
+        sink: &mut K,
+        event: u64,
+        packet: u64,
+        leaf: &str,
+    ) -> Result<(), WriteFault>
+        requires live { IsTrue self.old.live }
+        requires leaf { length leaf.now ≤ most_name }
+
+        ensures ok { OnOk result (Tells K.written sink.old self.old sink.new self.new (drop_line event packet leaf.now)) }
+        ensures cut { OnErr result (CutsOff K.written sink.old self.old sink.new (drop_line event packet leaf.now)) }
+        ensures kept { KeepsSink K.written K.faults sink.old sink.new }
+        ensures cause { OnErr result (Rose (K.faults sink.old) (K.faults sink.new)) }
+        ensures live { self.new.live ≡ is_ok result }
+        ensures bounded { length self.new.unwritten ≤ limit }
+    {
+        let before = self.buffer.len();
+        self.buffer.put_drop(event, packet, leaf);
+        let sent = self.buffer.settle(sink, before);
+        self.noted(sent)
+    }
+
+    /// The run ended: how many packets were pushed, popped, found missing, are held and weren't sent, and how many were
+    /// dropped, where that is shown.
     pub fn end<K: Sink>(
         &mut self,
         sink: &mut K,
@@ -140,18 +165,20 @@ impl Report {
         empty: u64,
         held: u64,
         unsent: u64,
+        dropped: Option<u64>,
     ) -> Result<(), WriteFault>
         requires live { IsTrue self.old.live }
 
-        ensures ok { OnOk result (Tells K.written sink.old self.old sink.new self.new (end_line pushed popped empty held unsent)) }
-        ensures cut { OnErr result (CutsOff K.written sink.old self.old sink.new (end_line pushed popped empty held unsent)) }
+        ensures ok { OnOk result (Tells K.written sink.old self.old sink.new self.new (end_line pushed popped empty held unsent dropped)) }
+        ensures cut { OnErr result (CutsOff K.written sink.old self.old sink.new (end_line pushed popped empty held unsent dropped)) }
         ensures kept { KeepsSink K.written K.faults sink.old sink.new }
         ensures cause { OnErr result (Rose (K.faults sink.old) (K.faults sink.new)) }
         ensures live { self.new.live ≡ is_ok result }
         ensures bounded { length self.new.unwritten ≤ limit }
     {
         let before = self.buffer.len();
-        self.buffer.put_end(pushed, popped, empty, held, unsent);
+        self.buffer
+            .put_end(pushed, popped, empty, held, unsent, dropped);
         let sent = self.buffer.settle(sink, before);
         self.noted(sent)
     }

@@ -26,7 +26,8 @@ fn a_line_of_each_form(rt: HostRuntime) -> Result<(), Fail> {
     report.fault(&mut sink, FaultKind::Size, 1, 0)?;
     report.fault(&mut sink, FaultKind::Script, 2, 1)?;
     report.fault(&mut sink, FaultKind::Capture, 7, 1)?;
-    report.end(&mut sink, 8, 7, 2, 1, 3)?;
+    report.dropped(&mut sink, 17, 9, "web")?;
+    report.end(&mut sink, 8, 7, 2, 1, 3, Some(1))?;
     report.finish(&mut sink)?;
     let text = "a 3 2 web 1/375000/1500000\n\
         d 4 2 web 1/375000/1500000 1000001500\n\
@@ -40,7 +41,8 @@ fn a_line_of_each_form(rt: HostRuntime) -> Result<(), Fail> {
         fault size 1 0\n\
         fault script 2 1\n\
         fault capture 7 1\n\
-        end pushed 8 popped 7 empty 2 held 1 unsent 3\n";
+        x 17 9 web\n\
+        end pushed 8 popped 7 empty 2 held 1 unsent 3 dropped 1\n";
     assert_eq!(rt; sink.bytes(), text.as_bytes());
     Ok(())
 }

@@ -26,15 +26,24 @@ abbrev pub departure_line : ℕ → ℕ → List ℕ → List ℕ → Option ℕ
 departure_line event packet leaf ranks start =
     line_of (codes "d" ∷ decimal event ∷ decimal packet ∷ leaf ∷ ranks_text ranks ∷ start_words start)
 
+-- a packet was dropped at a leaf that was full
+abbrev pub drop_line : ℕ → ℕ → List ℕ → List ℕ
+drop_line event packet leaf = line_of (codes "x" ∷ decimal event ∷ decimal packet ∷ leaf ∷ [])
+
 -- a departure found nothing to send
 abbrev pub empty_line : ℕ → List ℕ
 empty_line event = line_of (codes "e" ∷ decimal event ∷ [])
 
--- a run ended: how many packets were pushed, popped, found missing, are held and weren't sent
-abbrev pub end_line : ℕ → ℕ → ℕ → ℕ → ℕ → List ℕ
-end_line pushed popped empty held unsent =
+-- the count of packets that were dropped, where it is shown
+abbrev pub drop_words : Option ℕ → List (List ℕ)
+drop_words None = []
+drop_words (Some dropped) = codes "dropped" ∷ decimal dropped ∷ []
+
+-- a run ended: how many packets were pushed, popped, found missing, are held and weren't sent, and how many were dropped
+abbrev pub end_line : ℕ → ℕ → ℕ → ℕ → ℕ → Option ℕ → List ℕ
+end_line pushed popped empty held unsent dropped =
     line_of (codes "end" ∷ codes "pushed" ∷ decimal pushed ∷ codes "popped" ∷ decimal popped ∷ codes "empty" ∷ decimal empty
-    ∷ codes "held" ∷ decimal held ∷ codes "unsent" ∷ decimal unsent ∷ [])
+    ∷ codes "held" ∷ decimal held ∷ codes "unsent" ∷ decimal unsent ∷ drop_words dropped)
 
 -- an input was refused: its kind, the code of the fault and its place
 abbrev pub fault_line : List ℕ → ℕ → ℕ → List ℕ
@@ -60,13 +69,21 @@ pub empty_line-fifth : empty_line 5 ≡ codes "e 5\n"
 unfolding digits
 empty_line-fifth = refl
 
-pub end_line-two_packets : end_line 2 2 1 0 0 ≡ codes "end pushed 2 popped 2 empty 1 held 0 unsent 0\n"
+pub end_line-two_packets : end_line 2 2 1 0 0 None ≡ codes "end pushed 2 popped 2 empty 1 held 0 unsent 0\n"
 unfolding digits
 end_line-two_packets = refl
 
-pub end_line-some_held : end_line 9 6 5 3 1 ≡ codes "end pushed 9 popped 6 empty 5 held 3 unsent 1\n"
+pub end_line-some_held : end_line 9 6 5 3 1 None ≡ codes "end pushed 9 popped 6 empty 5 held 3 unsent 1\n"
 unfolding digits
 end_line-some_held = refl
+
+pub end_line-one_dropped : end_line 1 1 2 0 0 (Some 1) ≡ codes "end pushed 1 popped 1 empty 2 held 0 unsent 0 dropped 1\n"
+unfolding digits
+end_line-one_dropped = refl
+
+pub drop_line-second : drop_line 2 2 (codes "root") ≡ codes "x 2 2 root\n"
+unfolding digits
+drop_line-second = refl
 
 pub fault_line-words : fault_line (codes "words") 0 0 ≡ codes "fault words 0 0\n"
 unfolding digits

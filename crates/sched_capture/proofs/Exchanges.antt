@@ -1,10 +1,15 @@
 -- Two packets that come to a single leaf in the two orders.
+use Rattle.std.specs.Option.{option_map_or}
 use Rattle.std.proofs.Common.{◌≡◌, ◌≢◌, ◌<◌, ◌+◌, ℕ, Bool, true, false, Option, Some, None, List, [], ◌∷◌, length, refl, sym, ap, ◌∙◌, subst, arith}
 use Rattle.std.specs.Prelude.{IsSomeAnd, nat_eq, max, if◌then◌else◌}
 use Rattle.std.specs.List.{AllByRecursion}
 use Rattle.std.proofs.lemmas.Bool.Decides.{Decides-eqb}
 use Rattle.tree_defs.specs.Tree.{Tree, leaf, inner, none, more, Address, LeadsToLeaf, IsAddressOf, SameShape, depth, nodes, subtree}
+use Rattle.pifo_defs.specs.Queue.{Queue}
 use Rattle.tree_defs.specs.Topology.{Topology, topology_of}
+use Rattle.tree_defs.specs.SourceTree.{size}
+use Rattle.tree_defs.specs.Packets.{queue_at}
+use Rattle.tree_defs.proofs.WellFormedLaws.{size-empty}
 use Rattle.target_defs.specs.Levels.{Arities}
 use Rattle.embed_defs.specs.Canonical.{canonical, IsCanonical}
 use Rattle.rank_defs.specs.declared.transaction.Span.{Span}
@@ -12,13 +17,14 @@ use Rattle.rank_defs.specs.States.{State, SameState}
 use Rattle.rank_defs.specs.Programs.{Program}
 use Rattle.rank_defs.specs.Shapes.{IsStateInRange, AreWithin}
 use Rattle.packet_defs.specs.declared.packet.Packet.{Packet}
-use Rattle.policy_defs.specs.Policy.{Policy, Node, Class, node_at}
+use Rattle.policy_defs.specs.Policy.{Policy, Node, Class, node_at, limit_at}
 use Rattle.policy_defs.specs.Accepted.{IsAccepted, IsClassReady}
 use Rattle.policy_core.specs.Numbering.{address_at}
-use Rattle.sched_defs.specs.SourceState.{Held, SourceState, start, with_packet}
+use Rattle.sched_defs.specs.SourceState.{Held, SourceState, start, with_packet, class_of, filled, is_full, dropped, pushed, arrived}
 use Rattle.sched_defs.specs.Sound.{IsSound}
 use Rattle.sched_defs.specs.Events.{Arrive, CanMake, after}
-use Rattle.sched_defs.proofs.Soundness.{sound_start, with_packet-other}
+use Rattle.sched_defs.proofs.Soundness.{sound_start, sound_arrived, with_packet-other, by_fullness}
+use Rattle.sched_defs.proofs.Leaving.{size_pushed}
 use Rattle.sched_defs.specs.Numbered.{IsSendable}
 use Rattle.sched_defs.proofs.Runs.{sound_after}
 use Rattle.rank_defs.proofs.SameStates.{same-trans}
@@ -30,28 +36,29 @@ use Rattle.sched_core.specs.Own.{policy_in}
 use Rattle.sched_embedded.specs.declared.embedded.Embedded.{Embedded}
 use Rattle.sched_embedded.specs.Embedded.{EmbeddedStands, origin_of}
 
--- ---- a single leaf without variables
+-- ---- a single leaf without variables and without a limit
 pub record IsPlain (tree : Tree Node) : Type 0 where
   pub node : Node
   pub is : tree ≡ leaf node
   pub keeps : node.program.keeps ≡ []
   pub eaches : node.program.eaches ≡ []
+  pub limit : node.limit ≡ None
 
 -- a tree without levels below its root, in which a class has a leaf
 alone : (tree : Tree Node) (cs : List Class) → depth tree ≡ 0 → 0 < length cs → AllByRecursion (IsClassReady tree) cs
-    → IsSomeAnd (node_at tree []) (λ n. n.program.keeps ≡ []) → IsSomeAnd (node_at tree []) (λ n. n.program.eaches ≡ []) → IsPlain tree
-alone tree [] d some all keeps eaches = absurd (omega (arith, some))
-alone (leaf n) (c ∷ cs) d some all keeps eaches = record { node = n; is = refl; keeps = keeps; eaches = eaches }
-alone (inner n none) (c ∷ cs) d some all keeps eaches = absurd (no_leaf c.leaf all.0.leaf_address)
+    → IsSomeAnd (node_at tree []) (λ n. n.program.keeps ≡ []) → IsSomeAnd (node_at tree []) (λ n. n.program.eaches ≡ []) → IsSomeAnd (node_at tree []) (λ n. n.limit ≡ None) → IsPlain tree
+alone tree [] d some all keeps eaches free = absurd (omega (arith, some))
+alone (leaf n) (c ∷ cs) d some all keeps eaches free = record { node = n; is = refl; keeps = keeps; eaches = eaches; limit = free }
+alone (inner n none) (c ∷ cs) d some all keeps eaches free = absurd (no_leaf c.leaf all.0.leaf_address)
   where
     no_leaf : (a : Address) → LeadsToLeaf (inner n none) a → ⊥
     no_leaf [] l = l
     no_leaf (i ∷ a) l = l
-alone (inner n (more t ts)) (c ∷ cs) d some all keeps eaches = absurd (omega (arith, d))
+alone (inner n (more t ts)) (c ∷ cs) d some all keeps eaches free = absurd (omega (arith, d))
 
 pub plain_leaf : (policy : Policy) → IsAccepted policy → depth policy.tree ≡ 0 → IsSomeAnd (node_at policy.tree []) (λ n. n.program.keeps ≡ []) → IsSomeAnd (node_at policy.tree []) (λ n. n.program.eaches ≡ [])
-    → IsPlain policy.tree
-plain_leaf policy accepted d keeps eaches = alone policy.tree policy.classes d accepted.some_class accepted.classes keeps eaches
+    → IsSomeAnd (node_at policy.tree []) (λ n. n.limit ≡ None) → IsPlain policy.tree
+plain_leaf policy accepted d keeps eaches free = alone policy.tree policy.classes d accepted.some_class accepted.classes keeps eaches free
 
 -- the node of number 0 is the root
 pub has_a_node : (tree : Tree Node) → 0 < nodes tree
@@ -62,9 +69,13 @@ root_first : (tree : Tree Node) → address_at tree 0 ≡ []
 root_first (leaf n) = refl
 root_first (inner n ts) = refl
 
+-- what holds of the node of number 0 holds of the root
+pub at_root : (tree : Tree Node) (P : Node → Type 0) → IsSomeAnd (node_at tree (address_at tree 0)) P → IsSomeAnd (node_at tree []) P
+at_root tree P some = subst (λ (a : Address). IsSomeAnd (node_at tree a) P) (root_first tree) some
+
 -- the root's transaction is known by that of the node of number 0
 pub of_root : (tree : Tree Node) (p : Program) (spans : Program → List Span) → IsSomeAnd (node_at tree (address_at tree 0)) (λ n. p ≡ n.program) → spans p ≡ [] → IsSomeAnd (node_at tree []) (λ n. spans n.program ≡ [])
-of_root tree p spans some none_of = by_node (node_at tree []) (subst (λ (a : Address). IsSomeAnd (node_at tree a) (λ n. p ≡ n.program)) (root_first tree) some)
+of_root tree p spans some none_of = by_node (node_at tree []) (at_root tree (λ n. p ≡ n.program) some)
   where
     by_node : (o : Option Node) → IsSomeAnd o (λ n. p ≡ n.program) → IsSomeAnd o (λ n. spans n.program ≡ [])
     by_node None s = absurd s
@@ -94,6 +105,33 @@ module _ (policy : Policy) (plain : IsPlain policy.tree) where
   nothing_below : (i : ℕ) (a : Address) → IsAddressOf policy.tree (i ∷ a) → ⊥
   nothing_below i a there = let e : subtree (leaf plain.node) (i ∷ a) ≡ Some there.0 = sym (ap (λ (t : Tree Node). subtree t (i ∷ a)) plain.is) ∙ there.1 in cc
 
+  -- no packet is dropped there
+  unlimited : (a : Address) → limit_at policy a ≡ None
+  unlimited [] = ap (λ (t : Tree Node). option_map_or (λ n. n.limit) (node_at t []) None) plain.is ∙ plain.limit
+  unlimited (i ∷ a) = ap (λ (t : Tree Node). option_map_or (λ n. n.limit) (node_at t (i ∷ a)) None) plain.is
+
+  pub never_full : (p : Packet) (s : SourceState) → is_full policy p s ≡ false
+  never_full p s = rw (unlimited (class_of policy p).leaf) refl
+
+  arrives_pushed : (p : Packet) (s : SourceState) → arrived policy p s ≡ pushed policy p s
+  arrives_pushed p s = ap (λ (t : Bool). if t then dropped p s else pushed policy p s) (never_full p s)
+
+  pub both_pushed : (p q : Packet) → after policy (Arrive p ∷ Arrive q ∷ []) (start policy) ≡ pushed policy q (pushed policy p (start policy))
+  both_pushed p q = ap (λ (s : SourceState). arrived policy q s) (arrives_pushed p (start policy)) ∙ arrives_pushed q (pushed policy p (start policy))
+
+  -- all packets stand at the root
+  leads_to_root : (a : Address) → LeadsToLeaf policy.tree a → a ≡ []
+  leads_to_root [] l = refl
+  leads_to_root (i ∷ a) l = absurd (subst (λ (t : Tree Node). LeadsToLeaf t (i ∷ a)) plain.is l)
+
+  filled_here : (t : Tree Queue) → SameShape t (leaf plain.node) → length (queue_at t []) ≡ size t
+  filled_here (leaf q) same = refl
+  filled_here (inner q ts) same = absurd same
+
+  pub all_at_root : (s : SourceState) (a : Address) → IsSound policy s → LeadsToLeaf policy.tree a → filled s a ≡ size s.tree
+  all_at_root s a sound l =
+      ap (λ (b : Address). filled s b) (leads_to_root a l) ∙ filled_here s.tree (subst (λ (t : Tree Node). SameShape s.tree t) plain.is sound.shape)
+
   -- the nodes of two sound states hold the same
   pub same_nodes : (s t : SourceState) → IsSound policy s → IsSound policy t → (a : Address) → IsAddressOf policy.tree a → SameState (s.nodes a) (t.nodes a)
   same_nodes s t sound other [] there =
@@ -105,7 +143,7 @@ module _ (policy : Policy) (plain : IsPlain policy.tree) where
 
   -- it is laid into a target in one way
   pub same_images : (a : Arities) (h : ℕ) (m o : Tree Address) → IsCanonical a h (topology_of policy.tree) m → IsCanonical a h (topology_of policy.tree) o → m ≡ o
-  same_images a h m o one other = at_root m one ∙ sym (at_root o other)
+  same_images a h m o one other = only_root m one ∙ sym (only_root o other)
     where
       shape : topology_of policy.tree ≡ single
       shape = ap (λ (t : Tree Node). topology_of t) plain.is
@@ -114,15 +152,22 @@ module _ (policy : Policy) (plain : IsPlain policy.tree) where
       by_needs (leaf k) same = refl
       by_needs (inner k ts) same = absurd same
 
-      at_root : (images : Tree Address) → IsCanonical a h (topology_of policy.tree) images → images ≡ leaf []
-      at_root images c = c.placed ∙ by_needs c.all (subst (λ (t : Topology). SameShape t c.all) shape c.needs.shape)
+      only_root : (images : Tree Address) → IsCanonical a h (topology_of policy.tree) images → images ≡ leaf []
+      only_root images c = c.placed ∙ by_needs c.all (subst (λ (t : Topology). SameShape t c.all) shape c.needs.shape)
 
 -- ---- two packets in the two orders
 module _ (policy : Policy) (accepted : IsAccepted policy) (p q : Packet) (apart : p.number ≢ q.number) (first : IsSendable policy p) (second : IsSendable policy q) where
   pub both_come : CanMake policy (Arrive p ∷ Arrive q ∷ []) (start policy)
   both_come = (
     record { fresh = refl; known = first.known; moment = first.moment },
-    (record { fresh = with_packet-other (λ _. None) p q.number (λ e. apart (sym e)); known = second.known; moment = second.moment }, tt),
+    (
+      record {
+        fresh = by_fullness policy p (start policy) (λ s. s.held q.number ≡ None) (λ full. refl) (λ free. with_packet-other (λ _. None) p q.number (λ e. apart (sym e)));
+        known = second.known;
+        moment = second.moment;
+      },
+      tt,
+    ),
   )
 
 pub same_held : (p q : Packet) (held : Held) → p.number ≢ q.number → (n : ℕ) → with_packet (with_packet held p) q n ≡ with_packet (with_packet held q) p n
@@ -144,13 +189,15 @@ same_now k m n = omega arith
 pub record IsSameBeside (tree : Tree Node) (s t : SourceState) : Type 0 where
   pub nodes : (a : Address) → IsAddressOf tree a → SameState (s.nodes a) (t.nodes a)
   pub held : (n : ℕ) → s.held n ≡ t.held n
+  pub filled_alike : (a : Address) → LeadsToLeaf tree a → filled s a ≡ filled t a
+  pub size_is : size s.tree ≡ size t.tree
   pub now : s.now ≡ t.now
 
 -- they stand in the same place of fabrics that were pushed and popped as often
 pub record AreAlike {F : Type 0} (c d : Embedded F) : Type 0 where
   pub images : (origin_of c).images ≡ (origin_of d).images
   pub arities : (origin_of c).arities ≡ (origin_of d).arities
-  pub pushes : (origin_of c).pushes + c.own.arrivals ≡ (origin_of d).pushes + d.own.arrivals
+  pub pushes : (origin_of c).pushes + c.own.pushes ≡ (origin_of d).pushes + d.own.pushes
   pub pops : (origin_of c).pops + c.own.departures ≡ (origin_of d).pops + d.own.departures
 
 pub stands_with_another : {F : Type 0} (fabrics : Ghosts F) (c d : Embedded F) (u v : F) (s t : SourceState) → AreAlike c d → IsSameBeside (policy_in c.own).tree s t
@@ -159,6 +206,8 @@ stands_with_another fabrics c d u v s t alike same one other = record {
   own = record {
     nodes = λ a x there kept. same-trans _ _ _ (one.own.nodes a x there kept) (same.nodes a there);
     held = λ n. one.own.held n ∙ same.held n;
+    filled = λ a l. one.own.filled a l ∙ ap Some (same.filled_alike a l);
+    few = omega (arith, one.own.few, same.size_is);
     now = sym same.now ∙ one.own.now;
   };
   shape = other.shape ∙ sym alike.arities;
@@ -167,16 +216,33 @@ stands_with_another fabrics c d u v s t alike same one other = record {
   pops = other.pops ∙ sym alike.pops;
 }
 
+-- two are held after two came
+two_held : (policy : Policy) (accepted : IsAccepted policy) (plain : IsPlain policy.tree) (p q : Packet) → p.number ≢ q.number → IsSendable policy p → IsSendable policy q
+    → size (after policy (Arrive p ∷ Arrive q ∷ []) (start policy)).tree ≡ 2
+two_held policy accepted plain p q apart first second =
+    let can : CanMake policy (Arrive p ∷ Arrive q ∷ []) (start policy) = both_come policy accepted p q apart first second in
+    let sound : IsSound policy (start policy) = sound_start policy accepted in
+    let one : size (arrived policy p (start policy)).tree ≡ size (start policy).tree + 1 = ap (λ (z : SourceState). size z.tree) (arrives_pushed policy plain p (start policy)) ∙ size_pushed policy p (start policy) accepted sound can.0 in
+    let two : size (arrived policy q (arrived policy p (start policy))).tree ≡ size (arrived policy p (start policy)).tree + 1 =
+    ap (λ (z : SourceState). size z.tree) (arrives_pushed policy plain q (arrived policy p (start policy))) ∙ size_pushed policy q (arrived policy p (start policy)) accepted (sound_arrived policy p (start policy) accepted sound can.0) can.1.0 in
+    omega (arith, one, two, size-empty (topology_of policy.tree))
+
 -- two packets came to each, in the two orders
 pub same_beside : (policy : Policy) (accepted : IsAccepted policy) (plain : IsPlain policy.tree) (p q : Packet) → p.number ≢ q.number → IsSendable policy p → IsSendable policy q
     → IsSameBeside policy.tree (after policy (Arrive p ∷ Arrive q ∷ []) (start policy)) (after policy (Arrive q ∷ Arrive p ∷ []) (start policy))
-same_beside policy accepted plain p q apart first second = record {
-  nodes = same_nodes policy plain _ _
-      (sound_after policy (Arrive p ∷ Arrive q ∷ []) (start policy) accepted (sound_start policy accepted) (both_come policy accepted p q apart first second))
-      (sound_after policy (Arrive q ∷ Arrive p ∷ []) (start policy) accepted (sound_start policy accepted) (both_come policy accepted q p (λ e. apart (sym e)) second first));
-  held = same_held p q (λ _. None) apart;
-  now = same_now 0 p.moment q.moment;
-}
+same_beside policy accepted plain p q apart first second =
+    let s : SourceState = after policy (Arrive p ∷ Arrive q ∷ []) (start policy) in
+    let t : SourceState = after policy (Arrive q ∷ Arrive p ∷ []) (start policy) in
+    let one : IsSound policy s = sound_after policy (Arrive p ∷ Arrive q ∷ []) (start policy) accepted (sound_start policy accepted) (both_come policy accepted p q apart first second) in
+    let other : IsSound policy t = sound_after policy (Arrive q ∷ Arrive p ∷ []) (start policy) accepted (sound_start policy accepted) (both_come policy accepted q p (λ e. apart (sym e)) second first) in
+    let sizes : size s.tree ≡ size t.tree = two_held policy accepted plain p q apart first second ∙ sym (two_held policy accepted plain q p (λ e. apart (sym e)) second first) in
+    record {
+      nodes = same_nodes policy plain s t one other;
+      held = λ n. ap (λ (z : SourceState). z.held n) (both_pushed policy plain p q) ∙ same_held p q (λ _. None) apart n ∙ sym (ap (λ (z : SourceState). z.held n) (both_pushed policy plain q p));
+      filled_alike = λ a l. all_at_root policy plain s a one l ∙ sizes ∙ sym (all_at_root policy plain t a other l);
+      size_is = sizes;
+      now = ap (λ (z : SourceState). z.now) (both_pushed policy plain p q) ∙ same_now 0 p.moment q.moment ∙ sym (ap (λ (z : SourceState). z.now) (both_pushed policy plain q p));
+    }
 
 module _ {F : Type 0} (fabrics : Ghosts F) (policy : Policy) (accepted : IsAccepted policy) (plain : IsPlain policy.tree) (p q : Packet) (apart : p.number ≢ q.number) (first : IsSendable policy p) (second : IsSendable policy q) where
   pub stands_exchanged : (c d : Embedded F) (u v : F) → policy_in c.own ≡ policy → AreAlike c d

@@ -6,7 +6,7 @@ use Rattle.embed_lift_defs.specs.Lift.{IsLift}
 use Rattle.pcap_defs.specs.Reading.{capture_of}
 use Rattle.policy_defs.specs.Policy.{Policy}
 use Rattle.sched_defs.specs.SourceState.{start}
-use Rattle.sched_defs.specs.Events.{Event, after, arrivals_in, departures_in}
+use Rattle.sched_defs.specs.Events.{Event, after, outcomes, pushed_in, asked_in}
 use Rattle.policy_rules.specs.Resolved.{Resolved}
 use Rattle.fabric_core.specs.declared.fabric.Fabric.{Ghosts}
 use Rattle.sched_core.specs.Origins.{Origin}
@@ -17,7 +17,6 @@ use Rattle.outside_core.specs.declared.stop.Stop.{Stop}
 use Rattle.sched_defs.specs.Packets.{Left}
 use Rattle.sched_run.specs.Courses.{course_of}
 use Rattle.sched_run.proofs.StepLaws.{on_err_given}
-use Rattle.sched_run.proofs.EventCounts.{pushed_in-outcomes, popped_or_empty}
 use Rattle.sched_packets.specs.Arrivals.{Begins}
 use Rattle.sched_embedded.specs.declared.embedded.Embedded.{Embedded}
 use Rattle.sched_embedded.specs.Embedded.{EmbeddedStands, origin_of}
@@ -27,12 +26,12 @@ use Rattle.sched_capture.specs.Answers.{direct_answer}
 
 module _ {F : Type 0} (fabrics : Ghosts F) (policy : Policy) (laid : Laid) (c : Embedded F) (old mid : F)
     (origin : origin_of c ≡ record { images = laid.images; arities = laid.arities; pushes = fabrics.pushed old; pops = fabrics.popped old })
-    (no_arrivals : c.own.arrivals ≡ 0) (no_departures : c.own.departures ≡ 0) (spills : fabrics.spilled mid ≡ fabrics.spilled old) where
+    (no_pushes : c.own.pushes ≡ 0) (no_departures : c.own.departures ≡ 0) (spills : fabrics.spilled mid ≡ fabrics.spilled old) where
   -- what a scheduler that saw no event yet made of the fabric
-  pub holds_after : (events : List Event) (c' : Embedded F) (new : F) → EmbeddedStands fabrics c' new (after policy events (start policy)) → c'.own.arrivals ≡ c.own.arrivals + arrivals_in events →
-      c'.own.departures ≡ c.own.departures + departures_in events → Some (origin_of c') ≡ Some (origin_of c) → fabrics.spilled new ≡ raised (fabrics.spilled mid) (spills_in (Some (origin_of c).images) policy events (start policy)) →
+  pub holds_after : (events : List Event) (c' : Embedded F) (new : F) → EmbeddedStands fabrics c' new (after policy events (start policy)) → c'.own.pushes ≡ c.own.pushes + pushed_in (outcomes policy events (start policy)) →
+      c'.own.departures ≡ c.own.departures + asked_in (outcomes policy events (start policy)) → Some (origin_of c') ≡ Some (origin_of c) → fabrics.spilled new ≡ raised (fabrics.spilled mid) (spills_in (Some (origin_of c).images) policy events (start policy)) →
       HoldsAfter fabrics (record { policy = policy; laid = laid; events = events }) old new
-  holds_after events c' new stood arrived departed stays spilled =
+  holds_after events c' new stood pushed asked stays spilled =
       let one : origin_of c' ≡ origin_of c = cc in
       let same : origin_of c' ≡ record { images = laid.images; arities = laid.arities; pushes = fabrics.pushed old; pops = fabrics.popped old } = one ∙ origin in
       let pushes : c'.pushes_before ≡ fabrics.pushed old = ap (λ (o : Origin). o.pushes) same in
@@ -40,8 +39,8 @@ module _ {F : Type 0} (fabrics : Ghosts F) (policy : Policy) (laid : Laid) (c : 
       record {
         shape = stood.shape ∙ ap (λ (o : Origin). o.arities) same;
         lifted = subst (λ (o : Origin). IsLift (after policy events (start policy)).tree (image_map o.images) (fabrics.queues new)) same stood.lifted;
-        pushes = omega (arith, stood.pushes, pushes, arrived, no_arrivals, pushed_in-outcomes policy events (start policy));
-        pops = omega (arith, stood.pops, pops, departed, no_departures, popped_or_empty policy events (start policy));
+        pushes = omega (arith, stood.pushes, pushes, pushed, no_pushes);
+        pops = omega (arith, stood.pops, pops, asked, no_departures);
         spills = spilled ∙ ap (λ (t : Option ℕ). raised t (spills_in (Some (origin_of c).images) policy events (start policy))) spills
             ∙ ap (λ (o : Origin). raised (fabrics.spilled old) (spills_in (Some o.images) policy events (start policy))) origin;
       }

@@ -98,7 +98,7 @@ pub fn direct<S: Shelf, K: Sink>(
     let Ok((scheduler, mut tree)) = Direct::new(alloc, policy) else {
         return Err(Stop::Memory);
     };
-    let mut run = Run::new(alloc, policy, policy.depth(), scheduler)?;
+    let mut run = Run::new(alloc, policy, policy.depth(), policy.version(), scheduler)?;
     run_over(
         policy,
         &mut run,

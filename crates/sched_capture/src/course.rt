@@ -37,7 +37,7 @@ pub fn run_over<C: Scheduler + Drop, S: Shelf, K: Sink>(
     requires ready { IsReady packets.old (S.begun shelf.old) }
     requires short { counts_of steps.now ≤ most_count }
     requires stands { C.stands run.old.scheduler under.old (start policy.now.policy) }
-    requires no_arrivals { C.arrivals run.old.scheduler ≡ 0 }
+    requires no_pushes { C.pushes run.old.scheduler ≡ 0 }
     requires no_departures { C.departures run.old.scheduler ≡ 0 }
 
     ensures ending { IfOk result (λ e. IfSome (left_of packets.old (S.left shelf.old)) (λ l.

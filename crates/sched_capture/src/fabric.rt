@@ -75,6 +75,6 @@ pub fn replay<S: Shelf, K: Sink, F: Fabric>(
     let Ok(scheduler) = Embedded::new(alloc, policy, map, &target, fabric) else {
         return Err(Stop::Memory);
     };
-    let mut run = Run::new(alloc, policy, policy.depth(), scheduler)?;
+    let mut run = Run::new(alloc, policy, policy.depth(), policy.version(), scheduler)?;
     run_over(policy, &mut run, fabric, steps, &mut packets, shelf, sink)
 }

@@ -1,5 +1,5 @@
 //! Schedulers over fabrics, call by call.
-ghost use Rattle.std.specs.Prelude.{◌≡◌, ◌≤◌, ◌<◌, ◌+◌, ◌^◌, [], ◌∷◌, length, ℕ, IfOk, IsSomeAnd, IsTrue, OnOk};
+ghost use Rattle.std.specs.Prelude.{◌≡◌, ◌≤◌, ◌<◌, ◌+◌, ◌^◌, [], ◌∷◌, length, ℕ, false, None, IfOk, IsSomeAnd, IsTrue, OnOk};
 ghost use Rattle.tree_defs.specs.Tree.{depth};
 ghost use Rattle.tree_defs.specs.Topology.{topology_of};
 ghost use Rattle.target_defs.specs.Target.{IsInRange};
@@ -8,7 +8,8 @@ ghost use Rattle.rank_defs.specs.Programs.{max_rank};
 ghost use Rattle.rank_defs.specs.Shapes.{max_len};
 ghost use Rattle.policy_defs.specs.Policy.{node_at};
 ghost use Rattle.policy_defs.specs.Accepted.{IsAccepted};
-ghost use Rattle.sched_defs.specs.SourceState.{start};
+ghost use Rattle.packet_defs.specs.declared.packet.Packet.{Packet as Known};
+ghost use Rattle.sched_defs.specs.SourceState.{SourceState, start, is_full};
 ghost use Rattle.sched_defs.specs.Events.{Arrive, CanMake, after};
 ghost use Rattle.sched_defs.specs.Numbered.{IsHeldBelow};
 ghost use Rattle.sched_core.specs.Standing.{StandForOne};
@@ -24,7 +25,7 @@ use policy_core::{Policy, resolve};
 use policy_text::parse;
 use rank_defs::{FlowKey, MAX_RANK};
 use report_core::Report;
-use sched_core::Scheduler;
+use sched_core::{Arrival, Scheduler};
 use sched_embedded::Embedded;
 use sched_run::depart_line;
 use std::alloc::{AllocError, Global};
@@ -162,7 +163,7 @@ fn is_in_range(policy: &Policy, class: u32, len: u32, moment: u64) -> bool
     (class as usize) < policy.classes().len() && moment <= MAX_RANK
 }
 
-/// The packet of the next number comes, if it can be sent. The answer is the number of its leaf.
+/// The packet of the next number comes, if it can be sent. The answer is the number of its leaf, if it isn't dropped there.
 fn come<C: Scheduler>(
     policy: &Policy,
     scheduler: &mut C,
@@ -175,11 +176,11 @@ fn come<C: Scheduler>(
     requires policy { C.policy scheduler.old ≡ policy.now.policy }
     requires stands { StandForOne C.stands policy.now.policy scheduler.old under.old (λ s. IsHeldBelow next s.held) }
     requires room { depth policy.now.policy.tree ≤ trace.old.room }
-    requires few { C.arrivals scheduler.old < 2 ^ 61 }
+    requires few { C.pushes scheduler.old < 2 ^ 61 }
     ensures stands { OnOk result (StandForOne C.stands policy.now.policy scheduler.new under.new (λ s. IsHeldBelow (next + 1) s.held)) }
     ensures policy { C.policy scheduler.new ≡ policy.now.policy }
     ensures room { trace.new.room ≡ trace.old.room }
-    ensures arrivals { OnOk result (C.arrivals scheduler.new ≤ C.arrivals scheduler.old + 1) }
+    ensures pushes { OnOk result (C.pushes scheduler.new ≤ C.pushes scheduler.old + 1) }
     ensures departures { C.departures scheduler.new ≡ C.departures scheduler.old }
 {
     let Packet {
@@ -192,7 +193,10 @@ fn come<C: Scheduler>(
     if number != next || !is_in_range(policy, class, len, moment) {
         return Ok(None);
     }
-    Ok(Some(scheduler.arrive(under, &packet, trace)?))
+    Ok(match scheduler.arrive(under, &packet, trace)? {
+        Arrival::Pushed(leaf) => Some(leaf),
+        Arrival::Dropped(_) => None,
+    })
 }
 
 /// The next packet leaves.
@@ -211,7 +215,7 @@ fn leave<C: Scheduler>(
         StandForOne C.stands policy.now.policy scheduler.new under.new (λ s. IsHeldBelow n s.held) }
     ensures policy { C.policy scheduler.new ≡ policy.now.policy }
     ensures room { trace.new.room ≡ trace.old.room }
-    ensures arrivals { C.arrivals scheduler.new ≡ C.arrivals scheduler.old }
+    ensures pushes { C.pushes scheduler.new ≡ C.pushes scheduler.old }
     ensures departures { C.departures scheduler.new ≡ C.departures scheduler.old + 1 }
 {
     scheduler.depart(under, trace)
@@ -230,13 +234,13 @@ fn take_turn<C: Scheduler>(
     requires policy { C.policy scheduler.old ≡ policy.now.policy }
     requires stands { StandForOne C.stands policy.now.policy scheduler.old under.old (λ s. IsHeldBelow next.old s.held) }
     requires room { depth policy.now.policy.tree ≤ trace.old.room }
-    requires few_arrivals { C.arrivals scheduler.old < 2 ^ 61 }
+    requires few_pushes { C.pushes scheduler.old < 2 ^ 61 }
     requires few_departures { C.departures scheduler.old < 2 ^ 61 }
     requires few { next.old < 2 ^ 61 }
     ensures stands { OnOk result (StandForOne C.stands policy.now.policy scheduler.new under.new (λ s. IsHeldBelow next.new s.held)) }
     ensures policy { C.policy scheduler.new ≡ policy.now.policy }
     ensures room { trace.new.room ≡ trace.old.room }
-    ensures arrivals { OnOk result (C.arrivals scheduler.new ≤ C.arrivals scheduler.old + 1) }
+    ensures pushes { OnOk result (C.pushes scheduler.new ≤ C.pushes scheduler.old + 1) }
     ensures departures { OnOk result (C.departures scheduler.new ≤ C.departures scheduler.old + 1) }
     ensures next { OnOk result (next.new ≤ next.old + 1) }
 {
@@ -263,7 +267,7 @@ fn run_office<C: Scheduler, R: Abort>(
 ) -> Result<(), AllocError>
     requires policy { C.policy scheduler.old ≡ policy.now.policy }
     requires stands { C.stands scheduler.old under.old (start policy.now.policy) }
-    requires no_arrivals { C.arrivals scheduler.old ≡ 0 }
+    requires no_pushes { C.pushes scheduler.old ≡ 0 }
     requires no_departures { C.departures scheduler.old ≡ 0 }
 {
     let mut trace = Taken::new(alloc, policy.depth())?;
@@ -318,11 +322,12 @@ fn come_both<C: Scheduler>(
     requires policy { C.policy scheduler.old ≡ policy.now.policy }
     requires stands { C.stands scheduler.old under.old (start policy.now.policy) }
     requires can { CanMake policy.now.policy (Arrive first.now ∷ Arrive second.now ∷ []) (start policy.now.policy) }
+    requires unlimited { (p : Known) (s : SourceState) → is_full policy.now.policy p s ≡ false }
     requires room { depth policy.now.policy.tree ≤ trace.old.room }
-    requires no_arrivals { C.arrivals scheduler.old ≡ 0 }
+    requires no_pushes { C.pushes scheduler.old ≡ 0 }
     ensures stands { OnOk result (C.stands scheduler.new under.new
         (after policy.now.policy (Arrive first.now ∷ Arrive second.now ∷ []) (start policy.now.policy))) }
-    ensures arrivals { OnOk result (C.arrivals scheduler.new ≡ 2) }
+    ensures pushes { OnOk result (C.pushes scheduler.new ≡ 2) }
     ensures departures { C.departures scheduler.new ≡ C.departures scheduler.old }
     ensures policy { C.policy scheduler.new ≡ policy.now.policy }
     ensures origin { C.origin scheduler.new ≡ C.origin scheduler.old }
@@ -346,6 +351,7 @@ fn fill<'a, F: Fabric>(
     requires no_pushes { F.pushed fabric.old ≡ 0 }
     requires no_pops { F.popped fabric.old ≡ 0 }
     requires can { CanMake policy.now.policy (Arrive first.now ∷ Arrive second.now ∷ []) (start policy.now.policy) }
+    requires unlimited { (p : Known) (s : SourceState) → is_full policy.now.policy p s ≡ false }
     ensures stands { IfOk result (λ r. EmbeddedStands F.Fabric r.0 fabric.new
         (after policy.now.policy (Arrive first.now ∷ Arrive second.now ∷ []) (start policy.now.policy))) }
     ensures policy { IfOk result (λ r. policy_in r.0.own ≡ policy.now.policy) }
@@ -354,7 +360,7 @@ fn fill<'a, F: Fabric>(
     ensures arities { IfOk result (λ r. (origin_of r.0).arities ≡ target.now.arities) }
     ensures pushes { IfOk result (λ r. (origin_of r.0).pushes ≡ 0) }
     ensures pops { IfOk result (λ r. (origin_of r.0).pops ≡ 0) }
-    ensures arrivals { IfOk result (λ r. r.0.own.arrivals ≡ 2) }
+    ensures pushes_own { IfOk result (λ r. r.0.own.pushes ≡ 2) }
     ensures departures { IfOk result (λ r. r.0.own.departures ≡ 0) }
 {
     let map = embed(alloc, policy.topo(), target)?;
@@ -364,15 +370,16 @@ fn fill<'a, F: Fabric>(
     Ok((scheduler, ranks))
 }
 
-/// Whether a policy is a single leaf without variables.
+/// Whether a policy is a single leaf without variables and without a limit.
 fn is_plain_leaf(policy: &Policy) -> bool
     ensures leaf { IsTrue result → depth policy.now.policy.tree ≡ 0 }
     ensures keeps { IsTrue result → IsSomeAnd (node_at policy.now.policy.tree []) (λ n. n.program.keeps ≡ []) }
     ensures eaches { IsTrue result → IsSomeAnd (node_at policy.now.policy.tree []) (λ n. n.program.eaches ≡ []) }
+    ensures limit { IsTrue result → IsSomeAnd (node_at policy.now.policy.tree []) (λ n. n.limit ≡ None) }
     ensures accepted { IsAccepted policy.now.policy }
 {
     let transaction = policy.checked(0).transaction();
-    if policy.depth() > 0 || !transaction.keeps.is_empty() {
+    if policy.depth() > 0 || policy.limit(0).is_some() || !transaction.keeps.is_empty() {
         return false;
     }
     transaction.eaches.is_empty()
@@ -427,7 +434,7 @@ fn exchange<F: Fabric, R: Abort>(
     requires no_pops_other { F.popped other.old ≡ 0 }
 {
     if !is_plain_leaf(policy) {
-        return Err(Fail::new("the leaf has variables"));
+        return Err(Fail::new("the leaf has variables or a limit"));
     }
     let (mut first, ranks) = fill(alloc, policy, target, fabric, &EARLY, &LATE)?;
     assert_eq!(rt; ranks, [Some(5), Some(9)]);

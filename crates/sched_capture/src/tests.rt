@@ -15,6 +15,12 @@ const LATE: &[u8] = b"policy 1\ntransaction late\npush rank = 2000 - len\nclass 
 const PAIR: &[u8] =
     b"policy 1\nclass ca when dscp 46\nclass cb\nleaf a using fifo weight 3 classes ca\n\
     leaf b using fifo classes cb\nnode root using stfq children a b\n";
+/// One leaf that holds a packet at most.
+const FULL: &[u8] = b"policy 2\nclass all\nleaf root using fifo limit 1 classes all\n";
+/// The same pair, of which the first leaf holds a packet at most.
+const FULL_PAIR: &[u8] =
+    b"policy 2\nclass ca when dscp 46\nclass cb\nleaf a using fifo weight 3 limit 1 classes ca\n\
+    leaf b using fifo classes cb\nnode root using stfq children a b\n";
 
 /// Little-endian, microseconds, link type 147, of which no headers are read.
 const HEADER: &[u8] = b"\xd4\xc3\xb2\xa1\x02\0\x04\0\0\0\0\0\0\0\0\0\0\0\x04\0\x93\0\0\0";
@@ -74,7 +80,7 @@ fn runs_over_memory(rt: HostRuntime) -> Result<(), Fail> {
         usize,
         Result<Ending, Stop>,
         &str,
-    ); 11] = [
+    ); 14] = [
         (
             ONE_LEAF,
             TWO,
@@ -121,6 +127,34 @@ fn runs_over_memory(rt: HostRuntime) -> Result<(), Fail> {
             "a 1 1 a 0/0\na 2 2 a 500000/0\na 3 3 b 0/0\na 4 4 a 1000000/0\n\
             d 5 1 a 0/0\nd 6 3 b 0/0\nd 7 2 a 500000/0\nd 8 4 a 1000000/0\na 9 5 b 1500000/0\nd 10 5 b 1500000/0\n\
             end pushed 5 popped 5 empty 0 held 0 unsent 0\n",
+        ),
+        (
+            FULL,
+            TWO,
+            b"a 2\nd 3\n",
+            0,
+            300,
+            Ok(Ending::Whole(0)),
+            "a 1 1 root 0\nx 2 2 root\nd 3 1 root 0\ne 4\ne 5\nend pushed 1 popped 1 empty 2 held 0 unsent 0 dropped 1\n",
+        ),
+        (
+            FULL_PAIR,
+            &[BARE, EXPEDITED, EXPEDITED, ORDINARY, EXPEDITED, ORDINARY],
+            b"a 3\nd\na\ndrain\n",
+            0,
+            300,
+            Ok(Ending::Whole(1)),
+            "a 1 1 a 0/0\nx 2 2 a\na 3 3 b 0/0\nd 4 1 a 0/0\na 5 4 a 500000/0\nd 6 3 b 0/0\nd 7 4 a 500000/0\n\
+            end pushed 3 popped 3 empty 0 held 0 unsent 1 dropped 1\n",
+        ),
+        (
+            FULL,
+            TWO,
+            b"a 2\nd\na\n",
+            0,
+            300,
+            Ok(Ending::PastLast(4)),
+            "a 1 1 root 0\nx 2 2 root\nd 3 1 root 0\nfault script 3 4\n",
         ),
         (
             ONE_LEAF,

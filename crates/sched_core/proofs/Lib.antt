@@ -1,2 +1,3 @@
 pub mod LeafNumbers
+pub mod Filling
 pub mod PoppedPackets

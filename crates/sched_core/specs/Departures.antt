@@ -1,15 +1,10 @@
--- What a scheduler tells of a packet that came, and of one that left.
-use Rattle.std.specs.Prelude.{◌≡◌, ℕ, Option, option_map}
+-- What a scheduler tells of a packet that left.
+use Rattle.std.specs.Prelude.{◌≡◌, Option, option_map}
 use Rattle.packet_defs.specs.declared.packet.Departed.{Departed}
-use Rattle.packet_defs.specs.declared.packet.Packet.{Packet}
 use Rattle.policy_defs.specs.Policy.{Policy}
 use Rattle.policy_defs.specs.Numbers.{number_at}
-use Rattle.sched_defs.specs.SourceState.{SourceState, Leaver, class_of, leaver}
+use Rattle.sched_defs.specs.SourceState.{SourceState, Leaver, leaver}
 use Rattle.tree_core.specs.Paths.{Way}
-
--- the number of the leaf of a packet's class
-abbrev pub leaf_number : Policy → Packet → ℕ
-leaf_number policy p = number_at policy.tree (class_of policy p).leaf
 
 -- of a packet that left its number, its class, the leaf from which it left, and its length
 abbrev pub departed_packet : Policy → Leaver → Departed

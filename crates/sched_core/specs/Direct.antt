@@ -5,8 +5,8 @@ use Rattle.sched_defs.specs.SourceState.{SourceState}
 use Rattle.sched_core.specs.declared.direct.Direct.{Direct}
 use Rattle.sched_core.specs.Own.{IsOwn}
 
--- the queues are those of the tree under it, which was pushed once for each arrival
+-- the queues are those of the tree under it, which was pushed once for each packet that was pushed
 pub record DirectStands (c : Direct) (under : TreeContents) (s : SourceState) : Type 0 where
   pub own : IsOwn c.own s
   pub tree : s.tree ≡ under.tree
-  pub pushes : under.pushes ≡ c.own.arrivals
+  pub pushes : under.pushes ≡ c.own.pushes

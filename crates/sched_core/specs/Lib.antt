@@ -1,6 +1,7 @@
 pub mod Standing
 pub mod Origins
 pub mod Spills
+pub mod Arrivals
 pub mod Departures
 pub mod Held
 pub mod Own

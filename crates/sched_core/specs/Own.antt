@@ -1,8 +1,10 @@
 -- What a scheduler keeps itself of a source state: all but its queues.
-use Rattle.std.specs.Prelude.{◌≡◌, ℕ, List, Some}
-use Rattle.tree_defs.specs.SourceTree.{SourceTree, pop}
+use Rattle.std.specs.Prelude.{◌≡◌, ◌≤◌, ℕ, List, Some, slice_get}
+use Rattle.tree_defs.specs.Tree.{Address, LeadsToLeaf}
+use Rattle.tree_defs.specs.SourceTree.{SourceTree, pop, size}
 use Rattle.policy_defs.specs.Policy.{Policy}
-use Rattle.sched_defs.specs.SourceState.{SourceState}
+use Rattle.policy_defs.specs.Numbers.{number_at}
+use Rattle.sched_defs.specs.SourceState.{SourceState, filled}
 use Rattle.sched_nodes.specs.Agreement.{policy_of, AreStates}
 use Rattle.sched_core.specs.declared.own.Own.{Own}
 use Rattle.sched_core.specs.Held.{held_at}
@@ -11,10 +13,17 @@ use Rattle.sched_core.specs.Standing.{StandForOne, ForEachState}
 abbrev pub policy_in : Own → Policy
 policy_in own = policy_of own.stations
 
--- the variables, the packets held and the greatest moment are those of the state
+-- at the number of each leaf, how many packets stand there
+abbrev pub AreFilled : Policy → List ℕ → SourceState → Type 0
+AreFilled policy counts s = (a : Address) → LeadsToLeaf policy.tree a → slice_get counts (number_at policy.tree a) ≡ Some (filled s a)
+
+-- The variables, the packets held, how many stand at each leaf, and the greatest moment are those of the state, in which no
+-- more packets are held than were pushed.
 pub record IsOwn (own : Own) (s : SourceState) : Type 0 where
   pub nodes : AreStates own.stations s.nodes
   pub held : (n : ℕ) → held_at own.held n ≡ s.held n
+  pub filled : AreFilled (policy_in own) own.filled.items s
+  pub few : size s.tree ≤ own.pushes
   pub now : s.now ≡ own.moment
 
 -- whatever holds the queues

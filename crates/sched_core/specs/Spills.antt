@@ -1,10 +1,10 @@
 -- At how many nodes of a target the pushes of events spill.
-use Rattle.std.specs.Prelude.{ℕ, ◌+◌, Option, None, Some, option_map, List, [], ◌∷◌}
+use Rattle.std.specs.Prelude.{ℕ, ◌+◌, if◌then◌else◌, Option, None, Some, option_map, List, [], ◌∷◌}
 use Rattle.tree_defs.specs.Tree.{Tree, Address}
 use Rattle.embed_lift_defs.specs.Spilling.{push_spills}
 use Rattle.packet_defs.specs.declared.packet.Packet.{Packet}
 use Rattle.policy_defs.specs.Policy.{Policy}
-use Rattle.sched_defs.specs.SourceState.{SourceState, class_of, arrival_ranks, arrived, departed}
+use Rattle.sched_defs.specs.SourceState.{SourceState, class_of, arrival_ranks, is_full, arrived, departed}
 use Rattle.sched_defs.specs.Events.{Event, Arrive, Depart}
 use Rattle.sched_core.specs.Origins.{Origin, images_of}
 
@@ -12,10 +12,11 @@ use Rattle.sched_core.specs.Origins.{Origin, images_of}
 abbrev pub raised : Option ℕ → ℕ → Option ℕ
 raised told more = option_map (λ n. n + more) told
 
--- at how many nodes the push of an arrival spills, along the images of the source's nodes, where they have any
+-- at how many nodes the push of an arrival spills, along the images of the source's nodes, where they have any; a packet
+-- that is dropped isn't pushed
 abbrev pub arrival_spills : Option (Tree Address) → Policy → Packet → SourceState → ℕ
 arrival_spills None policy p s = 0
-arrival_spills (Some images) policy p s = push_spills images s.tree (class_of policy p).leaf (arrival_ranks policy p s)
+arrival_spills (Some images) policy p s = if is_full policy p s then 0 else push_spills images s.tree (class_of policy p).leaf (arrival_ranks policy p s)
 
 -- the same along the images in the target where the queues stand, if they do
 abbrev pub spills_at : Option Origin → Policy → Packet → SourceState → ℕ
@@ -25,4 +26,4 @@ spills_at origin policy p s = arrival_spills (images_of origin) policy p s
 abbrev pub spills_in : Option (Tree Address) → Policy → List Event → SourceState → ℕ
 spills_in images policy [] s = 0
 spills_in images policy (Arrive p ∷ events) s = arrival_spills images policy p s + spills_in images policy events (arrived policy p s)
-spills_in images policy (Depart ∷ events) s = spills_in images policy events (departed policy s)
+spills_in images policy (Depart start ∷ events) s = spills_in images policy events (departed policy s)

@@ -3,7 +3,7 @@ ghost use Rattle.std.specs.Prelude.{◌≡◌, IfOk};
 ghost use Rattle.sched_defs.specs.SourceState.{start};
 
 use crate::own::Own;
-use crate::scheduler::Scheduler;
+use crate::scheduler::{Arrival, Scheduler};
 use packet_defs::{Departed, Packet};
 use policy_core::Policy;
 use std::alloc::{AllocError, Global};
@@ -23,7 +23,7 @@ impl<'a> Direct<'a> {
     pub fn new(alloc: Global, policy: &'a Policy) -> Result<(Direct<'a>, SourceTree), AllocError>
         ensures stands { IfOk result (λ r. DirectStands r.0 r.1 (start policy.now.policy)) }
         ensures policy { IfOk result (λ r. policy_in r.0.own ≡ policy.now.policy) }
-        ensures arrivals { IfOk result (λ r. r.0.own.arrivals ≡ 0) }
+        ensures pushes { IfOk result (λ r. r.0.own.pushes ≡ 0) }
         ensures departures { IfOk result (λ r. r.0.own.departures ≡ 0) }
     {
         let own = Own::new(alloc, policy)?;
@@ -41,7 +41,7 @@ impl<'a> Scheduler for Direct<'a> {
 
     ghost stands = { DirectStands };
 
-    ghost arrivals = { λ c. c.own.arrivals };
+    ghost pushes = { λ c. c.own.pushes };
 
     ghost departures = { λ c. c.own.departures };
 
@@ -56,11 +56,14 @@ impl<'a> Scheduler for Direct<'a> {
         under: &mut SourceTree,
         packet: &Packet,
         trace: &mut Taken,
-    ) -> Result<u32, AllocError> {
+    ) -> Result<Arrival, AllocError> {
+        if self.own.is_full(packet) {
+            return Ok(Arrival::Dropped(self.own.turn_away(packet)));
+        }
         under.reserve(self.own.address(packet))?;
         let leaf = self.own.admit(packet, trace)?;
         under.push_to(trace.digits(), trace.ranks(), packet.number);
-        Ok(leaf)
+        Ok(Arrival::Pushed(leaf))
     }
 
     fn depart(&mut self, under: &mut SourceTree, trace: &mut Taken) -> Option<Departed> {

@@ -9,4 +9,4 @@ mod scheduler;
 
 pub use direct::Direct;
 pub use own::Own;
-pub use scheduler::Scheduler;
+pub use scheduler::{Arrival, Scheduler};

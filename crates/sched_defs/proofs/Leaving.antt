@@ -16,7 +16,7 @@ use Rattle.packet_defs.specs.declared.packet.Packet.{Packet}
 use Rattle.policy_defs.specs.Policy.{Policy, Node, Class}
 use Rattle.policy_defs.specs.Accepted.{IsAccepted}
 use Rattle.sched_defs.specs.Visits.{visits_from, visits_below, rank_at}
-use Rattle.sched_defs.specs.SourceState.{SourceState, Leaver, class_of, way_in, arrival_ranks, arrived, left_with, left_from, departed, leaving, leaver}
+use Rattle.sched_defs.specs.SourceState.{SourceState, Leaver, class_of, way_in, arrival_ranks, pushed, left_with, left_from, departed, leaving, leaver}
 use Rattle.sched_defs.specs.Sound.{IsAtItsLeaf, IsSound}
 use Rattle.sched_defs.specs.Events.{CanArrive}
 use Rattle.sched_defs.specs.Laws.{AreNumbersOf, ArrivesAtALeaf, LeavesItsLeaf}
@@ -55,8 +55,8 @@ held_count policy s numbers sound are =
     (λ n i. in_of n numbers ((are.each n).1 ((own.each n).0 (contains_of n (values s.tree) i))))
     ∙ length-values s.tree
 
-pub size_arrived : (policy : Policy) (p : Packet) (s : SourceState) → IsAccepted policy → IsSound policy s → CanArrive policy s p → size (arrived policy p s).tree ≡ size s.tree + 1
-size_arrived policy p s accepted sound can = size-push s.tree (class_of policy p).leaf (arrival_ranks policy p s) p.number (leads_in policy accepted s sound p can.known.class)
+pub size_pushed : (policy : Policy) (p : Packet) (s : SourceState) → IsAccepted policy → IsSound policy s → CanArrive policy s p → size (pushed policy p s).tree ≡ size s.tree + 1
+size_pushed policy p s accepted sound can = size-push s.tree (class_of policy p).leaf (arrival_ranks policy p s) p.number (leads_in policy accepted s sound p can.known.class)
 
 -- ---- what arrives
 abbrev ranks_to : Address → ℕ

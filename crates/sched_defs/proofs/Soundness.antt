@@ -1,21 +1,23 @@
 -- Arrivals and departures keep a state sound.
-use Rattle.std.proofs.Common.{◌≡◌, ◌≢◌, ◌≤◌, ◌<◌, ◌⊎◌, ℕ, Bool, true, false, nat_eq, max, List, [], length, Option, Some, None, refl, sym, ap, ◌∙◌, subst, arith, inl, inr, ne_eqb, eq-eqb, if◌then◌else◌}
+use Rattle.std.proofs.Common.{◌≡◌, ◌≢◌, ◌≤◌, ◌<◌, ◌⊎◌, ℕ, zero, suc, ◌+◌, Bool, true, false, nat_eq, max, List, [], ◌∷◌, length, drop, slice_index, IfSome, Option, Some, None, refl, sym, ap, ◌∙◌, subst, arith, inl, inr, ne_eqb, eq-eqb, if◌then◌else◌}
 use Rattle.std.specs.List.{AllByRecursion, IsDistinct, Contains}
 use Rattle.std.proofs.lemmas.Bool.{eqb-false}
 use Rattle.std.proofs.lemmas.Bool.Decides.{Decides-eqb}
-use Rattle.tree_defs.specs.Tree.{Address, LeadsToLeaf, Popping}
+use Rattle.pifo_defs.specs.Queue.{Queue, put, take_least, take_from, Taking}
+use Rattle.pifo_defs.proofs.TakeLeast.{length-put, length-rest}
+use Rattle.tree_defs.specs.Tree.{Tree, leaf, inner, Trees, none, more, Address, LeadsToLeaf, Popping}
 use Rattle.tree_defs.specs.Topology.{Topology, topology_of}
-use Rattle.tree_defs.specs.SourceTree.{SourceTree, push, pop, empty_tree}
-use Rattle.tree_defs.specs.Packets.{Placed, values, packets}
+use Rattle.tree_defs.specs.SourceTree.{SourceTree, push, pop, empty_tree, empty_trees}
+use Rattle.tree_defs.specs.Packets.{Placed, values, packets, queue_at, queue_in}
 use Rattle.tree_defs.proofs.Shapes.{topology_of-same, same_shape, topology_of-empty, topology_of-push, topology_of-pop, LeadsToLeaf-topology}
 use Rattle.tree_defs.proofs.WellFormedLaws.{IsWellFormed-push, IsWellFormed-pop, IsWellFormed-empty}
-use Rattle.tree_defs.proofs.PacketLaws.{values-packets, packets-push, packets-pop, values-push, values-pop, packets-empty, values-empty}
+use Rattle.tree_defs.proofs.PacketLaws.{values-packets, packets-push, packets-pop, values-push, values-pop, packets-empty, values-empty, queue_at-push, queue_at-push_elsewhere, queue_at-pop, queue_at-pop_elsewhere}
 use Rattle.tree_defs.proofs.OneMoreLaws.{IsOther, All-added, All-taken, IsDistinct-added, IsDistinct-taken}
 use Rattle.rank_defs.specs.Programs.{max_rank}
 use Rattle.packet_defs.specs.declared.packet.Packet.{Packet}
-use Rattle.policy_defs.specs.Policy.{Policy, no_marks}
+use Rattle.policy_defs.specs.Policy.{Policy, no_marks, limit_at}
 use Rattle.policy_defs.specs.Accepted.{IsAccepted, IsClassReady}
-use Rattle.sched_defs.specs.SourceState.{Held, SourceState, start, class_of, way_in, way_out, arrival_ranks, arrived, left_with, left_from, departed, with_packet, without}
+use Rattle.sched_defs.specs.SourceState.{Held, SourceState, start, class_of, way_in, way_out, arrival_ranks, filled, is_reached, is_full, dropped, pushed, arrived, left_with, left_from, departed, with_packet, without}
 use Rattle.sched_defs.specs.Sound.{IsKnown, IsAtItsLeaf, IsSound}
 use Rattle.sched_defs.specs.Events.{CanArrive}
 use Rattle.sched_defs.proofs.Members.{all_mapped, all_over, all_unmapped, all_joined, Contains-with, Contains-added, Contains-without}
@@ -86,8 +88,39 @@ stands_nowhere policy s n sound fresh =
     (all_over (λ (at : Placed). at.1) (λ m. nat_eq n m ≡ false) (packets s.tree)
     (all_mapped (IsAtItsLeaf policy s) (λ at. nat_eq n at.1 ≡ false) (λ at i. ne_eqb n at.1 (λ e. other_number s policy n fresh at i (sym e))) (packets s.tree) sound.placed))
 
-pub sound_arrived : (policy : Policy) (p : Packet) (s : SourceState) → IsAccepted policy → IsSound policy s → CanArrive policy s p → IsSound policy (arrived policy p s)
-sound_arrived policy p s accepted sound can =
+-- a limit that isn't reached has room for one more
+room_for_one : (limit : Option ℕ) (n : ℕ) → is_reached limit n ≡ false → IfSome limit (λ l. n ≤ l) → IfSome limit (λ l. n + 1 ≤ l)
+room_for_one None n free few = tt
+room_for_one (Some l) n free few = let ne : n ≢ l = eqb-false n l free in omega (arith, ne, few)
+
+fewer : (limit : Option ℕ) (n m : ℕ) → m ≤ n → IfSome limit (λ l. n ≤ l) → IfSome limit (λ l. m ≤ l)
+fewer None n m less few = tt
+fewer (Some l) n m less few = omega (arith, less, few)
+
+-- two addresses are one, or they aren't
+one_or_two : (a b : Address) → (a ≡ b) ⊎ (a ≢ b)
+one_or_two [] [] = inl refl
+one_or_two [] (j ∷ b) = inr (λ e. cc)
+one_or_two (i ∷ a) [] = inr (λ e. cc)
+one_or_two (i ∷ a) (j ∷ b) = by_first (nat_eq i j) refl (one_or_two a b)
+  where
+    by_first : (t : Bool) → nat_eq i j ≡ t → (a ≡ b) ⊎ (a ≢ b) → (i ∷ a ≡ j ∷ b) ⊎ (i ∷ a ≢ j ∷ b)
+    by_first true e (inl same) = inl (ap (λ (k : ℕ). k ∷ a) ((Decides-eqb i j).0 e) ∙ ap (λ (c : Address). j ∷ c) same)
+    by_first true e (inr other) = inr (λ k. other (ap (drop 1) k))
+    by_first false e rest = inr (λ k. eqb-false i j e (ap (λ (c : Address). slice_index c 0) k))
+
+-- no leaf holds more than its limit after a push to one that has room
+limits_pushed : (policy : Policy) (s : SourceState) (t : SourceTree) (digits : Address) (rank item : ℕ) → ((a : Address) → IfSome (limit_at policy a) (λ l. filled s a ≤ l))
+    → is_reached (limit_at policy digits) (filled s digits) ≡ false → queue_at t digits ≡ put (queue_at s.tree digits) rank item → ((a : Address) → a ≢ digits → queue_at t a ≡ queue_at s.tree a)
+    → (a : Address) → IfSome (limit_at policy a) (λ l. length (queue_at t a) ≤ l)
+limits_pushed policy s t digits rank item few free here elsewhere a = elim (one_or_two a digits) [
+  | inl same ↦ subst (λ (b : Address). IfSome (limit_at policy b) (λ l. length (queue_at t b) ≤ l)) (sym same)
+      (subst (λ (n : ℕ). IfSome (limit_at policy digits) (λ l. n ≤ l)) (sym (ap length here ∙ length-put (queue_at s.tree digits) rank item)) (room_for_one (limit_at policy digits) (filled s digits) free (few digits)))
+  | inr other ↦ subst (λ (q : Queue). IfSome (limit_at policy a) (λ l. length q ≤ l)) (sym (elsewhere a other)) (few a)
+]
+
+pub sound_pushed : (policy : Policy) (p : Packet) (s : SourceState) → IsAccepted policy → IsSound policy s → CanArrive policy s p → is_full policy p s ≡ false → IsSound policy (pushed policy p s)
+sound_pushed policy p s accepted sound can free =
     let digits : Address = (class_of policy p).leaf in
     let ranks : List ℕ = arrival_ranks policy p s in
     let now : max s.now p.moment ≤ max_rank = let a = sound.now in let b = can.moment in omega arith in
@@ -96,9 +129,11 @@ sound_arrived policy p s accepted sound can =
       well_formed = IsWellFormed-push s.tree digits ranks p.number leads sound.well_formed;
       shape = same_shape (push s.tree digits ranks p.number) policy.tree (topology_of-push s.tree digits ranks p.number ∙ topology_of-same s.tree policy.tree sound.shape);
       distinct = IsDistinct-added p.number (values s.tree) (values (push s.tree digits ranks p.number)) (values-push s.tree digits ranks p.number leads) (stands_nowhere policy s p.number sound can.fresh) sound.distinct;
-      placed = All-added (IsAtItsLeaf policy (arrived policy p s)) (digits, p.number) (packets s.tree) (packets (push s.tree digits ranks p.number)) (packets-push s.tree digits ranks p.number leads)
+      placed = All-added (IsAtItsLeaf policy (pushed policy p s)) (digits, p.number) (packets s.tree) (packets (push s.tree digits ranks p.number)) (packets-push s.tree digits ranks p.number leads)
           (record { packet = p; held = with_packet-same s.held p; leaf_is = refl })
-          (all_mapped (IsAtItsLeaf policy s) (IsAtItsLeaf policy (arrived policy p s)) (λ at i. record { packet = i.packet; held = with_packet-other s.held p at.1 (other_number s policy p.number can.fresh at i) ∙ i.held; leaf_is = i.leaf_is }) (packets s.tree) sound.placed);
+          (all_mapped (IsAtItsLeaf policy s) (IsAtItsLeaf policy (pushed policy p s)) (λ at i. record { packet = i.packet; held = with_packet-other s.held p at.1 (other_number s policy p.number can.fresh at i) ∙ i.held; leaf_is = i.leaf_is }) (packets s.tree) sound.placed);
+      limits = limits_pushed policy s (push s.tree digits ranks p.number) digits (slice_index ranks (length digits)) p.number sound.limits free
+          (queue_at-push s.tree digits ranks p.number leads) (λ a other. queue_at-push_elsewhere s.tree digits ranks p.number a leads other);
       stands = λ n q h. elim (with_packet-is s.held p n q h) [
         | inl e ↦ subst (λ (m : ℕ). Contains (values (push s.tree digits ranks p.number)) m) (sym e.0) (Contains-added p.number (values s.tree) (values (push s.tree digits ranks p.number)) (values-push s.tree digits ranks p.number leads))
         | inr e ↦ Contains-with n p.number (values s.tree) (values (push s.tree digits ranks p.number)) (values-push s.tree digits ranks p.number leads) (sound.stands n q e)
@@ -116,10 +151,48 @@ sound_arrived policy p s accepted sound can =
       now = now;
     }
 
+pub sound_dropped : (policy : Policy) (p : Packet) (s : SourceState) → IsSound policy s → CanArrive policy s p → IsSound policy (dropped p s)
+sound_dropped policy p s sound can = record {
+  well_formed = sound.well_formed;
+  shape = sound.shape;
+  distinct = sound.distinct;
+  placed = all_mapped (IsAtItsLeaf policy s) (IsAtItsLeaf policy (dropped p s)) (λ at i. record { packet = i.packet; held = i.held; leaf_is = i.leaf_is }) (packets s.tree) sound.placed;
+  limits = sound.limits;
+  stands = sound.stands;
+  known = sound.known;
+  numbered = sound.numbered;
+  states = sound.states;
+  ranks = sound.ranks;
+  now = let a = sound.now in let b = can.moment in omega arith;
+}
+
+-- an arrival is a drop or a push
+pub by_fullness : (policy : Policy) (p : Packet) (s : SourceState) (P : SourceState → Type 0) → (is_full policy p s ≡ true → P (dropped p s)) → (is_full policy p s ≡ false → P (pushed policy p s)) → P (arrived policy p s)
+by_fullness policy p s P full free = by_test (is_full policy p s) full free
+  where
+    by_test : (t : Bool) → (t ≡ true → P (dropped p s)) → (t ≡ false → P (pushed policy p s)) → P (if t then dropped p s else pushed policy p s)
+    by_test true full free = full refl
+    by_test false full free = free refl
+
+pub sound_arrived : (policy : Policy) (p : Packet) (s : SourceState) → IsAccepted policy → IsSound policy s → CanArrive policy s p → IsSound policy (arrived policy p s)
+sound_arrived policy p s accepted sound can = by_fullness policy p s (IsSound policy) (λ full. sound_dropped policy p s sound can) (sound_pushed policy p s accepted sound can)
+
 -- ---- departures
 -- what is popped is held, under its number
 pub popped_is_held : (policy : Policy) (s : SourceState) (taken : Popping SourceTree) → IsSound policy s → pop s.tree ≡ Some taken → IsAtItsLeaf policy s (taken.digits, taken.value)
 popped_is_held policy s taken sound e = (All-taken (IsAtItsLeaf policy s) (taken.digits, taken.value) (packets taken.left) (packets s.tree) (packets-pop s.tree taken e) sound.placed).0
+
+length-taken : (q : Queue) (e : Taking) → take_least q ≡ Some e → length q ≡ length e.rest + 1
+length-taken [] e h = cc
+length-taken (x ∷ q) e h = let same : take_from x.0 x.1 q ≡ e = cc in let n = length-rest x.0 x.1 q in let k : length (take_from x.0 x.1 q).rest ≡ length e.rest = ap (λ (z : Taking). length z.rest) same in omega arith
+
+limits_popped : (policy : Policy) (s : SourceState) (taken : Popping SourceTree) → pop s.tree ≡ Some taken → ((a : Address) → IfSome (limit_at policy a) (λ l. filled s a ≤ l))
+    → (a : Address) → IfSome (limit_at policy a) (λ l. length (queue_at taken.left a) ≤ l)
+limits_popped policy s taken e few a = elim (one_or_two a taken.digits) [
+  | inl same ↦ subst (λ (b : Address). IfSome (limit_at policy b) (λ l. length (queue_at taken.left b) ≤ l)) (sym same)
+      (fewer (limit_at policy taken.digits) (filled s taken.digits) (length (queue_at taken.left taken.digits)) (let n = length-taken (queue_at s.tree taken.digits) _ (queue_at-pop s.tree taken e) in omega arith) (few taken.digits))
+  | inr other ↦ subst (λ (q : Queue). IfSome (limit_at policy a) (λ l. length q ≤ l)) (sym (queue_at-pop_elsewhere s.tree taken a e other)) (few a)
+]
 
 left_sound : (policy : Policy) (s : SourceState) (taken : Popping SourceTree) (p : Packet) → IsAccepted policy → IsSound policy s → pop s.tree ≡ Some taken → s.held taken.value ≡ Some p → IsSound policy (left_with policy s taken (Some p))
 left_sound policy s taken p accepted sound e held =
@@ -134,6 +207,7 @@ left_sound policy s taken p accepted sound e held =
           (λ at i o. record { packet = i.packet; held = without-other s.held taken.value at.1 (λ m. eqb-false taken.value at.1 o (sym m)) ∙ i.held; leaf_is = i.leaf_is })
           (packets taken.left) placed.1
           (all_unmapped (λ (at : Placed). at.1) (λ m. nat_eq taken.value m ≡ false) (packets taken.left) (subst (IsOther taken.value) (sym (values-packets taken.left)) others.0));
+      limits = limits_popped policy s taken e sound.limits;
       stands = λ n q h. let w = without-is s.held taken.value n q h in Contains-without n taken.value (values taken.left) (values s.tree) (values-pop s.tree taken e) w.0 (sound.stands n q w.1);
       known = λ n q h. sound.known n q (without-is s.held taken.value n q h).1;
       numbered = λ n q h. sound.numbered n q (without-is s.held taken.value n q h).1;
@@ -152,6 +226,22 @@ sound_departed policy s accepted sound = by_pop (pop s.tree) refl
         subst (λ (o : Option Packet). IsSound policy (left_with policy s taken o)) (sym i.held) (left_sound policy s taken i.packet accepted sound e i.held)
 
 -- ---- the start
+mutual
+  queue_at-empty : (t : Topology) (a : Address) → queue_at (empty_tree t) a ≡ []
+  queue_at-empty (leaf u) [] = refl
+  queue_at-empty (leaf u) (i ∷ a) = refl
+  queue_at-empty (inner u ts) [] = refl
+  queue_at-empty (inner u ts) (i ∷ a) = queue_in-empty ts i a
+
+  queue_in-empty : (ts : Trees (Unit {0})) (i : ℕ) (a : Address) → queue_in (empty_trees ts) i a ≡ []
+  queue_in-empty none i a = refl
+  queue_in-empty (more t ts) zero a = queue_at-empty t a
+  queue_in-empty (more t ts) (suc i) a = queue_in-empty ts i a
+
+none_few : (limit : Option ℕ) → IfSome limit (λ l. 0 ≤ l)
+none_few None = tt
+none_few (Some l) = omega arith
+
 pub sound_start : (policy : Policy) → IsAccepted policy → IsSound policy (start policy)
 unfolding IsDistinct
 sound_start policy accepted =
@@ -161,6 +251,7 @@ sound_start policy accepted =
       shape = same_shape (empty_tree t) policy.tree (topology_of-empty t);
       distinct = subst (IsDistinct nat_eq) (sym (values-empty t)) tt;
       placed = subst (AllByRecursion (IsAtItsLeaf policy (start policy))) (sym (packets-empty t)) tt;
+      limits = λ a. subst (λ (q : Queue). IfSome (limit_at policy a) (λ l. length q ≤ l)) (sym (queue_at-empty t a)) (none_few (limit_at policy a));
       stands = λ n q h. cc;
       known = λ n q h. cc;
       numbered = λ n q h. cc;

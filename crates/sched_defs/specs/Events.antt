@@ -1,54 +1,72 @@
 -- Events in a row, and what is told of them.
-use Rattle.std.specs.Prelude.{◌≡◌, ◌≤◌, ℕ, ◌+◌, Option, None, Some, List, [], ◌∷◌}
+use Rattle.std.specs.Prelude.{◌≡◌, ◌≤◌, ℕ, ◌+◌, if◌then◌else◌, Option, None, Some, List, [], ◌∷◌}
 use Rattle.tree_defs.specs.Tree.{Address}
 use Rattle.rank_defs.specs.Programs.{max_rank}
 use Rattle.packet_defs.specs.declared.packet.Packet.{Packet}
 use Rattle.policy_defs.specs.Policy.{Policy}
-use Rattle.sched_defs.specs.SourceState.{SourceState, Leaver, class_of, arrival_ranks, arrived, departed, leaver}
+use Rattle.sched_defs.specs.SourceState.{SourceState, Leaver, class_of, arrival_ranks, is_full, arrived, departed, leaver}
 use Rattle.sched_defs.specs.Sound.{IsKnown}
 
--- one arrival or one departure: nothing happens within either
+-- one arrival or one departure, with the moment at which it starts in nanoseconds, where a link says it: nothing happens
+-- within either
 pub data Event : Type 0 where
   Arrive : Packet → Event
-  Depart : Event
+  Depart : Option ℕ → Event
 
--- a packet came to a leaf or left from it, with the ranks from the root down; or there was none to leave
+-- a packet came to a leaf or left from it, with the ranks from the root down and the start of the departure; or it was
+-- dropped at its leaf; or there was none to leave
 pub data Outcome : Type 0 where
-  Arrived : ℕ → Address → List ℕ → Outcome
-  Departed : ℕ → Address → List ℕ → Outcome
+  Arrived : Packet → Address → List ℕ → Outcome
+  Departed : Packet → Address → List ℕ → Option ℕ → Outcome
+  Dropped : Packet → Address → Outcome
   Empty : Outcome
 
 abbrev pub step : Policy → Event → SourceState → SourceState
 step policy (Arrive p) s = arrived policy p s
-step policy Depart s = departed policy s
+step policy (Depart start) s = departed policy s
 
 -- the state after all of these
 abbrev pub after : Policy → List Event → SourceState → SourceState
 after policy [] s = s
 after policy (e ∷ es) s = after policy es (step policy e s)
 
-abbrev pub departure : Option Leaver → Outcome
-departure None = Empty
-departure (Some l) = Departed l.packet.number l.digits l.ranks
+abbrev pub departure : Option ℕ → Option Leaver → Outcome
+departure start None = Empty
+departure start (Some l) = Departed l.packet l.digits l.ranks start
 
 abbrev pub outcome : Policy → Event → SourceState → Outcome
-outcome policy (Arrive p) s = Arrived p.number (class_of policy p).leaf (arrival_ranks policy p s)
-outcome policy Depart s = departure (leaver s)
+outcome policy (Arrive p) s =
+    if is_full policy p s then Dropped p (class_of policy p).leaf else Arrived p (class_of policy p).leaf (arrival_ranks policy p s)
+outcome policy (Depart start) s = departure start (leaver s)
 
 abbrev pub outcomes : Policy → List Event → SourceState → List Outcome
 outcomes policy [] s = []
 outcomes policy (e ∷ es) s = outcome policy e s ∷ outcomes policy es (step policy e s)
 
-abbrev pub arrivals_in : List Event → ℕ
-arrivals_in [] = 0
-arrivals_in (Arrive p ∷ es) = 1 + arrivals_in es
-arrivals_in (Depart ∷ es) = arrivals_in es
+-- how many outcomes are packets that came to their leaves, packets that left, packets dropped, and departures of nothing
+abbrev pub pushed_in : List Outcome → ℕ
+pushed_in [] = 0
+pushed_in (Arrived p a ranks ∷ os) = 1 + pushed_in os
+pushed_in (o ∷ os) = pushed_in os
 
--- departures, those with nothing to leave included
-abbrev pub departures_in : List Event → ℕ
-departures_in [] = 0
-departures_in (Arrive p ∷ es) = departures_in es
-departures_in (Depart ∷ es) = 1 + departures_in es
+abbrev pub popped_in : List Outcome → ℕ
+popped_in [] = 0
+popped_in (Departed p a ranks start ∷ os) = 1 + popped_in os
+popped_in (o ∷ os) = popped_in os
+
+abbrev pub dropped_in : List Outcome → ℕ
+dropped_in [] = 0
+dropped_in (Dropped p a ∷ os) = 1 + dropped_in os
+dropped_in (o ∷ os) = dropped_in os
+
+abbrev pub empty_in : List Outcome → ℕ
+empty_in [] = 0
+empty_in (Empty ∷ os) = 1 + empty_in os
+empty_in (o ∷ os) = empty_in os
+
+-- departures that were asked for, those with nothing to leave among them
+abbrev pub asked_in : List Outcome → ℕ
+asked_in os = popped_in os + empty_in os
 
 -- a packet that may arrive: it isn't held, and its class, length and moment are in range
 pub record CanArrive (policy : Policy) (s : SourceState) (p : Packet) : Type 0 where
@@ -60,4 +78,4 @@ pub record CanArrive (policy : Policy) (s : SourceState) (p : Packet) : Type 0 w
 abbrev pub CanMake : Policy → List Event → SourceState → Type 0
 CanMake policy [] s = Unit {0}
 CanMake policy (Arrive p ∷ es) s = CanArrive policy s p × CanMake policy es (arrived policy p s)
-CanMake policy (Depart ∷ es) s = CanMake policy es (departed policy s)
+CanMake policy (Depart start ∷ es) s = CanMake policy es (departed policy s)

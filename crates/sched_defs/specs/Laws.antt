@@ -1,15 +1,15 @@
 -- What follows from the definitions of states and events.
 use Rattle.std.specs.Prelude.{◌≡◌, ◌≤◌, ◌↔◌, ℕ, ◌+◌, ◌-◌, nat_eq, IsSome, Option, None, Some, List, ◌++◌, length, replicate}
 use Rattle.std.specs.List.{AllByRecursion, IsDistinct, Contains}
-use Rattle.tree_defs.specs.Tree.{LeadsToLeaf}
+use Rattle.tree_defs.specs.Tree.{Address, LeadsToLeaf}
 use Rattle.tree_defs.specs.SourceTree.{size}
 use Rattle.rank_defs.specs.Programs.{max_rank}
 use Rattle.packet_defs.specs.declared.packet.Packet.{Packet}
-use Rattle.policy_defs.specs.Policy.{Policy}
+use Rattle.policy_defs.specs.Policy.{Policy, limit_at}
 use Rattle.policy_defs.specs.Accepted.{IsAccepted}
-use Rattle.sched_defs.specs.SourceState.{Held, SourceState, Leaver, start, class_of, arrival_ranks, arrived, departed, leaver}
+use Rattle.sched_defs.specs.SourceState.{Held, SourceState, Leaver, start, class_of, arrival_ranks, pushed, arrived, departed, leaver}
 use Rattle.sched_defs.specs.Sound.{IsSound}
-use Rattle.sched_defs.specs.Events.{Event, Depart, after, outcomes, arrivals_in, departures_in, CanArrive, CanMake}
+use Rattle.sched_defs.specs.Events.{Event, Depart, Outcome, after, outcomes, pushed_in, popped_in, dropped_in, asked_in, CanArrive, CanMake}
 use Rattle.sched_defs.specs.Script.{Step, course}
 use Rattle.sched_defs.specs.Numbered.{CanBeSent, departures_asked}
 use Rattle.sched_defs.specs.Faults.{FaultAt}
@@ -37,11 +37,21 @@ pub record AreNumbersOf (held : Held) (numbers : List ℕ) : Type 0 where
 abbrev pub HeldStandInLeaves : Type 0
 HeldStandInLeaves = (policy : Policy) (s : SourceState) (numbers : List ℕ) → IsSound policy s → AreNumbersOf s.held numbers → length numbers ≡ size s.tree
 
-abbrev pub ArrivalsAddOne : Type 0
-ArrivalsAddOne = (policy : Policy) (p : Packet) (s : SourceState) → IsAccepted policy → IsSound policy s → CanArrive policy s p → size (arrived policy p s).tree ≡ size s.tree + 1
+abbrev pub PushesAddOne : Type 0
+PushesAddOne = (policy : Policy) (p : Packet) (s : SourceState) → IsAccepted policy → IsSound policy s → CanArrive policy s p → size (pushed policy p s).tree ≡ size s.tree + 1
 
 abbrev pub DeparturesTakeOne : Type 0
 DeparturesTakeOne = (policy : Policy) (s : SourceState) → IsSound policy s → size (departed policy s).tree ≡ size s.tree - 1
+
+-- what was held and what came is held still or has left
+abbrev pub NoneIsLost : Type 0
+NoneIsLost =
+    (policy : Policy) (events : List Event) (s : SourceState) → IsAccepted policy → IsSound policy s → CanMake policy events s
+    → size (after policy events s).tree + popped_in (outcomes policy events s) ≡ size s.tree + pushed_in (outcomes policy events s)
+
+-- where no leaf has a limit nothing is dropped
+abbrev pub NothingIsDroppedWithoutLimits : Type 0
+NothingIsDroppedWithoutLimits = (policy : Policy) (events : List Event) (s : SourceState) → ((a : Address) → limit_at policy a ≡ None) → dropped_in (outcomes policy events s) ≡ 0
 
 -- ---- what arrives and what leaves
 -- a rank in range for each node on the way
@@ -79,7 +89,7 @@ pub record EventsJoin : Type 0 where
 
 -- departures can always be made
 abbrev pub DeparturesCanBeMade : Type 0
-DeparturesCanBeMade = (policy : Policy) (n : ℕ) (s : SourceState) → CanMake policy (replicate n Depart) s
+DeparturesCanBeMade = (policy : Policy) (n : ℕ) (start : Option ℕ) (s : SourceState) → CanMake policy (replicate n (Depart start)) s
 
 -- ---- scripts
 -- the events of a script over packets in the order of a capture can be made
@@ -88,12 +98,12 @@ CoursesCanBeMade =
     (policy : Policy) (steps : List Step) (packets : List Packet) (fault : Option FaultAt) (first event : ℕ) (s : SourceState) → CanBeSent policy first packets s
     → CanMake policy (course policy steps packets fault s event).events s
 
--- no more packets arrive than there are, and none leaves by `drain` that wasn't held or didn't arrive
-pub record IsCourseShort (policy : Policy) (steps : List Step) (packets : List Packet) (s : SourceState) (events : List Event) : Type 0 where
-  pub arrivals : arrivals_in events ≤ length packets
-  pub departures : departures_in events ≤ departures_asked steps + size s.tree + arrivals_in events
+-- no more packets are pushed and dropped than there are, and `drain` asks for none that wasn't held or wasn't pushed
+pub record IsCourseShort (steps : List Step) (packets : List Packet) (s : SourceState) (os : List Outcome) : Type 0 where
+  pub arrivals : pushed_in os + dropped_in os ≤ length packets
+  pub departures : asked_in os ≤ departures_asked steps + size s.tree + pushed_in os
 
 abbrev pub CoursesAreShort : Type 0
 CoursesAreShort =
     (policy : Policy) (steps : List Step) (packets : List Packet) (fault : Option FaultAt) (first event : ℕ) (s : SourceState) → IsAccepted policy → IsSound policy s → CanBeSent policy first packets s
-    → IsCourseShort policy steps packets s (course policy steps packets fault s event).events
+    → IsCourseShort steps packets s (outcomes policy (course policy steps packets fault s event).events s)

@@ -50,11 +50,12 @@ unfolding digits
 report-unsent = refl
 
 abbrev pub node : List ℕ → Program → Node
-node name program = record { name = name; program = program; marks = no_marks }
+node name program = record { name = name; using = []; program = program; marks = no_marks; limit = None }
 
 -- The shortest packet's entry is taken first at the root, and the longest packet leaves first from its leaf.
 abbrev pub inversion : Policy
 inversion = record {
+  version = 1;
   tree = inner (node (codes "root") shortest) (more (leaf (node (codes "q") (ranked_by (two Sub (number 2000) (variable Len))))) none);
   classes = record { marks = no_marks; leaf = 0 ∷ [] } ∷ [];
 }
@@ -67,6 +68,7 @@ report-inversion = refl
 -- Two leaves in turn: the idle one comes back where the other stands.
 abbrev pub in_turn : Policy
 in_turn = record {
+  version = 1;
   tree = inner (node (codes "root") rr) (more (leaf (node (codes "a") fifo)) (more (leaf (node (codes "b") fifo)) none));
   classes = record { marks = no_marks; leaf = 0 ∷ [] } ∷ record { marks = no_marks; leaf = 1 ∷ [] } ∷ [];
 }
@@ -91,3 +93,30 @@ pub report-by_weight : report by_weight (Arrivals 4 ∷ Departures 4 ∷ Arrival
     ≡ codes "a 1 1 a 0/0\na 2 2 a 500000/0\na 3 3 b 0/0\na 4 4 a 1000000/0\nd 5 1 a 0/0\nd 6 3 b 0/0\nd 7 2 a 500000/0\nd 8 4 a 1000000/0\na 9 5 b 1500000/0\nd 10 5 b 1500000/0\nend pushed 5 popped 5 empty 0 held 0 unsent 0\n"
 unfolding digits
 report-by_weight = refl
+
+-- The same, in version 2, where the first leaf holds one packet at most: a packet is dropped, and its flow's variables at the
+-- root stay, so that the next one comes where it would have come.
+abbrev pub limited : Policy
+limited = record by_weight {
+  version = 2;
+  tree = inner (node (codes "root") stfq) (more (leaf (record (node (codes "a") fifo) { marks = record no_marks { weight = 3 }; limit = Some 1 })) (more (leaf (node (codes "b") fifo)) none));
+}
+
+pub report-limited : report limited (Arrivals 3 ∷ Departures 1 ∷ Arrivals 1 ∷ Drain ∷ [])
+    (of_class 1 0 ∷ of_class 2 0 ∷ of_class 3 1 ∷ of_class 4 0 ∷ of_class 5 1 ∷ []) None
+    ≡ codes "a 1 1 a 0/0\nx 2 2 a\na 3 3 b 0/0\nd 4 1 a 0/0\na 5 4 a 500000/0\nd 6 3 b 0/0\nd 7 4 a 500000/0\nend pushed 3 popped 3 empty 0 held 0 unsent 1 dropped 1\n"
+unfolding digits
+report-limited = refl
+
+-- one leaf that holds one packet at most
+abbrev pub one_leaf_limited : Policy
+one_leaf_limited = record {
+  version = 2;
+  tree = leaf (record (node (codes "root") fifo) { limit = Some 1 });
+  classes = record { marks = no_marks; leaf = [] } ∷ [];
+}
+
+pub report-one_leaf_limited : report one_leaf_limited (Arrivals 2 ∷ Departures 3 ∷ []) two_packets None
+    ≡ codes "a 1 1 root 0\nx 2 2 root\nd 3 1 root 0\ne 4\ne 5\nend pushed 1 popped 1 empty 2 held 0 unsent 0 dropped 1\n"
+unfolding digits
+report-one_leaf_limited = refl

@@ -25,9 +25,9 @@ pub record Course : Type 0 where
 -- the events of a step, of these packets and from this state
 abbrev pub step_events : Step → List Packet → SourceState → List Event
 step_events (Arrivals n) packets s = map Arrive (take n packets)
-step_events (Departures n) packets s = replicate n Depart
+step_events (Departures n) packets s = replicate n (Depart None)
 step_events Rest packets s = map Arrive packets
-step_events Drain packets s = replicate (size s.tree) Depart
+step_events Drain packets s = replicate (size s.tree) (Depart None)
 
 -- the packets that a step leaves
 abbrev pub left_by : Step → List Packet → List Packet

@@ -1,5 +1,5 @@
 -- The states that events lead to.
-use Rattle.std.specs.Prelude.{◌≡◌, ◌≤◌, ◌<◌, ℕ, nat_eq, Some, length}
+use Rattle.std.specs.Prelude.{◌≡◌, ◌≤◌, ◌<◌, ℕ, nat_eq, Some, IfSome, length}
 use Rattle.std.specs.List.{AllByRecursion, IsDistinct, Contains}
 use Rattle.pifo_defs.specs.Queue.{Queue}
 use Rattle.tree_defs.specs.Tree.{Tree, leaf, inner, Trees, none, more, Address, SameShape}
@@ -8,8 +8,8 @@ use Rattle.tree_defs.specs.Packets.{Placed, values, packets}
 use Rattle.rank_defs.specs.Programs.{max_rank}
 use Rattle.rank_defs.specs.Shapes.{IsStateInRange, max_len}
 use Rattle.packet_defs.specs.declared.packet.Packet.{Packet}
-use Rattle.policy_defs.specs.Policy.{Policy, Node, node_at}
-use Rattle.sched_defs.specs.SourceState.{SourceState, class_of}
+use Rattle.policy_defs.specs.Policy.{Policy, Node, node_at, limit_at}
+use Rattle.sched_defs.specs.SourceState.{SourceState, class_of, filled}
 
 -- each rank is at most the greatest
 abbrev pub HasRanks : Queue → Type 0
@@ -36,12 +36,13 @@ pub record IsAtItsLeaf (policy : Policy) (s : SourceState) (at : Placed) : Type 
   pub leaf_is : (class_of policy packet).leaf ≡ at.0
 
 -- The queues have the policy's topology and are well formed; the packets in the leaves are those that are held, each once
--- and at the leaf of its class; and each rank, each variable and `now` is in range.
+-- and at the leaf of its class; no leaf holds more than its limit; and each rank, each variable and `now` is in range.
 pub record IsSound (policy : Policy) (s : SourceState) : Type 0 where
   pub well_formed : IsWellFormed s.tree
   pub shape : SameShape s.tree policy.tree
   pub distinct : IsDistinct nat_eq (values s.tree)
   pub placed : AllByRecursion (IsAtItsLeaf policy s) (packets s.tree)
+  pub limits : (a : Address) → IfSome (limit_at policy a) (λ limit. filled s a ≤ limit)
   pub stands : (n : ℕ) (p : Packet) → s.held n ≡ Some p → Contains (values s.tree) n
   pub known : (n : ℕ) (p : Packet) → s.held n ≡ Some p → IsKnown policy p
   pub numbered : (n : ℕ) (p : Packet) → s.held n ≡ Some p → p.number ≡ n

@@ -1,12 +1,13 @@
 -- The state of a policy's tree of queues, and how an arrival and a departure change it (SIGCOMM 2016, OOPSLA 2023).
-use Rattle.std.specs.Prelude.{ℕ, max, ◌==◌, if◌then◌else◌, Option, None, Some, option_map, unwrap_or, List, []}
+use Rattle.std.specs.Prelude.{ℕ, max, ◌==◌, Bool, false, if◌then◌else◌, Option, None, Some, option_map, unwrap_or, List, [], length}
 use Rattle.std.specs.Option.{option_map_or}
-use Rattle.tree_defs.specs.Tree.{Tree, Popping, option_bind}
+use Rattle.tree_defs.specs.Tree.{Tree, Address, Popping, option_bind}
 use Rattle.tree_defs.specs.Topology.{topology_of}
 use Rattle.tree_defs.specs.SourceTree.{SourceTree, empty_tree, push, pop}
+use Rattle.tree_defs.specs.Packets.{queue_at}
 use Rattle.rank_defs.specs.States.{State, first_state}
 use Rattle.packet_defs.specs.declared.packet.Packet.{Packet}
-use Rattle.policy_defs.specs.Policy.{Policy, Node, Class, no_marks, node_at, class_at}
+use Rattle.policy_defs.specs.Policy.{Policy, Node, Class, no_marks, node_at, class_at, limit_at}
 use Rattle.sched_defs.specs.Visits.{States, Visit, visits_from, ranks_pushed, after_pushes, after_pops}
 
 -- the packet that is held under a number, if one is
@@ -55,14 +56,35 @@ way_in policy p moment = visits_from policy.tree [] (class_of policy p).leaf (cl
 abbrev pub arrival_ranks : Policy → Packet → SourceState → List ℕ
 arrival_ranks policy p s = ranks_pushed s.nodes (way_in policy p (max s.now p.moment))
 
--- after a packet arrived: the push steps on its way gave the ranks along which it is pushed
-abbrev pub arrived : Policy → Packet → SourceState → SourceState
-arrived policy p s = record {
+-- how many packets stand at the leaf of an address
+abbrev pub filled : SourceState → Address → ℕ
+filled s a = length (queue_at s.tree a)
+
+-- there is a limit, and it is reached
+abbrev pub is_reached : Option ℕ → ℕ → Bool
+is_reached None n = false
+is_reached (Some limit) n = n == limit
+
+-- the leaf of the packet's class has a limit, and holds as many packets
+abbrev pub is_full : Policy → Packet → SourceState → Bool
+is_full policy p s = is_reached (limit_at policy (class_of policy p).leaf) (filled s (class_of policy p).leaf)
+
+-- after a packet was dropped: nothing but the greatest moment may change
+abbrev pub dropped : Packet → SourceState → SourceState
+dropped p s = record { tree = s.tree; nodes = s.nodes; held = s.held; now = max s.now p.moment }
+
+-- after a packet was pushed along the ranks that the push steps on its way gave
+abbrev pub pushed : Policy → Packet → SourceState → SourceState
+pushed policy p s = record {
   tree = push s.tree (class_of policy p).leaf (arrival_ranks policy p s) p.number;
   nodes = after_pushes (way_in policy p (max s.now p.moment)) s.nodes;
   held = with_packet s.held p;
   now = max s.now p.moment;
 }
+
+-- after a packet arrived: it is dropped where its leaf is full (tail drop), and pushed elsewhere
+abbrev pub arrived : Policy → Packet → SourceState → SourceState
+arrived policy p s = if is_full policy p s then dropped p s else pushed policy p s
 
 -- the nodes that a leaving packet passed
 abbrev pub way_out : Policy → Packet → List ℕ → ℕ → List Visit

@@ -1,5 +1,5 @@
 //! Laws of states and events.
-ghost use Rattle.sched_defs.specs.Laws.{StartIsSound, ArrivalsKeepSound, DeparturesKeepSound, EventsKeepSound, HeldStandInLeaves, ArrivalsAddOne, DeparturesTakeOne, ArrivalsComeToLeaves, NothingLeavesWhereNothingIsHeld, PacketsLeaveTheirLeaves, EventsJoin, DeparturesCanBeMade, CoursesCanBeMade, CoursesAreShort};
+ghost use Rattle.sched_defs.specs.Laws.{StartIsSound, ArrivalsKeepSound, DeparturesKeepSound, EventsKeepSound, HeldStandInLeaves, PushesAddOne, DeparturesTakeOne, NoneIsLost, NothingIsDroppedWithoutLimits, ArrivalsComeToLeaves, NothingLeavesWhereNothingIsHeld, PacketsLeaveTheirLeaves, EventsJoin, DeparturesCanBeMade, CoursesCanBeMade, CoursesAreShort};
 
 /// Arrivals and departures keep a state sound, from the start on.
 pub fn events_keep_states_sound()
@@ -9,11 +9,13 @@ pub fn events_keep_states_sound()
     ensures events { EventsKeepSound }
 {}
 
-/// A sound state holds as many packets as stand in its leaves: one more after an arrival, one fewer after a departure.
+/// A sound state holds as many packets as stand in its leaves: one more after a push, one fewer after a departure.
 pub fn held_packets_stand_in_leaves()
     ensures count { HeldStandInLeaves }
-    ensures arrivals { ArrivalsAddOne }
+    ensures pushes { PushesAddOne }
     ensures departures { DeparturesTakeOne }
+    ensures events { NoneIsLost }
+    ensures drops { NothingIsDroppedWithoutLimits }
 {}
 
 /// Packets arrive at the leaves of their classes and leave from them, and none leaves exactly where none is held.

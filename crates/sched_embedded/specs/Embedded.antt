@@ -17,11 +17,11 @@ origin_of c = record { images = c.embedding.images; arities = c.embedding.aritie
 abbrev pub origin_in : {F : Type 0} → Ghosts F → Tree Address → List ℕ → F → Origin
 origin_in fabrics images arities fabric = record { images = images; arities = arities; pushes = fabrics.pushed fabric; pops = fabrics.popped fabric }
 
--- The queues are the lift of the source tree, in the target's shape. The fabric was pushed once for each arrival and popped
+-- The queues are the lift of the source tree, in the target's shape. The fabric was pushed once for each packet that was pushed and popped
 -- once for each departure, beside what was before.
 pub record EmbeddedStands {F : Type 0} (fabrics : Ghosts F) (c : Embedded F) (fabric : F) (s : SourceState) : Type 0 where
   pub own : IsOwn c.own s
   pub shape : fabrics.shape fabric ≡ c.embedding.arities
   pub lifted : IsLift s.tree (image_map c.embedding.images) (fabrics.queues fabric)
-  pub pushes : fabrics.pushed fabric ≡ c.pushes_before + c.own.arrivals
+  pub pushes : fabrics.pushed fabric ≡ c.pushes_before + c.own.pushes
   pub pops : fabrics.popped fabric ≡ c.pops_before + c.own.departures

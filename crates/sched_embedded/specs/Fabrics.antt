@@ -5,8 +5,7 @@ use Rattle.embed_defs.specs.Images.{image_map}
 use Rattle.embed_lift_defs.specs.Lift.{IsLift}
 use Rattle.policy_defs.specs.Policy.{Policy}
 use Rattle.sched_defs.specs.SourceState.{start}
-use Rattle.sched_defs.specs.Events.{Event, Outcome, after, outcomes}
-use Rattle.sched_defs.specs.Report.{pushed_in, popped_in, empty_in}
+use Rattle.sched_defs.specs.Events.{Event, Outcome, after, outcomes, pushed_in, asked_in}
 use Rattle.fabric_core.specs.declared.fabric.Fabric.{Ghosts}
 use Rattle.sched_core.specs.Spills.{raised, spills_in}
 use Rattle.sched_embedded.specs.Laid.{Laid}
@@ -34,12 +33,12 @@ pub record IsAsItWas {F : Type 0} (fabrics : Ghosts F) (old new : F) : Type 0 wh
   pub spills : fabrics.spilled new ≡ fabrics.spilled old
 
 -- After the events the queues are the lift of the source tree, in the target's shape. There was a push for each packet that
--- came, and a pop for each departure, those of nothing among them. Where spills are told, they rose by those of the pushes.
+-- was pushed, none for a packet that was dropped, and a pop for each departure, those of nothing among them. Where spills are told, they rose by those of the pushes.
 pub record HoldsAfter {F : Type 0} (fabrics : Ghosts F) (run : FabricRun) (old new : F) : Type 0 where
   pub shape : fabrics.shape new ≡ run.laid.arities
   pub lifted : IsLift (after run.policy run.events (start run.policy)).tree (image_map run.laid.images) (fabrics.queues new)
   pub pushes : fabrics.pushed new ≡ fabrics.pushed old + pushed_in (outcomes_of run)
-  pub pops : fabrics.popped new ≡ fabrics.popped old + (popped_in (outcomes_of run) + empty_in (outcomes_of run))
+  pub pops : fabrics.popped new ≡ fabrics.popped old + asked_in (outcomes_of run)
   pub spills : fabrics.spilled new ≡ raised (fabrics.spilled old) (spills_in (Some run.laid.images) run.policy run.events (start run.policy))
 
 -- so it is after the first of the events

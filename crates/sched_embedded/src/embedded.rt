@@ -15,7 +15,7 @@ use embed_core::Map;
 use fabric_core::Fabric;
 use packet_defs::{Departed, Packet};
 use policy_core::Policy;
-use sched_core::{Own, Scheduler};
+use sched_core::{Arrival, Own, Scheduler};
 use std::alloc::{AllocError, Global};
 use std::marker::PhantomData;
 use target_core::Target;
@@ -53,7 +53,7 @@ impl<'a, F: Fabric> Embedded<'a, F> {
 
         ensures stands { IfOk result (λ c. EmbeddedStands F.Fabric c fabric.new (start policy.now.policy)) }
         ensures policy { IfOk result (λ c. policy_in c.own ≡ policy.now.policy) }
-        ensures arrivals { IfOk result (λ c. c.own.arrivals ≡ 0) }
+        ensures pushes { IfOk result (λ c. c.own.pushes ≡ 0) }
         ensures departures { IfOk result (λ c. c.own.departures ≡ 0) }
         ensures origin { IfOk result (λ c. origin_of c ≡ origin_in F.Fabric map target.now.arities fabric.old) }
         ensures shape { OnErr result (F.shape fabric.new ≡ F.shape fabric.old) }
@@ -83,7 +83,7 @@ impl<'a, F: Fabric> Scheduler for Embedded<'a, F> {
 
     ghost stands = { EmbeddedStands F.Fabric };
 
-    ghost arrivals = { λ c. c.own.arrivals };
+    ghost pushes = { λ c. c.own.pushes };
 
     ghost departures = { λ c. c.own.departures };
 
@@ -98,11 +98,14 @@ impl<'a, F: Fabric> Scheduler for Embedded<'a, F> {
         under: &mut F,
         packet: &Packet,
         trace: &mut Taken,
-    ) -> Result<u32, AllocError> {
+    ) -> Result<Arrival, AllocError> {
+        if self.own.is_full(packet) {
+            return Ok(Arrival::Dropped(self.own.turn_away(packet)));
+        }
         under.reserve(self.embedding.image(self.own.address(packet)))?;
         let leaf = self.own.admit(packet, trace)?;
         self.embedding.push(under, trace, packet.number);
-        Ok(leaf)
+        Ok(Arrival::Pushed(leaf))
     }
 
     fn depart(&mut self, under: &mut F, trace: &mut Taken) -> Option<Departed> {

@@ -1,5 +1,5 @@
 -- The policy of the tests is accepted.
-use Rattle.std.proofs.Common.{◌≡◌, ◌≤◌, ℕ, zero, suc, List, [], ◌∷◌, length, Some, subst, rules, arith}
+use Rattle.std.proofs.Common.{◌≡◌, ◌≤◌, ℕ, zero, suc, List, [], ◌∷◌, length, Some, refl, codes, subst, rules, arith}
 use Rattle.rank_defs.specs.Builtins.{stfq}
 use Rattle.rank_defs.specs.Shapes.{IsShaped}
 use Rattle.rank_defs.specs.Checks.{IsChecked}
@@ -24,7 +24,7 @@ plain-in_range = record { prio = omega arith; weight_low = omega arith; weight_h
 urgent-in_range : AreMarksInRange (told urgent)
 urgent-in_range = record { prio = omega arith; weight_low = omega arith; weight_high = omega arith; slack = omega arith }
 
-ready : (name : List ℕ) (m : Marks) → AreMarksInRange (told m) → length name ≤ 64 → IsNodeReady (node name stfq m)
+ready : (name : List ℕ) (m : Marks) → AreMarksInRange (told m) → length name ≤ 64 → IsNodeReady (node name (codes "stfq") stfq m)
 ready name m range short = record { shaped = shaped; checked = checked; marks = range; name = short }
 
 nodes-ready : (a : Address) (n : Node) → node_at fair.policy.tree a ≡ Some n → IsNodeReady n
@@ -44,4 +44,5 @@ fair-accepted = record {
   some_class = omega arith;
   levels = omega arith;
   children = (omega arith, ((omega arith, (tt, tt)), (tt, tt)));
+  limits = (refl, ((refl, (tt, tt)), (tt, tt)));
 }

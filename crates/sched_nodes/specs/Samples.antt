@@ -19,7 +19,7 @@ abbrev pub tree : Numbered
 tree = numbered (rows 0 [] three_levels) (topology_of three_levels)
 
 abbrev pub stations : List Station
-stations = station (codes "left") 0 urgent ∷ station (codes "right") 0 plain ∷ station (codes "root") 0 plain ∷ station (codes "deep") 0 plain ∷ []
+stations = station (codes "left") (codes "stfq") 0 urgent ∷ station (codes "right") (codes "stfq") 0 plain ∷ station (codes "root") (codes "stfq") 0 plain ∷ station (codes "deep") (codes "stfq") 0 plain ∷ []
 
 abbrev pub classes : List Class
 classes = record { marks = urgent; conditions = []; leaf = 3 } ∷ record { marks = plain; conditions = []; leaf = 2 } ∷ []
@@ -27,13 +27,14 @@ classes = record { marks = urgent; conditions = []; leaf = 3 } ∷ record { mark
 abbrev pub fair : Resolved
 fair = record {
   policy = record {
-    tree = inner (node (codes "root") stfq plain) (more (inner (node (codes "left") stfq urgent) (more (leaf (node (codes "deep") stfq plain)) none)) (more (leaf (node (codes "right") stfq plain)) none));
+    version = 1;
+    tree = inner (node (codes "root") (codes "stfq") stfq plain) (more (inner (node (codes "left") (codes "stfq") stfq urgent) (more (leaf (node (codes "deep") (codes "stfq") stfq plain)) none)) (more (leaf (node (codes "right") (codes "stfq") stfq plain)) none));
     classes = record { marks = record { prio = 7; weight = 2; slack = 500 }; leaf = 1 ∷ [] } ∷ record { marks = record { prio = 0; weight = 1; slack = 0 }; leaf = 0 ∷ 0 ∷ [] } ∷ [];
   };
   conditions = [] ∷ [] ∷ [];
 }
 
-pub resolved-fair : resolved tree stations one_program classes ≡ fair
+pub resolved-fair : resolved 1 tree stations one_program classes ≡ fair
 resolved-fair = refl
 
 -- a packet of the second class

@@ -1,5 +1,5 @@
 //! Tests of the variables of nodes, children and flows.
-ghost use Rattle.std.specs.Prelude.{◌≡◌, ◌≤◌, [], IfOk, OnOk};
+ghost use Rattle.std.specs.Prelude.{◌≡◌, ◌≤◌, [], codes, IfOk, OnOk};
 ghost use Rattle.rank_defs.specs.Builtins.{stfq};
 ghost use Rattle.tree_graph.specs.Descent.{lists, two_below_a_root};
 ghost use Rattle.policy_core.specs.Samples.{station};
@@ -62,12 +62,14 @@ fn programs(alloc: Global) -> Result<List<Checked>, Fail>
 }
 
 fn station(alloc: Global, name: &str, marks: Marks) -> Result<Station, AllocError>
-    ensures { IfOk result (λ s. s ≡ station name.now 0 marks) }
+    ensures { IfOk result (λ s. s ≡ station name.now (codes "stfq") 0 marks) }
 {
     Ok(Station {
         name: Name::new(alloc, name)?,
+        using: Name::new(alloc, "stfq")?,
         program: 0,
         marks,
+        limit: None,
     })
 }
 
@@ -122,7 +124,7 @@ fn fair(alloc: Global, programs: List<Checked>) -> Result<Policy, AllocError>
     let tree = tree(alloc)?;
     let stations = stations(alloc)?;
     let classes = classes(alloc)?;
-    Ok(Policy::new(tree, stations, programs, classes))
+    Ok(Policy::new(1, tree, stations, programs, classes))
 }
 
 /// Two packets of a flow come: a child has its own weight at its parent, and a flow that of its class.

@@ -7,11 +7,10 @@ use Rattle.policy_defs.specs.Policy.{Policy}
 use Rattle.policy_defs.specs.Accepted.{IsAccepted}
 use Rattle.sched_defs.specs.SourceState.{SourceState}
 use Rattle.sched_defs.specs.Sound.{IsSound}
-use Rattle.sched_defs.specs.Events.{Event, Outcome, Arrived, Departed, Empty, after, outcomes, arrivals_in}
+use Rattle.sched_defs.specs.Events.{Event, after, outcomes, empty_in}
 use Rattle.sched_defs.specs.Script.{Step, Course, course, behind, stopped_or, step_events, left_by, stop_at, at_end}
 use Rattle.sched_defs.specs.Numbered.{IsHeldBelow}
-use Rattle.sched_defs.specs.Report.{empty_in}
-use Rattle.sched_defs.proofs.Runs.{after-append, outcomes-append}
+use Rattle.sched_defs.proofs.Runs.{after-append, none_lost}
 use Rattle.sched_core.specs.declared.scheduler.Scheduler.{Ghosts}
 use Rattle.sched_core.specs.Standing.{StandForOne}
 use Rattle.events_core.specs.declared.step.Step as line
@@ -21,12 +20,12 @@ use Rattle.sched_defs.specs.declared.ending.Ending.{Ending}
 use Rattle.sched_run.specs.declared.tally.Tally.{Tally}
 use Rattle.sched_defs.specs.Packets.{Left}
 use Rattle.sched_run.specs.Steps.{step_of, asked_by}
-use Rattle.sched_run.specs.Stages.{Stage, stage, event_of, FromEach, CanBegin, IsReady, HasRoom, Makes}
+use Rattle.sched_run.specs.Stages.{Stage, stage, event_of, arrivals_in, FromEach, IsFresh, CanBegin, IsReady, HasRoom, Makes}
 use Rattle.sched_run.specs.Turns.{IsTurn, Turns, AreFirst, StopsAmid}
 use Rattle.sched_run.specs.Courses.{course_of, IsCourse, Courses}
 use Rattle.sched_run.proofs.MadeEvents.{Stands, can_make, length-events, stands_after, makes_none, makes_both, stops_here, stops_later}
 use Rattle.sched_run.proofs.PacketsInTurn.{room_after}
-use Rattle.sched_run.proofs.EventCounts.{popped_or_held, popped_or_empty}
+use Rattle.sched_run.proofs.EventCounts.{AreOf, outcomes_of, outcomes_both}
 
 -- ---- the course of a step and others
 module _ (policy : Policy) (step : Step) (steps : List Step) (l : Left) (s : SourceState) (event : ℕ) where
@@ -79,12 +78,6 @@ asked_is (line_step.Depart n) = refl
 asked_is line_step.Rest = refl
 asked_is line_step.Drain = refl
 
-empty_in-append : (os ps : List Outcome) → empty_in (os ++ ps) ≡ empty_in os + empty_in ps
-empty_in-append [] ps = omega arith
-empty_in-append (Arrived n a ranks ∷ os) ps = empty_in-append os ps
-empty_in-append (Departed n a ranks ∷ os) ps = empty_in-append os ps
-empty_in-append (Empty ∷ os) ps = omega (arith, empty_in-append os ps)
-
 -- the course over what was left is these events, and then that of other steps over what is left now
 pub record IsBehind (policy : Policy) (steps rest : List line.Step) (events : List Event) (before : Left) (now : Option Left) (s : SourceState) (first next : ℕ) : Type 0 where
   pub left : Left
@@ -112,7 +105,7 @@ module _ {C U : Type 0} (S : Ghosts C U) (policy : Policy) where
       by_left (Some l) = λ s sound stood below. record { left = l; is = refl; joined = refl }
 
   regiven : (es : List Event) (old : Stage C U) (c : C) (u : U) (text : Option (List ℕ)) (given given' : ℕ) (tally : Tally) → Makes S policy es old (stage c u text given tally) → Makes S policy es old (stage c u text given' tally)
-  regiven es old c u text given given' tally made = record { next = made.next; pushed = made.pushed; asked = made.asked; played = made.played }
+  regiven es old c u text given given' tally made = record { next = made.next; came = made.came; asked = made.asked; dropped = made.dropped; played = made.played }
 
   -- no step is left, and the packets left are told
   pub run_over : (steps : List line.Step) (a b : Option Left) (e : Ending) (old : Stage C U) (c : C) (u : U) (text : Option (List ℕ)) (given given' : ℕ) (tally : Tally) →
@@ -147,9 +140,9 @@ module _ {C U : Type 0} (S : Ghosts C U) (policy : Policy) where
           ((course_of policy rest w.left (after policy run.events s) (event_of tally)).events, sym (ap (λ (z : Course). z.events) w.joined))
 
 module _ {C U : Type 0} (S : Ghosts C U) (policy : Policy) (accepted : IsAccepted policy) (steps : List line.Step) where
-  module _ (step : line.Step) (rest : List line.Step) (a b : Option Left) (old mid : Stage C U) (given : mid.given + old.tally.pushed ≡ old.given + mid.tally.pushed) (run : HasRun S policy steps (step ∷ rest) a b old mid) where
+  module _ (step : line.Step) (rest : List line.Step) (a b : Option Left) (old mid : Stage C U) (given : mid.given + old.tally.came ≡ old.given + mid.tally.came) (run : HasRun S policy steps (step ∷ rest) a b old mid) where
     mid_given : mid.given ≡ old.given + arrivals_in run.events
-    mid_given = omega (arith, given, run.made.pushed)
+    mid_given = omega (arith, given, run.made.came)
 
     mid_at : (s : SourceState) → IsSound policy s → S.stands old.scheduler old.under s → IsHeldBelow (old.given + 1) s.held → Stands S policy mid.scheduler mid.under mid.given (after policy run.events s)
     mid_at s sound stood below = stands_after S policy accepted run.events old mid mid.given s run.made mid_given (record { sound = sound; stood = stood; below = below })
@@ -166,8 +159,7 @@ module _ {C U : Type 0} (S : Ghosts C U) (policy : Policy) (accepted : IsAccepte
             run.few s sound stood below,
             turns.few (after policy run.events s) at.sound at.stood at.below,
             asked_is step,
-            ap empty_in (outcomes-append policy run.events turns.events s),
-            empty_in-append (outcomes policy run.events s) (outcomes policy turns.events (after policy run.events s)),
+            (outcomes_both policy run.events turns.events s).empty,
           );
       told = by_left a run.told;
     }
@@ -181,7 +173,7 @@ module _ {C U : Type 0} (S : Ghosts C U) (policy : Policy) (accepted : IsAccepte
             let s' : SourceState = after policy run.events s in
             let turn : IsTurn (step_of step) None (event_of new.tally) turns.events w.left c s' =
             subst (λ (o : Option Left). IfSome o (λ l. FromEach S policy mid (λ s. IsTurn (step_of step) None (event_of new.tally) turns.events l c s))) w.is turns.told s' at.sound at.stood at.below in
-            let number : event_of new.tally ≡ event_of mid.tally + length turns.events = omega (arith, turns.made.pushed, turns.made.asked, length-events turns.events) in
+            let number : event_of new.tally ≡ event_of mid.tally + length turns.events = omega (arith, turns.made.came, turns.made.asked, length-events turns.events) in
             let left : Left = record { packets = left_by (step_of step) w.left.packets; fault = w.left.fault } in
             record {
               left = left;
@@ -208,7 +200,7 @@ module _ {C U : Type 0} (S : Ghosts C U) (policy : Policy) (accepted : IsAccepte
             let s' : SourceState = after policy run.events s in
             let turn : IsTurn (step_of step) (Some e) (event_of new.tally) turns.events w.left c s' =
             subst (λ (o : Option Left). IfSome o (λ l. FromEach S policy mid (λ s. IsTurn (step_of step) (Some e) (event_of new.tally) turns.events l c s))) w.is turns.told s' at.sound at.stood at.below in
-            let number : event_of new.tally ≡ event_of mid.tally + length turns.events = omega (arith, turns.made.pushed, turns.made.asked, length-events turns.events) in
+            let number : event_of new.tally ≡ event_of mid.tally + length turns.events = omega (arith, turns.made.came, turns.made.asked, length-events turns.events) in
             let last = course_ends policy (step_of step) (map step_of rest) w.left s' (event_of mid.tally) turns.events (event_of new.tally) e turn.are number turn.ends in
             subst (IsCourse (run.events ++ turns.events) e) (sym w.joined) (record { are = ap (λ (x : List Event). run.events ++ x) last.are; ends = last.ends })
 
@@ -238,20 +230,35 @@ module _ {C U : Type 0} (S : Ghosts C U) (policy : Policy) (accepted : IsAccepte
             )
 
   -- ---- what the next step needs
-  module _ (rest : List line.Step) (a b : Option Left) (old mid : Stage C U) (given : mid.given + old.tally.pushed ≡ old.given + mid.tally.pushed) (few : mid.given ≤ 4294967295)
-      (none_pushed : old.tally.pushed ≡ 0) (none_asked : old.tally.asked ≡ 0) (short : counts_of steps ≤ 4194304)
+  module _ (rest : List line.Step) (a b : Option Left) (old mid : Stage C U) (given : mid.given + old.tally.came ≡ old.given + mid.tally.came) (few : mid.given ≤ 4294967295)
+      (fresh : IsFresh old.tally) (short : counts_of steps ≤ 4194304)
       (one : StandForOne S.stands policy old.scheduler old.under (CanBegin old.given)) (run : HasRun S policy steps rest a b old mid) where
     bounds : mid.tally.asked + size (after policy run.events one.state).tree ≤ 2 ^ 34
     bounds =
-        let held = popped_or_held policy run.events one.state accepted one.sound (can_make policy run.events (old.given + 1) one.state run.made.next.numbered run.made.next.sendable one.has.held) in
-        omega (arith, held, popped_or_empty policy run.events one.state, run.few one.state one.sound one.stood one.has.held, run.made.pushed, run.made.asked, given, few, none_pushed, none_asked, short, one.has.few)
+        let held = none_lost policy run.events one.state accepted one.sound (can_make policy run.events (old.given + 1) one.state run.made.next.numbered run.made.next.sendable one.has.held) in
+        let counts : AreOf run.events (outcomes policy run.events one.state) = outcomes_of policy run.events one.state in
+        omega (
+          arith,
+          held,
+          counts.pushed_or_dropped,
+          counts.asked,
+          run.few one.state one.sound one.stood one.has.held,
+          run.made.came,
+          run.made.asked,
+          given,
+          few,
+          fresh.none_came,
+          fresh.none_asked,
+          short,
+          one.has.few,
+        )
 
     pub run_ready : StandForOne S.stands policy mid.scheduler mid.under (IsReady mid.given mid.tally)
     run_ready =
-        let at = stands_after S policy accepted run.events old mid mid.given one.state run.made (omega (arith, given, run.made.pushed)) (record { sound = one.sound; stood = one.stood; below = one.has.held }) in
+        let at = stands_after S policy accepted run.events old mid mid.given one.state run.made (omega (arith, given, run.made.came)) (record { sound = one.sound; stood = one.stood; below = one.has.held }) in
         record { state = after policy run.events one.state; sound = at.sound; stood = at.stood; has = record { held = at.below; few = bounds } }
 
-    pub run_room : HasRoom (S.arrivals old.scheduler) (S.departures old.scheduler) old.given old.tally → HasRoom (S.arrivals mid.scheduler) (S.departures mid.scheduler) mid.given mid.tally
+    pub run_room : HasRoom (S.pushes old.scheduler) (S.departures old.scheduler) old.given old.tally → HasRoom (S.pushes mid.scheduler) (S.departures mid.scheduler) mid.given mid.tally
     run_room room = room_after S policy accepted run.events old mid given few (omega (arith, bounds, run.made.asked)) run.made
         (record { state = one.state; sound = one.sound; stood = one.stood; has = one.has.held }) room
 

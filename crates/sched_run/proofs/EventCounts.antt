@@ -1,74 +1,103 @@
--- How many packets arrive, leave and are found missing.
-use Rattle.std.proofs.Common.{◌≡◌, ◌≤◌, ℕ, zero, suc, ◌+◌, Option, None, Some, List, [], ◌∷◌, map, replicate, refl, ◌∙◌, arith}
+-- How many packets come, arrive, are dropped, leave and are found missing.
+use Rattle.std.proofs.Common.{◌≡◌, ◌≤◌, ℕ, Bool, true, false, zero, suc, ◌+◌, Option, None, Some, Ok, List, [], ◌∷◌, ◌++◌, map, length, replicate, if◌then◌else◌, refl, ap, ◌∙◌, arith}
 use Rattle.tree_defs.specs.SourceTree.{size}
 use Rattle.packet_defs.specs.declared.packet.Packet.{Packet}
 use Rattle.policy_defs.specs.Policy.{Policy}
 use Rattle.policy_defs.specs.Accepted.{IsAccepted}
-use Rattle.sched_defs.specs.SourceState.{SourceState, Leaver, arrived, departed, leaver}
+use Rattle.sched_defs.specs.SourceState.{SourceState, Leaver, class_of, arrival_ranks, is_full, arrived, departed, leaver}
 use Rattle.sched_defs.specs.Sound.{IsSound}
-use Rattle.sched_defs.specs.Events.{Event, Arrive, Depart, Outcome, CanMake, after, departure, outcomes, arrivals_in, departures_in}
-use Rattle.sched_defs.specs.Report.{pushed_in, popped_in, empty_in}
-use Rattle.sched_defs.proofs.Soundness.{sound_arrived, sound_departed}
-use Rattle.sched_defs.proofs.Leaving.{size_arrived, size_departed, leaver-none}
-use Rattle.sched_defs.proofs.Runs.{departures_in-departures, arrivals_in-departures, CanMake-departures}
+use Rattle.sched_defs.specs.Events.{Event, Arrive, Depart, Outcome, Arrived, Dropped, after, departure, outcomes, pushed_in, dropped_in, empty_in, asked_in}
+use Rattle.sched_defs.proofs.Runs.{AreDepartures, CanMake-departures, outcomes-append, pushed_in-append, popped_in-append, dropped_in-append, empty_in-append, none_lost, departures_count}
 use Rattle.sched_defs.proofs.Courses.{size_departures}
+use Rattle.sched_core.specs.Arrivals.{leaf_number, arrival_of, pushes_of}
+use Rattle.sched_core.specs.declared.scheduler.Arrival.{Arrival}
+use Rattle.sched_core.specs.declared.scheduler.Arrival.TheVariants as arrival
+use Rattle.sched_run.specs.Stages.{arrivals_in, departures_in}
 
-pub empty_in-arrivals : (policy : Policy) (ps : List Packet) (s : SourceState) → empty_in (outcomes policy (map Arrive ps) s) ≡ 0
-empty_in-arrivals policy [] s = refl
-empty_in-arrivals policy (p ∷ ps) s = empty_in-arrivals policy ps (arrived policy p s)
+-- ---- events
+pub arrivals_in-append : (es fs : List Event) → arrivals_in (es ++ fs) ≡ arrivals_in es + arrivals_in fs
+arrivals_in-append [] fs = omega arith
+arrivals_in-append (Arrive p ∷ es) fs = omega (arith, arrivals_in-append es fs)
+arrivals_in-append (Depart start ∷ es) fs = arrivals_in-append es fs
 
-pushed_in-departure : (o : Option Leaver) (os : List Outcome) → pushed_in (departure o ∷ os) ≡ pushed_in os
-pushed_in-departure None os = refl
-pushed_in-departure (Some l) os = refl
+pub departures_in-append : (es fs : List Event) → departures_in (es ++ fs) ≡ departures_in es + departures_in fs
+departures_in-append [] fs = omega arith
+departures_in-append (Arrive p ∷ es) fs = departures_in-append es fs
+departures_in-append (Depart start ∷ es) fs = omega (arith, departures_in-append es fs)
 
-pub pushed_in-outcomes : (policy : Policy) (es : List Event) (s : SourceState) → pushed_in (outcomes policy es s) ≡ arrivals_in es
-pushed_in-outcomes policy [] s = refl
-pushed_in-outcomes policy (Arrive p ∷ es) s = omega (arith, pushed_in-outcomes policy es (arrived policy p s))
-pushed_in-outcomes policy (Depart ∷ es) s = pushed_in-departure (leaver s) (outcomes policy es (departed policy s)) ∙ pushed_in-outcomes policy es (departed policy s)
+pub arrivals_in-arrivals : (ps : List Packet) → arrivals_in (map Arrive ps) ≡ length ps
+arrivals_in-arrivals [] = refl
+arrivals_in-arrivals (p ∷ ps) = omega (arith, arrivals_in-arrivals ps)
 
-departed_in-departure : (o : Option Leaver) (os : List Outcome) → popped_in (departure o ∷ os) + empty_in (departure o ∷ os) ≡ 1 + (popped_in os + empty_in os)
-departed_in-departure None os = omega arith
-departed_in-departure (Some l) os = omega arith
+pub departures_in-arrivals : (ps : List Packet) → departures_in (map Arrive ps) ≡ 0
+departures_in-arrivals [] = refl
+departures_in-arrivals (p ∷ ps) = departures_in-arrivals ps
 
--- each departure took a packet or found none
-pub popped_or_empty : (policy : Policy) (es : List Event) (s : SourceState) → popped_in (outcomes policy es s) + empty_in (outcomes policy es s) ≡ departures_in es
-popped_or_empty policy [] s = refl
-popped_or_empty policy (Arrive p ∷ es) s = popped_or_empty policy es (arrived policy p s)
-popped_or_empty policy (Depart ∷ es) s =
-    let one = departed_in-departure (leaver s) (outcomes policy es (departed policy s)) in
-    omega (arith, one, popped_or_empty policy es (departed policy s))
+pub arrivals_in-departures : (n : ℕ) → arrivals_in (replicate n (Depart None)) ≡ 0
+arrivals_in-departures zero = refl
+arrivals_in-departures (suc n) = arrivals_in-departures n
 
-popped_one : (policy : Policy) (s : SourceState) (os : List Outcome) → IsSound policy s → popped_in (departure (leaver s) ∷ os) + size (departed policy s).tree ≡ popped_in os + size s.tree
-popped_one policy s os sound = by_leaver (leaver s) refl
+pub departures_in-departures : (n : ℕ) → departures_in (replicate n (Depart None)) ≡ n
+departures_in-departures zero = refl
+departures_in-departures (suc n) = omega (arith, departures_in-departures n)
+
+-- ---- what comes of them
+-- each packet that came was pushed or dropped, and each departure took a packet or found none
+pub record AreOf (es : List Event) (os : List Outcome) : Type 0 where
+  pub pushed_or_dropped : pushed_in os + dropped_in os ≡ arrivals_in es
+  pub asked : asked_in os ≡ departures_in es
+
+of_arrival : (p : Packet) (t : Bool) (policy : Policy) (s : SourceState) (es : List Event) (os : List Outcome) → AreOf es os →
+    AreOf (Arrive p ∷ es) ((if t then Dropped p (class_of policy p).leaf else Arrived p (class_of policy p).leaf (arrival_ranks policy p s)) ∷ os)
+of_arrival p true policy s es os rest = record { pushed_or_dropped = omega (arith, rest.pushed_or_dropped); asked = rest.asked }
+of_arrival p false policy s es os rest = record { pushed_or_dropped = omega (arith, rest.pushed_or_dropped); asked = rest.asked }
+
+of_departure : (start : Option ℕ) (o : Option Leaver) (es : List Event) (os : List Outcome) → AreOf es os → AreOf (Depart start ∷ es) (departure start o ∷ os)
+of_departure start None es os rest = record { pushed_or_dropped = rest.pushed_or_dropped; asked = omega (arith, rest.asked) }
+of_departure start (Some l) es os rest = record { pushed_or_dropped = rest.pushed_or_dropped; asked = omega (arith, rest.asked) }
+
+pub outcomes_of : (policy : Policy) (es : List Event) (s : SourceState) → AreOf es (outcomes policy es s)
+outcomes_of policy [] s = record { pushed_or_dropped = refl; asked = refl }
+outcomes_of policy (Arrive p ∷ es) s = of_arrival p (is_full policy p s) policy s es (outcomes policy es (arrived policy p s)) (outcomes_of policy es (arrived policy p s))
+outcomes_of policy (Depart start ∷ es) s = of_departure start (leaver s) es (outcomes policy es (departed policy s)) (outcomes_of policy es (departed policy s))
+
+-- the answer of an arrival tells whether it is a push
+pub pushes_are : (policy : Policy) (p : Packet) (s : SourceState) (a : Arrival) → a ≡ arrival_of policy p s → pushes_of (Ok a) ≡ pushed_in (outcomes policy (Arrive p ∷ []) s)
+pushes_are policy p s a e = ap (λ (x : Arrival). pushes_of (Ok x)) e ∙ by_test (is_full policy p s)
   where
-    by_leaver : (o : Option Leaver) → leaver s ≡ o → popped_in (departure o ∷ os) + size (departed policy s).tree ≡ popped_in os + size s.tree
-    by_leaver None e =
-        let z : size s.tree ≡ 0 = (leaver-none policy s sound).0 e in
-        let m = size_departed policy s sound in
-        omega arith
-    by_leaver (Some l) e = by_size (size s.tree) refl
-      where
-        by_size : (n : ℕ) → size s.tree ≡ n → popped_in (departure (Some l) ∷ os) + size (departed policy s).tree ≡ popped_in os + size s.tree
-        by_size zero z = let n : leaver s ≡ None = (leaver-none policy s sound).1 z in cc
-        by_size (suc n) z = let m = size_departed policy s sound in omega arith
+    by_test : (t : Bool) → pushes_of (Ok (if t then arrival.Dropped (leaf_number policy p) else arrival.Pushed (leaf_number policy p)))
+        ≡ pushed_in ((if t then Dropped p (class_of policy p).leaf else Arrived p (class_of policy p).leaf (arrival_ranks policy p s)) ∷ [])
+    by_test true = refl
+    by_test false = refl
 
--- what was held or arrived left or is held
-pub popped_or_held : (policy : Policy) (es : List Event) (s : SourceState) → IsAccepted policy → IsSound policy s → CanMake policy es s → popped_in (outcomes policy es s) + size (after policy es s).tree ≡ size s.tree + arrivals_in es
-popped_or_held policy [] s accepted sound can = omega arith
-popped_or_held policy (Arrive p ∷ es) s accepted sound can =
-    let one = size_arrived policy p s accepted sound can.0 in
-    let more = popped_or_held policy es (arrived policy p s) accepted (sound_arrived policy p s accepted sound can.0) can.1 in
-    omega arith
-popped_or_held policy (Depart ∷ es) s accepted sound can =
-    let one = popped_one policy s (outcomes policy es (departed policy s)) sound in
-    let more = popped_or_held policy es (departed policy s) accepted (sound_departed policy s accepted sound) can in
-    omega arith
+-- events, and then some more
+pub record AreBoth (all first second : List Outcome) : Type 0 where
+  pub pushed : pushed_in all ≡ pushed_in first + pushed_in second
+  pub dropped : dropped_in all ≡ dropped_in first + dropped_in second
+  pub empty : empty_in all ≡ empty_in first + empty_in second
+  pub asked : asked_in all ≡ asked_in first + asked_in second
+
+both : (os qs : List Outcome) → AreBoth (os ++ qs) os qs
+both os qs = record {
+  pushed = pushed_in-append os qs;
+  dropped = dropped_in-append os qs;
+  empty = empty_in-append os qs;
+  asked = omega (arith, popped_in-append os qs, empty_in-append os qs);
+}
+
+pub outcomes_both : (policy : Policy) (es fs : List Event) (s : SourceState) → AreBoth (outcomes policy (es ++ fs) s) (outcomes policy es s) (outcomes policy fs (after policy es s))
+outcomes_both policy es fs s = rw (outcomes-append policy es fs s) (both (outcomes policy es s) (outcomes policy fs (after policy es s)))
+
+-- ---- what is found missing
+pub empty_in-arrivals : (policy : Policy) (ps : List Packet) (s : SourceState) → empty_in (outcomes policy (map Arrive ps) s) ≡ 0
+empty_in-arrivals policy ps s = omega (arith, (outcomes_of policy (map Arrive ps) s).asked, departures_in-arrivals ps)
 
 -- of so many departures at most so many find nothing
-pub empty_in-departures : (policy : Policy) (n : ℕ) (s : SourceState) → empty_in (outcomes policy (replicate n Depart) s) ≤ n
-empty_in-departures policy n s = omega (arith, popped_or_empty policy (replicate n Depart) s, departures_in-departures n)
+pub empty_in-departures : (policy : Policy) (n : ℕ) (s : SourceState) → empty_in (outcomes policy (replicate n (Depart None)) s) ≤ n
+empty_in-departures policy n s = omega (arith, (departures_count policy n None s).asked)
 
 -- and none where as many packets are held
-pub empty_in-drain : (policy : Policy) (n : ℕ) (s : SourceState) → IsAccepted policy → IsSound policy s → n ≡ size s.tree → empty_in (outcomes policy (replicate n Depart) s) ≡ 0
+pub empty_in-drain : (policy : Policy) (n : ℕ) (s : SourceState) → IsAccepted policy → IsSound policy s → n ≡ size s.tree → empty_in (outcomes policy (replicate n (Depart None)) s) ≡ 0
 empty_in-drain policy n s accepted sound e =
-    omega (arith, e, size_departures policy n s accepted sound, popped_or_held policy (replicate n Depart) s accepted sound (CanMake-departures policy n s), popped_or_empty policy (replicate n Depart) s, departures_in-departures n, arrivals_in-departures n)
+    let d : AreDepartures (outcomes policy (replicate n (Depart None)) s) n = departures_count policy n None s in
+    omega (arith, e, d.asked, d.pushed, size_departures policy n s accepted sound, none_lost policy (replicate n (Depart None)) s accepted sound (CanMake-departures policy n None s))

@@ -10,6 +10,7 @@ continues_then S a b c first second = record {
   policy = second.policy ∙ first.policy;
   origin = second.origin ∙ first.origin;
   names = second.names ∙ first.names;
+  version = second.version ∙ first.version;
   room = second.room ∙ first.room;
 }
 

@@ -1,7 +1,7 @@
 -- Events in a row, joined, with their lines.
-use Rattle.std.proofs.Common.{◌≡◌, ℕ, ◌+◌, ◌-◌, ◌<◌, suc, Option, None, Some, List, [], ◌∷◌, ◌++◌, length, map, take, drop, get_or, replicate, drop-cons, refl, sym, ap, ◌∙◌, subst, arith, append_assoc, append-nil}
+use Rattle.std.proofs.Common.{◌≡◌, ℕ, ◌+◌, ◌-◌, ◌<◌, suc, Option, None, Some, Ok, List, [], ◌∷◌, ◌++◌, length, replicate, refl, sym, ap, ◌∙◌, subst, arith, append_assoc, append-nil}
 use Rattle.std.proofs.lemmas.Grind.{replicate_next}
-use Rattle.std.proofs.lemmas.List.{length-map, length-take-le, take_more, map-append, take-append-drop, length-replicate, replicate-append-replicate}
+use Rattle.std.proofs.lemmas.List.{length-replicate, replicate-append-replicate}
 use Rattle.outside_core.specs.Written.{Appended}
 use Rattle.outside_core.proofs.WrittenLaws.{appended_in_turn}
 use Rattle.report_defs.specs.Text.{IsCut, appended}
@@ -10,14 +10,17 @@ use Rattle.tree_defs.specs.Tree.{Tree, Address}
 use Rattle.packet_defs.specs.declared.packet.Packet.{Packet}
 use Rattle.policy_defs.specs.Policy.{Policy}
 use Rattle.sched_defs.specs.SourceState.{SourceState, arrived, departed}
-use Rattle.sched_defs.specs.Events.{Event, Arrive, Depart, Outcome, CanArrive, CanMake, step, after, outcome, outcomes}
+use Rattle.sched_defs.specs.Events.{Event, Arrive, Depart, Outcome, step, after, outcome, outcomes}
 use Rattle.sched_defs.specs.Report.{outcome_line, lines_from}
-use Rattle.sched_defs.proofs.Runs.{after-append, outcomes-append, arrivals_in-append, departures_in-append, CanMake-front, CanMake-back}
+use Rattle.sched_defs.proofs.Runs.{after-append, outcomes-append, departures_count}
+use Rattle.sched_core.specs.declared.scheduler.Arrival.{Arrival}
 use Rattle.sched_core.specs.declared.scheduler.Scheduler.{Ghosts}
+use Rattle.sched_core.specs.Arrivals.{arrival_of, pushes_of}
 use Rattle.sched_core.specs.Origins.{Origin, images_of}
 use Rattle.sched_core.specs.Spills.{raised, arrival_spills, spills_in}
 use Rattle.sched_core.specs.Standing.{ForEachState}
 use Rattle.sched_run.specs.Played.{told, HasMade, HasMadeSome, Plays, StopsIn}
+use Rattle.sched_run.proofs.EventCounts.{outcomes_of, pushes_are, outcomes_both}
 
 pub length-outcomes : (policy : Policy) (es : List Event) (s : SourceState) → length (outcomes policy es s) ≡ length es
 length-outcomes policy [] s = refl
@@ -57,21 +60,22 @@ pub spills_in-append : (images : Option (Tree Address)) (policy : Policy) (es fs
     spills_in images policy (es ++ fs) s ≡ spills_in images policy es s + spills_in images policy fs (after policy es s)
 spills_in-append images policy [] fs s = omega arith
 spills_in-append images policy (Arrive p ∷ es) fs s = omega (arith, spills_in-append images policy es fs (arrived policy p s))
-spills_in-append images policy (Depart ∷ es) fs s = spills_in-append images policy es fs (departed policy s)
+spills_in-append images policy (Depart start ∷ es) fs s = spills_in-append images policy es fs (departed policy s)
 
 -- ---- what is left
 module _ {C U : Type 0} (S : Ghosts C U) (policy : Policy) where
   pub made_none : (s : SourceState) (c : C) (u : U) → S.stands c u s → HasMade S policy [] s c u c u
-  made_none s c u stood = record { state = stood; arrived = omega arith; departed = omega arith; origin = refl; spilled = sym (raised_nothing (S.spilled c u)) }
+  made_none s c u stood = record { state = stood; pushed = omega arith; asked = omega arith; origin = refl; spilled = sym (raised_nothing (S.spilled c u)) }
 
   pub made_both : (es fs : List Event) (s : SourceState) (c : C) (u : U) (c' : C) (u' : U) (c'' : C) (u'' : U) →
       HasMade S policy es s c u c' u' → HasMade S policy fs (after policy es s) c' u' c'' u'' → HasMade S policy (es ++ fs) s c u c'' u''
   made_both es fs s c u c' u' c'' u'' first second =
       let more : ℕ = spills_in (images_of (S.origin c)) policy fs (after policy es s) in
+      let counts = outcomes_both policy es fs s in
       record {
         state = rw (after-append policy es fs s) second.state;
-        arrived = omega (arith, first.arrived, second.arrived, arrivals_in-append es fs);
-        departed = omega (arith, first.departed, second.departed, departures_in-append es fs);
+        pushed = omega (arith, first.pushed, second.pushed, counts.pushed);
+        asked = omega (arith, first.asked, second.asked, counts.asked);
         origin = second.origin ∙ first.origin;
         spilled = second.spilled
             ∙ ap (λ (o : Option Origin). raised (S.spilled c' u') (spills_in (images_of o) policy fs (after policy es s))) first.origin
@@ -81,25 +85,27 @@ module _ {C U : Type 0} (S : Ghosts C U) (policy : Policy) where
       }
 
   pub made_departure : {s : SourceState} {c : C} {u : U} {c' : C} {u' : U} →
-      S.stands c' u' (departed policy s) → S.arrivals c' ≡ S.arrivals c → S.departures c' ≡ S.departures c + 1 → S.origin c' ≡ S.origin c → S.spilled c' u' ≡ S.spilled c u →
-      HasMade S policy (Depart ∷ []) s c u c' u'
-  made_departure {c = c} {u = u} state arrived departed origin spilled = record {
-    state = state;
-    arrived = omega (arith, arrived);
-    departed = departed;
-    origin = origin;
-    spilled = spilled ∙ sym (raised_nothing (S.spilled c u));
-  }
+      S.stands c' u' (departed policy s) → S.pushes c' ≡ S.pushes c → S.departures c' ≡ S.departures c + 1 → S.origin c' ≡ S.origin c → S.spilled c' u' ≡ S.spilled c u →
+      HasMade S policy (Depart None ∷ []) s c u c' u'
+  made_departure {s = s} {c = c} {u = u} state pushes departures origin spilled =
+      let counts = departures_count policy 1 None s in
+      record {
+        state = state;
+        pushed = omega (arith, pushes, counts.pushed);
+        asked = omega (arith, departures, counts.asked);
+        origin = origin;
+        spilled = spilled ∙ sym (raised_nothing (S.spilled c u));
+      }
 
-  pub made_arrival : {p : Packet} {s : SourceState} {c : C} {u : U} {c' : C} {u' : U} →
-      S.stands c' u' (arrived policy p s) → S.arrivals c' ≡ S.arrivals c + 1 → S.departures c' ≡ S.departures c → S.origin c' ≡ S.origin c →
+  pub made_arrival : {p : Packet} {s : SourceState} {c : C} {u : U} {c' : C} {u' : U} (a : Arrival) → a ≡ arrival_of policy p s →
+      S.stands c' u' (arrived policy p s) → S.pushes c' ≡ S.pushes c + pushes_of (Ok a) → S.departures c' ≡ S.departures c → S.origin c' ≡ S.origin c →
       S.spilled c' u' ≡ raised (S.spilled c u) (arrival_spills (images_of (S.origin c)) policy p s) → HasMade S policy (Arrive p ∷ []) s c u c' u'
-  made_arrival {p = p} {s = s} {c = c} {u = u} state arrived departed origin spilled =
+  made_arrival {p = p} {s = s} {c = c} {u = u} a answer state pushes departures origin spilled =
       let n : ℕ = arrival_spills (images_of (S.origin c)) policy p s in
       record {
         state = state;
-        arrived = arrived;
-        departed = omega (arith, departed);
+        pushed = omega (arith, pushes, pushes_are policy p s a answer);
+        asked = omega (arith, departures, (outcomes_of policy (Arrive p ∷ []) s).asked);
         origin = origin;
         spilled = spilled ∙ ap (raised (S.spilled c u)) (omega arith);
       }
@@ -109,13 +115,13 @@ module _ {C U : Type 0} (S : Ghosts C U) (policy : Policy) where
   made_all es leaves = record { made = es; unmade = []; whole = append-nil es; leaves = leaves }
 
   -- none of them was made
-  pub made_some_none : (es : List Event) (s : SourceState) {c : C} {u : U} {c' : C} {u' : U} → S.stands c' u' s → S.arrivals c' ≡ S.arrivals c → S.departures c' ≡ S.departures c →
+  pub made_some_none : (es : List Event) (s : SourceState) {c : C} {u : U} {c' : C} {u' : U} → S.stands c' u' s → S.pushes c' ≡ S.pushes c → S.departures c' ≡ S.departures c →
       S.origin c' ≡ S.origin c → S.spilled c' u' ≡ S.spilled c u → HasMadeSome S policy es s c u c' u'
-  made_some_none es s {c = c} {u = u} stood arrived departed origin spilled = record {
+  made_some_none es s {c = c} {u = u} stood pushes departures origin spilled = record {
     made = [];
     unmade = es;
     whole = refl;
-    leaves = record { state = stood; arrived = omega (arith, arrived); departed = omega (arith, departed); origin = origin; spilled = spilled ∙ sym (raised_nothing (S.spilled c u)) };
+    leaves = record { state = stood; pushed = omega (arith, pushes); asked = omega (arith, departures); origin = origin; spilled = spilled ∙ sym (raised_nothing (S.spilled c u)) };
   }
 
   made_first : (es fs : List Event) (s : SourceState) (c : C) (u : U) (c' : C) (u' : U) → HasMadeSome S policy es s c u c' u' → HasMadeSome S policy (es ++ fs) s c u c' u'
@@ -163,86 +169,32 @@ module _ {C U : Type 0} (S : Ghosts C U) (policy : Policy) where
 module _ {C U : Type 0} (S : Ghosts C U) (policy : Policy) where
   -- one more departure, with its line
   pub depart_next : {event : ℕ} (n : ℕ) {s : SourceState} {c : C} {u : U} {c' : C} {u' : U} {c'' : C} {u'' : U} {before mid text : Option (List ℕ)} →
-      Plays S policy event (replicate n Depart) s c u c' u' before mid → HasMade S policy (Depart ∷ []) (after policy (replicate n Depart) s) c' u' c'' u'' →
-      Appended mid text (outcome_line policy (event + n) (outcome policy Depart (after policy (replicate n Depart) s))) →
-      Plays S policy event (replicate (n + 1) Depart) s c u c'' u'' before text
+      Plays S policy event (replicate n (Depart None)) s c u c' u' before mid → HasMade S policy (Depart None ∷ []) (after policy (replicate n (Depart None)) s) c' u' c'' u'' →
+      Appended mid text (outcome_line policy (event + n) (outcome policy (Depart None) (after policy (replicate n (Depart None)) s))) →
+      Plays S policy event (replicate (n + 1) (Depart None)) s c u c'' u'' before text
   depart_next {event = event} n {s = s} {c = c} {u = u} {c' = c'} {u' = u'} {c'' = c''} {u'' = u''} {before = before} {mid = mid} {text = text} first leaves line =
-      rw (replicate_next n Depart) (plays_both S policy event (replicate n Depart) (Depart ∷ []) s c u c' u' c'' u'' before mid text first record {
+      rw (replicate_next n (Depart None)) (plays_both S policy event (replicate n (Depart None)) (Depart None ∷ []) s c u c' u' c'' u'' before mid text first record {
         leaves = leaves;
-        lines = rw (length-replicate n Depart) (subst (Appended mid text) (sym (told-one policy (event + n) Depart (after policy (replicate n Depart) s))) line);
+        lines = rw (length-replicate n (Depart None)) (subst (Appended mid text) (sym (told-one policy (event + n) (Depart None) (after policy (replicate n (Depart None)) s))) line);
       })
 
   -- one more departure, whose line was cut
   pub depart_cut : {event : ℕ} (n count : ℕ) → n < count → {s : SourceState} {c : C} {u : U} {c' : C} {u' : U} {c'' : C} {u'' : U} {before mid written : Option (List ℕ)} →
-      Plays S policy event (replicate n Depart) s c u c' u' before mid → HasMade S policy (Depart ∷ []) (after policy (replicate n Depart) s) c' u' c'' u'' →
-      IsCut mid (outcome_line policy (event + n) (outcome policy Depart (after policy (replicate n Depart) s))) written →
-      StopsIn S policy event (replicate count Depart) s c u c'' u'' before written
+      Plays S policy event (replicate n (Depart None)) s c u c' u' before mid → HasMade S policy (Depart None ∷ []) (after policy (replicate n (Depart None)) s) c' u' c'' u'' →
+      IsCut mid (outcome_line policy (event + n) (outcome policy (Depart None) (after policy (replicate n (Depart None)) s))) written →
+      StopsIn S policy event (replicate count (Depart None)) s c u c'' u'' before written
   depart_cut {event = event} n count below {s = s} {c = c} {u = u} {c' = c'} {u' = u'} {c'' = c''} {u'' = u''} {before = before} {mid = mid} {written = written} first leaves cut =
-      let rest : List Event = replicate (count - n - 1) Depart in
-      let whole : replicate n Depart ++ (Depart ∷ rest) ≡ replicate count Depart =
-      replicate-append-replicate n (suc (count - n - 1)) Depart ∙ ap (λ m. replicate m Depart) (omega arith) in
-      let one : StopsIn S policy (event + length (replicate n Depart)) (Depart ∷ []) (after policy (replicate n Depart) s) c' u' c'' u'' mid written = record {
-        leaves = made_all S policy (Depart ∷ []) leaves;
-        lines = rw (length-replicate n Depart) (subst (λ (l : List ℕ). IsCut mid l written) (sym (told-one policy (event + n) Depart (after policy (replicate n Depart) s))) cut);
+      let rest : List Event = replicate (count - n - 1) (Depart None) in
+      let whole : replicate n (Depart None) ++ (Depart None ∷ rest) ≡ replicate count (Depart None) =
+      replicate-append-replicate n (suc (count - n - 1)) (Depart None) ∙ ap (λ m. replicate m (Depart None)) (omega arith) in
+      let one : StopsIn S policy (event + length (replicate n (Depart None))) (Depart None ∷ []) (after policy (replicate n (Depart None)) s) c' u' c'' u'' mid written = record {
+        leaves = made_all S policy (Depart None ∷ []) leaves;
+        lines = rw (length-replicate n (Depart None)) (subst (λ (l : List ℕ). IsCut mid l written) (sym (told-one policy (event + n) (Depart None) (after policy (replicate n (Depart None)) s))) cut);
       } in
-      let more : StopsIn S policy (event + length (replicate n Depart)) (Depart ∷ rest) (after policy (replicate n Depart) s) c' u' c'' u'' mid written =
-      stops_first S policy (event + length (replicate n Depart)) (Depart ∷ []) rest (after policy (replicate n Depart) s) c' u' c'' u'' mid written one in
+      let more : StopsIn S policy (event + length (replicate n (Depart None))) (Depart None ∷ rest) (after policy (replicate n (Depart None)) s) c' u' c'' u'' mid written =
+      stops_first S policy (event + length (replicate n (Depart None))) (Depart None ∷ []) rest (after policy (replicate n (Depart None)) s) c' u' c'' u'' mid written one in
       subst (λ (es : List Event). StopsIn S policy event es s c u c'' u'' before written) whole
-      (stops_second S policy event (replicate n Depart) (Depart ∷ rest) s c u c' u' c'' u'' before mid written first more)
-
--- ---- arrivals in a row
--- stands for a packet past the last, which no list has
-abbrev pub no_packet : Packet
-no_packet = record { number = 0; class = 0; len = 0; moment = 0; flow = record { version = 0; source = 0; target = 0; proto = 0; sport = 0; dport = 0 } }
-
--- the arrivals so far, and the next
-pub map-take-more : (ps : List Packet) (i : ℕ) (d : Packet) → i < length ps → map Arrive (take (i + 1) ps) ≡ map Arrive (take i ps) ++ Arrive (get_or ps i d) ∷ []
-map-take-more ps i d below = ap (map Arrive) (take_more ps i d below) ∙ map-append Arrive (take i ps) (get_or ps i d ∷ [])
-
--- all arrivals: those so far, and those to come
-pub map-split : (ps : List Packet) (i : ℕ) → map Arrive (take i ps) ++ map Arrive (drop i ps) ≡ map Arrive ps
-map-split ps i = sym (map-append Arrive (take i ps) (drop i ps)) ∙ ap (map Arrive) (take-append-drop i ps)
-
--- the next, and those behind it
-pub map-drop-cons : (ps : List Packet) (i : ℕ) (d : Packet) → i < length ps → map Arrive (drop i ps) ≡ Arrive (get_or ps i d) ∷ map Arrive (drop (suc i) ps)
-map-drop-cons ps i d below = ap (map Arrive) (drop-cons ps i d below)
-
-pub length-map-take : (ps : List Packet) (i : ℕ) → i < length ps → length (map Arrive (take i ps)) ≡ i
-length-map-take ps i below = length-map (take i ps) Arrive ∙ length-take-le i ps (omega arith)
-
--- the next packet can arrive after those before it
-pub record CanNext (policy : Policy) (ps : List Packet) (i : ℕ) (p : Packet) (s : SourceState) : Type 0 where
-  pub front : CanMake policy (map Arrive (take i ps)) s
-  pub next : CanArrive policy (after policy (map Arrive (take i ps)) s) p
-
-pub can_next : (policy : Policy) (ps : List Packet) (i : ℕ) (d : Packet) (s : SourceState) → i < length ps → CanMake policy (map Arrive ps) s → CanNext policy ps i (get_or ps i d) s
-can_next policy ps i d s below can =
-    let split : CanMake policy (map Arrive (take i ps) ++ map Arrive (drop i ps)) s = subst (λ (es : List Event). CanMake policy es s) (sym (map-split ps i)) can in
-    let back : CanMake policy (Arrive (get_or ps i d) ∷ map Arrive (drop (suc i) ps)) (after policy (map Arrive (take i ps)) s) =
-    subst (λ (es : List Event). CanMake policy es (after policy (map Arrive (take i ps)) s)) (map-drop-cons ps i d below) (CanMake-back policy (map Arrive (take i ps)) (map Arrive (drop i ps)) s split) in
-    record { front = CanMake-front policy (map Arrive (take i ps)) (map Arrive (drop i ps)) s split; next = back.0 }
-
-module _ {C U : Type 0} (S : Ghosts C U) (policy : Policy) where
-  -- one more arrival, with its line
-  pub arrive_next : {event : ℕ} (ps : List Packet) (i : ℕ) (d : Packet) → i < length ps → {s : SourceState} {c : C} {u : U} {c' : C} {u' : U} {c'' : C} {u'' : U} {before mid text : Option (List ℕ)} →
-      Plays S policy event (map Arrive (take i ps)) s c u c' u' before mid →
-      Plays S policy (event + i) (Arrive (get_or ps i d) ∷ []) (after policy (map Arrive (take i ps)) s) c' u' c'' u'' mid text →
-      Plays S policy event (map Arrive (take (i + 1) ps)) s c u c'' u'' before text
-  arrive_next {event = event} ps i d below {s = s} {c = c} {u = u} {c' = c'} {u' = u'} {c'' = c''} {u'' = u''} {before = before} {mid = mid} {text = text} first second =
-      rw (map-take-more ps i d below) (plays_both S policy event (map Arrive (take i ps)) (Arrive (get_or ps i d) ∷ []) s c u c' u' c'' u'' before mid text first (rw (length-map-take ps i below) second))
-
-  -- one more arrival, which stopped
-  pub arrive_stop : {event : ℕ} (ps : List Packet) (i : ℕ) (d : Packet) → i < length ps → {s : SourceState} {c : C} {u : U} {c' : C} {u' : U} {c'' : C} {u'' : U} {before mid written : Option (List ℕ)} →
-      Plays S policy event (map Arrive (take i ps)) s c u c' u' before mid →
-      StopsIn S policy (event + i) (Arrive (get_or ps i d) ∷ []) (after policy (map Arrive (take i ps)) s) c' u' c'' u'' mid written →
-      StopsIn S policy event (map Arrive ps) s c u c'' u'' before written
-  arrive_stop {event = event} ps i d below {s = s} {c = c} {u = u} {c' = c'} {u' = u'} {c'' = c''} {u'' = u''} {before = before} {mid = mid} {written = written} first stop =
-      let stopped : StopsIn S policy event (map Arrive (take i ps) ++ (Arrive (get_or ps i d) ∷ [])) s c u c'' u'' before written =
-      stops_second S policy event (map Arrive (take i ps)) (Arrive (get_or ps i d) ∷ []) s c u c' u' c'' u'' before mid written first (rw (length-map-take ps i below) stop) in
-      let whole : (map Arrive (take i ps) ++ (Arrive (get_or ps i d) ∷ [])) ++ map Arrive (drop (suc i) ps) ≡ map Arrive ps =
-      append_assoc (map Arrive (take i ps)) (Arrive (get_or ps i d) ∷ []) (map Arrive (drop (suc i) ps)) ∙ ap (λ (es : List Event). map Arrive (take i ps) ++ es) (sym (map-drop-cons ps i d below)) ∙ map-split ps i in
-      subst (λ (es : List Event). StopsIn S policy event es s c u c'' u'' before written) whole
-      (stops_first S policy event (map Arrive (take i ps) ++ (Arrive (get_or ps i d) ∷ [])) (map Arrive (drop (suc i) ps)) s c u c'' u'' before written stopped)
+      (stops_second S policy event (replicate n (Depart None)) (Depart None ∷ rest) s c u c' u' c'' u'' before mid written first more)
 
 -- ---- the same policy, said of the scheduler as it now is
 module _ {C U : Type 0} (S : Ghosts C U) where

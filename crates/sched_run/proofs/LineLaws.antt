@@ -1,5 +1,5 @@
 -- The numbers and names of leaves.
-use Rattle.std.proofs.Common.{◌≡◌, ◌≤◌, ◌<◌, ℕ, zero, suc, ◌+◌, List, [], ◌∷◌, length, Option, Some, None, IfSome, option_map, refl, sym, ap, ◌∙◌, subst, arith}
+use Rattle.std.proofs.Common.{◌≡◌, ◌≤◌, ◌<◌, ℕ, Bool, true, false, if◌then◌else◌, zero, suc, ◌+◌, List, [], ◌∷◌, length, Option, Some, None, IfSome, option_map, refl, sym, ap, ◌∙◌, subst, arith}
 use Rattle.std.specs.Option.{option_map_or}
 use Rattle.text_core.specs.Tokens.{most_name}
 use Rattle.tree_defs.specs.Tree.{Tree, leaf, inner, Trees, none, more, Address, subtree_in, IsAddressOf, LeadsToLeaf, LeadsBelow, SameShape, nodes, nodes_below, depth, depth_below}
@@ -11,15 +11,18 @@ use Rattle.packet_defs.specs.declared.packet.Departed.{Departed}
 use Rattle.policy_defs.specs.Policy.{Policy, Node, node_at, name_at}
 use Rattle.policy_defs.specs.Accepted.{IsAccepted}
 use Rattle.policy_defs.specs.Numbers.{number_at, number_below}
-use Rattle.sched_defs.specs.SourceState.{SourceState, Leaver, class_of, arrival_ranks, leaver}
+use Rattle.sched_defs.specs.SourceState.{SourceState, Leaver, class_of, arrival_ranks, is_full, leaver}
 use Rattle.sched_defs.specs.Sound.{IsSound}
-use Rattle.sched_defs.specs.Events.{Arrive, Depart, CanArrive, outcome}
+use Rattle.sched_defs.specs.Events.{Arrive, Depart, Arrived, Dropped, CanArrive, outcome}
 use Rattle.sched_defs.specs.Report.{outcome_line}
 use Rattle.sched_defs.specs.Laws.{LeavesItsLeaf}
 use Rattle.sched_defs.proofs.Leaving.{arrives_at_a_leaf, leaves_its_leaf}
 use Rattle.sched_defs.proofs.Soundness.{class_is_ready}
-use Rattle.report_defs.specs.Report.{arrival_line, departure_line}
+use Rattle.report_defs.specs.Report.{arrival_line, departure_line, drop_line}
+use Rattle.sched_core.specs.Arrivals.{leaf_number, arrival_of}
 use Rattle.sched_core.specs.Departures.{departed_packet, IsTaken}
+use Rattle.sched_core.specs.declared.scheduler.Arrival.{Arrival}
+use Rattle.sched_core.specs.declared.scheduler.Arrival.TheVariants as arrival
 use Rattle.tree_core.specs.Paths.{Way}
 use Rattle.sched_run.specs.Played.{told}
 use Rattle.sched_run.proofs.JoinedEvents.{told-one}
@@ -129,7 +132,7 @@ ranks_left policy s d way h t = (subst (λ (o : Option Leaver). IfSome o (λ l. 
 
 -- the line of a packet that left
 pub line_left : (policy : Policy) (s : SourceState) (d : Departed) (event : ℕ) (name ranks : List ℕ) (h : Left policy s d) → name ≡ name_at policy h.leaver_is.digits → ranks ≡ h.leaver_is.ranks
-    → departure_line event d.packet name ranks None ≡ outcome_line policy event (outcome policy Depart s)
+    → departure_line event d.packet name ranks None ≡ outcome_line policy event (outcome policy (Depart None) s)
 line_left policy s d event name ranks h n r =
     ap (λ (z : Departed). departure_line event z.packet name ranks None) (sym h.told)
     ∙ ap (λ (z : List ℕ). departure_line event h.leaver_is.packet.number z ranks None) n
@@ -147,10 +150,42 @@ arrival_few policy p s accepted sound can =
     let k = (arrives policy p s accepted can).few in
     omega arith
 
--- the lines of a packet that arrived
-pub lines_arrived : (policy : Policy) (p : Packet) (s : SourceState) (event : ℕ) (name ranks : List ℕ) → name ≡ name_at policy (class_of policy p).leaf → ranks ≡ arrival_ranks policy p s
+-- what an answer tells of the leaf
+pub record IsAnswer (policy : Policy) (p : Packet) (s : SourceState) (number : ℕ) (full : Bool) : Type 0 where
+  pub leaf_is : leaf_number policy p ≡ number
+  pub fullness : is_full policy p s ≡ full
+
+answer_by : (policy : Policy) (p : Packet) (s : SourceState) (a : Arrival) → a ≡ arrival_of policy p s → (t : Bool) → is_full policy p s ≡ t → a ≡ (if t then arrival.Dropped (leaf_number policy p) else arrival.Pushed (leaf_number policy p))
+answer_by policy p s a e t f = subst (λ (t : Bool). a ≡ (if t then arrival.Dropped (leaf_number policy p) else arrival.Pushed (leaf_number policy p))) f e
+
+pub answer_pushed : (policy : Policy) (p : Packet) (s : SourceState) (number : ℕ) → arrival.Pushed number ≡ arrival_of policy p s → IsAnswer policy p s number false
+answer_pushed policy p s number e = by_test (is_full policy p s) refl
+  where
+    by_test : (t : Bool) → is_full policy p s ≡ t → IsAnswer policy p s number false
+    by_test true f = let n : arrival.Pushed number ≡ arrival.Dropped (leaf_number policy p) = answer_by policy p s (arrival.Pushed number) e true f in cc
+    by_test false f = let n : arrival.Pushed number ≡ arrival.Pushed (leaf_number policy p) = answer_by policy p s (arrival.Pushed number) e false f in record { leaf_is = cc; fullness = f }
+
+pub answer_dropped : (policy : Policy) (p : Packet) (s : SourceState) (number : ℕ) → arrival.Dropped number ≡ arrival_of policy p s → IsAnswer policy p s number true
+answer_dropped policy p s number e = by_test (is_full policy p s) refl
+  where
+    by_test : (t : Bool) → is_full policy p s ≡ t → IsAnswer policy p s number true
+    by_test true f = let n : arrival.Dropped number ≡ arrival.Dropped (leaf_number policy p) = answer_by policy p s (arrival.Dropped number) e true f in record { leaf_is = cc; fullness = f }
+    by_test false f = let n : arrival.Dropped number ≡ arrival.Pushed (leaf_number policy p) = answer_by policy p s (arrival.Dropped number) e false f in cc
+
+-- the lines of an arrival, by whether the leaf is full
+line_by : (policy : Policy) (p : Packet) (s : SourceState) (event : ℕ) (full : Bool) → is_full policy p s ≡ full
+    → outcome_line policy event (if full then Dropped p (class_of policy p).leaf else Arrived p (class_of policy p).leaf (arrival_ranks policy p s)) ≡ told policy event (Arrive p ∷ []) s
+line_by policy p s event full f =
+    ap (λ (t : Bool). outcome_line policy event (if t then Dropped p (class_of policy p).leaf else Arrived p (class_of policy p).leaf (arrival_ranks policy p s))) (sym f)
+    ∙ sym (told-one policy event (Arrive p) s)
+
+pub lines_pushed : (policy : Policy) (p : Packet) (s : SourceState) (event : ℕ) (name ranks : List ℕ) → is_full policy p s ≡ false → name ≡ name_at policy (class_of policy p).leaf → ranks ≡ arrival_ranks policy p s
     → arrival_line event p.number name ranks ≡ told policy event (Arrive p ∷ []) s
-lines_arrived policy p s event name ranks n r =
+lines_pushed policy p s event name ranks free n r =
     ap (λ (z : List ℕ). arrival_line event p.number z ranks) n
     ∙ ap (λ (z : List ℕ). arrival_line event p.number (name_at policy (class_of policy p).leaf) z) r
-    ∙ sym (told-one policy event (Arrive p) s)
+    ∙ line_by policy p s event false free
+
+pub lines_dropped : (policy : Policy) (p : Packet) (s : SourceState) (event : ℕ) (name : List ℕ) → is_full policy p s ≡ true → name ≡ name_at policy (class_of policy p).leaf
+    → drop_line event p.number name ≡ told policy event (Arrive p ∷ []) s
+lines_dropped policy p s event name full n = ap (λ (z : List ℕ). drop_line event p.number z) n ∙ line_by policy p s event true full

@@ -1,5 +1,5 @@
 -- Events that are made in a row.
-use Rattle.std.proofs.Common.{◌≡◌, ℕ, zero, suc, ◌+◌, Option, List, [], ◌∷◌, ◌++◌, length, replicate, refl, sym, ap, ◌∙◌, subst, arith, append-nil}
+use Rattle.std.proofs.Common.{◌≡◌, ℕ, zero, suc, ◌+◌, Option, None, List, [], ◌∷◌, ◌++◌, length, replicate, refl, sym, ap, ◌∙◌, subst, arith, append-nil}
 use Rattle.std.specs.List.{AllByRecursion}
 use Rattle.outside_core.proofs.WrittenLaws.{appended_nothing}
 use Rattle.report_defs.specs.Text.{IsCut}
@@ -9,15 +9,16 @@ use Rattle.policy_defs.specs.Policy.{Policy}
 use Rattle.policy_defs.specs.Accepted.{IsAccepted}
 use Rattle.sched_defs.specs.SourceState.{SourceState, arrived, departed}
 use Rattle.sched_defs.specs.Sound.{IsSound}
-use Rattle.sched_defs.specs.Events.{Event, Arrive, Depart, CanMake, after, arrivals_in, departures_in}
+use Rattle.sched_defs.specs.Events.{Event, Arrive, Depart, CanMake, after}
 use Rattle.sched_defs.specs.Numbered.{AreNumberedFrom, IsSendable, IsHeldBelow}
 use Rattle.sched_defs.proofs.Courses.{held_none, held_arrived, held_departed}
-use Rattle.sched_defs.proofs.Runs.{sound_after, arrivals_in-append, departures_in-append, arrivals_in-departures, departures_in-departures}
+use Rattle.sched_defs.proofs.Runs.{sound_after, departures_count}
 use Rattle.sched_core.specs.declared.scheduler.Scheduler.{Ghosts}
 use Rattle.sched_core.specs.Standing.{ForEachState}
 use Rattle.sched_run.specs.Played.{told, Plays, StopsIn}
 use Rattle.sched_run.proofs.JoinedEvents.{made_none, made_all, plays_both, stops_second, cut_unwritten}
-use Rattle.sched_run.specs.Stages.{Stage, stage, event_of, packets_in, AreNext, Makes, Stops}
+use Rattle.sched_run.specs.Stages.{Stage, stage, event_of, packets_in, arrivals_in, departures_in, AreNext, Makes, Stops}
+use Rattle.sched_run.proofs.EventCounts.{arrivals_in-append, departures_in-append, arrivals_in-departures, departures_in-departures, outcomes_both}
 
 -- ---- packets and their numbers
 -- events whose packets come next can be made
@@ -27,24 +28,24 @@ can_make policy (Arrive p ∷ es) n s numbered sendable below = (
   record { fresh = ap s.held numbered.0 ∙ held_none s.held n below; known = sendable.0.known; moment = sendable.0.moment },
   can_make policy es (n + 1) (arrived policy p s) numbered.1 sendable.1 (held_arrived policy p s n numbered.0 below),
 )
-can_make policy (Depart ∷ es) n s numbered sendable below = can_make policy es n (departed policy s) numbered sendable (held_departed policy s n below)
+can_make policy (Depart start ∷ es) n s numbered sendable below = can_make policy es n (departed policy s) numbered sendable (held_departed policy s n below)
 
 -- and no later packet is held then
 pub held_after : (policy : Policy) (es : List Event) (n : ℕ) (s : SourceState) → AreNumberedFrom n (packets_in es) → IsHeldBelow n s.held → IsHeldBelow (n + arrivals_in es) (after policy es s).held
 held_after policy [] n s numbered below = subst (λ (m : ℕ). IsHeldBelow m s.held) (omega arith) below
 held_after policy (Arrive p ∷ es) n s numbered below =
     subst (λ (m : ℕ). IsHeldBelow m (after policy es (arrived policy p s)).held) (omega arith) (held_after policy es (n + 1) (arrived policy p s) numbered.1 (held_arrived policy p s n numbered.0 below))
-held_after policy (Depart ∷ es) n s numbered below = held_after policy es n (departed policy s) numbered (held_departed policy s n below)
+held_after policy (Depart start ∷ es) n s numbered below = held_after policy es n (departed policy s) numbered (held_departed policy s n below)
 
 numbered_both : (es fs : List Event) (n : ℕ) → AreNumberedFrom n (packets_in es) → AreNumberedFrom (n + arrivals_in es) (packets_in fs) → AreNumberedFrom n (packets_in (es ++ fs))
 numbered_both [] fs n first second = subst (λ (m : ℕ). AreNumberedFrom m (packets_in fs)) (omega arith) second
 numbered_both (Arrive p ∷ es) fs n first second = (first.0, numbered_both es fs (n + 1) first.1 (subst (λ (m : ℕ). AreNumberedFrom m (packets_in fs)) (omega arith) second))
-numbered_both (Depart ∷ es) fs n first second = numbered_both es fs n first second
+numbered_both (Depart start ∷ es) fs n first second = numbered_both es fs n first second
 
 sendable_both : (policy : Policy) (es fs : List Event) → AllByRecursion (IsSendable policy) (packets_in es) → AllByRecursion (IsSendable policy) (packets_in fs) → AllByRecursion (IsSendable policy) (packets_in (es ++ fs))
 sendable_both policy [] fs first second = second
 sendable_both policy (Arrive p ∷ es) fs first second = (first.0, sendable_both policy es fs first.1 second)
-sendable_both policy (Depart ∷ es) fs first second = sendable_both policy es fs first second
+sendable_both policy (Depart start ∷ es) fs first second = sendable_both policy es fs first second
 
 pub next_both : (policy : Policy) (es fs : List Event) (given mid : ℕ) → mid ≡ given + arrivals_in es → AreNext policy given (packets_in es) → AreNext policy mid (packets_in fs) → AreNext policy given (packets_in (es ++ fs))
 next_both policy es fs given mid e first second = record {
@@ -55,7 +56,7 @@ next_both policy es fs given mid e first second = record {
 pub length-events : (es : List Event) → length es ≡ arrivals_in es + departures_in es
 length-events [] = refl
 length-events (Arrive p ∷ es) = omega (arith, length-events es)
-length-events (Depart ∷ es) = omega (arith, length-events es)
+length-events (Depart start ∷ es) = omega (arith, length-events es)
 
 -- ---- the state after events that were made
 pub record Stands {C U : Type 0} (S : Ghosts C U) (policy : Policy) (c : C) (u : U) (given : ℕ) (s : SourceState) : Type 0 where
@@ -76,11 +77,14 @@ module _ {C U : Type 0} (S : Ghosts C U) (policy : Policy) (accepted : IsAccepte
   pub makes_both : (es fs : List Event) (old mid new : Stage C U) → mid.given ≡ old.given + arrivals_in es → Makes S policy es old mid → Makes S policy fs mid new → Makes S policy (es ++ fs) old new
   makes_both es fs old mid new e first second = record {
     next = next_both policy es fs old.given mid.given e first.next second.next;
-    pushed = omega (arith, first.pushed, second.pushed, arrivals_in-append es fs);
+    came = omega (arith, first.came, second.came, arrivals_in-append es fs);
     asked = omega (arith, first.asked, second.asked, departures_in-append es fs);
+    dropped = λ s sound stood below.
+        let at = stands_after es old mid mid.given s first e (record { sound = sound; stood = stood; below = below }) in
+        omega (arith, first.dropped s sound stood below, second.dropped (after policy es s) at.sound at.stood at.below, (outcomes_both policy es fs s).dropped);
     played = λ s sound stood below.
         let at = stands_after es old mid mid.given s first e (record { sound = sound; stood = stood; below = below }) in
-        let number : event_of old.tally + length es ≡ event_of mid.tally = omega (arith, first.pushed, first.asked, length-events es) in
+        let number : event_of old.tally + length es ≡ event_of mid.tally = omega (arith, first.came, first.asked, length-events es) in
         plays_both S policy (event_of old.tally) es fs s old.scheduler old.under mid.scheduler mid.under new.scheduler new.under old.text mid.text new.text
         (first.played s sound stood below)
         (subst (λ (n : ℕ). Plays S policy n fs (after policy es s) mid.scheduler mid.under new.scheduler new.under mid.text new.text) (sym number) (second.played (after policy es s) at.sound at.stood at.below));
@@ -92,7 +96,7 @@ module _ {C U : Type 0} (S : Ghosts C U) (policy : Policy) (accepted : IsAccepte
     next = next_both policy es fs old.given mid.given e first.next second.next;
     stopped = λ s sound stood below.
         let at = stands_after es old mid mid.given s first e (record { sound = sound; stood = stood; below = below }) in
-        let number : event_of old.tally + length es ≡ event_of mid.tally = omega (arith, first.pushed, first.asked, length-events es) in
+        let number : event_of old.tally + length es ≡ event_of mid.tally = omega (arith, first.came, first.asked, length-events es) in
         stops_second S policy (event_of old.tally) es fs s old.scheduler old.under mid.scheduler mid.under c u old.text mid.text written
         (first.played s sound stood below)
         (subst (λ (n : ℕ). StopsIn S policy n fs (after policy es s) mid.scheduler mid.under c u mid.text written) (sym number) (second.stopped (after policy es s) at.sound at.stood at.below));
@@ -103,8 +107,9 @@ module _ {C U : Type 0} (S : Ghosts C U) (policy : Policy) where
   pub makes_none : (c : C) (u : U) (text : Option (List ℕ)) (given given' : ℕ) (tally : _) → Makes S policy [] (stage c u text given tally) (stage c u text given' tally)
   makes_none c u text given given' tally = record {
     next = record { numbered = tt; sendable = tt };
-    pushed = omega arith;
+    came = omega arith;
     asked = omega arith;
+    dropped = λ s sound stood below. omega arith;
     played = λ s sound stood below. record { leaves = made_none S policy s c u stood; lines = appended_nothing text };
   }
 
@@ -123,23 +128,24 @@ module _ {C U : Type 0} (S : Ghosts C U) (policy : Policy) where
   }
 
 -- ---- departures in a row
-pub packets_in-departures : (n : ℕ) → packets_in (replicate n Depart) ≡ []
+pub packets_in-departures : (n : ℕ) → packets_in (replicate n (Depart None)) ≡ []
 packets_in-departures zero = refl
 packets_in-departures (suc n) = packets_in-departures n
 
-next_departures : (policy : Policy) (given n : ℕ) → AreNext policy given (packets_in (replicate n Depart))
+next_departures : (policy : Policy) (given n : ℕ) → AreNext policy given (packets_in (replicate n (Depart None)))
 next_departures policy given n = subst (AreNext policy given) (sym (packets_in-departures n)) (record { numbered = tt; sendable = tt })
 
 module _ {C U : Type 0} (S : Ghosts C U) (policy : Policy) where
-  pub makes_departures : (n : ℕ) (old new : Stage C U) → new.tally.pushed ≡ old.tally.pushed → new.tally.asked ≡ old.tally.asked + n →
-      ForEachState S.stands policy old.scheduler old.under (λ s. Plays S policy (event_of old.tally) (replicate n Depart) s old.scheduler old.under new.scheduler new.under old.text new.text) → Makes S policy (replicate n Depart) old new
-  makes_departures n old new pushed asked played = record {
+  pub makes_departures : (n : ℕ) (old new : Stage C U) → new.tally.came ≡ old.tally.came → new.tally.dropped ≡ old.tally.dropped → new.tally.asked ≡ old.tally.asked + n →
+      ForEachState S.stands policy old.scheduler old.under (λ s. Plays S policy (event_of old.tally) (replicate n (Depart None)) s old.scheduler old.under new.scheduler new.under old.text new.text) → Makes S policy (replicate n (Depart None)) old new
+  makes_departures n old new came dropped asked played = record {
     next = next_departures policy old.given n;
-    pushed = omega (arith, pushed, arrivals_in-departures n);
+    came = omega (arith, came, arrivals_in-departures n);
     asked = omega (arith, asked, departures_in-departures n);
+    dropped = λ s sound stood below. omega (arith, dropped, (departures_count policy n None s).dropped);
     played = λ s sound stood below. played s sound stood;
   }
 
   pub stops_departures : (n : ℕ) (old : Stage C U) (c : C) (u : U) (written : Option (List ℕ)) →
-      ForEachState S.stands policy old.scheduler old.under (λ s. StopsIn S policy (event_of old.tally) (replicate n Depart) s old.scheduler old.under c u old.text written) → Stops S policy (replicate n Depart) old c u written
+      ForEachState S.stands policy old.scheduler old.under (λ s. StopsIn S policy (event_of old.tally) (replicate n (Depart None)) s old.scheduler old.under c u old.text written) → Stops S policy (replicate n (Depart None)) old c u written
   stops_departures n old c u written stopped = record { next = next_departures policy old.given n; stopped = λ s sound stood below. stopped s sound stood }

@@ -4,7 +4,7 @@ use Rattle.std.proofs.lemmas.List.{map-append}
 use Rattle.packet_defs.specs.declared.packet.Packet.{Packet}
 use Rattle.policy_defs.specs.Policy.{Policy}
 use Rattle.policy_defs.specs.Accepted.{IsAccepted}
-use Rattle.sched_defs.specs.Events.{Event, Arrive, departures_in}
+use Rattle.sched_defs.specs.Events.{Event, Arrive, outcomes}
 use Rattle.sched_defs.specs.Numbered.{IsHeldBelow}
 use Rattle.sched_core.specs.declared.scheduler.Scheduler.{Ghosts}
 use Rattle.sched_core.specs.Standing.{StandForOne}
@@ -12,8 +12,9 @@ use Rattle.sched_defs.specs.declared.ending.Ending.{Ending}
 use Rattle.sched_defs.specs.declared.ending.Ending.TheVariants.{Whole, BadCapture, PastLast}
 use Rattle.sched_run.specs.declared.tally.Tally.{Tally}
 use Rattle.sched_defs.specs.Packets.{Left, Came}
-use Rattle.sched_run.specs.Stages.{Stage, stage, event_of, HasRoom, Makes, Stops}
+use Rattle.sched_run.specs.Stages.{Stage, stage, event_of, departures_in, HasRoom, Makes, Stops}
 use Rattle.sched_run.specs.Turns.{CameUntil, Arrives, WereFirst, ArrivalsStop}
+use Rattle.sched_run.proofs.EventCounts.{AreOf, outcomes_of}
 use Rattle.sched_run.proofs.MadeEvents.{stands_after, makes_none, makes_both, stops_later}
 
 pub some_is : {X : Type 0} (o : Option X) → is_some o ≡ true → (x : X) × (o ≡ Some x)
@@ -66,51 +67,53 @@ until_both (BadCapture x y) event (Some l) (Some m) c ps qs came until =
 
 -- ---- what the next call needs
 module _ {C U : Type 0} (S : Ghosts C U) (policy : Policy) (accepted : IsAccepted policy) where
-  pub one_after : (es : List Event) (old new : Stage C U) → new.given + old.tally.pushed ≡ old.given + new.tally.pushed → Makes S policy es old new →
+  pub one_after : (es : List Event) (old new : Stage C U) → new.given + old.tally.came ≡ old.given + new.tally.came → Makes S policy es old new →
       StandForOne S.stands policy old.scheduler old.under (λ s. IsHeldBelow (old.given + 1) s.held) → StandForOne S.stands policy new.scheduler new.under (λ s. IsHeldBelow (new.given + 1) s.held)
   one_after es old new given made one =
-      let at = stands_after S policy accepted es old new new.given one.state made (omega (arith, given, made.pushed)) (record { sound = one.sound; stood = one.stood; below = one.has }) in
+      let at = stands_after S policy accepted es old new new.given one.state made (omega (arith, given, made.came)) (record { sound = one.sound; stood = one.stood; below = one.has }) in
       record { state = _; sound = at.sound; stood = at.stood; has = at.below }
 
-  pub room_after : (es : List Event) (old new : Stage C U) → new.given + old.tally.pushed ≡ old.given + new.tally.pushed → new.given ≤ 4294967295 → old.tally.asked + departures_in es ≤ 2 ^ 34 → Makes S policy es old new →
+  pub room_after : (es : List Event) (old new : Stage C U) → new.given + old.tally.came ≡ old.given + new.tally.came → new.given ≤ 4294967295 → old.tally.asked + departures_in es ≤ 2 ^ 34 → Makes S policy es old new →
       StandForOne S.stands policy old.scheduler old.under (λ s. IsHeldBelow (old.given + 1) s.held) →
-      HasRoom (S.arrivals old.scheduler) (S.departures old.scheduler) old.given old.tally → HasRoom (S.arrivals new.scheduler) (S.departures new.scheduler) new.given new.tally
+      HasRoom (S.pushes old.scheduler) (S.departures old.scheduler) old.given old.tally → HasRoom (S.pushes new.scheduler) (S.departures new.scheduler) new.given new.tally
   room_after es old new given few short made one room =
-      let played = made.played one.state one.sound one.stood one.has in
+      let leaves = (made.played one.state one.sound one.stood one.has).leaves in
+      let counts : AreOf es (outcomes policy es one.state) = outcomes_of policy es one.state in
       record {
-        arrivals_fit = omega (arith, played.leaves.arrived, made.pushed, room.arrivals_fit);
-        departures_fit = omega (arith, played.leaves.departed, made.asked, room.departures_fit);
-        pushed = omega (arith, given, room.pushed);
+        pushes_fit = omega (arith, leaves.pushed, counts.pushed_or_dropped, made.came, room.pushes_fit);
+        departures_fit = omega (arith, leaves.asked, counts.asked, made.asked, room.departures_fit);
+        came = omega (arith, given, room.came);
+        dropped = omega (arith, made.dropped one.state one.sound one.stood one.has, counts.pushed_or_dropped, made.came, room.dropped);
         few = few;
         few_asked = omega (arith, made.asked, short);
       }
 
   -- ---- arrivals in a row
-  pub arrives_more : (n : ℕ) (a b c : Option Left) (old mid new : Stage C U) → mid.given + old.tally.pushed ≡ old.given + mid.tally.pushed → Arrives S policy n None a b old mid → Arrives S policy 1 None b c mid new → Arrives S policy (n + 1) None a c old new
+  pub arrives_more : (n : ℕ) (a b c : Option Left) (old mid new : Stage C U) → mid.given + old.tally.came ≡ old.given + mid.tally.came → Arrives S policy n None a b old mid → Arrives S policy 1 None b c mid new → Arrives S policy (n + 1) None a c old new
   arrives_more n a b c old mid new given first second = record {
     packets = first.packets ++ second.packets;
     count = omega (arith, length-append first.packets second.packets, first.count, second.count);
     came = came_both a b c first.packets second.packets first.came second.came;
     made = subst (λ (es : List Event). Makes S policy es old new) (sym (map-append Arrive first.packets second.packets))
-        (makes_both S policy accepted (map Arrive first.packets) (map Arrive second.packets) old mid new (omega (arith, given, first.made.pushed)) first.made second.made);
+        (makes_both S policy accepted (map Arrive first.packets) (map Arrive second.packets) old mid new (omega (arith, given, first.made.came)) first.made second.made);
   }
 
-  pub arrives_end : (n m : ℕ) (e : Ending) (a b c : Option Left) (old mid new : Stage C U) → n < m → mid.given + old.tally.pushed ≡ old.given + mid.tally.pushed → Arrives S policy n None a b old mid → Arrives S policy 1 (Some e) b c mid new → Arrives S policy m (Some e) a c old new
+  pub arrives_end : (n m : ℕ) (e : Ending) (a b c : Option Left) (old mid new : Stage C U) → n < m → mid.given + old.tally.came ≡ old.given + mid.tally.came → Arrives S policy n None a b old mid → Arrives S policy 1 (Some e) b c mid new → Arrives S policy m (Some e) a c old new
   arrives_end n m e a b c old mid new below given first second = record {
     packets = first.packets ++ second.packets;
     count = omega (arith, length-append first.packets second.packets, first.count, second.count);
     came = until_both e (event_of new.tally) a b c first.packets second.packets first.came second.came;
     made = subst (λ (es : List Event). Makes S policy es old new) (sym (map-append Arrive first.packets second.packets))
-        (makes_both S policy accepted (map Arrive first.packets) (map Arrive second.packets) old mid new (omega (arith, given, first.made.pushed)) first.made second.made);
+        (makes_both S policy accepted (map Arrive first.packets) (map Arrive second.packets) old mid new (omega (arith, given, first.made.came)) first.made second.made);
   }
 
-  pub arrivals_stop : (n m : ℕ) (a b : Option Left) (old mid : Stage C U) (c : C) (u : U) (written : Option (List ℕ)) → n < m → mid.given + old.tally.pushed ≡ old.given + mid.tally.pushed → Arrives S policy n None a b old mid → ArrivalsStop S policy 1 b mid c u written → ArrivalsStop S policy m a old c u written
+  pub arrivals_stop : (n m : ℕ) (a b : Option Left) (old mid : Stage C U) (c : C) (u : U) (written : Option (List ℕ)) → n < m → mid.given + old.tally.came ≡ old.given + mid.tally.came → Arrives S policy n None a b old mid → ArrivalsStop S policy 1 b mid c u written → ArrivalsStop S policy m a old c u written
   arrivals_stop n m a b old mid c u written below given first second = record {
     packets = first.packets ++ second.packets;
     count = omega (arith, length-append first.packets second.packets, first.count, second.count);
     first = first_both a b first.packets second.packets first.came second.first;
     stop = subst (λ (es : List Event). Stops S policy es old c u written) (sym (map-append Arrive first.packets second.packets))
-        (stops_later S policy accepted (map Arrive first.packets) (map Arrive second.packets) old mid c u written (omega (arith, given, first.made.pushed)) first.made second.stop);
+        (stops_later S policy accepted (map Arrive first.packets) (map Arrive second.packets) old mid c u written (omega (arith, given, first.made.came)) first.made second.stop);
   }
 
 module _ {C U : Type 0} (S : Ghosts C U) (policy : Policy) where

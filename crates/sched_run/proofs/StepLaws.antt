@@ -173,44 +173,44 @@ module _ {C U : Type 0} (S : Ghosts C U) (policy : Policy) where
   same_left : (step : Step) (events : List Event) (event : ℕ) (l : Left) (s : SourceState) → events ≡ step_events step l.packets s → None ≡ stop_at step l.packets l.fault event → left_by step l.packets ≡ l.packets → IsTurn step None event events l (Some l) s
   same_left step events event l s are ends left = record { are = are; ends = ends; rest = left_is l (left_by step l.packets) l.fault (sym left) refl }
 
-  pub departures_done : (n : ℕ) (a : Option Left) (old new : Stage C U) → Makes S policy (replicate n Depart) old new → Turns S policy (Departures n) None a a old new
+  pub departures_done : (n : ℕ) (a : Option Left) (old new : Stage C U) → Makes S policy (replicate n (Depart None)) old new → Turns S policy (Departures n) None a a old new
   departures_done n a old new made = record {
-    events = replicate n Depart;
+    events = replicate n (Depart None);
     made = made;
     few = λ s sound stood below. empty_in-departures policy n s;
     told = by_left a;
   }
     where
-      by_left : (a : Option Left) → IfSome a (λ l. FromEach S policy old (λ s. IsTurn (Departures n) None (event_of new.tally) (replicate n Depart) l a s))
+      by_left : (a : Option Left) → IfSome a (λ l. FromEach S policy old (λ s. IsTurn (Departures n) None (event_of new.tally) (replicate n (Depart None)) l a s))
       by_left None = tt
-      by_left (Some l) = λ s sound stood below. same_left (Departures n) (replicate n Depart) (event_of new.tally) l s refl refl refl
+      by_left (Some l) = λ s sound stood below. same_left (Departures n) (replicate n (Depart None)) (event_of new.tally) l s refl refl refl
 
-  pub departures_stop : (n : ℕ) (a : Option Left) (old : Stage C U) (c : C) (u : U) (written : Option (List ℕ)) → Stops S policy (replicate n Depart) old c u written → StopsAmid S policy (λ l s. step_events (Departures n) l.packets s) a old c u written
-  departures_stop n a old c u written stop = record { events = replicate n Depart; stop = stop; first = by_left a }
+  pub departures_stop : (n : ℕ) (a : Option Left) (old : Stage C U) (c : C) (u : U) (written : Option (List ℕ)) → Stops S policy (replicate n (Depart None)) old c u written → StopsAmid S policy (λ l s. step_events (Departures n) l.packets s) a old c u written
+  departures_stop n a old c u written stop = record { events = replicate n (Depart None); stop = stop; first = by_left a }
     where
-      by_left : (a : Option Left) → IfSome a (λ l. FromEach S policy old (λ s. AreFirst (replicate n Depart) (replicate n Depart)))
+      by_left : (a : Option Left) → IfSome a (λ l. FromEach S policy old (λ s. AreFirst (replicate n (Depart None)) (replicate n (Depart None))))
       by_left None = tt
-      by_left (Some l) = λ s sound stood below. ([], append-nil (replicate n Depart))
+      by_left (Some l) = λ s sound stood below. ([], append-nil (replicate n (Depart None)))
 
   -- as many as are held
-  pub drain_done : (accepted : IsAccepted policy) (n : ℕ) (a : Option Left) (old new : Stage C U) → ForEachState S.stands policy old.scheduler old.under (λ s. n ≡ size s.tree) → Makes S policy (replicate n Depart) old new → Turns S policy Drain None a a old new
+  pub drain_done : (accepted : IsAccepted policy) (n : ℕ) (a : Option Left) (old new : Stage C U) → ForEachState S.stands policy old.scheduler old.under (λ s. n ≡ size s.tree) → Makes S policy (replicate n (Depart None)) old new → Turns S policy Drain None a a old new
   drain_done accepted n a old new held made = record {
-    events = replicate n Depart;
+    events = replicate n (Depart None);
     made = made;
     few = λ s sound stood below. omega (arith, empty_in-drain policy n s accepted sound (held s sound stood));
     told = by_left a;
   }
     where
-      by_left : (a : Option Left) → IfSome a (λ l. FromEach S policy old (λ s. IsTurn Drain None (event_of new.tally) (replicate n Depart) l a s))
+      by_left : (a : Option Left) → IfSome a (λ l. FromEach S policy old (λ s. IsTurn Drain None (event_of new.tally) (replicate n (Depart None)) l a s))
       by_left None = tt
-      by_left (Some l) = λ s sound stood below. same_left Drain (replicate n Depart) (event_of new.tally) l s (ap (λ (k : ℕ). replicate k Depart) (held s sound stood)) refl refl
+      by_left (Some l) = λ s sound stood below. same_left Drain (replicate n (Depart None)) (event_of new.tally) l s (ap (λ (k : ℕ). replicate k (Depart None)) (held s sound stood)) refl refl
 
-  pub drain_stops : (n : ℕ) (a : Option Left) (old : Stage C U) (c : C) (u : U) (written : Option (List ℕ)) → ForEachState S.stands policy old.scheduler old.under (λ s. n ≡ size s.tree) → Stops S policy (replicate n Depart) old c u written → StopsAmid S policy (λ l s. step_events Drain l.packets s) a old c u written
-  drain_stops n a old c u written held stop = record { events = replicate n Depart; stop = stop; first = by_left a }
+  pub drain_stops : (n : ℕ) (a : Option Left) (old : Stage C U) (c : C) (u : U) (written : Option (List ℕ)) → ForEachState S.stands policy old.scheduler old.under (λ s. n ≡ size s.tree) → Stops S policy (replicate n (Depart None)) old c u written → StopsAmid S policy (λ l s. step_events Drain l.packets s) a old c u written
+  drain_stops n a old c u written held stop = record { events = replicate n (Depart None); stop = stop; first = by_left a }
     where
-      by_left : (a : Option Left) → IfSome a (λ l. FromEach S policy old (λ s. AreFirst (replicate n Depart) (replicate (size s.tree) Depart)))
+      by_left : (a : Option Left) → IfSome a (λ l. FromEach S policy old (λ s. AreFirst (replicate n (Depart None)) (replicate (size s.tree) (Depart None))))
       by_left None = tt
-      by_left (Some l) = λ s sound stood below. ([], append-nil (replicate n Depart) ∙ ap (λ (k : ℕ). replicate k Depart) (held s sound stood))
+      by_left (Some l) = λ s sound stood below. ([], append-nil (replicate n (Depart None)) ∙ ap (λ (k : ℕ). replicate k (Depart None)) (held s sound stood))
 
 pub goes_on_unbroken : (e : Ending) (P : Type 0) → GoesOn (Some e) P → IfNone (ends_at_fault e) P
 goes_on_unbroken (Whole n) P p = p

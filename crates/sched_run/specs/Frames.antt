@@ -11,18 +11,21 @@ use Rattle.sched_core.specs.Standing.{StandForOne, ForEachState}
 use Rattle.sched_run.specs.declared.run.Run.{Run}
 use Rattle.sched_run.specs.declared.tally.Tally.{Tally}
 
--- the policy is accepted, the names are those of its nodes, a path has room, and the report can be written
+-- the policy is accepted, the names are those of its nodes, the version is its own, a path has room, and the report can be
+-- written
 pub record IsSet {C U N : Type 0} (S : Ghosts C U) (named : N → Policy) (run : Run C N) : Type 0 where
   pub accepted : IsAccepted (S.policy run.scheduler)
   pub names : named run.names.now ≡ S.policy run.scheduler
+  pub version : run.version ≡ (S.policy run.scheduler).version
   pub room : depth (S.policy run.scheduler).tree ≤ run.trace.room
   pub live : IsTrue run.report.live
 
--- the policy, the place of the queues, the names and the room for a path stay
+-- the policy, the place of the queues, the names, the version and the room for a path stay
 pub record Continues {C U N : Type 0} (S : Ghosts C U) (old new : Run C N) : Type 0 where
   pub policy : S.policy new.scheduler ≡ S.policy old.scheduler
   pub origin : S.origin new.scheduler ≡ S.origin old.scheduler
   pub names : new.names.now ≡ old.names.now
+  pub version : new.version ≡ old.version
   pub room : new.trace.room ≡ old.trace.room
 
 -- the scheduler and what is under it stand for a sound state of which P holds
@@ -38,8 +41,8 @@ pub record KeepsPackets {P S : Type 0} (p : packets.Ghosts P S) (old new : P) (s
   pub policy : p.policy new ≡ p.policy old
   pub later : p.faults source ≤ p.faults source'
 
--- as many packets came as were pushed, and more may come
+-- as many packets came as were counted, and more may come
 pub record IsFurther {P S : Type 0} (p : packets.Ghosts P S) (old new : P) (source : S) (before now : Tally) : Type 0 where
   pub ready : p.ready new source
-  pub given : p.given new + before.pushed ≡ p.given old + now.pushed
+  pub given : p.given new + before.came ≡ p.given old + now.came
   pub few : p.given new ≤ most_packets

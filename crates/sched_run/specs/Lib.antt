@@ -3,4 +3,5 @@ pub mod Played
 pub mod Steps
 pub mod Stages
 pub mod Turns
+pub mod Totals
 pub mod Courses

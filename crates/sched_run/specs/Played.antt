@@ -4,7 +4,7 @@ use Rattle.outside_core.specs.Written.{Appended}
 use Rattle.report_defs.specs.Text.{IsCut}
 use Rattle.policy_defs.specs.Policy.{Policy}
 use Rattle.sched_defs.specs.SourceState.{SourceState}
-use Rattle.sched_defs.specs.Events.{Event, after, outcome, outcomes, arrivals_in, departures_in}
+use Rattle.sched_defs.specs.Events.{Event, after, outcome, outcomes, pushed_in, asked_in}
 use Rattle.sched_defs.specs.Report.{outcome_line, lines_from}
 use Rattle.sched_core.specs.declared.scheduler.Scheduler.{Ghosts}
 use Rattle.sched_core.specs.Origins.{images_of}
@@ -20,18 +20,18 @@ line_of policy event e from = outcome_line policy event (outcome policy e from)
 
 -- a departure was asked for: all else of what a scheduler counts and tells of itself stays
 pub record AsksOnce {C U : Type 0} (S : Ghosts C U) (c : C) (u : U) (c' : C) (u' : U) : Type 0 where
-  pub arrivals : S.arrivals c' ≡ S.arrivals c
+  pub pushes : S.pushes c' ≡ S.pushes c
   pub departures : S.departures c' ≡ S.departures c + 1
   pub policy : S.policy c' ≡ S.policy c
   pub origin : S.origin c' ≡ S.origin c
   pub spilled : S.spilled c' u' ≡ S.spilled c u
 
 -- The events were made, from a state for which the scheduler c and the queues u under it stood: now c' and u' stand for the
--- state after them. The events are counted, and where spills are told they rose by those of the arrivals.
+-- state after them. Pushes and departures are counted, and where spills are told they rose by those of the pushes.
 pub record HasMade {C U : Type 0} (S : Ghosts C U) (policy : Policy) (events : List Event) (from : SourceState) (c : C) (u : U) (c' : C) (u' : U) : Type 0 where
   pub state : S.stands c' u' (after policy events from)
-  pub arrived : S.arrivals c' ≡ S.arrivals c + arrivals_in events
-  pub departed : S.departures c' ≡ S.departures c + departures_in events
+  pub pushed : S.pushes c' ≡ S.pushes c + pushed_in (outcomes policy events from)
+  pub asked : S.departures c' ≡ S.departures c + asked_in (outcomes policy events from)
   pub origin : S.origin c' ≡ S.origin c
   pub spilled : S.spilled c' u' ≡ raised (S.spilled c u) (spills_in (images_of (S.origin c)) policy events from)
 

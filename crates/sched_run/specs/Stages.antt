@@ -6,9 +6,11 @@ use Rattle.packet_defs.specs.declared.packet.Packet.{Packet}
 use Rattle.report_core.specs.Gathered.{text_of}
 use Rattle.policy_defs.specs.Policy.{Policy}
 use Rattle.sched_defs.specs.SourceState.{SourceState, start}
-use Rattle.sched_defs.specs.Events.{Event, Arrive, Depart, arrivals_in, departures_in}
+use Rattle.sched_defs.specs.Events.{Event, Arrive, Depart, outcomes, dropped_in}
 use Rattle.sched_defs.specs.Packets.{most_packets}
 use Rattle.sched_defs.specs.Numbered.{AreNumberedFrom, IsSendable, IsHeldBelow}
+use Rattle.sched_core.specs.declared.scheduler.Arrival.{Arrival}
+use Rattle.sched_core.specs.declared.scheduler.Arrival.TheVariants.{Pushed, Dropped}
 use Rattle.sched_core.specs.declared.scheduler.Scheduler.{Ghosts}
 use Rattle.sched_core.specs.Standing.{ForEachState}
 use Rattle.sched_run.specs.Played.{Plays, StopsIn}
@@ -31,7 +33,18 @@ stage_of run u written given = stage run.scheduler u (text_of written run.report
 
 -- the number of the next event
 abbrev pub event_of : Tally → ℕ
-event_of tally = tally.pushed + tally.asked + 1
+event_of tally = tally.came + tally.asked + 1
+
+-- no event was made yet
+pub record IsFresh (tally : Tally) : Type 0 where
+  pub none_came : tally.came ≡ 0
+  pub none_dropped : tally.dropped ≡ 0
+  pub none_asked : tally.asked ≡ 0
+
+-- how many drops the answer of an arrival tells
+abbrev pub drops_of : Arrival → ℕ
+drops_of (Pushed leaf) = 0
+drops_of (Dropped leaf) = 1
 
 -- P holds of each sound state for which they stand and in which no packet yet to come is held
 abbrev pub FromEach : {C U : Type 0} → Ghosts C U → Policy → Stage C U → (SourceState → Type 0) → Type 0
@@ -52,21 +65,33 @@ abbrev pub StartsCanBegin : Type 0
 StartsCanBegin = (policy : Policy) (given : ℕ) → CanBegin given (start policy)
 
 -- the counts have room for all packets that may come
-pub record HasRoom (arrivals departures given : ℕ) (tally : Tally) : Type 0 where
-  pub arrivals_fit : arrivals < 2 ^ 60 + tally.pushed
+pub record HasRoom (pushes departures given : ℕ) (tally : Tally) : Type 0 where
+  pub pushes_fit : pushes < 2 ^ 60 + tally.came
   pub departures_fit : departures < 2 ^ 60 + tally.asked
-  pub pushed : tally.pushed ≤ given
+  pub came : tally.came ≤ given
+  pub dropped : tally.dropped ≤ tally.came
   pub few : given ≤ most_packets
   pub few_asked : tally.asked ≤ 2 ^ 34
 
 abbrev pub HasRoomFor : {C U N : Type 0} → Ghosts C U → Run C N → ℕ → Type 0
-HasRoomFor S run given = HasRoom (S.arrivals run.scheduler) (S.departures run.scheduler) given run.tally
+HasRoomFor S run given = HasRoom (S.pushes run.scheduler) (S.departures run.scheduler) given run.tally
 
 -- the packets of the arrivals, in order
 abbrev pub packets_in : List Event → List Packet
 packets_in [] = []
 packets_in (Arrive p ∷ es) = p ∷ packets_in es
-packets_in (Depart ∷ es) = packets_in es
+packets_in (Depart start ∷ es) = packets_in es
+
+-- how many events are arrivals, and how many departures
+abbrev pub arrivals_in : List Event → ℕ
+arrivals_in [] = 0
+arrivals_in (Arrive p ∷ es) = 1 + arrivals_in es
+arrivals_in (Depart start ∷ es) = arrivals_in es
+
+abbrev pub departures_in : List Event → ℕ
+departures_in [] = 0
+departures_in (Arrive p ∷ es) = departures_in es
+departures_in (Depart start ∷ es) = 1 + departures_in es
 
 -- packets as they come behind so many: numbered in a row, and each can be sent
 pub record AreNext (policy : Policy) (given : ℕ) (packets : List Packet) : Type 0 where
@@ -76,8 +101,9 @@ pub record AreNext (policy : Policy) (given : ℕ) (packets : List Packet) : Typ
 -- all of the events were made, each with its line, and were counted
 pub record Makes {C U : Type 0} (S : Ghosts C U) (policy : Policy) (events : List Event) (old new : Stage C U) : Type 0 where
   pub next : AreNext policy old.given (packets_in events)
-  pub pushed : new.tally.pushed ≡ old.tally.pushed + arrivals_in events
+  pub came : new.tally.came ≡ old.tally.came + arrivals_in events
   pub asked : new.tally.asked ≡ old.tally.asked + departures_in events
+  pub dropped : FromEach S policy old (λ s. new.tally.dropped ≡ old.tally.dropped + dropped_in (outcomes policy events s))
   pub played : FromEach S policy old (λ s. Plays S policy (event_of old.tally) events s old.scheduler old.under new.scheduler new.under old.text new.text)
 
 -- the first of the events were made, and a first part of the text with the lines of all is written

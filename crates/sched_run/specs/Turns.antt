@@ -3,9 +3,8 @@ use Rattle.std.specs.Prelude.{◌≡◌, ◌≤◌, ◌<◌, ℕ, Option, None, 
 use Rattle.packet_defs.specs.declared.packet.Packet.{Packet}
 use Rattle.policy_defs.specs.Policy.{Policy}
 use Rattle.sched_defs.specs.SourceState.{SourceState}
-use Rattle.sched_defs.specs.Events.{Event, Arrive, outcomes}
+use Rattle.sched_defs.specs.Events.{Event, Arrive, outcomes, empty_in}
 use Rattle.sched_defs.specs.Script.{Step, step_events, left_by, stop_at}
-use Rattle.sched_defs.specs.Report.{empty_in}
 use Rattle.sched_core.specs.declared.scheduler.Scheduler.{Ghosts}
 use Rattle.sched_defs.specs.declared.ending.Ending.{Ending}
 use Rattle.sched_defs.specs.declared.ending.Ending.TheVariants.{Whole, BadCapture, PastLast}

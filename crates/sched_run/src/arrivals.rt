@@ -43,14 +43,14 @@ impl<'a, C: Scheduler + Drop, N: NodeNames> Run<'a, C, N> {
         ensures cause { IfErr result (λ stop. HasCause stop P.faults source.old source.new K.faults sink.old sink.new) }
         ensures further { IfOk result (λ e. GoesOn e (
             IsFurther P.Packets packets.old packets.new source.new self.old.tally self.new.tally)) }
-        ensures pushed { self.new.tally.pushed ≤ most_packets }
+        ensures came { self.new.tally.came ≤ most_packets }
         ensures live { OnOk result (IsTrue self.new.report.live) }
     {
         match packets.next(source) {
             Ok(Some(packet)) => {
                 let event = self.tally.event();
-                self.arrive_line(under, sink, event, &packet)?;
-                self.tally.pushed += 1;
+                let arrival = self.arrive_line(under, sink, event, &packet)?;
+                self.tally.count(arrival);
                 Ok(None)
             }
             Ok(None) => Ok(Some(Ending::PastLast(self.tally.event()))),
@@ -88,7 +88,7 @@ impl<'a, C: Scheduler + Drop, N: NodeNames> Run<'a, C, N> {
         ensures cause { IfErr result (λ stop. HasCause stop P.faults source.old source.new K.faults sink.old sink.new) }
         ensures further { IfOk result (λ e. IfNone e (
             IsFurther P.Packets packets.old packets.new source.new self.old.tally self.new.tally)) }
-        ensures pushed { self.new.tally.pushed ≤ most_packets }
+        ensures came { self.new.tally.came ≤ most_packets }
         ensures live { OnOk result (IsTrue self.new.report.live) }
     {
         for _sent in 0..count {
@@ -128,7 +128,7 @@ impl<'a, C: Scheduler + Drop, N: NodeNames> Run<'a, C, N> {
         ensures cause { IfErr result (λ stop. HasCause stop P.faults source.old source.new K.faults sink.old sink.new) }
         ensures further { IfOk result (λ e. IfNone e (
             IsFurther P.Packets packets.old packets.new source.new self.old.tally self.new.tally)) }
-        ensures pushed { self.new.tally.pushed ≤ most_packets }
+        ensures came { self.new.tally.came ≤ most_packets }
         ensures live { OnOk result (IsTrue self.new.report.live) }
     {
         loop {

@@ -5,11 +5,11 @@ ghost use Rattle.outside_core.specs.Kept.{KeepsSink, HasSourceCause};
 ghost use Rattle.outside_core.specs.Written.{Appended};
 ghost use Rattle.report_core.specs.Gathered.{text_of, Tells, CutsOff};
 ghost use Rattle.sched_defs.specs.Script.{at_end};
-ghost use Rattle.sched_defs.specs.Report.{last_line};
 ghost use Rattle.sched_run.specs.Frames.{KeepsPackets};
+ghost use Rattle.sched_run.specs.Totals.{totals_line};
 
 use crate::run::Run;
-use crate::tally::Tally;
+use crate::tally::{Tally, Totals};
 use events_core::Step;
 use outside_core::{Sink, Stop};
 use policy_defs::NodeNames;
@@ -42,21 +42,26 @@ fn last<K: Sink>(
     report: &mut Report,
     sink: &mut K,
     ending: Ending,
-    pushed: u64,
-    popped: u64,
-    empty: u64,
-    held: u64,
+    totals: Totals,
 ) -> Result<(), WriteFault>
     requires live { IsTrue report.old.live }
 
-    ensures ok { OnOk result (Tells K.written sink.old report.old sink.new report.new (last_line pushed popped empty held ending)) }
-    ensures cut { OnErr result (CutsOff K.written sink.old report.old sink.new (last_line pushed popped empty held ending)) }
+    ensures ok { OnOk result (Tells K.written sink.old report.old sink.new report.new (totals_line totals ending)) }
+    ensures cut { OnErr result (CutsOff K.written sink.old report.old sink.new (totals_line totals ending)) }
     ensures kept { KeepsSink K.written K.faults sink.old sink.new }
     ensures cause { OnErr result (Rose (K.faults sink.old) (K.faults sink.new)) }
     ensures live { OnOk result (IsTrue report.new.live) }
 {
     match ending {
-        Ending::Whole(unsent) => report.end(sink, pushed, popped, empty, held, unsent),
+        Ending::Whole(unsent) => report.end(
+            sink,
+            totals.pushed,
+            totals.popped,
+            totals.empty,
+            totals.held,
+            unsent,
+            totals.dropped,
+        ),
         Ending::BadCapture(code, place) => report.fault(sink, FaultKind::Capture, code, place),
         Ending::PastLast(event) => report.fault(sink, FaultKind::Script, PAST_LAST, event),
     }
@@ -67,22 +72,19 @@ fn close<K: Sink>(
     report: &mut Report,
     sink: &mut K,
     ending: Ending,
-    pushed: u64,
-    popped: u64,
-    empty: u64,
-    held: u64,
+    totals: Totals,
 ) -> Result<(), WriteFault>
     requires live { IsTrue report.old.live }
 
     ensures ok { OnOk result (
-        Appended (text_of (K.written sink.old) report.old) (K.written sink.new) (last_line pushed popped empty held ending)) }
-    ensures cut { OnErr result (CutsOff K.written sink.old report.old sink.new (last_line pushed popped empty held ending)) }
+        Appended (text_of (K.written sink.old) report.old) (K.written sink.new) (totals_line totals ending)) }
+    ensures cut { OnErr result (CutsOff K.written sink.old report.old sink.new (totals_line totals ending)) }
     ensures kept { KeepsSink K.written K.faults sink.old sink.new }
     ensures cause { OnErr result (Rose (K.faults sink.old) (K.faults sink.new)) }
     ensures live { OnOk result (IsTrue report.new.live) }
     ensures none_left { OnOk result (report.new.unwritten ≡ []) }
 {
-    last(report, sink, ending, pushed, popped, empty, held)?;
+    last(report, sink, ending, totals)?;
     report.finish(sink)
 }
 
@@ -94,7 +96,7 @@ impl<'a, C: Scheduler + Drop, N: NodeNames> Run<'a, C, N> {
     ghost use Rattle.events_core.specs.Steps.{counts_of};
     ghost use Rattle.sched_defs.specs.Packets.{most_packets};
     ghost use Rattle.sched_run.specs.Frames.{IsSet, Continues, Stand, KeepsPackets};
-    ghost use Rattle.sched_run.specs.Stages.{stage_of, event_of, CanBegin, HasRoomFor};
+    ghost use Rattle.sched_run.specs.Stages.{stage_of, event_of, IsFresh, CanBegin, HasRoomFor};
     ghost use Rattle.sched_run.specs.Turns.{StopsAmid};
     ghost use Rattle.sched_run.specs.Courses.{course_of, Courses, OnCourse, Runs, Breaks};
 
@@ -112,8 +114,7 @@ impl<'a, C: Scheduler + Drop, N: NodeNames> Run<'a, C, N> {
         requires ready { P.ready packets.old source.old }
         requires stands { Stand C.Scheduler self.old under.old (CanBegin (P.given packets.old)) }
         requires counts { HasRoomFor C.Scheduler self.old (P.given packets.old) }
-        requires none_pushed { self.old.tally.pushed ≡ 0 }
-        requires none_asked { self.old.tally.asked ≡ 0 }
+        requires fresh { IsFresh self.old.tally }
         requires short { counts_of steps.now ≤ most_count }
 
         ensures ok { IfOk result (λ e. Courses C.Scheduler (C.policy self.old.scheduler) steps.now e (P.left packets.old source.old)
@@ -126,7 +127,7 @@ impl<'a, C: Scheduler + Drop, N: NodeNames> Run<'a, C, N> {
         ensures kept_sink { KeepsSink K.written K.faults sink.old sink.new }
         ensures kept_packets { KeepsPackets P.Packets packets.old packets.new source.old source.new }
         ensures cause { IfErr result (λ stop. HasCause stop P.faults source.old source.new K.faults sink.old sink.new) }
-        ensures pushed { self.new.tally.pushed ≤ most_packets }
+        ensures came { self.new.tally.came ≤ most_packets }
         ensures live { OnOk result (IsTrue self.new.report.live) }
     {
         for step in steps {
@@ -152,7 +153,7 @@ impl<'a, C: Scheduler + Drop, N: NodeNames> Run<'a, C, N> {
         requires packets { P.policy packets.old ≡ C.policy self.old.scheduler }
         requires ready { P.ready packets.old source.old }
         requires stands { Stand C.Scheduler self.old under.old (CanBegin (P.given packets.old)) }
-        requires arrivals { C.arrivals self.old.scheduler < 2 ^ 60 }
+        requires pushes { C.pushes self.old.scheduler < 2 ^ 60 }
         requires departures { C.departures self.old.scheduler < 2 ^ 60 }
         requires few { P.given packets.old ≤ most_packets }
         requires short { counts_of steps.now ≤ most_count }
@@ -175,16 +176,11 @@ impl<'a, C: Scheduler + Drop, N: NodeNames> Run<'a, C, N> {
         ensures none_left { OnOk result (self.new.report.unwritten ≡ []) }
     {
         let first = self.scheduler.held();
-        self.tally = Tally {
-            pushed: 0,
-            asked: 0,
-        };
+        self.tally = Tally::new();
         let ending = self.play_steps(under, sink, packets, source, steps)?;
         let held = self.scheduler.held();
-        let pushed = self.tally.pushed;
-        let popped = first + pushed - held;
-        let empty = self.tally.asked - popped;
-        close(&mut self.report, sink, ending, pushed, popped, empty, held)?;
+        let totals = self.tally.totals(first, held, self.version);
+        close(&mut self.report, sink, ending, totals)?;
         Ok(ending)
     }
 }

@@ -1,5 +1,5 @@
 //! One event with its line of the report, and departures in a row.
-ghost use Rattle.std.specs.Prelude.{◌≡◌, ◌<◌, ◌≤◌, ◌+◌, ◌^◌, ◌↔◌, [], ◌∷◌, replicate, option_map, IsNone, IsTrue, IfErr, IfOk, OnOk, OnErr, IfSome, IfNone};
+ghost use Rattle.std.specs.Prelude.{◌≡◌, ◌<◌, ◌≤◌, ◌+◌, ◌^◌, ◌↔◌, [], ◌∷◌, replicate, None, option_map, IsNone, IsTrue, IfErr, IfOk, OnOk, OnErr, IfSome, IfNone};
 ghost use Rattle.outside_core.specs.Faults.{Rose};
 ghost use Rattle.outside_core.specs.Kept.{KeepsSink, HasSinkCause};
 ghost use Rattle.report_core.specs.Gathered.{text_of, Tells, CutsOff};
@@ -18,7 +18,7 @@ use outside_core::{Sink, Stop};
 use packet_defs::{Departed, Packet};
 use policy_defs::NodeNames;
 use report_core::{Report, WriteFault};
-use sched_core::Scheduler;
+use sched_core::{Arrival, Scheduler};
 use tree_core::Taken;
 
 /// Makes a departure, and writes its line. Takes no memory.
@@ -51,9 +51,9 @@ pub fn depart_line<C: Scheduler, N: NodeNames, K: Sink>(
     ensures room { trace.new.room ≡ trace.old.room }
 
     ensures text { OnOk result (ForEachState C.stands (C.policy scheduler.old) scheduler.old under.old (λ s.
-        Tells K.written sink.old report.old sink.new report.new (line_of (C.policy scheduler.old) event Depart s))) }
+        Tells K.written sink.old report.old sink.new report.new (line_of (C.policy scheduler.old) event (Depart None) s))) }
     ensures cut { OnErr result (ForEachState C.stands (C.policy scheduler.old) scheduler.old under.old (λ s.
-        CutsOff K.written sink.old report.old sink.new (line_of (C.policy scheduler.old) event Depart s))) }
+        CutsOff K.written sink.old report.old sink.new (line_of (C.policy scheduler.old) event (Depart None) s))) }
     ensures kept { KeepsSink K.written K.faults sink.old sink.new }
     ensures cause { OnErr result (Rose (K.faults sink.old) (K.faults sink.new)) }
     ensures live { OnOk result (IsTrue report.new.live) }
@@ -73,25 +73,26 @@ pub fn depart_line<C: Scheduler, N: NodeNames, K: Sink>(
 }
 
 impl<'a, C: Scheduler + Drop, N: NodeNames> Run<'a, C, N> {
-    ghost use Rattle.std.specs.Prelude.{◌≡◌, ◌<◌, ◌+◌, ◌^◌, [], ◌∷◌, replicate, IsTrue, IfErr, OnOk, OnErr};
+    ghost use Rattle.std.specs.Prelude.{◌≡◌, ◌<◌, ◌+◌, ◌^◌, [], ◌∷◌, replicate, None, IsTrue, IfErr, IfOk, OnOk, OnErr};
     ghost use Rattle.outside_core.specs.Faults.{Rose};
     ghost use Rattle.outside_core.specs.Kept.{KeepsSink, HasSinkCause};
     ghost use Rattle.report_core.specs.Gathered.{text_of};
     ghost use Rattle.sched_defs.specs.Events.{Arrive, Depart, CanArrive};
+    ghost use Rattle.sched_core.specs.Arrivals.{arrival_of};
     ghost use Rattle.sched_run.specs.Frames.{IsSet, Continues, Stand, FromAll};
     ghost use Rattle.sched_run.specs.Played.{Plays, StopsIn};
 
-    /// Makes an arrival, and writes its line.
+    /// Makes an arrival, and writes its line. The answer is what became of the packet.
     pub(crate) fn arrive_line<K: Sink>(
         &mut self,
         under: &mut C::Under,
         sink: &mut K,
         event: u64,
         packet: &Packet,
-    ) -> Result<(), Stop>
+    ) -> Result<Arrival, Stop>
         requires set { IsSet C.Scheduler N.policy self.old }
         requires stands { Stand C.Scheduler self.old under.old (λ s. CanArrive (C.policy self.old.scheduler) s packet.now) }
-        requires few { C.arrivals self.old.scheduler < 2 ^ 61 }
+        requires few { C.pushes self.old.scheduler < 2 ^ 61 }
 
         ensures ok { OnOk result (FromAll C.Scheduler self.old under.old (λ s.
             Plays C.Scheduler (C.policy self.old.scheduler) event (Arrive packet.now ∷ []) s self.old.scheduler under.old
@@ -99,17 +100,27 @@ impl<'a, C: Scheduler + Drop, N: NodeNames> Run<'a, C, N> {
         ensures err { OnErr result (FromAll C.Scheduler self.old under.old (λ s.
             StopsIn C.Scheduler (C.policy self.old.scheduler) event (Arrive packet.now ∷ []) s self.old.scheduler under.old
             self.new.scheduler under.new (text_of (K.written sink.old) self.old.report) (K.written sink.new))) }
+        ensures answer { IfOk result (λ a. FromAll C.Scheduler self.old under.old (λ s.
+            a ≡ arrival_of (C.policy self.old.scheduler) packet.now s)) }
         ensures kept { Continues C.Scheduler self.old self.new }
         ensures kept_sink { KeepsSink K.written K.faults sink.old sink.new }
         ensures cause { IfErr result (λ stop. HasSinkCause stop K.faults sink.old sink.new) }
         ensures live { OnOk result (IsTrue self.new.report.live) }
         ensures tally { self.new.tally ≡ self.old.tally }
     {
-        let leaf = self.scheduler.arrive(under, packet, &mut self.trace)?;
-        let name = self.names.name(leaf);
-        self.report
-            .arrived(sink, event, packet.number, name, self.trace.ranks())?;
-        Ok(())
+        let arrival = self.scheduler.arrive(under, packet, &mut self.trace)?;
+        match arrival {
+            Arrival::Pushed(leaf) => {
+                let name = self.names.name(leaf);
+                self.report
+                    .arrived(sink, event, packet.number, name, self.trace.ranks())?;
+            }
+            Arrival::Dropped(leaf) => {
+                let name = self.names.name(leaf);
+                self.report.dropped(sink, event, packet.number, name)?;
+            }
+        }
+        Ok(arrival)
     }
 
     /// Makes departures, each with its line. Takes no memory.
@@ -126,10 +137,10 @@ impl<'a, C: Scheduler + Drop, N: NodeNames> Run<'a, C, N> {
         requires events { event + count < 2 ^ 62 }
 
         ensures ok { OnOk result (FromAll C.Scheduler self.old under.old (λ s.
-            Plays C.Scheduler (C.policy self.old.scheduler) event (replicate count Depart) s self.old.scheduler under.old
+            Plays C.Scheduler (C.policy self.old.scheduler) event (replicate count (Depart None)) s self.old.scheduler under.old
             self.new.scheduler under.new (text_of (K.written sink.old) self.old.report) (text_of (K.written sink.new) self.new.report))) }
         ensures err { OnErr result (FromAll C.Scheduler self.old under.old (λ s.
-            StopsIn C.Scheduler (C.policy self.old.scheduler) event (replicate count Depart) s self.old.scheduler under.old
+            StopsIn C.Scheduler (C.policy self.old.scheduler) event (replicate count (Depart None)) s self.old.scheduler under.old
             self.new.scheduler under.new (text_of (K.written sink.old) self.old.report) (K.written sink.new))) }
         ensures kept { Continues C.Scheduler self.old self.new }
         ensures kept_sink { KeepsSink K.written K.faults sink.old sink.new }

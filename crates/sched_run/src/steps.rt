@@ -33,13 +33,13 @@ impl<'a, C: Scheduler + Drop, N: NodeNames> Run<'a, C, N> {
         requires set { IsSet C.Scheduler N.policy self.old }
         requires stands { Stand C.Scheduler self.old under.old (λ _. Unit {0}) }
         requires few { C.departures self.old.scheduler + count < 2 ^ 61 }
-        requires events { self.old.tally.pushed + self.old.tally.asked + count < 2 ^ 61 }
+        requires events { self.old.tally.came + self.old.tally.asked + count < 2 ^ 61 }
 
-        ensures ok { OnOk result ((given : ℕ) → Makes C.Scheduler (C.policy self.old.scheduler) (replicate count Depart)
+        ensures ok { OnOk result ((given : ℕ) → Makes C.Scheduler (C.policy self.old.scheduler) (replicate count (Depart None))
             (stage_of self.old under.old (K.written sink.old) given) (stage_of self.new under.new (K.written sink.new) given)) }
-        ensures err { OnErr result ((given : ℕ) → Stops C.Scheduler (C.policy self.old.scheduler) (replicate count Depart)
+        ensures err { OnErr result ((given : ℕ) → Stops C.Scheduler (C.policy self.old.scheduler) (replicate count (Depart None))
             (stage_of self.old under.old (K.written sink.old) given) self.new.scheduler under.new (K.written sink.new)) }
-        ensures pushed { self.new.tally.pushed ≡ self.old.tally.pushed }
+        ensures came { self.new.tally.came ≡ self.old.tally.came }
         ensures kept { Continues C.Scheduler self.old self.new }
         ensures kept_sink { KeepsSink K.written K.faults sink.old sink.new }
         ensures cause { OnErr result (Rose (K.faults sink.old) (K.faults sink.new)) }
@@ -80,7 +80,7 @@ impl<'a, C: Scheduler + Drop, N: NodeNames> Run<'a, C, N> {
         ensures cause { IfErr result (λ stop. HasCause stop P.faults source.old source.new K.faults sink.old sink.new) }
         ensures further { IfOk result (λ e. IfNone e (
             IsFurther P.Packets packets.old packets.new source.new self.old.tally self.new.tally)) }
-        ensures pushed { self.new.tally.pushed ≤ most_packets }
+        ensures came { self.new.tally.came ≤ most_packets }
         ensures live { OnOk result (IsTrue self.new.report.live) }
     {
         match step {

@@ -1,22 +1,81 @@
-//! The events of a run so far.
-ghost use Rattle.std.specs.Prelude.{◌≡◌, ◌<◌, ◌+◌, ◌^◌};
-ghost use Rattle.sched_run.specs.Stages.{event_of};
+//! The events of a run so far, and the numbers of its last line.
+ghost use Rattle.std.specs.Prelude.{◌≡◌, ◌≤◌, ◌<◌, ◌+◌, ◌^◌};
+ghost use Rattle.sched_run.specs.Stages.{event_of, drops_of, IsFresh};
+ghost use Rattle.sched_run.specs.Totals.{HasTotals, AreTotals};
+
+use sched_core::Arrival;
 
 /// The events of a run so far.
 #[derive(Clone, Copy, Debug)]
 pub(crate) struct Tally {
-    /// How many packets arrived.
-    pub(crate) pushed: u64,
+    /// How many packets came.
+    pub(crate) came: u64,
+    /// How many of them were dropped.
+    pub(crate) dropped: u64,
     /// How many departures were made, those of nothing among them.
     pub(crate) asked: u64,
 }
 
+/// The numbers of the last line.
+#[derive(Clone, Copy, Debug)]
+pub(crate) struct Totals {
+    pub(crate) pushed: u64,
+    pub(crate) popped: u64,
+    /// How many departures were made of nothing.
+    pub(crate) empty: u64,
+    pub(crate) held: u64,
+    /// How many packets were dropped, where that is shown.
+    pub(crate) dropped: Option<u64>,
+}
+
 impl Tally {
+    /// No event so far.
+    pub(crate) fn new() -> Tally
+        ensures { IsFresh result }
+    {
+        Tally {
+            came: 0,
+            dropped: 0,
+            asked: 0,
+        }
+    }
+
     /// The number of the next event, from 1.
     pub(crate) fn event(self) -> u64
-        requires few { self.pushed + self.asked < 2 ^ 63 }
+        requires few { self.came + self.asked < 2 ^ 63 }
         ensures { result ≡ event_of self }
     {
-        self.pushed + self.asked + 1
+        self.came + self.asked + 1
+    }
+
+    /// One more packet came, and this became of it.
+    pub(crate) fn count(&mut self, arrival: Arrival)
+        requires few { self.old.came < 2 ^ 63 }
+        requires some { self.old.dropped ≤ self.old.came }
+
+        ensures came { self.new.came ≡ self.old.came + 1 }
+        ensures dropped { self.new.dropped ≡ self.old.dropped + drops_of arrival }
+        ensures asked { self.new.asked ≡ self.old.asked }
+    {
+        self.came += 1;
+        if let Arrival::Dropped(_) = arrival {
+            self.dropped += 1;
+        }
+    }
+
+    /// The numbers of the last line, where so many packets were held at first and so many are now.
+    pub(crate) fn totals(self, first: u64, held: u64, version: u32) -> Totals
+        requires { HasTotals self first held }
+        ensures { AreTotals self first held version result }
+    {
+        let pushed = self.came - self.dropped;
+        let popped = first + pushed - held;
+        Totals {
+            pushed,
+            popped,
+            empty: self.asked - popped,
+            held,
+            dropped: (version == 2).then_some(self.dropped),
+        }
     }
 }

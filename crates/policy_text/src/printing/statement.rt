@@ -5,7 +5,7 @@ ghost use Rattle.policy_text_defs.specs.declared.attribute.Attribute.TheVariants
 ghost use Rattle.policy_text_defs.specs.Phrase.{phrase_of};
 ghost use Rattle.policy_text_defs.specs.Sense.{sense_of};
 ghost use Rattle.policy_text.specs.Printing.{vertex_text};
-ghost use Rattle.policy_text_defs.specs.Canonical.{span_text, attribute_text, attributes_text, names_text, declaration_text, assignment_text, statement_text};
+ghost use Rattle.policy_text_defs.specs.Canonical.{span_text, attribute_text, attributes_text, limit_text, names_text, declaration_text, assignment_text, statement_text};
 
 use crate::printing::condition::{put_between, put_guard};
 use crate::printing::expression::put_term;
@@ -67,6 +67,16 @@ fn put_slack(into: &mut Vec<u8>, slack: Option<u64>) -> Result<(), AllocError>
     };
     into.extend_from_slice(b" slack ")?;
     put_decimal(into, slack as u128)
+}
+
+fn put_limit(into: &mut Vec<u8>, limit: Option<u32>) -> Result<(), AllocError>
+    ensures { OnOk result (into.new.items ≡ into.old.items ++ limit_text limit) }
+{
+    let Some(limit) = limit else {
+        return Ok(());
+    };
+    into.extend_from_slice(b" limit ")?;
+    put_decimal(into, limit as u128)
 }
 
 /// Appends names, each with the space before it.
@@ -149,8 +159,9 @@ pub fn put_statement(into: &mut Vec<u8>, statement: &Statement) -> Result<(), Al
             put_attributes(into, attrs)?;
             put_guard(into, conditions.as_slice())
         }
-        Statement::Leaf(name, used, attrs, classes) => {
+        Statement::Leaf(name, used, attrs, limit, classes) => {
             put_vertex(into, b"leaf ", name, used, attrs)?;
+            put_limit(into, *limit)?;
             into.extend_from_slice(b" classes")?;
             put_names(into, classes.as_slice())
         }

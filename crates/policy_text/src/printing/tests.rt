@@ -28,6 +28,10 @@ fn canonical_texts(rt: HostRuntime) -> Result<(), Fail> {
             b"node root using rr children  web\tmail\npop n=if(not(n<1),n,max(1,2))",
             "node root using rr children web mail\npop n = if(not(n < 1), n, max(1, 2))\n",
         ),
+        (
+            b"policy 02\nleaf root using fifo slack 9 weight 4 limit 064 classes a  b",
+            "policy 2\nleaf root using fifo weight 4 slack 9 limit 64 classes a b\n",
+        ),
     ] {
         let printed = print(alloc, &parse(alloc, text).expect(&rt, want))?;
         assert_eq!(rt; printed.as_slice(), want.as_bytes(), "{want}");

@@ -42,7 +42,10 @@ fn texts_and_faults(rt: HostRuntime) -> Result<(), Fail> {
         ),
         (b"\tshape$", "Shaping(1)"),
         (b"shape1 root", "Syntax(1)"),
-        (b"policy 2\nshape", "Syntax(1)"),
+        (b"policy 3\nshape", "Syntax(1)"),
+        (b"policy 2\nshape", "Shaping(2)"),
+        (b"policy 0", "Syntax(1)"),
+        (b"policy 2", "1 statements"),
         (
             b"class c slack 1 weight 65535 prio 0 when proto tcp and src 10.9.0.0/16 and ipv4",
             "1 statements",
@@ -53,6 +56,20 @@ fn texts_and_faults(rt: HostRuntime) -> Result<(), Fail> {
         (b"class limit", "Syntax(1)"),
         (b"keep w 0..7 = 8", "Syntax(1)"),
         (b"node n using fifo children", "Syntax(1)"),
+        (
+            b"policy 1\nleaf r using fifo limit 1 classes a",
+            "2 statements",
+        ),
+        (
+            b"leaf r using fifo weight 2 limit 4194304 classes a b",
+            "1 statements",
+        ),
+        (b"leaf r using fifo limit 0 classes a", "Syntax(1)"),
+        (b"leaf r using fifo limit 4194305 classes a", "Syntax(1)"),
+        (b"leaf r using fifo limit classes a", "Syntax(1)"),
+        (b"leaf r using fifo limit 3 weight 2 classes a", "Syntax(1)"),
+        (b"leaf r using fifo limit 3 limit 3 classes a", "Syntax(1)"),
+        (b"node n using fifo limit 3 children a", "Syntax(1)"),
     ] {
         assert_eq!(rt; answer(&rt, text)?.as_str(), want);
     }

@@ -20,6 +20,11 @@ returns-in_err-check_leaves-clause-refuses c =
     let p = err_from_is_err_and c.from_residual-in_err-check_leaves.result c.from_residual-in_err-check_leaves.ensures.1 in
     rw p.1 (subst (λ (f : PolicyFault). IsFault (entries_of c.args.lines.now) f) (sym p.2) (c.in_err-check_leaves.ensures.fault c.in_ok-check_family.ensures.ok))
 
+pub returns-in_err-check_limits-clause-refuses : goal.returns-in_err-check_limits-clause-refuses
+returns-in_err-check_limits-clause-refuses c =
+    let p = err_from_is_err_and c.from_residual-in_err-check_limits.result c.from_residual-in_err-check_limits.ensures.1 in
+    rw p.1 (subst (λ (f : PolicyFault). IsFault (entries_of c.args.lines.now) f) (sym p.2) (c.in_err-check_limits.ensures.fault ((c.in_ok-check_family.ensures.ok, c.in_ok-check_leaves.ensures.leaves), c.in_ok-check_leaves.ensures.catch_all)))
+
 pub returns-in_err-assemble-clause-refuses : goal.returns-in_err-assemble-clause-refuses
 returns-in_err-assemble-clause-refuses c =
     let p = err_from_is_err_and c.from_residual-in_err-assemble.result c.from_residual-in_err-assemble.ensures.1 in

@@ -21,12 +21,12 @@ new-requires-clause-forest c =
     let es = entries_of c.args.lines.now in
     subst (λ (g : Graph). IsForest g c.unwrap_or-root.result) (sym c.requires.graph)
     (subst (λ (r : ℕ). IsForest (graph_of es) r) (sym (root-is es c.args.spaces.now.nodes c.place.result c.unwrap_or-root.result c.requires.accepted c.requires.spaces.nodes_are c.place.ensures c.unwrap_or-root.ensures))
-    (is-forest es c.requires.rising c.requires.accepted.0.0.0))
+    (is-forest es c.requires.rising c.requires.accepted.0.0.0.0))
 
 pub new-requires-clause-shallow : goal.new-requires-clause-shallow
 new-requires-clause-shallow c = λ a _ deep.
     let es = entries_of c.args.lines.now in
-    is-shallow es c.requires.rising c.requires.accepted.0.0 a
+    is-shallow es c.requires.rising c.requires.accepted.0.0.0 a
     (subst (λ (r : ℕ). IsDeep (graph_of es) r a) (root-is es c.args.spaces.now.nodes c.place.result c.unwrap_or-root.result c.requires.accepted c.requires.spaces.nodes_are c.place.ensures c.unwrap_or-root.ensures)
     (subst (λ (g : Graph). IsDeep g c.unwrap_or-root.result a) c.requires.graph deep))
 
@@ -84,8 +84,8 @@ new-requires-2-clause-accepted c =
     let at = root-is es c.args.spaces.now.nodes c.place.result c.unwrap_or-root.result c.requires.accepted c.requires.spaces.nodes_are c.place.ensures c.unwrap_or-root.ensures in
     let parts = parts-made es (lists c.args.graph.now) c.unwrap_or-root.result c.in_ok-tree.tree c.in_ok-stations.stations c.args.programs c.as_slice.result.now _ c.in_ok-classes.classes c.requires.graph at c.in_ok-tree.ensures.tree
     c.requires.programs c.in_ok-stations.ensures.nodes c.as_slice.ensures.value c.in_ok-leaves.ensures.homes c.in_ok-classes.ensures.classes in
-    accepted-made es c.requires.accepted _ _ _ _ _ parts c.requires.rising c.requires.valid
-    (shaped_known es c.requires.rising c.requires.accepted.0.0.0.0.0.0.0 c.requires.valid).1.1.1.1.1.1
+    accepted-made es c.requires.accepted _ _ _ _ _ parts c.version.result c.version.ensures c.requires.rising c.requires.valid
+    (shaped_known es c.requires.rising c.requires.accepted.0.0.0.0.0.0.0.0 c.requires.valid).1.1.1.1.1.1
     (subst (λ (p : Numbered). IsSound p.rows p.topology) c.tree.view_is c.tree.invariant)
 
 pub returns : goal.returns
@@ -94,4 +94,4 @@ returns c =
     let at = root-is es c.args.spaces.now.nodes c.place.result c.unwrap_or-root.result c.requires.accepted c.requires.spaces.nodes_are c.place.ensures c.unwrap_or-root.ensures in
     let parts = parts-made es (lists c.args.graph.now) c.unwrap_or-root.result c.in_ok-tree.tree c.in_ok-stations.stations c.args.programs c.as_slice.result.now _ c.in_ok-classes.classes c.requires.graph at c.in_ok-tree.ensures.tree
     c.requires.programs c.in_ok-stations.ensures.nodes c.as_slice.ensures.value c.in_ok-leaves.ensures.homes c.in_ok-classes.ensures.classes in
-    record { policy = subst (λ (r : Resolved). IsResolved es r) (sym c.new-2.ensures.policy) (resolved-made es c.requires.accepted _ _ _ _ _ parts c.requires.valid) }
+    record { policy = subst (λ (r : Resolved). IsResolved es r) (sym c.new-2.ensures.policy) (resolved-made es c.requires.accepted _ _ _ _ _ parts c.version.result c.version.ensures c.requires.valid) }

@@ -44,7 +44,7 @@ loop-statement-preserved c = elim c.match-statement.branch [
       (subst (λ (names : List Name). ArePut c.args.classes.now names w.index.result.now w.as_mut_slice.result.now w.put.new.leaves) w.as_slice.ensures w.put.ensures) in
       subst (λ (n : ℕ). IsPassing c.args.lines.now c.args.classes.now c.in_ok-places.places.items (c.loop-statement.statement-index + 1) n c.match-statement.leaves.items) (sym w.node-is)
       (subst (λ (new : List ℕ). IsPassing c.args.lines.now c.args.classes.now c.in_ok-places.places.items (c.loop-statement.statement-index + 1) (c.loop-statement.node + 1) new) (sym back)
-      (pass-leaf c.args.lines.now c.args.classes.now c.in_ok-places.places.items c.loop-statement.leaves.items w.put.new.leaves c.loop-statement.statement-index c.loop-statement.node w.index.result.now c.loop-statement-item.result _ _ _ w.in-Leaf.listed
+      (pass-leaf c.args.lines.now c.args.classes.now c.in_ok-places.places.items c.loop-statement.leaves.items w.put.new.leaves c.loop-statement.statement-index c.loop-statement.node w.index.result.now c.loop-statement-item.result _ _ _ _ w.in-Leaf.listed
       c.loop-statement-test.true c.loop-statement-item.is w.in-Leaf.is (w.index.ensures ∙ get_or_default c.in_ok-places.places.items c.loop-statement.node w.index.result.now 0 within) put c.loop-statement.invariant)))
   | in-Node w ↦
       subst (λ (n : ℕ). IsPassing c.args.lines.now c.args.classes.now c.in_ok-places.places.items (c.loop-statement.statement-index + 1) n c.match-statement.leaves.items) (sym w.node-is)

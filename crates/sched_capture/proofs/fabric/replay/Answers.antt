@@ -20,7 +20,7 @@ returns-clause-fabric g c =
     let n = c.in-Ok-new.ensures in
     let runs = c.in_ok-run.ensures.scheduler in
     left_by g.F.Fabric policy laid c.args.steps.now c.run_over.result (g.S.Shelf.left c.args.shelf.now) (left_of c.in-Ok.packets (g.S.Shelf.left c.begin.new.shelf)) _ c.args.fabric.now c.run_over.new.under
-    (λ l made. holds_after g.F.Fabric policy.policy laid c.in_ok-run.run'.scheduler c.args.fabric.now c.new.new.fabric (ap (λ s. origin_of s) runs ∙ n.origin) (ap (λ s. s.own.arrivals) runs ∙ n.arrivals) (ap (λ s. s.own.departures) runs ∙ n.departures) n.spilled _ c.run_over.new.run.scheduler c.run_over.new.under made.state made.arrived made.departed made.origin made.spilled)
+    (λ l made. holds_after g.F.Fabric policy.policy laid c.in_ok-run.run'.scheduler c.args.fabric.now c.new.new.fabric (ap (λ s. origin_of s) runs ∙ n.origin) (ap (λ s. s.own.pushes) runs ∙ n.pushes) (ap (λ s. s.own.departures) runs ∙ n.departures) n.spilled _ c.run_over.new.run.scheduler c.run_over.new.under made.state made.pushed made.asked made.origin made.spilled)
     c.in-Ok.ensures.begins c.run_over.ensures.state
 
 pub returns-clause-fabric_part : goal.returns-clause-fabric_part
@@ -34,8 +34,8 @@ returns-clause-fabric_part g c =
       made = some.made;
       unmade = some.unmade;
       whole = some.whole;
-      holds = holds_after g.F.Fabric policy.policy laid c.in_ok-run.run'.scheduler c.args.fabric.now c.new.new.fabric (ap (λ s. origin_of s) runs ∙ n.origin) (ap (λ s. s.own.arrivals) runs ∙ n.arrivals) (ap (λ s. s.own.departures) runs ∙ n.departures) n.spilled some.made c.run_over.new.run.scheduler c.run_over.new.under
-          some.leaves.state some.leaves.arrived some.leaves.departed some.leaves.origin some.leaves.spilled;
+      holds = holds_after g.F.Fabric policy.policy laid c.in_ok-run.run'.scheduler c.args.fabric.now c.new.new.fabric (ap (λ s. origin_of s) runs ∙ n.origin) (ap (λ s. s.own.pushes) runs ∙ n.pushes) (ap (λ s. s.own.departures) runs ∙ n.departures) n.spilled some.made c.run_over.new.run.scheduler c.run_over.new.under
+          some.leaves.state some.leaves.pushed some.leaves.asked some.leaves.origin some.leaves.spilled;
     })
     c.in-Ok.ensures.begins c.run_over.ensures.amid
 
@@ -49,7 +49,7 @@ returns-in_err-run-clause-fabric_part g c =
       made = [];
       unmade = _;
       whole = refl;
-      holds = holds_after g.F.Fabric policy.policy laid c.in-Ok-new.scheduler c.args.fabric.now c.new.new.fabric n.origin n.arrivals n.departures n.spilled [] c.in-Ok-new.scheduler c.new.new.fabric
+      holds = holds_after g.F.Fabric policy.policy laid c.in-Ok-new.scheduler c.args.fabric.now c.new.new.fabric n.origin n.pushes n.departures n.spilled [] c.in-Ok-new.scheduler c.new.new.fabric
           n.stands (omega arith) (omega arith) refl (sym (raised_nothing _));
     })
     c.in-Ok.ensures.begins

@@ -32,13 +32,13 @@ tell_three-requires-clause-stands g c =
     let target = c.args.target.now in
     let leaf = c.is_plain_leaf.ensures in
     let yes = c.if-not-is_plain_leaf.false in
-    let plain : IsPlain policy.tree = plain_leaf policy leaf.accepted (leaf.leaf yes) (leaf.keeps yes) (leaf.eaches yes) in
+    let plain : IsPlain policy.tree = plain_leaf policy leaf.accepted (leaf.leaf yes) (leaf.keeps yes) (leaf.eaches yes) (leaf.limit yes) in
     let a = c.in_ok-first.ensures in
     let b = c.in_ok-second.ensures in
     let alike : AreAlike c.in_ok-first.first c.in_ok-second.second = record {
       images = same_images policy plain (levels_of target) (length target.arities) _ _ a.images b.images;
       arities = a.arities ∙ sym b.arities;
-      pushes = omega (arith, a.pushes, b.pushes, a.arrivals, b.arrivals);
+      pushes = omega (arith, a.pushes, b.pushes, a.pushes_own, b.pushes_own);
       pops = omega (arith, a.pops, b.pops, a.departures, b.departures);
     } in
     stands_exchanged g.F.Fabric policy leaf.accepted plain early late apart (early_sent policy leaf.accepted) (late_sent policy leaf.accepted) c.in_ok-first.first c.in_ok-second.second c.fill.new.fabric c.fill-2.new.fabric a.policy alike a.stands b.stands
@@ -49,13 +49,13 @@ tell_three-requires-2-clause-stands g c =
     let target = c.args.target.now in
     let leaf = c.is_plain_leaf.ensures in
     let yes = c.if-not-is_plain_leaf.false in
-    let plain : IsPlain policy.tree = plain_leaf policy leaf.accepted (leaf.leaf yes) (leaf.keeps yes) (leaf.eaches yes) in
+    let plain : IsPlain policy.tree = plain_leaf policy leaf.accepted (leaf.leaf yes) (leaf.keeps yes) (leaf.eaches yes) (leaf.limit yes) in
     let a = c.in_ok-second.ensures in
     let b = c.in_ok-first.ensures in
     let alike : AreAlike c.in_ok-second.second c.in_ok-first.first = record {
       images = same_images policy plain (levels_of target) (length target.arities) _ _ a.images b.images;
       arities = a.arities ∙ sym b.arities;
-      pushes = omega (arith, a.pushes, b.pushes, a.arrivals, b.arrivals);
+      pushes = omega (arith, a.pushes, b.pushes, a.pushes_own, b.pushes_own);
       pops = omega (arith, a.pops, b.pops, a.departures, b.departures);
     } in
     stands_exchanged g.F.Fabric policy leaf.accepted plain late early (λ e. apart (sym e)) (late_sent policy leaf.accepted) (early_sent policy leaf.accepted) c.in_ok-second.second c.in_ok-first.first c.fill-2.new.fabric c.fill.new.fabric a.policy alike a.stands b.stands

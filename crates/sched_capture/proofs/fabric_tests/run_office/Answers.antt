@@ -11,6 +11,6 @@ loop-comes-init g c =
       same = r.policy;
       room = omega (arith, levels.levels, c.in_ok-trace.ensures.room);
       next = omega arith;
-      arrivals = omega (arith, r.no_arrivals);
+      pushes = omega (arith, r.no_pushes);
       departures = omega (arith, r.no_departures);
     }

@@ -12,6 +12,6 @@ invariant-loop-comes g l =
       same : scheduler.policy l.scheduler ≡ l.policy.policy;
       room : depth l.policy.policy.tree ≤ l.trace.room;
       next : l.next ≤ 1 + l.comes-index;
-      arrivals : scheduler.arrivals l.scheduler ≤ l.comes-index;
+      pushes : scheduler.pushes l.scheduler ≤ l.comes-index;
       departures : scheduler.departures l.scheduler ≤ l.comes-index;
     }

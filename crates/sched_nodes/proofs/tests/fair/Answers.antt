@@ -14,7 +14,7 @@ new-requires-clause-catch_all c = ([] ∷ [], ap (map (λ (k : Class). k.conditi
 
 pub new-requires-clause-accepted : goal.new-requires-clause-accepted
 new-requires-clause-accepted c =
-    subst (λ (t : Numbered). IsAccepted (resolved t c.in_ok-stations.stations c.args.programs c.in_ok-classes.classes).policy) (sym c.in_ok-tree.ensures)
-    (subst (λ (ss : List Station). IsAccepted (resolved tree ss c.args.programs c.in_ok-classes.classes).policy) (sym c.in_ok-stations.ensures)
-    (subst (λ (ps : List Program). IsAccepted (resolved tree stations ps c.in_ok-classes.classes).policy) (sym c.requires)
-    (subst (λ (cs : List Class). IsAccepted (resolved tree stations one_program cs).policy) (sym c.in_ok-classes.ensures) fair-accepted)))
+    subst (λ (t : Numbered). IsAccepted (resolved 1 t c.in_ok-stations.stations c.args.programs c.in_ok-classes.classes).policy) (sym c.in_ok-tree.ensures)
+    (subst (λ (ss : List Station). IsAccepted (resolved 1 tree ss c.args.programs c.in_ok-classes.classes).policy) (sym c.in_ok-stations.ensures)
+    (subst (λ (ps : List Program). IsAccepted (resolved 1 tree stations ps c.in_ok-classes.classes).policy) (sym c.requires)
+    (subst (λ (cs : List Class). IsAccepted (resolved 1 tree stations one_program cs).policy) (sym c.in_ok-classes.ensures) fair-accepted)))

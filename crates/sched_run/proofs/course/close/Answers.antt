@@ -5,20 +5,20 @@ use Rattle.report_defs.specs.Text.{IsCut}
 use Rattle.report_core.specs.Gathered.{text_of}
 use Rattle.outside_core.proofs.KeptLaws.{sink-then}
 use Rattle.report_core.proofs.TextLaws.{IsCut-append}
-use Rattle.sched_defs.specs.Report.{last_line}
+use Rattle.sched_run.specs.Totals.{totals_line}
 use Rattle.sched_run.proofs.StepLaws.{if_ok_turned, on_err_turned}
 use Rattle.sched_run.proofs.course.close.Goals as goal
 
 pub returns-clause-ok : goal.returns-clause-ok
 returns-clause-ok g c =
     let text = text_of (g.K.Sink.written c.args.sink.now) c.args.report.now in
-    if_ok_turned c.finish.result _ _ (λ _ whole. subst (Appended text (g.K.Sink.written c.finish.new.sink)) (append-nil (last_line c.args.pushed c.args.popped c.args.empty c.args.held c.args.ending))
+    if_ok_turned c.finish.result _ _ (λ _ whole. subst (Appended text (g.K.Sink.written c.finish.new.sink)) (append-nil (totals_line c.args.totals c.args.ending))
     (appended_in_turn text _ (g.K.Sink.written c.finish.new.sink) _ [] c.in_ok-last.ensures.ok whole)) c.finish.ensures.whole
 
 pub returns-clause-cut : goal.returns-clause-cut
 returns-clause-cut g c =
     let text = text_of (g.K.Sink.written c.args.sink.now) c.args.report.now in
-    on_err_turned c.finish.result _ _ (λ cut. subst (λ (l : List ℕ). IsCut text l (g.K.Sink.written c.finish.new.sink)) (append-nil (last_line c.args.pushed c.args.popped c.args.empty c.args.held c.args.ending))
+    on_err_turned c.finish.result _ _ (λ cut. subst (λ (l : List ℕ). IsCut text l (g.K.Sink.written c.finish.new.sink)) (append-nil (totals_line c.args.totals c.args.ending))
     (IsCut-append text _ (g.K.Sink.written c.finish.new.sink) _ [] c.in_ok-last.ensures.ok cut)) c.finish.ensures.cut
 
 pub returns-clause-kept : goal.returns-clause-kept

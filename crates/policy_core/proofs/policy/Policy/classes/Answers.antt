@@ -12,7 +12,7 @@ use Rattle.policy_core.proofs.policy.Policy.classes.Goals as goal
 pub returns-clause-leaves : goal.returns-clause-leaves
 returns-clause-leaves c =
     subst (λ (cs : List Class). AllByRecursion (λ x. x.leaf < nodes c.args.self.now.policy.tree) cs) (sym c.as_slice.ensures)
-    (leaves-there _ _ _ _ c.args.self.now c.self.view_is c.self.invariant)
+    (leaves-there _ _ _ _ _ c.args.self.now c.self.view_is c.self.invariant)
 
 pub returns-clause-few : goal.returns-clause-few
 returns-clause-few c = subst (λ (cs : List Class). length cs ≤ most_classes) (sym c.as_slice.ensures) c.self.invariant.few

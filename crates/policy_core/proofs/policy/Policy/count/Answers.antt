@@ -4,6 +4,6 @@ use Rattle.policy_core.proofs.policy.Policy.count.Goals as goal
 
 pub returns : goal.returns
 returns c = record {
-  count = c.count.ensures.count ∙ count-is _ _ _ _ c.args.self.now c.self.view_is c.self.invariant;
+  count = c.count.ensures.count ∙ count-is _ _ _ _ _ c.args.self.now c.self.view_is c.self.invariant;
   limit = omega (arith, c.count.ensures.count, c.self.invariant.few_nodes);
 }

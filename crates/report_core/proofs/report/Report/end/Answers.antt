@@ -7,7 +7,7 @@ pub returns-clause-cut : goal.returns-clause-cut
 returns-clause-cut g c =
     let k = g.K.Sink in
     let a = c.args in
-    let line = end_line a.pushed a.popped a.empty a.held a.unsent in
+    let line = end_line a.pushed a.popped a.empty a.held a.unsent a.dropped in
     let cut = rw c.put_end.ensures.text at c.settle-sent.ensures.cut in
     let whole = line_cut (k.written a.sink.now) (k.written c.settle-sent.new.sink) a.self.now.unwritten line in
     rw c.noted.ensures.same (on_err_weaker c.settle-sent.result whole (rw (← c.self.view_is) cut))

@@ -39,7 +39,7 @@ returns-in-None-clause-state c = λ s sound stood.
     rw nothing record {
       own = c.find_none.ensures.state s stood.own;
       tree = stood.tree ∙ ap (λ g. g.tree) (sym c.in-None.ensures.unchanged);
-      pushes = c.pop.ensures.pushes ∙ stood.pushes ∙ sym c.find_none.ensures.arrivals;
+      pushes = c.pop.ensures.pushes ∙ stood.pushes ∙ sym c.find_none.ensures.pushes;
     }
 
 pub returns-in-None-clause-value : goal.returns-in-None-clause-value

@@ -27,6 +27,6 @@ returns-clause-stands g c = record {
   lifted = subst (λ (m : Tree Address). IsLift (empty_tree (topology_of c.args.policy.now.policy.tree)) (image_map m) (g.F.Fabric.queues c.configure.new.self)) (sym c.in_ok-embedding.ensures.images)
       (empty-lifted (topology_of c.args.policy.now.policy.tree) c.args.map (length c.args.target.now.arities) (g.F.Fabric.queues c.configure.new.self) c.requires.map_shape
       (good_map c.args.target.now.arities (topology_of c.args.policy.now.policy.tree) c.args.map c.requires.map_shape c.requires.embedding) c.in_ok-configure.ensures.emptied);
-  pushes = omega (arith, c.pushes.ensures, c.in_ok-own.ensures.arrivals);
+  pushes = omega (arith, c.pushes.ensures, c.in_ok-own.ensures.pushes);
   pops = omega (arith, c.pops.ensures, c.in_ok-own.ensures.departures);
 }

@@ -1,4 +1,4 @@
-use Rattle.std.proofs.Common.{◌≡◌, ◌+◌, ℕ, Option, List, length, sym, ap, ◌∙◌, subst, arith}
+use Rattle.std.proofs.Common.{◌≡◌, ◌+◌, false, ℕ, Option, List, length, sym, ap, ◌∙◌, subst, arith}
 use Rattle.tree_defs.specs.Tree.{Tree, Address, LeadsToLeaf}
 use Rattle.tree_defs.specs.SourceTree.{SourceTree, push}
 use Rattle.fabric_defs.specs.Family.{AreRanks}
@@ -6,7 +6,7 @@ use Rattle.embed_defs.specs.Images.{image_map}
 use Rattle.embed_lift_defs.specs.Lift.{IsLift}
 use Rattle.embed_lift_defs.specs.Spilling.{push_spills}
 use Rattle.policy_defs.specs.Policy.{Policy}
-use Rattle.sched_defs.specs.SourceState.{class_of, arrival_ranks}
+use Rattle.sched_defs.specs.SourceState.{class_of, arrival_ranks, is_full}
 use Rattle.sched_defs.proofs.Leaving.{arrives_at_a_leaf}
 use Rattle.sched_core.specs.Own.{policy_in}
 use Rattle.sched_core.specs.Spills.{raised}
@@ -62,12 +62,13 @@ returns-clause-ok g c = λ s sound stood.
     let lifted : IsLift (push s.tree c.admit.new.trace.digits c.admit.new.trace.ranks number) (image_map l.images) after = (c.push.ensures.lift s.tree held).lifted in
     let pushed : push s.tree c.admit.new.trace.digits c.admit.new.trace.ranks number ≡ push s.tree (class_of policy c.args.packet.now).leaf (arrival_ranks policy c.args.packet.now s) number
     = ap (λ (z : List ℕ). push s.tree z c.admit.new.trace.ranks number) digits ∙ ap (λ (z : List ℕ). push s.tree (class_of policy c.args.packet.now).leaf z number) ranks in
-    record {
+    let free : is_full policy c.args.packet.now s ≡ false = sym (c.is_full.ensures.full s sound stood.own) ∙ c.if-is_full.false in
+    rw free record {
       own = c.in_ok-leaf.ensures.ok s sound stood.own;
       shape = c.push.ensures.shape ∙ c.reserve.ensures.shape ∙ stood.shape ∙ ap (λ (z : Laid). z.arities) (sym c.push.ensures.embedding);
       lifted = subst (λ (z : Laid). IsLift (push s.tree (class_of policy c.args.packet.now).leaf (arrival_ranks policy c.args.packet.now s) number) (image_map z.images) after) (sym c.push.ensures.embedding)
           (subst (λ (t : SourceTree). IsLift t (image_map l.images) after) pushed lifted);
-      pushes = omega (arith, c.push.ensures.pushed, c.reserve.ensures.pushed, stood.pushes, c.in_ok-leaf.ensures.arrivals);
+      pushes = omega (arith, c.push.ensures.pushed, c.reserve.ensures.pushed, stood.pushes, c.in_ok-leaf.ensures.pushes);
       pops = omega (arith, c.push.ensures.popped, c.reserve.ensures.popped, stood.pops, c.in_ok-leaf.ensures.departures);
     }
 
@@ -80,7 +81,9 @@ returns-clause-spilled g c = λ s sound stood.
     let held : HoldsLift l (g.F.Fabric.queues c.reserve.new.self) s.tree
     = sound-holds policy s l (g.F.Fabric.queues c.reserve.new.self) sound c.args.self.now.shape
     (lift-same s.tree (image_map l.images) (g.F.Fabric.queues c.args.under.now) (g.F.Fabric.queues c.reserve.new.self) c.reserve.ensures.queues stood.lifted) in
+    let free : is_full policy c.args.packet.now s ≡ false = sym (c.is_full.ensures.full s sound stood.own) ∙ c.if-is_full.false in
+    rw free (
     c.push.ensures.spilled s.tree held
     ∙ ap (λ (t : Option ℕ). raised t (push_spills l.images s.tree c.admit.new.trace.digits c.admit.new.trace.ranks)) c.reserve.ensures.spilled
     ∙ ap (λ (z : List ℕ). raised (g.F.Fabric.spilled c.args.under.now) (push_spills l.images s.tree z c.admit.new.trace.ranks)) digits
-    ∙ ap (λ (z : List ℕ). raised (g.F.Fabric.spilled c.args.under.now) (push_spills l.images s.tree (class_of policy c.args.packet.now).leaf z)) ranks
+    ∙ ap (λ (z : List ℕ). raised (g.F.Fabric.spilled c.args.under.now) (push_spills l.images s.tree (class_of policy c.args.packet.now).leaf z)) ranks)

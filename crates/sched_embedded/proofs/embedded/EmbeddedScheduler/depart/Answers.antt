@@ -47,7 +47,7 @@ returns-in-None-clause-state g c = λ s sound stood.
       shape = c.pop.ensures.shape ∙ stood.shape ∙ ap (λ (z : Laid). z.arities) (sym c.pop.ensures.embedding);
       lifted = subst (λ (z : Laid). IsLift s.tree (image_map z.images) after) (sym c.pop.ensures.embedding)
           (lift-same s.tree (image_map l.images) (g.F.Fabric.queues c.args.under.now) after c.in-None.ensures.stay stood.lifted);
-      pushes = omega (arith, c.pop.ensures.pushed, stood.pushes, c.find_none.ensures.arrivals);
+      pushes = omega (arith, c.pop.ensures.pushed, stood.pushes, c.find_none.ensures.pushes);
       pops = omega (arith, c.pop.ensures.popped, stood.pops, c.find_none.ensures.departures);
     }
 
@@ -83,7 +83,7 @@ returns-in-Some-clause-state g c = λ s sound stood.
       shape = c.pop.ensures.shape ∙ stood.shape ∙ ap (λ (z : Laid). z.arities) (sym c.pop.ensures.embedding);
       lifted = subst (λ (z : Laid). IsLift (departed policy s).tree (image_map z.images) after) (sym c.pop.ensures.embedding)
           (subst (λ (t : SourceTree). IsLift t (image_map l.images) after) (sym (departed-tree policy s sound l c.in-Some.number c.pop.new.trace after p)) p.lift.lifted);
-      pushes = omega (arith, c.pop.ensures.pushed, stood.pushes, c.release.ensures.arrivals);
+      pushes = omega (arith, c.pop.ensures.pushed, stood.pushes, c.release.ensures.pushes);
       pops = omega (arith, c.pop.ensures.popped, stood.pops, c.release.ensures.departures);
     }
 

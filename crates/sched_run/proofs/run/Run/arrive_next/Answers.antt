@@ -6,9 +6,9 @@ use Rattle.sched_run.proofs.MadeEvents.{makes_none, stops_here}
 use Rattle.sched_run.proofs.PacketsInTurn.{none_first, one_first}
 use Rattle.sched_run.proofs.run.Run.arrive_next.Goals as goal
 
-pub returns-in_err-arrive_line-in-Ok-Some-clause-err :
-    goal.returns-in_err-arrive_line-in-Ok-Some-clause-err
-returns-in_err-arrive_line-in-Ok-Some-clause-err g c =
+pub returns-in_err-arrival-in-Ok-Some-clause-err :
+    goal.returns-in_err-arrival-in-Ok-Some-clause-err
+returns-in_err-arrival-in-Ok-Some-clause-err g c =
     let p = err_from_is_err_and c.from_residual.result c.from_residual.ensures.1 in
     rw (p.1) (record {
       packets = c.in-Ok-Some.packet ∷ [];
@@ -19,7 +19,7 @@ returns-in_err-arrive_line-in-Ok-Some-clause-err g c =
           numbered = (rw c.in-Ok-Some.field-0-is at c.in-Ok-Some.ensures.number, tt);
           sendable = (subst (λ (q : Policy). IsSendable q c.in-Ok-Some.packet) c.requires.packets (rw c.in-Ok-Some.field-0-is at c.in-Ok-Some.ensures.sendable), tt);
         };
-        stopped = λ s sound stood below. rw c.event-event.ensures at (c.in_err-arrive_line-in-Ok-Some.ensures.err s sound stood);
+        stopped = λ s sound stood below. rw c.event-event.ensures at (c.in_err-arrival-in-Ok-Some.ensures.err s sound stood);
       };
     })
 

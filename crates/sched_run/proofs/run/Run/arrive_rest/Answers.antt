@@ -3,7 +3,7 @@ use Rattle.std.proofs.lemmas.Result.{err_from_is_err_and}
 use Rattle.outside_core.proofs.KeptLaws.{sink-same, sink-then}
 use Rattle.sched_run.proofs.FrameLaws.{continues_then, keeps_then}
 use Rattle.sched_defs.specs.Events.{Arrive}
-use Rattle.sched_defs.proofs.Runs.{arrivals_in-arrivals, departures_in-arrivals}
+use Rattle.sched_run.proofs.EventCounts.{arrivals_in-arrivals, departures_in-arrivals}
 use Rattle.sched_run.proofs.PacketsInTurn.{fewer_left, one_after, room_after, arrives_none, arrives_more, arrives_end, arrivals_stop}
 use Rattle.sched_run.proofs.StepLaws.{rest_done, rest_stops}
 use Rattle.sched_run.proofs.run.Run.arrive_rest.Goals as goal
@@ -12,7 +12,7 @@ pub loop-ending-init : goal.loop-ending-init
 loop-ending-init g c = record {
   arrives = (0, arrives_none g.C.Scheduler (g.C.Scheduler.policy c.args.self.now.scheduler) _ _ _ _ _ _);
   further = record { ready = c.requires.ready; given = refl; few = c.requires.counts.few };
-  kept = record { policy = refl; origin = refl; names = refl; room = refl };
+  kept = record { policy = refl; origin = refl; names = refl; version = refl; room = refl };
   kept_sink = sink-same _ _ _;
   kept_packets = record { policy = refl; later = omega arith };
   live = c.requires.set.live;
@@ -70,4 +70,4 @@ loop-ending-smaller g c =
     let e = c.in_ok-ending.ensures in
     let one = rw c.in_default.is at e.ok in
     fewer_left (g.P.Packets.given c.arrive_next.new.packets) (g.P.Packets.given c.loop-ending.packets)
-    (omega (arith, (rw c.in_default.is at e.further).given, one.made.pushed, one.count, arrivals_in-arrivals one.packets)) ((rw c.in_default.is at e.further).few)
+    (omega (arith, (rw c.in_default.is at e.further).given, one.made.came, one.count, arrivals_in-arrivals one.packets)) ((rw c.in_default.is at e.further).few)

@@ -3,7 +3,7 @@ use Rattle.std.proofs.lemmas.Result.{err_from_is_err_and}
 use Rattle.outside_core.proofs.KeptLaws.{sink-same, sink-then}
 use Rattle.sched_run.proofs.FrameLaws.{continues_then, keeps_then}
 use Rattle.sched_defs.specs.Events.{Arrive}
-use Rattle.sched_defs.proofs.Runs.{departures_in-arrivals}
+use Rattle.sched_run.proofs.EventCounts.{departures_in-arrivals}
 use Rattle.sched_run.proofs.PacketsInTurn.{some_is, none_is, one_after, room_after, arrives_none, arrives_more, arrives_end, arrivals_stop}
 use Rattle.sched_run.proofs.run.Run.arrive_some.Goals as goal
 
@@ -11,7 +11,7 @@ pub loop-sent-init : goal.loop-sent-init
 loop-sent-init g c = record {
   arrives = arrives_none g.C.Scheduler (g.C.Scheduler.policy c.args.self.now.scheduler) _ _ _ _ _ _;
   further = record { ready = c.requires.ready; given = refl; few = c.requires.counts.few };
-  kept = record { policy = refl; origin = refl; names = refl; room = refl };
+  kept = record { policy = refl; origin = refl; names = refl; version = refl; room = refl };
   kept_sink = sink-same _ _ _;
   kept_packets = record { policy = refl; later = omega arith };
   live = c.requires.set.live;

@@ -1,4 +1,4 @@
-use Rattle.std.proofs.Common.{◌≡◌, IsTrue, replicate}
+use Rattle.std.proofs.Common.{◌≡◌, None, IsTrue, replicate}
 use Rattle.outside_core.specs.Kept.{KeepsSink}
 use Rattle.report_core.specs.Gathered.{text_of}
 use Rattle.sched_defs.specs.Events.{Depart}
@@ -11,7 +11,7 @@ abbrev pub invariant-loop-done : goal.invariant-loop-done
 invariant-loop-done g l =
     let scheduler = g.C.Scheduler in
     record {
-      played : ForEachState scheduler.stands (scheduler.policy l.fn.self.scheduler) l.fn.self.scheduler l.fn.under (λ s. Plays scheduler (scheduler.policy l.fn.self.scheduler) l.event (replicate l.done Depart) s l.fn.self.scheduler l.fn.under l.self.scheduler l.under (text_of (g.K.Sink.written l.fn.sink) l.fn.self.report) (text_of (g.K.Sink.written l.sink) l.self.report));
+      played : ForEachState scheduler.stands (scheduler.policy l.fn.self.scheduler) l.fn.self.scheduler l.fn.under (λ s. Plays scheduler (scheduler.policy l.fn.self.scheduler) l.event (replicate l.done (Depart None)) s l.fn.self.scheduler l.fn.under l.self.scheduler l.under (text_of (g.K.Sink.written l.fn.sink) l.fn.self.report) (text_of (g.K.Sink.written l.sink) l.self.report));
       kept : Continues scheduler l.fn.self l.self;
       kept_sink : KeepsSink g.K.Sink.written g.K.Sink.faults l.fn.sink l.sink;
       live : IsTrue l.self.report.live;

@@ -7,7 +7,7 @@ use Rattle.sched_run.proofs.run.Run.depart_some.Goals as goal
 pub returns-clause-ok : goal.returns-clause-ok
 returns-clause-ok g c given =
     let same = c.in_ok-depart_lines.ensures.tally in
-    makes_departures g.C.Scheduler (g.C.Scheduler.policy c.args.self.now.scheduler) c.args.count _ _ (ap (λ (t : Tally). t.pushed) same) (ap (λ (t : Tally). t.asked + c.args.count) same) (rw c.event-event.ensures at c.in_ok-depart_lines.ensures.ok)
+    makes_departures g.C.Scheduler (g.C.Scheduler.policy c.args.self.now.scheduler) c.args.count _ _ (ap (λ (t : Tally). t.came) same) (ap (λ (t : Tally). t.dropped) same) (ap (λ (t : Tally). t.asked + c.args.count) same) (rw c.event-event.ensures at c.in_ok-depart_lines.ensures.ok)
 
 pub returns-in_err-depart_lines-clause-err : goal.returns-in_err-depart_lines-clause-err
 returns-in_err-depart_lines-clause-err g c =

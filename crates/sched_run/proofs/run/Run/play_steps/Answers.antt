@@ -12,7 +12,7 @@ pub loop-step-init : goal.loop-step-init
 loop-step-init g c = record {
   run = run_none g.C.Scheduler (g.C.Scheduler.policy c.args.self.now.scheduler) _ _ _ _ _ _ _;
   further = record { ready = c.requires.ready; given = refl; few = c.requires.counts.few };
-  kept = record { policy = refl; origin = refl; names = refl; room = refl };
+  kept = record { policy = refl; origin = refl; names = refl; version = refl; room = refl };
   kept_sink = sink-same _ _ _;
   kept_packets = record { policy = refl; later = omega arith };
   live = c.requires.set.live;
@@ -22,13 +22,13 @@ pub play_step-requires-clause-stands : goal.play_step-requires-clause-stands
 play_step-requires-clause-stands g c =
     let S = g.C.Scheduler in
     let i = c.loop-step.invariant in
-    rw i.kept.policy (run_ready S (S.policy c.args.self.now.scheduler) c.requires.set.accepted c.args.steps.now _ _ _ _ _ i.further.given i.further.few c.requires.none_pushed c.requires.none_asked c.requires.short c.requires.stands i.run)
+    rw i.kept.policy (run_ready S (S.policy c.args.self.now.scheduler) c.requires.set.accepted c.args.steps.now _ _ _ _ _ i.further.given i.further.few c.requires.fresh c.requires.short c.requires.stands i.run)
 
 pub play_step-requires-clause-counts : goal.play_step-requires-clause-counts
 play_step-requires-clause-counts g c =
     let S = g.C.Scheduler in
     let i = c.loop-step.invariant in
-    run_room S (S.policy c.args.self.now.scheduler) c.requires.set.accepted c.args.steps.now _ _ _ _ _ i.further.given i.further.few c.requires.none_pushed c.requires.none_asked c.requires.short c.requires.stands i.run c.requires.counts
+    run_room S (S.policy c.args.self.now.scheduler) c.requires.set.accepted c.args.steps.now _ _ _ _ _ i.further.given i.further.few c.requires.fresh c.requires.short c.requires.stands i.run c.requires.counts
 
 pub returns-in_err-ending-clause-err : goal.returns-in_err-ending-clause-err
 returns-in_err-ending-clause-err g c =
