@@ -1,15 +1,18 @@
 -- One event after another, made by a scheduler of which a state is known that it stands for.
-use Rattle.std.proofs.Common.{◌≡◌, ◌<◌, ◌≤◌, ◌+◌, ℕ, None, length, sym, subst}
+use Rattle.std.proofs.Common.{◌≡◌, ◌<◌, ◌≤◌, ◌+◌, ℕ, Bool, false, if◌then◌else◌, None, Ok, length, sym, ap, ◌∙◌, subst}
 use Rattle.packet_defs.specs.declared.packet.Packet.{Packet}
 use Rattle.policy_defs.specs.Policy.{Policy}
 use Rattle.policy_defs.specs.Accepted.{IsAccepted}
 use Rattle.rank_defs.specs.Programs.{max_rank}
 use Rattle.rank_defs.specs.Shapes.{max_len}
-use Rattle.sched_defs.specs.SourceState.{SourceState, start, arrived, departed}
+use Rattle.sched_defs.specs.SourceState.{SourceState, start, is_full, arrived, departed}
 use Rattle.sched_defs.specs.Events.{CanArrive}
 use Rattle.sched_defs.specs.Numbered.{IsHeldBelow, IsSendable}
 use Rattle.sched_defs.proofs.Soundness.{sound_start, sound_arrived, sound_departed}
 use Rattle.sched_defs.proofs.Courses.{held_none, held_arrived, held_departed}
+use Rattle.sched_core.specs.declared.scheduler.Arrival.{Arrival}
+use Rattle.sched_core.specs.declared.scheduler.Arrival.TheVariants.{Pushed, Dropped}
+use Rattle.sched_core.specs.Arrivals.{leaf_number, arrival_of, pushes_of}
 use Rattle.sched_core.specs.Standing.{StandForOne, ForEachState}
 
 -- no packet is held under this number or a later one
@@ -66,3 +69,7 @@ module _ {C U : Type 0} (stands : C → U → SourceState → Type 0) (own polic
 
     pub left_below : ForEachState stands own c u (λ s. stands c' u' (departed own s)) → (n : ℕ) → StandForOne stands policy c u (HoldsBelow n) → StandForOne stands policy c' u' (HoldsBelow n)
     left_below each n = left (HoldsBelow n) (λ s below. held_departed policy s n below) each
+
+-- an arrival at a leaf that isn't full is a push
+pub one_push : (policy : Policy) (p : Packet) (s : SourceState) (a : Arrival) → a ≡ arrival_of policy p s → is_full policy p s ≡ false → pushes_of (Ok a) ≡ 1
+one_push policy p s a e free = ap (λ (x : Arrival). pushes_of (Ok x)) (e ∙ ap (λ (t : Bool). if t then Dropped (leaf_number policy p) else Pushed (leaf_number policy p)) free)

@@ -73,6 +73,14 @@ root_first (inner n ts) = refl
 pub at_root : (tree : Tree Node) (P : Node → Type 0) → IsSomeAnd (node_at tree (address_at tree 0)) P → IsSomeAnd (node_at tree []) P
 at_root tree P some = subst (λ (a : Address). IsSomeAnd (node_at tree a) P) (root_first tree) some
 
+-- the root has no limit where none is told of the node of number 0
+pub unlimited_root : (tree : Tree Node) (x : Option ℕ) → IsSomeAnd (node_at tree (address_at tree 0)) (λ n. x ≡ n.limit) → x ≡ None → IsSomeAnd (node_at tree []) (λ n. n.limit ≡ None)
+unlimited_root tree x some none_of = by_node (node_at tree []) (at_root tree (λ n. x ≡ n.limit) some)
+  where
+    by_node : (o : Option Node) → IsSomeAnd o (λ n. x ≡ n.limit) → IsSomeAnd o (λ n. n.limit ≡ None)
+    by_node None s = absurd s
+    by_node (Some n) e = sym e ∙ none_of
+
 -- the root's transaction is known by that of the node of number 0
 pub of_root : (tree : Tree Node) (p : Program) (spans : Program → List Span) → IsSomeAnd (node_at tree (address_at tree 0)) (λ n. p ≡ n.program) → spans p ≡ [] → IsSomeAnd (node_at tree []) (λ n. spans n.program ≡ [])
 of_root tree p spans some none_of = by_node (node_at tree []) (at_root tree (λ n. p ≡ n.program) some)

@@ -1,5 +1,5 @@
 //! Schedulers over fabrics, call by call.
-ghost use Rattle.std.specs.Prelude.{◌≡◌, ◌≤◌, ◌<◌, ◌+◌, ◌^◌, [], ◌∷◌, length, ℕ, false, None, IfOk, IsSomeAnd, IsTrue, OnOk};
+ghost use Rattle.std.specs.Prelude.{◌≡◌, ◌≤◌, ◌<◌, ◌+◌, ◌^◌, [], ◌∷◌, length, ℕ, false, None, IfOk, IsSomeAnd, IsFalse, IsTrue, OnOk};
 ghost use Rattle.tree_defs.specs.Tree.{depth};
 ghost use Rattle.tree_defs.specs.Topology.{topology_of};
 ghost use Rattle.target_defs.specs.Target.{IsInRange};
@@ -163,6 +163,14 @@ fn is_in_range(policy: &Policy, class: u32, len: u32, moment: u64) -> bool
     (class as usize) < policy.classes().len() && moment <= MAX_RANK
 }
 
+/// The number of the leaf, if the packet was pushed there.
+fn pushed_at(arrival: Arrival) -> Option<u32> {
+    match arrival {
+        Arrival::Pushed(leaf) => Some(leaf),
+        Arrival::Dropped(_) => None,
+    }
+}
+
 /// The packet of the next number comes, if it can be sent. The answer is the number of its leaf, if it isn't dropped there.
 fn come<C: Scheduler>(
     policy: &Policy,
@@ -193,10 +201,7 @@ fn come<C: Scheduler>(
     if number != next || !is_in_range(policy, class, len, moment) {
         return Ok(None);
     }
-    Ok(match scheduler.arrive(under, &packet, trace)? {
-        Arrival::Pushed(leaf) => Some(leaf),
-        Arrival::Dropped(_) => None,
-    })
+    Ok(pushed_at(scheduler.arrive(under, &packet, trace)?))
 }
 
 /// The next packet leaves.
@@ -370,6 +375,13 @@ fn fill<'a, F: Fabric>(
     Ok((scheduler, ranks))
 }
 
+/// Whether the root is a leaf with a limit.
+fn is_root_limited(policy: &Policy) -> bool
+    ensures limit { IsFalse result → IsSomeAnd (node_at policy.now.policy.tree []) (λ n. n.limit ≡ None) }
+{
+    policy.limit(0).is_some()
+}
+
 /// Whether a policy is a single leaf without variables and without a limit.
 fn is_plain_leaf(policy: &Policy) -> bool
     ensures leaf { IsTrue result → depth policy.now.policy.tree ≡ 0 }
@@ -379,7 +391,7 @@ fn is_plain_leaf(policy: &Policy) -> bool
     ensures accepted { IsAccepted policy.now.policy }
 {
     let transaction = policy.checked(0).transaction();
-    if policy.depth() > 0 || policy.limit(0).is_some() || !transaction.keeps.is_empty() {
+    if policy.depth() > 0 || !transaction.keeps.is_empty() || is_root_limited(policy) {
         return false;
     }
     transaction.eaches.is_empty()

@@ -1,8 +1,8 @@
-use Rattle.std.proofs.Common.{◌∙◌}
+use Rattle.std.proofs.Common.{◌∙◌, arith}
 use Rattle.sched_defs.specs.SourceState.{start, arrived}
 use Rattle.sched_defs.specs.Events.{CanArrive}
 use Rattle.sched_defs.proofs.Soundness.{sound_start, sound_arrived}
-use Rattle.sched_capture.proofs.EventTurns.{asked, stands_arrived}
+use Rattle.sched_capture.proofs.EventTurns.{asked, stands_arrived, one_push}
 use Rattle.sched_capture.proofs.fabric_tests.come_both.Goals as goal
 
 pub arrive-requires-clause-stands : goal.arrive-requires-clause-stands
@@ -33,3 +33,25 @@ returns-clause-stands g c =
     let next = sound_arrived policy c.args.first.now (start policy) r.accepted sound r.can.0 in
     stands_arrived g.C.Scheduler.stands _ policy (c.in_ok-arrive.ensures.policy ∙ r.policy) r.accepted _ _ _ _ c.args.second.now c.in_ok-arrive-2.ensures.ok _ next
     (stands_arrived g.C.Scheduler.stands _ policy r.policy r.accepted _ _ _ _ c.args.first.now c.in_ok-arrive.ensures.ok (start policy) sound r.stands)
+
+pub returns-clause-pushes : goal.returns-clause-pushes
+returns-clause-pushes g c =
+    let policy = c.args.policy.now.policy in
+    let S = g.C.Scheduler in
+    let r = c.requires in
+    let own = S.policy c.args.scheduler.now in
+    let first = c.args.first.now in
+    let second = c.args.second.now in
+    let sound = sound_start policy r.accepted in
+    let next = sound_arrived policy first (start policy) r.accepted sound r.can.0 in
+    let stood = stands_arrived S.stands _ policy r.policy r.accepted _ _ _ _ first c.in_ok-arrive.ensures.ok (start policy) sound r.stands in
+    let one = rw r.policy at c.in_ok-arrive.ensures.answer in
+    let two = rw (c.in_ok-arrive.ensures.policy, r.policy) at c.in_ok-arrive-2.ensures.answer in
+    omega (
+      arith,
+      r.no_pushes,
+      c.in_ok-arrive.ensures.pushes,
+      c.in_ok-arrive-2.ensures.pushes,
+      one_push policy first (start policy) _ (one (start policy) sound r.stands) (r.unlimited first (start policy)),
+      one_push policy second (arrived policy first (start policy)) _ (two (arrived policy first (start policy)) next stood) (r.unlimited second (arrived policy first (start policy))),
+    )

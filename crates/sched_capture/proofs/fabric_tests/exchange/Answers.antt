@@ -5,7 +5,7 @@ use Rattle.policy_defs.specs.Policy.{Policy}
 use Rattle.policy_defs.specs.Accepted.{IsAccepted}
 use Rattle.sched_defs.specs.Numbered.{IsSendable}
 use Rattle.embed_core.specs.Range.{levels_of}
-use Rattle.sched_capture.proofs.Exchanges.{IsPlain, AreAlike, both_come, plain_leaf, same_images, stands_exchanged}
+use Rattle.sched_capture.proofs.Exchanges.{IsPlain, AreAlike, both_come, never_full, plain_leaf, same_images, stands_exchanged}
 use Rattle.sched_capture.proofs.fabric_tests.exchange.Goals as goal
 
 abbrev no_flow : FlowKey
@@ -71,3 +71,17 @@ fill-requires-2-clause-can g c =
     let policy = c.args.policy.now.policy in
     let accepted = c.is_plain_leaf.ensures.accepted in
     both_come policy accepted late early (λ e. apart (sym e)) (late_sent policy accepted) (early_sent policy accepted)
+
+pub fill-requires-clause-unlimited : goal.fill-requires-clause-unlimited
+fill-requires-clause-unlimited g c =
+    let policy = c.args.policy.now.policy in
+    let leaf = c.is_plain_leaf.ensures in
+    let yes = c.if-not-is_plain_leaf.false in
+    never_full policy (plain_leaf policy leaf.accepted (leaf.leaf yes) (leaf.keeps yes) (leaf.eaches yes) (leaf.limit yes))
+
+pub fill-requires-2-clause-unlimited : goal.fill-requires-2-clause-unlimited
+fill-requires-2-clause-unlimited g c =
+    let policy = c.args.policy.now.policy in
+    let leaf = c.is_plain_leaf.ensures in
+    let yes = c.if-not-is_plain_leaf.false in
+    never_full policy (plain_leaf policy leaf.accepted (leaf.leaf yes) (leaf.keeps yes) (leaf.eaches yes) (leaf.limit yes))
