@@ -14,7 +14,7 @@ import runs
 
 STAND_IN = "/bin/echo"  # a program that needs the C library alone
 FAULTS = {"words": [0], "size": [1], "target": range(1, 5), "script": range(1, 5), "capture": range(1, 9),
-          "policy": [*range(1, 14), *range(21, 25)]}
+          "policy": [*range(1, 15), *range(21, 25)]}
 
 
 def loaded():
@@ -129,7 +129,7 @@ class Explain(unittest.TestCase):
                     self.assertGreater(len(written.splitlines()), 1)
 
     def test_no_other_is(self):
-        for kind, code in (("policy", 14), ("policy", "7 "), ("nothing", 1), ("capture", 0)):
+        for kind, code in (("policy", 15), ("policy", "7 "), ("nothing", 1), ("capture", 0)):
             self.assertEqual(run(runs.TOP / "tools/explain", kind, code)[:2], (2, ""))
         self.assertEqual(run(runs.TOP / "tools/explain", "policy")[:2], (2, ""))
 
