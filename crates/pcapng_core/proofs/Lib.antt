@@ -1,0 +1,15 @@
+pub mod Windows
+pub mod Takes
+pub mod OptionFronts
+pub mod OptionReads
+pub mod OptionSteps
+pub mod Starts
+pub mod Blocks
+pub mod Rooms
+pub mod Bodies
+pub mod Found
+pub mod FoundBlocks
+pub mod Behind
+pub mod Packets
+pub mod Moments
+pub mod Refusals

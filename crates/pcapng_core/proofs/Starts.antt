@@ -1,0 +1,50 @@
+-- What a block's first twelve bytes say, of all that is left.
+use Rattle.std.proofs.Common.{◌≡◌, ◌<◌, ◌≤◌, ℕ, Option, Some, None, List, ◌++◌, length, IfSome, sym, ap, ◌∙◌, subst, arith, length-append, ⊎_elim}
+use Rattle.std.specs.Prelude.{IsSomeAnd}
+use Rattle.std.proofs.lemmas.Bool.{cases_lt}
+use Rattle.pcap_defs.proofs.Numbers.{number_at-append}
+use Rattle.pcap_core.specs.Rest.{TakesFront, IsShort}
+use Rattle.pcapng_defs.specs.Fault.{BlockFault, code}
+use Rattle.pcapng_defs.specs.Block.{Carried, kind_of}
+use Rattle.pcapng_defs.specs.NgCapture.{front_of, broken, block_len}
+use Rattle.pcapng_defs.specs.FaultCauses.{IsBlockFault}
+use Rattle.pcapng_defs.proofs.FaultCauses.{reads_faults}
+use Rattle.pcapng_defs.proofs.LongerFronts.{order_at-longer, faults_stand}
+use Rattle.pcapng_core.specs.Blocks.{IsStart}
+use Rattle.pcapng_core.specs.declared.start.Start.{Start}
+
+-- more behind the bytes of a start changes nothing
+start-longer : (c : Carried) (s : Start) (bytes more : List ℕ) → IsStart c s bytes → IsStart c s (bytes ++ more)
+start-longer c s bytes more h = record {
+  few = h.few;
+  enough = omega (arith, h.enough, length-append bytes more);
+  order = order_at-longer c bytes more h.enough ∙ h.order;
+  kind = ap kind_of (number_at-append s.big 4 0 bytes more (omega (arith, h.enough))) ∙ h.kind;
+  total = number_at-append s.big 4 4 bytes more (omega (arith, h.enough)) ∙ h.total;
+  fits = h.fits;
+}
+
+-- what the first bytes say, where they were taken from what was left
+pub start-taken : (c : Carried) (s : Start) (bytes : List ℕ) (old new : Option (List ℕ)) → TakesFront old new bytes → IsStart c s bytes → IfSome old (λ left. IsStart c s left)
+start-taken c s bytes None new taken h = tt
+start-taken c s bytes (Some left) None taken h = absurd taken
+start-taken c s bytes (Some left) (Some rest) taken h = subst (λ xs. IsStart c s xs) (sym taken) (start-longer c s bytes rest h)
+
+-- a fault that the first bytes show: what is left has it
+start-broken : (c : Carried) (fault : BlockFault) (bytes : List ℕ) (old new : Option (List ℕ)) → TakesFront old new bytes → IsShort old bytes block_len → IsBlockFault c bytes fault
+    → (code fault ≡ 11 → length bytes < 12) → IfSome old (λ left. front_of c left ≡ broken fault)
+start-broken c fault bytes None new taken short h cut = tt
+start-broken c fault bytes (Some left) None taken short h cut = absurd taken
+start-broken c fault bytes (Some left) (Some rest) taken short h cut =
+    let broke : front_of c bytes ≡ broken fault = (reads_faults.faults c bytes fault).0 h in
+    ⊎_elim
+    (λ (few : length bytes < block_len). ap (front_of c) (short few) ∙ broke)
+    (λ (many : block_len ≤ length bytes). ap (front_of c) taken ∙ faults_stand c fault bytes rest broke (λ e. omega (arith, many, cut (ap code e))))
+    (cases_lt (length bytes) block_len)
+
+-- where a refusal names a fault, what is left has it
+pub starts-broken : (c : Carried) (o : Option BlockFault) (front bytes : List ℕ) (old new : Option (List ℕ)) → TakesFront old new front → IsShort old front block_len → bytes ≡ front
+    → IsSomeAnd o (IsBlockFault c bytes) → IfSome o (λ fault. code fault ≡ 11 → length bytes < 12) → IfSome o (λ fault. IfSome old (λ left. front_of c left ≡ broken fault))
+starts-broken c None front bytes old new taken short same h cut = tt
+starts-broken c (Some fault) front bytes old new taken short same h cut =
+    start-broken c fault bytes old new (subst (λ xs. TakesFront old new xs) (sym same) taken) (subst (λ xs. IsShort old xs block_len) (sym same) short) h cut

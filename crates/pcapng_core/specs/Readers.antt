@@ -1,0 +1,79 @@
+-- What a reader of pcapng captures stands for.
+use Rattle.std.specs.Prelude.{◌≡◌, ◌≤◌, ℕ, Bool, true, Option, Some, None, List, [], ⊤}
+use Rattle.rank_defs.specs.Programs.{max_rank}
+use Rattle.pcap_defs.specs.Record.{most_captured}
+use Rattle.pcapng_core.specs.declared.reader.Block.{Block}
+use Rattle.pcapng_core.specs.declared.reader.Block.TheVariants as block
+use Rattle.pcap_core.specs.Rest.{rest_of}
+use Rattle.pcapng_defs.specs.Fault.{BlockFault}
+use Rattle.pcapng_defs.specs.Packet.{CapturedPacket}
+use Rattle.pcapng_defs.specs.Block.{Carried, at_start}
+use Rattle.pcapng_defs.specs.NgCapture.{front_of, found, reading_of, behind}
+use Rattle.pcapng_core.specs.Held.{held}
+use Rattle.pcapng_core.specs.Bodies.{packet_told}
+use Rattle.pcapng_core.specs.Carries.{carried_of}
+use Rattle.pcapng_core.specs.declared.body.Packet.{Packet}
+use Rattle.pcapng_core.specs.declared.frame.NgFrame.{NgFrame}
+use Rattle.pcapng_core.specs.declared.reader.NgReader.{NgReader}
+
+-- what it carries from block to block
+abbrev pub carry_of : NgReader → Carried
+carry_of reader = carried_of reader.carry
+
+-- how many packets it has handed out
+abbrev pub packets_given : NgReader → ℕ
+packets_given reader = reader.packets
+
+-- the bytes that were read and aren't used up
+abbrev pub bytes_held : NgReader → List ℕ
+bytes_held reader = held reader.window
+
+-- no call was refused
+abbrev pub is_live : NgReader → Bool
+is_live reader = reader.live
+
+-- what is left of the capture, where the shelf tells what is left of the file
+abbrev pub rest_left : NgReader → Option (List ℕ) → Option (List ℕ)
+rest_left reader left = rest_of (bytes_held reader) left
+
+-- nothing was read
+pub record IsNew (reader : NgReader) : Type 0 where
+  pub before : carry_of reader ≡ at_start
+  pub none_given : packets_given reader ≡ 0
+  pub none_held : bytes_held reader ≡ []
+  pub live : is_live reader ≡ true
+
+-- the packet that a frame and its captured bytes tell
+abbrev pub packet_of : NgFrame → List ℕ → CapturedPacket
+packet_of f captured = record { link = f.link; moment = f.frame.moment; original = f.frame.len; captured = captured }
+
+-- the packet of a block, with its captured bytes, if it is one
+abbrev pub block_packet : Block → List ℕ → Option CapturedPacket
+block_packet (block.Packet p) captured = Some (packet_told p captured)
+block_packet _ captured = None
+
+-- a packet has so many captured bytes, not more than it may, and no greater moment than the greatest
+abbrev pub IsBoundedBlock : Block → ℕ → Type 0
+IsBoundedBlock (block.Packet p) n = (p.moment ≤ max_rank) × (p.captured ≤ most_captured) × (p.captured ≡ n)
+IsBoundedBlock _ n = ⊤
+
+-- the same of a packet alone
+abbrev pub IsBoundedPacket : Packet → ℕ → Type 0
+IsBoundedPacket p n = (p.moment ≤ max_rank) × (p.captured ≤ most_captured) × (p.captured ≡ n)
+
+-- what was left is a block that gives this, and what is left now
+abbrev pub TakesBlock : Carried → Option CapturedPacket → Carried → Option (List ℕ) → Option (List ℕ) → Type 0
+TakesBlock c packet after None new = ⊤
+TakesBlock c packet after (Some old) None = ⊥
+TakesBlock c packet after (Some old) (Some new) = front_of c old ≡ found packet after new
+
+-- what is read of what was left are these packets, and then what is read of what is left now
+abbrev pub GoesOn : Carried → List CapturedPacket → Carried → Option (List ℕ) → Option (List ℕ) → Type 0
+GoesOn c packets after None new = ⊤
+GoesOn c packets after (Some old) None = ⊥
+GoesOn c packets after (Some old) (Some new) = reading_of c old ≡ behind packets (reading_of after new)
+
+-- what was left has no packet, and this fault or none
+pub record IsOver (c : Carried) (fault : Option BlockFault) (rest : List ℕ) : Type 0 where
+  pub none : (reading_of c rest).packets ≡ []
+  pub ends : (reading_of c rest).fault ≡ fault

@@ -1,0 +1,135 @@
+//! The options of an interface, read option by option.
+ghost use Rattle.std.specs.Prelude.{◌≡◌, ◌≤◌, ◌<◌, ◌+◌, ◌-◌, length, vec_len, IfOk, IfErr, IsTrue};
+ghost use Rattle.outside_core.specs.Kept.{HasSourceCause};
+ghost use Rattle.pcap_core.specs.Rest.{rest_of, Serves};
+ghost use Rattle.pcapng_core.specs.Held.{held};
+ghost use Rattle.pcapng_defs.specs.Interface;
+ghost use Rattle.pcapng_core.specs.Passed.{Passes};
+ghost use Rattle.pcapng_core.specs.Options.{step_rest, FitsIn, GoesDown, StandsAt, IsUnitOf, FrontOf};
+
+use crate::number::read_short;
+use crate::window::Window;
+use outside_core::{Shelf, Stop};
+use pcapng_defs::Unit;
+
+const USUAL_UNIT: Unit = Unit::Decimal(6);
+
+const UNIT_CODE: u16 = 9;
+
+/// The bytes of an option before its value.
+const OPTION_LEN: usize = 4;
+
+/// What stands at the front of options.
+#[derive(Clone, Copy)]
+pub enum Front {
+    Ends,
+    Unit,
+    /// Another option, with so many bytes behind its first four.
+    Other(usize),
+}
+
+/// What an option's first four bytes say, where so many bytes of options are behind them.
+fn front_in(big: bool, bytes: &[u8], behind: usize) -> Front
+    requires { length bytes.now ≡ 4 }
+    ensures front { FrontOf big bytes.now behind result }
+    ensures fits { FitsIn behind result }
+{
+    let code = read_short(big, bytes, 0);
+    let len = read_short(big, bytes, 2);
+    let filled = (usize::from(len) + 3) / 4 * 4;
+    if code == 0 || filled > behind {
+        Front::Ends
+    } else if code == UNIT_CODE && len == 1 {
+        Front::Unit
+    } else {
+        Front::Other(filled)
+    }
+}
+
+/// The unit of an option's value.
+fn unit_by(value: u8) -> Unit
+    ensures { result ≡ Interface.unit_by value }
+{
+    if value < 128 {
+        Unit::Decimal(value)
+    } else {
+        Unit::Binary(value % 128)
+    }
+}
+
+/// What was read of options, and how many of their bytes are left.
+#[derive(Clone, Copy)]
+pub enum Step {
+    /// They end, or the file does.
+    Ends(usize),
+    /// They give the unit.
+    Gives(Unit, usize),
+    /// There was another option.
+    Passes(usize),
+}
+
+/// Reads the option at the front of options of so many bytes.
+fn read_option<S: Shelf>(
+    window: &mut Window,
+    shelf: &mut S,
+    option: &mut Vec<u8>,
+    big: bool,
+    count: usize,
+) -> Result<Step, Stop>
+    requires some { 4 ≤ count }
+    requires begun { IsTrue (S.begun shelf.old) }
+    ensures bound { IfOk result (λ step. GoesDown count step) }
+    ensures passed { IfOk result (λ step. Passes (count - step_rest step) (rest_of (held window.old) (S.left shelf.old))
+        (rest_of (held window.new) (S.left shelf.new))) }
+    ensures step { IfOk result (λ step. StandsAt big count (rest_of (held window.old) (S.left shelf.old)) step) }
+    ensures shelf { Serves S.lends S.content S.begun S.faults shelf.old shelf.new }
+    ensures cause { IfErr result (λ stop. HasSourceCause stop S.faults shelf.old shelf.new) }
+{
+    option.clear();
+    window.take(shelf, option, OPTION_LEN)?;
+    if option.len() < OPTION_LEN {
+        return Ok(Step::Ends(count - option.len()));
+    }
+    let behind = count - OPTION_LEN;
+    match front_in(big, option, behind) {
+        Front::Ends => Ok(Step::Ends(behind)),
+        Front::Unit => {
+            window.take(shelf, option, OPTION_LEN + 1)?;
+            match option.get(OPTION_LEN) {
+                Some(value) => Ok(Step::Gives(unit_by(*value), behind - 1)),
+                None => Ok(Step::Ends(behind)),
+            }
+        }
+        Front::Other(filled) => {
+            let passed = window.pass(shelf, filled)?;
+            Ok(Step::Passes(behind - passed))
+        }
+    }
+}
+
+/// Reads the unit that options of so many bytes give, and answers it and how many of them are left.
+pub fn read_unit<S: Shelf>(
+    window: &mut Window,
+    shelf: &mut S,
+    option: &mut Vec<u8>,
+    big: bool,
+    count: usize,
+) -> Result<(Unit, usize), Stop>
+    requires begun { IsTrue (S.begun shelf.old) }
+    ensures bound { IfOk result (λ told. told.1 ≤ count) }
+    ensures passed { IfOk result (λ told. Passes (count - told.1) (rest_of (held window.old) (S.left shelf.old))
+        (rest_of (held window.new) (S.left shelf.new))) }
+    ensures unit { IfOk result (λ told. IsUnitOf big count (rest_of (held window.old) (S.left shelf.old)) told.0) }
+    ensures shelf { Serves S.lends S.content S.begun S.faults shelf.old shelf.new }
+    ensures cause { IfErr result (λ stop. HasSourceCause stop S.faults shelf.old shelf.new) }
+{
+    let mut rest = count;
+    while rest >= OPTION_LEN {
+        match read_option(window, shelf, option, big, rest)? {
+            Step::Ends(behind) => return Ok((USUAL_UNIT, behind)),
+            Step::Gives(unit, behind) => return Ok((unit, behind)),
+            Step::Passes(behind) => rest = behind,
+        }
+    }
+    Ok((USUAL_UNIT, rest))
+}
