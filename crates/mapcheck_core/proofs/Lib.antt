@@ -5,3 +5,16 @@ pub mod LeastLines
 pub mod MapLaws
 pub mod Verdicts
 pub mod RowLaws
+pub mod GiveLaws
+pub mod LineLaws
+pub mod MapAnswers
+pub mod NamePlaces
+pub mod TreeLists
+pub mod ReadLaws
+pub mod SizeLaws
+pub mod TreeAnswers
+pub mod StackLaws
+pub mod TreeSteps
+pub mod LineTrees
+pub mod LineForms
+pub mod EntryLines

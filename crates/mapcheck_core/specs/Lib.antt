@@ -3,3 +3,8 @@ pub mod GivenMaps
 pub mod MapFaults
 pub mod Checks
 pub mod Rows
+pub mod NumberedLines
+pub mod MapLines
+pub mod MapTexts
+pub mod TreeTexts
+pub mod TreeReading

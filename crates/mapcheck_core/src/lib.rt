@@ -1,14 +1,24 @@
-//! A map that is given between two topologies, and whether it is an embedding. Begin with specs/GivenMaps.antt.
+//! A given topology and a map into it as texts, and whether the map is an embedding. Begin with specs/GivenMaps.antt.
 #![tactic(auto)]
 
 mod check;
+mod entry;
 mod fault;
 mod given;
+mod map_text;
+mod nest;
 mod nodes;
 mod places;
 #[cfg(test)]
+mod reading_tests;
+#[cfg(test)]
 mod tests;
+mod tree_fault;
+mod tree_text;
 
 pub use check::check_map;
 pub use fault::MapFault;
 pub use given::Given;
+pub use map_text::{MOST_MAP_BYTES, read_map};
+pub use tree_fault::TreeFault;
+pub use tree_text::{MOST_TREE_BYTES, read_tree};

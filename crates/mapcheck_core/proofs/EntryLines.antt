@@ -1,0 +1,17 @@
+-- The entries of lines that are read one by one.
+use Rattle.std.proofs.Common.{◌≡◌, ◌⊎◌, ℕ, ◌+◌, ◌<◌, List, length, get_or, take, map, inl, inr, sym, subst}
+use Rattle.text_core.specs.declared.line.Line.{Line}
+use Rattle.text_core.specs.Lines.{line_text, statements_of}
+use Rattle.mapcheck_core.specs.declared.fault.MapFault.{MapFault}
+use Rattle.mapcheck_core.specs.declared.fault.MapFault.TheVariants as fault
+use Rattle.mapcheck_core.specs.NumberedLines.{Give, InNoForm, IsFirstAtFault}
+use Rattle.mapcheck_core.specs.MapLines.{MapLine, MapGives}
+use Rattle.mapcheck_core.specs.MapTexts.{IsInNoForm}
+use Rattle.mapcheck_core.proofs.LineLaws.{fault_here}
+
+-- the fault of the line at a place
+pub told_fault : (text : List ℕ) (ls : List Line) (i : ℕ) (d : Line) (ms : List MapLine) (number : ℕ) (f : MapFault) → map (line_text text) ls ≡ statements_of text → i < length ls → Give MapGives 1 (map (line_text text) (take i ls)) ms → number ≡ i + 1 → (f ≡ fault.NoMemory) ⊎ ((f ≡ fault.Line number) × InNoForm MapGives number (line_text text (get_or ls i d))) → (f ≡ fault.NoMemory) ⊎ ((n : ℕ) × (f ≡ fault.Line n) × IsFirstAtFault MapGives IsInNoForm (statements_of text) n)
+told_fault text ls i d ms number f texts inside give place (inl e) = inl e
+told_fault text ls i d ms number f texts inside give place (inr wrong) =
+    let here = fault_here MapGives IsInNoForm text ls i d ms texts inside give (subst (λ n. InNoForm MapGives n (line_text text (get_or ls i d))) place wrong.1) in
+    inr (number, wrong.0, subst (IsFirstAtFault MapGives IsInNoForm (statements_of text)) (sym place) here)

@@ -1,0 +1,48 @@
+-- Where each node is named, and lists with one element more.
+use Rattle.std.proofs.Common.{◌≡◌, ℕ, zero, suc, ◌+◌, ◌<◌, Bool, true, false, cond, not, List, [], ◌∷◌, ◌++◌, length, get_or, take, map, position, Some, None, inl, inr, sym, ap, ◌∙◌, arith}
+use Rattle.std.specs.List.{position_or_len}
+use Rattle.std.proofs.Math.Seq.{take-suc}
+use Rattle.std.proofs.lemmas.Bool.{cases_Bool, lt-ltb}
+use Rattle.std.proofs.lemmas.List.{map-append}
+use Rattle.mapcheck_core.specs.MapLines.{MapLine}
+use Rattle.mapcheck_core.specs.MapTexts.{has, named, missing_node}
+
+before_end : {X : Type 0} (p : X → Bool) (xs : List X) (k : ℕ) (d : X) → k < length xs → p (get_or xs k d) ≡ true → position_or_len p xs < length xs
+before_end p [] k d low found = absurd (omega arith)
+before_end p (x ∷ xs) zero d low found = rw found (omega arith)
+before_end p (x ∷ xs) (suc k) d low found =
+    elim (cases_Bool (p x)) [
+      | inl t ↦ rw t (omega arith)
+      | inr f ↦ let later = before_end p xs k d (omega arith) found in rw f (omega arith)
+    ]
+
+some_none : (n : ℕ) → Some n ≡ None → ⊥
+some_none n e = cc
+
+-- where no place is told no element passes
+none-passes : {X : Type 0} (p : X → Bool) (xs : List X) (k : ℕ) (d : X) → position p xs ≡ None → k < length xs → p (get_or xs k d) ≡ false
+none-passes p xs k d none low =
+    elim (cases_Bool (p (get_or xs k d))) [
+      | inl t ↦
+          let found : position p xs ≡ Some (position_or_len p xs) = ap (λ b. cond b (Some (position_or_len p xs)) None) (lt-ltb (position_or_len p xs) (length xs) (before_end p xs k d low t)) in
+          absurd (some_none (position_or_len p xs) (sym found ∙ none))
+      | inr f ↦ f
+    ]
+
+-- where no node is missing, each name is given
+pub name-given : (names : List (List ℕ)) (ms : List MapLine) (i : ℕ) (name : List ℕ) → missing_node names ms ≡ None → i < length names → name ≡ get_or names i name → has (named ms) name ≡ false → ⊥
+name-given names ms i name given low is unnamed =
+    let known = none-passes (λ (n : List ℕ). not (has (named ms) n)) names i name given low in
+    let here : not (has (named ms) name) ≡ false = ap (λ (n : List ℕ). not (has (named ms) n)) is ∙ known in
+    let wrong : true ≡ false = ap not (sym unnamed) ∙ here in
+    cc
+
+-- one element more of a map
+pub mapped-more : {X Y : Type 0} (f : X → Y) (xs : List X) (i : ℕ) (x : X) (ys : List Y) (y : Y) → i < length xs → x ≡ get_or xs i x → ys ≡ map f (take i xs) → y ≡ f x → ys ++ y ∷ [] ≡ map f (take (i + 1) xs)
+mapped-more {X} {Y} f xs i x ys y low is so_far told =
+    let one : suc i ≡ i + 1 = omega arith in
+    ap (λ (zs : List Y). zs ++ y ∷ []) so_far
+    ∙ ap (λ (z : Y). map f (take i xs) ++ z ∷ []) (told ∙ ap f is)
+    ∙ sym (map-append f (take i xs) (get_or xs i x ∷ []))
+    ∙ ap (map f) (sym (take-suc xs i x low))
+    ∙ ap (λ n. map f (take n xs)) one

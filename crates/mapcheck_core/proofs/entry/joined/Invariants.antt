@@ -1,0 +1,10 @@
+use Rattle.std.proofs.Common.{◌≡◌, ◌++◌, option_map, length}
+use Rattle.text_core.specs.Glyphs.{glyphs_of}
+use Rattle.mapcheck_core.specs.MapLines.{joined}
+use Rattle.mapcheck_core.proofs.entry.joined.Given as goal
+
+abbrev pub invariant-loop-rest : goal.invariant-loop-rest
+invariant-loop-rest l = option_map (λ a. l.digits ++ a) (joined (glyphs_of l.rest)) ≡ joined (glyphs_of l.items)
+
+abbrev pub decreases-loop-rest : goal.decreases-loop-rest
+decreases-loop-rest l = length l.rest

@@ -1,0 +1,8 @@
+use Rattle.std.proofs.Common.{◌≡◌, map, take}
+use Rattle.text_core.specs.Lines.{line_text}
+use Rattle.mapcheck_core.specs.NumberedLines.{Give}
+use Rattle.mapcheck_core.specs.MapLines.{MapGives, line_of_entry}
+use Rattle.mapcheck_core.proofs.map_text.read_entries.Given as goal
+
+abbrev pub invariant-loop-line : goal.invariant-loop-line
+invariant-loop-line l = record { give : Give MapGives 1 (map (line_text l.text) (take l.line-index l.line-items)) (map line_of_entry l.entries); number : l.number ≡ l.line-index }

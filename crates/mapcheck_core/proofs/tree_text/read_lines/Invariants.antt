@@ -1,0 +1,7 @@
+use Rattle.std.proofs.Common.{◌≡◌, map, take}
+use Rattle.text_core.specs.Lines.{line_text}
+use Rattle.mapcheck_core.specs.TreeTexts.{AreRead}
+use Rattle.mapcheck_core.proofs.tree_text.read_lines.Given as goal
+
+abbrev pub invariant-loop-line : goal.invariant-loop-line
+invariant-loop-line l = record { read : AreRead (map (line_text l.text) (take l.line-index l.line-items)) l.found l.place; number : l.number ≡ l.line-index }

@@ -1,0 +1,98 @@
+-- Which texts are maps of the nodes with these names, and what fault another text has. The codes decide in their order.
+use Rattle.std.specs.Prelude.{◌≡◌, refl, ℕ, ◌<◌, ◌≤◌, Bool, not, if◌then◌else◌, List, [], ◌∷◌, ◌++◌, length, map, position, Option, Some, None, Result, Ok, Err, codes}
+use Rattle.std.specs.List.{list_any}
+use Rattle.std.specs.Str.{bytes_eq}
+use Rattle.text_core.specs.Lines.{statements_of}
+use Rattle.mapcheck_core.specs.declared.given.Given.{Given}
+use Rattle.mapcheck_core.specs.declared.fault.MapFault.{MapFault}
+use Rattle.mapcheck_core.specs.declared.fault.MapFault.TheVariants as fault
+use Rattle.mapcheck_core.specs.NumberedLines.{Give, InNoForm, IsFirstAtFault}
+use Rattle.mapcheck_core.specs.MapLines.{MapLine, MapGives, one_line}
+
+-- the most bytes of a map
+abbrev pub most_map_bytes : ℕ
+most_map_bytes = 1048576
+
+abbrev pub has : List (List ℕ) → List ℕ → Bool
+has names name = list_any (bytes_eq name) names
+
+-- the names that lines give
+abbrev pub named : List MapLine → List (List ℕ)
+named ms = map (λ m. m.name) ms
+
+-- the least line whose name isn't among the names; lines stand in the order of their numbers
+abbrev pub unknown_line : List (List ℕ) → List MapLine → Option ℕ
+unknown_line names [] = None
+unknown_line names (m ∷ ms) = if has names m.name then unknown_line names ms else Some m.line
+
+-- the least line whose name stands on an earlier line, or among the names that were given before
+abbrev pub repeated_line : List (List ℕ) → List MapLine → Option ℕ
+repeated_line earlier [] = None
+repeated_line earlier (m ∷ ms) = if has earlier m.name then Some m.line else repeated_line (earlier ++ m.name ∷ []) ms
+
+-- the least number of a node that no line names
+abbrev pub missing_node : List (List ℕ) → List MapLine → Option ℕ
+missing_node names ms = position (λ name. not (has (named ms) name)) names
+
+-- what the first line of a name gives
+abbrev pub line_for : List MapLine → List ℕ → MapLine
+line_for [] name = record { name = name; image = []; line = 0 }
+line_for (m ∷ ms) name = if bytes_eq name m.name then m else line_for ms name
+
+-- for each node, the image and the line of its name
+abbrev pub map_given : List (List ℕ) → List MapLine → Given
+map_given names ms = record { images = map (λ name. (line_for ms name).image) names; lines = map (λ name. (line_for ms name).line) names }
+
+abbrev pub node_answer : List (List ℕ) → List MapLine → Option ℕ → Result Given MapFault
+node_answer names ms (Some n) = Err (fault.Missing n)
+node_answer names ms None = Ok (map_given names ms)
+
+abbrev pub repeat_answer : List (List ℕ) → List MapLine → Option ℕ → Result Given MapFault
+repeat_answer names ms (Some n) = Err (fault.Twice n)
+repeat_answer names ms None = node_answer names ms (missing_node names ms)
+
+abbrev pub name_answer : List (List ℕ) → List MapLine → Option ℕ → Result Given MapFault
+name_answer names ms (Some n) = Err (fault.Unknown n)
+name_answer names ms None = repeat_answer names ms (repeated_line [] ms)
+
+-- the map of lines that are all in form, or their fault: a name that isn't a node's, then one that stands twice, then a node that isn't named
+abbrev pub answer_of : List (List ℕ) → List MapLine → Result Given MapFault
+answer_of names ms = name_answer names ms (unknown_line names ms)
+
+-- a text that isn't too long and whose lines are all in form, with what they give
+pub record AreMapLines (text : List ℕ) (ms : List MapLine) : Type 0 where
+  pub short : length text ≤ most_map_bytes
+  pub give : Give MapGives 1 (statements_of text) ms
+
+abbrev pub IsInNoForm : List MapLine → ℕ → List ℕ → Type 0
+IsInNoForm before n line = InNoForm MapGives n line
+
+-- the answer to a text: too long, else the least line in no form, else what the lines say of the names
+pub data IsMapAnswer (text : List ℕ) (names : List (List ℕ)) : Result Given MapFault → Type 0 where
+  too_long : most_map_bytes < length text → IsMapAnswer text names (Err fault.TooLong)
+  no_form : (n : ℕ) → length text ≤ most_map_bytes → IsFirstAtFault MapGives IsInNoForm (statements_of text) n → IsMapAnswer text names (Err (fault.Line n))
+  in_form : (ms : List MapLine) → AreMapLines text ms → IsMapAnswer text names (answer_of names ms)
+
+-- P holds of the answer to a text
+abbrev pub ForMapAnswer : List ℕ → List (List ℕ) → (Result Given MapFault → Type 0) → Type 0
+ForMapAnswer text names P = (answer : Result Given MapFault) → IsMapAnswer text names answer → P answer
+
+-- one image and one line for each name
+pub record Fits (names : List (List ℕ)) (g : Given) : Type 0 where
+  pub images : length g.images ≡ length names
+  pub lines : length g.lines ≡ length names
+
+abbrev a_and_b : List (List ℕ)
+a_and_b = codes "a" ∷ codes "b" ∷ []
+
+b_before_a : answer_of a_and_b (one_line 2 (codes "b") (1 ∷ []) ++ one_line 5 (codes "a") []) ≡ Ok (record { images = [] ∷ (1 ∷ []) ∷ []; lines = 5 ∷ 2 ∷ [] })
+b_before_a = refl
+
+c_is_unknown : answer_of a_and_b (one_line 2 (codes "b") [] ++ one_line 3 (codes "b") [] ++ one_line 5 (codes "c") []) ≡ Err (fault.Unknown 5)
+c_is_unknown = refl
+
+b_stands_twice : answer_of a_and_b (one_line 2 (codes "b") [] ++ one_line 3 (codes "b") []) ≡ Err (fault.Twice 3)
+b_stands_twice = refl
+
+a_is_missing : answer_of a_and_b (one_line 2 (codes "b") []) ≡ Err (fault.Missing 0)
+a_is_missing = refl
