@@ -1,3 +1,2 @@
-pub mod PaceLaws
 pub mod ScriptLaws
 pub mod ScriptAnswers

@@ -1,4 +1,3 @@
-pub mod Pace
 pub mod Rows
 pub mod Script
 pub mod Steps

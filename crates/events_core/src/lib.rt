@@ -13,7 +13,7 @@ mod tests;
 
 pub use fault::ScriptFault;
 pub use laws::scripts_have_an_answer;
-pub use link::{Link, send_time, send_time_is_least};
+pub use link::{Link, MOST_RATE, send_time};
 pub use parse::{MOST_BYTES, MOST_COUNT, parse_events};
 pub use script::Script;
 pub use step::Step;

@@ -1,11 +1,14 @@
 //! A link that sends one packet after another, and how long each takes.
-ghost use Rattle.std.specs.Prelude.{◌≡◌, ◌+◌, ◌<◌, ◌≤◌, ◌^◌, ◌↔◌, IsTrue, max};
-ghost use Rattle.events_core.specs.Pace.{send_time, IsRate, SendTimeIsLeast};
+ghost use Rattle.std.specs.Prelude.{◌≡◌, ◌+◌, ◌<◌, ◌^◌, ◌↔◌, IsTrue, max};
+ghost use Rattle.link_defs.specs.Link.{send_time, IsRate};
 
 use std::marker::Model;
 
 /// Nanoseconds of a second.
 const SECOND: u64 = 1_000_000_000;
+
+/// The greatest rate, in bytes per second. The least is 1.
+pub const MOST_RATE: u64 = 1_000_000_000_000;
 
 /// The nanoseconds that a packet of so many bytes takes at a rate in bytes per second, rounded up.
 pub fn send_time(len: u32, rate: u64) -> u64
@@ -36,6 +39,13 @@ impl Link {
         Link { free: 0 }
     }
 
+    /// The moment from which the link is free, in nanoseconds.
+    pub fn free(&self) -> u128
+        ensures { result ≡ self.now }
+    {
+        self.free
+    }
+
     /// Whether the link is free before a moment.
     pub fn due(&self, moment: u64) -> bool
         ensures { IsTrue result ↔ (self.now < moment) }
@@ -62,8 +72,3 @@ impl Link {
         start
     }
 }
-
-/// The send time is the least whole number of nanoseconds in which the bytes can go.
-pub fn send_time_is_least()
-    ensures { SendTimeIsLeast }
-{}

@@ -2,7 +2,7 @@
 use Rattle.std.proofs.Common.{◌≡◌, ◌+◌, ◌*◌, ◌<◌, arith}
 use Rattle.std.proofs.Math.Nat.{lt_of_mul-lt-mul_right}
 use Rattle.std.proofs.lemmas.Grind.{div_ceil_times}
-use Rattle.events_core.specs.Pace.{send_time, SendTimeIsLeast}
+use Rattle.link_defs.specs.Link.{send_time, SendTimeIsLeast}
 
 pub send_time-least : SendTimeIsLeast
 send_time-least len rate is =
