@@ -1,7 +1,6 @@
 -- Stations and nodes of worked policies.
 use Rattle.std.specs.Prelude.{◌≡◌, refl, ℕ, Some, None, List, [], ◌∷◌, codes}
 use Rattle.tree_defs.specs.Tree.{leaf}
-use Rattle.tree_defs.specs.Topology.{topology_of}
 use Rattle.rank_defs.specs.Programs.{Program}
 use Rattle.rank_defs.specs.Builtins.{fifo, shortest}
 use Rattle.policy_defs.specs.Policy.{Node, one_leaf}

@@ -1,5 +1,5 @@
 //! The words that expressions and push lines may use.
-ghost use Rattle.std.specs.Prelude.{◌≡◌, ℕ, List, IfOk, codes, ◌||◌};
+ghost use Rattle.std.specs.Prelude.{◌≡◌, List, IfOk, codes, ◌||◌};
 ghost use Rattle.std.specs.List.{list_all};
 ghost use Rattle.std.specs.Str.{bytes_eq};
 ghost use Rattle.policy_text_defs.specs.Phrase.{phrase_of};

@@ -1,6 +1,5 @@
 //! Printing a statement.
 ghost use Rattle.std.specs.Prelude.{◌≡◌, ◌++◌, OnOk};
-ghost use Rattle.std.specs.Fmt.{decimal};
 ghost use Rattle.policy_text_defs.specs.declared.attribute.Attribute.TheVariants as attribute;
 ghost use Rattle.policy_text_defs.specs.Phrase.{phrase_of};
 ghost use Rattle.policy_text_defs.specs.Sense.{sense_of};
