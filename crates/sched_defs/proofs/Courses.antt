@@ -8,12 +8,12 @@ use Rattle.policy_defs.specs.Policy.{Policy}
 use Rattle.policy_defs.specs.Accepted.{IsAccepted}
 use Rattle.sched_defs.specs.SourceState.{Held, SourceState, arrived, departed, left_from, left_with}
 use Rattle.sched_defs.specs.Sound.{IsSound}
-use Rattle.sched_defs.specs.Events.{Event, Arrive, Depart, Outcome, after, outcomes, pushed_in, popped_in, dropped_in, empty_in, asked_in, CanMake}
+use Rattle.sched_defs.specs.Events.{Event, Arrive, Depart, Outcome, after, outcomes, pushed_in, dropped_in, asked_in, CanMake}
 use Rattle.sched_defs.specs.declared.ending.Ending.{Ending}
 use Rattle.sched_defs.specs.Script.{Step, Arrivals, Departures, Rest, Drain, Course, course, step_events, left_by, stop_at, stopped_or}
 use Rattle.sched_defs.specs.Numbered.{IsHeldBelow, CanBeSent, departures_asked}
 use Rattle.sched_defs.specs.Laws.{IsCourseShort}
-use Rattle.sched_defs.proofs.Soundness.{with_packet-is, without-is, by_fullness, sound_arrived, sound_departed}
+use Rattle.sched_defs.proofs.Soundness.{with_packet-is, without-is, by_fullness, sound_departed}
 use Rattle.sched_defs.proofs.Runs.{AreArrivals, AreDepartures, sound_after, CanMake-departures, CanMake-joined, outcomes-append, pushed_in-append, popped_in-append, dropped_in-append, empty_in-append, none_lost, arrivals_count, departures_count}
 use Rattle.sched_defs.proofs.Leaving.{size_departed}
 

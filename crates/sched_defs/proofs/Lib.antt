@@ -7,3 +7,4 @@ pub mod Soundness
 pub mod Runs
 pub mod Leaving
 pub mod Courses
+pub mod Links

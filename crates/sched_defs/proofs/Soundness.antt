@@ -5,7 +5,7 @@ use Rattle.std.proofs.lemmas.Bool.{eqb-false}
 use Rattle.std.proofs.lemmas.Bool.Decides.{Decides-eqb}
 use Rattle.pifo_defs.specs.Queue.{Queue, put, take_least, take_from, Taking}
 use Rattle.pifo_defs.proofs.TakeLeast.{length-put, length-rest}
-use Rattle.tree_defs.specs.Tree.{Tree, leaf, inner, Trees, none, more, Address, LeadsToLeaf, Popping}
+use Rattle.tree_defs.specs.Tree.{leaf, inner, Trees, none, more, Address, LeadsToLeaf, Popping}
 use Rattle.tree_defs.specs.Topology.{Topology, topology_of}
 use Rattle.tree_defs.specs.SourceTree.{SourceTree, push, pop, empty_tree, empty_trees}
 use Rattle.tree_defs.specs.Packets.{Placed, values, packets, queue_at, queue_in}

@@ -9,10 +9,11 @@ use Rattle.policy_defs.specs.Policy.{Policy, limit_at}
 use Rattle.policy_defs.specs.Accepted.{IsAccepted}
 use Rattle.sched_defs.specs.SourceState.{Held, SourceState, Leaver, start, class_of, arrival_ranks, pushed, arrived, departed, leaver}
 use Rattle.sched_defs.specs.Sound.{IsSound}
-use Rattle.sched_defs.specs.Events.{Event, Depart, Outcome, after, outcomes, pushed_in, popped_in, dropped_in, asked_in, CanArrive, CanMake}
+use Rattle.sched_defs.specs.Events.{Event, Depart, Outcome, after, outcomes, pushed_in, popped_in, dropped_in, empty_in, asked_in, CanArrive, CanMake}
 use Rattle.sched_defs.specs.Script.{Step, course}
 use Rattle.sched_defs.specs.Numbered.{CanBeSent, departures_asked}
 use Rattle.sched_defs.specs.Faults.{FaultAt}
+use Rattle.sched_defs.specs.Link.{link_course}
 
 -- ---- sound states
 abbrev pub StartIsSound : Type 0
@@ -107,3 +108,21 @@ abbrev pub CoursesAreShort : Type 0
 CoursesAreShort =
     (policy : Policy) (steps : List Step) (packets : List Packet) (fault : Option FaultAt) (first event : ℕ) (s : SourceState) → IsAccepted policy → IsSound policy s → CanBeSent policy first packets s
     → IsCourseShort steps packets s (outcomes policy (course policy steps packets fault s event).events s)
+
+-- ---- links
+-- the events that a link paces over packets in the order of a capture can be made
+abbrev pub LinksCanRun : Type 0
+LinksCanRun =
+    (policy : Policy) (rate : ℕ) (packets : List Packet) (fault : Option FaultAt) (first : ℕ) (s : SourceState) (free : ℕ) → CanBeSent policy first packets s
+    → CanMake policy (link_course policy rate packets fault s free).events s
+
+-- each packet is pushed or dropped, each departure takes a packet, and behind a whole capture none is held
+pub record IsLinkRun (policy : Policy) (packets : List Packet) (fault : Option FaultAt) (s : SourceState) (events : List Event) : Type 0 where
+  pub arrivals : pushed_in (outcomes policy events s) + dropped_in (outcomes policy events s) ≡ length packets
+  pub empty : empty_in (outcomes policy events s) ≡ 0
+  pub drained : fault ≡ None → size (after policy events s).tree ≡ 0
+
+abbrev pub LinksSendAll : Type 0
+LinksSendAll =
+    (policy : Policy) (rate : ℕ) → IsAccepted policy → (packets : List Packet) (fault : Option FaultAt) (first : ℕ) (s : SourceState) (free : ℕ) → IsSound policy s → CanBeSent policy first packets s
+    → IsLinkRun policy packets fault s (link_course policy rate packets fault s free).events

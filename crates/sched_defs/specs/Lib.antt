@@ -9,3 +9,6 @@ pub mod Numbered
 pub mod Laws
 pub mod Report
 pub mod Rows
+pub mod Link
+pub mod Pace
+pub mod LinkRows

@@ -1,5 +1,5 @@
 //! Laws of states and events.
-ghost use Rattle.sched_defs.specs.Laws.{StartIsSound, ArrivalsKeepSound, DeparturesKeepSound, EventsKeepSound, HeldStandInLeaves, PushesAddOne, DeparturesTakeOne, NoneIsLost, NothingIsDroppedWithoutLimits, ArrivalsComeToLeaves, NothingLeavesWhereNothingIsHeld, PacketsLeaveTheirLeaves, EventsJoin, DeparturesCanBeMade, CoursesCanBeMade, CoursesAreShort};
+ghost use Rattle.sched_defs.specs.Laws.{StartIsSound, ArrivalsKeepSound, DeparturesKeepSound, EventsKeepSound, HeldStandInLeaves, PushesAddOne, DeparturesTakeOne, NoneIsLost, NothingIsDroppedWithoutLimits, ArrivalsComeToLeaves, NothingLeavesWhereNothingIsHeld, PacketsLeaveTheirLeaves, EventsJoin, DeparturesCanBeMade, CoursesCanBeMade, CoursesAreShort, LinksCanRun, LinksSendAll};
 
 /// Arrivals and departures keep a state sound, from the start on.
 pub fn events_keep_states_sound()
@@ -36,4 +36,11 @@ pub fn events_join()
 pub fn courses_can_be_made()
     ensures made { CoursesCanBeMade }
     ensures short { CoursesAreShort }
+{}
+
+/// The events that a link paces can be made over packets in the order of a capture. Each packet is pushed or dropped, no
+/// departure finds nothing, and behind a whole capture all is sent.
+pub fn links_send_all()
+    ensures made { LinksCanRun }
+    ensures sent { LinksSendAll }
 {}

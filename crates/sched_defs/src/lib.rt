@@ -9,6 +9,6 @@ mod packets;
 pub use ending::{Ending, PAST_LAST};
 pub use laws::{
     courses_can_be_made, events_join, events_keep_states_sound, held_packets_stand_in_leaves,
-    packets_keep_to_their_leaves,
+    links_send_all, packets_keep_to_their_leaves,
 };
 pub use packets::{Halt, Packets};
