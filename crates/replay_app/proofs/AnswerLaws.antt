@@ -10,14 +10,17 @@ use Rattle.sched_defs.specs.declared.ending.Ending.{Ending}
 use Rattle.sched_defs.specs.declared.ending.Ending.TheVariants.{Whole, BadCapture, PastLast}
 use Rattle.replay_app.specs.Policies.{entries_in, senses_of}
 use Rattle.replay_app.specs.Scripts.{ending_status}
-use Rattle.replay_app.specs.Statuses.{IsOneOf, IsRefusal, IsStop, run_statuses, run_status, status_code}
+use Rattle.replay_app.specs.Statuses.{IsOneOf, IsRefusal, IsStop, run_statuses, pace_statuses, paced_statuses, run_status, status_code}
 use Rattle.replay_app.specs.Stops.{stop_status}
 use Rattle.replay_app.specs.declared.status.Status.TheVariants as status
 use Rattle.replay_app.specs.declared.status.Status.TheVariants.{Done, NoForm, BadPolicy, BadTarget, NoRoom, BadScript}
 use Rattle.outside_core.specs.declared.stop.Stop.TheVariants.{Source, Sink, Memory}
 use Rattle.replay_app.specs.declared.status.Status.{Status}
 use Rattle.outside_core.specs.declared.stop.Stop.{Stop}
-use Rattle.replay_app.specs.Words.{AreTold}
+use Rattle.sched_run.specs.Steps.{CanEndSo}
+use Rattle.sched_run.specs.declared.pace.Pace.{Pace}
+use Rattle.sched_run.specs.declared.pace.Pace.TheVariants as pace
+use Rattle.replay_app.specs.Words.{AreTold, Pacing, script, link}
 
 -- a name that was told is told after others were read
 pub told-later : {S : Type 0} (lends : S → List ℕ → Bool) (content : S → List ℕ → Option (List ℕ)) (old new : S) (contents : List ℕ → List ℕ) (names : List (List ℕ))
@@ -50,6 +53,12 @@ run_ends (Whole n) = inr (inr (inl refl))
 run_ends (BadCapture c p) = inr (inl refl)
 run_ends (PastLast n) = inl refl
 
+pub pace_ends : (p : Pace) (e : Ending) → CanEndSo p e → IsOneOf (pace_statuses p) (status_code (run_status e))
+pace_ends (pace.Script steps) e can = run_ends e
+pace_ends (pace.Link rate) (Whole n) can = inr (inl refl)
+pace_ends (pace.Link rate) (BadCapture c p) can = inl refl
+pace_ends (pace.Link rate) (PastLast n) can = absurd can
+
 -- a run that was begun ends with none of the statuses of a refusal
 pub no_refusal : (n : ℕ) → IsOneOf run_statuses n → IsRefusal n → ⊥
 no_refusal n (inl e) r = let low = r.1 in omega arith
@@ -57,10 +66,13 @@ no_refusal n (inr (inl e)) r = let low = r.1 in omega arith
 no_refusal n (inr (inr (inl e))) r = let high = r.0 in omega arith
 no_refusal n (inr (inr (inr e))) r = e
 
--- a run that is begun ends with none of the statuses of a refusal
-pub no_refusal_of : (r : Result Status Stop) (A : Type 0) → IfOk r (λ s. IsOneOf run_statuses (status_code s)) → IfOk r (λ s. IsRefusal (status_code s) → A)
-no_refusal_of (Ok s) A one = λ refused. absurd (no_refusal (status_code s) one refused)
-no_refusal_of (Err e) A one = tt
+no_refusal_by : (p : Pacing) (n : ℕ) → IsOneOf (paced_statuses p) n → IsRefusal n → ⊥
+no_refusal_by (script e) n one r = no_refusal n one r
+no_refusal_by (link rate) n one r = no_refusal n (inr one) r
+
+pub paced_no_refusal : (p : Pacing) (r : Result Status Stop) (A : Type 0) → IfOk r (λ s. IsOneOf (paced_statuses p) (status_code s)) → IfOk r (λ s. IsRefusal (status_code s) → A)
+paced_no_refusal p (Ok s) A one = λ refused. absurd (no_refusal_by p (status_code s) one refused)
+paced_no_refusal p (Err e) A one = tt
 
 -- ---- statuses, and what stops the program
 pub low_code : (s : Status) → status_code s < 8

@@ -12,7 +12,7 @@ pub record IsLeftBehind {F : Type 0} (fabrics : Ghosts F) (form : Form) (content
   pub whole : status < 8 → Each (IsOutput form contents) (λ a. Leaves fabrics a.run old new)
   pub part : 8 ≤ status → Each (IsOutput form contents) (λ a. LeavesPart fabrics a.run old new)
 
--- only `replay` uses the fabric
+-- only `replay` and `link` use the fabric
 abbrev pub UsesNoFabric : Form → Type 0
-UsesNoFabric (replay p t c e) = ⊥
+UsesNoFabric (replay p t c pacing) = ⊥
 UsesNoFabric form = Unit {0}

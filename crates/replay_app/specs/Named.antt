@@ -1,13 +1,20 @@
 -- The files that words name.
-use Rattle.replay_app.specs.Words.{Form, replay, check, plan, direct}
+use Rattle.link_defs.specs.Link.{IsRate}
+use Rattle.replay_app.specs.Words.{Pacing, script, link, Form, replay, check, plan, direct}
+use Rattle.replay_app.specs.declared.words.Pacing as code
+use Rattle.replay_app.specs.declared.words.Pacing.TheVariants as code_pacing
 use Rattle.replay_app.specs.declared.words.ReplayFiles.{ReplayFiles}
 use Rattle.replay_app.specs.declared.words.DirectFiles.{DirectFiles}
 use Rattle.replay_app.specs.declared.words.PlanFiles.{PlanFiles}
 use Rattle.replay_app.specs.declared.words.Command.{Command}
 use Rattle.replay_app.specs.declared.words.Command.TheVariants.{Replay, Check, Plan, Direct}
 
+abbrev pub pacing_form : code.Pacing → Pacing
+pacing_form (code_pacing.Script e) = script e.now
+pacing_form (code_pacing.Link rate) = link rate
+
 abbrev pub replay_form : ReplayFiles → Form
-replay_form f = replay f.policy.now f.target.now f.capture.now f.script.now
+replay_form f = replay f.policy.now f.target.now f.capture.now (pacing_form f.pacing)
 
 abbrev pub plan_form : PlanFiles → Form
 plan_form f = plan f.policy.now f.target.now
@@ -20,3 +27,12 @@ command_form (Replay f) = replay_form f
 command_form (Check p) = check p.now
 command_form (Plan f) = plan_form f
 command_form (Direct f) = direct_form f
+
+-- a link's rate is in range
+abbrev pub HasRate : code.Pacing → Type 0
+HasRate (code_pacing.Script e) = Unit {0}
+HasRate (code_pacing.Link rate) = IsRate rate
+
+abbrev pub CanRun : Command → Type 0
+CanRun (Replay f) = HasRate f.pacing
+CanRun command = Unit {0}

@@ -2,38 +2,39 @@
 use Rattle.std.specs.Prelude.{◌≡◌, ◌⊎◌, ℕ, Option, None, List}
 use Rattle.report_core.specs.declared.fault.FaultKind.TheVariants.{Words}
 use Rattle.policy_rules.specs.Resolved.{Resolved}
-use Rattle.events_core.specs.declared.step.Step.{Step}
+use Rattle.sched_defs.specs.Pace.{Pace}
 use Rattle.sched_embedded.specs.Laid.{Laid}
 use Rattle.sched_embedded.specs.Fabrics.{run_of}
-use Rattle.sched_capture.specs.Answers.{direct_answer}
+use Rattle.sched_capture.specs.Answers.{paced_answer}
 use Rattle.replay_app.specs.Answer.{Answer, refusal, IsWritten, IsPartWritten}
 use Rattle.replay_app.specs.Policies.{UnderPolicy, checked}
-use Rattle.replay_app.specs.Scripts.{AlongScript, run_answer}
+use Rattle.replay_app.specs.Scripts.{AlongScript, PacedBy, script_pace, run_answer}
 use Rattle.replay_app.specs.Statuses.{IsStop}
 use Rattle.replay_app.specs.Targets.{ForTarget, WithRoom, IsPlanned}
 use Rattle.replay_app.specs.Words.{Form, replay, check, plan, direct, no_form}
 
 -- the report of a run through the policy's own tree, without a fabric
-abbrev pub direct_run : Resolved → List Step → List ℕ → Answer
-direct_run policy steps capture = run_answer (direct_answer policy steps capture) None
+abbrev pub direct_run : Resolved → Pace → List ℕ → Answer
+direct_run policy pace capture = run_answer (paced_answer policy pace capture) None
 
 -- the same report, where the run goes through a fabric into which the tree is laid
-abbrev pub laid_run : Resolved → Laid → List Step → List ℕ → Answer
-laid_run policy laid steps capture = run_answer (direct_answer policy steps capture) (run_of policy.policy laid (direct_answer policy steps capture).events)
+abbrev pub laid_run : Resolved → Laid → Pace → List ℕ → Answer
+laid_run policy laid pace capture = run_answer (paced_answer policy pace capture) (run_of policy.policy laid (paced_answer policy pace capture).events)
 
 -- The answer to words, where the names have these contents. Each input is refused or accepted in its turn: the policy, the
--- target, the room for the policy's tree in the target, the script, and then the capture, which is part of the run.
+-- target, the room for the policy's tree in the target, the script, if one paces the run, and then the capture, which is part
+-- of the run.
 abbrev pub IsOutput : Form → (List ℕ → List ℕ) → Answer → Type 0
-IsOutput (replay p t c e) contents a =
+IsOutput (replay p t c pacing) contents a =
     UnderPolicy (contents p) (λ judged.
     ForTarget (contents t) (λ target.
     WithRoom judged.policy.policy target (λ laid.
-    AlongScript (contents e) (λ steps b.
-    b ≡ laid_run judged.policy laid steps (contents c))))) a
+    PacedBy pacing contents (λ pace b.
+    b ≡ laid_run judged.policy laid pace (contents c))))) a
 IsOutput (direct p c e) contents a =
     UnderPolicy (contents p) (λ judged.
     AlongScript (contents e) (λ steps b.
-    b ≡ direct_run judged.policy steps (contents c))) a
+    b ≡ direct_run judged.policy (script_pace steps) (contents c))) a
 IsOutput (plan p t) contents a =
     UnderPolicy (contents p) (λ judged.
     ForTarget (contents t) (λ target.

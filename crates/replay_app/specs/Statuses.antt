@@ -4,7 +4,9 @@ use Rattle.report_core.specs.declared.fault.FaultKind.{FaultKind}
 use Rattle.report_core.specs.declared.fault.FaultKind.TheVariants.{Words, Policy, Target, Size, Script, Capture}
 use Rattle.sched_defs.specs.declared.ending.Ending as run
 use Rattle.sched_defs.specs.declared.ending.Ending.TheVariants as run_ending
-use Rattle.replay_app.specs.Words.{Form, replay, check, plan, direct, no_form}
+use Rattle.sched_run.specs.declared.pace.Pace.{Pace}
+use Rattle.sched_run.specs.declared.pace.Pace.TheVariants as pace
+use Rattle.replay_app.specs.Words.{Pacing, script, link, Form, replay, check, plan, direct, no_form}
 use Rattle.replay_app.specs.declared.status.Status.{Status}
 use Rattle.replay_app.specs.declared.status.Status.TheVariants.{Done, NoForm, BadPolicy, BadTarget, NoRoom, BadScript, BadCapture}
 
@@ -42,9 +44,21 @@ IsOneOf (s ∷ others) status = (status ≡ s) ⊎ IsOneOf others status
 abbrev pub run_statuses : List ℕ
 run_statuses = 6 ∷ 7 ∷ 0 ∷ []
 
+-- a link has no script
+abbrev pub link_statuses : List ℕ
+link_statuses = 7 ∷ 0 ∷ []
+
+abbrev pub paced_statuses : Pacing → List ℕ
+paced_statuses (script e) = run_statuses
+paced_statuses (link rate) = link_statuses
+
+abbrev pub pace_statuses : Pace → List ℕ
+pace_statuses (pace.Script steps) = run_statuses
+pace_statuses (pace.Link rate) = link_statuses
+
 -- with which statuses words of a form can end, where nothing stops the program
 abbrev pub statuses_of : Form → List ℕ
-statuses_of (replay p t c e) = 3 ∷ 4 ∷ 5 ∷ run_statuses
+statuses_of (replay p t c pacing) = 3 ∷ 4 ∷ 5 ∷ paced_statuses pacing
 statuses_of (check p) = 3 ∷ 0 ∷ []
 statuses_of (plan p t) = 3 ∷ 4 ∷ 5 ∷ 0 ∷ []
 statuses_of (direct p c e) = 3 ∷ run_statuses

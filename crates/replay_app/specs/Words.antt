@@ -1,17 +1,25 @@
 -- The words behind the program's name, and the forms that they may have.
-use Rattle.std.specs.Prelude.{◌≡◌, refl, ℕ, Bool, IsTrue, if◌then◌else◌, Option, Some, List, [], ◌∷◌, map, codes, String, string_bytes}
+use Rattle.std.specs.Prelude.{◌≡◌, refl, ℕ, nat_le, ◌&&◌, Bool, IsTrue, if◌then◌else◌, Option, None, Some, option_map, List, [], ◌∷◌, map, codes, String, string_bytes}
 use Rattle.std.specs.List.{AllByRecursion}
+use Rattle.std.specs.Option.{option_and_then, option_map_or}
 use Rattle.std.specs.Str.{bytes_eq}
 use Rattle.std.specs.declared.alloc.Global.{Global}
+use Rattle.link_defs.specs.Link.{most_rate}
+use Rattle.text_core.specs.Decimals.{number_of}
 
 -- the bytes of each word
 abbrev pub texts : List (String Global) → List (List ℕ)
 texts words = map string_bytes words
 
+-- what paces a run: a script of this name, or a link at this rate in bytes a second
+pub data Pacing : Type 0 where
+  script : List ℕ → Pacing
+  link : ℕ → Pacing
+
 -- a command with the names of its files
 pub data Form : Type 0 where
-  -- a policy, a target, a capture and a script
-  replay : List ℕ → List ℕ → List ℕ → List ℕ → Form
+  -- a policy, a target, a capture, and what paces the run
+  replay : List ℕ → List ℕ → List ℕ → Pacing → Form
   -- a policy
   check : List ℕ → Form
   -- a policy and a target
@@ -20,16 +28,29 @@ pub data Form : Type 0 where
   direct : List ℕ → List ℕ → List ℕ → Form
   no_form : Form
 
+-- the rate that a word says
+abbrev pub rate_of : List ℕ → Option ℕ
+rate_of w = option_and_then (λ n. if nat_le 1 n && nat_le n most_rate then Some n else None) (number_of w)
+
+-- what paces a run through the fabric, by the first word and the last
+abbrev pub pacing_by : List ℕ → List ℕ → Option Pacing
+pacing_by w last = if bytes_eq w (codes "replay") then Some (script last) else (if bytes_eq w (codes "link") then option_map link (rate_of last) else None)
+
 abbrev pub form_of : List (List ℕ) → Form
 form_of (w ∷ p ∷ []) = if bytes_eq w (codes "check") then check p else no_form
 form_of (w ∷ p ∷ t ∷ []) = if bytes_eq w (codes "plan") then plan p t else no_form
 form_of (w ∷ p ∷ c ∷ e ∷ []) = if bytes_eq w (codes "direct") then direct p c e else no_form
-form_of (w ∷ p ∷ t ∷ c ∷ e ∷ []) = if bytes_eq w (codes "replay") then replay p t c e else no_form
+form_of (w ∷ p ∷ t ∷ c ∷ last ∷ []) = option_map_or (replay p t c) (pacing_by w last) no_form
 form_of words = no_form
+
+-- the word that names a script, if one does
+abbrev pub pacing_words : Pacing → List (List ℕ)
+pacing_words (script e) = e ∷ []
+pacing_words (link rate) = []
 
 -- the words that name files
 abbrev pub file_words : Form → List (List ℕ)
-file_words (replay p t c e) = p ∷ t ∷ c ∷ e ∷ []
+file_words (replay p t c pacing) = p ∷ t ∷ c ∷ pacing_words pacing
 file_words (check p) = p ∷ []
 file_words (plan p t) = p ∷ t ∷ []
 file_words (direct p c e) = p ∷ c ∷ e ∷ []
@@ -51,8 +72,20 @@ WhereTold content names P = (contents : List ℕ → List ℕ) → AreTold conte
 abbrev pub form_in : List (String Global) → Form
 form_in words = form_of (texts words)
 
-pub form_of-replay : form_of (codes "replay" ∷ codes "p" ∷ codes "t" ∷ codes "c" ∷ codes "e" ∷ []) ≡ replay (codes "p") (codes "t") (codes "c") (codes "e")
+pub form_of-replay : form_of (codes "replay" ∷ codes "p" ∷ codes "t" ∷ codes "c" ∷ codes "e" ∷ []) ≡ replay (codes "p") (codes "t") (codes "c") (script (codes "e"))
 form_of-replay = refl
+
+pub form_of-link : form_of (codes "link" ∷ codes "p" ∷ codes "t" ∷ codes "c" ∷ codes "010" ∷ []) ≡ replay (codes "p") (codes "t") (codes "c") (link 10)
+form_of-link = refl
+
+pub form_of-link_too_slow : form_of (codes "link" ∷ codes "p" ∷ codes "t" ∷ codes "c" ∷ codes "0" ∷ []) ≡ no_form
+form_of-link_too_slow = refl
+
+pub form_of-link_fastest : form_of (codes "link" ∷ codes "p" ∷ codes "t" ∷ codes "c" ∷ codes "1000000000000" ∷ []) ≡ replay (codes "p") (codes "t") (codes "c") (link 1000000000000)
+form_of-link_fastest = refl
+
+pub form_of-link_too_fast : form_of (codes "link" ∷ codes "p" ∷ codes "t" ∷ codes "c" ∷ codes "1000000000001" ∷ []) ≡ no_form
+form_of-link_too_fast = refl
 
 pub form_of-replay_alone : form_of (codes "replay" ∷ []) ≡ no_form
 form_of-replay_alone = refl

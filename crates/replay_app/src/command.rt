@@ -59,7 +59,7 @@ fn answer<S: Shelf, K: Sink, F: Fabric>(
 
 /// Does what the words say, and answers the status with which the program ends. The words are those
 /// behind the program's name: `replay` and the names of a policy, a target, a capture and a script,
-/// `direct` and the names of a policy, a capture and a script, `plan` and the names of a policy and a
+/// `link` and the names of a policy, a target and a capture with a rate in bytes per second, `direct` and the names of a policy, a capture and a script, `plan` and the names of a policy and a
 /// target, or `check` and the name of a policy.
 pub fn run<S: Shelf, K: Sink, F: Fabric>(
     alloc: Global,

@@ -1,10 +1,9 @@
 //! Runs through a policy's own tree of queues.
-ghost use Rattle.std.specs.Prelude.{◌≡◌, ◌≤◌, ◌∷◌, [], IfOk, IfSome, OnOk, OnErr, IsTrue, IsErrOf};
+ghost use Rattle.std.specs.Prelude.{◌≡◌, ◌∷◌, [], IfOk, IfSome, OnOk, OnErr, IsTrue, IsErrOf};
 ghost use Rattle.outside_core.specs.Faults.{Rose};
 ghost use Rattle.outside_core.specs.Written.{Appended, AppendedPrefix};
-ghost use Rattle.events_core.specs.Script.{most_count};
-ghost use Rattle.events_core.specs.Steps.{counts_of};
-ghost use Rattle.sched_capture.specs.Answers.{direct_answer};
+ghost use Rattle.sched_run.specs.Steps.{pace_of, IsBounded};
+ghost use Rattle.sched_capture.specs.Answers.{paced_answer};
 ghost use Rattle.replay_app.specs.Answer.{IsTold};
 ghost use Rattle.replay_app.specs.Named.{direct_form};
 ghost use Rattle.replay_app.specs.Output.{IsOutput};
@@ -24,31 +23,32 @@ use outside_core::{Shelf, Sink, Stop};
 use policy_core::Policy;
 use report_core::FaultKind;
 use sched_capture::direct;
+use sched_run::Pace;
 use std::alloc::Global;
 
-/// Runs the steps of a script over a capture's file.
+/// Runs a script over a capture's file.
 fn direct_capture<S: Shelf, K: Sink>(
     alloc: Global,
     policy: &Policy,
-    task: &Task<'_>,
+    task: &Task<'_, '_>,
     shelf: &mut S,
     sink: &mut K,
 ) -> Result<Status, Stop>
     requires lent { IsTrue (S.lends shelf.old task.now.capture.now) }
-    requires short { counts_of task.now.steps.now ≤ most_count }
+    requires bounded { IsBounded task.now.pace }
 
     ensures status { IfOk result (λ s. IfSome (S.content shelf.old task.now.capture.now) (λ file.
-        status_code s ≡ ending_status (direct_answer policy.now task.now.steps.now file).ending)) }
+        status_code s ≡ ending_status (paced_answer policy.now (pace_of task.now.pace) file).ending)) }
     ensures statuses { IfOk result (λ s. IsOneOf run_statuses (status_code s)) }
     ensures text { OnOk result (IfSome (S.content shelf.old task.now.capture.now) (λ file.
-        Appended (K.written sink.old) (K.written sink.new) (direct_answer policy.now task.now.steps.now file).text)) }
+        Appended (K.written sink.old) (K.written sink.new) (paced_answer policy.now (pace_of task.now.pace) file).text)) }
     ensures part { OnErr result (IfSome (S.content shelf.old task.now.capture.now) (λ file.
-        AppendedPrefix (K.written sink.old) (K.written sink.new) (direct_answer policy.now task.now.steps.now file).text)) }
+        AppendedPrefix (K.written sink.old) (K.written sink.new) (paced_answer policy.now (pace_of task.now.pace) file).text)) }
     ensures shelf_cause { IsErrOf result Stop.Source → Rose (S.faults shelf.old) (S.faults shelf.new) }
     ensures sink_cause { IsErrOf result Stop.Sink → Rose (K.faults sink.old) (K.faults sink.new) }
 {
     shelf.begin(task.capture)?;
-    Ok(Status::of_run(direct(alloc, policy, task.steps, shelf, sink)?))
+    Ok(Status::of_run(direct(alloc, policy, task.pace, shelf, sink)?))
 }
 
 /// Runs the files of an accepted policy.
@@ -69,10 +69,9 @@ fn direct_script<S: Shelf, K: Sink>(
 {
     match read_script(alloc, shelf, files.script)? {
         Read::Accepted(script) => {
-            let task = Task {
-                steps: script.steps(),
-                capture: files.capture,
-            };
+            let pace = Pace::Script(script.steps());
+            let capture = files.capture;
+            let task = Task { pace, capture };
             direct_capture(alloc, policy, &task, shelf, sink)
         }
         Read::Refused(refusal) => refuse(alloc, sink, FaultKind::Script, refusal),

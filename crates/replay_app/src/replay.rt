@@ -1,5 +1,5 @@
 //! Runs through a fabric into which a policy's tree is laid.
-ghost use Rattle.std.specs.Prelude.{◌≡◌, ◌≤◌, ◌<◌, ◌^◌, ◌∷◌, [], IfOk, IfSome, OnOk, OnErr, IsTrue, IsErrOf};
+ghost use Rattle.std.specs.Prelude.{◌≡◌, ◌<◌, ◌^◌, ◌∷◌, [], IfOk, IfSome, OnOk, OnErr, IsTrue, IsErrOf};
 ghost use Rattle.outside_core.specs.Faults.{Rose};
 ghost use Rattle.outside_core.specs.Written.{Appended, AppendedPrefix};
 ghost use Rattle.tree_defs.specs.Tree.{SameShape};
@@ -7,26 +7,25 @@ ghost use Rattle.tree_defs.specs.Topology.{topology_of, complete};
 ghost use Rattle.target_defs.specs.Target.{IsInRange};
 ghost use Rattle.embed_defs.specs.Images.{image_map};
 ghost use Rattle.embed_defs.specs.Embedding.{IsEmbedding};
-ghost use Rattle.events_core.specs.Script.{most_count};
-ghost use Rattle.events_core.specs.Steps.{counts_of};
 ghost use Rattle.sched_embedded.specs.Fabrics.{IsAsItWas, Leaves, LeavesPart, run_of};
-ghost use Rattle.sched_capture.specs.Answers.{direct_answer};
+ghost use Rattle.sched_run.specs.Steps.{pace_of, IsBounded};
+ghost use Rattle.sched_capture.specs.Answers.{paced_answer};
 ghost use Rattle.sched_capture.specs.Placements.{laid_by};
 ghost use Rattle.replay_app.specs.Answer.{IsLeft, IsTold};
-ghost use Rattle.replay_app.specs.Named.{replay_form};
+ghost use Rattle.replay_app.specs.Named.{pacing_form, replay_form, HasRate};
 ghost use Rattle.replay_app.specs.Output.{IsOutput};
 ghost use Rattle.replay_app.specs.Scripts.{ending_status};
-ghost use Rattle.replay_app.specs.Stages.{BehindRoom, BehindTarget, BehindTargetText};
-ghost use Rattle.replay_app.specs.Statuses.{IsOneOf, IsRefusal, run_statuses, statuses_of, status_code};
-ghost use Rattle.replay_app.specs.Words.{AreLent, WhereTold, file_words};
+ghost use Rattle.replay_app.specs.Stages.{BehindScript, BehindRoom, BehindTarget, BehindTargetText};
+ghost use Rattle.replay_app.specs.Statuses.{IsOneOf, IsRefusal, run_statuses, pace_statuses, paced_statuses, statuses_of, status_code};
+ghost use Rattle.replay_app.specs.Words.{AreLent, WhereTold, file_words, pacing_words};
 
 use crate::policies::read_policy;
 use crate::refusal::{Read, Refusal};
 use crate::scripts::read_script;
 use crate::status::Status;
 use crate::targets::read_target_file;
-use crate::task::Task;
-use crate::words::ReplayFiles;
+use crate::task::{ScriptFiles, Task};
+use crate::words::{Pacing, ReplayFiles};
 use crate::writing::refuse;
 use embed_core::{EmbedFault, Target, embed};
 use fabric_core::Fabric;
@@ -34,23 +33,24 @@ use outside_core::{Shelf, Sink, Stop};
 use policy_core::Policy;
 use report_core::FaultKind;
 use sched_capture::{Placement, replay};
+use sched_run::Pace;
 use std::alloc::Global;
 
 /// The target has no room for the policy's tree.
 const NO_ROOM: Refusal = Refusal { code: 1, place: 0 };
 
-/// Runs the steps of a script over a capture's file.
+/// Runs a script or a link over a capture's file.
 fn replay_capture<S: Shelf, K: Sink, F: Fabric>(
     alloc: Global,
     policy: &Policy,
     placement: Placement,
-    task: &Task<'_>,
+    task: &Task<'_, '_>,
     shelf: &mut S,
     sink: &mut K,
     fabric: &mut F,
 ) -> Result<Status, Stop>
     requires lent { IsTrue (S.lends shelf.old task.now.capture.now) }
-    requires short { counts_of task.now.steps.now ≤ most_count }
+    requires bounded { IsBounded task.now.pace }
     requires range { IsInRange placement.target.arities placement.target.above }
     requires map_shape { SameShape (topology_of policy.now.policy.tree) placement.map }
     requires embedding { IsEmbedding (topology_of policy.now.policy.tree) (complete placement.target.arities) (image_map placement.map) }
@@ -58,30 +58,32 @@ fn replay_capture<S: Shelf, K: Sink, F: Fabric>(
     requires pops { F.popped fabric.old < 2 ^ 61 }
 
     ensures status { IfOk result (λ s. IfSome (S.content shelf.old task.now.capture.now) (λ file.
-        status_code s ≡ ending_status (direct_answer policy.now task.now.steps.now file).ending)) }
-    ensures statuses { IfOk result (λ s. IsOneOf run_statuses (status_code s)) }
+        status_code s ≡ ending_status (paced_answer policy.now (pace_of task.now.pace) file).ending)) }
+    ensures statuses { IfOk result (λ s. IsOneOf (pace_statuses task.now.pace) (status_code s)) }
     ensures text { OnOk result (IfSome (S.content shelf.old task.now.capture.now) (λ file.
-        Appended (K.written sink.old) (K.written sink.new) (direct_answer policy.now task.now.steps.now file).text)) }
+        Appended (K.written sink.old) (K.written sink.new) (paced_answer policy.now (pace_of task.now.pace) file).text)) }
     ensures part { OnErr result (IfSome (S.content shelf.old task.now.capture.now) (λ file.
-        AppendedPrefix (K.written sink.old) (K.written sink.new) (direct_answer policy.now task.now.steps.now file).text)) }
+        AppendedPrefix (K.written sink.old) (K.written sink.new) (paced_answer policy.now (pace_of task.now.pace) file).text)) }
     ensures fabric { OnOk result (IfSome (S.content shelf.old task.now.capture.now) (λ file.
-        Leaves F.Fabric (run_of policy.now.policy (laid_by placement) (direct_answer policy.now task.now.steps.now file).events) fabric.old fabric.new)) }
+        Leaves F.Fabric (run_of policy.now.policy (laid_by placement) (paced_answer policy.now (pace_of task.now.pace) file).events)
+        fabric.old fabric.new)) }
     ensures fabric_part { OnErr result (IfSome (S.content shelf.old task.now.capture.now) (λ file.
-        LeavesPart F.Fabric (run_of policy.now.policy (laid_by placement) (direct_answer policy.now task.now.steps.now file).events) fabric.old fabric.new)) }
+        LeavesPart F.Fabric (run_of policy.now.policy (laid_by placement) (paced_answer policy.now (pace_of task.now.pace) file).events)
+        fabric.old fabric.new)) }
     ensures shelf_cause { IsErrOf result Stop.Source → Rose (S.faults shelf.old) (S.faults shelf.new) }
     ensures sink_cause { IsErrOf result Stop.Sink → Rose (K.faults sink.old) (K.faults sink.new) }
 {
     shelf.begin(task.capture)?;
-    let ending = replay(alloc, policy, placement, task.steps, shelf, sink, fabric)?;
+    let ending = replay(alloc, policy, placement, task.pace, shelf, sink, fabric)?;
     Ok(Status::of_run(ending))
 }
 
-/// Runs the files of a policy whose tree is laid into the target.
+/// Runs a script's file over a capture's file.
 fn replay_script<S: Shelf, K: Sink, F: Fabric>(
     alloc: Global,
     policy: &Policy,
     placement: Placement,
-    files: &ReplayFiles<'_>,
+    files: &ScriptFiles<'_>,
     shelf: &mut S,
     sink: &mut K,
     fabric: &mut F,
@@ -94,22 +96,68 @@ fn replay_script<S: Shelf, K: Sink, F: Fabric>(
     requires pops { F.popped fabric.old < 2 ^ 61 }
 
     ensures answer { WhereTold (S.content shelf.old) (files.now.capture.now ∷ files.now.script.now ∷ []) (λ contents.
-        IsTold (BehindRoom policy.now (laid_by placement) (contents files.now.script.now) (contents files.now.capture.now)) result (K.written sink.old) (K.written sink.new)) }
+        IsTold (BehindScript policy.now (laid_by placement) files.now.script.now files.now.capture.now contents)
+        result (K.written sink.old) (K.written sink.new)) }
     ensures fabric { WhereTold (S.content shelf.old) (files.now.capture.now ∷ files.now.script.now ∷ []) (λ contents.
-        IsLeft F.Fabric (BehindRoom policy.now (laid_by placement) (contents files.now.script.now) (contents files.now.capture.now)) result fabric.old fabric.new) }
+        IsLeft F.Fabric (BehindScript policy.now (laid_by placement) files.now.script.now files.now.capture.now contents)
+        result fabric.old fabric.new) }
     ensures statuses { IfOk result (λ s. IsOneOf run_statuses (status_code s)) }
     ensures shelf_cause { IsErrOf result Stop.Source → Rose (S.faults shelf.old) (S.faults shelf.new) }
     ensures sink_cause { IsErrOf result Stop.Sink → Rose (K.faults sink.old) (K.faults sink.new) }
 {
     match read_script(alloc, shelf, files.script)? {
         Read::Accepted(script) => {
-            let task = Task {
-                steps: script.steps(),
-                capture: files.capture,
-            };
+            let pace = Pace::Script(script.steps());
+            let capture = files.capture;
+            let task = Task { pace, capture };
             replay_capture(alloc, policy, placement, &task, shelf, sink, fabric)
         }
         Read::Refused(refusal) => refuse(alloc, sink, FaultKind::Script, refusal),
+    }
+}
+
+/// Runs what paces a run of a policy whose tree is laid into the target.
+fn replay_paced<S: Shelf, K: Sink, F: Fabric>(
+    alloc: Global,
+    policy: &Policy,
+    placement: Placement,
+    files: &ReplayFiles<'_>,
+    shelf: &mut S,
+    sink: &mut K,
+    fabric: &mut F,
+) -> Result<Status, Stop>
+    requires lent { AreLent (S.lends shelf.old) (files.now.capture.now ∷ pacing_words (pacing_form files.now.pacing)) }
+    requires rate { HasRate files.now.pacing }
+    requires range { IsInRange placement.target.arities placement.target.above }
+    requires map_shape { SameShape (topology_of policy.now.policy.tree) placement.map }
+    requires embedding { IsEmbedding (topology_of policy.now.policy.tree) (complete placement.target.arities) (image_map placement.map) }
+    requires pushes { F.pushed fabric.old < 2 ^ 61 }
+    requires pops { F.popped fabric.old < 2 ^ 61 }
+
+    ensures answer { WhereTold (S.content shelf.old) (files.now.capture.now ∷ pacing_words (pacing_form files.now.pacing)) (λ contents.
+        IsTold (BehindRoom policy.now (laid_by placement) (pacing_form files.now.pacing) files.now.capture.now contents)
+        result (K.written sink.old) (K.written sink.new)) }
+    ensures fabric { WhereTold (S.content shelf.old) (files.now.capture.now ∷ pacing_words (pacing_form files.now.pacing)) (λ contents.
+        IsLeft F.Fabric (BehindRoom policy.now (laid_by placement) (pacing_form files.now.pacing) files.now.capture.now contents)
+        result fabric.old fabric.new) }
+    ensures statuses { IfOk result (λ s. IsOneOf (paced_statuses (pacing_form files.now.pacing)) (status_code s)) }
+    ensures shelf_cause { IsErrOf result Stop.Source → Rose (S.faults shelf.old) (S.faults shelf.new) }
+    ensures sink_cause { IsErrOf result Stop.Sink → Rose (K.faults sink.old) (K.faults sink.new) }
+{
+    match files.pacing {
+        Pacing::Script(name) => {
+            let names = ScriptFiles {
+                capture: files.capture,
+                script: name,
+            };
+            replay_script(alloc, policy, placement, &names, shelf, sink, fabric)
+        }
+        Pacing::Link(rate) => {
+            let pace = Pace::Link(rate);
+            let capture = files.capture;
+            let task = Task { pace, capture };
+            replay_capture(alloc, policy, placement, &task, shelf, sink, fabric)
+        }
     }
 }
 
@@ -123,16 +171,19 @@ fn replay_placed<S: Shelf, K: Sink, F: Fabric>(
     sink: &mut K,
     fabric: &mut F,
 ) -> Result<Status, Stop>
-    requires lent { AreLent (S.lends shelf.old) (files.now.capture.now ∷ files.now.script.now ∷ []) }
+    requires lent { AreLent (S.lends shelf.old) (files.now.capture.now ∷ pacing_words (pacing_form files.now.pacing)) }
+    requires rate { HasRate files.now.pacing }
     requires range { IsInRange target.arities target.above }
     requires pushes { F.pushed fabric.old < 2 ^ 61 }
     requires pops { F.popped fabric.old < 2 ^ 61 }
 
-    ensures answer { WhereTold (S.content shelf.old) (files.now.capture.now ∷ files.now.script.now ∷ []) (λ contents.
-        IsTold (BehindTarget policy.now target (contents files.now.script.now) (contents files.now.capture.now)) result (K.written sink.old) (K.written sink.new)) }
-    ensures fabric { WhereTold (S.content shelf.old) (files.now.capture.now ∷ files.now.script.now ∷ []) (λ contents.
-        IsLeft F.Fabric (BehindTarget policy.now target (contents files.now.script.now) (contents files.now.capture.now)) result fabric.old fabric.new) }
-    ensures statuses { IfOk result (λ s. IsOneOf (5 ∷ run_statuses) (status_code s)) }
+    ensures answer { WhereTold (S.content shelf.old) (files.now.capture.now ∷ pacing_words (pacing_form files.now.pacing)) (λ contents.
+        IsTold (BehindTarget policy.now target (pacing_form files.now.pacing) files.now.capture.now contents)
+        result (K.written sink.old) (K.written sink.new)) }
+    ensures fabric { WhereTold (S.content shelf.old) (files.now.capture.now ∷ pacing_words (pacing_form files.now.pacing)) (λ contents.
+        IsLeft F.Fabric (BehindTarget policy.now target (pacing_form files.now.pacing) files.now.capture.now contents)
+        result fabric.old fabric.new) }
+    ensures statuses { IfOk result (λ s. IsOneOf (5 ∷ paced_statuses (pacing_form files.now.pacing)) (status_code s)) }
     ensures refused { IfOk result (λ s. IsRefusal (status_code s) → IsAsItWas F.Fabric fabric.old fabric.new) }
     ensures shelf_cause { IsErrOf result Stop.Source → Rose (S.faults shelf.old) (S.faults shelf.new) }
     ensures sink_cause { IsErrOf result Stop.Sink → Rose (K.faults sink.old) (K.faults sink.new) }
@@ -140,7 +191,7 @@ fn replay_placed<S: Shelf, K: Sink, F: Fabric>(
     match embed(alloc, policy.topo(), &target) {
         Ok(map) => {
             let placement = Placement { target, map };
-            replay_script(alloc, policy, placement, files, shelf, sink, fabric)
+            replay_paced(alloc, policy, placement, files, shelf, sink, fabric)
         }
         Err(EmbedFault::NoEmbedding) => refuse(alloc, sink, FaultKind::Size, NO_ROOM),
         Err(EmbedFault::NoMemory) => Err(Stop::Memory),
@@ -156,15 +207,20 @@ fn replay_target<S: Shelf, K: Sink, F: Fabric>(
     sink: &mut K,
     fabric: &mut F,
 ) -> Result<Status, Stop>
-    requires lent { AreLent (S.lends shelf.old) (files.now.target.now ∷ files.now.capture.now ∷ files.now.script.now ∷ []) }
+    requires lent { AreLent (S.lends shelf.old) (files.now.target.now ∷ files.now.capture.now ∷ pacing_words (pacing_form files.now.pacing)) }
+    requires rate { HasRate files.now.pacing }
     requires pushes { F.pushed fabric.old < 2 ^ 61 }
     requires pops { F.popped fabric.old < 2 ^ 61 }
 
-    ensures answer { WhereTold (S.content shelf.old) (files.now.target.now ∷ files.now.capture.now ∷ files.now.script.now ∷ []) (λ contents.
-        IsTold (BehindTargetText policy.now (contents files.now.target.now) (contents files.now.script.now) (contents files.now.capture.now)) result (K.written sink.old) (K.written sink.new)) }
-    ensures fabric { WhereTold (S.content shelf.old) (files.now.target.now ∷ files.now.capture.now ∷ files.now.script.now ∷ []) (λ contents.
-        IsLeft F.Fabric (BehindTargetText policy.now (contents files.now.target.now) (contents files.now.script.now) (contents files.now.capture.now)) result fabric.old fabric.new) }
-    ensures statuses { IfOk result (λ s. IsOneOf (4 ∷ 5 ∷ run_statuses) (status_code s)) }
+    ensures answer { WhereTold (S.content shelf.old)
+        (files.now.target.now ∷ files.now.capture.now ∷ pacing_words (pacing_form files.now.pacing)) (λ contents.
+        IsTold (BehindTargetText policy.now files.now.target.now (pacing_form files.now.pacing) files.now.capture.now contents)
+        result (K.written sink.old) (K.written sink.new)) }
+    ensures fabric { WhereTold (S.content shelf.old)
+        (files.now.target.now ∷ files.now.capture.now ∷ pacing_words (pacing_form files.now.pacing)) (λ contents.
+        IsLeft F.Fabric (BehindTargetText policy.now files.now.target.now (pacing_form files.now.pacing) files.now.capture.now contents)
+        result fabric.old fabric.new) }
+    ensures statuses { IfOk result (λ s. IsOneOf (4 ∷ 5 ∷ paced_statuses (pacing_form files.now.pacing)) (status_code s)) }
     ensures refused { IfOk result (λ s. IsRefusal (status_code s) → IsAsItWas F.Fabric fabric.old fabric.new) }
     ensures shelf_cause { IsErrOf result Stop.Source → Rose (S.faults shelf.old) (S.faults shelf.new) }
     ensures sink_cause { IsErrOf result Stop.Sink → Rose (K.faults sink.old) (K.faults sink.new) }
@@ -185,6 +241,7 @@ pub fn replay_files<S: Shelf, K: Sink, F: Fabric>(
     fabric: &mut F,
 ) -> Result<Status, Stop>
     requires lent { AreLent (S.lends shelf.old) (file_words (replay_form files.now)) }
+    requires rate { HasRate files.now.pacing }
     requires pushes { F.pushed fabric.old < 2 ^ 61 }
     requires pops { F.popped fabric.old < 2 ^ 61 }
 

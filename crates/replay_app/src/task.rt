@@ -1,9 +1,16 @@
-//! What is run: a script over a capture.
-use events_core::Step;
+//! What is run over a capture.
+use sched_run::Pace;
 
-/// The steps of a script, and the name of the capture over which they run.
+/// What paces a run, and the name of the capture over which it goes.
 #[derive(Clone, Copy, Debug)]
-pub struct Task<'a> {
-    pub steps: &'a [Step],
+pub struct Task<'p, 'c> {
+    pub pace: Pace<'p>,
+    pub capture: &'c str,
+}
+
+/// The names of a capture and of the script that runs over it.
+#[derive(Clone, Copy, Debug)]
+pub struct ScriptFiles<'a> {
     pub capture: &'a str,
+    pub script: &'a str,
 }

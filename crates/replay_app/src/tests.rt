@@ -381,3 +381,32 @@ fn a_fault_ends_the_run(rt: HostRuntime) -> Result<(), Fail> {
     }
     Ok(())
 }
+
+#[test]
+fn links_over_memory(rt: HostRuntime) -> Result<(), Fail> {
+    let alloc = rt.alloc();
+    let table: [(&[u8], &str, u8, &[u8]); 6] = [
+        (
+            POLICY,
+            "1",
+            0,
+            b"a 1 1 root 0\nd 2 1 root 0 1000000000\na 3 2 root 0\nd 4 2 root 0 5000000000\nend pushed 2 popped 2 empty 0 held 0 unsent 0\n",
+        ),
+        (
+            POLICY,
+            "01000000000000",
+            0,
+            b"a 1 1 root 0\nd 2 1 root 0 1000000000\na 3 2 root 0\nd 4 2 root 0 1000001000\nend pushed 2 popped 2 empty 0 held 0 unsent 0\n",
+        ),
+        (POLICY, "1000000000001", 2, b"fault words 0 0\n"),
+        (POLICY, "0", 2, b"fault words 0 0\n"),
+        (POLICY, "", 2, b"fault words 0 0\n"),
+        (TOO_OLD, "1", 3, b"fault policy 14 3\n"),
+    ];
+    for (policy, rate, status, text) in table {
+        let held = files(alloc, policy, CAPTURE, b"")?;
+        let (answer, written) = answer_to(alloc, &["link", "p", "t", "c", rate], held)?;
+        assert_eq!(rt; (answer, written.as_slice()), (status, text));
+    }
+    Ok(())
+}

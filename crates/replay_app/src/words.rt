@@ -1,7 +1,20 @@
 //! The words of the commands.
-ghost use Rattle.std.specs.Prelude.{◌≡◌, MatchOption};
-ghost use Rattle.replay_app.specs.Words.{form_of, no_form, texts};
-ghost use Rattle.replay_app.specs.Named.{command_form};
+ghost use Rattle.std.specs.Prelude.{◌≡◌, IfSome, MatchOption, option_map};
+ghost use Rattle.link_defs.specs.Link.{IsRate};
+ghost use Rattle.replay_app.specs.Words.{rate_of, pacing_by, form_of, no_form, texts};
+ghost use Rattle.replay_app.specs.Named.{pacing_form, command_form, HasRate, CanRun};
+
+use events_core::MOST_RATE;
+use text_core::decimal;
+
+/// What paces a run through the fabric.
+#[derive(Clone, Copy, Debug)]
+pub enum Pacing<'a> {
+    /// The script of this name.
+    Script(&'a str),
+    /// A link at this rate in bytes per second.
+    Link(u64),
+}
 
 /// The names of the files of a run through the fabric.
 #[derive(Clone, Copy, Debug)]
@@ -9,7 +22,7 @@ pub struct ReplayFiles<'a> {
     pub policy: &'a str,
     pub target: &'a str,
     pub capture: &'a str,
-    pub script: &'a str,
+    pub pacing: Pacing<'a>,
 }
 
 /// The names of the files of a run through a policy's own tree.
@@ -30,7 +43,7 @@ pub struct PlanFiles<'a> {
 /// What the words ask for.
 #[derive(Clone, Copy, Debug)]
 pub enum Command<'a> {
-    /// A run over these files, through the fabric.
+    /// A run over these files, through the fabric, paced by a script or by a link.
     Replay(ReplayFiles<'a>),
     /// The canonical text of a policy's file.
     Check(&'a str),
@@ -40,9 +53,31 @@ pub enum Command<'a> {
     Direct(DirectFiles<'a>),
 }
 
+/// The rate that a word says, if one does.
+fn rate_of(word: &str) -> Option<u64>
+    ensures value { result ≡ rate_of word.now }
+    ensures range { IfSome result IsRate }
+{
+    let rate = decimal(word.as_bytes())?;
+    (1..=MOST_RATE).contains(&rate).then_some(rate)
+}
+
+/// What paces a run through the fabric, by the first word and the last.
+fn pacing_of<'a>(command: &str, last: &'a str) -> Option<Pacing<'a>>
+    ensures pacing { option_map pacing_form result ≡ pacing_by command.now last.now }
+    ensures range { IfSome result HasRate }
+{
+    match command {
+        "replay" => Some(Pacing::Script(last)),
+        "link" => Some(Pacing::Link(rate_of(last)?)),
+        _ => None,
+    }
+}
+
 /// The command that the words spell, if they are in a form.
 pub fn command_of(words: &[String]) -> Option<Command<'_>>
-    ensures { MatchOption result (form_of (texts words.now) ≡ no_form) (λ c. form_of (texts words.now) ≡ command_form c) }
+    ensures range { IfSome result CanRun }
+    ensures form { MatchOption result (form_of (texts words.now) ≡ no_form) (λ c. form_of (texts words.now) ≡ command_form c) }
 {
     match words {
         [command, policy] => {
@@ -61,12 +96,13 @@ pub fn command_of(words: &[String]) -> Option<Command<'_>>
                 script: script.as_str(),
             }))
         }
-        [command, policy, target, capture, script] => {
-            (command.as_str() == "replay").then_some(Command::Replay(ReplayFiles {
+        [command, policy, target, capture, last] => {
+            let pacing = pacing_of(command.as_str(), last.as_str())?;
+            Some(Command::Replay(ReplayFiles {
                 policy: policy.as_str(),
                 target: target.as_str(),
                 capture: capture.as_str(),
-                script: script.as_str(),
+                pacing,
             }))
         }
         _ => None,

@@ -11,10 +11,11 @@ use Rattle.policy_rules.specs.Resolved.{Resolved}
 use Rattle.fabric_core.specs.declared.fabric.Fabric.{Ghosts}
 use Rattle.sched_core.specs.Origins.{Origin}
 use Rattle.sched_core.specs.Spills.{raised, spills_in}
-use Rattle.events_core.specs.declared.step.Step.{Step}
 use Rattle.sched_defs.specs.declared.ending.Ending.{Ending}
 use Rattle.outside_core.specs.declared.stop.Stop.{Stop}
 use Rattle.sched_defs.specs.Packets.{Left}
+use Rattle.sched_run.specs.declared.pace.Pace.{Pace}
+use Rattle.sched_run.specs.Steps.{pace_of}
 use Rattle.sched_run.specs.Courses.{course_of}
 use Rattle.sched_run.proofs.StepLaws.{on_err_given}
 use Rattle.sched_packets.specs.Arrivals.{Begins}
@@ -22,7 +23,7 @@ use Rattle.sched_embedded.specs.declared.embedded.Embedded.{Embedded}
 use Rattle.sched_embedded.specs.Embedded.{EmbeddedStands, origin_of}
 use Rattle.sched_embedded.specs.Fabrics.{FabricRun, run_of, HoldsAfter, HoldsAmid, Leaves, LeavesPart}
 use Rattle.sched_embedded.specs.Laid.{Laid}
-use Rattle.sched_capture.specs.Answers.{direct_answer}
+use Rattle.sched_capture.specs.Answers.{paced_answer}
 
 module _ {F : Type 0} (fabrics : Ghosts F) (policy : Policy) (laid : Laid) (c : Embedded F) (old mid : F)
     (origin : origin_of c ≡ record { images = laid.images; arities = laid.arities; pushes = fabrics.pushed old; pops = fabrics.popped old })
@@ -46,31 +47,31 @@ module _ {F : Type 0} (fabrics : Ghosts F) (policy : Policy) (laid : Laid) (c : 
       }
 
 -- ---- a whole run, and a part of one
-module _ {F : Type 0} (fabrics : Ghosts F) (policy : Resolved) (laid : Laid) (steps : List Step) where
+module _ {F : Type 0} (fabrics : Ghosts F) (policy : Resolved) (laid : Laid) (pace : Pace) where
   -- the run over what was left of the capture behind its header
   abbrev over : Left → FabricRun
-  over l = record { policy = policy.policy; laid = laid; events = (course_of policy.policy steps l (start policy.policy) 1).events }
+  over l = record { policy = policy.policy; laid = laid; events = (course_of policy.policy pace l (start policy.policy) 1).events }
 
   -- what is said of that run is said of the run of the file
   of_file : (file : List ℕ) (left : Option Left) (Q : Left → Type 0) (P : Option FabricRun → Type 0) → ((l : Left) → Q l → P (Some (over l))) → Begins policy (capture_of file) left → IfSome left Q
-      → P (run_of policy.policy laid (direct_answer policy steps file).events)
+      → P (run_of policy.policy laid (paced_answer policy (pace_of pace) file).events)
   of_file file left Q P into begins each = rw (begins.is) (into _ (rw (begins.all) at each))
 
   pub left_by : (r : Result Ending Stop) (told : Option (List ℕ)) (left : Option Left) (Q : Left → Type 0) (old new : F) → ((l : Left) → Q l → HoldsAfter fabrics (over l) old new) →
-      IfSome told (λ file. Begins policy (capture_of file) left) → OnOk r (IfSome left Q) → OnOk r (IfSome told (λ file. Leaves fabrics (run_of policy.policy laid (direct_answer policy steps file).events) old new))
+      IfSome told (λ file. Begins policy (capture_of file) left) → OnOk r (IfSome left Q) → OnOk r (IfSome told (λ file. Leaves fabrics (run_of policy.policy laid (paced_answer policy (pace_of pace) file).events) old new))
   left_by (Err stop) told left Q old new into begins each = tt
   left_by (Ok e) None left Q old new into begins each = tt
   left_by (Ok e) (Some file) left Q old new into begins each = of_file file left Q (λ run. Leaves fabrics run old new) into begins each
 
   pub left_amid : (r : Result Ending Stop) (told : Option (List ℕ)) (left : Option Left) (Q : Left → Type 0) (old new : F) → ((l : Left) → Q l → HoldsAmid fabrics (over l) old new) →
-      IfSome told (λ file. Begins policy (capture_of file) left) → OnErr r (IfSome left Q) → OnErr r (IfSome told (λ file. LeavesPart fabrics (run_of policy.policy laid (direct_answer policy steps file).events) old new))
+      IfSome told (λ file. Begins policy (capture_of file) left) → OnErr r (IfSome left Q) → OnErr r (IfSome told (λ file. LeavesPart fabrics (run_of policy.policy laid (paced_answer policy (pace_of pace) file).events) old new))
   left_amid (Ok e) told left Q old new into begins each = tt
   left_amid (Err stop) None left Q old new into begins each = tt
   left_amid (Err stop) (Some file) left Q old new into begins each = of_file file left Q (λ run. LeavesPart fabrics run old new) (λ l q. inr (into l q)) begins each
 
   -- nothing was made yet
   pub none_amid : (r : Result Ending Stop) (told : Option (List ℕ)) (left : Option Left) (old new : F) → ((l : Left) → HoldsAmid fabrics (over l) old new) →
-      IfSome told (λ file. Begins policy (capture_of file) left) → OnErr r (IfSome told (λ file. LeavesPart fabrics (run_of policy.policy laid (direct_answer policy steps file).events) old new))
+      IfSome told (λ file. Begins policy (capture_of file) left) → OnErr r (IfSome told (λ file. LeavesPart fabrics (run_of policy.policy laid (paced_answer policy (pace_of pace) file).events) old new))
   none_amid r told left old new each begins = left_amid r told left (λ l. Unit {0}) old new (λ l _. each l) begins (on_err_given r (IfSome left (λ l. Unit {0})) (always left))
     where
       always : (o : Option Left) → IfSome o (λ l. Unit {0})

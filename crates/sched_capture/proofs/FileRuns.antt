@@ -10,31 +10,34 @@ use Rattle.outside_core.specs.declared.stop.Stop.TheVariants.{Source, Sink, Memo
 use Rattle.outside_core.proofs.FaultLaws.{rose_after}
 use Rattle.pcap_defs.specs.Reading.{capture_of}
 use Rattle.policy_rules.specs.Resolved.{Resolved}
-use Rattle.events_core.specs.declared.step.Step.{Step}
+use Rattle.sched_defs.specs.Pace.{Pace}
 use Rattle.sched_defs.specs.declared.ending.Ending.{Ending}
 use Rattle.sched_defs.specs.Packets.{Left}
+use Rattle.sched_run.specs.Steps.{IsNoPastLast, CanEndSo}
+use Rattle.sched_run.specs.declared.pace.Pace as code
+use Rattle.sched_run.specs.declared.pace.Pace.TheVariants as code_pace
 use Rattle.sched_packets.specs.Arrivals.{Begins}
-use Rattle.sched_capture.specs.Answers.{RunAnswer, answer_of, direct_answer}
+use Rattle.sched_capture.specs.Answers.{RunAnswer, answer_of, paced_answer}
 
-module _ (policy : Resolved) (steps : List Step) where
+module _ (policy : Resolved) (pace : Pace) where
   -- what is said of the answer over what is left is said of the answer for the file
   over_file : (P : RunAnswer → Type 0) (told : Option (List ℕ)) (left : Option Left) → IfSome told (λ file. Begins policy (capture_of file) left)
-      → IfSome left (λ l. P (answer_of policy.policy steps l.packets l.fault)) → IfSome told (λ file. P (direct_answer policy steps file))
+      → IfSome left (λ l. P (answer_of policy.policy pace l.packets l.fault)) → IfSome told (λ file. P (paced_answer policy pace file))
   over_file P None left begins each = tt
   over_file P (Some file) left begins each = rw (begins.is) (rw (begins.all) at each)
 
   pub ending_of : (r : Result Ending Stop) (told : Option (List ℕ)) (left : Option Left) → IfSome told (λ file. Begins policy (capture_of file) left)
-      → IfOk r (λ e. IfSome left (λ l. e ≡ (answer_of policy.policy steps l.packets l.fault).ending)) → IfOk r (λ e. IfSome told (λ file. e ≡ (direct_answer policy steps file).ending))
+      → IfOk r (λ e. IfSome left (λ l. e ≡ (answer_of policy.policy pace l.packets l.fault).ending)) → IfOk r (λ e. IfSome told (λ file. e ≡ (paced_answer policy pace file).ending))
   ending_of r told left begins each =
-      IfOk-weaker r (λ e. IfSome left (λ l. e ≡ (answer_of policy.policy steps l.packets l.fault).ending)) (λ e. IfSome told (λ file. e ≡ (direct_answer policy steps file).ending))
+      IfOk-weaker r (λ e. IfSome left (λ l. e ≡ (answer_of policy.policy pace l.packets l.fault).ending)) (λ e. IfSome told (λ file. e ≡ (paced_answer policy pace file).ending))
       (λ e. over_file (λ a. e ≡ a.ending) told left begins) each
 
   pub text_of_file : (r : Result Ending Stop) (told : Option (List ℕ)) (left : Option Left) (before written : Option (List ℕ)) → IfSome told (λ file. Begins policy (capture_of file) left)
-      → OnOk r (IfSome left (λ l. Appended before written (answer_of policy.policy steps l.packets l.fault).text)) → OnOk r (IfSome told (λ file. Appended before written (direct_answer policy steps file).text))
+      → OnOk r (IfSome left (λ l. Appended before written (answer_of policy.policy pace l.packets l.fault).text)) → OnOk r (IfSome told (λ file. Appended before written (paced_answer policy pace file).text))
   text_of_file r told left before written begins each = on_ok_weaker r (over_file (λ a. Appended before written a.text) told left begins) each
 
   pub part_of_file : (r : Result Ending Stop) (told : Option (List ℕ)) (left : Option Left) (before written : Option (List ℕ)) → IfSome told (λ file. Begins policy (capture_of file) left)
-      → OnErr r (IfSome left (λ l. AppendedPrefix before written (answer_of policy.policy steps l.packets l.fault).text)) → OnErr r (IfSome told (λ file. AppendedPrefix before written (direct_answer policy steps file).text))
+      → OnErr r (IfSome left (λ l. AppendedPrefix before written (answer_of policy.policy pace l.packets l.fault).text)) → OnErr r (IfSome told (λ file. AppendedPrefix before written (paced_answer policy pace file).text))
   part_of_file r told left before written begins each = on_err_weaker r (over_file (λ a. AppendedPrefix before written a.text) told left begins) each
 
 -- ---- what stopped
@@ -50,3 +53,9 @@ module _ {S K : Type 0} (source_faults : S → ℕ) (s s' s'' : S) (sink_faults 
   source_rose (Err Source) later cause is = rose_after (source_faults s) (source_faults s') (source_faults s'') later cause
   source_rose (Err Sink) later cause is = cc
   source_rose (Err Memory) later cause is = cc
+
+-- ---- how a run can end
+-- what asks for no packet past the last is an ending at any pace
+pub can_end : (p : code.Pace) (e : Ending) → IsNoPastLast e → CanEndSo p e
+can_end (code_pace.Script steps) e none = tt
+can_end (code_pace.Link rate) e none = none

@@ -13,10 +13,11 @@ use Rattle.sched_defs.specs.Script.{Course}
 use Rattle.sched_defs.proofs.Soundness.{sound_start}
 use Rattle.sched_core.specs.declared.scheduler.Scheduler.{Ghosts}
 use Rattle.sched_core.specs.Standing.{StandForOne}
-use Rattle.events_core.specs.declared.step.Step.{Step}
 use Rattle.sched_defs.specs.declared.ending.Ending.{Ending}
 use Rattle.outside_core.specs.declared.stop.Stop.{Stop}
 use Rattle.sched_defs.specs.Packets.{Left}
+use Rattle.sched_run.specs.declared.pace.Pace.{Pace}
+use Rattle.sched_run.specs.Steps.{pace_of}
 use Rattle.sched_run.specs.Stages.{CanBegin}
 use Rattle.sched_run.specs.Courses.{course_of, OnCourse, Runs, Breaks}
 use Rattle.sched_run.proofs.StartLaws.{start_can_begin}
@@ -30,46 +31,46 @@ pub stand_at_start : {C U : Type 0} (stands : C → U → SourceState → Type 0
 stand_at_start stands own policy c u given same accepted stood =
     rw same (record { state = start policy; sound = sound_start policy accepted; stood = stood; has = start_can_begin policy given })
 
-module _ {C U : Type 0} (S : Ghosts C U) (own policy : Policy) (steps : List Step) (given : ℕ) (old : C) (under : U) (same : own ≡ policy) (accepted : IsAccepted policy) (stood : S.stands old under (start policy)) where
+module _ {C U : Type 0} (S : Ghosts C U) (own policy : Policy) (pace : Pace) (given : ℕ) (old : C) (under : U) (same : own ≡ policy) (accepted : IsAccepted policy) (stood : S.stands old under (start policy)) where
   -- what holds of each course holds of that from the start
-  at_start : (P : SourceState → Course → Type 0) (left : Option Left) → OnCourse S.stands policy old under given left steps P
-      → IfSome left (λ l. P (start policy) (course_of policy steps l (start policy) 1))
+  at_start : (P : SourceState → Course → Type 0) (left : Option Left) → OnCourse S.stands policy old under given left (course_of policy pace) P
+      → IfSome left (λ l. P (start policy) (course_of policy pace l (start policy) 1))
   at_start P None each = tt
   at_start P (Some l) each = each (start policy) (sound_start policy accepted) stood (start_can_begin policy given).held
 
-  pub ending_told : (r : Result Ending Stop) (left : Option Left) → IfOk r (λ e. OnCourse S.stands own old under given left steps (λ s run. e ≡ run.ending))
-      → IfOk r (λ e. IfSome left (λ l. e ≡ (answer_of policy steps l.packets l.fault).ending))
+  pub ending_told : (r : Result Ending Stop) (left : Option Left) → IfOk r (λ e. OnCourse S.stands own old under given left (course_of own pace) (λ s run. e ≡ run.ending))
+      → IfOk r (λ e. IfSome left (λ l. e ≡ (answer_of policy (pace_of pace) l.packets l.fault).ending))
   ending_told r left each =
-      IfOk-weaker r (λ e. OnCourse S.stands policy old under given left steps (λ s run. e ≡ run.ending)) (λ e. IfSome left (λ l. e ≡ (answer_of policy steps l.packets l.fault).ending))
+      IfOk-weaker r (λ e. OnCourse S.stands policy old under given left (course_of policy pace) (λ s run. e ≡ run.ending)) (λ e. IfSome left (λ l. e ≡ (answer_of policy (pace_of pace) l.packets l.fault).ending))
       (λ e. at_start (λ s run. e ≡ run.ending) left) (rw same at each)
 
   pub text_told : (r : Result Ending Stop) (left : Option Left) (new : C) (u : U) (before written : Option (List ℕ)) (held : List ℕ) → held ≡ []
-      → OnOk r (OnCourse S.stands own old under given left steps (λ s run. Runs S own run s old under new u (appended before held) written))
-      → OnOk r (IfSome left (λ l. Appended before written (answer_of policy steps l.packets l.fault).text))
+      → OnOk r (OnCourse S.stands own old under given left (course_of own pace) (λ s run. Runs S own run s old under new u (appended before held) written))
+      → OnOk r (IfSome left (λ l. Appended before written (answer_of policy (pace_of pace) l.packets l.fault).text))
   text_told r left new u before written held none each =
       on_ok_weaker r (λ all. IfSome_then left (at_start (λ s run. Runs S policy run s old under new u (appended before held) written) left all)
-      (λ l runs. whole_text before written held (answer_of policy steps l.packets l.fault).text none runs.report)) (rw same at each)
+      (λ l runs. whole_text before written held (answer_of policy (pace_of pace) l.packets l.fault).text none runs.report)) (rw same at each)
 
   pub part_told : (r : Result Ending Stop) (left : Option Left) (new : C) (u : U) (before written : Option (List ℕ)) (held : List ℕ) → held ≡ [] → Begins before written
-      → OnErr r (OnCourse S.stands own old under given left steps (λ s run. Breaks S own run s old under new u (appended before held) written))
-      → OnErr r (IfSome left (λ l. AppendedPrefix before written (answer_of policy steps l.packets l.fault).text))
+      → OnErr r (OnCourse S.stands own old under given left (course_of own pace) (λ s run. Breaks S own run s old under new u (appended before held) written))
+      → OnErr r (IfSome left (λ l. AppendedPrefix before written (answer_of policy (pace_of pace) l.packets l.fault).text))
   part_told r left new u before written held none begins each =
       on_err_weaker r (λ all. IfSome_then left (at_start (λ s run. Breaks S policy run s old under new u (appended before held) written) left all)
-      (λ l breaks. cut_part before written held (answer_of policy steps l.packets l.fault).text none begins breaks.report)) (rw same at each)
+      (λ l breaks. cut_part before written held (answer_of policy (pace_of pace) l.packets l.fault).text none begins breaks.report)) (rw same at each)
 
   pub state_told : (r : Result Ending Stop) (left : Option Left) (new : C) (u : U) (text written : Option (List ℕ))
-      → OnOk r (OnCourse S.stands own old under given left steps (λ s run. Runs S own run s old under new u text written))
-      → OnOk r (IfSome left (λ l. HasMade S policy (course_of policy steps l (start policy) 1).events (start policy) old under new u))
+      → OnOk r (OnCourse S.stands own old under given left (course_of own pace) (λ s run. Runs S own run s old under new u text written))
+      → OnOk r (IfSome left (λ l. HasMade S policy (course_of policy pace l (start policy) 1).events (start policy) old under new u))
   state_told r left new u text written each =
       on_ok_weaker r (λ all. IfSome_then left (at_start (λ s run. Runs S policy run s old under new u text written) left all) (λ l runs. runs.leaves)) (rw same at each)
 
   pub amid_told : (r : Result Ending Stop) (left : Option Left) (new : C) (u : U) (text written : Option (List ℕ))
-      → OnErr r (OnCourse S.stands own old under given left steps (λ s run. Breaks S own run s old under new u text written))
-      → OnErr r (IfSome left (λ l. HasMadeSome S policy (course_of policy steps l (start policy) 1).events (start policy) old under new u))
+      → OnErr r (OnCourse S.stands own old under given left (course_of own pace) (λ s run. Breaks S own run s old under new u text written))
+      → OnErr r (IfSome left (λ l. HasMadeSome S policy (course_of policy pace l (start policy) 1).events (start policy) old under new u))
   amid_told r left new u text written each =
       on_err_weaker r (λ all. IfSome_then left (at_start (λ s run. Breaks S policy run s old under new u text written) left all) (λ l breaks. breaks.leaves)) (rw same at each)
 
   -- nothing is made yet
-  pub unmoved : (left : Option Left) → IfSome left (λ l. HasMadeSome S policy (course_of policy steps l (start policy) 1).events (start policy) old under old under)
+  pub unmoved : (left : Option Left) → IfSome left (λ l. HasMadeSome S policy (course_of policy pace l (start policy) 1).events (start policy) old under old under)
   unmoved None = tt
-  unmoved (Some l) = made_some_none S policy (course_of policy steps l (start policy) 1).events (start policy) stood refl refl refl refl
+  unmoved (Some l) = made_some_none S policy (course_of policy pace l (start policy) 1).events (start policy) stood refl refl refl refl

@@ -1,6 +1,6 @@
 -- What a run over a policy's own tree of queues answers.
-use Rattle.std.specs.Prelude.{◌≡◌, ℕ, Option, None, Some, option_map, List, map, codes}
-use Rattle.outside_core.specs.Written.{Appended}
+use Rattle.std.specs.Prelude.{◌≡◌, ℕ, Option, None, Some, option_map, List, codes}
+use Rattle.outside_core.specs.Written.{Appended, AppendedPrefix}
 use Rattle.pcap_defs.specs.Fault.{Fault, code, place}
 use Rattle.pcap_defs.specs.Reading.{Capture, refused, packets, capture_of}
 use Rattle.packet_defs.specs.declared.packet.Packet.{Packet}
@@ -11,11 +11,8 @@ use Rattle.sched_defs.specs.Events.{Event}
 use Rattle.sched_defs.specs.declared.ending.Ending.{Ending}
 use Rattle.sched_defs.specs.declared.ending.Ending.TheVariants.{BadCapture}
 use Rattle.sched_defs.specs.Faults.{FaultAt}
-use Rattle.sched_defs.specs.Script.{course}
-use Rattle.sched_defs.specs.Report.{report}
+use Rattle.sched_defs.specs.Pace.{Pace, paced_course, paced_report}
 use Rattle.policy_rules.specs.Resolved.{Resolved}
-use Rattle.events_core.specs.declared.step.Step.{Step}
-use Rattle.sched_run.specs.Steps.{step_of}
 use Rattle.sched_packets.specs.Halts.{fault_at}
 use Rattle.sched_packets.specs.Packets.{packets_from}
 
@@ -40,18 +37,22 @@ pub record IsRefusal (capture : Capture) (ending : Ending) (before written : Opt
   pub ends : ending ≡ (refusal_answer fault).ending
   pub text : Appended before written (refusal_answer fault).text
 
--- a script runs over packets, and then meets the fault behind them
-abbrev pub answer_of : Policy → List Step → List Packet → Option FaultAt → RunAnswer
-answer_of policy steps arriving fault = record {
-  ending = (course policy (map step_of steps) arriving fault (start policy) 1).ending;
-  text = report policy (map step_of steps) arriving fault;
-  events = Some (course policy (map step_of steps) arriving fault (start policy) 1).events;
+-- a paced run goes over packets, and then meets the fault behind them
+abbrev pub answer_of : Policy → Pace → List Packet → Option FaultAt → RunAnswer
+answer_of policy pace arriving fault = record {
+  ending = (paced_course policy pace arriving fault (start policy) 1).ending;
+  text = paced_report policy pace arriving fault;
+  events = Some (paced_course policy pace arriving fault (start policy) 1).events;
 }
 
-abbrev pub answer_over : Resolved → List Step → Capture → RunAnswer
-answer_over policy steps (refused fault) = refusal_answer fault
-answer_over policy steps (packets head records fault) = answer_of policy.policy steps (packets_from policy head 1 records) (option_map fault_at fault)
+abbrev pub answer_over : Resolved → Pace → Capture → RunAnswer
+answer_over policy pace (refused fault) = refusal_answer fault
+answer_over policy pace (packets head records fault) = answer_of policy.policy pace (packets_from policy head 1 records) (option_map fault_at fault)
 
--- the answer for a policy, the steps of a script and the bytes of a capture
-abbrev pub direct_answer : Resolved → List Step → List ℕ → RunAnswer
-direct_answer policy steps file = answer_over policy steps (capture_of file)
+-- the answer for a policy, what paces the run, and the bytes of a capture
+abbrev pub paced_answer : Resolved → Pace → List ℕ → RunAnswer
+paced_answer policy pace file = answer_over policy pace (capture_of file)
+
+-- of the text of each run over the bytes of a capture a first part was written
+abbrev pub IsPartOfEach : Resolved → List ℕ → Option (List ℕ) → Option (List ℕ) → Type 0
+IsPartOfEach policy file before written = (pace : Pace) → AppendedPrefix before written (paced_answer policy pace file).text

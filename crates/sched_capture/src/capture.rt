@@ -1,25 +1,22 @@
-//! A script over a capture through the policy's own tree of queues.
-ghost use Rattle.std.specs.Prelude.{◌≡◌, ◌≤◌, List, codes, IfOk, IfErr, IfSome, IsTrue, OnOk, OnErr, IsErrOf};
+//! A run over a capture through the policy's own tree of queues.
+ghost use Rattle.std.specs.Prelude.{◌≡◌, ◌≤◌, codes, IfOk, IfErr, IfSome, IsTrue, OnOk, OnErr, IsErrOf};
 ghost use Rattle.outside_core.specs.Faults.{Rose};
 ghost use Rattle.outside_core.specs.Kept.{KeepsSink, HasCause, HasSinkCause};
 ghost use Rattle.outside_core.specs.Written.{Appended, AppendedPrefix};
 ghost use Rattle.report_defs.specs.Report.{fault_line};
 ghost use Rattle.pcap_defs.specs.Reading.{capture_of};
-ghost use Rattle.events_core.specs.Steps.{counts_of};
-ghost use Rattle.events_core.specs.declared.step.Step.{Step};
-ghost use Rattle.events_core.specs.Script.{most_count};
 ghost use Rattle.sched_packets.specs.Arrivals.{policy_of, given_by, left_of, IsReady, Begins};
-ghost use Rattle.sched_capture.specs.Answers.{IsRefusal, direct_answer};
+ghost use Rattle.sched_run.specs.Steps.{pace_of, IsBounded, IsNoPastLast, CanEndSo};
+ghost use Rattle.sched_capture.specs.Answers.{IsRefusal, IsPartOfEach, paced_answer};
 
 use crate::course::run_over;
-use events_core::Step;
 use outside_core::{Shelf, Sink, Stop};
 use policy_core::Policy;
 use report_core::{FaultKind, write_fault};
 use sched_core::Direct;
 use sched_defs::{Ending, Halt};
 use sched_packets::Arrivals;
-use sched_run::Run;
+use sched_run::{Pace, Run};
 use std::alloc::Global;
 
 /// Writes the line of a capture whose header is at fault, as the whole report. The answer is how the run ends.
@@ -53,8 +50,9 @@ pub fn begin<'a, S: Shelf, K: Sink>(
 
     ensures refused { IfErr result (λ answer. IfOk answer (λ e. IfSome (S.left shelf.old) (λ file.
         IsRefusal (capture_of file) e (K.written sink.old) (K.written sink.new)))) }
-    ensures part { IfErr result (λ answer. OnErr answer ((steps : List Step) → IfSome (S.left shelf.old) (λ file.
-        AppendedPrefix (K.written sink.old) (K.written sink.new) (direct_answer policy.now steps file).text))) }
+    ensures at_capture { IfErr result (λ answer. IfOk answer IsNoPastLast) }
+    ensures part { IfErr result (λ answer. OnErr answer (IfSome (S.left shelf.old) (λ file.
+        IsPartOfEach policy.now file (K.written sink.old) (K.written sink.new)))) }
     ensures kept { KeepsSink K.written K.faults sink.old sink.new }
     ensures later { S.faults shelf.old ≤ S.faults shelf.new }
     ensures cause { IfErr result (λ answer. IfErr answer (λ stop.
@@ -68,24 +66,25 @@ pub fn begin<'a, S: Shelf, K: Sink>(
     }
 }
 
-/// Runs the steps of a script over the begun capture, through the policy's own tree of queues, and writes the whole report.
+/// Runs a script or a link over the begun capture, through the policy's own tree of queues, and writes the whole report.
 /// The answer is how the run ended: at a capture with a fault and at a script that asks for too much, too. It is an error
 /// where the capture can't be read, the report can't be written, or there is no memory; the report is then cut short.
 pub fn direct<S: Shelf, K: Sink>(
     alloc: Global,
     policy: &Policy,
-    steps: &[Step],
+    pace: Pace<'_>,
     shelf: &mut S,
     sink: &mut K,
 ) -> Result<Ending, Stop>
     requires begun { IsTrue (S.begun shelf.old) }
-    requires short { counts_of steps.now ≤ most_count }
+    requires bounded { IsBounded pace }
 
-    ensures ending { IfOk result (λ e. IfSome (S.left shelf.old) (λ file. e ≡ (direct_answer policy.now steps.now file).ending)) }
+    ensures ends { IfOk result (CanEndSo pace.entry) }
+    ensures ending { IfOk result (λ e. IfSome (S.left shelf.old) (λ file. e ≡ (paced_answer policy.now (pace_of pace.entry) file).ending)) }
     ensures text { OnOk result (IfSome (S.left shelf.old) (λ file.
-        Appended (K.written sink.old) (K.written sink.new) (direct_answer policy.now steps.now file).text)) }
+        Appended (K.written sink.old) (K.written sink.new) (paced_answer policy.now (pace_of pace.entry) file).text)) }
     ensures part { OnErr result (IfSome (S.left shelf.old) (λ file.
-        AppendedPrefix (K.written sink.old) (K.written sink.new) (direct_answer policy.now steps.now file).text)) }
+        AppendedPrefix (K.written sink.old) (K.written sink.new) (paced_answer policy.now (pace_of pace.entry) file).text)) }
     ensures sink_cause { IsErrOf result Stop.Sink → Rose (K.faults sink.old) (K.faults sink.new) }
     ensures source_cause { IsErrOf result Stop.Source → Rose (S.faults shelf.old) (S.faults shelf.new) }
     ensures kept { KeepsSink K.written K.faults sink.old sink.new }
@@ -99,13 +98,5 @@ pub fn direct<S: Shelf, K: Sink>(
         return Err(Stop::Memory);
     };
     let mut run = Run::new(alloc, policy, policy.depth(), policy.version(), scheduler)?;
-    run_over(
-        policy,
-        &mut run,
-        &mut tree,
-        steps,
-        &mut packets,
-        shelf,
-        sink,
-    )
+    run_over(policy, &mut run, &mut tree, pace, &mut packets, shelf, sink)
 }

@@ -3,28 +3,26 @@ ghost use Rattle.std.specs.Prelude.{◌≡◌, ◌≤◌, [], IfOk, IfErr, IfSom
 ghost use Rattle.outside_core.specs.Kept.{KeepsSink, HasCause};
 ghost use Rattle.outside_core.specs.Written.{Appended, AppendedPrefix};
 ghost use Rattle.sched_defs.specs.SourceState.{start};
-ghost use Rattle.events_core.specs.Script.{most_count};
-ghost use Rattle.events_core.specs.Steps.{counts_of};
 ghost use Rattle.sched_packets.specs.Arrivals.{policy_of, given_by, left_of, IsReady};
 ghost use Rattle.sched_run.specs.Courses.{course_of};
 ghost use Rattle.sched_run.specs.Frames.{IsSet, Continues};
+ghost use Rattle.sched_run.specs.Steps.{pace_of, IsBounded, CanEndSo};
 ghost use Rattle.sched_run.specs.Played.{HasMade, HasMadeSome};
 ghost use Rattle.sched_capture.specs.Answers.{answer_of};
 
-use events_core::Step;
 use outside_core::{Shelf, Sink, Stop};
 use policy_core::Policy;
 use sched_core::Scheduler;
 use sched_defs::Ending;
 use sched_packets::Arrivals;
-use sched_run::Run;
+use sched_run::{Pace, Run};
 
 /// Runs the packets that come through any scheduler of this policy that stands for the start, and writes the report.
 pub fn run_over<C: Scheduler + Drop, S: Shelf, K: Sink>(
     policy: &Policy,
     run: &mut Run<'_, C, Policy>,
     under: &mut C::Under,
-    steps: &[Step],
+    pace: Pace<'_>,
     packets: &mut Arrivals<'_, S>,
     shelf: &mut S,
     sink: &mut K,
@@ -35,29 +33,30 @@ pub fn run_over<C: Scheduler + Drop, S: Shelf, K: Sink>(
     requires packets { policy_of packets.old ≡ policy.now.policy }
     requires none_given { given_by packets.old ≡ 0 }
     requires ready { IsReady packets.old (S.begun shelf.old) }
-    requires short { counts_of steps.now ≤ most_count }
+    requires bounded { IsBounded pace }
     requires stands { C.stands run.old.scheduler under.old (start policy.now.policy) }
     requires no_pushes { C.pushes run.old.scheduler ≡ 0 }
     requires no_departures { C.departures run.old.scheduler ≡ 0 }
 
     ensures ending { IfOk result (λ e. IfSome (left_of packets.old (S.left shelf.old)) (λ l.
-        e ≡ (answer_of policy.now.policy steps.now l.packets l.fault).ending)) }
+        e ≡ (answer_of policy.now.policy (pace_of pace.entry) l.packets l.fault).ending)) }
+    ensures ends { IfOk result (CanEndSo pace.entry) }
     ensures text { OnOk result (IfSome (left_of packets.old (S.left shelf.old)) (λ l.
-        Appended (K.written sink.old) (K.written sink.new) (answer_of policy.now.policy steps.now l.packets l.fault).text)) }
+        Appended (K.written sink.old) (K.written sink.new) (answer_of policy.now.policy (pace_of pace.entry) l.packets l.fault).text)) }
     ensures part { OnErr result (IfSome (left_of packets.old (S.left shelf.old)) (λ l.
-        AppendedPrefix (K.written sink.old) (K.written sink.new) (answer_of policy.now.policy steps.now l.packets l.fault).text)) }
+        AppendedPrefix (K.written sink.old) (K.written sink.new) (answer_of policy.now.policy (pace_of pace.entry) l.packets l.fault).text)) }
     ensures state { OnOk result (IfSome (left_of packets.old (S.left shelf.old)) (λ l.
         HasMade C.Scheduler policy.now.policy
-        (course_of policy.now.policy steps.now l (start policy.now.policy) 1).events (start policy.now.policy)
+        (course_of policy.now.policy pace.entry l (start policy.now.policy) 1).events (start policy.now.policy)
         run.old.scheduler under.old run.new.scheduler under.new)) }
     ensures amid { OnErr result (IfSome (left_of packets.old (S.left shelf.old)) (λ l.
         HasMadeSome C.Scheduler policy.now.policy
-        (course_of policy.now.policy steps.now l (start policy.now.policy) 1).events (start policy.now.policy)
+        (course_of policy.now.policy pace.entry l (start policy.now.policy) 1).events (start policy.now.policy)
         run.old.scheduler under.old run.new.scheduler under.new)) }
     ensures kept_run { Continues C.Scheduler run.old run.new }
     ensures kept { KeepsSink K.written K.faults sink.old sink.new }
     ensures later { S.faults shelf.old ≤ S.faults shelf.new }
     ensures cause { IfErr result (λ stop. HasCause stop S.faults shelf.old shelf.new K.faults sink.old sink.new) }
 {
-    run.play(under, sink, packets, shelf, steps)
+    run.play(under, sink, packets, shelf, pace)
 }

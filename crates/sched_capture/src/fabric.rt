@@ -1,5 +1,5 @@
-//! A script over a capture through the hardware's queues.
-ghost use Rattle.std.specs.Prelude.{◌≡◌, ◌≤◌, ◌<◌, ◌^◌, length, IfOk, IfSome, IsTrue, OnOk, OnErr, IsErrOf};
+//! A run over a capture through the hardware's queues.
+ghost use Rattle.std.specs.Prelude.{◌≡◌, ◌≤◌, ◌<◌, ◌^◌, IfOk, IfSome, IsTrue, OnOk, OnErr, IsErrOf};
 ghost use Rattle.outside_core.specs.Faults.{Rose};
 ghost use Rattle.outside_core.specs.Kept.{KeepsSink};
 ghost use Rattle.outside_core.specs.Written.{Appended, AppendedPrefix};
@@ -8,22 +8,20 @@ ghost use Rattle.tree_defs.specs.Topology.{topology_of, complete};
 ghost use Rattle.target_defs.specs.Target.{IsInRange};
 ghost use Rattle.embed_defs.specs.Images.{image_map};
 ghost use Rattle.embed_defs.specs.Embedding.{IsEmbedding};
-ghost use Rattle.events_core.specs.Steps.{counts_of};
-ghost use Rattle.events_core.specs.Script.{most_count};
+ghost use Rattle.sched_run.specs.Steps.{pace_of, IsBounded, CanEndSo};
 ghost use Rattle.sched_embedded.specs.Fabrics.{Leaves, LeavesPart, run_of};
-ghost use Rattle.sched_capture.specs.Answers.{direct_answer};
+ghost use Rattle.sched_capture.specs.Answers.{paced_answer};
 ghost use Rattle.sched_capture.specs.Placements.{laid_by};
 
 use crate::capture::begin;
 use crate::course::run_over;
 use embed_core::{Map, Target};
-use events_core::Step;
 use fabric_core::Fabric;
 use outside_core::{Shelf, Sink, Stop};
 use policy_core::Policy;
 use sched_defs::Ending;
 use sched_embedded::Embedded;
-use sched_run::Run;
+use sched_run::{Pace, Run};
 use std::alloc::Global;
 
 /// A target, and where a policy's tree is laid in it.
@@ -33,35 +31,36 @@ pub struct Placement {
     pub map: Map,
 }
 
-/// Runs the steps of a script over the begun capture, through a fabric into which the policy's tree is laid by a map, and
+/// Runs a script or a link over the begun capture, through a fabric into which the policy's tree is laid by a map, and
 /// writes the whole report: that of the policy's own tree. The fabric takes the target's shape when the capture's header
 /// is accepted. The answer and the errors are those of `direct`.
 pub fn replay<S: Shelf, K: Sink, F: Fabric>(
     alloc: Global,
     policy: &Policy,
     placement: Placement,
-    steps: &[Step],
+    pace: Pace<'_>,
     shelf: &mut S,
     sink: &mut K,
     fabric: &mut F,
 ) -> Result<Ending, Stop>
     requires begun { IsTrue (S.begun shelf.old) }
-    requires short { counts_of steps.now ≤ most_count }
+    requires bounded { IsBounded pace }
     requires range { IsInRange placement.target.arities placement.target.above }
     requires map_shape { SameShape (topology_of policy.now.policy.tree) placement.map }
     requires embedding { IsEmbedding (topology_of policy.now.policy.tree) (complete placement.target.arities) (image_map placement.map) }
     requires pushes { F.pushed fabric.old < 2 ^ 61 }
     requires pops { F.popped fabric.old < 2 ^ 61 }
 
-    ensures ending { IfOk result (λ e. IfSome (S.left shelf.old) (λ file. e ≡ (direct_answer policy.now steps.now file).ending)) }
+    ensures ends { IfOk result (CanEndSo pace.entry) }
+    ensures ending { IfOk result (λ e. IfSome (S.left shelf.old) (λ file. e ≡ (paced_answer policy.now (pace_of pace.entry) file).ending)) }
     ensures text { OnOk result (IfSome (S.left shelf.old) (λ file.
-        Appended (K.written sink.old) (K.written sink.new) (direct_answer policy.now steps.now file).text)) }
+        Appended (K.written sink.old) (K.written sink.new) (paced_answer policy.now (pace_of pace.entry) file).text)) }
     ensures part { OnErr result (IfSome (S.left shelf.old) (λ file.
-        AppendedPrefix (K.written sink.old) (K.written sink.new) (direct_answer policy.now steps.now file).text)) }
+        AppendedPrefix (K.written sink.old) (K.written sink.new) (paced_answer policy.now (pace_of pace.entry) file).text)) }
     ensures fabric { OnOk result (IfSome (S.left shelf.old) (λ file.
-        Leaves F.Fabric (run_of policy.now.policy (laid_by placement) (direct_answer policy.now steps.now file).events) fabric.old fabric.new)) }
+        Leaves F.Fabric (run_of policy.now.policy (laid_by placement) (paced_answer policy.now (pace_of pace.entry) file).events) fabric.old fabric.new)) }
     ensures fabric_part { OnErr result (IfSome (S.left shelf.old) (λ file.
-        LeavesPart F.Fabric (run_of policy.now.policy (laid_by placement) (direct_answer policy.now steps.now file).events) fabric.old fabric.new)) }
+        LeavesPart F.Fabric (run_of policy.now.policy (laid_by placement) (paced_answer policy.now (pace_of pace.entry) file).events) fabric.old fabric.new)) }
     ensures sink_cause { IsErrOf result Stop.Sink → Rose (K.faults sink.old) (K.faults sink.new) }
     ensures source_cause { IsErrOf result Stop.Source → Rose (S.faults shelf.old) (S.faults shelf.new) }
     ensures kept { KeepsSink K.written K.faults sink.old sink.new }
@@ -76,5 +75,5 @@ pub fn replay<S: Shelf, K: Sink, F: Fabric>(
         return Err(Stop::Memory);
     };
     let mut run = Run::new(alloc, policy, policy.depth(), policy.version(), scheduler)?;
-    run_over(policy, &mut run, fabric, steps, &mut packets, shelf, sink)
+    run_over(policy, &mut run, fabric, pace, &mut packets, shelf, sink)
 }

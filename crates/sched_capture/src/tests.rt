@@ -4,6 +4,7 @@ use events_core::parse_events;
 use outside_core::{MemShelf, MemSink, Shelf};
 use policy_core::resolve;
 use policy_text::parse;
+use sched_run::Pace;
 use std::alloc::{AllocError, Global};
 use std::test::Fail;
 
@@ -66,7 +67,21 @@ fn ends(
     let policy = resolve(alloc, &lines).ok().ok_or("resolve")?;
     let script = parse_events(alloc, script).ok().ok_or("script")?;
     shelf.begin("c").ok().ok_or("begin")?;
-    Ok(direct(alloc, &policy, script.steps(), shelf, sink))
+    let pace = Pace::Script(script.steps());
+    Ok(direct(alloc, &policy, pace, shelf, sink))
+}
+
+/// How a run over the shelf's one file ends at the pace of a link that sends four bytes a second.
+fn link_ends(
+    alloc: Global,
+    policy: &[u8],
+    shelf: &mut MemShelf,
+    sink: &mut MemSink,
+) -> Result<Result<Ending, Stop>, Fail> {
+    let lines = parse(alloc, policy).ok().ok_or("parse")?;
+    let policy = resolve(alloc, &lines).ok().ok_or("resolve")?;
+    shelf.begin("c").ok().ok_or("begin")?;
+    Ok(direct(alloc, &policy, Pace::Link(4), shelf, sink))
 }
 
 #[test]
@@ -207,6 +222,50 @@ fn runs_over_memory(rt: HostRuntime) -> Result<(), Fail> {
         let mut shelf = shelf_of(alloc, pieces, fail)?;
         let mut sink = MemSink::new(alloc, room, 64, Vec::new(alloc))?;
         let answer = ends(alloc, policy, script, &mut shelf, &mut sink)?;
+        assert_eq!(rt; answer, ending);
+        assert_eq!(rt; sink.bytes(), text.as_bytes());
+    }
+    Ok(())
+}
+
+#[test]
+fn links_over_memory(rt: HostRuntime) -> Result<(), Fail> {
+    let alloc = rt.alloc();
+    let table: [(&[u8], &[&[u8]], usize, Result<Ending, Stop>, &str); 4] = [
+        (
+            ONE_LEAF,
+            TWO,
+            300,
+            Ok(Ending::Whole(0)),
+            "a 1 1 root 0\na 2 2 root 0\nd 3 1 root 0 1000000000\nd 4 2 root 0 2000000000\n\
+            end pushed 2 popped 2 empty 0 held 0 unsent 0\n",
+        ),
+        (
+            FULL,
+            TWO,
+            300,
+            Ok(Ending::Whole(0)),
+            "a 1 1 root 0\nx 2 2 root\nd 3 1 root 0 1000000000\nend pushed 1 popped 1 empty 0 held 0 unsent 0 dropped 1\n",
+        ),
+        (
+            ONE_LEAF,
+            &[HEADER, FOUR, CUT],
+            300,
+            Ok(Ending::BadCapture(6, 2)),
+            "a 1 1 root 0\nfault capture 6 2\n",
+        ),
+        (
+            ONE_LEAF,
+            TWO,
+            39,
+            Err(Stop::Sink),
+            "a 1 1 root 0\na 2 2 root 0\nd 3 1 root 0 ",
+        ),
+    ];
+    for (policy, pieces, room, ending, text) in table {
+        let mut shelf = shelf_of(alloc, pieces, 0)?;
+        let mut sink = MemSink::new(alloc, room, 64, Vec::new(alloc))?;
+        let answer = link_ends(alloc, policy, &mut shelf, &mut sink)?;
         assert_eq!(rt; answer, ending);
         assert_eq!(rt; sink.bytes(), text.as_bytes());
     }

@@ -84,11 +84,11 @@ module _ {C U : Type 0} (S : Ghosts C U) (policy : Policy) where
             ∙ ap (raised (S.spilled c u)) (sym (spills_in-append (images_of (S.origin c)) policy es fs s));
       }
 
-  pub made_departure : {s : SourceState} {c : C} {u : U} {c' : C} {u' : U} →
+  pub made_departure : (start : Option ℕ) {s : SourceState} {c : C} {u : U} {c' : C} {u' : U} →
       S.stands c' u' (departed policy s) → S.pushes c' ≡ S.pushes c → S.departures c' ≡ S.departures c + 1 → S.origin c' ≡ S.origin c → S.spilled c' u' ≡ S.spilled c u →
-      HasMade S policy (Depart None ∷ []) s c u c' u'
-  made_departure {s = s} {c = c} {u = u} state pushes departures origin spilled =
-      let counts = departures_count policy 1 None s in
+      HasMade S policy (Depart start ∷ []) s c u c' u'
+  made_departure start {s = s} {c = c} {u = u} state pushes departures origin spilled =
+      let counts = departures_count policy 1 start s in
       record {
         state = state;
         pushed = omega (arith, pushes, counts.pushed);

@@ -5,6 +5,8 @@ pub mod MadeEvents
 pub mod PacketsInTurn
 pub mod EventCounts
 pub mod StepLaws
+pub mod AgendaLaws
 pub mod CourseLaws
+pub mod LinkLaws
 pub mod ReportLaws
 pub mod StartLaws

@@ -131,12 +131,12 @@ pub ranks_left : (policy : Policy) (s : SourceState) (d : Departed) (way : Way) 
 ranks_left policy s d way h t = (subst (λ (o : Option Leaver). IfSome o (λ l. IsTaken l way)) h.leaves t).ranks
 
 -- the line of a packet that left
-pub line_left : (policy : Policy) (s : SourceState) (d : Departed) (event : ℕ) (name ranks : List ℕ) (h : Left policy s d) → name ≡ name_at policy h.leaver_is.digits → ranks ≡ h.leaver_is.ranks
-    → departure_line event d.packet name ranks None ≡ outcome_line policy event (outcome policy (Depart None) s)
-line_left policy s d event name ranks h n r =
-    ap (λ (z : Departed). departure_line event z.packet name ranks None) (sym h.told)
-    ∙ ap (λ (z : List ℕ). departure_line event h.leaver_is.packet.number z ranks None) n
-    ∙ ap (λ (z : List ℕ). departure_line event h.leaver_is.packet.number (name_at policy h.leaver_is.digits) z None) r
+pub line_left : (policy : Policy) (s : SourceState) (d : Departed) (event : ℕ) (name ranks : List ℕ) (start : Option ℕ) (h : Left policy s d) → name ≡ name_at policy h.leaver_is.digits → ranks ≡ h.leaver_is.ranks
+    → departure_line event d.packet name ranks start ≡ outcome_line policy event (outcome policy (Depart start) s)
+line_left policy s d event name ranks start h n r =
+    ap (λ (z : Departed). departure_line event z.packet name ranks start) (sym h.told)
+    ∙ ap (λ (z : List ℕ). departure_line event h.leaver_is.packet.number z ranks start) n
+    ∙ ap (λ (z : List ℕ). departure_line event h.leaver_is.packet.number (name_at policy h.leaver_is.digits) z start) r
     ∙ sym (rw h.leaves refl)
 
 -- ---- arrivals

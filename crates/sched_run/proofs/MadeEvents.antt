@@ -5,11 +5,12 @@ use Rattle.outside_core.proofs.WrittenLaws.{appended_nothing}
 use Rattle.report_defs.specs.Text.{IsCut}
 use Rattle.report_core.specs.Gathered.{text_of, Gathered}
 use Rattle.report_core.proofs.TextLaws.{IsCut-append}
+use Rattle.packet_defs.specs.declared.packet.Packet.{Packet}
 use Rattle.policy_defs.specs.Policy.{Policy}
 use Rattle.policy_defs.specs.Accepted.{IsAccepted}
-use Rattle.sched_defs.specs.SourceState.{SourceState, arrived, departed}
+use Rattle.sched_defs.specs.SourceState.{Held, SourceState, arrived, departed}
 use Rattle.sched_defs.specs.Sound.{IsSound}
-use Rattle.sched_defs.specs.Events.{Event, Arrive, Depart, CanMake, after}
+use Rattle.sched_defs.specs.Events.{Event, Arrive, Depart, CanArrive, CanMake, after}
 use Rattle.sched_defs.specs.Numbered.{AreNumberedFrom, IsSendable, IsHeldBelow}
 use Rattle.sched_defs.proofs.Courses.{held_none, held_arrived, held_departed}
 use Rattle.sched_defs.proofs.Runs.{sound_after, departures_count}
@@ -21,6 +22,13 @@ use Rattle.sched_run.specs.Stages.{Stage, stage, event_of, packets_in, arrivals_
 use Rattle.sched_run.proofs.EventCounts.{arrivals_in-append, departures_in-append, arrivals_in-departures, departures_in-departures, outcomes_both}
 
 -- ---- packets and their numbers
+pub held_more : (n : ℕ) (held : Held) → IsHeldBelow n held → IsHeldBelow (n + 1) held
+held_more n held below m p e = let l = below m p e in omega arith
+
+-- the packet that comes next can arrive
+pub can_arrive : (policy : Policy) (s : SourceState) (p : Packet) (given : ℕ) → p.number ≡ given + 1 → IsSendable policy p → IsHeldBelow (given + 1) s.held → CanArrive policy s p
+can_arrive policy s p given number sendable below = record { fresh = ap s.held number ∙ held_none s.held (given + 1) below; known = sendable.known; moment = sendable.moment }
+
 -- events whose packets come next can be made
 pub can_make : (policy : Policy) (es : List Event) (n : ℕ) (s : SourceState) → AreNumberedFrom n (packets_in es) → AllByRecursion (IsSendable policy) (packets_in es) → IsHeldBelow n s.held → CanMake policy es s
 can_make policy [] n s numbered sendable below = tt

@@ -17,17 +17,15 @@ use Rattle.sched_defs.specs.Report.{shown_drops, last_line, course_report}
 use Rattle.sched_defs.proofs.Runs.{none_lost}
 use Rattle.sched_core.specs.declared.scheduler.Scheduler.{Ghosts}
 use Rattle.sched_core.specs.Standing.{StandForOne, ForEachState}
-use Rattle.events_core.specs.declared.step.Step as line
 use Rattle.sched_run.specs.Played.{told, HasMade, StopsIn}
 use Rattle.sched_run.proofs.JoinedEvents.{told-append}
 use Rattle.sched_defs.specs.declared.ending.Ending.{Ending}
 use Rattle.sched_defs.specs.declared.ending.Ending.TheVariants.{Whole, BadCapture, PastLast}
-use Rattle.sched_run.specs.declared.tally.Tally.{Tally}
 use Rattle.sched_run.specs.declared.tally.Totals.{Totals}
 use Rattle.sched_defs.specs.Packets.{Left}
 use Rattle.sched_run.specs.Stages.{Stage, event_of, arrivals_in, FromEach, IsFresh, CanBegin, Makes}
 use Rattle.sched_run.specs.Turns.{StopsAmid}
-use Rattle.sched_run.specs.Courses.{course_of, IsCourse, Courses, OnCourse, Runs, Breaks}
+use Rattle.sched_run.specs.Courses.{Agenda, IsCourse, Courses, OnCourse, Runs, Breaks}
 use Rattle.sched_run.specs.Totals.{totals_line, HasTotals, AreTotals}
 use Rattle.sched_run.proofs.MadeEvents.{can_make, stands_after}
 use Rattle.sched_run.proofs.EventCounts.{AreOf, outcomes_of}
@@ -132,18 +130,18 @@ module _ {C U : Type 0} (S : Ghosts C U) (policy : Policy) where
       }
 
   -- the events stopped
-  pub breaks_amid : (steps : List line.Step) (before : Option Left) (old : Stage C U) (c : C) (u : U) (written : Option (List ℕ)) → event_of old.tally ≡ 1 →
-      StopsAmid S policy (λ l s. (course_of policy steps l s (event_of old.tally)).events) before old c u written →
-      OnCourse S.stands policy old.scheduler old.under old.given before steps (λ s run. Breaks S policy run s old.scheduler old.under c u old.text written)
-  breaks_amid steps before old c u written one amid = by_left before amid.first
+  pub breaks_amid : (agenda : Agenda) (before : Option Left) (old : Stage C U) (c : C) (u : U) (written : Option (List ℕ)) → event_of old.tally ≡ 1 →
+      StopsAmid S policy (λ l s. (agenda l s (event_of old.tally)).events) before old c u written →
+      OnCourse S.stands policy old.scheduler old.under old.given before agenda (λ s run. Breaks S policy run s old.scheduler old.under c u old.text written)
+  breaks_amid agenda before old c u written one amid = by_left before amid.first
     where
-      by_left : (a : Option Left) → IfSome a (λ l. FromEach S policy old (λ s. (others : List Event) × (amid.events ++ others ≡ (course_of policy steps l s (event_of old.tally)).events)))
-          → OnCourse S.stands policy old.scheduler old.under old.given a steps (λ s run. Breaks S policy run s old.scheduler old.under c u old.text written)
+      by_left : (a : Option Left) → IfSome a (λ l. FromEach S policy old (λ s. (others : List Event) × (amid.events ++ others ≡ (agenda l s (event_of old.tally)).events)))
+          → OnCourse S.stands policy old.scheduler old.under old.given a agenda (λ s run. Breaks S policy run s old.scheduler old.under c u old.text written)
       by_left None first = tt
       by_left (Some l) first = λ s sound stood below.
-          let run : Course = course_of policy steps l s 1 in
+          let run : Course = agenda l s 1 in
           let front = first s sound stood below in
-          let whole : amid.events ++ front.0 ≡ run.events = front.1 ∙ ap (λ (n : ℕ). (course_of policy steps l s n).events) one in
+          let whole : amid.events ++ front.0 ≡ run.events = front.1 ∙ ap (λ (n : ℕ). (agenda l s n).events) one in
           let stop : StopsIn S policy 1 amid.events s old.scheduler old.under c u old.text written = subst (λ (n : ℕ). StopsIn S policy n amid.events s old.scheduler old.under c u old.text written) one (amid.stop.stopped s sound stood below) in
           let more : List ℕ = told policy (1 + length amid.events) front.0 (after policy amid.events s) in
           let last : List ℕ = last_of policy run.events s run.ending in
@@ -160,8 +158,8 @@ module _ {C U : Type 0} (S : Ghosts C U) (policy : Policy) where
             report = subst (λ (t : List ℕ). IsCut old.text t written) text (IsCut-longer old.text written (told policy 1 amid.events s) (more ++ last) stop.lines);
           }
 
-module _ {C U : Type 0} (S : Ghosts C U) (policy : Policy) (accepted : IsAccepted policy) (steps : List line.Step) (before : Option Left) (e : Ending) (old new : Stage C U) (first held version : ℕ) (t : Totals)
-    (fresh : IsFresh old.tally) (courses : Courses S policy steps e before old new)
+module _ {C U : Type 0} (S : Ghosts C U) (policy : Policy) (accepted : IsAccepted policy) (agenda : Agenda) (before : Option Left) (e : Ending) (old new : Stage C U) (first held version : ℕ) (t : Totals)
+    (fresh : IsFresh old.tally) (courses : Courses S policy agenda e before old new)
     (begun : ForEachState S.stands policy old.scheduler old.under (λ s. first ≡ size s.tree)) (still : ForEachState S.stands policy new.scheduler new.under (λ s. held ≡ size s.tree))
     (totals : AreTotals new.tally first held version t) (own : version ≡ policy.version) where
   one_first : event_of old.tally ≡ 1
@@ -171,23 +169,23 @@ module _ {C U : Type 0} (S : Ghosts C U) (policy : Policy) (accepted : IsAccepte
   tallied_at s sound stood below = tallied S policy accepted courses.events old new first held version t s fresh courses.made sound stood below (begun s sound stood) (held_then S policy accepted courses.events old new held s courses.made sound stood below still) totals own
 
   pub runs_told : (written : Option (List ℕ)) → Appended new.text written (totals_line t e) →
-      OnCourse S.stands policy old.scheduler old.under old.given before steps (λ s run. Runs S policy run s old.scheduler old.under new.scheduler new.under old.text written)
+      OnCourse S.stands policy old.scheduler old.under old.given before agenda (λ s run. Runs S policy run s old.scheduler old.under new.scheduler new.under old.text written)
   runs_told written last = by_left before courses.told
     where
-      by_left : (a : Option Left) → IfSome a (λ l. FromEach S policy old (λ s. IsCourse courses.events e (course_of policy steps l s (event_of old.tally))))
-          → OnCourse S.stands policy old.scheduler old.under old.given a steps (λ s run. Runs S policy run s old.scheduler old.under new.scheduler new.under old.text written)
+      by_left : (a : Option Left) → IfSome a (λ l. FromEach S policy old (λ s. IsCourse courses.events e (agenda l s (event_of old.tally))))
+          → OnCourse S.stands policy old.scheduler old.under old.given a agenda (λ s run. Runs S policy run s old.scheduler old.under new.scheduler new.under old.text written)
       by_left None told = tt
       by_left (Some l) told = λ s sound stood below.
-          let is : IsCourse courses.events e (course_of policy steps l s 1) = subst (λ (n : ℕ). IsCourse courses.events e (course_of policy steps l s n)) one_first (told s sound stood below) in
-          runs_done S policy courses.events e (course_of policy steps l s 1) old new s t written one_first courses.made sound stood below is (tallied_at s sound stood below) last
+          let is : IsCourse courses.events e (agenda l s 1) = subst (λ (n : ℕ). IsCourse courses.events e (agenda l s n)) one_first (told s sound stood below) in
+          runs_done S policy courses.events e (agenda l s 1) old new s t written one_first courses.made sound stood below is (tallied_at s sound stood below) last
 
   pub breaks_told : (written : Option (List ℕ)) → IsCut new.text (totals_line t e) written →
-      OnCourse S.stands policy old.scheduler old.under old.given before steps (λ s run. Breaks S policy run s old.scheduler old.under new.scheduler new.under old.text written)
+      OnCourse S.stands policy old.scheduler old.under old.given before agenda (λ s run. Breaks S policy run s old.scheduler old.under new.scheduler new.under old.text written)
   breaks_told written last = by_left before courses.told
     where
-      by_left : (a : Option Left) → IfSome a (λ l. FromEach S policy old (λ s. IsCourse courses.events e (course_of policy steps l s (event_of old.tally))))
-          → OnCourse S.stands policy old.scheduler old.under old.given a steps (λ s run. Breaks S policy run s old.scheduler old.under new.scheduler new.under old.text written)
+      by_left : (a : Option Left) → IfSome a (λ l. FromEach S policy old (λ s. IsCourse courses.events e (agenda l s (event_of old.tally))))
+          → OnCourse S.stands policy old.scheduler old.under old.given a agenda (λ s run. Breaks S policy run s old.scheduler old.under new.scheduler new.under old.text written)
       by_left None told = tt
       by_left (Some l) told = λ s sound stood below.
-          let is : IsCourse courses.events e (course_of policy steps l s 1) = subst (λ (n : ℕ). IsCourse courses.events e (course_of policy steps l s n)) one_first (told s sound stood below) in
-          breaks_last S policy courses.events e (course_of policy steps l s 1) old new s t written one_first courses.made sound stood below is (tallied_at s sound stood below) last
+          let is : IsCourse courses.events e (agenda l s 1) = subst (λ (n : ℕ). IsCourse courses.events e (agenda l s n)) one_first (told s sound stood below) in
+          breaks_last S policy courses.events e (agenda l s 1) old new s t written one_first courses.made sound stood below is (tallied_at s sound stood below) last

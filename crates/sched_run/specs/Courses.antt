@@ -14,29 +14,44 @@ use Rattle.sched_run.specs.Played.{HasMade, HasMadeSome}
 use Rattle.events_core.specs.declared.step.Step as line
 use Rattle.sched_defs.specs.declared.ending.Ending.{Ending}
 use Rattle.sched_defs.specs.Packets.{Left}
-use Rattle.sched_run.specs.Steps.{step_of}
+use Rattle.sched_defs.specs.Link.{link_course}
+use Rattle.sched_defs.specs.Pace.{paced_course}
+use Rattle.sched_run.specs.declared.pace.Pace.{Pace}
+use Rattle.sched_run.specs.Steps.{step_of, pace_of}
 use Rattle.sched_run.specs.Stages.{Stage, event_of, FromEach, Makes}
 
--- the course of the lines of a script over what is left, from a state
-abbrev pub course_of : Policy → List line.Step → Left → SourceState → ℕ → Course
-course_of policy steps left s event = course policy (map step_of steps) left.packets left.fault s event
+-- what is to come over what is left, from a state, where the next event has this number
+abbrev pub Agenda : Type 0
+Agenda = Left → SourceState → ℕ → Course
+
+-- the course of the lines of a script
+abbrev pub script_agenda : Policy → List line.Step → Left → SourceState → ℕ → Course
+script_agenda policy steps left s event = course policy (map step_of steps) left.packets left.fault s event
+
+-- the course of a link that is free from this moment on
+abbrev pub link_agenda : Policy → ℕ → ℕ → Left → SourceState → ℕ → Course
+link_agenda policy rate free left s event = link_course policy rate left.packets left.fault s free
+
+-- the course that a pace gives
+abbrev pub course_of : Policy → Pace → Left → SourceState → ℕ → Course
+course_of policy pace left s event = paced_course policy (pace_of pace) left.packets left.fault s event
 
 -- these are the events of a course, and this tells how it ends
 pub record IsCourse (events : List Event) (ending : Ending) (run : Course) : Type 0 where
   pub are : events ≡ run.events
   pub ends : ending ≡ run.ending
 
--- all events of the course over what was left were made
-pub record Courses {C U : Type 0} (S : Ghosts C U) (policy : Policy) (steps : List line.Step) (ending : Ending) (before : Option Left) (old new : Stage C U) : Type 0 where
+-- all events that were to come over what was left were made
+pub record Courses {C U : Type 0} (S : Ghosts C U) (policy : Policy) (agenda : Agenda) (ending : Ending) (before : Option Left) (old new : Stage C U) : Type 0 where
   pub events : List Event
   pub made : Makes S policy events old new
-  pub told : IfSome before (λ l. FromEach S policy old (λ s. IsCourse events ending (course_of policy steps l s (event_of old.tally))))
+  pub told : IfSome before (λ l. FromEach S policy old (λ s. IsCourse events ending (agenda l s (event_of old.tally))))
 
 -- P holds of each state for which they stand and in which no packet yet to come is held, with the course from there
 -- over what is left, where that is told
-abbrev pub OnCourse : {C U : Type 0} → (C → U → SourceState → Type 0) → Policy → C → U → ℕ → Option Left → List line.Step → (SourceState → Course → Type 0) → Type 0
-OnCourse stands policy c u given left steps P =
-    IfSome left (λ l. ForEachState stands policy c u (λ s. IsHeldBelow (given + 1) s.held → P s (course_of policy steps l s 1)))
+abbrev pub OnCourse : {C U : Type 0} → (C → U → SourceState → Type 0) → Policy → C → U → ℕ → Option Left → Agenda → (SourceState → Course → Type 0) → Type 0
+OnCourse stands policy c u given left agenda P =
+    IfSome left (λ l. ForEachState stands policy c u (λ s. IsHeldBelow (given + 1) s.held → P s (agenda l s 1)))
 
 -- all events of the course were made, and its report is written behind the text
 pub record Runs {C U : Type 0} (S : Ghosts C U) (policy : Policy) (run : Course) (from : SourceState) (c : C) (u : U) (c' : C) (u' : U) (text written : Option (List ℕ)) : Type 0 where

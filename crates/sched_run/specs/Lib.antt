@@ -4,4 +4,5 @@ pub mod Steps
 pub mod Stages
 pub mod Turns
 pub mod Totals
+pub mod Links
 pub mod Courses

@@ -3,19 +3,54 @@ ghost use Rattle.std.specs.Prelude.{◌≡◌};
 
 use crate::run::Run;
 use outside_core::{Sink, Stop};
+use packet_defs::Packet;
 use policy_defs::NodeNames;
 use sched_core::Scheduler;
 use sched_defs::{Ending, Halt, Packets};
 
 impl<'a, C: Scheduler + Drop, N: NodeNames> Run<'a, C, N> {
-    ghost use Rattle.std.specs.Prelude.{◌≡◌, ◌≤◌, ◌<◌, ◌+◌, ◌^◌, ℕ, replicate, None, IsTrue, IfErr, IfOk, IfNone, OnOk, OnErr};
-    ghost use Rattle.outside_core.specs.Kept.{KeepsSink, HasCause};
+    ghost use Rattle.std.specs.Prelude.{◌≡◌, ◌≤◌, ◌<◌, ◌+◌, ◌^◌, ℕ, [], ◌∷◌, None, IsTrue, IfErr, IfOk, IfNone, OnOk, OnErr};
+    ghost use Rattle.outside_core.specs.Kept.{KeepsSink, HasCause, HasSinkCause};
+    ghost use Rattle.sched_defs.specs.Events.{Arrive, CanArrive};
     ghost use Rattle.sched_defs.specs.Packets.{most_packets};
     ghost use Rattle.sched_defs.specs.Numbered.{IsHeldBelow};
     ghost use Rattle.sched_run.specs.Frames.{IsSet, Continues, Stand, KeepsPackets, IsFurther};
     ghost use Rattle.sched_defs.specs.Script.{Rest, step_events};
-    ghost use Rattle.sched_run.specs.Stages.{stage_of, HasRoomFor};
+    ghost use Rattle.sched_run.specs.Stages.{stage_of, HasRoomFor, AreNext, Makes, Stops};
     ghost use Rattle.sched_run.specs.Turns.{Arrives, ArrivalsStop, Turns, StopsAmid, GoesOn};
+
+    /// Makes the arrival of a packet, with its line, and counts it.
+    pub(crate) fn admit<K: Sink>(
+        &mut self,
+        under: &mut C::Under,
+        sink: &mut K,
+        packet: &Packet,
+    ) -> Result<(), Stop>
+        requires set { IsSet C.Scheduler N.policy self.old }
+        requires stands { Stand C.Scheduler self.old under.old (λ s. CanArrive (C.policy self.old.scheduler) s packet.now) }
+        requires few { C.pushes self.old.scheduler < 2 ^ 61 }
+        requires events { self.old.tally.came + self.old.tally.asked < 2 ^ 62 }
+        requires dropped { self.old.tally.dropped ≤ self.old.tally.came }
+
+        ensures ok { OnOk result ((given : ℕ) → AreNext (C.policy self.old.scheduler) given (packet.now ∷ []) →
+            Makes C.Scheduler (C.policy self.old.scheduler) (Arrive packet.now ∷ [])
+            (stage_of self.old under.old (K.written sink.old) given) (stage_of self.new under.new (K.written sink.new) (given + 1))) }
+        ensures err { OnErr result ((given : ℕ) → AreNext (C.policy self.old.scheduler) given (packet.now ∷ []) →
+            Stops C.Scheduler (C.policy self.old.scheduler) (Arrive packet.now ∷ [])
+            (stage_of self.old under.old (K.written sink.old) given) self.new.scheduler under.new (K.written sink.new)) }
+        ensures came { OnOk result (self.new.tally.came ≡ self.old.tally.came + 1) }
+        ensures came_stays { OnErr result (self.new.tally.came ≡ self.old.tally.came) }
+        ensures asked { self.new.tally.asked ≡ self.old.tally.asked }
+        ensures kept { Continues C.Scheduler self.old self.new }
+        ensures kept_sink { KeepsSink K.written K.faults sink.old sink.new }
+        ensures cause { IfErr result (λ stop. HasSinkCause stop K.faults sink.old sink.new) }
+        ensures live { OnOk result (IsTrue self.new.report.live) }
+    {
+        let event = self.tally.event();
+        let arrival = self.arrive_line(under, sink, event, packet)?;
+        self.tally.count(arrival);
+        Ok(())
+    }
 
     /// Makes the arrival of the next packet, with its line. Where none is left, the answer is how a run ends that asks for one.
     pub(crate) fn arrive_next<P: Packets, K: Sink>(
@@ -48,9 +83,7 @@ impl<'a, C: Scheduler + Drop, N: NodeNames> Run<'a, C, N> {
     {
         match packets.next(source) {
             Ok(Some(packet)) => {
-                let event = self.tally.event();
-                let arrival = self.arrive_line(under, sink, event, &packet)?;
-                self.tally.count(arrival);
+                self.admit(under, sink, &packet)?;
                 Ok(None)
             }
             Ok(None) => Ok(Some(Ending::PastLast(self.tally.event()))),

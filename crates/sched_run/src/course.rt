@@ -1,4 +1,4 @@
-//! The course of a script, and the end of its report.
+//! The course of a run, and the end of its report.
 ghost use Rattle.std.specs.Prelude.{◌≡◌, [], IfOk, IfErr, IfSome, IsTrue, OnOk, OnErr};
 ghost use Rattle.outside_core.specs.Faults.{Rose};
 ghost use Rattle.outside_core.specs.Kept.{KeepsSink, HasSourceCause};
@@ -8,6 +8,7 @@ ghost use Rattle.sched_defs.specs.Script.{at_end};
 ghost use Rattle.sched_run.specs.Frames.{KeepsPackets};
 ghost use Rattle.sched_run.specs.Totals.{totals_line};
 
+use crate::pace::Pace;
 use crate::run::Run;
 use crate::tally::{Tally, Totals};
 use events_core::Step;
@@ -98,7 +99,8 @@ impl<'a, C: Scheduler + Drop, N: NodeNames> Run<'a, C, N> {
     ghost use Rattle.sched_run.specs.Frames.{IsSet, Continues, Stand, KeepsPackets};
     ghost use Rattle.sched_run.specs.Stages.{stage_of, event_of, IsFresh, CanBegin, HasRoomFor};
     ghost use Rattle.sched_run.specs.Turns.{StopsAmid};
-    ghost use Rattle.sched_run.specs.Courses.{course_of, Courses, OnCourse, Runs, Breaks};
+    ghost use Rattle.sched_run.specs.Courses.{script_agenda, course_of, Courses, OnCourse, Runs, Breaks};
+    ghost use Rattle.sched_run.specs.Steps.{IsBounded, CanEndSo};
 
     /// Makes the events of a script, each with its line, up to its end or to where no more packets come.
     fn play_steps<P: Packets, K: Sink>(
@@ -117,11 +119,12 @@ impl<'a, C: Scheduler + Drop, N: NodeNames> Run<'a, C, N> {
         requires fresh { IsFresh self.old.tally }
         requires short { counts_of steps.now ≤ most_count }
 
-        ensures ok { IfOk result (λ e. Courses C.Scheduler (C.policy self.old.scheduler) steps.now e (P.left packets.old source.old)
+        ensures ok { IfOk result (λ e. Courses C.Scheduler (C.policy self.old.scheduler)
+            (script_agenda (C.policy self.old.scheduler) steps.now) e (P.left packets.old source.old)
             (stage_of self.old under.old (K.written sink.old) (P.given packets.old))
             (stage_of self.new under.new (K.written sink.new) (P.given packets.new))) }
         ensures err { OnErr result (StopsAmid C.Scheduler (C.policy self.old.scheduler)
-            (λ l s. (course_of (C.policy self.old.scheduler) steps.now l s (event_of self.old.tally)).events) (P.left packets.old source.old)
+            (λ l s. (script_agenda (C.policy self.old.scheduler) steps.now l s (event_of self.old.tally)).events) (P.left packets.old source.old)
             (stage_of self.old under.old (K.written sink.old) (P.given packets.old)) self.new.scheduler under.new (K.written sink.new)) }
         ensures kept { Continues C.Scheduler self.old self.new }
         ensures kept_sink { KeepsSink K.written K.faults sink.old sink.new }
@@ -139,15 +142,15 @@ impl<'a, C: Scheduler + Drop, N: NodeNames> Run<'a, C, N> {
         count_unsent(packets, source)
     }
 
-    /// Makes the events of a script over the packets that come, each with its line, and writes the report to its end. The
-    /// answer is how the run ended; where it stops, the text is cut short.
+    /// Makes the events of a run over the packets that come, each with its line, and writes the report to its end. The answer
+    /// is how the run ended; where it stops, the text is cut short.
     pub fn play<P: Packets, K: Sink>(
         &mut self,
         under: &mut C::Under,
         sink: &mut K,
         packets: &mut P,
         source: &mut P::Source,
-        steps: &[Step],
+        pace: Pace<'_>,
     ) -> Result<Ending, Stop>
         requires set { IsSet C.Scheduler N.policy self.old }
         requires packets { P.policy packets.old ≡ C.policy self.old.scheduler }
@@ -156,31 +159,70 @@ impl<'a, C: Scheduler + Drop, N: NodeNames> Run<'a, C, N> {
         requires pushes { C.pushes self.old.scheduler < 2 ^ 60 }
         requires departures { C.departures self.old.scheduler < 2 ^ 60 }
         requires few { P.given packets.old ≤ most_packets }
-        requires short { counts_of steps.now ≤ most_count }
+        requires bounded { IsBounded pace }
 
         ensures ok { OnOk result (OnCourse C.stands (C.policy self.old.scheduler) self.old.scheduler under.old
-            (P.given packets.old) (P.left packets.old source.old) steps.now (λ s run.
+            (P.given packets.old) (P.left packets.old source.old) (course_of (C.policy self.old.scheduler) pace.entry) (λ s run.
             Runs C.Scheduler (C.policy self.old.scheduler) run s self.old.scheduler under.old self.new.scheduler under.new
             (text_of (K.written sink.old) self.old.report) (K.written sink.new))) }
         ensures ending { IfOk result (λ e. OnCourse C.stands (C.policy self.old.scheduler) self.old.scheduler under.old
-            (P.given packets.old) (P.left packets.old source.old) steps.now (λ s run. e ≡ run.ending)) }
+            (P.given packets.old) (P.left packets.old source.old) (course_of (C.policy self.old.scheduler) pace.entry) (λ s run. e ≡ run.ending)) }
         ensures err { OnErr result (OnCourse C.stands (C.policy self.old.scheduler) self.old.scheduler under.old
-            (P.given packets.old) (P.left packets.old source.old) steps.now (λ s run.
+            (P.given packets.old) (P.left packets.old source.old) (course_of (C.policy self.old.scheduler) pace.entry) (λ s run.
             Breaks C.Scheduler (C.policy self.old.scheduler) run s self.old.scheduler under.old self.new.scheduler under.new
             (text_of (K.written sink.old) self.old.report) (K.written sink.new))) }
         ensures kept { Continues C.Scheduler self.old self.new }
         ensures kept_sink { KeepsSink K.written K.faults sink.old sink.new }
         ensures kept_packets { KeepsPackets P.Packets packets.old packets.new source.old source.new }
         ensures cause { IfErr result (λ stop. HasCause stop P.faults source.old source.new K.faults sink.old sink.new) }
+        ensures ends { IfOk result (CanEndSo pace.entry) }
         ensures live { OnOk result (IsTrue self.new.report.live) }
         ensures none_left { OnOk result (self.new.report.unwritten ≡ []) }
     {
         let first = self.scheduler.held();
         self.tally = Tally::new();
-        let ending = self.play_steps(under, sink, packets, source, steps)?;
+        let ending = self.play_events(under, sink, packets, source, pace)?;
         let held = self.scheduler.held();
         let totals = self.tally.totals(first, held, self.version);
         close(&mut self.report, sink, ending, totals)?;
         Ok(ending)
+    }
+
+    /// Makes the events of a run, each with its line, up to its end or to where no more packets come.
+    fn play_events<P: Packets, K: Sink>(
+        &mut self,
+        under: &mut C::Under,
+        sink: &mut K,
+        packets: &mut P,
+        source: &mut P::Source,
+        pace: Pace<'_>,
+    ) -> Result<Ending, Stop>
+        requires set { IsSet C.Scheduler N.policy self.old }
+        requires packets { P.policy packets.old ≡ C.policy self.old.scheduler }
+        requires ready { P.ready packets.old source.old }
+        requires stands { Stand C.Scheduler self.old under.old (CanBegin (P.given packets.old)) }
+        requires counts { HasRoomFor C.Scheduler self.old (P.given packets.old) }
+        requires fresh { IsFresh self.old.tally }
+        requires bounded { IsBounded pace }
+
+        ensures ok { IfOk result (λ e. Courses C.Scheduler (C.policy self.old.scheduler)
+            (course_of (C.policy self.old.scheduler) pace.entry) e (P.left packets.old source.old)
+            (stage_of self.old under.old (K.written sink.old) (P.given packets.old))
+            (stage_of self.new under.new (K.written sink.new) (P.given packets.new))) }
+        ensures err { OnErr result (StopsAmid C.Scheduler (C.policy self.old.scheduler)
+            (λ l s. (course_of (C.policy self.old.scheduler) pace.entry l s (event_of self.old.tally)).events) (P.left packets.old source.old)
+            (stage_of self.old under.old (K.written sink.old) (P.given packets.old)) self.new.scheduler under.new (K.written sink.new)) }
+        ensures kept { Continues C.Scheduler self.old self.new }
+        ensures kept_sink { KeepsSink K.written K.faults sink.old sink.new }
+        ensures kept_packets { KeepsPackets P.Packets packets.old packets.new source.old source.new }
+        ensures cause { IfErr result (λ stop. HasCause stop P.faults source.old source.new K.faults sink.old sink.new) }
+        ensures came { self.new.tally.came ≤ most_packets }
+        ensures ends { IfOk result (CanEndSo pace.entry) }
+        ensures live { OnOk result (IsTrue self.new.report.live) }
+    {
+        match pace {
+            Pace::Script(steps) => self.play_steps(under, sink, packets, source, steps),
+            Pace::Link(rate) => self.play_link(under, sink, packets, source, rate),
+        }
     }
 }

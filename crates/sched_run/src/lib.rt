@@ -1,4 +1,4 @@
-//! A run: the course of a script over packets that come one by one, by any scheduler, with its report. Begin with
+//! A run: the course of a script or of a link over packets that come one by one, by any scheduler, with its report. Begin with
 //! specs/Courses.antt.
 #![tactic(auto)]
 
@@ -6,10 +6,13 @@ mod arrivals;
 mod course;
 mod laws;
 mod lines;
+mod link;
+mod pace;
 mod run;
 mod steps;
 mod tally;
 
 pub use laws::runs_begin_at_the_start;
 pub use lines::depart_line;
+pub use pace::Pace;
 pub use run::Run;

@@ -7,8 +7,7 @@ ghost use Rattle.tree_defs.specs.Tree.{depth};
 ghost use Rattle.tree_defs.specs.SourceTree.{size};
 ghost use Rattle.policy_defs.specs.Accepted.{IsAccepted};
 ghost use Rattle.sched_defs.specs.SourceState.{departed, leaver};
-ghost use Rattle.sched_defs.specs.Events.{Arrive, Depart, CanArrive, outcome};
-ghost use Rattle.sched_defs.specs.Report.{outcome_line};
+ghost use Rattle.sched_defs.specs.Events.{Arrive, Depart, CanArrive};
 ghost use Rattle.sched_core.specs.Standing.{StandForOne, ForEachState};
 ghost use Rattle.sched_core.specs.Departures.{departed_packet, IsTaken};
 ghost use Rattle.sched_run.specs.Played.{AsksOnce, line_of};
@@ -21,7 +20,67 @@ use report_core::{Report, WriteFault};
 use sched_core::{Arrival, Scheduler};
 use tree_core::Taken;
 
+/// A departure that is to be made: the number of its event, and the moment at which it starts, in nanoseconds, where a link
+/// says it.
+#[derive(Clone, Copy, Debug)]
+pub(crate) struct Departure {
+    pub(crate) event: u64,
+    pub(crate) start: Option<u128>,
+}
+
 /// Makes a departure, and writes its line. Takes no memory.
+pub(crate) fn depart_at<C: Scheduler, N: NodeNames, K: Sink>(
+    names: &N,
+    scheduler: &mut C,
+    under: &mut C::Under,
+    trace: &mut Taken,
+    report: &mut Report,
+    sink: &mut K,
+    departure: Departure,
+) -> Result<Option<Departed>, WriteFault>
+    requires accepted { IsAccepted (C.policy scheduler.old) }
+    requires names { N.policy names.now ≡ C.policy scheduler.old }
+    requires stands { StandForOne C.stands (C.policy scheduler.old) scheduler.old under.old (λ _. Unit {0}) }
+    requires room { depth (C.policy scheduler.old).tree ≤ trace.old.room }
+    requires few { C.departures scheduler.old < 2 ^ 61 }
+    requires live { IsTrue report.old.live }
+
+    ensures state { ForEachState C.stands (C.policy scheduler.old) scheduler.old under.old (λ s.
+        C.stands scheduler.new under.new (departed (C.policy scheduler.old) s)) }
+    ensures value { ForEachState C.stands (C.policy scheduler.old) scheduler.old under.old (λ s.
+        IfOk result (λ d. d ≡ option_map (departed_packet (C.policy scheduler.old)) (leaver s))) }
+    ensures none { ForEachState C.stands (C.policy scheduler.old) scheduler.old under.old (λ s.
+        IfOk result (λ d. IsNone d ↔ (size s.tree ≡ 0))) }
+    ensures taken { ForEachState C.stands (C.policy scheduler.old) scheduler.old under.old (λ s.
+        IfSome (leaver s) (λ l. IsTaken l trace.new)) }
+    ensures untouched { ForEachState C.stands (C.policy scheduler.old) scheduler.old under.old (λ s.
+        IfNone (leaver s) (trace.new ≡ trace.old)) }
+    ensures room { trace.new.room ≡ trace.old.room }
+
+    ensures text { OnOk result (ForEachState C.stands (C.policy scheduler.old) scheduler.old under.old (λ s.
+        Tells K.written sink.old report.old sink.new report.new (line_of (C.policy scheduler.old) departure.event (Depart departure.start) s))) }
+    ensures cut { OnErr result (ForEachState C.stands (C.policy scheduler.old) scheduler.old under.old (λ s.
+        CutsOff K.written sink.old report.old sink.new (line_of (C.policy scheduler.old) departure.event (Depart departure.start) s))) }
+    ensures kept { KeepsSink K.written K.faults sink.old sink.new }
+    ensures cause { OnErr result (Rose (K.faults sink.old) (K.faults sink.new)) }
+    ensures live { OnOk result (IsTrue report.new.live) }
+    ensures asked { AsksOnce C.Scheduler scheduler.old under.old scheduler.new under.new }
+{
+    let Departure { event, start } = departure;
+    match scheduler.depart(under, trace) {
+        Some(departed) => {
+            let leaf = names.name(departed.leaf);
+            report.departed(sink, event, departed.packet, leaf, trace.ranks(), start)?;
+            Ok(Some(departed))
+        }
+        None => {
+            report.empty(sink, event)?;
+            Ok(None)
+        }
+    }
+}
+
+/// Makes a departure of a script, and writes its line. Takes no memory.
 pub fn depart_line<C: Scheduler, N: NodeNames, K: Sink>(
     names: &N,
     scheduler: &mut C,
@@ -59,17 +118,8 @@ pub fn depart_line<C: Scheduler, N: NodeNames, K: Sink>(
     ensures live { OnOk result (IsTrue report.new.live) }
     ensures asked { AsksOnce C.Scheduler scheduler.old under.old scheduler.new under.new }
 {
-    match scheduler.depart(under, trace) {
-        Some(departed) => {
-            let leaf = names.name(departed.leaf);
-            report.departed(sink, event, departed.packet, leaf, trace.ranks(), None)?;
-            Ok(Some(departed))
-        }
-        None => {
-            report.empty(sink, event)?;
-            Ok(None)
-        }
-    }
+    let departure = Departure { event, start: None };
+    depart_at(names, scheduler, under, trace, report, sink, departure)
 }
 
 impl<'a, C: Scheduler + Drop, N: NodeNames> Run<'a, C, N> {

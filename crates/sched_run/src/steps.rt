@@ -13,7 +13,6 @@ impl<'a, C: Scheduler + Drop, N: NodeNames> Run<'a, C, N> {
     ghost use Rattle.std.specs.Prelude.{◌≡◌, ◌≤◌, ◌<◌, ◌+◌, ◌^◌, ℕ, replicate, None, IsTrue, IfErr, IfOk, IfNone, OnOk, OnErr};
     ghost use Rattle.outside_core.specs.Kept.{KeepsSink, HasCause};
     ghost use Rattle.sched_defs.specs.Packets.{most_packets};
-    ghost use Rattle.sched_defs.specs.Numbered.{IsHeldBelow};
     ghost use Rattle.sched_run.specs.Frames.{IsSet, Continues, Stand, KeepsPackets, IsFurther};
     ghost use Rattle.outside_core.specs.Faults.{Rose};
     ghost use Rattle.events_core.specs.Script.{most_count};

@@ -7,20 +7,20 @@ use Rattle.replay_app.proofs.Unused.{unused}
 use Rattle.replay_app.proofs.command.answer.Goals as goal
 
 pub returns-in-Some-Replay-clause-fabric : goal.returns-in-Some-Replay-clause-fabric
-returns-in-Some-Replay-clause-fabric g c = rw (rw c.in-Some-Replay.field-0-is at c.in-Some-Replay.ensures) c.replay_files.ensures.fabric
+returns-in-Some-Replay-clause-fabric g c = rw (rw c.in-Some-Replay.field-0-is at c.in-Some-Replay.ensures.form) c.replay_files.ensures.fabric
 
 pub returns-in-Some-Check-clause-fabric : goal.returns-in-Some-Check-clause-fabric
 returns-in-Some-Check-clause-fabric g c =
-    rw (rw c.in-Some-Check.field-0-is at c.in-Some-Check.ensures) (λ contents told. unused g.F.Fabric (command_form (Check c.in-Some-Check.policy)) contents tt c.args.fabric.now c.check_file.result)
+    rw (rw c.in-Some-Check.field-0-is at c.in-Some-Check.ensures.form) (λ contents told. unused g.F.Fabric (command_form (Check c.in-Some-Check.policy)) contents tt c.args.fabric.now c.check_file.result)
 
 pub returns-in-Some-Plan-clause-fabric : goal.returns-in-Some-Plan-clause-fabric
 returns-in-Some-Plan-clause-fabric g c =
-    rw (rw c.in-Some-Plan.field-0-is at c.in-Some-Plan.ensures) (λ contents told. unused g.F.Fabric (command_form (Plan c.in-Some-Plan.files)) contents tt c.args.fabric.now c.plan_files.result)
+    rw (rw c.in-Some-Plan.field-0-is at c.in-Some-Plan.ensures.form) (λ contents told. unused g.F.Fabric (command_form (Plan c.in-Some-Plan.files)) contents tt c.args.fabric.now c.plan_files.result)
 
 pub returns-in-Some-Direct-clause-fabric : goal.returns-in-Some-Direct-clause-fabric
 returns-in-Some-Direct-clause-fabric g c =
-    rw (rw c.in-Some-Direct.field-0-is at c.in-Some-Direct.ensures) (λ contents told. unused g.F.Fabric (command_form (Direct c.in-Some-Direct.files)) contents tt c.args.fabric.now c.direct_files.result)
+    rw (rw c.in-Some-Direct.field-0-is at c.in-Some-Direct.ensures.form) (λ contents told. unused g.F.Fabric (command_form (Direct c.in-Some-Direct.files)) contents tt c.args.fabric.now c.direct_files.result)
 
 pub returns-in-None-clause-answer : goal.returns-in-None-clause-answer
 returns-in-None-clause-answer g c = λ contents told.
-    rw c.in-None.ensures (exactly_told (refusal kind.Words 0 0) c.refuse.result _ _ (known-status c.refuse.result kind.Words c.refuse.ensures.status) c.refuse.ensures.text c.refuse.ensures.part)
+    rw c.in-None.ensures.form (exactly_told (refusal kind.Words 0 0) c.refuse.result _ _ (known-status c.refuse.result kind.Words c.refuse.ensures.status) c.refuse.ensures.text c.refuse.ensures.part)

@@ -1,6 +1,8 @@
-use Rattle.std.proofs.Common.{◌∷◌, []}
+use Rattle.std.proofs.Common.{◌∷◌}
 use Rattle.report_core.specs.declared.fault.FaultKind.TheVariants as kind
 use Rattle.replay_app.specs.Policies.{judged_of}
+use Rattle.replay_app.specs.Named.{pacing_form}
+use Rattle.replay_app.specs.Words.{pacing_words}
 use Rattle.replay_app.proofs.FollowLaws.{accepted_told, refused_told, accepted_left, refused_left}
 use Rattle.replay_app.proofs.Inputs.{policies_are_one}
 use Rattle.replay_app.proofs.AnswerLaws.{told-later}
@@ -11,7 +13,7 @@ returns-in-Accepted-clause-answer g c = λ contents told.
     let f = c.args.files.now in
     let j = judged_of c.in-Accepted.judged in
     let is = rw c.in-Accepted.is at (rw (told.0) at c.in_ok-judged.ensures.read) in
-    let later = told-later _ _ _ _ contents (f.target.now ∷ f.capture.now ∷ f.script.now ∷ []) c.in_ok-judged.ensures.kept.files told.1 in
+    let later = told-later _ _ _ _ contents (f.target.now ∷ f.capture.now ∷ pacing_words (pacing_form f.pacing)) c.in_ok-judged.ensures.kept.files told.1 in
     accepted_told kind.Policy _ _ _ (policies_are_one (contents c.args.files.now.policy.now)) c.replay_target.result _ _ j is (c.replay_target.ensures.answer contents later)
 
 pub returns-in-Accepted-clause-fabric : goal.returns-in-Accepted-clause-fabric
@@ -19,7 +21,7 @@ returns-in-Accepted-clause-fabric g c = λ contents told.
     let f = c.args.files.now in
     let j = judged_of c.in-Accepted.judged in
     let is = rw c.in-Accepted.is at (rw (told.0) at c.in_ok-judged.ensures.read) in
-    let later = told-later _ _ _ _ contents (f.target.now ∷ f.capture.now ∷ f.script.now ∷ []) c.in_ok-judged.ensures.kept.files told.1 in
+    let later = told-later _ _ _ _ contents (f.target.now ∷ f.capture.now ∷ pacing_words (pacing_form f.pacing)) c.in_ok-judged.ensures.kept.files told.1 in
     accepted_left kind.Policy _ _ _ (policies_are_one (contents c.args.files.now.policy.now)) c.replay_target.result g.F.Fabric c.args.fabric.now c.replay_target.new.fabric j is (c.replay_target.ensures.fabric contents later)
 
 pub returns-in-Refused-clause-answer : goal.returns-in-Refused-clause-answer

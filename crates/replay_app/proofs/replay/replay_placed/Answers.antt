@@ -5,29 +5,30 @@ use Rattle.tree_defs.specs.Topology.{Topology, complete}
 use Rattle.embed_defs.specs.Embedding.{IsEmbedding, HasEmbedding}
 use Rattle.embed_defs.specs.Images.{image_map}
 use Rattle.report_core.specs.declared.fault.FaultKind.TheVariants as kind
+use Rattle.replay_app.specs.Named.{pacing_form}
 use Rattle.replay_app.proofs.FollowLaws.{accepted_told, accepted_left, refused_told, refused_left}
 use Rattle.replay_app.proofs.Inputs.{rooms_are_one, placement}
-use Rattle.replay_app.proofs.AnswerLaws.{no_refusal_of}
+use Rattle.replay_app.proofs.AnswerLaws.{paced_no_refusal}
 use Rattle.replay_app.proofs.replay.replay_placed.Goals as goal
 
-pub replay_script-requires-clause-map_shape : goal.replay_script-requires-clause-map_shape
-replay_script-requires-clause-map_shape g c = subst (λ (s : Topology). SameShape s c.in-Ok.map) c.topo.ensures.topology c.in-Ok.ensures.shape
+pub replay_paced-requires-clause-map_shape : goal.replay_paced-requires-clause-map_shape
+replay_paced-requires-clause-map_shape g c = subst (λ (s : Topology). SameShape s c.in-Ok.map) c.topo.ensures.topology c.in-Ok.ensures.shape
 
-pub replay_script-requires-clause-embedding : goal.replay_script-requires-clause-embedding
-replay_script-requires-clause-embedding g c = subst (λ (s : Topology). IsEmbedding s (complete c.args.target.arities) (image_map c.in-Ok.map)) c.topo.ensures.topology c.in-Ok.ensures.embedding
+pub replay_paced-requires-clause-embedding : goal.replay_paced-requires-clause-embedding
+replay_paced-requires-clause-embedding g c = subst (λ (s : Topology). IsEmbedding s (complete c.args.target.arities) (image_map c.in-Ok.map)) c.topo.ensures.topology c.in-Ok.ensures.embedding
 
 pub returns-in-Ok-clause-answer : goal.returns-in-Ok-clause-answer
 returns-in-Ok-clause-answer g c = λ contents told.
     let is = placement c.args.policy.now.policy c.args.target c.in-Ok.map _ c.topo.ensures.topology c.in-Ok.ensures.canonical c.in-Ok.ensures.embedding in
-    accepted_told kind.Size _ _ _ (rooms_are_one c.args.policy.now.policy c.args.target) c.replay_script.result _ _ c.in-Ok.map is (c.replay_script.ensures.answer contents told)
+    accepted_told kind.Size _ _ _ (rooms_are_one c.args.policy.now.policy c.args.target) c.replay_paced.result _ _ c.in-Ok.map is (c.replay_paced.ensures.answer contents told)
 
 pub returns-in-Ok-clause-fabric : goal.returns-in-Ok-clause-fabric
 returns-in-Ok-clause-fabric g c = λ contents told.
     let is = placement c.args.policy.now.policy c.args.target c.in-Ok.map _ c.topo.ensures.topology c.in-Ok.ensures.canonical c.in-Ok.ensures.embedding in
-    accepted_left kind.Size _ _ _ (rooms_are_one c.args.policy.now.policy c.args.target) c.replay_script.result g.F.Fabric c.args.fabric.now c.replay_script.new.fabric c.in-Ok.map is (c.replay_script.ensures.fabric contents told)
+    accepted_left kind.Size _ _ _ (rooms_are_one c.args.policy.now.policy c.args.target) c.replay_paced.result g.F.Fabric c.args.fabric.now c.replay_paced.new.fabric c.in-Ok.map is (c.replay_paced.ensures.fabric contents told)
 
 pub returns-in-Ok-clause-refused : goal.returns-in-Ok-clause-refused
-returns-in-Ok-clause-refused g c = no_refusal_of c.replay_script.result _ c.replay_script.ensures.statuses
+returns-in-Ok-clause-refused g c = paced_no_refusal (pacing_form c.args.files.now.pacing) c.replay_paced.result _ c.replay_paced.ensures.statuses
 
 pub returns-in-Err-NoEmbedding-clause-answer : goal.returns-in-Err-NoEmbedding-clause-answer
 returns-in-Err-NoEmbedding-clause-answer g c = λ contents told.

@@ -9,24 +9,24 @@ play-requires-clause-stands g c =
 pub returns-clause-ending : goal.returns-clause-ending
 returns-clause-ending g c =
     let r = c.requires in
-    ending_told g.C.Scheduler _ c.args.policy.now.policy c.args.steps.now _ _ _ r.policy (rw r.policy at r.set.accepted) r.stands _ _ c.play.ensures.ending
+    ending_told g.C.Scheduler _ c.args.policy.now.policy c.args.pace _ _ _ r.policy (rw r.policy at r.set.accepted) r.stands _ _ c.play.ensures.ending
 
 pub returns-clause-text : goal.returns-clause-text
 returns-clause-text g c =
     let r = c.requires in
-    text_told g.C.Scheduler _ c.args.policy.now.policy c.args.steps.now _ _ _ r.policy (rw r.policy at r.set.accepted) r.stands _ _ _ _ _ _ _ r.fresh c.play.ensures.ok
+    text_told g.C.Scheduler _ c.args.policy.now.policy c.args.pace _ _ _ r.policy (rw r.policy at r.set.accepted) r.stands _ _ _ _ _ _ _ r.fresh c.play.ensures.ok
 
 pub returns-clause-part : goal.returns-clause-part
 returns-clause-part g c =
     let r = c.requires in
-    part_told g.C.Scheduler _ c.args.policy.now.policy c.args.steps.now _ _ _ r.policy (rw r.policy at r.set.accepted) r.stands _ _ _ _ _ _ _ r.fresh c.play.ensures.kept_sink.begins c.play.ensures.err
+    part_told g.C.Scheduler _ c.args.policy.now.policy c.args.pace _ _ _ r.policy (rw r.policy at r.set.accepted) r.stands _ _ _ _ _ _ _ r.fresh c.play.ensures.kept_sink.begins c.play.ensures.err
 
 pub returns-clause-state : goal.returns-clause-state
 returns-clause-state g c =
     let r = c.requires in
-    state_told g.C.Scheduler _ c.args.policy.now.policy c.args.steps.now _ _ _ r.policy (rw r.policy at r.set.accepted) r.stands _ _ _ _ _ _ c.play.ensures.ok
+    state_told g.C.Scheduler _ c.args.policy.now.policy c.args.pace _ _ _ r.policy (rw r.policy at r.set.accepted) r.stands _ _ _ _ _ _ c.play.ensures.ok
 
 pub returns-clause-amid : goal.returns-clause-amid
 returns-clause-amid g c =
     let r = c.requires in
-    amid_told g.C.Scheduler _ c.args.policy.now.policy c.args.steps.now _ _ _ r.policy (rw r.policy at r.set.accepted) r.stands _ _ _ _ _ _ c.play.ensures.err
+    amid_told g.C.Scheduler _ c.args.policy.now.policy c.args.pace _ _ _ r.policy (rw r.policy at r.set.accepted) r.stands _ _ _ _ _ _ c.play.ensures.err

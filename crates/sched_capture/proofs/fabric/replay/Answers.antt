@@ -1,17 +1,22 @@
 use Rattle.std.proofs.Common.{[], refl, sym, ap, ◌∙◌, arith}
-use Rattle.std.proofs.lemmas.Result.{on_err_weaker}
+use Rattle.std.proofs.lemmas.Option.{IfSome_then}
+use Rattle.std.proofs.lemmas.Result.{IfOk-weaker, on_err_weaker, err_from_is_err_and}
 use Rattle.report_core.proofs.WholeTexts.{nothing_written}
 use Rattle.sched_packets.specs.Arrivals.{left_of}
-use Rattle.sched_capture.specs.Answers.{direct_answer}
-use Rattle.sched_capture.proofs.FileRuns.{ending_of, text_of_file, part_of_file, sink_rose, source_rose}
+use Rattle.sched_run.specs.Steps.{pace_of, IsNoPastLast, CanEndSo}
+use Rattle.sched_capture.specs.Answers.{paced_answer}
+use Rattle.sched_capture.proofs.FileRuns.{can_end, ending_of, text_of_file, part_of_file, sink_rose, source_rose}
 use Rattle.sched_embedded.specs.Embedded.{origin_of}
 use Rattle.sched_embedded.specs.Laid.{Laid}
 use Rattle.sched_run.proofs.JoinedEvents.{raised_nothing}
 use Rattle.sched_capture.proofs.FabricRuns.{holds_after, left_by, left_amid, none_amid}
 use Rattle.sched_capture.proofs.fabric.replay.Goals as goal
 
+pub returns-in-Err-clause-ends : goal.returns-in-Err-clause-ends
+returns-in-Err-clause-ends g c = IfOk-weaker c.in-Err.answer IsNoPastLast (CanEndSo c.args.pace) (can_end c.args.pace) c.in-Err.ensures.at_capture
+
 pub returns-in-Err-clause-part : goal.returns-in-Err-clause-part
-returns-in-Err-clause-part g c = on_err_weaker c.in-Err.answer (λ all. all c.args.steps.now) c.in-Err.ensures.part
+returns-in-Err-clause-part g c = on_err_weaker c.in-Err.answer (λ all. IfSome_then (g.S.Shelf.left c.args.shelf.now) all (λ file each. each (pace_of c.args.pace))) c.in-Err.ensures.part
 
 pub returns-clause-fabric : goal.returns-clause-fabric
 returns-clause-fabric g c =
@@ -19,7 +24,7 @@ returns-clause-fabric g c =
     let laid : Laid = record { images = c.args.placement.map; arities = c.args.placement.target.arities } in
     let n = c.in-Ok-new.ensures in
     let runs = c.in_ok-run.ensures.scheduler in
-    left_by g.F.Fabric policy laid c.args.steps.now c.run_over.result (g.S.Shelf.left c.args.shelf.now) (left_of c.in-Ok.packets (g.S.Shelf.left c.begin.new.shelf)) _ c.args.fabric.now c.run_over.new.under
+    left_by g.F.Fabric policy laid c.args.pace c.run_over.result (g.S.Shelf.left c.args.shelf.now) (left_of c.in-Ok.packets (g.S.Shelf.left c.begin.new.shelf)) _ c.args.fabric.now c.run_over.new.under
     (λ l made. holds_after g.F.Fabric policy.policy laid c.in_ok-run.run'.scheduler c.args.fabric.now c.new.new.fabric (ap (λ s. origin_of s) runs ∙ n.origin) (ap (λ s. s.own.pushes) runs ∙ n.pushes) (ap (λ s. s.own.departures) runs ∙ n.departures) n.spilled _ c.run_over.new.run.scheduler c.run_over.new.under made.state made.pushed made.asked made.origin made.spilled)
     c.in-Ok.ensures.begins c.run_over.ensures.state
 
@@ -29,7 +34,7 @@ returns-clause-fabric_part g c =
     let laid : Laid = record { images = c.args.placement.map; arities = c.args.placement.target.arities } in
     let n = c.in-Ok-new.ensures in
     let runs = c.in_ok-run.ensures.scheduler in
-    left_amid g.F.Fabric policy laid c.args.steps.now c.run_over.result (g.S.Shelf.left c.args.shelf.now) (left_of c.in-Ok.packets (g.S.Shelf.left c.begin.new.shelf)) _ c.args.fabric.now c.run_over.new.under
+    left_amid g.F.Fabric policy laid c.args.pace c.run_over.result (g.S.Shelf.left c.args.shelf.now) (left_of c.in-Ok.packets (g.S.Shelf.left c.begin.new.shelf)) _ c.args.fabric.now c.run_over.new.under
     (λ l some. record {
       made = some.made;
       unmade = some.unmade;
@@ -44,7 +49,7 @@ returns-in_err-run-clause-fabric_part g c =
     let policy = c.args.policy.now in
     let laid : Laid = record { images = c.args.placement.map; arities = c.args.placement.target.arities } in
     let n = c.in-Ok-new.ensures in
-    none_amid g.F.Fabric policy laid c.args.steps.now _ (g.S.Shelf.left c.args.shelf.now) (left_of c.in-Ok.packets (g.S.Shelf.left c.begin.new.shelf)) c.args.fabric.now c.new.new.fabric
+    none_amid g.F.Fabric policy laid c.args.pace _ (g.S.Shelf.left c.args.shelf.now) (left_of c.in-Ok.packets (g.S.Shelf.left c.begin.new.shelf)) c.args.fabric.now c.new.new.fabric
     (λ l. record {
       made = [];
       unmade = _;
@@ -54,9 +59,14 @@ returns-in_err-run-clause-fabric_part g c =
     })
     c.in-Ok.ensures.begins
 
+pub returns-in_err-run-clause-part : goal.returns-in_err-run-clause-part
+returns-in_err-run-clause-part g c =
+    let p = err_from_is_err_and c.from_residual.result c.from_residual.ensures.1 in
+    rw (p.1, c.in-Ok.ensures.unwritten) (nothing_written (g.S.Shelf.left c.args.shelf.now) (g.K.Sink.written c.args.sink.now) (λ file. (paced_answer c.args.policy.now (pace_of c.args.pace) file).text))
+
 pub returns-in_default-clause-part : goal.returns-in_default-clause-part
 returns-in_default-clause-part g c =
-    rw (c.in-Ok.ensures.unwritten) (nothing_written (g.S.Shelf.left c.args.shelf.now) (g.K.Sink.written c.args.sink.now) (λ file. (direct_answer c.args.policy.now c.args.steps.now file).text))
+    rw (c.in-Ok.ensures.unwritten) (nothing_written (g.S.Shelf.left c.args.shelf.now) (g.K.Sink.written c.args.sink.now) (λ file. (paced_answer c.args.policy.now (pace_of c.args.pace) file).text))
 
 pub returns-in-Err-clause-sink_cause : goal.returns-in-Err-clause-sink_cause
 returns-in-Err-clause-sink_cause g c =
@@ -68,16 +78,16 @@ returns-in-Err-clause-source_cause g c =
 
 pub returns-clause-ending : goal.returns-clause-ending
 returns-clause-ending g c =
-    ending_of c.args.policy.now c.args.steps.now c.run_over.result (g.S.Shelf.left c.args.shelf.now) (left_of c.in-Ok.packets (g.S.Shelf.left c.begin.new.shelf)) c.in-Ok.ensures.begins c.run_over.ensures.ending
+    ending_of c.args.policy.now (pace_of c.args.pace) c.run_over.result (g.S.Shelf.left c.args.shelf.now) (left_of c.in-Ok.packets (g.S.Shelf.left c.begin.new.shelf)) c.in-Ok.ensures.begins c.run_over.ensures.ending
 
 pub returns-clause-text : goal.returns-clause-text
 returns-clause-text g c =
-    text_of_file c.args.policy.now c.args.steps.now c.run_over.result (g.S.Shelf.left c.args.shelf.now) (left_of c.in-Ok.packets (g.S.Shelf.left c.begin.new.shelf)) (g.K.Sink.written c.args.sink.now) (g.K.Sink.written c.run_over.new.sink)
+    text_of_file c.args.policy.now (pace_of c.args.pace) c.run_over.result (g.S.Shelf.left c.args.shelf.now) (left_of c.in-Ok.packets (g.S.Shelf.left c.begin.new.shelf)) (g.K.Sink.written c.args.sink.now) (g.K.Sink.written c.run_over.new.sink)
     c.in-Ok.ensures.begins (rw (c.in-Ok.ensures.unwritten) at c.run_over.ensures.text)
 
 pub returns-clause-part : goal.returns-clause-part
 returns-clause-part g c =
-    part_of_file c.args.policy.now c.args.steps.now c.run_over.result (g.S.Shelf.left c.args.shelf.now) (left_of c.in-Ok.packets (g.S.Shelf.left c.begin.new.shelf)) (g.K.Sink.written c.args.sink.now) (g.K.Sink.written c.run_over.new.sink)
+    part_of_file c.args.policy.now (pace_of c.args.pace) c.run_over.result (g.S.Shelf.left c.args.shelf.now) (left_of c.in-Ok.packets (g.S.Shelf.left c.begin.new.shelf)) (g.K.Sink.written c.args.sink.now) (g.K.Sink.written c.run_over.new.sink)
     c.in-Ok.ensures.begins (rw (c.in-Ok.ensures.unwritten) at c.run_over.ensures.part)
 
 pub returns-clause-sink_cause : goal.returns-clause-sink_cause

@@ -1,27 +1,41 @@
-use Rattle.std.proofs.Common.{[], ◌∷◌, subst, arith}
+use Rattle.std.proofs.Common.{[], ◌∷◌, refl, subst, arith}
 use Rattle.std.proofs.lemmas.Result.{err_from_is_err_and}
 use Rattle.policy_defs.specs.Policy.{Policy}
 use Rattle.sched_defs.specs.Numbered.{IsSendable}
-use Rattle.sched_run.proofs.MadeEvents.{makes_none, stops_here}
+use Rattle.sched_run.proofs.MadeEvents.{can_arrive, makes_none, stops_here}
 use Rattle.sched_run.proofs.PacketsInTurn.{none_first, one_first}
 use Rattle.sched_run.proofs.run.Run.arrive_next.Goals as goal
 
-pub returns-in_err-arrival-in-Ok-Some-clause-err :
-    goal.returns-in_err-arrival-in-Ok-Some-clause-err
-returns-in_err-arrival-in-Ok-Some-clause-err g c =
+pub admit-requires-clause-stands : goal.admit-requires-clause-stands
+admit-requires-clause-stands g c =
+    let one = c.requires.stands in
+    let number = rw c.in-Ok-Some.field-0-is at c.in-Ok-Some.ensures.number in
+    let sendable = subst (λ (q : Policy). IsSendable q c.in-Ok-Some.packet) c.requires.packets (rw c.in-Ok-Some.field-0-is at c.in-Ok-Some.ensures.sendable) in
+    record { state = one.state; sound = one.sound; stood = one.stood; has = can_arrive (g.C.Scheduler.policy c.args.self.now.scheduler) one.state c.in-Ok-Some.packet _ number sendable one.has }
+
+pub returns-in_err-admit-in-Ok-Some-clause-err : goal.returns-in_err-admit-in-Ok-Some-clause-err
+returns-in_err-admit-in-Ok-Some-clause-err g c =
     let p = err_from_is_err_and c.from_residual.result c.from_residual.ensures.1 in
+    let number = rw c.in-Ok-Some.field-0-is at c.in-Ok-Some.ensures.number in
+    let sendable = subst (λ (q : Policy). IsSendable q c.in-Ok-Some.packet) c.requires.packets (rw c.in-Ok-Some.field-0-is at c.in-Ok-Some.ensures.sendable) in
     rw (p.1) (record {
       packets = c.in-Ok-Some.packet ∷ [];
       count = omega arith;
       first = one_first _ _ (c.in-Ok-Some.packet ∷ []) (rw c.in-Ok-Some.field-0-is at c.in-Ok-Some.ensures.came);
-      stop = record {
-        next = record {
-          numbered = (rw c.in-Ok-Some.field-0-is at c.in-Ok-Some.ensures.number, tt);
-          sendable = (subst (λ (q : Policy). IsSendable q c.in-Ok-Some.packet) c.requires.packets (rw c.in-Ok-Some.field-0-is at c.in-Ok-Some.ensures.sendable), tt);
-        };
-        stopped = λ s sound stood below. rw c.event-event.ensures at (c.in_err-arrival-in-Ok-Some.ensures.err s sound stood);
-      };
+      stop = c.in_err-admit-in-Ok-Some.ensures.err _ (record { numbered = (number, tt); sendable = (sendable, tt) });
     })
+
+pub returns-in_ok-admit-in-Ok-Some-clause-ok : goal.returns-in_ok-admit-in-Ok-Some-clause-ok
+returns-in_ok-admit-in-Ok-Some-clause-ok g c =
+    let number = rw c.in-Ok-Some.field-0-is at c.in-Ok-Some.ensures.number in
+    let sendable = subst (λ (q : Policy). IsSendable q c.in-Ok-Some.packet) c.requires.packets (rw c.in-Ok-Some.field-0-is at c.in-Ok-Some.ensures.sendable) in
+    let given = rw c.in-Ok-Some.field-0-is at c.in-Ok-Some.ensures.given in
+    record {
+      packets = c.in-Ok-Some.packet ∷ [];
+      count = refl;
+      came = rw c.in-Ok-Some.field-0-is at c.in-Ok-Some.ensures.came;
+      made = rw given (c.in_ok-admit-in-Ok-Some.ensures.ok _ (record { numbered = (number, tt); sendable = (sendable, tt) }));
+    }
 
 pub returns-in-Err-Fault-clause-ok : goal.returns-in-Err-Fault-clause-ok
 returns-in-Err-Fault-clause-ok g c = record {

@@ -47,7 +47,7 @@ returns-in_err-depart_line-clause-err g c =
     let first = i.played s sound stood in
     let still = sound_departures policy c.loop-done.done None s c.requires.set.accepted sound in
     depart_cut g.C.Scheduler policy c.loop-done.done c.args.count (omega arith) first
-    (made_departure g.C.Scheduler policy (state _ still first.leaves.state) e.asked.pushes e.asked.departures e.asked.origin e.asked.spilled) (cut _ still first.leaves.state))
+    (made_departure g.C.Scheduler policy None (state _ still first.leaves.state) e.asked.pushes e.asked.departures e.asked.origin e.asked.spilled) (cut _ still first.leaves.state))
 
 pub loop-done-preserved : goal.loop-done-preserved
 loop-done-preserved g c =
@@ -61,7 +61,7 @@ loop-done-preserved g c =
           let first = i.played s sound stood in
           let still = sound_departures policy c.loop-done.done None s c.requires.set.accepted sound in
           depart_next g.C.Scheduler policy c.loop-done.done first
-          (made_departure g.C.Scheduler policy (state _ still first.leaves.state) e.asked.pushes e.asked.departures e.asked.origin e.asked.spilled) (text _ still first.leaves.state);
+          (made_departure g.C.Scheduler policy None (state _ still first.leaves.state) e.asked.pushes e.asked.departures e.asked.origin e.asked.spilled) (text _ still first.leaves.state);
       kept = record { policy = e.asked.policy ∙ i.kept.policy; origin = e.asked.origin ∙ i.kept.origin; names = i.kept.names; version = i.kept.version; room = e.room ∙ i.kept.room };
       kept_sink = sink-then _ _ _ _ _ i.kept_sink e.kept;
       live = e.live;

@@ -1,8 +1,10 @@
 use Rattle.std.proofs.Common.{IsTrue, drop}
 use Rattle.outside_core.specs.Kept.{KeepsSink}
+use Rattle.events_core.specs.Steps.{counts_of}
 use Rattle.sched_run.specs.Stages.{stage_of}
 use Rattle.sched_run.specs.Frames.{Continues, KeepsPackets, IsFurther}
-use Rattle.sched_run.proofs.CourseLaws.{HasRun}
+use Rattle.sched_run.specs.Courses.{script_agenda}
+use Rattle.sched_run.proofs.AgendaLaws.{HasRun}
 use Rattle.sched_run.proofs.run.Run.play_steps.Given as goal
 
 abbrev pub invariant-loop-step : goal.invariant-loop-step
@@ -11,7 +13,8 @@ invariant-loop-step g l =
     let P = g.P.Packets in
     let written = g.K.Sink.written in
     record {
-      run : HasRun S (S.policy l.fn.self.scheduler) l.steps (drop l.step-index l.steps) (P.left l.fn.packets l.fn.source) (P.left l.packets l.source)
+      run : HasRun S (S.policy l.fn.self.scheduler) (script_agenda (S.policy l.fn.self.scheduler) l.steps) (script_agenda (S.policy l.fn.self.scheduler) (drop l.step-index l.steps))
+          (counts_of l.steps) (counts_of (drop l.step-index l.steps)) (P.left l.fn.packets l.fn.source) (P.left l.packets l.source)
           (stage_of l.fn.self l.fn.under (written l.fn.sink) (P.given l.fn.packets))
           (stage_of l.self l.under (written l.sink) (P.given l.packets));
       further : IsFurther P l.fn.packets l.packets l.source l.fn.self.tally l.self.tally;

@@ -7,7 +7,7 @@ use Rattle.tree_defs.specs.Tree.{nodes}
 use Rattle.policy_defs.specs.Policy.{Policy}
 use Rattle.packet_defs.specs.declared.packet.Departed.{Departed}
 use Rattle.sched_run.proofs.LineLaws.{Left, left, ranks_left, line_left, named_leaf}
-use Rattle.sched_run.proofs.lines.depart_line.Goals as goal
+use Rattle.sched_run.proofs.lines.depart_at.Goals as goal
 
 pub name-leaf-requires : goal.name-leaf-requires
 name-leaf-requires g c =
@@ -42,7 +42,7 @@ returns-in_err-departed-in-Some-clause-cut g c =
     let named = named_leaf policy (g.N.NodeNames.policy c.args.names.now) h.leaver_is.digits c.in-Some.departed.leaf c.name-leaf.result.now c.requires.names h.leaf_is (ap (λ (z : Departed). z.leaf) h.told) c.name-leaf.ensures.name in
     let same = c.ranks.ensures.ranks ∙ ranks_left policy s c.in-Some.departed c.depart.new.trace h (c.in-Some.ensures.taken s sound stood) in
     subst (λ (l : List ℕ). IsCut (text_of (g.K.Sink.written c.args.sink.now) c.args.report.now) l (g.K.Sink.written c.departed.new.sink))
-    (line_left policy s c.in-Some.departed c.args.event c.name-leaf.result.now c.ranks.result.now h named same)
+    (line_left policy s c.in-Some.departed c.args.departure.event c.name-leaf.result.now c.ranks.result.now c.args.departure.start h named same)
     c.in_err-departed-in-Some.ensures.cut)
 
 pub returns-in_ok-departed-in-Some-clause-text : goal.returns-in_ok-departed-in-Some-clause-text
@@ -53,5 +53,5 @@ returns-in_ok-departed-in-Some-clause-text g c =
     let named = named_leaf policy (g.N.NodeNames.policy c.args.names.now) h.leaver_is.digits c.in-Some.departed.leaf c.name-leaf.result.now c.requires.names h.leaf_is (ap (λ (z : Departed). z.leaf) h.told) c.name-leaf.ensures.name in
     let same = c.ranks.ensures.ranks ∙ ranks_left policy s c.in-Some.departed c.depart.new.trace h (c.in-Some.ensures.taken s sound stood) in
     subst (λ (l : List ℕ). Appended (text_of (g.K.Sink.written c.args.sink.now) c.args.report.now) (text_of (g.K.Sink.written c.departed.new.sink) c.departed.new.self) l)
-    (line_left policy s c.in-Some.departed c.args.event c.name-leaf.result.now c.ranks.result.now h named same)
+    (line_left policy s c.in-Some.departed c.args.departure.event c.name-leaf.result.now c.ranks.result.now c.args.departure.start h named same)
     c.in_ok-departed-in-Some.ensures.ok

@@ -1,0 +1,362 @@
+-- The departures and arrivals of a link, turn by turn.
+use Rattle.std.proofs.Common.{◌≡◌, ◌≤◌, ◌<◌, ◌*◌, ℕ, zero, suc, ◌+◌, ◌-◌, max, true, false, Option, None, Some, List, [], ◌∷◌, ◌++◌, refl, sym, ap, ◌∙◌, subst, arith, append_assoc, append-nil}
+use Rattle.std.specs.Prelude.{IfSome, option_map}
+use Rattle.link_defs.specs.Link.{IsRate, send_time}
+use Rattle.link_defs.proofs.LinkLaws.{send_time-least}
+use Rattle.tree_defs.specs.SourceTree.{size}
+use Rattle.packet_defs.specs.declared.packet.Packet.{Packet}
+use Rattle.packet_defs.specs.declared.packet.Departed.{Departed}
+use Rattle.policy_defs.specs.Policy.{Policy}
+use Rattle.policy_defs.specs.Accepted.{IsAccepted}
+use Rattle.sched_defs.specs.SourceState.{SourceState, Leaver, departed, leaver}
+use Rattle.sched_defs.specs.Sound.{IsSound}
+use Rattle.sched_defs.specs.Events.{Event, Arrive, Depart, CanArrive, after, outcomes, empty_in}
+use Rattle.sched_defs.specs.Faults.{FaultAt}
+use Rattle.sched_defs.specs.Script.{Course, behind}
+use Rattle.sched_defs.specs.Link.{Sent, sent_nothing, sent_first, is_due, send_until, send_all, free_for, link_turn, link_course}
+use Rattle.sched_defs.specs.Numbered.{IsSendable, IsHeldBelow}
+use Rattle.sched_defs.specs.Packets.{Left, Came, IsOver}
+use Rattle.sched_defs.specs.declared.ending.Ending.TheVariants.{Whole, BadCapture}
+use Rattle.sched_defs.proofs.Courses.{held_none}
+use Rattle.sched_defs.proofs.Leaving.{leaver-none, size_departed}
+use Rattle.sched_defs.proofs.Links.{sending, turn_leads, turn_empty}
+use Rattle.sched_defs.proofs.Runs.{after-append}
+use Rattle.sched_core.specs.Departures.{departed_packet, next_departed}
+use Rattle.sched_core.specs.declared.scheduler.Scheduler.{Ghosts}
+use Rattle.sched_core.specs.Standing.{StandForOne, ForEachState}
+use Rattle.sched_run.specs.declared.tally.Tally.{Tally}
+use Rattle.sched_run.specs.Stages.{Stage, stage, event_of, arrivals_in, FromEach, Makes, Stops}
+use Rattle.sched_run.specs.Turns.{AreFirst, StopsAmid}
+use Rattle.sched_run.specs.Links.{IsSent, Sends, SendsAmid}
+use Rattle.sched_run.specs.Courses.{link_agenda, IsCourse, Courses}
+use Rattle.sched_run.proofs.MadeEvents.{Stands, stands_after, makes_none, makes_both, stops_later}
+use Rattle.sched_run.proofs.EventCounts.{AreOf, outcomes_of}
+use Rattle.sched_run.proofs.AgendaLaws.{IsBehind, HasRun, run_none}
+
+-- ---- departures in a row
+-- events, and then what is sent
+abbrev then_sent : List Event → Sent → Sent
+then_sent events sent = record sent { events = events ++ sent.events }
+
+-- Of what is to be sent where so many are held, these events are the first, one for each of so many packets.
+pub record IsPart (policy : Policy) (rate : ℕ) (until : Option ℕ) (held done first now : ℕ) (events : List Event) (s : SourceState) : Type 0 where
+  pub joined : send_until policy rate until held s first ≡ then_sent events (send_until policy rate until (held - done) (after policy events s) now)
+  pub holds : size (after policy events s).tree ≡ held - done
+
+pub part_none : (policy : Policy) (rate : ℕ) (until : Option ℕ) (held first : ℕ) (s : SourceState) → held ≡ size s.tree → IsPart policy rate until held 0 first first [] s
+part_none policy rate until held first s is =
+    let same : held ≡ held - 0 = omega arith in
+    record { joined = ap (λ (n : ℕ). send_until policy rate until n s first) same; holds = omega (arith, is) }
+
+-- where a packet is held there is one to leave
+holds_one : (policy : Policy) (s : SourceState) → IsSound policy s → 0 < size s.tree → (l : Leaver) × (leaver s ≡ Some l)
+holds_one policy s sound some = by_leaver (leaver s) refl
+  where
+    by_leaver : (o : Option Leaver) → leaver s ≡ o → (l : Leaver) × (leaver s ≡ Some l)
+    by_leaver None e = let z = (leaver-none policy s sound).0 e in absurd (omega (arith, z, some))
+    by_leaver (Some l) e = (l, e)
+
+module _ (policy : Policy) (rate : ℕ) (until : Option ℕ) where
+  -- where it is due, a packet leaves, and then the others
+  sends_one : (m : ℕ) (s : SourceState) (l : Leaver) (free : ℕ) → is_due until free ≡ true → leaver s ≡ Some l
+      → send_until policy rate until (suc m) s free ≡ sent_first (Depart (Some free)) (send_until policy rate until m (departed policy s) (free + send_time l.packet.len rate))
+  sends_one m s l free due leaves = rw (due, leaves) refl
+
+  -- where it isn't, none leaves
+  waits_here : (m : ℕ) (s : SourceState) (free : ℕ) → is_due until free ≡ false → send_until policy rate until m s free ≡ sent_nothing s free
+  waits_here zero s free due = refl
+  waits_here (suc m) s free due = rw due refl
+
+  module _ (held done first now : ℕ) (events : List Event) (s : SourceState) (part : IsPart policy rate until held done first now events s) where
+    abbrev mid : SourceState
+    mid = after policy events s
+
+    -- nothing more is sent
+    pub part_ends : send_until policy rate until (held - done) mid now ≡ sent_nothing mid now → IsSent events now (send_until policy rate until held s first)
+    part_ends none =
+        let e : send_until policy rate until held s first ≡ then_sent events (sent_nothing mid now) = part.joined ∙ ap (then_sent events) none in
+        record { are = sym (ap (λ (x : Sent). x.events) e ∙ append-nil events); is_free = sym (ap (λ (x : Sent). x.free) e) }
+
+    pub part_waits : is_due until now ≡ false → IsSent events now (send_until policy rate until held s first)
+    part_waits due = part_ends (waits_here (held - done) mid now due)
+
+    pub part_over : held ≤ done → IsSent events now (send_until policy rate until held s first)
+    part_over all =
+        let none : held - done ≡ 0 = omega (arith, all) in
+        part_ends (ap (λ (n : ℕ). send_until policy rate until n mid now) none)
+
+    module _ (sound : IsSound policy mid) (below : done < held) (due : is_due until now ≡ true) where
+      one : (l : Leaver) × (leaver mid ≡ Some l)
+      one = holds_one policy mid sound (omega (arith, part.holds, below))
+
+      more : held - done ≡ suc (held - (done + 1))
+      more = omega (arith, below)
+
+      unfolded : send_until policy rate until held s first
+          ≡ then_sent (events ++ Depart (Some now) ∷ []) (send_until policy rate until (held - (done + 1)) (departed policy mid) (now + send_time one.0.packet.len rate))
+      unfolded =
+          part.joined
+          ∙ ap (λ (n : ℕ). then_sent events (send_until policy rate until n mid now)) more
+          ∙ ap (then_sent events) (sends_one (held - (done + 1)) mid one.0 now due one.1)
+          ∙ ap (λ (es : List Event). record (send_until policy rate until (held - (done + 1)) (departed policy mid) (now + send_time one.0.packet.len rate)) { events = es })
+          (sym (append_assoc events (Depart (Some now) ∷ []) (send_until policy rate until (held - (done + 1)) (departed policy mid) (now + send_time one.0.packet.len rate)).events))
+
+      -- one more is sent
+      pub part_goes : (o : Option Departed) (now' : ℕ) → o ≡ next_departed policy mid → IfSome o (λ d. now' ≡ now + send_time d.len rate) → IsPart policy rate until held (done + 1) first now' (events ++ Depart (Some now) ∷ []) s
+      part_goes o now' told free =
+          let some : o ≡ Some (departed_packet policy one.0) = told ∙ ap (option_map (departed_packet policy)) one.1 in
+          let later : now' ≡ now + send_time one.0.packet.len rate = subst (λ (x : Option Departed). IfSome x (λ d. now' ≡ now + send_time d.len rate)) some free in
+          let state : after policy (events ++ Depart (Some now) ∷ []) s ≡ departed policy mid = after-append policy events (Depart (Some now) ∷ []) s in
+          record {
+            joined = unfolded
+                ∙ ap (λ (n : ℕ). then_sent (events ++ Depart (Some now) ∷ []) (send_until policy rate until (held - (done + 1)) (departed policy mid) n)) (sym later)
+                ∙ ap (λ (t : SourceState). then_sent (events ++ Depart (Some now) ∷ []) (send_until policy rate until (held - (done + 1)) t now')) (sym state);
+            holds = ap (λ (t : SourceState). size t.tree) state ∙ omega (arith, size_departed policy mid sound, part.holds, below);
+          }
+
+      -- one more was to be sent
+      pub part_stops : AreFirst (events ++ Depart (Some now) ∷ []) (send_until policy rate until held s first).events
+      part_stops = ((send_until policy rate until (held - (done + 1)) (departed policy mid) (now + send_time one.0.packet.len rate)).events, sym (ap (λ (x : Sent). x.events) unfolded))
+
+-- a part of what is to be sent was made
+pub record SendsPart {C U : Type 0} (S : Ghosts C U) (policy : Policy) (rate : ℕ) (until : Option ℕ) (held done first now : ℕ) (old new : Stage C U) : Type 0 where
+  pub events : List Event
+  pub made : Makes S policy events old new
+  pub told : FromEach S policy old (λ s. IsPart policy rate until held done first now events s)
+
+module _ {C U : Type 0} (S : Ghosts C U) (policy : Policy) (accepted : IsAccepted policy) (rate : ℕ) (until : Option ℕ) (held first : ℕ) (old : Stage C U) (holds : ForEachState S.stands policy old.scheduler old.under (λ s. held ≡ size s.tree)) where
+  pub sends_none : SendsPart S policy rate until held 0 first first old old
+  sends_none = record {
+    events = [];
+    made = makes_none S policy old.scheduler old.under old.text old.given old.given old.tally;
+    told = λ s sound stood below. part_none policy rate until held first s (holds s sound stood);
+  }
+
+  module _ (done now : ℕ) (mid : Stage C U) (given : mid.given ≡ old.given) (came : mid.tally.came ≡ old.tally.came) (part : SendsPart S policy rate until held done first now old mid) where
+    part_given : mid.given ≡ old.given + arrivals_in part.events
+    part_given = omega (arith, given, came, part.made.came)
+
+    part_at : (s : SourceState) → IsSound policy s → S.stands old.scheduler old.under s → IsHeldBelow (old.given + 1) s.held → Stands S policy mid.scheduler mid.under mid.given (after policy part.events s)
+    part_at s sound stood below = stands_after S policy accepted part.events old mid mid.given s part.made part_given (record { sound = sound; stood = stood; below = below })
+
+    whole : (s : SourceState) → IsSound policy s → S.stands old.scheduler old.under s → IsSent part.events now (send_until policy rate until held s first) → IsSent part.events now (send_until policy rate until (size s.tree) s first)
+    whole s sound stood sent = subst (λ (n : ℕ). IsSent part.events now (send_until policy rate until n s first)) (holds s sound stood) sent
+
+    -- the link isn't free in time
+    pub sends_waits : is_due until now ≡ false → Sends S policy (λ s. send_until policy rate until (size s.tree) s first) now old mid
+    sends_waits due = record {
+      events = part.events;
+      made = part.made;
+      told = λ s sound stood below. whole s sound stood (part_waits policy rate until held done first now part.events s (part.told s sound stood below) due);
+    }
+
+    -- no packet is held any more
+    pub sends_over : held ≤ done → Sends S policy (λ s. send_until policy rate until (size s.tree) s first) now old mid
+    sends_over all = record {
+      events = part.events;
+      made = part.made;
+      told = λ s sound stood below. whole s sound stood (part_over policy rate until held done first now part.events s (part.told s sound stood below) all);
+    }
+
+    -- a state for which they stand now
+    pub sends_stand : StandForOne S.stands policy old.scheduler old.under (λ s. IsHeldBelow (old.given + 1) s.held) → StandForOne S.stands policy mid.scheduler mid.under (λ _. Unit {0})
+    sends_stand one =
+        let at = part_at one.state one.sound one.stood one.has in
+        record { state = after policy part.events one.state; sound = at.sound; stood = at.stood; has = tt }
+
+    -- each departure is counted
+    pub sends_asked : StandForOne S.stands policy old.scheduler old.under (λ s. IsHeldBelow (old.given + 1) s.held) → S.departures mid.scheduler + old.tally.asked ≡ S.departures old.scheduler + mid.tally.asked
+    sends_asked one =
+        let leaves = (part.made.played one.state one.sound one.stood one.has).leaves in
+        let counts : AreOf part.events (outcomes policy part.events one.state) = outcomes_of policy part.events one.state in
+        omega (arith, leaves.asked, counts.asked, part.made.asked)
+
+    module _ (below : done < held) (due : is_due until now ≡ true) where
+      pub sends_goes : (o : Option Departed) (now' : ℕ) (new : Stage C U) → ForEachState S.stands policy mid.scheduler mid.under (λ s. o ≡ next_departed policy s) → IfSome o (λ d. now' ≡ now + send_time d.len rate)
+          → Makes S policy (Depart (Some now) ∷ []) mid new → SendsPart S policy rate until held (done + 1) first now' old new
+      sends_goes o now' new value time made = record {
+        events = part.events ++ Depart (Some now) ∷ [];
+        made = makes_both S policy accepted part.events (Depart (Some now) ∷ []) old mid new part_given part.made made;
+        told = λ s sound stood low.
+            let at = part_at s sound stood low in
+            part_goes policy rate until held done first now part.events s (part.told s sound stood low) at.sound below due o now' (value (after policy part.events s) at.sound at.stood) time;
+      }
+
+      pub sends_stops : (c : C) (u : U) (written : Option (List ℕ)) → Stops S policy (Depart (Some now) ∷ []) mid c u written → SendsAmid S policy (λ s. send_until policy rate until (size s.tree) s first) old c u written
+      sends_stops c u written stop = record {
+        events = part.events ++ Depart (Some now) ∷ [];
+        stop = stops_later S policy accepted part.events (Depart (Some now) ∷ []) old mid c u written part_given part.made stop;
+        first = λ s sound stood low.
+            let at = part_at s sound stood low in
+            let some = part_stops policy rate until held done first now part.events s (part.told s sound stood low) at.sound below due in
+            subst (λ (n : ℕ). AreFirst (part.events ++ Depart (Some now) ∷ []) (send_until policy rate until n s first).events) (holds s sound stood) some;
+      }
+
+-- the greatest length takes less than 2^62 nanoseconds
+pub sends_soon : (len rate : ℕ) → IsRate rate → len < 4294967296 → send_time len rate ≤ 4611686018427387904
+sends_soon len rate is few =
+    let all : len * 1000000000 ≤ len * 1000000000 * rate = grind arith in
+    let least = (send_time-least len rate is).least (len * 1000000000) all in
+    omega (arith, least, few)
+
+-- how many packets came then isn't told by what was sent
+pub same_sends : {C U : Type 0} (S : Ghosts C U) (policy : Policy) (sent : SourceState → Sent) (free : ℕ) (old : Stage C U) (c : C) (u : U) (text : Option (List ℕ)) (given given' : ℕ) (tally : Tally) → given ≡ given'
+    → Sends S policy sent free old (stage c u text given tally) → Sends S policy sent free old (stage c u text given' tally)
+same_sends S policy sent free old c u text given given' tally e sends = subst (λ (n : ℕ). Sends S policy sent free old (stage c u text n tally)) e sends
+
+-- ---- the turns of a link
+-- at first the link is free, and all is still to come
+pub link_begins : {C U : Type 0} (S : Ghosts C U) (policy : Policy) (rate free : ℕ) → free ≡ 0 → (a : Option Left) (c : C) (u : U) (text : Option (List ℕ)) (given : ℕ) (tally : Tally)
+    → HasRun S policy (link_agenda policy rate 0) (link_agenda policy rate free) 0 0 a a (stage c u text given tally) (stage c u text given tally)
+link_begins S policy rate free e a c u text given tally =
+    subst (λ (n : ℕ). HasRun S policy (link_agenda policy rate 0) (link_agenda policy rate n) 0 0 a a (stage c u text given tally) (stage c u text given tally)) (sym e)
+    (run_none S policy (link_agenda policy rate 0) 0 a c u text given tally)
+
+module _ {C U : Type 0} (S : Ghosts C U) (policy : Policy) (rate free : ℕ) where
+  -- a packet came, and its turn was made
+  pub link_goes : (p : Packet) (free' : ℕ) (a b : Option Left) (old new : Stage C U) → Came a b (p ∷ []) → Sends S policy (λ s. link_turn policy rate p s free) free' old new
+      → HasRun S policy (link_agenda policy rate free) (link_agenda policy rate free') 0 0 a b old new
+  link_goes p free' a b old new came sends = record {
+    events = sends.events;
+    made = sends.made;
+    few = λ s sound stood below.
+        let none = ap (λ (es : List Event). empty_in (outcomes policy es s)) (sends.told s sound stood below).are ∙ turn_empty policy rate p s free in
+        omega (arith, none);
+    told = by_left a b came;
+  }
+    where
+      by_left : (a b : Option Left) → Came a b (p ∷ []) → IfSome a (λ l. FromEach S policy old (λ s. IsBehind policy (link_agenda policy rate free) (link_agenda policy rate free') sends.events l b s (event_of old.tally) (event_of new.tally)))
+      by_left None b came = tt
+      by_left (Some l) None came = absurd came
+      by_left (Some l) (Some m) came = λ s sound stood below.
+          let is = sends.told s sound stood below in
+          let turn : Sent = link_turn policy rate p s free in
+          let state : turn.state ≡ after policy sends.events s = sym (ap (λ (es : List Event). after policy es s) is.are ∙ turn_leads policy rate p s free) in
+          record {
+            left = m;
+            is = refl;
+            joined = ap (λ (ps : List Packet). link_course policy rate ps l.fault s free) came.0
+                ∙ ap (λ (f : Option FaultAt). link_course policy rate (p ∷ m.packets) f s free) came.1
+                ∙ ap (λ (es : List Event). behind es (link_course policy rate m.packets m.fault turn.state turn.free)) (sym is.are)
+                ∙ ap (λ (t : SourceState). behind sends.events (link_course policy rate m.packets m.fault t turn.free)) state
+                ∙ ap (λ (n : ℕ). behind sends.events (link_course policy rate m.packets m.fault (after policy sends.events s) n)) (sym is.is_free);
+          }
+
+  -- its turn stopped
+  pub link_stops : (p : Packet) (a b : Option Left) (old : Stage C U) (c : C) (u : U) (written : Option (List ℕ)) → Came a b (p ∷ []) → SendsAmid S policy (λ s. link_turn policy rate p s free) old c u written
+      → StopsAmid S policy (λ l s. (link_agenda policy rate free l s (event_of old.tally)).events) a old c u written
+  link_stops p a b old c u written came amid = record { events = amid.events; stop = amid.stop; first = by_left a b came }
+    where
+      by_left : (a b : Option Left) → Came a b (p ∷ []) → IfSome a (λ l. FromEach S policy old (λ s. AreFirst amid.events (link_agenda policy rate free l s (event_of old.tally)).events))
+      by_left None b came = tt
+      by_left (Some l) None came = absurd came
+      by_left (Some l) (Some m) came = λ s sound stood below.
+          let first = amid.first s sound stood below in
+          let rest : Course = link_course policy rate m.packets m.fault (link_turn policy rate p s free).state (link_turn policy rate p s free).free in (
+            first.0 ++ rest.events,
+            sym (append_assoc amid.events first.0 rest.events) ∙ ap (λ (es : List Event). es ++ rest.events) first.1
+                ∙ sym (ap (λ (ps : List Packet). (link_course policy rate ps l.fault s free).events) came.0 ∙ ap (λ (f : Option FaultAt). (link_course policy rate (p ∷ m.packets) f s free).events) came.1),
+          )
+
+  -- no packet is left, and no fault
+  whole_here : (l : Left) (s : SourceState) → l.packets ≡ [] → l.fault ≡ None → link_course policy rate l.packets l.fault s free ≡ record { events = (send_all policy rate s free).events; ending = Whole 0 }
+  whole_here l s none sound = ap (λ (ps : List Packet). link_course policy rate ps l.fault s free) none ∙ ap (λ (f : Option FaultAt). link_course policy rate [] f s free) sound
+
+  over_before : (a b : Option Left) → Came a b [] → IsOver b → IfSome a (λ l. (l.packets ≡ []) × (l.fault ≡ None))
+  over_before None b came over = tt
+  over_before (Some l) None came over = absurd came
+  over_before (Some l) (Some m) came over = (came.0 ∙ over.0, came.1 ∙ over.1)
+
+  -- all that was held was sent
+  pub link_drains : (free' : ℕ) (a b : Option Left) (old new : Stage C U) → Came a b [] → IsOver b → Sends S policy (λ s. send_until policy rate None (size s.tree) s free) free' old new
+      → Courses S policy (link_agenda policy rate free) (Whole 0) a old new
+  link_drains free' a b old new came over sends = record { events = sends.events; made = sends.made; told = by_left a (over_before a b came over) }
+    where
+      by_left : (a : Option Left) → IfSome a (λ l. (l.packets ≡ []) × (l.fault ≡ None)) → IfSome a (λ l. FromEach S policy old (λ s. IsCourse sends.events (Whole 0) (link_agenda policy rate free l s (event_of old.tally))))
+      by_left None none = tt
+      by_left (Some l) none = λ s sound stood below.
+          let e = whole_here l s none.0 none.1 in
+          record { are = (sends.told s sound stood below).are ∙ sym (ap (λ (x : Course). x.events) e); ends = sym (ap (λ (x : Course). x.ending) e) }
+
+  pub link_drain_stops : (a b : Option Left) (old : Stage C U) (c : C) (u : U) (written : Option (List ℕ)) → Came a b [] → IsOver b → SendsAmid S policy (λ s. send_until policy rate None (size s.tree) s free) old c u written
+      → StopsAmid S policy (λ l s. (link_agenda policy rate free l s (event_of old.tally)).events) a old c u written
+  link_drain_stops a b old c u written came over amid = record { events = amid.events; stop = amid.stop; first = by_left a (over_before a b came over) }
+    where
+      by_left : (a : Option Left) → IfSome a (λ l. (l.packets ≡ []) × (l.fault ≡ None)) → IfSome a (λ l. FromEach S policy old (λ s. AreFirst amid.events (link_agenda policy rate free l s (event_of old.tally)).events))
+      by_left None none = tt
+      by_left (Some l) none = λ s sound stood below.
+          let first = amid.first s sound stood below in
+          (first.0, first.1 ∙ sym (ap (λ (x : Course). x.events) (whole_here l s none.0 none.1)))
+
+  -- a fault is met: nothing more happens
+  pub fault_met : (c p event : ℕ) (o : Option Left) → IfSome o (λ l. (l.packets ≡ []) × (l.fault ≡ Some (record { code = c; place = p })))
+      → IfSome o (λ l. (s : SourceState) → IsCourse [] (BadCapture c p) (link_agenda policy rate free l s event))
+  fault_met c p event None met = tt
+  fault_met c p event (Some l) met = λ s.
+      let e : link_course policy rate l.packets l.fault s free ≡ record { events = []; ending = BadCapture c p } =
+      ap (λ (ps : List Packet). link_course policy rate ps l.fault s free) met.0 ∙ ap (λ (f : Option FaultAt). link_course policy rate [] f s free) met.1 in
+      record { are = sym (ap (λ (x : Course). x.events) e); ends = sym (ap (λ (x : Course). x.ending) e) }
+
+-- ---- one turn
+module _ {C U : Type 0} (S : Ghosts C U) (policy : Policy) (accepted : IsAccepted policy) (rate free : ℕ) (p : Packet) (moment : ℕ) (old : Stage C U) (moments : FromEach S policy old (λ s. moment ≡ max s.now p.moment)) where
+  -- what is due is the first part of a turn
+  is_turn : (s : SourceState) → moment ≡ max s.now p.moment → (link_turn policy rate p s free).events ≡ (send_until policy rate (Some moment) (size s.tree) s free).events ++ Arrive p ∷ []
+  is_turn s e = ap (λ (n : ℕ). (send_until policy rate (Some n) (size s.tree) s free).events ++ Arrive p ∷ []) (sym e)
+
+  pub turn_halts : (c : C) (u : U) (written : Option (List ℕ)) → SendsAmid S policy (λ s. send_until policy rate (Some moment) (size s.tree) s free) old c u written
+      → SendsAmid S policy (λ s. link_turn policy rate p s free) old c u written
+  turn_halts c u written amid = record {
+    events = amid.events;
+    stop = amid.stop;
+    first = λ s sound stood below.
+        let first = amid.first s sound stood below in
+        (first.0 ++ Arrive p ∷ [], sym (append_assoc amid.events first.0 (Arrive p ∷ [])) ∙ ap (λ (es : List Event). es ++ Arrive p ∷ []) first.1 ∙ sym (is_turn s (moments s sound stood below)));
+  }
+
+  module _ (mid : Stage C U) (free' : ℕ) (given : mid.given ≡ old.given) (came : mid.tally.came ≡ old.tally.came) (sends : Sends S policy (λ s. send_until policy rate (Some moment) (size s.tree) s free) free' old mid) where
+    same_given : mid.given ≡ old.given + arrivals_in sends.events
+    same_given = omega (arith, given, came, sends.made.came)
+
+    -- the packet can arrive then, and nothing was pushed
+    pub turn_stands : StandForOne S.stands policy old.scheduler old.under (λ s. IsHeldBelow p.number s.held × IsHeldBelow (old.given + 1) s.held) → IsSendable policy p
+        → StandForOne S.stands policy mid.scheduler mid.under (λ s. CanArrive policy s p)
+    turn_stands one sendable =
+        let s = one.state in
+        let is = sends.told s one.sound one.stood one.has.1 in
+        let at = stands_after S policy accepted sends.events old mid mid.given s sends.made same_given (record { sound = one.sound; stood = one.stood; below = one.has.1 }) in
+        let due = sending policy rate (Some moment) (size s.tree) s free in
+        let state : after policy sends.events s ≡ (send_until policy rate (Some moment) (size s.tree) s free).state = ap (λ (es : List Event). after policy es s) is.are ∙ due.leads in
+        let below : IsHeldBelow p.number (after policy sends.events s).held = subst (λ (t : SourceState). IsHeldBelow p.number t.held) (sym state) (due.keeps p.number one.has.0) in
+        record { state = after policy sends.events s; sound = at.sound; stood = at.stood; has = record { fresh = held_none (after policy sends.events s).held p.number below; known = sendable.known; moment = sendable.moment } }
+
+    pub turn_pushes : StandForOne S.stands policy old.scheduler old.under (λ s. IsHeldBelow (old.given + 1) s.held) → S.pushes mid.scheduler ≡ S.pushes old.scheduler
+    turn_pushes one =
+        let leaves = (sends.made.played one.state one.sound one.stood one.has).leaves in
+        let counts : AreOf sends.events (outcomes policy sends.events one.state) = outcomes_of policy sends.events one.state in
+        omega (arith, leaves.pushed, counts.pushed_or_dropped, sends.made.came, came)
+
+    pub turn_goes : (free'' : ℕ) (new : Stage C U) → FromEach S policy mid (λ s. free'' ≡ free_for s moment free') → Makes S policy (Arrive p ∷ []) mid new → Sends S policy (λ s. link_turn policy rate p s free) free'' old new
+    turn_goes free'' new idle arrives = record {
+      events = sends.events ++ Arrive p ∷ [];
+      made = makes_both S policy accepted sends.events (Arrive p ∷ []) old mid new same_given sends.made arrives;
+      told = λ s sound stood below.
+          let is = sends.told s sound stood below in
+          let due : Sent = send_until policy rate (Some moment) (size s.tree) s free in
+          let at = stands_after S policy accepted sends.events old mid mid.given s sends.made same_given (record { sound = sound; stood = stood; below = below }) in
+          let state : after policy sends.events s ≡ due.state = ap (λ (es : List Event). after policy es s) is.are ∙ (sending policy rate (Some moment) (size s.tree) s free).leads in
+          let e = moments s sound stood below in
+          record {
+            are = ap (λ (es : List Event). es ++ Arrive p ∷ []) is.are ∙ sym (is_turn s e);
+            is_free = idle (after policy sends.events s) at.sound at.stood at.below
+                ∙ ap (λ (t : SourceState). free_for t moment free') state
+                ∙ ap (free_for due.state moment) is.is_free
+                ∙ ap (λ (n : ℕ). free_for (send_until policy rate (Some n) (size s.tree) s free).state n (send_until policy rate (Some n) (size s.tree) s free).free) e;
+          };
+    }
+
+    pub turn_stops : (c : C) (u : U) (written : Option (List ℕ)) → Stops S policy (Arrive p ∷ []) mid c u written → SendsAmid S policy (λ s. link_turn policy rate p s free) old c u written
+    turn_stops c u written stop = record {
+      events = sends.events ++ Arrive p ∷ [];
+      stop = stops_later S policy accepted sends.events (Arrive p ∷ []) old mid c u written same_given sends.made stop;
+      first = λ s sound stood below. ([], append-nil (sends.events ++ Arrive p ∷ []) ∙ ap (λ (es : List Event). es ++ Arrive p ∷ []) (sends.told s sound stood below).are ∙ sym (is_turn s (moments s sound stood below)));
+    }

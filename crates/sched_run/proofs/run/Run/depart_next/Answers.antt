@@ -1,0 +1,22 @@
+use Rattle.std.proofs.Common.{List, ℕ, [], ◌∷◌, sym, subst}
+use Rattle.std.proofs.lemmas.Result.{err_from_is_err_and}
+use Rattle.report_defs.specs.Text.{IsCut}
+use Rattle.report_core.specs.Gathered.{text_of}
+use Rattle.sched_defs.specs.Events.{Depart}
+use Rattle.sched_run.proofs.JoinedEvents.{told-one, made_departure, made_all}
+use Rattle.sched_run.proofs.run.Run.depart_next.Goals as goal
+
+pub returns-in_err-departed-clause-err : goal.returns-in_err-departed-clause-err
+returns-in_err-departed-clause-err g c =
+    let p = err_from_is_err_and c.from_residual.result c.from_residual.ensures.1 in
+    let S = g.C.Scheduler in
+    let policy = S.policy c.args.self.now.scheduler in
+    let e = c.in_err-departed.ensures in
+    rw (p.1) (λ given. record {
+      next = record { numbered = tt; sendable = tt };
+      stopped = λ s sound stood below. record {
+        leaves = made_all S policy (Depart c.args.start ∷ []) (made_departure S policy c.args.start (e.state s sound stood) e.asked.pushes e.asked.departures e.asked.origin e.asked.spilled);
+        lines = subst (λ (l : List ℕ). IsCut (text_of (g.K.Sink.written c.args.sink.now) c.args.self.now.report) l (g.K.Sink.written c.depart_at.new.sink))
+            (sym (told-one policy _ (Depart c.args.start) s)) (rw c.event-event.ensures at (e.cut s sound stood));
+      };
+    })

@@ -1,0 +1,233 @@
+//! The departures and arrivals that a link paces.
+ghost use Rattle.std.specs.Prelude.{◌≡◌, ◌≤◌, ◌<◌, ◌+◌, ◌^◌, ◌==◌, if◌then◌else◌, max, IfSome};
+ghost use Rattle.link_defs.specs.Link.{IsRate, send_time};
+ghost use Rattle.sched_defs.specs.Link.{is_due};
+
+use crate::lines::{Departure, depart_at};
+use crate::run::Run;
+use events_core::Link;
+use outside_core::{Sink, Stop};
+use packet_defs::{Departed, Packet};
+use policy_defs::NodeNames;
+use report_core::WriteFault;
+use sched_core::Scheduler;
+use sched_defs::{Ending, Halt, Packets};
+
+/// Whether a departure is due before a moment, where there is one.
+fn is_due(link: &Link, until: Option<u64>) -> bool
+    ensures { result ≡ is_due until link.now }
+{
+    match until {
+        Some(moment) => link.due(moment),
+        None => true,
+    }
+}
+
+/// Sends a packet that left, if one did.
+fn take_time(link: &mut Link, departed: Option<Departed>, rate: u64)
+    requires early { link.old < 2 ^ 126 }
+    requires rate { IsRate rate }
+
+    ensures time { IfSome departed (λ d. link.new ≡ link.old + send_time d.len rate) }
+    ensures soon { link.new ≤ link.old + 2 ^ 62 }
+{
+    if let Some(departed) = departed {
+        link.send(departed.len, rate);
+    }
+}
+
+/// Lets the link stand idle up to a moment, where nothing is held.
+fn idle_at(link: &mut Link, held: u64, moment: u64)
+    ensures { link.new ≡ (if held == 0 then max link.old moment else link.old) }
+{
+    if held == 0 {
+        link.idle(moment);
+    }
+}
+
+impl<'a, C: Scheduler + Drop, N: NodeNames> Run<'a, C, N> {
+    ghost use Rattle.std.specs.Prelude.{◌≡◌, ◌≤◌, ◌<◌, ◌+◌, ◌^◌, ℕ, [], ◌∷◌, IsTrue, IfErr, IfOk, OnOk, OnErr};
+    ghost use Rattle.outside_core.specs.Faults.{Rose};
+    ghost use Rattle.outside_core.specs.Kept.{KeepsSink, HasCause, HasSinkCause};
+    ghost use Rattle.link_defs.specs.Link.{IsRate};
+    ghost use Rattle.tree_defs.specs.SourceTree.{size};
+    ghost use Rattle.sched_defs.specs.Events.{Depart};
+    ghost use Rattle.sched_defs.specs.Link.{send_until, link_turn};
+    ghost use Rattle.sched_defs.specs.Numbered.{IsSendable, IsHeldBelow};
+    ghost use Rattle.sched_defs.specs.Packets.{most_packets};
+    ghost use Rattle.sched_core.specs.Departures.{next_departed};
+    ghost use Rattle.sched_run.specs.Frames.{IsSet, Continues, Stand, FromAll, KeepsPackets};
+    ghost use Rattle.sched_run.specs.Stages.{stage_of, event_of, IsFresh, CanBegin, HasRoomFor, Makes, Stops};
+    ghost use Rattle.sched_run.specs.Turns.{StopsAmid};
+    ghost use Rattle.sched_run.specs.Links.{Sends, SendsAmid, IsEarly, CanSend, HasRoomToSend};
+    ghost use Rattle.sched_run.specs.Steps.{IsNoPastLast};
+    ghost use Rattle.sched_run.specs.Courses.{link_agenda, Courses};
+
+    /// Makes a departure that starts at a moment, with its line, and counts it. Takes no memory.
+    fn depart_next<K: Sink>(
+        &mut self,
+        under: &mut C::Under,
+        sink: &mut K,
+        start: Option<u128>,
+    ) -> Result<Option<Departed>, WriteFault>
+        requires set { IsSet C.Scheduler N.policy self.old }
+        requires stands { Stand C.Scheduler self.old under.old (λ _. Unit {0}) }
+        requires few { C.departures self.old.scheduler < 2 ^ 61 }
+        requires events { self.old.tally.came + self.old.tally.asked < 2 ^ 62 }
+
+        ensures ok { OnOk result ((given : ℕ) → Makes C.Scheduler (C.policy self.old.scheduler) (Depart start ∷ [])
+            (stage_of self.old under.old (K.written sink.old) given) (stage_of self.new under.new (K.written sink.new) given)) }
+        ensures err { OnErr result ((given : ℕ) → Stops C.Scheduler (C.policy self.old.scheduler) (Depart start ∷ [])
+            (stage_of self.old under.old (K.written sink.old) given) self.new.scheduler under.new (K.written sink.new)) }
+        ensures value { IfOk result (λ d. FromAll C.Scheduler self.old under.old (λ s.
+            d ≡ next_departed (C.policy self.old.scheduler) s)) }
+        ensures came { self.new.tally.came ≡ self.old.tally.came }
+        ensures dropped { self.new.tally.dropped ≡ self.old.tally.dropped }
+        ensures asked { OnOk result (self.new.tally.asked ≡ self.old.tally.asked + 1) }
+        ensures kept { Continues C.Scheduler self.old self.new }
+        ensures kept_sink { KeepsSink K.written K.faults sink.old sink.new }
+        ensures cause { OnErr result (Rose (K.faults sink.old) (K.faults sink.new)) }
+        ensures live { OnOk result (IsTrue self.new.report.live) }
+    {
+        let event = self.tally.event();
+        let departed = depart_at(
+            self.names,
+            &mut self.scheduler,
+            under,
+            &mut self.trace,
+            &mut self.report,
+            sink,
+            Departure { event, start },
+        )?;
+        self.tally.asked += 1;
+        Ok(departed)
+    }
+
+    /// Sends what is held as long as the link is free before a moment, or all of it where there is none. Takes no memory.
+    fn send_until<K: Sink>(
+        &mut self,
+        under: &mut C::Under,
+        sink: &mut K,
+        link: &mut Link,
+        rate: u64,
+        until: Option<u64>,
+    ) -> Result<(), WriteFault>
+        requires set { IsSet C.Scheduler N.policy self.old }
+        requires stands { Stand C.Scheduler self.old under.old (CanSend self.old.tally) }
+        requires counts { HasRoomToSend (C.departures self.old.scheduler) self.old.tally }
+        requires rate { IsRate rate }
+        requires early { IsEarly link.old self.old.tally }
+
+        ensures ok { OnOk result ((given : ℕ) → Sends C.Scheduler (C.policy self.old.scheduler)
+            (λ s. send_until (C.policy self.old.scheduler) rate until (size s.tree) s link.old) link.new
+            (stage_of self.old under.old (K.written sink.old) given) (stage_of self.new under.new (K.written sink.new) given)) }
+        ensures err { OnErr result ((given : ℕ) → SendsAmid C.Scheduler (C.policy self.old.scheduler)
+            (λ s. send_until (C.policy self.old.scheduler) rate until (size s.tree) s link.old)
+            (stage_of self.old under.old (K.written sink.old) given) self.new.scheduler under.new (K.written sink.new)) }
+        ensures early { OnOk result (IsEarly link.new self.new.tally) }
+        ensures came { self.new.tally.came ≡ self.old.tally.came }
+        ensures dropped { self.new.tally.dropped ≡ self.old.tally.dropped }
+        ensures few { OnOk result (self.new.tally.asked ≤ 2 ^ 34) }
+        ensures kept { Continues C.Scheduler self.old self.new }
+        ensures kept_sink { KeepsSink K.written K.faults sink.old sink.new }
+        ensures cause { OnErr result (Rose (K.faults sink.old) (K.faults sink.new)) }
+        ensures live { OnOk result (IsTrue self.new.report.live) }
+    {
+        let held = self.scheduler.held();
+        for _sent in 0..held {
+            if !is_due(link, until) {
+                return Ok(());
+            }
+            let start = Some(link.free());
+            let departed = self.depart_next(under, sink, start)?;
+            take_time(link, departed, rate);
+        }
+        Ok(())
+    }
+
+    /// Sends what is due before a packet's moment, and makes the packet's arrival, each with its line.
+    fn arrive_paced<K: Sink>(
+        &mut self,
+        under: &mut C::Under,
+        sink: &mut K,
+        link: &mut Link,
+        rate: u64,
+        packet: &Packet,
+    ) -> Result<(), Stop>
+        requires set { IsSet C.Scheduler N.policy self.old }
+        requires stands { Stand C.Scheduler self.old under.old (λ s.
+            IsHeldBelow packet.now.number s.held × CanSend self.old.tally s) }
+        requires counts { HasRoomToSend (C.departures self.old.scheduler) self.old.tally }
+        requires few { C.pushes self.old.scheduler < 2 ^ 61 }
+        requires dropped { self.old.tally.dropped ≤ self.old.tally.came }
+        requires sendable { IsSendable (C.policy self.old.scheduler) packet.now }
+        requires rate { IsRate rate }
+        requires early { IsEarly link.old self.old.tally }
+
+        ensures ok { OnOk result ((given : ℕ) → packet.now.number ≡ given + 1 → Sends C.Scheduler (C.policy self.old.scheduler)
+            (λ s. link_turn (C.policy self.old.scheduler) rate packet.now s link.old) link.new
+            (stage_of self.old under.old (K.written sink.old) given) (stage_of self.new under.new (K.written sink.new) (given + 1))) }
+        ensures err { OnErr result ((given : ℕ) → packet.now.number ≡ given + 1 → SendsAmid C.Scheduler (C.policy self.old.scheduler)
+            (λ s. link_turn (C.policy self.old.scheduler) rate packet.now s link.old)
+            (stage_of self.old under.old (K.written sink.old) given) self.new.scheduler under.new (K.written sink.new)) }
+        ensures early { OnOk result (IsEarly link.new self.new.tally) }
+        ensures came { OnOk result (self.new.tally.came ≡ self.old.tally.came + 1) }
+        ensures came_stays { OnErr result (self.new.tally.came ≡ self.old.tally.came) }
+        ensures kept { Continues C.Scheduler self.old self.new }
+        ensures kept_sink { KeepsSink K.written K.faults sink.old sink.new }
+        ensures cause { IfErr result (λ stop. HasSinkCause stop K.faults sink.old sink.new) }
+        ensures live { OnOk result (IsTrue self.new.report.live) }
+    {
+        let moment = self.scheduler.now().max(packet.moment);
+        self.send_until(under, sink, link, rate, Some(moment))?;
+        idle_at(link, self.scheduler.held(), moment);
+        self.admit(under, sink, packet)
+    }
+
+    /// Makes the events that a link paces over the packets that come, each with its line.
+    pub(crate) fn play_link<P: Packets, K: Sink>(
+        &mut self,
+        under: &mut C::Under,
+        sink: &mut K,
+        packets: &mut P,
+        source: &mut P::Source,
+        rate: u64,
+    ) -> Result<Ending, Stop>
+        requires set { IsSet C.Scheduler N.policy self.old }
+        requires packets { P.policy packets.old ≡ C.policy self.old.scheduler }
+        requires ready { P.ready packets.old source.old }
+        requires stands { Stand C.Scheduler self.old under.old (CanBegin (P.given packets.old)) }
+        requires counts { HasRoomFor C.Scheduler self.old (P.given packets.old) }
+        requires fresh { IsFresh self.old.tally }
+        requires rate { IsRate rate }
+
+        ensures ok { IfOk result (λ e. Courses C.Scheduler (C.policy self.old.scheduler)
+            (link_agenda (C.policy self.old.scheduler) rate 0) e (P.left packets.old source.old)
+            (stage_of self.old under.old (K.written sink.old) (P.given packets.old))
+            (stage_of self.new under.new (K.written sink.new) (P.given packets.new))) }
+        ensures err { OnErr result (StopsAmid C.Scheduler (C.policy self.old.scheduler)
+            (λ l s. (link_agenda (C.policy self.old.scheduler) rate 0 l s (event_of self.old.tally)).events) (P.left packets.old source.old)
+            (stage_of self.old under.old (K.written sink.old) (P.given packets.old)) self.new.scheduler under.new (K.written sink.new)) }
+        ensures kept { Continues C.Scheduler self.old self.new }
+        ensures kept_sink { KeepsSink K.written K.faults sink.old sink.new }
+        ensures kept_packets { KeepsPackets P.Packets packets.old packets.new source.old source.new }
+        ensures cause { IfErr result (λ stop. HasCause stop P.faults source.old source.new K.faults sink.old sink.new) }
+        ensures came { self.new.tally.came ≤ most_packets }
+        ensures ends { IfOk result IsNoPastLast }
+        ensures live { OnOk result (IsTrue self.new.report.live) }
+    {
+        let mut link = Link::new();
+        loop {
+            match packets.next(source) {
+                Ok(Some(packet)) => self.arrive_paced(under, sink, &mut link, rate, &packet)?,
+                Ok(None) => {
+                    self.send_until(under, sink, &mut link, rate, None)?;
+                    return Ok(Ending::Whole(0));
+                }
+                Err(Halt::Fault(code, place)) => return Ok(Ending::BadCapture(code, place)),
+                Err(Halt::Source) => return Err(Stop::Source),
+                Err(Halt::Memory) => return Err(Stop::Memory),
+            }
+        }
+    }
+}
