@@ -1,5 +1,5 @@
 -- Lists of taps, through the steps of a loop.
-use Rattle.std.proofs.Common.{◌≡◌, ℕ, zero, suc, Bool, true, false, cond, not, ◌||◌, List, [], ◌∷◌, ◌++◌, map, filter, take, drop, remove, refl, ap, subst, sym, ◌∙◌, add-one, drop-cons, ◌≤◌, arith, ◌+◌, ◌<◌, length, get_or, set, append-nil}
+use Rattle.std.proofs.Common.{◌≡◌, ℕ, zero, suc, Bool, true, false, cond, not, ◌||◌, List, [], ◌∷◌, ◌++◌, map, filter, take, drop, remove, refl, ap, subst, sym, ◌∙◌, ◌≤◌, arith, ◌<◌, length, get_or, set, append-nil}
 use Rattle.std.specs.List.Retain.{IsFiltered}
 use Rattle.std.proofs.lemmas.Fn.{filter_same}
 use Rattle.std.proofs.lemmas.List.{drop_all, take_all}
@@ -54,17 +54,6 @@ left_after-cons d ds (e ∷ es) =
         | false ↦ ap (λ rest. entry_after ds (stepped d e) ∷ rest) (left_after-cons d ds es)
       ]
     ]
-
--- a step of a loop over the departures
-pub left_after-more : (d : Shown) (ds : List Shown) (i : ℕ) (es es' whole : List Entry) → i < length ds → es' ≡ left_after_one (get_or ds i d) es → left_after (drop i ds) es ≡ whole → left_after (drop (i + 1) ds) es' ≡ whole
-left_after-more d ds i es es' whole inside after invariant =
-    let next : drop i ds ≡ get_or ds i d ∷ drop (i + 1) ds = rw add-one (drop-cons ds i d inside)
-    in rw after (sym (left_after-cons (get_or ds i d) (drop (i + 1) ds) es) ∙ ap (λ (k : List Shown). left_after k es) (sym next) ∙ invariant)
-
--- at the end of that loop
-pub left_after-all : (ds : List Shown) (i : ℕ) (es whole : List Entry) → length ds ≤ i → left_after (drop i ds) es ≡ whole → es ≡ whole
-left_after-all ds i es whole past invariant =
-    sym (left_after-none es) ∙ ap (λ (k : List Shown). left_after k es) (sym (drop_all i ds past)) ∙ invariant
 
 -- no tap answers Done at a drop
 pub left_after_one-dropped : (d : Dropped) (es : List Entry) → left_after_one (dropped d) es ≡ map (stepped (dropped d)) es

@@ -2,3 +2,4 @@ pub mod LineLaws
 pub mod Entries
 pub mod SlotLaws
 pub mod Passes
+pub mod WatchLaws

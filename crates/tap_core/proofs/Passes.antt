@@ -5,15 +5,14 @@ use Rattle.std.specs.Prelude.{slice_get}
 use Rattle.std.proofs.lemmas.List.{length-map, take_all}
 use Rattle.tap_core.specs.declared.kinds.TapKind.{TapKind}
 use Rattle.tap_core.specs.Lines.{line}
-use Rattle.tap_core.specs.Lists.{Shown, Entry, entry, entries, stepped, full, is_done, left_after_one, lines_of, Tracks, waiting}
+use Rattle.tap_core.specs.Lists.{Shown, Entry, entry, entries, stepped, full, is_done, left_after_one, lines_of, Slot, Tracks, waiting}
 use Rattle.tap_core.proofs.Entries.{pass-more, pass-done, pass_over}
-use Rattle.tap_core.proofs.SlotLaws.{partly, more_said, more_waiting, more_done, waiting-take_none, waiting-take_said, waiting-take_set, waiting-set, Tracks-all, lines-said, lines-waiting, lines-all}
+use Rattle.tap_core.proofs.SlotLaws.{partly, more_said, more_waiting, more_done, waiting-take_none, waiting-take_said, waiting-take_set, waiting-Tracks, no_tap_missing, Tracks-all, lines-said, lines-waiting, lines-all}
 
 module _ {T : Type 0} (kind_of : T → TapKind) (state_of : T → List ℕ) where
   -- the first j slots have been passed, and i is the place of the next tap
   pub record Pass (d : Shown) (j i : ℕ) (slots0 : List (Option (Vec ℕ Global))) (taps0 : List T) (slots : List (Option (Vec ℕ Global))) (taps : List T) : Type 0 where
     pub place : i ≡ waiting (take j slots)
-    pub counted : waiting slots ≡ length taps
     pub fewer : length taps ≤ length taps0
     pub left : left_after_one d (entries kind_of state_of taps0) ≡ take i (entries kind_of state_of taps) ++ left_after_one d (drop i (entries kind_of state_of taps))
     pub tracked : (all : List Entry) → Tracks all slots0 (entries kind_of state_of taps0) → Tracks (partly d j all) slots (entries kind_of state_of taps)
@@ -58,7 +57,6 @@ module _ {T : Type 0} (kind_of : T → TapKind) (state_of : T → List ℕ) wher
   pass_said d j i slots0 taps0 slots taps said p at =
       rw add-one record {
         place = p.place ∙ sym (waiting-take_said slots j said at);
-        counted = p.counted;
         fewer = p.fewer;
         left = p.left;
         tracked = λ all start. more_said d all slots (entries kind_of state_of taps) j said at (p.tracked all start);
@@ -69,7 +67,6 @@ module _ {T : Type 0} (kind_of : T → TapKind) (state_of : T → List ℕ) wher
       let new = shown d taps i t old inside is after
       in record {
         place = ap (λ n. n + 1) p.place ∙ sym (rw (add-one j) (waiting-take_none slots j at));
-        counted = p.counted ∙ sym (length-set_any taps i t);
         fewer = omega (arith, p.fewer, length-set_any taps i t);
         left = p.left ∙ rw add-one (pass-more kind_of state_of d taps i t old inside is after wants);
         tracked = λ all start. rw (add-one, entries-set, p.place) (more_waiting d all slots (entries kind_of state_of taps) j (entry (kind_of t) (state_of t)) at (rw p.place at new) (p.tracked all start));
@@ -80,23 +77,35 @@ module _ {T : Type 0} (kind_of : T → TapKind) (state_of : T → List ℕ) wher
       let new = shown d taps i t old inside is after
       in record {
         place = rw add-one (p.place ∙ sym (waiting-take_set slots j said at));
-        counted = omega (arith, p.counted, waiting-set slots j said at, length-remove_set taps i t inside);
         fewer = omega (arith, p.fewer, length-remove_set taps i t inside);
         left = p.left ∙ pass-done kind_of state_of d taps i t old inside is after done;
         tracked = λ all start. rw (add-one, entries-remove, entries-set, remove-set, p.place) (more_done d all slots (entries kind_of state_of taps) j (entry (kind_of t) (state_of t)) said at (rw p.place at new) f l (p.tracked all start));
       }
 
   -- at the end of a pass the taps are those that are left
-  pub pass_left : (d : Shown) (j i : ℕ) (slots0 : List (Option (Vec ℕ Global))) (taps0 : List T) (slots : List (Option (Vec ℕ Global))) (taps : List T) → Pass d j i slots0 taps0 slots taps → length slots ≤ j → entries kind_of state_of taps ≡ left_after_one d (entries kind_of state_of taps0)
-  pass_left d j i slots0 taps0 slots taps p past =
+  pub pass_left : (d : Shown) (j i : ℕ) (slots0 : List Slot) (taps0 : List T) (slots : List Slot) (taps : List T)
+      → Pass d j i slots0 taps0 slots taps → length slots ≤ j
+      → (all : List Entry) → Tracks all slots0 (entries kind_of state_of taps0)
+      → entries kind_of state_of taps ≡ left_after_one d (entries kind_of state_of taps0)
+  pass_left d j i slots0 taps0 slots taps p past all start =
       let es = entries kind_of state_of taps
-      in let at_end : length es ≤ i = omega (arith, length-map taps (λ t. entry (kind_of t) (state_of t)), p.counted, p.place, ap waiting (take_all j slots past))
+      in let counted = waiting-Tracks (partly d j all) slots es (p.tracked all start)
+      in let at_end : length es ≤ i = omega (arith, counted, p.place, ap waiting (take_all j slots past))
       in pass_over d es (entries kind_of state_of taps0) i at_end p.left
 
   -- and the slots and the taps are those of all entries, stepped
   pub pass_tracked : (d : Shown) (j i : ℕ) (slots0 : List (Option (Vec ℕ Global))) (taps0 : List T) (slots : List (Option (Vec ℕ Global))) (taps : List T) → Pass d j i slots0 taps0 slots taps → length slots0 ≤ j → (all : List Entry) → Tracks all slots0 (entries kind_of state_of taps0) → Tracks (map (stepped d) all) slots (entries kind_of state_of taps)
   pass_tracked d j i slots0 taps0 slots taps p past all start =
       Tracks-all d j all slots0 slots (entries kind_of state_of taps0) (entries kind_of state_of taps) past start (p.tracked all start)
+
+  -- a pass finds a tap for each slot without a line
+  pub pass_finds : (d : Shown) (j i : ℕ) (slots0 : List Slot) (taps0 : List T) (slots : List Slot) (taps : List T)
+      → Pass d j i slots0 taps0 slots taps → slice_get slots j ≡ Some None → length taps ≤ i
+      → (all : List Entry) → Tracks all slots0 (entries kind_of state_of taps0) → ⊥
+  pass_finds d j i slots0 taps0 slots taps p at past all start =
+      let same = length-map taps (λ t. entry (kind_of t) (state_of t))
+      in no_tap_missing (partly d j all) slots (entries kind_of state_of taps) j at (omega (arith, past, p.place, same))
+      (p.tracked all start)
 
   -- i is the place of the next tap, and the text is the lines of the first j slots
   pub record LinesUpTo (j i : ℕ) (slots : List (Option (Vec ℕ Global))) (taps : List T) (text : List ℕ) : Type 0 where
@@ -121,3 +130,10 @@ module _ {T : Type 0} (kind_of : T → TapKind) (state_of : T → List ℕ) wher
 
   pub lines_at_end : (j i : ℕ) (slots : List (Option (Vec ℕ Global))) (taps : List T) (text : List ℕ) → LinesUpTo j i slots taps text → length slots ≤ j → (all : List Entry) → Tracks all slots (entries kind_of state_of taps) → text ≡ lines_of all
   lines_at_end j i slots taps text p past all h = p.said all h ∙ lines-all all slots (entries kind_of state_of taps) j past h
+
+  pub lines_find : (j i : ℕ) (slots : List Slot) (taps : List T) (text : List ℕ)
+      → LinesUpTo j i slots taps text → slice_get slots j ≡ Some None → length taps ≤ i
+      → (all : List Entry) → Tracks all slots (entries kind_of state_of taps) → ⊥
+  lines_find j i slots taps text p at past all h =
+      let same = length-map taps (λ t. entry (kind_of t) (state_of t))
+      in no_tap_missing all slots (entries kind_of state_of taps) j at (omega (arith, past, p.place, same)) h

@@ -72,7 +72,7 @@ more_done d (e ∷ all) (None ∷ slots) (t0 ∷ taps) (suc j) t said at is f l 
 more_done d (e ∷ all) (Some v ∷ slots) taps (suc j) t said at is f l h =
     (h.0, h.1, more_done d all slots taps j t said at is f l h.2)
 
-pub waiting-below : (slots : List Slot) (j : ℕ) → slice_get slots j ≡ Some None → waiting (take j slots) < waiting slots
+waiting-below : (slots : List Slot) (j : ℕ) → slice_get slots j ≡ Some None → waiting (take j slots) < waiting slots
 waiting-below [] j at = cc
 waiting-below (None ∷ slots) zero at = omega arith
 waiting-below (Some v ∷ slots) zero at = cc
@@ -100,13 +100,6 @@ waiting-take_set (Some v ∷ slots) zero said at = cc
 waiting-take_set (None ∷ slots) (suc j) said at = ap (λ n. n + 1) (waiting-take_set slots j said at)
 waiting-take_set (Some v ∷ slots) (suc j) said at = waiting-take_set slots j said at
 
-pub waiting-set : (slots : List Slot) (j : ℕ) (said : Vec ℕ Global) → slice_get slots j ≡ Some None → waiting (set slots j (Some said)) + 1 ≡ waiting slots
-waiting-set [] j said at = cc
-waiting-set (None ∷ slots) zero said at = refl
-waiting-set (Some v ∷ slots) zero said at = cc
-waiting-set (None ∷ slots) (suc j) said at = ap (λ n. n + 1) (waiting-set slots j said at)
-waiting-set (Some v ∷ slots) (suc j) said at = waiting-set slots j said at
-
 -- a slot that was read
 pub slot_at : (slots : List Slot) (j : ℕ) (s : Slot) → j < length slots → s ≡ get_or slots j s → slice_get slots j ≡ Some s
 slot_at [] j s h is = absurd (omega (arith, h))
@@ -131,6 +124,23 @@ length-Tracks (e ∷ all) [] taps h = absurd h
 length-Tracks (e ∷ all) (None ∷ slots) [] h = absurd h
 length-Tracks (e ∷ all) (None ∷ slots) (t ∷ taps) h = let k = length-Tracks all slots taps h.1 in omega (arith, k)
 length-Tracks (e ∷ all) (Some v ∷ slots) taps h = let k = length-Tracks all slots taps h.2 in omega (arith, k)
+
+-- as many slots have no line as taps are left
+pub waiting-Tracks : (all : List Entry) (slots : List Slot) (taps : List Entry)
+    → Tracks all slots taps → waiting slots ≡ length taps
+waiting-Tracks [] [] [] h = refl
+waiting-Tracks [] [] (t ∷ taps) h = absurd h
+waiting-Tracks [] (s ∷ slots) taps h = absurd h
+waiting-Tracks (e ∷ all) [] taps h = absurd h
+waiting-Tracks (e ∷ all) (None ∷ slots) [] h = absurd h
+waiting-Tracks (e ∷ all) (None ∷ slots) (t ∷ taps) h = let k = waiting-Tracks all slots taps h.1 in omega (arith, k)
+waiting-Tracks (e ∷ all) (Some v ∷ slots) taps h = waiting-Tracks all slots taps h.2
+
+-- a slot without a line has its tap
+pub no_tap_missing : (all : List Entry) (slots : List Slot) (taps : List Entry) (j : ℕ)
+    → slice_get slots j ≡ Some None → length taps ≤ waiting (take j slots) → Tracks all slots taps → ⊥
+no_tap_missing all slots taps j at past h =
+    omega (arith, past, waiting-below slots j at, waiting-Tracks all slots taps h)
 
 -- at the end of the pass all have stepped
 pub Tracks-all : (d : Shown) (j : ℕ) (all : List Entry) (before after : List Slot) (was taps : List Entry) → length before ≤ j → Tracks all before was → Tracks (partly d j all) after taps → Tracks (map (stepped d) all) after taps

@@ -12,6 +12,7 @@ mod tap;
 #[cfg(test)]
 mod tests;
 mod watch;
+mod watching;
 
 pub use bytes::BytesTap;
 pub use drops::DropsTap;
@@ -20,3 +21,4 @@ pub use kinds::{Dropped, Seen, TapKind};
 pub use order::OrderTap;
 pub use tap::Tap;
 pub use watch::{Named, keep_named, lines, show_departed, show_dropped, slots};
+pub use watching::Watching;

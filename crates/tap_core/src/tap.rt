@@ -36,3 +36,25 @@ pub trait Tap: Drop {
         ensures ok { OnOk result (into.new.items ≡ into.old.items ++ line (kind_of self.now) (state_of self.now)) }
         ensures err { OnErr result (into.new.items ≡ into.old.items) };
 }
+
+impl Tap for Box<dyn Tap> {
+    ghost kind_of = { λ b. (Tap-box b).kind_of b.value };
+
+    ghost state_of = { λ b. (Tap-box b).state_of b.value };
+
+    fn kind(&self) -> TapKind {
+        (**self).kind()
+    }
+
+    fn see(&mut self, departed: &Departed) -> Seen {
+        (**self).see(departed)
+    }
+
+    fn lose(&mut self, dropped: &Dropped) {
+        (**self).lose(dropped);
+    }
+
+    fn say(&self, into: &mut Vec<u8>) -> Result<(), AllocError> {
+        (**self).say(into)
+    }
+}

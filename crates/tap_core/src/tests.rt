@@ -4,8 +4,8 @@ ghost use Rattle.tap_core.specs.Steps.{max_limit};
 
 use crate::tally::sum_up_to_max;
 use crate::{
-    BytesTap, Dropped, DropsTap, FirstTap, Named, OrderTap, Seen, Tap, TapKind, keep_named, lines,
-    show_departed, show_dropped, slots,
+    BytesTap, Dropped, DropsTap, FirstTap, Named, OrderTap, Seen, Tap, TapKind, Watching,
+    keep_named, lines, show_departed, show_dropped, slots,
 };
 use packet_defs::Departed;
 use std::alloc::{AllocError, Global};
@@ -229,4 +229,64 @@ fn named_taps_are_shown_a_run(rt: HostRuntime) -> Result<(), Fail> {
     assert_eq!(rt; taps[0].kind(), TapKind::Order);
     assert_eq!(rt; taps[1].kind(), TapKind::Drops);
     Ok(())
+}
+
+#[test]
+fn named_taps_watch_a_run(rt: HostRuntime) -> Result<(), Fail> {
+    let alloc = rt.alloc();
+    let mut taps: Vec<Box<dyn Tap>> = Vec::new(alloc);
+    taps.push(Box::new(alloc, FirstTap::new(alloc, 1)?)?)?;
+    taps.push(Box::new(alloc, BytesTap::new())?)?;
+    taps.push(Box::new(alloc, OrderTap::new())?)?;
+    taps.push(Box::new(alloc, DropsTap::new())?)?;
+    let named = Named {
+        bytes: false,
+        order: true,
+        first: true,
+        drops: true,
+    };
+    let mut watching = Watching::new(alloc, named, taps);
+    watching.begin()?;
+    watching.departed(&departed(3, 200))?;
+    watching.dropped(&dropped(9, 4));
+    watching.departed(&departed(1, 1500))?;
+    assert_eq!(rt;
+        watching.lines()?.as_slice(),
+        b"tap first 3\ntap order 1 3\ntap drops 1 4\n".as_slice()
+    );
+    watching.begin()?;
+    assert_eq!(rt;
+        watching.lines()?.as_slice(),
+        b"tap order 1 3\ntap drops 1 4\n".as_slice()
+    );
+    let left = watching.into_taps();
+    assert_eq!(rt; left.len(), 2);
+    assert_eq!(rt; left[0].kind(), TapKind::Order);
+    assert_eq!(rt; left[1].kind(), TapKind::Drops);
+    Ok(())
+}
+
+/// Whether bytes, order, first and drops are named by two words, one after the other.
+fn named_by(word: &str, next: &str) -> Option<[bool; 4]> {
+    let named = Named::none().with(word)?.with(next)?;
+    Some([named.bytes, named.order, named.first, named.drops])
+}
+
+#[test]
+fn words_name_kinds_once(rt: HostRuntime) {
+    for (word, next, want) in [
+        ("bytes", "drops", Some([true, false, false, true])),
+        ("order", "bytes", Some([true, true, false, false])),
+        ("first", "order", Some([false, true, true, false])),
+        ("drops", "first", Some([false, false, true, true])),
+        ("bytes", "bytes", None),
+        ("order", "order", None),
+        ("first", "first", None),
+        ("drops", "drops", None),
+        ("Bytes", "order", None),
+        ("order", "firsts", None),
+        ("order", "", None),
+    ] {
+        assert_eq!(rt; named_by(word, next), want);
+    }
 }

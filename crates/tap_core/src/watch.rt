@@ -1,4 +1,4 @@
-//! A list of boxed taps during a run, and the lines of those that are done.
+//! A list of taps during a run, and the lines of those that are done.
 ghost use Rattle.std.specs.Prelude.{◌≡◌, ◌≤◌, ◌↔◌, ◌++◌, None, List, map, replicate, vec_len, length, OnOk, IfOk, IsTrue};
 ghost use Rattle.tap_core.specs.Lines.{line};
 ghost use Rattle.tap_core.specs.Lists.{Entry, entry, entries, is_named, named_entries, departed, dropped, stepped, full, left_after_one, lines_of, Slot, Tracks, waiting};
@@ -19,6 +19,44 @@ pub struct Named {
 
 impl Named {
     ghost use Rattle.tap_core.specs.Lists.{is_named};
+    ghost use Rattle.tap_core.specs.Names.{none_named, named_with};
+
+    /// No kind.
+    pub fn none() -> Named
+        ensures { result ≡ none_named }
+    {
+        Named {
+            bytes: false,
+            order: false,
+            first: false,
+            drops: false,
+        }
+    }
+
+    /// These kinds and that of this name. `None` where no kind has the name, and where it is named already.
+    pub fn with(self, name: &str) -> Option<Named>
+        ensures { result ≡ named_with self name.now }
+    {
+        match name {
+            "bytes" => (!self.bytes).then_some(Named {
+                bytes: true,
+                ..self
+            }),
+            "order" => (!self.order).then_some(Named {
+                order: true,
+                ..self
+            }),
+            "first" => (!self.first).then_some(Named {
+                first: true,
+                ..self
+            }),
+            "drops" => (!self.drops).then_some(Named {
+                drops: true,
+                ..self
+            }),
+            _ => None,
+        }
+    }
 
     /// Whether taps of this kind are named.
     pub fn has(self, kind: TapKind) -> bool
@@ -34,45 +72,45 @@ impl Named {
 }
 
 /// Drops the taps whose kind isn't named. Takes no memory.
-pub fn keep_named(taps: &mut Vec<Box<dyn Tap>>, named: Named)
-    ensures kept { entries kind_of state_of taps.new.items
-        ≡ named_entries named (entries kind_of state_of taps.old.items) }
+pub fn keep_named<T: Tap>(taps: &mut Vec<T>, named: Named)
+    ensures kept { entries T.kind_of T.state_of taps.new.items
+        ≡ named_entries named (entries T.kind_of T.state_of taps.old.items) }
     ensures fewer { vec_len taps.new ≤ vec_len taps.old }
 {
     taps.retain(
-        |tap: &Box<dyn Tap>| -> bool
-            ensures { result ≡ is_named named (kind_of tap.now) }
+        |tap: &T| -> bool
+            ensures { result ≡ is_named named (T.kind_of tap.now) }
         { named.has(tap.kind()) },
     );
 }
 
 /// Shows a departure to one tap.
-fn see_one(tap: &mut Box<dyn Tap>, packet: &Departed) -> Seen
-    ensures after { entry (kind_of tap.new) (state_of tap.new)
-        ≡ stepped (departed packet.now) (entry (kind_of tap.old) (state_of tap.old)) }
-    ensures done { (result ≡ Seen.Done) ↔ IsTrue (full (entry (kind_of tap.new) (state_of tap.new))) }
+fn see_one<T: Tap>(tap: &mut T, packet: &Departed) -> Seen
+    ensures after { entry (T.kind_of tap.new) (T.state_of tap.new)
+        ≡ stepped (departed packet.now) (entry (T.kind_of tap.old) (T.state_of tap.old)) }
+    ensures done { (result ≡ Seen.Done) ↔ IsTrue (full (entry (T.kind_of tap.new) (T.state_of tap.new))) }
 {
     tap.see(packet)
 }
 
 /// Shows a drop to one tap.
-fn lose_one(tap: &mut Box<dyn Tap>, packet: &Dropped)
-    ensures after { entry (kind_of tap.new) (state_of tap.new)
-        ≡ stepped (dropped packet.now) (entry (kind_of tap.old) (state_of tap.old)) }
+fn lose_one<T: Tap>(tap: &mut T, packet: &Dropped)
+    ensures after { entry (T.kind_of tap.new) (T.state_of tap.new)
+        ≡ stepped (dropped packet.now) (entry (T.kind_of tap.old) (T.state_of tap.old)) }
 {
     tap.lose(packet);
 }
 
 /// Appends the line of a tap.
-fn say_one(tap: &Box<dyn Tap>, into: &mut Vec<u8>) -> Result<(), AllocError>
-    ensures { OnOk result (into.new.items ≡ into.old.items ++ line (kind_of tap.now) (state_of tap.now)) }
+fn say_one<T: Tap>(tap: &T, into: &mut Vec<u8>) -> Result<(), AllocError>
+    ensures { OnOk result (into.new.items ≡ into.old.items ++ line (T.kind_of tap.now) (T.state_of tap.now)) }
 {
     tap.say(into)
 }
 
 /// The line of a tap.
-fn line_of(alloc: Global, tap: &Box<dyn Tap>) -> Result<Vec<u8>, AllocError>
-    ensures { IfOk result (λ said. said.items ≡ line (kind_of tap.now) (state_of tap.now)) }
+fn line_of<T: Tap>(alloc: Global, tap: &T) -> Result<Vec<u8>, AllocError>
+    ensures { IfOk result (λ said. said.items ≡ line (T.kind_of tap.now) (T.state_of tap.now)) }
 {
     let mut said = Vec::new(alloc);
     say_one(tap, &mut said)?;
@@ -91,20 +129,20 @@ fn empty_slots(alloc: Global, count: usize) -> Result<Vec<Option<Vec<u8>>>, Allo
 
 /// A slot without a line for each tap. The error is want of memory.
 #[tactic(auto, using(crate::proofs::SlotLaws::slots_at_first, crate::proofs::SlotLaws::all_waiting))]
-pub fn slots(alloc: Global, taps: &[Box<dyn Tap>]) -> Result<Vec<Option<Vec<u8>>>, AllocError>
+pub fn slots<T: Tap>(alloc: Global, taps: &[T]) -> Result<Vec<Option<Vec<u8>>>, AllocError>
     ensures counted { IfOk result (λ slots. waiting slots.items ≡ length taps.now) }
-    ensures tracked { IfOk result (λ slots. Tracks (entries kind_of state_of taps.now) slots.items
-        (entries kind_of state_of taps.now)) }
+    ensures tracked { IfOk result (λ slots. Tracks (entries T.kind_of T.state_of taps.now) slots.items
+        (entries T.kind_of T.state_of taps.now)) }
 {
     empty_slots(alloc, taps.len())
 }
 
 /// Shows a drop to each tap. None is done by it. Takes no memory.
-pub fn show_dropped(taps: &mut [Box<dyn Tap>], packet: &Dropped)
-    ensures left { entries kind_of state_of taps.new
-        ≡ left_after_one (dropped packet.now) (entries kind_of state_of taps.old) }
-    ensures tracked { (all : List Entry) (slots : List Slot) → Tracks all slots (entries kind_of state_of taps.old)
-        → Tracks (map (stepped (dropped packet.now)) all) slots (entries kind_of state_of taps.new) }
+pub fn show_dropped<T: Tap>(taps: &mut [T], packet: &Dropped)
+    ensures left { entries T.kind_of T.state_of taps.new
+        ≡ left_after_one (dropped packet.now) (entries T.kind_of T.state_of taps.old) }
+    ensures tracked { (all : List Entry) (slots : List Slot) → Tracks all slots (entries T.kind_of T.state_of taps.old)
+        → Tracks (map (stepped (dropped packet.now)) all) slots (entries T.kind_of T.state_of taps.new) }
 {
     for tap in taps.iter_mut() {
         lose_one(tap, packet);
@@ -112,29 +150,32 @@ pub fn show_dropped(taps: &mut [Box<dyn Tap>], packet: &Dropped)
 }
 
 /// Shows a departure to each tap in turn. A tap that is done is dropped after its line was put into its slot: there is a
-/// slot for each tap that was there at first, in order. The error is want of memory for a line.
-pub fn show_departed(
+/// slot for each tap that was there at first, in order. The error is want of memory for a line, and the tap stays then.
+pub fn show_departed<T: Tap>(
     alloc: Global,
     slots: &mut [Option<Vec<u8>>],
-    taps: &mut Vec<Box<dyn Tap>>,
+    taps: &mut Vec<T>,
     packet: &Departed,
 ) -> Result<(), AllocError>
-    requires counted { waiting slots.old ≡ vec_len taps.old }
-    ensures left { OnOk result (entries kind_of state_of taps.new.items
-        ≡ left_after_one (departed packet.now) (entries kind_of state_of taps.old.items)) }
-    ensures tracked { (all : List Entry) → Tracks all slots.old (entries kind_of state_of taps.old.items)
-        → OnOk result (Tracks (map (stepped (departed packet.now)) all) slots.new (entries kind_of state_of taps.new.items)) }
-    ensures counted { OnOk result (waiting slots.new ≡ vec_len taps.new) }
+    ensures left { (all : List Entry) → Tracks all slots.old (entries T.kind_of T.state_of taps.old.items)
+        → OnOk result (entries T.kind_of T.state_of taps.new.items
+        ≡ left_after_one (departed packet.now) (entries T.kind_of T.state_of taps.old.items)) }
+    ensures tracked { (all : List Entry) → Tracks all slots.old (entries T.kind_of T.state_of taps.old.items)
+        → OnOk result (Tracks (map (stepped (departed packet.now)) all) slots.new
+        (entries T.kind_of T.state_of taps.new.items)) }
     ensures fewer { vec_len taps.new ≤ vec_len taps.old }
 {
     let mut i = 0;
     for slot in slots.iter_mut() {
         if slot.is_none() {
-            match see_one(&mut taps[i], packet) {
+            let Some(tap) = taps.get_mut(i) else {
+                return Ok(());
+            };
+            match see_one(tap, packet) {
                 Seen::More => i += 1,
                 Seen::Done => {
-                    let tap = taps.remove(i);
-                    *slot = Some(line_of(alloc, &tap)?);
+                    *slot = Some(line_of(alloc, tap)?);
+                    taps.remove(i);
                 }
             }
         }
@@ -144,13 +185,12 @@ pub fn show_departed(
 
 /// The lines of all taps, in order: those in the slots, and in place of an empty slot that of the tap that is left. The
 /// error is want of memory.
-pub fn lines(
+pub fn lines<T: Tap>(
     alloc: Global,
     slots: &[Option<Vec<u8>>],
-    taps: &[Box<dyn Tap>],
+    taps: &[T],
 ) -> Result<Vec<u8>, AllocError>
-    requires counted { waiting slots.now ≡ length taps.now }
-    ensures text { (all : List Entry) → Tracks all slots.now (entries kind_of state_of taps.now)
+    ensures text { (all : List Entry) → Tracks all slots.now (entries T.kind_of T.state_of taps.now)
         → IfOk result (λ text. text.items ≡ lines_of all) }
 {
     let mut text = Vec::new(alloc);
@@ -159,7 +199,10 @@ pub fn lines(
         match slot {
             Some(said) => text.extend_from_slice(said)?,
             None => {
-                say_one(&taps[i], &mut text)?;
+                let Some(tap) = taps.get(i) else {
+                    return Ok(text);
+                };
+                say_one(tap, &mut text)?;
                 i += 1;
             }
         }

@@ -1,24 +1,9 @@
-use Rattle.std.proofs.Common.{rules, ap, ◌∙◌, ◌≡◌, ◌<◌, ◌++◌, length, Some, None}
+use Rattle.std.proofs.Common.{rules, ap, ◌∙◌, ◌≡◌, ◌<◌, ◌≤◌, ◌++◌, length, Some, None}
 use Rattle.std.specs.Prelude.{slice_get}
-use Rattle.tap_core.proofs.SlotLaws.{slot_at, waiting-below}
-use Rattle.tap_core.proofs.Passes.{past_line, past_waiting, lines_at_end}
+use Rattle.tap_core.proofs.SlotLaws.{slot_at}
+use Rattle.tap_core.proofs.Passes.{past_line, past_waiting, lines_find, lines_at_end}
 use Rattle.tap_core.proofs.watch.lines.Goals as goal
-use Rattle.tap_core.proofs.watch.lines.Goals.{in-Some+in_ok-extend_from_slice-in-Some, in-None+in_ok-say_one-in-None}
-
-pub bounds-taps-i : goal.bounds-taps-i
-bounds-taps-i g c =
-    let at : slice_get c.args.slots.now c.loop-slot.slot-index ≡ Some None = slot_at c.args.slots.now _ c.slot-item.result (search rules) c.slot-item.is ∙ ap Some c.in-None.is
-    in let below = waiting-below c.args.slots.now c.loop-slot.slot-index at in search rules
-
-pub offset_bounds-taps-i : goal.offset_bounds-taps-i
-offset_bounds-taps-i g c =
-    let at : slice_get c.args.slots.now c.loop-slot.slot-index ≡ Some None = slot_at c.args.slots.now _ c.slot-item.result (search rules) c.slot-item.is ∙ ap Some c.in-None.is
-    in let below = waiting-below c.args.slots.now c.loop-slot.slot-index at in search rules
-
-pub overflow_add-i : goal.overflow_add-i
-overflow_add-i g c =
-    let at : slice_get c.args.slots.now c.loop-slot.slot-index ≡ Some None = slot_at c.args.slots.now _ c.slot-item.result (search rules) c.slot-item.is ∙ ap Some c.in-None.is
-    in let below = waiting-below c.args.slots.now c.loop-slot.slot-index at in search rules
+use Rattle.tap_core.proofs.watch.lines.Goals.{in-Some+in_ok-extend_from_slice-in-Some, in-None+in-Some-get+in_ok-say_one-in-None}
 
 pub loop-slot-preserved : goal.loop-slot-preserved
 loop-slot-preserved g c =
@@ -26,12 +11,17 @@ loop-slot-preserved g c =
       | in-Some+in_ok-extend_from_slice-in-Some w ↦
           let at : slice_get c.args.slots.now c.loop-slot.slot-index ≡ Some (Some w.in-Some.said) = slot_at c.args.slots.now _ c.slot-item.result (search rules) c.slot-item.is ∙ ap Some w.in-Some.is
           in rw (w.text-is, w.i-is) (past_line _ _ _ _ _ _ _ _ w.in-Some.said c.loop-slot.invariant at (w.in_ok-extend_from_slice-in-Some.ensures.items ∙ ap (λ s. c.loop-slot.text.items ++ s) w.deref.ensures.value))
-      | in-None+in_ok-say_one-in-None w ↦
+      | in-None+in-Some-get+in_ok-say_one-in-None w ↦
           let at : slice_get c.args.slots.now c.loop-slot.slot-index ≡ Some None = slot_at c.args.slots.now _ c.slot-item.result (search rules) c.slot-item.is ∙ ap Some w.in-None.is
-          in let below = waiting-below c.args.slots.now c.loop-slot.slot-index at
           in let inside : c.loop-slot.i < length c.args.taps.now = search rules
-          in rw (w.text-is, w.i-is) (past_waiting _ _ _ _ _ _ _ _ w.index-taps-i.result c.loop-slot.invariant at inside w.index-taps-i.is w.in_ok-say_one-in-None.ensures)
+          in rw (w.text-is, w.i-is) (past_waiting _ _ _ _ _ _ _ _ w.in-Some-get.tap.now c.loop-slot.invariant at inside w.in-Some-get.ensures.lookup.1 w.in_ok-say_one-in-None.ensures)
     ]
+
+pub returns-in_default : goal.returns-in_default
+returns-in_default g c =
+    let at : slice_get c.args.slots.now c.loop-slot.slot-index ≡ Some None = slot_at c.args.slots.now _ c.slot-item.result (search rules) c.slot-item.is ∙ ap Some c.in-None.is
+    in let past : length c.args.taps.now ≤ c.loop-slot.i = search rules
+    in record { text = λ all start. absurd (lines_find _ _ _ _ _ _ _ c.loop-slot.invariant at past all start) }
 
 pub returns : goal.returns
 returns g c = record { text = lines_at_end _ _ _ _ _ _ _ c.loop-slot.invariant (search rules) }

@@ -5,6 +5,6 @@ use Rattle.tap_core.proofs.watch.show_dropped.Given as goal
 -- the taps after the whole pass are those passed over, and what the pass makes of the others
 abbrev pub invariant-loop-tap : goal.invariant-loop-tap
 invariant-loop-tap g l =
-    let entries_of = entries (λ b. (goal.Tap-dyn g (b.vtable, b.value)).kind_of b.value) (λ b. (goal.Tap-dyn g (b.vtable, b.value)).state_of b.value)
+    let entries_of = entries g.T.Tap.kind_of g.T.Tap.state_of
     in left_after_one (dropped l.packet) (entries_of l.fn.taps)
     ≡ take l.tap-index (entries_of l.taps) ++ left_after_one (dropped l.packet) (drop l.tap-index (entries_of l.taps))

@@ -1,0 +1,79 @@
+//! Taps that watch a run.
+ghost use Rattle.std.specs.Prelude.{◌≡◌, [], ◌∷◌, List, OnOk, IfOk};
+ghost use Rattle.tap_core.specs.Lists.{Entry, Tracks, departed, dropped, lines_of};
+ghost use Rattle.tap_core.specs.Watching.{sight_of, Begins, Shows, AreNoMore};
+
+use crate::kinds::Dropped;
+use crate::tap::Tap;
+use crate::watch::{Named, keep_named, lines, show_departed, show_dropped, slots};
+use packet_defs::Departed;
+use std::alloc::{AllocError, Global};
+
+/// Taps that watch a run, those of the named kinds, each until it is done.
+#[derive(Drop)]
+pub struct Watching<T: Drop> {
+    alloc: Global,
+    named: Named,
+    slots: Vec<Option<Vec<u8>>>,
+    taps: Vec<T>,
+}
+
+impl<T: Tap> Watching<T> {
+    /// These taps are to watch, where their kind is named.
+    pub fn new(alloc: Global, named: Named, taps: Vec<T>) -> Watching<T>
+        ensures named { result.named ≡ named }
+        ensures slots { result.slots.items ≡ [] }
+        ensures taps { result.taps ≡ taps }
+    {
+        Watching {
+            alloc,
+            named,
+            slots: Vec::new(alloc),
+            taps,
+        }
+    }
+
+    /// The taps that are left.
+    pub fn into_taps(self) -> Vec<T>
+        ensures { result ≡ self.taps }
+    {
+        self.taps
+    }
+
+    /// Begins to watch. Taps whose kind isn't named are dropped. The error is want of memory.
+    pub fn begin(&mut self) -> Result<(), AllocError>
+        ensures begun { OnOk result (Begins (sight_of T.kind_of T.state_of self.old) (sight_of T.kind_of T.state_of self.new)) }
+        ensures fewer { AreNoMore (sight_of T.kind_of T.state_of self.old) (sight_of T.kind_of T.state_of self.new) }
+    {
+        keep_named(&mut self.taps, self.named);
+        self.slots = slots(self.alloc, &self.taps)?;
+        Ok(())
+    }
+
+    /// Shows a departure to each tap. The error is want of memory for the line of a tap that is done.
+    pub fn departed(&mut self, packet: &Departed) -> Result<(), AllocError>
+        ensures shown { OnOk result (Shows (departed packet.now ∷ [])
+            (sight_of T.kind_of T.state_of self.old) (sight_of T.kind_of T.state_of self.new)) }
+        ensures fewer { AreNoMore (sight_of T.kind_of T.state_of self.old) (sight_of T.kind_of T.state_of self.new) }
+    {
+        show_departed(self.alloc, &mut self.slots, &mut self.taps, packet)
+    }
+
+    /// Shows a drop to each tap. Takes no memory.
+    pub fn dropped(&mut self, packet: &Dropped)
+        ensures shown { Shows (dropped packet.now ∷ [])
+            (sight_of T.kind_of T.state_of self.old) (sight_of T.kind_of T.state_of self.new) }
+        ensures fewer { AreNoMore (sight_of T.kind_of T.state_of self.old) (sight_of T.kind_of T.state_of self.new) }
+    {
+        show_dropped(&mut self.taps, packet);
+    }
+
+    /// The lines of all taps that watched, in order. The error is want of memory.
+    pub fn lines(&self) -> Result<Vec<u8>, AllocError>
+        ensures text { IfOk result (λ text. (all : List Entry)
+            → Tracks all (sight_of T.kind_of T.state_of self.now).slots (sight_of T.kind_of T.state_of self.now).taps
+            → text.items ≡ lines_of all) }
+    {
+        lines(self.alloc, &self.slots, &self.taps)
+    }
+}
