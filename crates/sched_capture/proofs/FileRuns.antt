@@ -1,5 +1,5 @@
 -- A run over what is left of a capture is the run over its file.
-use Rattle.std.proofs.Common.{◌≡◌, ◌≤◌, ℕ, Option, None, Some, Result, Ok, Err, List}
+use Rattle.std.proofs.Common.{◌≡◌, ◌≤◌, refl, ℕ, Option, None, Some, Result, Ok, Err, List}
 use Rattle.std.specs.Prelude.{IfSome, IfOk, IfErr, OnOk, OnErr, IsErrOf}
 use Rattle.std.proofs.lemmas.Result.{IfOk-weaker, on_ok_weaker, on_err_weaker}
 use Rattle.outside_core.specs.Faults.{Rose}
@@ -17,7 +17,8 @@ use Rattle.sched_run.specs.Steps.{IsNoPastLast, CanEndSo}
 use Rattle.sched_run.specs.declared.pace.Pace as code
 use Rattle.sched_run.specs.declared.pace.Pace.TheVariants as code_pace
 use Rattle.sched_packets.specs.Arrivals.{Begins}
-use Rattle.sched_capture.specs.Answers.{RunAnswer, answer_of, paced_answer}
+use Rattle.tap_core.specs.Watching.{Sight}
+use Rattle.sched_capture.specs.Answers.{RunAnswer, IsRefusal, answer_of, paced_answer, shown_by, HaveWatched}
 
 module _ (policy : Resolved) (pace : Pace) where
   -- what is said of the answer over what is left is said of the answer for the file
@@ -39,6 +40,19 @@ module _ (policy : Resolved) (pace : Pace) where
   pub part_of_file : (r : Result Ending Stop) (told : Option (List ℕ)) (left : Option Left) (before written : Option (List ℕ)) → IfSome told (λ file. Begins policy (capture_of file) left)
       → OnErr r (IfSome left (λ l. AppendedPrefix before written (answer_of policy.policy pace l.packets l.fault).text)) → OnErr r (IfSome told (λ file. AppendedPrefix before written (paced_answer policy pace file).text))
   part_of_file r told left before written begins each = on_err_weaker r (over_file (λ a. AppendedPrefix before written a.text) told left begins) each
+
+  pub watched_of_file : (r : Result Ending Stop) (told : Option (List ℕ)) (left : Option Left) (before after : Sight) → IfSome told (λ file. Begins policy (capture_of file) left)
+      → OnOk r (IfSome left (λ l. HaveWatched (shown_by policy.policy (answer_of policy.policy pace l.packets l.fault)) before after))
+      → OnOk r (IfSome told (λ file. HaveWatched (shown_by policy.policy (paced_answer policy pace file)) before after))
+  watched_of_file r told left before after begins each = on_ok_weaker r (over_file (λ a. HaveWatched (shown_by policy.policy a) before after) told left begins) each
+
+  -- where no run begins taps are as they were
+  pub unwatched : (answer : Result Ending Stop) (told : Option (List ℕ)) (before written : Option (List ℕ)) (sight : Sight)
+      → IfOk answer (λ e. IfSome told (λ file. IsRefusal (capture_of file) e before written))
+      → OnOk answer (IfSome told (λ file. HaveWatched (shown_by policy.policy (paced_answer policy pace file)) sight sight))
+  unwatched (Ok e) None before written sight refused = tt
+  unwatched (Ok e) (Some file) before written sight refused = rw (refused.is) refl
+  unwatched (Err stop) told before written sight refused = tt
 
 -- ---- what stopped
 module _ {S K : Type 0} (source_faults : S → ℕ) (s s' s'' : S) (sink_faults : K → ℕ) (k k' k'' : K) where

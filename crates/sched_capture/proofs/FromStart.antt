@@ -23,6 +23,10 @@ use Rattle.sched_run.specs.Courses.{course_of, OnCourse, Runs, Breaks}
 use Rattle.sched_run.proofs.StartLaws.{start_can_begin}
 use Rattle.sched_run.specs.Played.{HasMade, HasMadeSome}
 use Rattle.sched_run.proofs.JoinedEvents.{made_some_none}
+use Rattle.sched_run.specs.Shown.{shown_in}
+use Rattle.sched_defs.specs.Events.{outcomes}
+use Rattle.tap_core.specs.Watching.{Sight, Begins as TapsBegin, Shows, Watches}
+use Rattle.tap_core.proofs.WatchLaws.{begins_shows}
 use Rattle.sched_capture.specs.Answers.{answer_of}
 use Rattle.report_core.proofs.WholeTexts.{cut_part, whole_text}
 
@@ -69,6 +73,13 @@ module _ {C U : Type 0} (S : Ghosts C U) (own policy : Policy) (pace : Pace) (gi
       → OnErr r (IfSome left (λ l. HasMadeSome S policy (course_of policy pace l (start policy) 1).events (start policy) old under new u))
   amid_told r left new u text written each =
       on_err_weaker r (λ all. IfSome_then left (at_start (λ s run. Breaks S policy run s old under new u text written) left all) (λ l breaks. breaks.leaves)) (rw same at each)
+
+  pub watched_told : (r : Result Ending Stop) (left : Option Left) (before begun after : Sight) → TapsBegin before begun
+      → OnOk r (OnCourse S.stands own old under given left (course_of own pace) (λ s run. Shows (shown_in own (outcomes own run.events s)) begun after))
+      → OnOk r (IfSome left (λ l. Watches (shown_in policy (outcomes policy (course_of policy pace l (start policy) 1).events (start policy))) before after))
+  watched_told r left before begun after begins each =
+      on_ok_weaker r (λ all. IfSome_then left (at_start (λ s run. Shows (shown_in policy (outcomes policy run.events s)) begun after) left all)
+      (λ l shows. begins_shows (shown_in policy (outcomes policy (course_of policy pace l (start policy) 1).events (start policy))) before begun after begins shows)) (rw same at each)
 
   -- nothing is made yet
   pub unmoved : (left : Option Left) → IfSome left (λ l. HasMadeSome S policy (course_of policy pace l (start policy) 1).events (start policy) old under old under)

@@ -7,7 +7,7 @@ use Rattle.packet_defs.specs.declared.packet.Packet.{Packet}
 use Rattle.policy_defs.specs.Policy.{Policy}
 use Rattle.report_defs.specs.Report.{fault_line}
 use Rattle.sched_defs.specs.SourceState.{start}
-use Rattle.sched_defs.specs.Events.{Event}
+use Rattle.sched_defs.specs.Events.{Event, outcomes}
 use Rattle.sched_defs.specs.declared.ending.Ending.{Ending}
 use Rattle.sched_defs.specs.declared.ending.Ending.TheVariants.{BadCapture}
 use Rattle.sched_defs.specs.Faults.{FaultAt}
@@ -15,6 +15,9 @@ use Rattle.sched_defs.specs.Pace.{Pace, paced_course, paced_report}
 use Rattle.policy_rules.specs.Resolved.{Resolved}
 use Rattle.sched_packets.specs.Halts.{fault_at}
 use Rattle.sched_packets.specs.Packets.{packets_from}
+use Rattle.sched_run.specs.Shown.{shown_in}
+use Rattle.tap_core.specs.Lists.{Shown}
+use Rattle.tap_core.specs.Watching.{Sight, Watches}
 
 -- how the run ends, the text that is written, and what happens, if the run begins
 pub record RunAnswer : Type 0 where
@@ -56,3 +59,12 @@ paced_answer policy pace file = answer_over policy pace (capture_of file)
 -- of the text of each run over the bytes of a capture a first part was written
 abbrev pub IsPartOfEach : Resolved → List ℕ → Option (List ℕ) → Option (List ℕ) → Type 0
 IsPartOfEach policy file before written = (pace : Pace) → AppendedPrefix before written (paced_answer policy pace file).text
+
+-- what taps are shown, if the run begins
+abbrev pub shown_by : Policy → RunAnswer → Option (List Shown)
+shown_by policy answer = option_map (λ events. shown_in policy (outcomes policy events (start policy))) answer.events
+
+-- taps of the named kinds watched the run; or no run began, and the taps are as they were
+abbrev pub HaveWatched : Option (List Shown) → Sight → Sight → Type 0
+HaveWatched None a b = b ≡ a
+HaveWatched (Some shown) a b = Watches shown a b

@@ -18,6 +18,7 @@ use sched_defs::{Ending, Halt};
 use sched_packets::Arrivals;
 use sched_run::{Pace, Run};
 use std::alloc::Global;
+use tap_core::{Named, Tap, Watching};
 
 /// Writes the line of a capture whose header is at fault, as the whole report. The answer is how the run ends.
 fn refuse<K: Sink>(alloc: Global, sink: &mut K, code: u32, place: u64) -> Result<Ending, Stop>
@@ -98,5 +99,15 @@ pub fn direct<S: Shelf, K: Sink>(
         return Err(Stop::Memory);
     };
     let mut run = Run::new(alloc, policy, policy.depth(), policy.version(), scheduler)?;
-    run_over(policy, &mut run, &mut tree, pace, &mut packets, shelf, sink)
+    let mut watch: Watching<Box<dyn Tap>> = Watching::new(alloc, Named::none(), Vec::new(alloc));
+    run_over(
+        policy,
+        &mut run,
+        &mut tree,
+        pace,
+        &mut packets,
+        shelf,
+        sink,
+        &mut watch,
+    )
 }

@@ -3,12 +3,15 @@ ghost use Rattle.std.specs.Prelude.{◌≡◌, ◌≤◌, [], IfOk, IfErr, IfSom
 ghost use Rattle.outside_core.specs.Kept.{KeepsSink, HasCause};
 ghost use Rattle.outside_core.specs.Written.{Appended, AppendedPrefix};
 ghost use Rattle.sched_defs.specs.SourceState.{start};
+ghost use Rattle.sched_defs.specs.Events.{outcomes};
 ghost use Rattle.sched_packets.specs.Arrivals.{policy_of, given_by, left_of, IsReady};
 ghost use Rattle.sched_run.specs.Courses.{course_of};
 ghost use Rattle.sched_run.specs.Frames.{IsSet, Continues};
 ghost use Rattle.sched_run.specs.Steps.{pace_of, IsBounded, CanEndSo};
 ghost use Rattle.sched_run.specs.Played.{HasMade, HasMadeSome};
+ghost use Rattle.sched_run.specs.Shown.{shown_in};
 ghost use Rattle.sched_capture.specs.Answers.{answer_of};
+ghost use Rattle.tap_core.specs.Watching.{sight_of, Watches, AreNoMore};
 
 use outside_core::{Shelf, Sink, Stop};
 use policy_core::Policy;
@@ -16,9 +19,11 @@ use sched_core::Scheduler;
 use sched_defs::Ending;
 use sched_packets::Arrivals;
 use sched_run::{Pace, Run};
+use tap_core::{Tap, Watching};
 
-/// Runs the packets that come through any scheduler of this policy that stands for the start, and writes the report.
-pub fn run_over<C: Scheduler + Drop, S: Shelf, K: Sink>(
+/// Runs the packets that come through any scheduler of this policy that stands for the start, and writes the report. Taps
+/// watch it from the beginning on.
+pub fn run_over<C: Scheduler + Drop, S: Shelf, K: Sink, T: Tap>(
     policy: &Policy,
     run: &mut Run<'_, C, Policy>,
     under: &mut C::Under,
@@ -26,6 +31,7 @@ pub fn run_over<C: Scheduler + Drop, S: Shelf, K: Sink>(
     packets: &mut Arrivals<'_, S>,
     shelf: &mut S,
     sink: &mut K,
+    watch: &mut Watching<T>,
 ) -> Result<Ending, Stop>
     requires set { IsSet C.Scheduler (λ p. p.policy) run.old }
     requires fresh { run.old.report.unwritten ≡ [] }
@@ -53,10 +59,16 @@ pub fn run_over<C: Scheduler + Drop, S: Shelf, K: Sink>(
         HasMadeSome C.Scheduler policy.now.policy
         (course_of policy.now.policy pace.entry l (start policy.now.policy) 1).events (start policy.now.policy)
         run.old.scheduler under.old run.new.scheduler under.new)) }
+    ensures watched { OnOk result (IfSome (left_of packets.old (S.left shelf.old)) (λ l.
+        Watches (shown_in policy.now.policy (outcomes policy.now.policy
+        (course_of policy.now.policy pace.entry l (start policy.now.policy) 1).events (start policy.now.policy)))
+        (sight_of T.kind_of T.state_of watch.old) (sight_of T.kind_of T.state_of watch.new))) }
+    ensures fewer { AreNoMore (sight_of T.kind_of T.state_of watch.old) (sight_of T.kind_of T.state_of watch.new) }
     ensures kept_run { Continues C.Scheduler run.old run.new }
     ensures kept { KeepsSink K.written K.faults sink.old sink.new }
     ensures later { S.faults shelf.old ≤ S.faults shelf.new }
     ensures cause { IfErr result (λ stop. HasCause stop S.faults shelf.old shelf.new K.faults sink.old sink.new) }
 {
-    run.play(under, sink, packets, shelf, pace)
+    watch.begin()?;
+    run.play(under, sink, watch, packets, shelf, pace)
 }

@@ -10,8 +10,9 @@ ghost use Rattle.embed_defs.specs.Images.{image_map};
 ghost use Rattle.embed_defs.specs.Embedding.{IsEmbedding};
 ghost use Rattle.sched_run.specs.Steps.{pace_of, IsBounded, CanEndSo};
 ghost use Rattle.sched_embedded.specs.Fabrics.{Leaves, LeavesPart, run_of};
-ghost use Rattle.sched_capture.specs.Answers.{paced_answer};
+ghost use Rattle.sched_capture.specs.Answers.{paced_answer, shown_by, HaveWatched};
 ghost use Rattle.sched_capture.specs.Placements.{laid_by};
+ghost use Rattle.tap_core.specs.Watching.{sight_of, AreNoMore};
 
 use crate::capture::begin;
 use crate::course::run_over;
@@ -23,6 +24,7 @@ use sched_defs::Ending;
 use sched_embedded::Embedded;
 use sched_run::{Pace, Run};
 use std::alloc::Global;
+use tap_core::{Tap, Watching};
 
 /// A target, and where a policy's tree is laid in it.
 #[derive(Drop)]
@@ -33,8 +35,8 @@ pub struct Placement {
 
 /// Runs a script or a link over the begun capture, through a fabric into which the policy's tree is laid by a map, and
 /// writes the whole report: that of the policy's own tree. The fabric takes the target's shape when the capture's header
-/// is accepted. The answer and the errors are those of `direct`.
-pub fn replay<S: Shelf, K: Sink, F: Fabric>(
+/// is accepted, and from then on taps watch. The answer and the errors are those of `direct`.
+pub fn replay<S: Shelf, K: Sink, F: Fabric, T: Tap>(
     alloc: Global,
     policy: &Policy,
     placement: Placement,
@@ -42,6 +44,7 @@ pub fn replay<S: Shelf, K: Sink, F: Fabric>(
     shelf: &mut S,
     sink: &mut K,
     fabric: &mut F,
+    watch: &mut Watching<T>,
 ) -> Result<Ending, Stop>
     requires begun { IsTrue (S.begun shelf.old) }
     requires bounded { IsBounded pace }
@@ -61,6 +64,10 @@ pub fn replay<S: Shelf, K: Sink, F: Fabric>(
         Leaves F.Fabric (run_of policy.now.policy (laid_by placement) (paced_answer policy.now (pace_of pace.entry) file).events) fabric.old fabric.new)) }
     ensures fabric_part { OnErr result (IfSome (S.left shelf.old) (λ file.
         LeavesPart F.Fabric (run_of policy.now.policy (laid_by placement) (paced_answer policy.now (pace_of pace.entry) file).events) fabric.old fabric.new)) }
+    ensures watched { OnOk result (IfSome (S.left shelf.old) (λ file.
+        HaveWatched (shown_by policy.now.policy (paced_answer policy.now (pace_of pace.entry) file))
+        (sight_of T.kind_of T.state_of watch.old) (sight_of T.kind_of T.state_of watch.new))) }
+    ensures fewer { AreNoMore (sight_of T.kind_of T.state_of watch.old) (sight_of T.kind_of T.state_of watch.new) }
     ensures sink_cause { IsErrOf result Stop.Sink → Rose (K.faults sink.old) (K.faults sink.new) }
     ensures source_cause { IsErrOf result Stop.Source → Rose (S.faults shelf.old) (S.faults shelf.new) }
     ensures kept { KeepsSink K.written K.faults sink.old sink.new }
@@ -75,5 +82,14 @@ pub fn replay<S: Shelf, K: Sink, F: Fabric>(
         return Err(Stop::Memory);
     };
     let mut run = Run::new(alloc, policy, policy.depth(), policy.version(), scheduler)?;
-    run_over(policy, &mut run, fabric, pace, &mut packets, shelf, sink)
+    run_over(
+        policy,
+        &mut run,
+        fabric,
+        pace,
+        &mut packets,
+        shelf,
+        sink,
+        watch,
+    )
 }

@@ -15,6 +15,7 @@ use Rattle.sched_defs.specs.declared.ending.Ending.{Ending}
 use Rattle.sched_defs.proofs.Runs.{after-append, none_lost}
 use Rattle.sched_core.specs.declared.scheduler.Scheduler.{Ghosts}
 use Rattle.sched_core.specs.Standing.{StandForOne}
+use Rattle.tap_core.specs.Watching.{Sight}
 use Rattle.sched_run.specs.declared.tally.Tally.{Tally}
 use Rattle.sched_run.specs.Stages.{Stage, stage, event_of, arrivals_in, FromEach, IsFresh, CanBegin, IsReady, HasRoom, Makes}
 use Rattle.sched_run.specs.Turns.{AreFirst, StopsAmid}
@@ -41,27 +42,27 @@ behind-append : (es fs : List Event) (c : Course) → behind es (behind fs c) �
 behind-append es fs c = ap (λ (events : List Event). record { events = events; ending = c.ending }) (sym (append_assoc es fs c.events))
 
 module _ {C U : Type 0} (S : Ghosts C U) (policy : Policy) where
-  pub run_none : (whole : Agenda) (all : ℕ) (a : Option Left) (c : C) (u : U) (text : Option (List ℕ)) (given : ℕ) (tally : Tally) → HasRun S policy whole whole all all a a (stage c u text given tally) (stage c u text given tally)
-  run_none whole all a c u text given tally = record {
+  pub run_none : (whole : Agenda) (all : ℕ) (a : Option Left) (c : C) (u : U) (text : Option (List ℕ)) (given : ℕ) (tally : Tally) (sight : Sight) → HasRun S policy whole whole all all a a (stage c u text given tally sight) (stage c u text given tally sight)
+  run_none whole all a c u text given tally sight = record {
     events = [];
-    made = makes_none S policy c u text given given tally;
+    made = makes_none S policy c u text given given tally sight;
     few = λ s sound stood below. omega arith;
     told = by_left a;
   }
     where
-      by_left : (a : Option Left) → IfSome a (λ l. FromEach S policy (stage c u text given tally) (λ s. IsBehind policy whole whole [] l a s (event_of tally) (event_of tally)))
+      by_left : (a : Option Left) → IfSome a (λ l. FromEach S policy (stage c u text given tally sight) (λ s. IsBehind policy whole whole [] l a s (event_of tally) (event_of tally)))
       by_left None = tt
       by_left (Some l) = λ s sound stood below. record { left = l; is = refl; joined = refl }
 
-  regiven : (es : List Event) (old : Stage C U) (c : C) (u : U) (text : Option (List ℕ)) (given given' : ℕ) (tally : Tally) → Makes S policy es old (stage c u text given tally) → Makes S policy es old (stage c u text given' tally)
-  regiven es old c u text given given' tally made = record { next = made.next; came = made.came; asked = made.asked; dropped = made.dropped; played = made.played }
+  regiven : (es : List Event) (old : Stage C U) (c : C) (u : U) (text : Option (List ℕ)) (given given' : ℕ) (tally : Tally) (sight : Sight) → Makes S policy es old (stage c u text given tally sight) → Makes S policy es old (stage c u text given' tally sight)
+  regiven es old c u text given given' tally sight made = record { next = made.next; came = made.came; asked = made.asked; dropped = made.dropped; played = made.played; shown = made.shown }
 
   -- nothing is still to come
-  pub run_over : (whole rest : Agenda) (all spare : ℕ) (a b : Option Left) (e : Ending) (old : Stage C U) (c : C) (u : U) (text : Option (List ℕ)) (given given' : ℕ) (tally : Tally) →
-      HasRun S policy whole rest all spare a b old (stage c u text given tally) → IfSome b (λ l. (s : SourceState) → IsCourse [] e (rest l s (event_of tally))) → Courses S policy whole e a old (stage c u text given' tally)
-  run_over whole rest all spare a b e old c u text given given' tally run ends = record {
+  pub run_over : (whole rest : Agenda) (all spare : ℕ) (a b : Option Left) (e : Ending) (old : Stage C U) (c : C) (u : U) (text : Option (List ℕ)) (given given' : ℕ) (tally : Tally) (sight : Sight) →
+      HasRun S policy whole rest all spare a b old (stage c u text given tally sight) → IfSome b (λ l. (s : SourceState) → IsCourse [] e (rest l s (event_of tally))) → Courses S policy whole e a old (stage c u text given' tally sight)
+  run_over whole rest all spare a b e old c u text given given' tally sight run ends = record {
     events = run.events;
-    made = regiven run.events old c u text given given' tally run.made;
+    made = regiven run.events old c u text given given' tally sight run.made;
     told = by_left a run.told;
   }
     where
@@ -75,11 +76,11 @@ module _ {C U : Type 0} (S : Ghosts C U) (policy : Policy) where
           subst (IsCourse run.events e) (sym w.joined) (record { are = sym (append-nil run.events) ∙ ap (λ (es : List Event). run.events ++ es) last.are; ends = last.ends })
 
   -- what was made is all that is made, and a first part of its text is written
-  pub run_halts : (whole rest : Agenda) (all spare : ℕ) (a b : Option Left) (old : Stage C U) (c : C) (u : U) (written : Option (List ℕ)) (report : Gathered) (given : ℕ) (tally : Tally) →
-      HasRun S policy whole rest all spare a b old (stage c u (text_of written report) given tally) → StopsAmid S policy (λ l s. (whole l s (event_of old.tally)).events) a old c u written
-  run_halts whole rest all spare a b old c u written report given tally run = record {
+  pub run_halts : (whole rest : Agenda) (all spare : ℕ) (a b : Option Left) (old : Stage C U) (c : C) (u : U) (written : Option (List ℕ)) (report : Gathered) (given : ℕ) (tally : Tally) (sight : Sight) →
+      HasRun S policy whole rest all spare a b old (stage c u (text_of written report) given tally sight) → StopsAmid S policy (λ l s. (whole l s (event_of old.tally)).events) a old c u written
+  run_halts whole rest all spare a b old c u written report given tally sight run = record {
     events = run.events;
-    stop = stops_here S policy run.events old c u written report given tally run.made;
+    stop = stops_here S policy run.events old c u written report run.made.next run.made.played;
     first = by_left a run.told;
   }
     where
@@ -204,6 +205,3 @@ module _ {C U : Type 0} (S : Ghosts C U) (policy : Policy) (accepted : IsAccepte
     pub run_room : HasRoom (S.pushes old.scheduler) (S.departures old.scheduler) old.given old.tally → HasRoom (S.pushes mid.scheduler) (S.departures mid.scheduler) mid.given mid.tally
     run_room room = room_after S policy accepted run.events old mid given few (omega (arith, bounds, run.made.asked)) run.made
         (record { state = one.state; sound = one.sound; stood = one.stood; has = one.has.held }) room
-
-    pub run_spare : spare ≤ all
-    run_spare = omega (arith, run.few one.state one.sound one.stood one.has.held)

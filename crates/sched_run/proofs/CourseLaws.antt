@@ -1,5 +1,5 @@
 -- The course of a script, step by step.
-use Rattle.std.proofs.Common.{◌≡◌, ◌≤◌, ℕ, ◌+◌, Option, None, Some, List, [], ◌∷◌, ◌++◌, map, length, refl, sym, ap, ◌∙◌, subst, arith, append_assoc, append-nil}
+use Rattle.std.proofs.Common.{◌≡◌, ℕ, ◌+◌, Option, None, Some, List, [], ◌∷◌, ◌++◌, map, length, refl, sym, ap, ◌∙◌, subst, arith, append_assoc, append-nil}
 use Rattle.std.specs.Prelude.{IfSome}
 use Rattle.policy_defs.specs.Policy.{Policy}
 use Rattle.sched_defs.specs.SourceState.{SourceState}
@@ -120,6 +120,3 @@ module _ {C U : Type 0} (S : Ghosts C U) (policy : Policy) (step : line.Step) (r
 pub no_step : (policy : Policy) (e : Ending) (event : ℕ) (o : Option Left) → IfSome o (λ l. e ≡ at_end l.fault l.packets) → IfSome o (λ l. (s : SourceState) → IsCourse [] e (script_agenda policy [] l s event))
 no_step policy e event None ends = tt
 no_step policy e event (Some l) ends = λ s. record { are = refl; ends = ends }
-
-pub step_short : (step : line.Step) (rest : List line.Step) → counts_of (step ∷ rest) ≤ 4194304 → asked_by (step_of step) ≤ 4194304
-step_short step rest few = omega (arith, asked_is step, few)

@@ -1,8 +1,5 @@
 -- Events in a row, joined, with their lines.
-use Rattle.std.proofs.Common.{◌≡◌, ℕ, ◌+◌, ◌-◌, ◌<◌, suc, Option, None, Some, Ok, List, [], ◌∷◌, ◌++◌, length, replicate, refl, sym, ap, ◌∙◌, subst, arith, append_assoc, append-nil}
-use Rattle.std.proofs.lemmas.Grind.{replicate_next}
-use Rattle.std.proofs.lemmas.List.{length-replicate, replicate-append-replicate}
-use Rattle.outside_core.specs.Written.{Appended}
+use Rattle.std.proofs.Common.{◌≡◌, ℕ, ◌+◌, suc, Option, None, Some, Ok, List, [], ◌∷◌, ◌++◌, length, refl, sym, ap, ◌∙◌, arith, append_assoc, append-nil}
 use Rattle.outside_core.proofs.WrittenLaws.{appended_in_turn}
 use Rattle.report_defs.specs.Text.{IsCut, appended}
 use Rattle.report_core.proofs.TextLaws.{IsCut-append, IsCut-longer}
@@ -18,7 +15,6 @@ use Rattle.sched_core.specs.declared.scheduler.Scheduler.{Ghosts}
 use Rattle.sched_core.specs.Arrivals.{arrival_of, pushes_of}
 use Rattle.sched_core.specs.Origins.{Origin, images_of}
 use Rattle.sched_core.specs.Spills.{raised, arrival_spills, spills_in}
-use Rattle.sched_core.specs.Standing.{ForEachState}
 use Rattle.sched_run.specs.Played.{told, HasMade, HasMadeSome, Plays, StopsIn}
 use Rattle.sched_run.proofs.EventCounts.{outcomes_of, pushes_are, outcomes_both}
 
@@ -164,39 +160,3 @@ module _ {C U : Type 0} (S : Ghosts C U) (policy : Policy) where
     leaves = made_second es fs s c u c' u' c'' u'' first.leaves stop.leaves;
     lines = rw (told-append policy event es fs s) (IsCut-append before mid written _ _ first.lines stop.lines);
   }
-
--- ---- departures in a row
-module _ {C U : Type 0} (S : Ghosts C U) (policy : Policy) where
-  -- one more departure, with its line
-  pub depart_next : {event : ℕ} (n : ℕ) {s : SourceState} {c : C} {u : U} {c' : C} {u' : U} {c'' : C} {u'' : U} {before mid text : Option (List ℕ)} →
-      Plays S policy event (replicate n (Depart None)) s c u c' u' before mid → HasMade S policy (Depart None ∷ []) (after policy (replicate n (Depart None)) s) c' u' c'' u'' →
-      Appended mid text (outcome_line policy (event + n) (outcome policy (Depart None) (after policy (replicate n (Depart None)) s))) →
-      Plays S policy event (replicate (n + 1) (Depart None)) s c u c'' u'' before text
-  depart_next {event = event} n {s = s} {c = c} {u = u} {c' = c'} {u' = u'} {c'' = c''} {u'' = u''} {before = before} {mid = mid} {text = text} first leaves line =
-      rw (replicate_next n (Depart None)) (plays_both S policy event (replicate n (Depart None)) (Depart None ∷ []) s c u c' u' c'' u'' before mid text first record {
-        leaves = leaves;
-        lines = rw (length-replicate n (Depart None)) (subst (Appended mid text) (sym (told-one policy (event + n) (Depart None) (after policy (replicate n (Depart None)) s))) line);
-      })
-
-  -- one more departure, whose line was cut
-  pub depart_cut : {event : ℕ} (n count : ℕ) → n < count → {s : SourceState} {c : C} {u : U} {c' : C} {u' : U} {c'' : C} {u'' : U} {before mid written : Option (List ℕ)} →
-      Plays S policy event (replicate n (Depart None)) s c u c' u' before mid → HasMade S policy (Depart None ∷ []) (after policy (replicate n (Depart None)) s) c' u' c'' u'' →
-      IsCut mid (outcome_line policy (event + n) (outcome policy (Depart None) (after policy (replicate n (Depart None)) s))) written →
-      StopsIn S policy event (replicate count (Depart None)) s c u c'' u'' before written
-  depart_cut {event = event} n count below {s = s} {c = c} {u = u} {c' = c'} {u' = u'} {c'' = c''} {u'' = u''} {before = before} {mid = mid} {written = written} first leaves cut =
-      let rest : List Event = replicate (count - n - 1) (Depart None) in
-      let whole : replicate n (Depart None) ++ (Depart None ∷ rest) ≡ replicate count (Depart None) =
-      replicate-append-replicate n (suc (count - n - 1)) (Depart None) ∙ ap (λ m. replicate m (Depart None)) (omega arith) in
-      let one : StopsIn S policy (event + length (replicate n (Depart None))) (Depart None ∷ []) (after policy (replicate n (Depart None)) s) c' u' c'' u'' mid written = record {
-        leaves = made_all S policy (Depart None ∷ []) leaves;
-        lines = rw (length-replicate n (Depart None)) (subst (λ (l : List ℕ). IsCut mid l written) (sym (told-one policy (event + n) (Depart None) (after policy (replicate n (Depart None)) s))) cut);
-      } in
-      let more : StopsIn S policy (event + length (replicate n (Depart None))) (Depart None ∷ rest) (after policy (replicate n (Depart None)) s) c' u' c'' u'' mid written =
-      stops_first S policy (event + length (replicate n (Depart None))) (Depart None ∷ []) rest (after policy (replicate n (Depart None)) s) c' u' c'' u'' mid written one in
-      subst (λ (es : List Event). StopsIn S policy event es s c u c'' u'' before written) whole
-      (stops_second S policy event (replicate n (Depart None)) (Depart None ∷ rest) s c u c' u' c'' u'' before mid written first more)
-
--- ---- the same policy, said of the scheduler as it now is
-module _ {C U : Type 0} (S : Ghosts C U) where
-  pub each_state : {policy q : Policy} (P : Policy → SourceState → Type 0) {c : C} {u : U} → q ≡ policy → ForEachState S.stands q c u (P q) → ForEachState S.stands policy c u (P policy)
-  each_state P {c = c} {u = u} same h = subst (λ (z : Policy). ForEachState S.stands z c u (P z)) same h

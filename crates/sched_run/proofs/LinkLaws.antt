@@ -16,7 +16,7 @@ use Rattle.sched_defs.specs.Script.{Course, behind}
 use Rattle.sched_defs.specs.Link.{Sent, sent_nothing, sent_first, is_due, send_until, send_all, free_for, link_turn, link_course}
 use Rattle.sched_defs.specs.Numbered.{IsSendable, IsHeldBelow}
 use Rattle.sched_defs.specs.Packets.{Left, Came, IsOver}
-use Rattle.sched_defs.specs.declared.ending.Ending.TheVariants.{Whole, BadCapture}
+use Rattle.sched_defs.specs.declared.ending.Ending.TheVariants.{Whole}
 use Rattle.sched_defs.proofs.Courses.{held_none}
 use Rattle.sched_defs.proofs.Leaving.{leaver-none, size_departed}
 use Rattle.sched_defs.proofs.Links.{sending, turn_leads, turn_empty}
@@ -24,6 +24,7 @@ use Rattle.sched_defs.proofs.Runs.{after-append}
 use Rattle.sched_core.specs.Departures.{departed_packet, next_departed}
 use Rattle.sched_core.specs.declared.scheduler.Scheduler.{Ghosts}
 use Rattle.sched_core.specs.Standing.{StandForOne, ForEachState}
+use Rattle.tap_core.specs.Watching.{Sight}
 use Rattle.sched_run.specs.declared.tally.Tally.{Tally}
 use Rattle.sched_run.specs.Stages.{Stage, stage, event_of, arrivals_in, FromEach, Makes, Stops}
 use Rattle.sched_run.specs.Turns.{AreFirst, StopsAmid}
@@ -128,7 +129,7 @@ module _ {C U : Type 0} (S : Ghosts C U) (policy : Policy) (accepted : IsAccepte
   pub sends_none : SendsPart S policy rate until held 0 first first old old
   sends_none = record {
     events = [];
-    made = makes_none S policy old.scheduler old.under old.text old.given old.given old.tally;
+    made = makes_none S policy old.scheduler old.under old.text old.given old.given old.tally old.sight;
     told = λ s sound stood below. part_none policy rate until held first s (holds s sound stood);
   }
 
@@ -200,17 +201,17 @@ sends_soon len rate is few =
     omega (arith, least, few)
 
 -- how many packets came then isn't told by what was sent
-pub same_sends : {C U : Type 0} (S : Ghosts C U) (policy : Policy) (sent : SourceState → Sent) (free : ℕ) (old : Stage C U) (c : C) (u : U) (text : Option (List ℕ)) (given given' : ℕ) (tally : Tally) → given ≡ given'
-    → Sends S policy sent free old (stage c u text given tally) → Sends S policy sent free old (stage c u text given' tally)
-same_sends S policy sent free old c u text given given' tally e sends = subst (λ (n : ℕ). Sends S policy sent free old (stage c u text n tally)) e sends
+pub same_sends : {C U : Type 0} (S : Ghosts C U) (policy : Policy) (sent : SourceState → Sent) (free : ℕ) (old : Stage C U) (c : C) (u : U) (text : Option (List ℕ)) (given given' : ℕ) (tally : Tally) (sight : Sight) → given ≡ given'
+    → Sends S policy sent free old (stage c u text given tally sight) → Sends S policy sent free old (stage c u text given' tally sight)
+same_sends S policy sent free old c u text given given' tally sight e sends = subst (λ (n : ℕ). Sends S policy sent free old (stage c u text n tally sight)) e sends
 
 -- ---- the turns of a link
 -- at first the link is free, and all is still to come
-pub link_begins : {C U : Type 0} (S : Ghosts C U) (policy : Policy) (rate free : ℕ) → free ≡ 0 → (a : Option Left) (c : C) (u : U) (text : Option (List ℕ)) (given : ℕ) (tally : Tally)
-    → HasRun S policy (link_agenda policy rate 0) (link_agenda policy rate free) 0 0 a a (stage c u text given tally) (stage c u text given tally)
-link_begins S policy rate free e a c u text given tally =
-    subst (λ (n : ℕ). HasRun S policy (link_agenda policy rate 0) (link_agenda policy rate n) 0 0 a a (stage c u text given tally) (stage c u text given tally)) (sym e)
-    (run_none S policy (link_agenda policy rate 0) 0 a c u text given tally)
+pub link_begins : {C U : Type 0} (S : Ghosts C U) (policy : Policy) (rate free : ℕ) → free ≡ 0 → (a : Option Left) (c : C) (u : U) (text : Option (List ℕ)) (given : ℕ) (tally : Tally) (sight : Sight)
+    → HasRun S policy (link_agenda policy rate 0) (link_agenda policy rate free) 0 0 a a (stage c u text given tally sight) (stage c u text given tally sight)
+link_begins S policy rate free e a c u text given tally sight =
+    subst (λ (n : ℕ). HasRun S policy (link_agenda policy rate 0) (link_agenda policy rate n) 0 0 a a (stage c u text given tally sight) (stage c u text given tally sight)) (sym e)
+    (run_none S policy (link_agenda policy rate 0) 0 a c u text given tally sight)
 
 module _ {C U : Type 0} (S : Ghosts C U) (policy : Policy) (rate free : ℕ) where
   -- a packet came, and its turn was made
@@ -287,15 +288,6 @@ module _ {C U : Type 0} (S : Ghosts C U) (policy : Policy) (rate free : ℕ) whe
       by_left (Some l) none = λ s sound stood below.
           let first = amid.first s sound stood below in
           (first.0, first.1 ∙ sym (ap (λ (x : Course). x.events) (whole_here l s none.0 none.1)))
-
-  -- a fault is met: nothing more happens
-  pub fault_met : (c p event : ℕ) (o : Option Left) → IfSome o (λ l. (l.packets ≡ []) × (l.fault ≡ Some (record { code = c; place = p })))
-      → IfSome o (λ l. (s : SourceState) → IsCourse [] (BadCapture c p) (link_agenda policy rate free l s event))
-  fault_met c p event None met = tt
-  fault_met c p event (Some l) met = λ s.
-      let e : link_course policy rate l.packets l.fault s free ≡ record { events = []; ending = BadCapture c p } =
-      ap (λ (ps : List Packet). link_course policy rate ps l.fault s free) met.0 ∙ ap (λ (f : Option FaultAt). link_course policy rate [] f s free) met.1 in
-      record { are = sym (ap (λ (x : Course). x.events) e); ends = sym (ap (λ (x : Course). x.ending) e) }
 
 -- ---- one turn
 module _ {C U : Type 0} (S : Ghosts C U) (policy : Policy) (accepted : IsAccepted policy) (rate free : ℕ) (p : Packet) (moment : ℕ) (old : Stage C U) (moments : FromEach S policy old (λ s. moment ≡ max s.now p.moment)) where

@@ -1,6 +1,11 @@
 -- Events that are made in a row.
-use Rattle.std.proofs.Common.{◌≡◌, ℕ, zero, suc, ◌+◌, Option, None, List, [], ◌∷◌, ◌++◌, length, replicate, refl, sym, ap, ◌∙◌, subst, arith, append-nil}
+use Rattle.std.proofs.Common.{◌≡◌, ℕ, zero, suc, ◌+◌, ◌-◌, ◌<◌, Option, None, List, [], ◌∷◌, ◌++◌, length, replicate, refl, sym, ap, ◌∙◌, subst, arith, append_assoc, append-nil}
 use Rattle.std.specs.List.{AllByRecursion}
+use Rattle.std.specs.Prelude.{sum_by}
+use Rattle.std.proofs.lemmas.Grind.{replicate_next}
+use Rattle.std.proofs.lemmas.List.{replicate-append-replicate}
+use Rattle.std.proofs.lemmas.List.Sums.{get_or-le-sum_by}
+use Rattle.tree_defs.specs.Packets.{values}
 use Rattle.outside_core.proofs.WrittenLaws.{appended_nothing}
 use Rattle.report_defs.specs.Text.{IsCut}
 use Rattle.report_core.specs.Gathered.{text_of, Gathered}
@@ -13,17 +18,24 @@ use Rattle.sched_defs.specs.Sound.{IsSound}
 use Rattle.sched_defs.specs.Events.{Event, Arrive, Depart, CanArrive, CanMake, after}
 use Rattle.sched_defs.specs.Numbered.{AreNumberedFrom, IsSendable, IsHeldBelow}
 use Rattle.sched_defs.proofs.Courses.{held_none, held_arrived, held_departed}
-use Rattle.sched_defs.proofs.Runs.{sound_after, departures_count}
+use Rattle.sched_defs.proofs.Runs.{sound_after}
 use Rattle.sched_core.specs.declared.scheduler.Scheduler.{Ghosts}
-use Rattle.sched_core.specs.Standing.{ForEachState}
 use Rattle.sched_run.specs.Played.{told, Plays, StopsIn}
-use Rattle.sched_run.proofs.JoinedEvents.{made_none, made_all, plays_both, stops_second, cut_unwritten}
-use Rattle.sched_run.specs.Stages.{Stage, stage, event_of, packets_in, arrivals_in, departures_in, AreNext, Makes, Stops}
-use Rattle.sched_run.proofs.EventCounts.{arrivals_in-append, departures_in-append, arrivals_in-departures, departures_in-departures, outcomes_both}
+use Rattle.tap_core.specs.Watching.{Sight}
+use Rattle.tap_core.proofs.WatchLaws.{shows_none}
+use Rattle.sched_run.proofs.JoinedEvents.{made_none, made_all, plays_both, stops_first, stops_second, cut_unwritten}
+use Rattle.sched_run.proofs.ShownLaws.{shown_both}
+use Rattle.sched_run.specs.Stages.{Stage, stage, event_of, packets_in, arrivals_in, departures_in, AreNext, FromEach, Makes, Stops}
+use Rattle.sched_run.proofs.EventCounts.{arrivals_in-append, departures_in-append, arrivals_in-departures, outcomes_both}
 
 -- ---- packets and their numbers
 pub held_more : (n : ℕ) (held : Held) → IsHeldBelow n held → IsHeldBelow (n + 1) held
 held_more n held below m p e = let l = below m p e in omega arith
+
+-- the numbers of the packets that are held have a bound
+pub held_bounded : (policy : Policy) (s : SourceState) → IsSound policy s → (n : ℕ) × IsHeldBelow (n + 1) s.held
+held_bounded policy s sound =
+    (sum_by (λ (m : ℕ). m) (values s.tree), λ m p e. let at = sound.stands m p e in omega (arith, get_or-le-sum_by (λ (m : ℕ). m) (values s.tree) at.0 m at.1, at.2))
 
 -- the packet that comes next can arrive
 pub can_arrive : (policy : Policy) (s : SourceState) (p : Packet) (given : ℕ) → p.number ≡ given + 1 → IsSendable policy p → IsHeldBelow (given + 1) s.held → CanArrive policy s p
@@ -96,6 +108,9 @@ module _ {C U : Type 0} (S : Ghosts C U) (policy : Policy) (accepted : IsAccepte
         plays_both S policy (event_of old.tally) es fs s old.scheduler old.under mid.scheduler mid.under new.scheduler new.under old.text mid.text new.text
         (first.played s sound stood below)
         (subst (λ (n : ℕ). Plays S policy n fs (after policy es s) mid.scheduler mid.under new.scheduler new.under mid.text new.text) (sym number) (second.played (after policy es s) at.sound at.stood at.below));
+    shown = λ s sound stood below.
+        let at = stands_after es old mid mid.given s first e (record { sound = sound; stood = stood; below = below }) in
+        shown_both policy es fs s old.sight mid.sight new.sight (first.shown s sound stood below) (second.shown (after policy es s) at.sound at.stood at.below);
   }
 
   -- events, and then some that stop
@@ -112,48 +127,62 @@ module _ {C U : Type 0} (S : Ghosts C U) (policy : Policy) (accepted : IsAccepte
 
 module _ {C U : Type 0} (S : Ghosts C U) (policy : Policy) where
   -- no event
-  pub makes_none : (c : C) (u : U) (text : Option (List ℕ)) (given given' : ℕ) (tally : _) → Makes S policy [] (stage c u text given tally) (stage c u text given' tally)
-  makes_none c u text given given' tally = record {
+  pub makes_none : (c : C) (u : U) (text : Option (List ℕ)) (given given' : ℕ) (tally : _) (sight : Sight) → Makes S policy [] (stage c u text given tally sight) (stage c u text given' tally sight)
+  makes_none c u text given given' tally sight = record {
     next = record { numbered = tt; sendable = tt };
     came = omega arith;
     asked = omega arith;
     dropped = λ s sound stood below. omega arith;
     played = λ s sound stood below. record { leaves = made_none S policy s c u stood; lines = appended_nothing text };
+    shown = λ s sound stood below. shows_none sight;
   }
 
   -- events that were made, of which a first part of the text is written
-  pub stops_here : (es : List Event) (old : Stage C U) (c : C) (u : U) (written : Option (List ℕ)) (report : Gathered) (given : ℕ) (tally : _) → Makes S policy es old (stage c u (text_of written report) given tally) → Stops S policy es old c u written
-  stops_here es old c u written report given tally made = record {
-    next = made.next;
+  pub stops_here : (es : List Event) (old : Stage C U) (c : C) (u : U) (written : Option (List ℕ)) (report : Gathered) → AreNext policy old.given (packets_in es)
+      → FromEach S policy old (λ s. Plays S policy (event_of old.tally) es s old.scheduler old.under c u old.text (text_of written report)) → Stops S policy es old c u written
+  stops_here es old c u written report next played = record {
+    next = next;
     stopped = λ s sound stood below.
-        let played = made.played s sound stood below in
+        let plays = played s sound stood below in
         let text : List ℕ = told policy (event_of old.tally) es s in
         record {
-          leaves = made_all S policy es played.leaves;
+          leaves = made_all S policy es plays.leaves;
           lines = subst (λ (l : List ℕ). IsCut old.text l written) (append-nil text)
-              (IsCut-append old.text (text_of written report) written text [] played.lines (cut_unwritten written report.unwritten []));
+              (IsCut-append old.text (text_of written report) written text [] plays.lines (cut_unwritten written report.unwritten []));
         };
   }
 
+  pub stops_none : (c : C) (u : U) (written : Option (List ℕ)) (report : Gathered) (given : ℕ) (tally : _) (sight : Sight) → Stops S policy [] (stage c u (text_of written report) given tally sight) c u written
+  stops_none c u written report given tally sight =
+      let none = makes_none c u (text_of written report) given given tally sight in
+      stops_here [] (stage c u (text_of written report) given tally sight) c u written report none.next none.played
+
 -- ---- departures in a row
-pub packets_in-departures : (n : ℕ) → packets_in (replicate n (Depart None)) ≡ []
+packets_in-departures : (n : ℕ) → packets_in (replicate n (Depart None)) ≡ []
 packets_in-departures zero = refl
 packets_in-departures (suc n) = packets_in-departures n
 
 next_departures : (policy : Policy) (given n : ℕ) → AreNext policy given (packets_in (replicate n (Depart None)))
 next_departures policy given n = subst (AreNext policy given) (sym (packets_in-departures n)) (record { numbered = tt; sendable = tt })
 
-module _ {C U : Type 0} (S : Ghosts C U) (policy : Policy) where
-  pub makes_departures : (n : ℕ) (old new : Stage C U) → new.tally.came ≡ old.tally.came → new.tally.dropped ≡ old.tally.dropped → new.tally.asked ≡ old.tally.asked + n →
-      ForEachState S.stands policy old.scheduler old.under (λ s. Plays S policy (event_of old.tally) (replicate n (Depart None)) s old.scheduler old.under new.scheduler new.under old.text new.text) → Makes S policy (replicate n (Depart None)) old new
-  makes_departures n old new came dropped asked played = record {
-    next = next_departures policy old.given n;
-    came = omega (arith, came, arrivals_in-departures n);
-    asked = omega (arith, asked, departures_in-departures n);
-    dropped = λ s sound stood below. omega (arith, dropped, (departures_count policy n None s).dropped);
-    played = λ s sound stood below. played s sound stood;
-  }
+module _ {C U : Type 0} (S : Ghosts C U) (policy : Policy) (accepted : IsAccepted policy) (n : ℕ) (old mid : Stage C U) (given : mid.given ≡ old.given) (made : Makes S policy (replicate n (Depart None)) old mid) where
+  same_given : mid.given ≡ old.given + arrivals_in (replicate n (Depart None))
+  same_given = omega (arith, given, arrivals_in-departures n)
 
-  pub stops_departures : (n : ℕ) (old : Stage C U) (c : C) (u : U) (written : Option (List ℕ)) →
-      ForEachState S.stands policy old.scheduler old.under (λ s. StopsIn S policy (event_of old.tally) (replicate n (Depart None)) s old.scheduler old.under c u old.text written) → Stops S policy (replicate n (Depart None)) old c u written
-  stops_departures n old c u written stopped = record { next = next_departures policy old.given n; stopped = λ s sound stood below. stopped s sound stood }
+  -- one more departure
+  pub departures_more : (new : Stage C U) → Makes S policy (Depart None ∷ []) mid new → Makes S policy (replicate (n + 1) (Depart None)) old new
+  departures_more new one = rw (replicate_next n (Depart None)) (makes_both S policy accepted (replicate n (Depart None)) (Depart None ∷ []) old mid new same_given made one)
+
+  -- one more departure, of more to come, stops
+  pub departures_cut : (count : ℕ) (c : C) (u : U) (written : Option (List ℕ)) → n < count → Stops S policy (Depart None ∷ []) mid c u written → Stops S policy (replicate count (Depart None)) old c u written
+  departures_cut count c u written below stop =
+      let first : List Event = replicate n (Depart None) ++ Depart None ∷ [] in
+      let rest : List Event = replicate (count - n - 1) (Depart None) in
+      let whole : first ++ rest ≡ replicate count (Depart None) =
+      append_assoc (replicate n (Depart None)) (Depart None ∷ []) rest ∙ replicate-append-replicate n (suc (count - n - 1)) (Depart None) ∙ ap (λ (m : ℕ). replicate m (Depart None)) (omega (arith, below)) in
+      let one = stops_later S policy accepted (replicate n (Depart None)) (Depart None ∷ []) old mid c u written same_given made stop in
+      record {
+        next = next_departures policy old.given count;
+        stopped = λ s sound stood held. subst (λ (es : List Event). StopsIn S policy (event_of old.tally) es s old.scheduler old.under c u old.text written) whole
+            (stops_first S policy (event_of old.tally) first rest s old.scheduler old.under c u old.text written (one.stopped s sound stood held));
+      }

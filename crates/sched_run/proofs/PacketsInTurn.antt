@@ -12,6 +12,7 @@ use Rattle.sched_defs.specs.declared.ending.Ending.{Ending}
 use Rattle.sched_defs.specs.declared.ending.Ending.TheVariants.{Whole, BadCapture, PastLast}
 use Rattle.sched_run.specs.declared.tally.Tally.{Tally}
 use Rattle.sched_defs.specs.Packets.{Left, Came}
+use Rattle.tap_core.specs.Watching.{Sight}
 use Rattle.sched_run.specs.Stages.{Stage, stage, event_of, departures_in, HasRoom, Makes, Stops}
 use Rattle.sched_run.specs.Turns.{CameUntil, Arrives, WereFirst, ArrivalsStop}
 use Rattle.sched_run.proofs.EventCounts.{AreOf, outcomes_of}
@@ -117,10 +118,10 @@ module _ {C U : Type 0} (S : Ghosts C U) (policy : Policy) (accepted : IsAccepte
   }
 
 module _ {C U : Type 0} (S : Ghosts C U) (policy : Policy) where
-  pub arrives_none : (a : Option Left) (c : C) (u : U) (text : Option (List ℕ)) (given : ℕ) (tally : Tally) → Arrives S policy 0 None a a (stage c u text given tally) (stage c u text given tally)
-  arrives_none a c u text given tally = record {
+  pub arrives_none : (a : Option Left) (c : C) (u : U) (text : Option (List ℕ)) (given : ℕ) (tally : Tally) (sight : Sight) → Arrives S policy 0 None a a (stage c u text given tally sight) (stage c u text given tally sight)
+  arrives_none a c u text given tally sight = record {
     packets = [];
     count = refl;
     came = came_none a;
-    made = makes_none S policy c u text given given tally;
+    made = makes_none S policy c u text given given tally sight;
   }

@@ -17,7 +17,9 @@ use Rattle.sched_defs.specs.Report.{shown_drops, last_line, course_report}
 use Rattle.sched_defs.proofs.Runs.{none_lost}
 use Rattle.sched_core.specs.declared.scheduler.Scheduler.{Ghosts}
 use Rattle.sched_core.specs.Standing.{StandForOne, ForEachState}
+use Rattle.tap_core.specs.Watching.{Shows}
 use Rattle.sched_run.specs.Played.{told, HasMade, StopsIn}
+use Rattle.sched_run.specs.Shown.{shown_in}
 use Rattle.sched_run.proofs.JoinedEvents.{told-append}
 use Rattle.sched_defs.specs.declared.ending.Ending.{Ending}
 use Rattle.sched_defs.specs.declared.ending.Ending.TheVariants.{Whole, BadCapture, PastLast}
@@ -157,6 +159,18 @@ module _ {C U : Type 0} (S : Ghosts C U) (policy : Policy) where
             };
             report = subst (λ (t : List ℕ). IsCut old.text t written) text (IsCut-longer old.text written (told policy 1 amid.events s) (more ++ last) stop.lines);
           }
+
+  -- the taps were shown what left and what was dropped
+  pub watched : (agenda : Agenda) (before : Option Left) (e : Ending) (old new : Stage C U) → event_of old.tally ≡ 1 → Courses S policy agenda e before old new →
+      OnCourse S.stands policy old.scheduler old.under old.given before agenda (λ s run. Shows (shown_in policy (outcomes policy run.events s)) old.sight new.sight)
+  watched agenda before e old new one courses = by_left before courses.told
+    where
+      by_left : (a : Option Left) → IfSome a (λ l. FromEach S policy old (λ s. IsCourse courses.events e (agenda l s (event_of old.tally))))
+          → OnCourse S.stands policy old.scheduler old.under old.given a agenda (λ s run. Shows (shown_in policy (outcomes policy run.events s)) old.sight new.sight)
+      by_left None told = tt
+      by_left (Some l) told = λ s sound stood below.
+          let are : courses.events ≡ (agenda l s 1).events = (told s sound stood below).are ∙ ap (λ (n : ℕ). (agenda l s n).events) one in
+          subst (λ (es : List Event). Shows (shown_in policy (outcomes policy es s)) old.sight new.sight) are (courses.made.shown s sound stood below)
 
 module _ {C U : Type 0} (S : Ghosts C U) (policy : Policy) (accepted : IsAccepted policy) (agenda : Agenda) (before : Option Left) (e : Ending) (old new : Stage C U) (first held version : ℕ) (t : Totals)
     (fresh : IsFresh old.tally) (courses : Courses S policy agenda e before old new)

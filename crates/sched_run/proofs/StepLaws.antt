@@ -1,6 +1,6 @@
 -- What each step of a script leaves.
 use Rattle.std.proofs.Common.{◌≡◌, ◌<◌, ◌≤◌, ℕ, ◌+◌, ◌-◌, nat_lt, Bool, length-append, Option, None, Some, List, [], ◌++◌, map, length, take, drop, replicate, refl, sym, ap, ◌∙◌, arith, append-nil, true, false}
-use Rattle.std.specs.Prelude.{IfSome, IfNone, IfOk, OnErr, Result, Ok, Err}
+use Rattle.std.specs.Prelude.{IfSome, IfOk, OnErr, Result, Ok, Err}
 use Rattle.std.proofs.lemmas.List.{map-append, take_all}
 use Rattle.std.proofs.lemmas.Bool.{ltb-true, lt-ltb}
 use Rattle.std.proofs.Math.Seq.{take-append_seam, drop-append_seam, take-append-add}
@@ -18,7 +18,7 @@ use Rattle.sched_defs.specs.declared.ending.Ending.TheVariants.{Whole, BadCaptur
 use Rattle.sched_defs.specs.Faults.{FaultAt}
 use Rattle.sched_defs.specs.Packets.{Left, Came, IsOver}
 use Rattle.sched_run.specs.Stages.{Stage, event_of, FromEach, Makes, Stops}
-use Rattle.sched_run.specs.Turns.{CameUntil, CameOf, Arrives, WereFirst, ArrivalsStop, IsTurn, Turns, AreFirst, StopsAmid, GoesOn}
+use Rattle.sched_run.specs.Turns.{CameUntil, CameOf, Arrives, WereFirst, ArrivalsStop, IsTurn, Turns, AreFirst, StopsAmid}
 use Rattle.sched_run.proofs.EventCounts.{empty_in-arrivals, empty_in-departures, empty_in-drain}
 
 pub if_ok_turned : {T E : Type 0} (r : Result T E) (P Q : T → Type 0) → ((t : T) → P t → Q t) → IfOk r P → IfOk r Q
@@ -211,8 +211,3 @@ module _ {C U : Type 0} (S : Ghosts C U) (policy : Policy) where
       by_left : (a : Option Left) → IfSome a (λ l. FromEach S policy old (λ s. AreFirst (replicate n (Depart None)) (replicate (size s.tree) (Depart None))))
       by_left None = tt
       by_left (Some l) = λ s sound stood below. ([], append-nil (replicate n (Depart None)) ∙ ap (λ (k : ℕ). replicate k (Depart None)) (held s sound stood))
-
-pub goes_on_unbroken : (e : Ending) (P : Type 0) → GoesOn (Some e) P → IfNone (ends_at_fault e) P
-goes_on_unbroken (Whole n) P p = p
-goes_on_unbroken (PastLast n) P p = p
-goes_on_unbroken (BadCapture x y) P p = tt

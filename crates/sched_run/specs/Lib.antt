@@ -1,5 +1,6 @@
 pub mod Frames
 pub mod Played
+pub mod Shown
 pub mod Steps
 pub mod Stages
 pub mod Turns

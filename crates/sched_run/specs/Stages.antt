@@ -14,22 +14,25 @@ use Rattle.sched_core.specs.declared.scheduler.Arrival.TheVariants.{Pushed, Drop
 use Rattle.sched_core.specs.declared.scheduler.Scheduler.{Ghosts}
 use Rattle.sched_core.specs.Standing.{ForEachState}
 use Rattle.sched_run.specs.Played.{Plays, StopsIn}
+use Rattle.sched_run.specs.Shown.{shown_in}
+use Rattle.tap_core.specs.Watching.{Sight, Shows}
 use Rattle.sched_run.specs.declared.run.Run.{Run}
 use Rattle.sched_run.specs.declared.tally.Tally.{Tally}
 
--- the scheduler with what is under it, the text so far, how many packets came, and the tally
+-- the scheduler with what is under it, the text so far, how many packets came, the tally, and the taps that watch
 pub record Stage (C U : Type 0) : Type 0 where
   pub scheduler : C
   pub under : U
   pub text : Option (List ℕ)
   pub given : ℕ
   pub tally : Tally
+  pub sight : Sight
 
-abbrev pub stage : {C U : Type 0} → C → U → Option (List ℕ) → ℕ → Tally → Stage C U
-stage c u text given tally = record { scheduler = c; under = u; text = text; given = given; tally = tally }
+abbrev pub stage : {C U : Type 0} → C → U → Option (List ℕ) → ℕ → Tally → Sight → Stage C U
+stage c u text given tally sight = record { scheduler = c; under = u; text = text; given = given; tally = tally; sight = sight }
 
-abbrev pub stage_of : {C U N : Type 0} → Run C N → U → Option (List ℕ) → ℕ → Stage C U
-stage_of run u written given = stage run.scheduler u (text_of written run.report) given run.tally
+abbrev pub stage_of : {C U N : Type 0} → Run C N → U → Option (List ℕ) → ℕ → Sight → Stage C U
+stage_of run u written given sight = stage run.scheduler u (text_of written run.report) given run.tally sight
 
 -- the number of the next event
 abbrev pub event_of : Tally → ℕ
@@ -98,13 +101,14 @@ pub record AreNext (policy : Policy) (given : ℕ) (packets : List Packet) : Typ
   pub numbered : AreNumberedFrom (given + 1) packets
   pub sendable : AllByRecursion (IsSendable policy) packets
 
--- all of the events were made, each with its line, and were counted
+-- all of the events were made, each with its line, were counted, and were shown to the taps that watch
 pub record Makes {C U : Type 0} (S : Ghosts C U) (policy : Policy) (events : List Event) (old new : Stage C U) : Type 0 where
   pub next : AreNext policy old.given (packets_in events)
   pub came : new.tally.came ≡ old.tally.came + arrivals_in events
   pub asked : new.tally.asked ≡ old.tally.asked + departures_in events
   pub dropped : FromEach S policy old (λ s. new.tally.dropped ≡ old.tally.dropped + dropped_in (outcomes policy events s))
   pub played : FromEach S policy old (λ s. Plays S policy (event_of old.tally) events s old.scheduler old.under new.scheduler new.under old.text new.text)
+  pub shown : FromEach S policy old (λ s. Shows (shown_in policy (outcomes policy events s)) old.sight new.sight)
 
 -- the first of the events were made, and a first part of the text with the lines of all is written
 pub record Stops {C U : Type 0} (S : Ghosts C U) (policy : Policy) (events : List Event) (old : Stage C U) (c : C) (u : U) (written : Option (List ℕ)) : Type 0 where

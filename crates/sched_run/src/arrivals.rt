@@ -2,11 +2,13 @@
 ghost use Rattle.std.specs.Prelude.{◌≡◌};
 
 use crate::run::Run;
+use crate::shown::show_arrival;
 use outside_core::{Sink, Stop};
 use packet_defs::Packet;
 use policy_defs::NodeNames;
 use sched_core::Scheduler;
 use sched_defs::{Ending, Halt, Packets};
+use tap_core::{Tap, Watching};
 
 impl<'a, C: Scheduler + Drop, N: NodeNames> Run<'a, C, N> {
     ghost use Rattle.std.specs.Prelude.{◌≡◌, ◌≤◌, ◌<◌, ◌+◌, ◌^◌, ℕ, [], ◌∷◌, None, IsTrue, IfErr, IfOk, IfNone, OnOk, OnErr};
@@ -17,13 +19,15 @@ impl<'a, C: Scheduler + Drop, N: NodeNames> Run<'a, C, N> {
     ghost use Rattle.sched_run.specs.Frames.{IsSet, Continues, Stand, KeepsPackets, IsFurther};
     ghost use Rattle.sched_defs.specs.Script.{Rest, step_events};
     ghost use Rattle.sched_run.specs.Stages.{stage_of, HasRoomFor, AreNext, Makes, Stops};
+    ghost use Rattle.tap_core.specs.Watching.{sight_of, AreNoMore};
     ghost use Rattle.sched_run.specs.Turns.{Arrives, ArrivalsStop, Turns, StopsAmid, GoesOn};
 
-    /// Makes the arrival of a packet, with its line, and counts it.
-    pub(crate) fn admit<K: Sink>(
+    /// Makes the arrival of a packet, with its line, counts it, and shows it to the taps that watch.
+    pub(crate) fn admit<K: Sink, T: Tap>(
         &mut self,
         under: &mut C::Under,
         sink: &mut K,
+        watch: &mut Watching<T>,
         packet: &Packet,
     ) -> Result<(), Stop>
         requires set { IsSet C.Scheduler N.policy self.old }
@@ -34,14 +38,17 @@ impl<'a, C: Scheduler + Drop, N: NodeNames> Run<'a, C, N> {
 
         ensures ok { OnOk result ((given : ℕ) → AreNext (C.policy self.old.scheduler) given (packet.now ∷ []) →
             Makes C.Scheduler (C.policy self.old.scheduler) (Arrive packet.now ∷ [])
-            (stage_of self.old under.old (K.written sink.old) given) (stage_of self.new under.new (K.written sink.new) (given + 1))) }
+            (stage_of self.old under.old (K.written sink.old) given (sight_of T.kind_of T.state_of watch.old))
+            (stage_of self.new under.new (K.written sink.new) (given + 1) (sight_of T.kind_of T.state_of watch.new))) }
         ensures err { OnErr result ((given : ℕ) → AreNext (C.policy self.old.scheduler) given (packet.now ∷ []) →
             Stops C.Scheduler (C.policy self.old.scheduler) (Arrive packet.now ∷ [])
-            (stage_of self.old under.old (K.written sink.old) given) self.new.scheduler under.new (K.written sink.new)) }
+            (stage_of self.old under.old (K.written sink.old) given
+            (sight_of T.kind_of T.state_of watch.old)) self.new.scheduler under.new (K.written sink.new)) }
         ensures came { OnOk result (self.new.tally.came ≡ self.old.tally.came + 1) }
         ensures came_stays { OnErr result (self.new.tally.came ≡ self.old.tally.came) }
         ensures asked { self.new.tally.asked ≡ self.old.tally.asked }
         ensures kept { Continues C.Scheduler self.old self.new }
+        ensures fewer { AreNoMore (sight_of T.kind_of T.state_of watch.old) (sight_of T.kind_of T.state_of watch.new) }
         ensures kept_sink { KeepsSink K.written K.faults sink.old sink.new }
         ensures cause { IfErr result (λ stop. HasSinkCause stop K.faults sink.old sink.new) }
         ensures live { OnOk result (IsTrue self.new.report.live) }
@@ -49,14 +56,16 @@ impl<'a, C: Scheduler + Drop, N: NodeNames> Run<'a, C, N> {
         let event = self.tally.event();
         let arrival = self.arrive_line(under, sink, event, packet)?;
         self.tally.count(arrival);
+        show_arrival(watch, packet, arrival);
         Ok(())
     }
 
     /// Makes the arrival of the next packet, with its line. Where none is left, the answer is how a run ends that asks for one.
-    pub(crate) fn arrive_next<P: Packets, K: Sink>(
+    pub(crate) fn arrive_next<P: Packets, K: Sink, T: Tap>(
         &mut self,
         under: &mut C::Under,
         sink: &mut K,
+        watch: &mut Watching<T>,
         packets: &mut P,
         source: &mut P::Source,
     ) -> Result<Option<Ending>, Stop>
@@ -68,11 +77,15 @@ impl<'a, C: Scheduler + Drop, N: NodeNames> Run<'a, C, N> {
 
         ensures ok { IfOk result (λ e. Arrives C.Scheduler (C.policy self.old.scheduler) 1 e
             (P.left packets.old source.old) (P.left packets.new source.new)
-            (stage_of self.old under.old (K.written sink.old) (P.given packets.old))
-            (stage_of self.new under.new (K.written sink.new) (P.given packets.new))) }
+            (stage_of self.old under.old (K.written sink.old) (P.given packets.old)
+            (sight_of T.kind_of T.state_of watch.old))
+            (stage_of self.new under.new (K.written sink.new) (P.given packets.new)
+            (sight_of T.kind_of T.state_of watch.new))) }
         ensures err { OnErr result (ArrivalsStop C.Scheduler (C.policy self.old.scheduler) 1 (P.left packets.old source.old)
-            (stage_of self.old under.old (K.written sink.old) (P.given packets.old)) self.new.scheduler under.new (K.written sink.new)) }
+            (stage_of self.old under.old (K.written sink.old) (P.given packets.old)
+            (sight_of T.kind_of T.state_of watch.old)) self.new.scheduler under.new (K.written sink.new)) }
         ensures kept { Continues C.Scheduler self.old self.new }
+        ensures fewer { AreNoMore (sight_of T.kind_of T.state_of watch.old) (sight_of T.kind_of T.state_of watch.new) }
         ensures kept_sink { KeepsSink K.written K.faults sink.old sink.new }
         ensures kept_packets { KeepsPackets P.Packets packets.old packets.new source.old source.new }
         ensures cause { IfErr result (λ stop. HasCause stop P.faults source.old source.new K.faults sink.old sink.new) }
@@ -83,7 +96,7 @@ impl<'a, C: Scheduler + Drop, N: NodeNames> Run<'a, C, N> {
     {
         match packets.next(source) {
             Ok(Some(packet)) => {
-                self.admit(under, sink, &packet)?;
+                self.admit(under, sink, watch, &packet)?;
                 Ok(None)
             }
             Ok(None) => Ok(Some(Ending::PastLast(self.tally.event()))),
@@ -95,10 +108,11 @@ impl<'a, C: Scheduler + Drop, N: NodeNames> Run<'a, C, N> {
 
     /// Makes the arrivals of the next packets, each with its line. Where fewer are left, the answer is how a run ends that asks
     /// for one more.
-    pub(crate) fn arrive_some<P: Packets, K: Sink>(
+    pub(crate) fn arrive_some<P: Packets, K: Sink, T: Tap>(
         &mut self,
         under: &mut C::Under,
         sink: &mut K,
+        watch: &mut Watching<T>,
         packets: &mut P,
         source: &mut P::Source,
         count: u64,
@@ -111,11 +125,15 @@ impl<'a, C: Scheduler + Drop, N: NodeNames> Run<'a, C, N> {
 
         ensures ok { IfOk result (λ e. Arrives C.Scheduler (C.policy self.old.scheduler) count e
             (P.left packets.old source.old) (P.left packets.new source.new)
-            (stage_of self.old under.old (K.written sink.old) (P.given packets.old))
-            (stage_of self.new under.new (K.written sink.new) (P.given packets.new))) }
+            (stage_of self.old under.old (K.written sink.old) (P.given packets.old)
+            (sight_of T.kind_of T.state_of watch.old))
+            (stage_of self.new under.new (K.written sink.new) (P.given packets.new)
+            (sight_of T.kind_of T.state_of watch.new))) }
         ensures err { OnErr result (ArrivalsStop C.Scheduler (C.policy self.old.scheduler) count (P.left packets.old source.old)
-            (stage_of self.old under.old (K.written sink.old) (P.given packets.old)) self.new.scheduler under.new (K.written sink.new)) }
+            (stage_of self.old under.old (K.written sink.old) (P.given packets.old)
+            (sight_of T.kind_of T.state_of watch.old)) self.new.scheduler under.new (K.written sink.new)) }
         ensures kept { Continues C.Scheduler self.old self.new }
+        ensures fewer { AreNoMore (sight_of T.kind_of T.state_of watch.old) (sight_of T.kind_of T.state_of watch.new) }
         ensures kept_sink { KeepsSink K.written K.faults sink.old sink.new }
         ensures kept_packets { KeepsPackets P.Packets packets.old packets.new source.old source.new }
         ensures cause { IfErr result (λ stop. HasCause stop P.faults source.old source.new K.faults sink.old sink.new) }
@@ -125,7 +143,7 @@ impl<'a, C: Scheduler + Drop, N: NodeNames> Run<'a, C, N> {
         ensures live { OnOk result (IsTrue self.new.report.live) }
     {
         for _sent in 0..count {
-            let ending = self.arrive_next(under, sink, packets, source)?;
+            let ending = self.arrive_next(under, sink, watch, packets, source)?;
             if ending.is_some() {
                 return Ok(ending);
             }
@@ -135,10 +153,11 @@ impl<'a, C: Scheduler + Drop, N: NodeNames> Run<'a, C, N> {
 
     /// Makes the arrivals of all packets that are left, each with its line. The answer is how the capture's fault ends the run,
     /// if it has one.
-    pub(crate) fn arrive_rest<P: Packets, K: Sink>(
+    pub(crate) fn arrive_rest<P: Packets, K: Sink, T: Tap>(
         &mut self,
         under: &mut C::Under,
         sink: &mut K,
+        watch: &mut Watching<T>,
         packets: &mut P,
         source: &mut P::Source,
     ) -> Result<Option<Ending>, Stop>
@@ -150,12 +169,16 @@ impl<'a, C: Scheduler + Drop, N: NodeNames> Run<'a, C, N> {
 
         ensures ok { IfOk result (λ e. Turns C.Scheduler (C.policy self.old.scheduler) Rest e
             (P.left packets.old source.old) (P.left packets.new source.new)
-            (stage_of self.old under.old (K.written sink.old) (P.given packets.old))
-            (stage_of self.new under.new (K.written sink.new) (P.given packets.new))) }
+            (stage_of self.old under.old (K.written sink.old) (P.given packets.old)
+            (sight_of T.kind_of T.state_of watch.old))
+            (stage_of self.new under.new (K.written sink.new) (P.given packets.new)
+            (sight_of T.kind_of T.state_of watch.new))) }
         ensures err { OnErr result (StopsAmid C.Scheduler (C.policy self.old.scheduler) (λ l s. step_events Rest l.packets s)
             (P.left packets.old source.old)
-            (stage_of self.old under.old (K.written sink.old) (P.given packets.old)) self.new.scheduler under.new (K.written sink.new)) }
+            (stage_of self.old under.old (K.written sink.old) (P.given packets.old)
+            (sight_of T.kind_of T.state_of watch.old)) self.new.scheduler under.new (K.written sink.new)) }
         ensures kept { Continues C.Scheduler self.old self.new }
+        ensures fewer { AreNoMore (sight_of T.kind_of T.state_of watch.old) (sight_of T.kind_of T.state_of watch.new) }
         ensures kept_sink { KeepsSink K.written K.faults sink.old sink.new }
         ensures kept_packets { KeepsPackets P.Packets packets.old packets.new source.old source.new }
         ensures cause { IfErr result (λ stop. HasCause stop P.faults source.old source.new K.faults sink.old sink.new) }
@@ -165,7 +188,7 @@ impl<'a, C: Scheduler + Drop, N: NodeNames> Run<'a, C, N> {
         ensures live { OnOk result (IsTrue self.new.report.live) }
     {
         loop {
-            let ending = self.arrive_next(under, sink, packets, source)?;
+            let ending = self.arrive_next(under, sink, watch, packets, source)?;
             if let Some(ending) = ending {
                 return Ok(ending.at_fault());
             }

@@ -17,6 +17,7 @@ use policy_defs::NodeNames;
 use report_core::{FaultKind, Report, WriteFault};
 use sched_core::Scheduler;
 use sched_defs::{Ending, Halt, PAST_LAST, Packets};
+use tap_core::{Tap, Watching};
 
 /// Reads the packets that are left, and answers how the run ends behind them.
 fn count_unsent<P: Packets>(packets: &mut P, source: &mut P::Source) -> Result<Ending, Stop>
@@ -99,14 +100,18 @@ impl<'a, C: Scheduler + Drop, N: NodeNames> Run<'a, C, N> {
     ghost use Rattle.sched_run.specs.Frames.{IsSet, Continues, Stand, KeepsPackets};
     ghost use Rattle.sched_run.specs.Stages.{stage_of, event_of, IsFresh, CanBegin, HasRoomFor};
     ghost use Rattle.sched_run.specs.Turns.{StopsAmid};
+    ghost use Rattle.tap_core.specs.Watching.{sight_of, Shows, AreNoMore};
+    ghost use Rattle.sched_defs.specs.Events.{outcomes};
+    ghost use Rattle.sched_run.specs.Shown.{shown_in};
     ghost use Rattle.sched_run.specs.Courses.{script_agenda, course_of, Courses, OnCourse, Runs, Breaks};
     ghost use Rattle.sched_run.specs.Steps.{IsBounded, CanEndSo};
 
     /// Makes the events of a script, each with its line, up to its end or to where no more packets come.
-    fn play_steps<P: Packets, K: Sink>(
+    fn play_steps<P: Packets, K: Sink, T: Tap>(
         &mut self,
         under: &mut C::Under,
         sink: &mut K,
+        watch: &mut Watching<T>,
         packets: &mut P,
         source: &mut P::Source,
         steps: &[Step],
@@ -121,12 +126,16 @@ impl<'a, C: Scheduler + Drop, N: NodeNames> Run<'a, C, N> {
 
         ensures ok { IfOk result (λ e. Courses C.Scheduler (C.policy self.old.scheduler)
             (script_agenda (C.policy self.old.scheduler) steps.now) e (P.left packets.old source.old)
-            (stage_of self.old under.old (K.written sink.old) (P.given packets.old))
-            (stage_of self.new under.new (K.written sink.new) (P.given packets.new))) }
+            (stage_of self.old under.old (K.written sink.old) (P.given packets.old)
+            (sight_of T.kind_of T.state_of watch.old))
+            (stage_of self.new under.new (K.written sink.new) (P.given packets.new)
+            (sight_of T.kind_of T.state_of watch.new))) }
         ensures err { OnErr result (StopsAmid C.Scheduler (C.policy self.old.scheduler)
             (λ l s. (script_agenda (C.policy self.old.scheduler) steps.now l s (event_of self.old.tally)).events) (P.left packets.old source.old)
-            (stage_of self.old under.old (K.written sink.old) (P.given packets.old)) self.new.scheduler under.new (K.written sink.new)) }
+            (stage_of self.old under.old (K.written sink.old) (P.given packets.old)
+            (sight_of T.kind_of T.state_of watch.old)) self.new.scheduler under.new (K.written sink.new)) }
         ensures kept { Continues C.Scheduler self.old self.new }
+        ensures fewer { AreNoMore (sight_of T.kind_of T.state_of watch.old) (sight_of T.kind_of T.state_of watch.new) }
         ensures kept_sink { KeepsSink K.written K.faults sink.old sink.new }
         ensures kept_packets { KeepsPackets P.Packets packets.old packets.new source.old source.new }
         ensures cause { IfErr result (λ stop. HasCause stop P.faults source.old source.new K.faults sink.old sink.new) }
@@ -134,7 +143,7 @@ impl<'a, C: Scheduler + Drop, N: NodeNames> Run<'a, C, N> {
         ensures live { OnOk result (IsTrue self.new.report.live) }
     {
         for step in steps {
-            let ending = self.play_step(under, sink, packets, source, *step)?;
+            let ending = self.play_step(under, sink, watch, packets, source, *step)?;
             if let Some(ending) = ending {
                 return Ok(ending);
             }
@@ -142,12 +151,14 @@ impl<'a, C: Scheduler + Drop, N: NodeNames> Run<'a, C, N> {
         count_unsent(packets, source)
     }
 
-    /// Makes the events of a run over the packets that come, each with its line, and writes the report to its end. The answer
-    /// is how the run ended; where it stops, the text is cut short.
-    pub fn play<P: Packets, K: Sink>(
+    /// Makes the events of a run over the packets that come, each with its line, shows each departure and each drop to the
+    /// taps that watch, and writes the report to its end. The answer is how the run ended; where it stops, the text is cut
+    /// short.
+    pub fn play<P: Packets, K: Sink, T: Tap>(
         &mut self,
         under: &mut C::Under,
         sink: &mut K,
+        watch: &mut Watching<T>,
         packets: &mut P,
         source: &mut P::Source,
         pace: Pace<'_>,
@@ -171,7 +182,13 @@ impl<'a, C: Scheduler + Drop, N: NodeNames> Run<'a, C, N> {
             (P.given packets.old) (P.left packets.old source.old) (course_of (C.policy self.old.scheduler) pace.entry) (λ s run.
             Breaks C.Scheduler (C.policy self.old.scheduler) run s self.old.scheduler under.old self.new.scheduler under.new
             (text_of (K.written sink.old) self.old.report) (K.written sink.new))) }
+        ensures watched { OnOk result (OnCourse C.stands (C.policy self.old.scheduler) self.old.scheduler under.old
+            (P.given packets.old) (P.left packets.old source.old)
+            (course_of (C.policy self.old.scheduler) pace.entry) (λ s run.
+            Shows (shown_in (C.policy self.old.scheduler) (outcomes (C.policy self.old.scheduler) run.events s))
+            (sight_of T.kind_of T.state_of watch.old) (sight_of T.kind_of T.state_of watch.new))) }
         ensures kept { Continues C.Scheduler self.old self.new }
+        ensures fewer { AreNoMore (sight_of T.kind_of T.state_of watch.old) (sight_of T.kind_of T.state_of watch.new) }
         ensures kept_sink { KeepsSink K.written K.faults sink.old sink.new }
         ensures kept_packets { KeepsPackets P.Packets packets.old packets.new source.old source.new }
         ensures cause { IfErr result (λ stop. HasCause stop P.faults source.old source.new K.faults sink.old sink.new) }
@@ -181,7 +198,7 @@ impl<'a, C: Scheduler + Drop, N: NodeNames> Run<'a, C, N> {
     {
         let first = self.scheduler.held();
         self.tally = Tally::new();
-        let ending = self.play_events(under, sink, packets, source, pace)?;
+        let ending = self.play_events(under, sink, watch, packets, source, pace)?;
         let held = self.scheduler.held();
         let totals = self.tally.totals(first, held, self.version);
         close(&mut self.report, sink, ending, totals)?;
@@ -189,10 +206,11 @@ impl<'a, C: Scheduler + Drop, N: NodeNames> Run<'a, C, N> {
     }
 
     /// Makes the events of a run, each with its line, up to its end or to where no more packets come.
-    fn play_events<P: Packets, K: Sink>(
+    fn play_events<P: Packets, K: Sink, T: Tap>(
         &mut self,
         under: &mut C::Under,
         sink: &mut K,
+        watch: &mut Watching<T>,
         packets: &mut P,
         source: &mut P::Source,
         pace: Pace<'_>,
@@ -207,12 +225,16 @@ impl<'a, C: Scheduler + Drop, N: NodeNames> Run<'a, C, N> {
 
         ensures ok { IfOk result (λ e. Courses C.Scheduler (C.policy self.old.scheduler)
             (course_of (C.policy self.old.scheduler) pace.entry) e (P.left packets.old source.old)
-            (stage_of self.old under.old (K.written sink.old) (P.given packets.old))
-            (stage_of self.new under.new (K.written sink.new) (P.given packets.new))) }
+            (stage_of self.old under.old (K.written sink.old) (P.given packets.old)
+            (sight_of T.kind_of T.state_of watch.old))
+            (stage_of self.new under.new (K.written sink.new) (P.given packets.new)
+            (sight_of T.kind_of T.state_of watch.new))) }
         ensures err { OnErr result (StopsAmid C.Scheduler (C.policy self.old.scheduler)
             (λ l s. (course_of (C.policy self.old.scheduler) pace.entry l s (event_of self.old.tally)).events) (P.left packets.old source.old)
-            (stage_of self.old under.old (K.written sink.old) (P.given packets.old)) self.new.scheduler under.new (K.written sink.new)) }
+            (stage_of self.old under.old (K.written sink.old) (P.given packets.old)
+            (sight_of T.kind_of T.state_of watch.old)) self.new.scheduler under.new (K.written sink.new)) }
         ensures kept { Continues C.Scheduler self.old self.new }
+        ensures fewer { AreNoMore (sight_of T.kind_of T.state_of watch.old) (sight_of T.kind_of T.state_of watch.new) }
         ensures kept_sink { KeepsSink K.written K.faults sink.old sink.new }
         ensures kept_packets { KeepsPackets P.Packets packets.old packets.new source.old source.new }
         ensures cause { IfErr result (λ stop. HasCause stop P.faults source.old source.new K.faults sink.old sink.new) }
@@ -221,8 +243,8 @@ impl<'a, C: Scheduler + Drop, N: NodeNames> Run<'a, C, N> {
         ensures live { OnOk result (IsTrue self.new.report.live) }
     {
         match pace {
-            Pace::Script(steps) => self.play_steps(under, sink, packets, source, steps),
-            Pace::Link(rate) => self.play_link(under, sink, packets, source, rate),
+            Pace::Script(steps) => self.play_steps(under, sink, watch, packets, source, steps),
+            Pace::Link(rate) => self.play_link(under, sink, watch, packets, source, rate),
         }
     }
 }

@@ -1,5 +1,5 @@
-//! A run: the course of a script or of a link over packets that come one by one, by any scheduler, with its report. Begin with
-//! specs/Courses.antt.
+//! A run: the course of a script or of a link over packets that come one by one, by any scheduler, with its report, and shown
+//! to the taps that watch. Begin with specs/Courses.antt.
 #![tactic(auto)]
 
 mod arrivals;
@@ -9,6 +9,7 @@ mod lines;
 mod link;
 mod pace;
 mod run;
+mod shown;
 mod steps;
 mod tally;
 

@@ -1,5 +1,5 @@
-//! One event with its line of the report, and departures in a row.
-ghost use Rattle.std.specs.Prelude.{◌≡◌, ◌<◌, ◌≤◌, ◌+◌, ◌^◌, ◌↔◌, [], ◌∷◌, replicate, None, option_map, IsNone, IsTrue, IfErr, IfOk, OnOk, OnErr, IfSome, IfNone};
+//! One event with its line of the report.
+ghost use Rattle.std.specs.Prelude.{◌≡◌, ◌<◌, ◌≤◌, ◌+◌, ◌^◌, ◌↔◌, None, option_map, IsNone, IsTrue, IfErr, IfOk, OnOk, OnErr, IfSome, IfNone};
 ghost use Rattle.outside_core.specs.Faults.{Rose};
 ghost use Rattle.outside_core.specs.Kept.{KeepsSink, HasSinkCause};
 ghost use Rattle.report_core.specs.Gathered.{text_of, Tells, CutsOff};
@@ -13,11 +13,13 @@ ghost use Rattle.sched_core.specs.Departures.{departed_packet, IsTaken};
 ghost use Rattle.sched_run.specs.Played.{AsksOnce, line_of};
 
 use crate::run::Run;
+use crate::shown::show_departure;
 use outside_core::{Sink, Stop};
 use packet_defs::{Departed, Packet};
 use policy_defs::NodeNames;
 use report_core::{Report, WriteFault};
 use sched_core::{Arrival, Scheduler};
+use tap_core::{Tap, Watching};
 use tree_core::Taken;
 
 /// A departure that is to be made: the number of its event, and the moment at which it starts, in nanoseconds, where a link
@@ -123,14 +125,16 @@ pub fn depart_line<C: Scheduler, N: NodeNames, K: Sink>(
 }
 
 impl<'a, C: Scheduler + Drop, N: NodeNames> Run<'a, C, N> {
-    ghost use Rattle.std.specs.Prelude.{◌≡◌, ◌<◌, ◌+◌, ◌^◌, [], ◌∷◌, replicate, None, IsTrue, IfErr, IfOk, OnOk, OnErr};
-    ghost use Rattle.outside_core.specs.Faults.{Rose};
+    ghost use Rattle.std.specs.Prelude.{◌≡◌, ◌<◌, ◌+◌, ◌^◌, ℕ, [], ◌∷◌, IsTrue, IfErr, IfOk, OnOk, OnErr};
     ghost use Rattle.outside_core.specs.Kept.{KeepsSink, HasSinkCause};
     ghost use Rattle.report_core.specs.Gathered.{text_of};
     ghost use Rattle.sched_defs.specs.Events.{Arrive, Depart, CanArrive};
     ghost use Rattle.sched_core.specs.Arrivals.{arrival_of};
+    ghost use Rattle.sched_core.specs.Departures.{next_departed};
     ghost use Rattle.sched_run.specs.Frames.{IsSet, Continues, Stand, FromAll};
     ghost use Rattle.sched_run.specs.Played.{Plays, StopsIn};
+    ghost use Rattle.sched_run.specs.Stages.{stage_of, Makes, Stops};
+    ghost use Rattle.tap_core.specs.Watching.{sight_of, AreNoMore};
 
     /// Makes an arrival, and writes its line. The answer is what became of the packet.
     pub(crate) fn arrive_line<K: Sink>(
@@ -173,42 +177,49 @@ impl<'a, C: Scheduler + Drop, N: NodeNames> Run<'a, C, N> {
         Ok(arrival)
     }
 
-    /// Makes departures, each with its line. Takes no memory.
-    pub(crate) fn depart_lines<K: Sink>(
+    /// Makes a departure, which starts at a moment where a link paces it, with its line, counts it, and shows it to the taps
+    /// that watch. The error can be want of memory for the line of a tap that is done.
+    pub(crate) fn depart_next<K: Sink, T: Tap>(
         &mut self,
         under: &mut C::Under,
         sink: &mut K,
-        event: u64,
-        count: u64,
-    ) -> Result<(), WriteFault>
+        watch: &mut Watching<T>,
+        start: Option<u128>,
+    ) -> Result<Option<Departed>, Stop>
         requires set { IsSet C.Scheduler N.policy self.old }
         requires stands { Stand C.Scheduler self.old under.old (λ _. Unit {0}) }
-        requires few { C.departures self.old.scheduler + count < 2 ^ 61 }
-        requires events { event + count < 2 ^ 62 }
+        requires few { C.departures self.old.scheduler < 2 ^ 61 }
+        requires events { self.old.tally.came + self.old.tally.asked < 2 ^ 62 }
 
-        ensures ok { OnOk result (FromAll C.Scheduler self.old under.old (λ s.
-            Plays C.Scheduler (C.policy self.old.scheduler) event (replicate count (Depart None)) s self.old.scheduler under.old
-            self.new.scheduler under.new (text_of (K.written sink.old) self.old.report) (text_of (K.written sink.new) self.new.report))) }
-        ensures err { OnErr result (FromAll C.Scheduler self.old under.old (λ s.
-            StopsIn C.Scheduler (C.policy self.old.scheduler) event (replicate count (Depart None)) s self.old.scheduler under.old
-            self.new.scheduler under.new (text_of (K.written sink.old) self.old.report) (K.written sink.new))) }
+        ensures ok { OnOk result ((given : ℕ) → Makes C.Scheduler (C.policy self.old.scheduler) (Depart start ∷ [])
+            (stage_of self.old under.old (K.written sink.old) given (sight_of T.kind_of T.state_of watch.old))
+            (stage_of self.new under.new (K.written sink.new) given (sight_of T.kind_of T.state_of watch.new))) }
+        ensures err { OnErr result ((given : ℕ) → Stops C.Scheduler (C.policy self.old.scheduler) (Depart start ∷ [])
+            (stage_of self.old under.old (K.written sink.old) given
+            (sight_of T.kind_of T.state_of watch.old)) self.new.scheduler under.new (K.written sink.new)) }
+        ensures value { IfOk result (λ d. FromAll C.Scheduler self.old under.old (λ s.
+            d ≡ next_departed (C.policy self.old.scheduler) s)) }
+        ensures came { self.new.tally.came ≡ self.old.tally.came }
+        ensures dropped { self.new.tally.dropped ≡ self.old.tally.dropped }
+        ensures asked { OnOk result (self.new.tally.asked ≡ self.old.tally.asked + 1) }
         ensures kept { Continues C.Scheduler self.old self.new }
+        ensures fewer { AreNoMore (sight_of T.kind_of T.state_of watch.old) (sight_of T.kind_of T.state_of watch.new) }
         ensures kept_sink { KeepsSink K.written K.faults sink.old sink.new }
-        ensures cause { OnErr result (Rose (K.faults sink.old) (K.faults sink.new)) }
+        ensures cause { IfErr result (λ stop. HasSinkCause stop K.faults sink.old sink.new) }
         ensures live { OnOk result (IsTrue self.new.report.live) }
-        ensures tally { self.new.tally ≡ self.old.tally }
     {
-        for done in 0..count {
-            depart_line(
-                self.names,
-                &mut self.scheduler,
-                under,
-                &mut self.trace,
-                &mut self.report,
-                sink,
-                event + done,
-            )?;
-        }
-        Ok(())
+        let event = self.tally.event();
+        let departed = depart_at(
+            self.names,
+            &mut self.scheduler,
+            under,
+            &mut self.trace,
+            &mut self.report,
+            sink,
+            Departure { event, start },
+        )?;
+        self.tally.asked += 1;
+        show_departure(watch, departed)?;
+        Ok(departed)
     }
 }

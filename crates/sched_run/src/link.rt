@@ -3,15 +3,14 @@ ghost use Rattle.std.specs.Prelude.{◌≡◌, ◌≤◌, ◌<◌, ◌+◌, ◌^
 ghost use Rattle.link_defs.specs.Link.{IsRate, send_time};
 ghost use Rattle.sched_defs.specs.Link.{is_due};
 
-use crate::lines::{Departure, depart_at};
 use crate::run::Run;
 use events_core::Link;
 use outside_core::{Sink, Stop};
 use packet_defs::{Departed, Packet};
 use policy_defs::NodeNames;
-use report_core::WriteFault;
 use sched_core::Scheduler;
 use sched_defs::{Ending, Halt, Packets};
+use tap_core::{Tap, Watching};
 
 /// Whether a departure is due before a moment, where there is one.
 fn is_due(link: &Link, until: Option<u64>) -> bool
@@ -46,72 +45,31 @@ fn idle_at(link: &mut Link, held: u64, moment: u64)
 }
 
 impl<'a, C: Scheduler + Drop, N: NodeNames> Run<'a, C, N> {
-    ghost use Rattle.std.specs.Prelude.{◌≡◌, ◌≤◌, ◌<◌, ◌+◌, ◌^◌, ℕ, [], ◌∷◌, IsTrue, IfErr, IfOk, OnOk, OnErr};
-    ghost use Rattle.outside_core.specs.Faults.{Rose};
+    ghost use Rattle.std.specs.Prelude.{◌≡◌, ◌≤◌, ◌<◌, ◌+◌, ◌^◌, ℕ, IsTrue, IfErr, IfOk, OnOk, OnErr};
     ghost use Rattle.outside_core.specs.Kept.{KeepsSink, HasCause, HasSinkCause};
     ghost use Rattle.link_defs.specs.Link.{IsRate};
     ghost use Rattle.tree_defs.specs.SourceTree.{size};
-    ghost use Rattle.sched_defs.specs.Events.{Depart};
     ghost use Rattle.sched_defs.specs.Link.{send_until, link_turn};
     ghost use Rattle.sched_defs.specs.Numbered.{IsSendable, IsHeldBelow};
     ghost use Rattle.sched_defs.specs.Packets.{most_packets};
-    ghost use Rattle.sched_core.specs.Departures.{next_departed};
-    ghost use Rattle.sched_run.specs.Frames.{IsSet, Continues, Stand, FromAll, KeepsPackets};
-    ghost use Rattle.sched_run.specs.Stages.{stage_of, event_of, IsFresh, CanBegin, HasRoomFor, Makes, Stops};
+    ghost use Rattle.sched_run.specs.Frames.{IsSet, Continues, Stand, KeepsPackets};
+    ghost use Rattle.sched_run.specs.Stages.{stage_of, event_of, IsFresh, CanBegin, HasRoomFor};
     ghost use Rattle.sched_run.specs.Turns.{StopsAmid};
+    ghost use Rattle.tap_core.specs.Watching.{sight_of, AreNoMore};
     ghost use Rattle.sched_run.specs.Links.{Sends, SendsAmid, IsEarly, CanSend, HasRoomToSend};
     ghost use Rattle.sched_run.specs.Steps.{IsNoPastLast};
     ghost use Rattle.sched_run.specs.Courses.{link_agenda, Courses};
 
-    /// Makes a departure that starts at a moment, with its line, and counts it. Takes no memory.
-    fn depart_next<K: Sink>(
+    /// Sends what is held as long as the link is free before a moment, or all of it where there is none.
+    fn send_until<K: Sink, T: Tap>(
         &mut self,
         under: &mut C::Under,
         sink: &mut K,
-        start: Option<u128>,
-    ) -> Result<Option<Departed>, WriteFault>
-        requires set { IsSet C.Scheduler N.policy self.old }
-        requires stands { Stand C.Scheduler self.old under.old (λ _. Unit {0}) }
-        requires few { C.departures self.old.scheduler < 2 ^ 61 }
-        requires events { self.old.tally.came + self.old.tally.asked < 2 ^ 62 }
-
-        ensures ok { OnOk result ((given : ℕ) → Makes C.Scheduler (C.policy self.old.scheduler) (Depart start ∷ [])
-            (stage_of self.old under.old (K.written sink.old) given) (stage_of self.new under.new (K.written sink.new) given)) }
-        ensures err { OnErr result ((given : ℕ) → Stops C.Scheduler (C.policy self.old.scheduler) (Depart start ∷ [])
-            (stage_of self.old under.old (K.written sink.old) given) self.new.scheduler under.new (K.written sink.new)) }
-        ensures value { IfOk result (λ d. FromAll C.Scheduler self.old under.old (λ s.
-            d ≡ next_departed (C.policy self.old.scheduler) s)) }
-        ensures came { self.new.tally.came ≡ self.old.tally.came }
-        ensures dropped { self.new.tally.dropped ≡ self.old.tally.dropped }
-        ensures asked { OnOk result (self.new.tally.asked ≡ self.old.tally.asked + 1) }
-        ensures kept { Continues C.Scheduler self.old self.new }
-        ensures kept_sink { KeepsSink K.written K.faults sink.old sink.new }
-        ensures cause { OnErr result (Rose (K.faults sink.old) (K.faults sink.new)) }
-        ensures live { OnOk result (IsTrue self.new.report.live) }
-    {
-        let event = self.tally.event();
-        let departed = depart_at(
-            self.names,
-            &mut self.scheduler,
-            under,
-            &mut self.trace,
-            &mut self.report,
-            sink,
-            Departure { event, start },
-        )?;
-        self.tally.asked += 1;
-        Ok(departed)
-    }
-
-    /// Sends what is held as long as the link is free before a moment, or all of it where there is none. Takes no memory.
-    fn send_until<K: Sink>(
-        &mut self,
-        under: &mut C::Under,
-        sink: &mut K,
+        watch: &mut Watching<T>,
         link: &mut Link,
         rate: u64,
         until: Option<u64>,
-    ) -> Result<(), WriteFault>
+    ) -> Result<(), Stop>
         requires set { IsSet C.Scheduler N.policy self.old }
         requires stands { Stand C.Scheduler self.old under.old (CanSend self.old.tally) }
         requires counts { HasRoomToSend (C.departures self.old.scheduler) self.old.tally }
@@ -120,17 +78,20 @@ impl<'a, C: Scheduler + Drop, N: NodeNames> Run<'a, C, N> {
 
         ensures ok { OnOk result ((given : ℕ) → Sends C.Scheduler (C.policy self.old.scheduler)
             (λ s. send_until (C.policy self.old.scheduler) rate until (size s.tree) s link.old) link.new
-            (stage_of self.old under.old (K.written sink.old) given) (stage_of self.new under.new (K.written sink.new) given)) }
+            (stage_of self.old under.old (K.written sink.old) given (sight_of T.kind_of T.state_of watch.old))
+            (stage_of self.new under.new (K.written sink.new) given (sight_of T.kind_of T.state_of watch.new))) }
         ensures err { OnErr result ((given : ℕ) → SendsAmid C.Scheduler (C.policy self.old.scheduler)
             (λ s. send_until (C.policy self.old.scheduler) rate until (size s.tree) s link.old)
-            (stage_of self.old under.old (K.written sink.old) given) self.new.scheduler under.new (K.written sink.new)) }
+            (stage_of self.old under.old (K.written sink.old) given
+            (sight_of T.kind_of T.state_of watch.old)) self.new.scheduler under.new (K.written sink.new)) }
         ensures early { OnOk result (IsEarly link.new self.new.tally) }
         ensures came { self.new.tally.came ≡ self.old.tally.came }
         ensures dropped { self.new.tally.dropped ≡ self.old.tally.dropped }
         ensures few { OnOk result (self.new.tally.asked ≤ 2 ^ 34) }
         ensures kept { Continues C.Scheduler self.old self.new }
+        ensures fewer { AreNoMore (sight_of T.kind_of T.state_of watch.old) (sight_of T.kind_of T.state_of watch.new) }
         ensures kept_sink { KeepsSink K.written K.faults sink.old sink.new }
-        ensures cause { OnErr result (Rose (K.faults sink.old) (K.faults sink.new)) }
+        ensures cause { IfErr result (λ stop. HasSinkCause stop K.faults sink.old sink.new) }
         ensures live { OnOk result (IsTrue self.new.report.live) }
     {
         let held = self.scheduler.held();
@@ -139,17 +100,18 @@ impl<'a, C: Scheduler + Drop, N: NodeNames> Run<'a, C, N> {
                 return Ok(());
             }
             let start = Some(link.free());
-            let departed = self.depart_next(under, sink, start)?;
+            let departed = self.depart_next(under, sink, watch, start)?;
             take_time(link, departed, rate);
         }
         Ok(())
     }
 
     /// Sends what is due before a packet's moment, and makes the packet's arrival, each with its line.
-    fn arrive_paced<K: Sink>(
+    fn arrive_paced<K: Sink, T: Tap>(
         &mut self,
         under: &mut C::Under,
         sink: &mut K,
+        watch: &mut Watching<T>,
         link: &mut Link,
         rate: u64,
         packet: &Packet,
@@ -166,29 +128,33 @@ impl<'a, C: Scheduler + Drop, N: NodeNames> Run<'a, C, N> {
 
         ensures ok { OnOk result ((given : ℕ) → packet.now.number ≡ given + 1 → Sends C.Scheduler (C.policy self.old.scheduler)
             (λ s. link_turn (C.policy self.old.scheduler) rate packet.now s link.old) link.new
-            (stage_of self.old under.old (K.written sink.old) given) (stage_of self.new under.new (K.written sink.new) (given + 1))) }
+            (stage_of self.old under.old (K.written sink.old) given (sight_of T.kind_of T.state_of watch.old))
+            (stage_of self.new under.new (K.written sink.new) (given + 1) (sight_of T.kind_of T.state_of watch.new))) }
         ensures err { OnErr result ((given : ℕ) → packet.now.number ≡ given + 1 → SendsAmid C.Scheduler (C.policy self.old.scheduler)
             (λ s. link_turn (C.policy self.old.scheduler) rate packet.now s link.old)
-            (stage_of self.old under.old (K.written sink.old) given) self.new.scheduler under.new (K.written sink.new)) }
+            (stage_of self.old under.old (K.written sink.old) given
+            (sight_of T.kind_of T.state_of watch.old)) self.new.scheduler under.new (K.written sink.new)) }
         ensures early { OnOk result (IsEarly link.new self.new.tally) }
         ensures came { OnOk result (self.new.tally.came ≡ self.old.tally.came + 1) }
         ensures came_stays { OnErr result (self.new.tally.came ≡ self.old.tally.came) }
         ensures kept { Continues C.Scheduler self.old self.new }
+        ensures fewer { AreNoMore (sight_of T.kind_of T.state_of watch.old) (sight_of T.kind_of T.state_of watch.new) }
         ensures kept_sink { KeepsSink K.written K.faults sink.old sink.new }
         ensures cause { IfErr result (λ stop. HasSinkCause stop K.faults sink.old sink.new) }
         ensures live { OnOk result (IsTrue self.new.report.live) }
     {
         let moment = self.scheduler.now().max(packet.moment);
-        self.send_until(under, sink, link, rate, Some(moment))?;
+        self.send_until(under, sink, watch, link, rate, Some(moment))?;
         idle_at(link, self.scheduler.held(), moment);
-        self.admit(under, sink, packet)
+        self.admit(under, sink, watch, packet)
     }
 
     /// Makes the events that a link paces over the packets that come, each with its line.
-    pub(crate) fn play_link<P: Packets, K: Sink>(
+    pub(crate) fn play_link<P: Packets, K: Sink, T: Tap>(
         &mut self,
         under: &mut C::Under,
         sink: &mut K,
+        watch: &mut Watching<T>,
         packets: &mut P,
         source: &mut P::Source,
         rate: u64,
@@ -203,12 +169,16 @@ impl<'a, C: Scheduler + Drop, N: NodeNames> Run<'a, C, N> {
 
         ensures ok { IfOk result (λ e. Courses C.Scheduler (C.policy self.old.scheduler)
             (link_agenda (C.policy self.old.scheduler) rate 0) e (P.left packets.old source.old)
-            (stage_of self.old under.old (K.written sink.old) (P.given packets.old))
-            (stage_of self.new under.new (K.written sink.new) (P.given packets.new))) }
+            (stage_of self.old under.old (K.written sink.old) (P.given packets.old)
+            (sight_of T.kind_of T.state_of watch.old))
+            (stage_of self.new under.new (K.written sink.new) (P.given packets.new)
+            (sight_of T.kind_of T.state_of watch.new))) }
         ensures err { OnErr result (StopsAmid C.Scheduler (C.policy self.old.scheduler)
             (λ l s. (link_agenda (C.policy self.old.scheduler) rate 0 l s (event_of self.old.tally)).events) (P.left packets.old source.old)
-            (stage_of self.old under.old (K.written sink.old) (P.given packets.old)) self.new.scheduler under.new (K.written sink.new)) }
+            (stage_of self.old under.old (K.written sink.old) (P.given packets.old)
+            (sight_of T.kind_of T.state_of watch.old)) self.new.scheduler under.new (K.written sink.new)) }
         ensures kept { Continues C.Scheduler self.old self.new }
+        ensures fewer { AreNoMore (sight_of T.kind_of T.state_of watch.old) (sight_of T.kind_of T.state_of watch.new) }
         ensures kept_sink { KeepsSink K.written K.faults sink.old sink.new }
         ensures kept_packets { KeepsPackets P.Packets packets.old packets.new source.old source.new }
         ensures cause { IfErr result (λ stop. HasCause stop P.faults source.old source.new K.faults sink.old sink.new) }
@@ -219,9 +189,11 @@ impl<'a, C: Scheduler + Drop, N: NodeNames> Run<'a, C, N> {
         let mut link = Link::new();
         loop {
             match packets.next(source) {
-                Ok(Some(packet)) => self.arrive_paced(under, sink, &mut link, rate, &packet)?,
+                Ok(Some(packet)) => self.arrive_paced(
+                    under, sink, watch, &mut link, rate, &packet,
+                )?,
                 Ok(None) => {
-                    self.send_until(under, sink, &mut link, rate, None)?;
+                    self.send_until(under, sink, watch, &mut link, rate, None)?;
                     return Ok(Ending::Whole(0));
                 }
                 Err(Halt::Fault(code, place)) => return Ok(Ending::BadCapture(code, place)),

@@ -5,56 +5,61 @@ use crate::run::Run;
 use events_core::Step;
 use outside_core::{Sink, Stop};
 use policy_defs::NodeNames;
-use report_core::WriteFault;
 use sched_core::Scheduler;
 use sched_defs::{Ending, Packets};
+use tap_core::{Tap, Watching};
 
 impl<'a, C: Scheduler + Drop, N: NodeNames> Run<'a, C, N> {
     ghost use Rattle.std.specs.Prelude.{◌≡◌, ◌≤◌, ◌<◌, ◌+◌, ◌^◌, ℕ, replicate, None, IsTrue, IfErr, IfOk, IfNone, OnOk, OnErr};
-    ghost use Rattle.outside_core.specs.Kept.{KeepsSink, HasCause};
+    ghost use Rattle.outside_core.specs.Kept.{KeepsSink, HasCause, HasSinkCause};
     ghost use Rattle.sched_defs.specs.Packets.{most_packets};
     ghost use Rattle.sched_run.specs.Frames.{IsSet, Continues, Stand, KeepsPackets, IsFurther};
-    ghost use Rattle.outside_core.specs.Faults.{Rose};
     ghost use Rattle.events_core.specs.Script.{most_count};
     ghost use Rattle.sched_defs.specs.Events.{Depart};
     ghost use Rattle.sched_defs.specs.Script.{step_events};
     ghost use Rattle.sched_run.specs.Stages.{stage_of, IsReady, HasRoomFor, Makes, Stops};
     ghost use Rattle.sched_run.specs.Steps.{step_of, asked_by};
     ghost use Rattle.sched_run.specs.Turns.{Turns, StopsAmid};
+    ghost use Rattle.tap_core.specs.Watching.{sight_of, AreNoMore};
 
-    /// Makes departures, each with its line. Takes no memory.
-    fn depart_some<K: Sink>(
+    /// Makes departures, each with its line.
+    fn depart_some<K: Sink, T: Tap>(
         &mut self,
         under: &mut C::Under,
         sink: &mut K,
+        watch: &mut Watching<T>,
         count: u64,
-    ) -> Result<(), WriteFault>
+    ) -> Result<(), Stop>
         requires set { IsSet C.Scheduler N.policy self.old }
         requires stands { Stand C.Scheduler self.old under.old (λ _. Unit {0}) }
         requires few { C.departures self.old.scheduler + count < 2 ^ 61 }
         requires events { self.old.tally.came + self.old.tally.asked + count < 2 ^ 61 }
 
         ensures ok { OnOk result ((given : ℕ) → Makes C.Scheduler (C.policy self.old.scheduler) (replicate count (Depart None))
-            (stage_of self.old under.old (K.written sink.old) given) (stage_of self.new under.new (K.written sink.new) given)) }
+            (stage_of self.old under.old (K.written sink.old) given (sight_of T.kind_of T.state_of watch.old))
+            (stage_of self.new under.new (K.written sink.new) given (sight_of T.kind_of T.state_of watch.new))) }
         ensures err { OnErr result ((given : ℕ) → Stops C.Scheduler (C.policy self.old.scheduler) (replicate count (Depart None))
-            (stage_of self.old under.old (K.written sink.old) given) self.new.scheduler under.new (K.written sink.new)) }
+            (stage_of self.old under.old (K.written sink.old) given
+            (sight_of T.kind_of T.state_of watch.old)) self.new.scheduler under.new (K.written sink.new)) }
         ensures came { self.new.tally.came ≡ self.old.tally.came }
         ensures kept { Continues C.Scheduler self.old self.new }
+        ensures fewer { AreNoMore (sight_of T.kind_of T.state_of watch.old) (sight_of T.kind_of T.state_of watch.new) }
         ensures kept_sink { KeepsSink K.written K.faults sink.old sink.new }
-        ensures cause { OnErr result (Rose (K.faults sink.old) (K.faults sink.new)) }
+        ensures cause { IfErr result (λ stop. HasSinkCause stop K.faults sink.old sink.new) }
         ensures live { OnOk result (IsTrue self.new.report.live) }
     {
-        let event = self.tally.event();
-        self.depart_lines(under, sink, event, count)?;
-        self.tally.asked += count;
+        for _made in 0..count {
+            self.depart_next(under, sink, watch, None)?;
+        }
         Ok(())
     }
 
     /// Makes the events of a step, each with its line. The answer is how they end the run, if they do.
-    pub(crate) fn play_step<P: Packets, K: Sink>(
+    pub(crate) fn play_step<P: Packets, K: Sink, T: Tap>(
         &mut self,
         under: &mut C::Under,
         sink: &mut K,
+        watch: &mut Watching<T>,
         packets: &mut P,
         source: &mut P::Source,
         step: Step,
@@ -68,12 +73,16 @@ impl<'a, C: Scheduler + Drop, N: NodeNames> Run<'a, C, N> {
 
         ensures ok { IfOk result (λ e. Turns C.Scheduler (C.policy self.old.scheduler) (step_of step) e
             (P.left packets.old source.old) (P.left packets.new source.new)
-            (stage_of self.old under.old (K.written sink.old) (P.given packets.old))
-            (stage_of self.new under.new (K.written sink.new) (P.given packets.new))) }
+            (stage_of self.old under.old (K.written sink.old) (P.given packets.old)
+            (sight_of T.kind_of T.state_of watch.old))
+            (stage_of self.new under.new (K.written sink.new) (P.given packets.new)
+            (sight_of T.kind_of T.state_of watch.new))) }
         ensures err { OnErr result (StopsAmid C.Scheduler (C.policy self.old.scheduler) (λ l s. step_events (step_of step) l.packets s)
             (P.left packets.old source.old)
-            (stage_of self.old under.old (K.written sink.old) (P.given packets.old)) self.new.scheduler under.new (K.written sink.new)) }
+            (stage_of self.old under.old (K.written sink.old) (P.given packets.old)
+            (sight_of T.kind_of T.state_of watch.old)) self.new.scheduler under.new (K.written sink.new)) }
         ensures kept { Continues C.Scheduler self.old self.new }
+        ensures fewer { AreNoMore (sight_of T.kind_of T.state_of watch.old) (sight_of T.kind_of T.state_of watch.new) }
         ensures kept_sink { KeepsSink K.written K.faults sink.old sink.new }
         ensures kept_packets { KeepsPackets P.Packets packets.old packets.new source.old source.new }
         ensures cause { IfErr result (λ stop. HasCause stop P.faults source.old source.new K.faults sink.old sink.new) }
@@ -83,15 +92,15 @@ impl<'a, C: Scheduler + Drop, N: NodeNames> Run<'a, C, N> {
         ensures live { OnOk result (IsTrue self.new.report.live) }
     {
         match step {
-            Step::Arrive(count) => self.arrive_some(under, sink, packets, source, count),
+            Step::Arrive(count) => self.arrive_some(under, sink, watch, packets, source, count),
             Step::Depart(count) => {
-                self.depart_some(under, sink, count)?;
+                self.depart_some(under, sink, watch, count)?;
                 Ok(None)
             }
-            Step::Rest => self.arrive_rest(under, sink, packets, source),
+            Step::Rest => self.arrive_rest(under, sink, watch, packets, source),
             Step::Drain => {
                 let held = self.scheduler.held();
-                self.depart_some(under, sink, held)?;
+                self.depart_some(under, sink, watch, held)?;
                 Ok(None)
             }
         }

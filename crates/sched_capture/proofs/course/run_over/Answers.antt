@@ -1,4 +1,9 @@
-use Rattle.sched_capture.proofs.FromStart.{stand_at_start, ending_told, text_told, part_told, state_told, amid_told}
+use Rattle.std.proofs.lemmas.Result.{err_from_is_err_and}
+use Rattle.report_core.proofs.WholeTexts.{nothing_written}
+use Rattle.sched_packets.specs.Arrivals.{left_of}
+use Rattle.sched_run.specs.Steps.{pace_of}
+use Rattle.sched_capture.specs.Answers.{answer_of}
+use Rattle.sched_capture.proofs.FromStart.{stand_at_start, ending_told, text_told, part_told, state_told, amid_told, watched_told, unmoved}
 use Rattle.sched_capture.proofs.course.run_over.Goals as goal
 
 pub play-requires-clause-stands : goal.play-requires-clause-stands
@@ -30,3 +35,20 @@ pub returns-clause-amid : goal.returns-clause-amid
 returns-clause-amid g c =
     let r = c.requires in
     amid_told g.C.Scheduler _ c.args.policy.now.policy c.args.pace _ _ _ r.policy (rw r.policy at r.set.accepted) r.stands _ _ _ _ _ _ c.play.ensures.err
+
+pub returns-clause-watched : goal.returns-clause-watched
+returns-clause-watched g c =
+    let r = c.requires in
+    watched_told g.C.Scheduler _ c.args.policy.now.policy c.args.pace _ _ _ r.policy (rw r.policy at r.set.accepted) r.stands _ _ _ _ _ c.in_ok-begin.ensures.begun c.play.ensures.watched
+
+pub returns-in_err-begin-clause-part : goal.returns-in_err-begin-clause-part
+returns-in_err-begin-clause-part g c =
+    let p = err_from_is_err_and c.from_residual.result c.from_residual.ensures.1 in
+    rw (p.1) (nothing_written (left_of c.args.packets.now (g.S.Shelf.left c.args.shelf.now)) (g.K.Sink.written c.args.sink.now)
+    (λ l. (answer_of c.args.policy.now.policy (pace_of c.args.pace) l.packets l.fault).text))
+
+pub returns-in_err-begin-clause-amid : goal.returns-in_err-begin-clause-amid
+returns-in_err-begin-clause-amid g c =
+    let p = err_from_is_err_and c.from_residual.result c.from_residual.ensures.1 in
+    let r = c.requires in
+    rw (p.1) (unmoved g.C.Scheduler _ c.args.policy.now.policy c.args.pace 0 c.args.run.now.scheduler c.args.under.now r.policy (rw r.policy at r.set.accepted) r.stands (left_of c.args.packets.now (g.S.Shelf.left c.args.shelf.now)))

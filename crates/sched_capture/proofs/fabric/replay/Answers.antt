@@ -5,7 +5,7 @@ use Rattle.report_core.proofs.WholeTexts.{nothing_written}
 use Rattle.sched_packets.specs.Arrivals.{left_of}
 use Rattle.sched_run.specs.Steps.{pace_of, IsNoPastLast, CanEndSo}
 use Rattle.sched_capture.specs.Answers.{paced_answer}
-use Rattle.sched_capture.proofs.FileRuns.{can_end, ending_of, text_of_file, part_of_file, sink_rose, source_rose}
+use Rattle.sched_capture.proofs.FileRuns.{can_end, ending_of, text_of_file, part_of_file, watched_of_file, unwatched, sink_rose, source_rose}
 use Rattle.sched_embedded.specs.Embedded.{origin_of}
 use Rattle.sched_embedded.specs.Laid.{Laid}
 use Rattle.sched_run.proofs.JoinedEvents.{raised_nothing}
@@ -97,3 +97,11 @@ returns-clause-sink_cause g c =
 pub returns-clause-source_cause : goal.returns-clause-source_cause
 returns-clause-source_cause g c =
     source_rose g.S.Shelf.faults c.args.shelf.now c.begin.new.shelf c.run_over.new.shelf g.K.Sink.faults c.args.sink.now c.begin.new.sink c.run_over.new.sink c.run_over.result c.in-Ok.ensures.later c.run_over.ensures.cause
+
+pub returns-in-Err-clause-watched : goal.returns-in-Err-clause-watched
+returns-in-Err-clause-watched g c =
+    unwatched c.args.policy.now (pace_of c.args.pace) c.in-Err.answer (g.S.Shelf.left c.args.shelf.now) _ _ _ c.in-Err.ensures.refused
+
+pub returns-clause-watched : goal.returns-clause-watched
+returns-clause-watched g c =
+    watched_of_file c.args.policy.now (pace_of c.args.pace) c.run_over.result (g.S.Shelf.left c.args.shelf.now) (left_of c.in-Ok.packets (g.S.Shelf.left c.begin.new.shelf)) _ _ c.in-Ok.ensures.begins c.run_over.ensures.watched

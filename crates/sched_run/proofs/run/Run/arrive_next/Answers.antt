@@ -2,7 +2,7 @@ use Rattle.std.proofs.Common.{[], ◌∷◌, refl, subst, arith}
 use Rattle.std.proofs.lemmas.Result.{err_from_is_err_and}
 use Rattle.policy_defs.specs.Policy.{Policy}
 use Rattle.sched_defs.specs.Numbered.{IsSendable}
-use Rattle.sched_run.proofs.MadeEvents.{can_arrive, makes_none, stops_here}
+use Rattle.sched_run.proofs.MadeEvents.{can_arrive, makes_none, stops_none}
 use Rattle.sched_run.proofs.PacketsInTurn.{none_first, one_first}
 use Rattle.sched_run.proofs.run.Run.arrive_next.Goals as goal
 
@@ -37,12 +37,20 @@ returns-in_ok-admit-in-Ok-Some-clause-ok g c =
       made = rw given (c.in_ok-admit-in-Ok-Some.ensures.ok _ (record { numbered = (number, tt); sendable = (sendable, tt) }));
     }
 
+pub returns-in-Ok-None-clause-ok : goal.returns-in-Ok-None-clause-ok
+returns-in-Ok-None-clause-ok g c = record {
+  packets = [];
+  count = omega arith;
+  came = (c.event.ensures, rw c.in-Ok-None.field-0-is at c.in-Ok-None.ensures.none, rw c.in-Ok-None.field-0-is at c.in-Ok-None.ensures.over);
+  made = makes_none g.C.Scheduler (g.C.Scheduler.policy c.args.self.now.scheduler) _ _ _ _ _ _ _;
+}
+
 pub returns-in-Err-Fault-clause-ok : goal.returns-in-Err-Fault-clause-ok
 returns-in-Err-Fault-clause-ok g c = record {
   packets = [];
   count = omega arith;
   came = rw c.in-Err-Fault.field-0-is at c.in-Err-Fault.ensures.fault;
-  made = makes_none g.C.Scheduler (g.C.Scheduler.policy c.args.self.now.scheduler) _ _ _ _ _ _;
+  made = makes_none g.C.Scheduler (g.C.Scheduler.policy c.args.self.now.scheduler) _ _ _ _ _ _ _;
 }
 
 pub returns-in-Err-Source-clause-err : goal.returns-in-Err-Source-clause-err
@@ -50,8 +58,7 @@ returns-in-Err-Source-clause-err g c = record {
   packets = [];
   count = omega arith;
   first = none_first (g.P.Packets.left c.args.packets.now c.args.source.now);
-  stop = stops_here g.C.Scheduler (g.C.Scheduler.policy c.args.self.now.scheduler) [] _ _ _ _ c.args.self.now.report (g.P.Packets.given c.args.packets.now) c.args.self.now.tally
-      (makes_none g.C.Scheduler (g.C.Scheduler.policy c.args.self.now.scheduler) _ _ _ _ _ _);
+  stop = stops_none g.C.Scheduler (g.C.Scheduler.policy c.args.self.now.scheduler) _ _ _ c.args.self.now.report _ _ _;
 }
 
 pub returns-in-Err-Memory-clause-err : goal.returns-in-Err-Memory-clause-err
@@ -59,6 +66,5 @@ returns-in-Err-Memory-clause-err g c = record {
   packets = [];
   count = omega arith;
   first = none_first (g.P.Packets.left c.args.packets.now c.args.source.now);
-  stop = stops_here g.C.Scheduler (g.C.Scheduler.policy c.args.self.now.scheduler) [] _ _ _ _ c.args.self.now.report (g.P.Packets.given c.args.packets.now) c.args.self.now.tally
-      (makes_none g.C.Scheduler (g.C.Scheduler.policy c.args.self.now.scheduler) _ _ _ _ _ _);
+  stop = stops_none g.C.Scheduler (g.C.Scheduler.policy c.args.self.now.scheduler) _ _ _ c.args.self.now.report _ _ _;
 }

@@ -10,9 +10,10 @@ use Rattle.sched_run.proofs.run.Run.arrive_rest.Goals as goal
 
 pub loop-ending-init : goal.loop-ending-init
 loop-ending-init g c = record {
-  arrives = (0, arrives_none g.C.Scheduler (g.C.Scheduler.policy c.args.self.now.scheduler) _ _ _ _ _ _);
+  arrives = (0, arrives_none g.C.Scheduler (g.C.Scheduler.policy c.args.self.now.scheduler) _ _ _ _ _ _ _);
   further = record { ready = c.requires.ready; given = refl; few = c.requires.counts.few };
   kept = record { policy = refl; origin = refl; names = refl; version = refl; room = refl };
+  fewer = omega arith;
   kept_sink = sink-same _ _ _;
   kept_packets = record { policy = refl; later = omega arith };
   live = c.requires.set.live;
@@ -60,6 +61,7 @@ loop-ending-preserved g c =
       arrives = (i.arrives.0 + 1, arrives_more S policy c.requires.set.accepted i.arrives.0 _ _ _ _ _ _ i.further.given i.arrives.1 one);
       further = record { ready = further.ready; given = omega (arith, i.further.given, further.given); few = further.few };
       kept = continues_then S _ _ _ i.kept e.kept;
+      fewer = omega (arith, i.fewer, e.fewer);
       kept_sink = sink-then _ _ _ _ _ i.kept_sink e.kept_sink;
       kept_packets = keeps_then g.P.Packets _ _ _ _ _ _ i.kept_packets e.kept_packets;
       live = e.live;

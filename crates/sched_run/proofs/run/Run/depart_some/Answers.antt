@@ -1,15 +1,65 @@
-use Rattle.std.proofs.Common.{◌+◌, ap}
+use Rattle.std.proofs.Common.{◌≡◌, ◌+◌, ℕ, None, arith, ap, refl, replicate, sym, ◌∙◌}
 use Rattle.std.proofs.lemmas.Result.{err_from_is_err_and}
-use Rattle.sched_run.specs.declared.tally.Tally.{Tally}
-use Rattle.sched_run.proofs.MadeEvents.{makes_departures, stops_departures}
+use Rattle.outside_core.proofs.KeptLaws.{sink-same, sink-then}
+use Rattle.sched_defs.specs.Events.{Depart}
+use Rattle.sched_defs.proofs.Runs.{departures_count}
+use Rattle.sched_run.proofs.FrameLaws.{continues_then}
+use Rattle.sched_run.proofs.MadeEvents.{held_bounded, makes_none, departures_more, departures_cut}
+use Rattle.sched_run.proofs.PacketsInTurn.{one_after}
 use Rattle.sched_run.proofs.run.Run.depart_some.Goals as goal
 
-pub returns-clause-ok : goal.returns-clause-ok
-returns-clause-ok g c given =
-    let same = c.in_ok-depart_lines.ensures.tally in
-    makes_departures g.C.Scheduler (g.C.Scheduler.policy c.args.self.now.scheduler) c.args.count _ _ (ap (λ (t : Tally). t.came) same) (ap (λ (t : Tally). t.dropped) same) (ap (λ (t : Tally). t.asked + c.args.count) same) (rw c.event-event.ensures at c.in_ok-depart_lines.ensures.ok)
+pub loop-made-init : goal.loop-made-init
+loop-made-init g c = record {
+  makes = λ given. makes_none g.C.Scheduler (g.C.Scheduler.policy c.args.self.now.scheduler) _ _ _ given given _ _;
+  came = refl;
+  asked = omega arith;
+  kept = record { policy = refl; origin = refl; names = refl; version = refl; room = refl };
+  fewer = omega arith;
+  kept_sink = sink-same _ _ _;
+  live = c.requires.set.live;
+}
 
-pub returns-in_err-depart_lines-clause-err : goal.returns-in_err-depart_lines-clause-err
-returns-in_err-depart_lines-clause-err g c =
+pub depart_next-requires-clause-stands : goal.depart_next-requires-clause-stands
+depart_next-requires-clause-stands g c =
+    let policy = g.C.Scheduler.policy c.args.self.now.scheduler in
+    let i = c.loop-made.invariant in
+    let one = c.requires.stands in
+    let bound = held_bounded policy one.state one.sound in
+    let at = one_after g.C.Scheduler policy c.requires.set.accepted (replicate c.loop-made._made (Depart None)) _ _ (ap (λ (n : ℕ). bound.0 + n) (sym i.came)) (i.makes bound.0)
+    (record { state = one.state; sound = one.sound; stood = one.stood; has = bound.1 }) in
+    rw i.kept.policy (record { state = at.state; sound = at.sound; stood = at.stood; has = tt })
+
+pub depart_next-requires-clause-few : goal.depart_next-requires-clause-few
+depart_next-requires-clause-few g c =
+    let policy = g.C.Scheduler.policy c.args.self.now.scheduler in
+    let one = c.requires.stands in
+    let bound = held_bounded policy one.state one.sound in
+    let leaves = ((c.loop-made.invariant.makes bound.0).played one.state one.sound one.stood bound.1).leaves in
+    omega (arith, leaves.asked, (departures_count policy c.loop-made._made None one.state).asked, c.loop-made-test.true, c.requires.few)
+
+pub returns-in_err-depart_next-clause-err : goal.returns-in_err-depart_next-clause-err
+returns-in_err-depart_next-clause-err g c =
     let p = err_from_is_err_and c.from_residual.result c.from_residual.ensures.1 in
-    rw (p.1) (λ given. stops_departures g.C.Scheduler (g.C.Scheduler.policy c.args.self.now.scheduler) c.args.count _ _ _ _ (rw c.event-event.ensures at c.in_err-depart_lines.ensures.err))
+    let i = c.loop-made.invariant in
+    let stop = rw i.kept.policy at c.in_err-depart_next.ensures.err in
+    rw (p.1) (λ given. departures_cut g.C.Scheduler (g.C.Scheduler.policy c.args.self.now.scheduler) c.requires.set.accepted c.loop-made._made _ _ refl (i.makes given) c.args.count _ _ _ c.loop-made-test.true (stop given))
+
+pub loop-made-preserved : goal.loop-made-preserved
+loop-made-preserved g c =
+    let i = c.loop-made.invariant in
+    let e = c.in_ok-depart_next.ensures in
+    let made = rw i.kept.policy at e.ok in
+    record {
+      makes = λ given. departures_more g.C.Scheduler (g.C.Scheduler.policy c.args.self.now.scheduler) c.requires.set.accepted c.loop-made._made _ _ refl (i.makes given) _ (made given);
+      came = e.came ∙ i.came;
+      asked = omega (arith, e.asked, i.asked);
+      kept = continues_then g.C.Scheduler _ _ _ i.kept e.kept;
+      fewer = omega (arith, i.fewer, e.fewer);
+      kept_sink = sink-then _ _ _ _ _ i.kept_sink e.kept_sink;
+      live = e.live;
+    }
+
+pub returns-clause-ok : goal.returns-clause-ok
+returns-clause-ok g c =
+    let all : c.args.count ≡ c.loop-made._made = omega arith in
+    rw all c.loop-made.invariant.makes

@@ -1,7 +1,7 @@
 use Rattle.std.proofs.Common.{◌∙◌, arith}
 use Rattle.std.proofs.lemmas.Result.{err_from_is_err_and}
 use Rattle.sched_run.specs.Courses.{course_of}
-use Rattle.sched_run.proofs.ReportLaws.{has_totals, runs_told, breaks_told, breaks_amid}
+use Rattle.sched_run.proofs.ReportLaws.{has_totals, runs_told, breaks_told, breaks_amid, watched}
 use Rattle.sched_run.proofs.run.Run.play.Goals as goal
 
 pub returns-in_err-ending-clause-err : goal.returns-in_err-ending-clause-err
@@ -33,3 +33,8 @@ returns-clause-ok g c =
     let held = rw e.kept.policy at (c.held-held.ensures c.play_events.new.under) in
     runs_told S (S.policy c.args.self.now.scheduler) c.requires.set.accepted (course_of (S.policy c.args.self.now.scheduler) c.args.pace) _ _ _ _ c.held-first.result c.held-held.result c.play_events.new.self.version c.totals-totals.result c.new-self.ensures e.ok (c.held-first.ensures c.args.under.now) held
     c.totals-totals.ensures (e.kept.version ∙ c.requires.set.version) _ c.in_ok-close.ensures.ok
+
+pub returns-clause-watched : goal.returns-clause-watched
+returns-clause-watched g c =
+    let S = g.C.Scheduler in
+    watched S (S.policy c.args.self.now.scheduler) (course_of (S.policy c.args.self.now.scheduler) c.args.pace) _ c.in_ok-ending.ending _ _ (omega (arith, c.new-self.ensures.none_came, c.new-self.ensures.none_asked)) c.in_ok-ending.ensures.ok

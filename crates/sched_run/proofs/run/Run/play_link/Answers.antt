@@ -12,10 +12,11 @@ loop-packet-init g c =
     let S = g.C.Scheduler in
     let policy = S.policy c.args.self.now.scheduler in
     record {
-      run = link_begins S policy c.args.rate c.new-link.result c.new-link.ensures _ _ _ _ _ _;
+      run = link_begins S policy c.args.rate c.new-link.result c.new-link.ensures _ _ _ _ _ _ _;
       early = omega (arith, c.new-link.ensures);
       further = record { ready = c.requires.ready; given = refl; few = c.requires.counts.few };
       kept = record { policy = refl; origin = refl; names = refl; version = refl; room = refl };
+      fewer = omega arith;
       kept_sink = sink-same _ _ _;
       kept_packets = record { policy = refl; later = omega arith };
       live = c.requires.set.live;
@@ -67,10 +68,11 @@ loop-packet-preserved g c =
     let sends = rw i.kept.policy at e.ok in
     record {
       run = run_goes S policy c.requires.set.accepted _ _ _ _ _ _ _ _ i.further.given i.run _ _ _ _
-          (link_goes S policy c.args.rate c.loop-packet.link c.in-Ok-Some.packet c.arrive_paced.new.link _ _ _ _ came (same_sends S policy _ _ _ _ _ _ _ _ _ (sym given) (sends _ number)));
+          (link_goes S policy c.args.rate c.loop-packet.link c.in-Ok-Some.packet c.arrive_paced.new.link _ _ _ _ came (same_sends S policy _ _ _ _ _ _ _ _ _ _ (sym given) (sends _ number)));
       early = e.early;
       further = record { ready = n.ready; given = omega (arith, i.further.given, given, e.came); few = n.few };
       kept = continues_then S _ _ _ i.kept e.kept;
+      fewer = omega (arith, i.fewer, e.fewer);
       kept_sink = sink-then _ _ _ _ _ i.kept_sink e.kept_sink;
       kept_packets = keeps_then g.P.Packets _ _ _ _ _ _ i.kept_packets (record { policy = n.policy; later = n.later });
       live = e.live;
@@ -124,12 +126,12 @@ returns-in-Ok-None-clause-ok g c =
     let given : g.P.Packets.given c.next.new.self ≡ g.P.Packets.given c.loop-packet.packets = (let e = rw c.in-Ok-None.field-0-is at c.in-Ok-None.ensures.given in omega (arith, e)) in
     let sends = rw i.kept.policy at c.in_ok-send_until-in-Ok-None.ensures.ok in
     run_ends S policy c.requires.set.accepted _ _ _ _ _ _ _ _ i.further.given i.run _ _
-    (link_drains S policy c.args.rate c.loop-packet.link c.send_until.new.link _ _ _ _ none over (same_sends S policy _ _ _ _ _ _ _ _ _ (sym given) (sends _)))
+    (link_drains S policy c.args.rate c.loop-packet.link c.send_until.new.link _ _ _ _ none over (same_sends S policy _ _ _ _ _ _ _ _ _ _ (sym given) (sends _)))
 
 pub returns-in-Err-Source-clause-err : goal.returns-in-Err-Source-clause-err
 returns-in-Err-Source-clause-err g c =
-    run_halts g.C.Scheduler (g.C.Scheduler.policy c.args.self.now.scheduler) _ _ _ _ _ _ _ _ _ _ c.loop-packet.self.report _ _ c.loop-packet.invariant.run
+    run_halts g.C.Scheduler (g.C.Scheduler.policy c.args.self.now.scheduler) _ _ _ _ _ _ _ _ _ _ c.loop-packet.self.report _ _ _ c.loop-packet.invariant.run
 
 pub returns-in-Err-Memory-clause-err : goal.returns-in-Err-Memory-clause-err
 returns-in-Err-Memory-clause-err g c =
-    run_halts g.C.Scheduler (g.C.Scheduler.policy c.args.self.now.scheduler) _ _ _ _ _ _ _ _ _ _ c.loop-packet.self.report _ _ c.loop-packet.invariant.run
+    run_halts g.C.Scheduler (g.C.Scheduler.policy c.args.self.now.scheduler) _ _ _ _ _ _ _ _ _ _ c.loop-packet.self.report _ _ _ c.loop-packet.invariant.run

@@ -14,9 +14,10 @@ use Rattle.sched_run.proofs.run.Run.play_steps.Goals as goal
 
 pub loop-step-init : goal.loop-step-init
 loop-step-init g c = record {
-  run = run_none g.C.Scheduler (g.C.Scheduler.policy c.args.self.now.scheduler) (script_agenda (g.C.Scheduler.policy c.args.self.now.scheduler) c.args.steps.now) (counts_of c.args.steps.now) _ _ _ _ _ _;
+  run = run_none g.C.Scheduler (g.C.Scheduler.policy c.args.self.now.scheduler) (script_agenda (g.C.Scheduler.policy c.args.self.now.scheduler) c.args.steps.now) (counts_of c.args.steps.now) _ _ _ _ _ _ _;
   further = record { ready = c.requires.ready; given = refl; few = c.requires.counts.few };
   kept = record { policy = refl; origin = refl; names = refl; version = refl; room = refl };
+  fewer = omega arith;
   kept_sink = sink-same _ _ _;
   kept_packets = record { policy = refl; later = omega arith };
   live = c.requires.set.live;
@@ -72,6 +73,7 @@ loop-step-preserved g c =
           (step_goes S (S.policy c.args.self.now.scheduler) _ rest _ _ _ _ turns));
       further = record { ready = further.ready; given = omega (arith, i.further.given, further.given); few = further.few };
       kept = continues_then S _ _ _ i.kept e.kept;
+      fewer = omega (arith, i.fewer, e.fewer);
       kept_sink = sink-then _ _ _ _ _ i.kept_sink e.kept_sink;
       kept_packets = keeps_then g.P.Packets _ _ _ _ _ _ i.kept_packets e.kept_packets;
       live = e.live;
@@ -83,10 +85,10 @@ returns-clause-ok g c =
     let i = c.loop-step.invariant in
     let all : length c.args.steps.now ≤ c.loop-step.step-index = omega arith in
     let run = rw (drop_of_length-le c.args.steps.now all) at i.run in
-    if_ok_turned c.count_unsent.result _ _ (λ e ends. run_over S (S.policy c.args.self.now.scheduler) _ _ _ _ _ _ e _ _ _ _ _ _ _ run (no_step (S.policy c.args.self.now.scheduler) e (event_of c.loop-step.self.tally) _ ends)) c.count_unsent.ensures.told
+    if_ok_turned c.count_unsent.result _ _ (λ e ends. run_over S (S.policy c.args.self.now.scheduler) _ _ _ _ _ _ e _ _ _ _ _ _ _ _ run (no_step (S.policy c.args.self.now.scheduler) e (event_of c.loop-step.self.tally) _ ends)) c.count_unsent.ensures.told
 
 pub returns-clause-err : goal.returns-clause-err
 returns-clause-err g c =
     let S = g.C.Scheduler in
     let i = c.loop-step.invariant in
-    on_err_given c.count_unsent.result _ (run_halts S (S.policy c.args.self.now.scheduler) _ _ _ _ _ _ _ _ _ _ c.loop-step.self.report _ _ i.run)
+    on_err_given c.count_unsent.result _ (run_halts S (S.policy c.args.self.now.scheduler) _ _ _ _ _ _ _ _ _ _ c.loop-step.self.report _ _ _ i.run)

@@ -14,6 +14,7 @@ loop-sent-init g c = record {
   asked = omega arith;
   early = c.requires.early;
   kept = record { policy = refl; origin = refl; names = refl; version = refl; room = refl };
+  fewer = omega arith;
   kept_sink = sink-same _ _ _;
   live = c.requires.set.live;
 }
@@ -75,6 +76,7 @@ loop-sent-preserved g c =
       asked = omega (arith, e.asked, i.asked);
       early = omega (arith, i.early, e.asked, c.take_time.ensures.soon);
       kept = continues_then g.C.Scheduler _ _ _ i.kept e.kept;
+      fewer = omega (arith, i.fewer, e.fewer);
       kept_sink = sink-then _ _ _ _ _ i.kept_sink e.kept_sink;
       live = e.live;
     }

@@ -2,6 +2,7 @@ use Rattle.std.proofs.Common.{◌≡◌, ◌+◌, ℕ, IsTrue}
 use Rattle.outside_core.specs.Kept.{KeepsSink}
 use Rattle.sched_run.specs.Frames.{Continues}
 use Rattle.sched_run.specs.Links.{IsEarly}
+use Rattle.tap_core.specs.Watching.{sight_of, AreNoMore}
 use Rattle.sched_run.specs.Stages.{stage_of}
 use Rattle.sched_run.proofs.LinkLaws.{SendsPart}
 use Rattle.sched_run.proofs.run.Run.send_until.Given as goal
@@ -10,14 +11,16 @@ abbrev pub invariant-loop-sent : goal.invariant-loop-sent
 invariant-loop-sent g l =
     let S = g.C.Scheduler in
     let written = g.K.Sink.written in
+    let sight = sight_of g.T.Tap.kind_of g.T.Tap.state_of in
     record {
       sends : (given : ℕ) → SendsPart S (S.policy l.fn.self.scheduler) l.rate l.until l.held l._sent l.fn.link l.link
-          (stage_of l.fn.self l.fn.under (written l.fn.sink) given) (stage_of l.self l.under (written l.sink) given);
+          (stage_of l.fn.self l.fn.under (written l.fn.sink) given (sight l.fn.watch)) (stage_of l.self l.under (written l.sink) given (sight l.watch));
       came : l.self.tally.came ≡ l.fn.self.tally.came;
       dropped : l.self.tally.dropped ≡ l.fn.self.tally.dropped;
       asked : l.self.tally.asked ≡ l.fn.self.tally.asked + l._sent;
       early : IsEarly l.link l.self.tally;
       kept : Continues S l.fn.self l.self;
+      fewer : AreNoMore (sight l.fn.watch) (sight l.watch);
       kept_sink : KeepsSink written g.K.Sink.faults l.fn.sink l.sink;
       live : IsTrue l.self.report.live;
     }

@@ -1,0 +1,41 @@
+-- What taps are shown of a run: each packet that left, and each that was dropped.
+use Rattle.std.specs.Prelude.{Option, None, Some, List, [], ◌∷◌, ◌++◌}
+use Rattle.tree_defs.specs.Tree.{Address}
+use Rattle.packet_defs.specs.declared.packet.Packet.{Packet}
+use Rattle.packet_defs.specs.declared.packet.Departed.{Departed}
+use Rattle.policy_defs.specs.Policy.{Policy}
+use Rattle.policy_defs.specs.Numbers.{number_at}
+use Rattle.sched_defs.specs.Events as events
+use Rattle.sched_core.specs.declared.scheduler.Arrival.{Arrival}
+use Rattle.sched_core.specs.declared.scheduler.Arrival.TheVariants as arrival
+use Rattle.tap_core.specs.declared.kinds.Dropped.{Dropped}
+use Rattle.tap_core.specs.Lists.{Shown, departed, dropped}
+
+-- a packet that left from a leaf
+abbrev pub gone : Policy → Packet → Address → Departed
+gone policy p a = record { packet = p.number; class = p.class; leaf = number_at policy.tree a; len = p.len }
+
+-- a packet that was dropped at a leaf
+abbrev pub lost : Policy → Packet → Address → Dropped
+lost policy p a = record { packet = p.number; class = p.class; leaf = number_at policy.tree a; len = p.len }
+
+abbrev pub shown_of : Policy → events.Outcome → List Shown
+shown_of policy (events.Arrived p a ranks) = []
+shown_of policy (events.Departed p a ranks start) = departed (gone policy p a) ∷ []
+shown_of policy (events.Dropped p a) = dropped (lost policy p a) ∷ []
+shown_of policy events.Empty = []
+
+abbrev pub shown_in : Policy → List events.Outcome → List Shown
+shown_in policy [] = []
+shown_in policy (o ∷ os) = shown_of policy o ++ shown_in policy os
+
+-- ---- what one event shows
+-- a packet that was dropped, as an arrival tells it
+abbrev pub shown_arrival : Packet → Arrival → List Shown
+shown_arrival p (arrival.Pushed leaf) = []
+shown_arrival p (arrival.Dropped leaf) = dropped (record { packet = p.number; class = p.class; leaf = leaf; len = p.len }) ∷ []
+
+-- a packet that left, as a departure tells it
+abbrev pub shown_departure : Option Departed → List Shown
+shown_departure None = []
+shown_departure (Some d) = departed d ∷ []
