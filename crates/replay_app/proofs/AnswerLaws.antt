@@ -38,7 +38,7 @@ pub printed : (lines : Lines) (text : List ℕ) → text ≡ canonical_text (map
 printed lines text e = e ∙ ap canonical_text (senses-held lines.held)
 
 -- ---- the status of a run
-same_status : (e : Ending) → status_code (run_status e) ≡ ending_status e
+pub same_status : (e : Ending) → status_code (run_status e) ≡ ending_status e
 same_status (Whole n) = refl
 same_status (BadCapture c p) = refl
 same_status (PastLast n) = refl
@@ -67,7 +67,7 @@ no_refusal n (inr (inr (inl e))) r = let high = r.0 in omega arith
 no_refusal n (inr (inr (inr e))) r = e
 
 no_refusal_by : (p : Pacing) (n : ℕ) → IsOneOf (paced_statuses p) n → IsRefusal n → ⊥
-no_refusal_by (script e) n one r = no_refusal n one r
+no_refusal_by (script e named) n one r = no_refusal n one r
 no_refusal_by (link rate) n one r = no_refusal n (inr one) r
 
 pub paced_no_refusal : (p : Pacing) (r : Result Status Stop) (A : Type 0) → IfOk r (λ s. IsOneOf (paced_statuses p) (status_code s)) → IfOk r (λ s. IsRefusal (status_code s) → A)

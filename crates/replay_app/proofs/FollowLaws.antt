@@ -5,8 +5,9 @@ use Rattle.std.proofs.lemmas.Result.{IfOk-weaker, on_ok_weaker, on_err_weaker}
 use Rattle.outside_core.specs.Written.{Appended, AppendedPrefix}
 use Rattle.report_core.specs.declared.fault.FaultKind.{FaultKind}
 use Rattle.fabric_core.specs.declared.fabric.Fabric.{Ghosts}
-use Rattle.sched_embedded.specs.Fabrics.{IsAsItWas, Leaves, LeavesPart}
-use Rattle.replay_app.specs.Answer.{Answer, refusal, Each, IsTold, IsLeft}
+use Rattle.sched_embedded.specs.Fabrics.{IsAsItWas, LeavesPart}
+use Rattle.tap_core.specs.Watching.{Sight}
+use Rattle.replay_app.specs.Answer.{Answer, refusal, Each, IsTold, IsDone, LeavesBoth, IsLeft}
 use Rattle.replay_app.specs.Follows.{Follows, stops, goes_on}
 use Rattle.replay_app.specs.Statuses.{IsOneOf, status_code, kind_status}
 use Rattle.replay_app.specs.declared.status.Status.{Status}
@@ -76,9 +77,9 @@ module _ {T : Type 0} (kind : FaultKind) (refused : ℕ → ℕ → Type 0) (acc
       part = on_err_weaker r (λ p. refused-each are (λ a. AppendedPrefix old new a.text) code place h p) part;
     }
 
-    pub refused_left : {F : Type 0} (fabrics : Ghosts F) (f : F) (code place : ℕ) → refused code place → IsLeft fabrics (Follows kind refused accepted after) r f f
-    refused_left fabrics f code place h = record {
-      whole = always_ok r (refused-each are (λ a. Leaves fabrics a.run f f) code place h (unchanged fabrics f));
+    pub refused_left : {F : Type 0} (fabrics : Ghosts F) (f : F) (sight : Sight) (code place : ℕ) → refused code place → IsLeft fabrics (Follows kind refused accepted after) r f f sight sight
+    refused_left fabrics f sight code place h = record {
+      whole = always_ok r (refused-each are (LeavesBoth fabrics f f sight sight) code place h (record { fabric = unchanged fabrics f; taps = refl }));
       part = always_err r (refused-each are (λ a. LeavesPart fabrics a.run f f) code place h (unchanged fabrics f));
     }
 
@@ -89,10 +90,10 @@ module _ {T : Type 0} (kind : FaultKind) (refused : ℕ → ℕ → Type 0) (acc
       part = on_err_weaker r (λ p. accepted-each are (λ a. AppendedPrefix old new a.text) t h p) told.part;
     }
 
-    pub accepted_left : {F : Type 0} (fabrics : Ghosts F) (old new : F) (t : T) → accepted t → IsLeft fabrics (after t) r old new → IsLeft fabrics (Follows kind refused accepted after) r old new
-    accepted_left fabrics old new t h left = record {
-      whole = on_ok_weaker r (λ p. accepted-each are (λ a. Leaves fabrics a.run old new) t h p) left.whole;
-      part = on_err_weaker r (λ p. accepted-each are (λ a. LeavesPart fabrics a.run old new) t h p) left.part;
+    pub accepted_done : (whole part : Answer → Type 0) (t : T) → accepted t → IsDone (after t) r whole part → IsDone (Follows kind refused accepted after) r whole part
+    accepted_done whole part t h done = record {
+      whole = on_ok_weaker r (λ p. accepted-each are whole t h p) done.whole;
+      part = on_err_weaker r (λ p. accepted-each are part t h p) done.part;
     }
 
 -- ---- one answer
@@ -103,10 +104,10 @@ module _ (x : Answer) (r : Result Status Stop) where
     part = on_err_weaker r (λ p. λ b e. subst (λ (c : Answer). AppendedPrefix old new c.text) (sym e) p) part;
   }
 
-  pub exactly_left : {F : Type 0} (fabrics : Ghosts F) (old new : F) → OnOk r (Leaves fabrics x.run old new) → OnErr r (LeavesPart fabrics x.run old new) → IsLeft fabrics (λ b. b ≡ x) r old new
-  exactly_left fabrics old new left part = record {
-    whole = on_ok_weaker r (λ p. λ b e. subst (λ (c : Answer). Leaves fabrics c.run old new) (sym e) p) left;
-    part = on_err_weaker r (λ p. λ b e. subst (λ (c : Answer). LeavesPart fabrics c.run old new) (sym e) p) part;
+  pub exactly_done : (whole part : Answer → Type 0) → OnOk r (whole x) → OnErr r (part x) → IsDone (λ b. b ≡ x) r whole part
+  exactly_done whole part done stopped = record {
+    whole = on_ok_weaker r (λ p. λ b e. subst whole (sym e) p) done;
+    part = on_err_weaker r (λ p. λ b e. subst part (sym e) p) stopped;
   }
 
 -- ---- statuses

@@ -6,3 +6,6 @@ pub mod OneAnswer
 pub mod SomeAnswer
 pub mod AnswerLaws
 pub mod Unused
+pub mod TapLaws
+pub mod CaptureLaws
+pub mod WordLaws

@@ -14,7 +14,7 @@ use Rattle.replay_app.specs.Statuses.{status_code}
 use Rattle.replay_app.specs.declared.status.Status.{Status}
 use Rattle.outside_core.specs.declared.stop.Stop.{Stop}
 use Rattle.sched_defs.specs.Pace.{Pace, Link}
-use Rattle.replay_app.specs.Output.{laid_run}
+use Rattle.replay_app.specs.Output.{laid_run, watchers}
 use Rattle.replay_app.specs.Scripts.{PacedBy, script_pace}
 use Rattle.replay_app.specs.Words.{Pacing, script, link, replay, check, plan, direct, no_form}
 use Rattle.replay_app.proofs.FollowLaws.{one-follows}
@@ -38,20 +38,20 @@ same-answer : (x a b : Answer) → a ≡ x → b ≡ x → a ≡ b
 same-answer x a b e f = e ∙ sym f
 
 one-paced : (pacing : Pacing) (contents : List ℕ → List ℕ) (x : Pace → Answer) (a b : Answer) → PacedBy pacing contents (λ pace b. b ≡ x pace) a → PacedBy pacing contents (λ pace b. b ≡ x pace) b → a ≡ b
-one-paced (script e) contents x = one-follows kind.Script _ _ _ (scripts_are_one (contents e)) (λ steps. same-answer (x (script_pace steps)))
+one-paced (script e named) contents x = one-follows kind.Script _ _ _ (scripts_are_one (contents e)) (λ steps. same-answer (x (script_pace steps)))
 one-paced (link rate) contents x = same-answer (x (Link rate))
 
 pub one-answer : HaveOneAnswer
-one-answer (replay p t c pacing) contents a b x y =
+one-answer (replay p t c pacing) contents taps a b x y =
     one-follows kind.Policy _ _ _ (policies_are_one (contents p)) (λ judged.
     one-follows kind.Target _ _ _ (targets_are_one (contents t)) (λ target.
     one-follows kind.Size _ _ _ (rooms_are_one judged.policy.policy target) (λ images.
-    one-paced pacing contents (λ pace. laid_run judged.policy (record { images = images; arities = target.arities }) pace (contents c))))) a b x y
-one-answer (check p) contents a b x y = one-follows kind.Policy _ _ _ (policies_are_one (contents p)) (λ judged. same-answer _) a b x y
-one-answer (plan p t) contents a b x y =
+    one-paced pacing contents (λ pace. laid_run judged.policy (record { images = images; arities = target.arities }) pace (contents c) (watchers pacing taps))))) a b x y
+one-answer (check p) contents taps a b x y = one-follows kind.Policy _ _ _ (policies_are_one (contents p)) (λ judged. same-answer _) a b x y
+one-answer (plan p t) contents taps a b x y =
     one-follows kind.Policy _ _ _ (policies_are_one (contents p)) (λ judged.
     one-follows kind.Target _ _ _ (targets_are_one (contents t)) (λ target. one-planned judged.policy.policy target)) a b x y
-one-answer (direct p c e) contents a b x y =
+one-answer (direct p c e) contents taps a b x y =
     one-follows kind.Policy _ _ _ (policies_are_one (contents p)) (λ judged.
     one-follows kind.Script _ _ _ (scripts_are_one (contents e)) (λ steps. same-answer _)) a b x y
-one-answer no_form contents a b x y = same-answer _ a b x y
+one-answer no_form contents taps a b x y = same-answer _ a b x y

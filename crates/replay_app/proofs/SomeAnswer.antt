@@ -34,7 +34,7 @@ use Rattle.replay_app.specs.Policies.{at_fault, IsPolicyRefused, text_refused, s
 use Rattle.replay_app.specs.Scripts as scripts
 use Rattle.replay_app.specs.Targets.{IsTargetRefused, IsTargetOf, HasNoRoom, IsPlacement, IsPlanned, planned, plan_answer}
 use Rattle.sched_defs.specs.Pace.{Pace, Link}
-use Rattle.replay_app.specs.Output.{laid_run}
+use Rattle.replay_app.specs.Output.{laid_run, watchers}
 use Rattle.replay_app.specs.Scripts.{PacedBy}
 use Rattle.replay_app.specs.Words as words
 use Rattle.replay_app.specs.Words.{Pacing, replay, check, plan, direct, no_form}
@@ -92,20 +92,20 @@ a_plan_of policy t range none =
     none (plan_answer p.0 p.1.0) (planned p.0 p.1.0 p.1.1)
 
 some-paced : (pacing : Pacing) (contents : List ℕ → List ℕ) (x : Pace → Answer) → ((a : Answer) → PacedBy pacing contents (λ pace b. b ≡ x pace) a → ⊥) → ⊥
-some-paced (words.script e) contents x = some-follows kind.Script _ _ _ (read_scripts (contents e)) (λ steps is. exactly (x (scripts.script_pace steps)))
+some-paced (words.script e named) contents x = some-follows kind.Script _ _ _ (read_scripts (contents e)) (λ steps is. exactly (x (scripts.script_pace steps)))
 some-paced (words.link rate) contents x = exactly (x (Link rate))
 
 pub some-answer : HaveAnAnswer
-some-answer (replay p t c pacing) contents =
+some-answer (replay p t c pacing) contents taps =
     some-follows kind.Policy _ _ _ (read_policies (contents p)) (λ judged policy.
     some-follows kind.Target _ _ _ (read_targets (contents t)) (λ target is.
     some-follows kind.Size _ _ _ (read_rooms judged.policy.policy target (in_range-holds (contents t) target.arities target.above is)) (λ images placed.
-    some-paced pacing contents (λ pace. laid_run judged.policy (record { images = images; arities = target.arities }) pace (contents c)))))
-some-answer (check p) contents = some-follows kind.Policy _ _ _ (read_policies (contents p)) (λ judged policy. exactly _)
-some-answer (plan p t) contents =
+    some-paced pacing contents (λ pace. laid_run judged.policy (record { images = images; arities = target.arities }) pace (contents c) (watchers pacing taps)))))
+some-answer (check p) contents taps = some-follows kind.Policy _ _ _ (read_policies (contents p)) (λ judged policy. exactly _)
+some-answer (plan p t) contents taps =
     some-follows kind.Policy _ _ _ (read_policies (contents p)) (λ judged policy.
     some-follows kind.Target _ _ _ (read_targets (contents t)) (λ target is. a_plan_of judged.policy.policy target (in_range-holds (contents t) target.arities target.above is)))
-some-answer (direct p c e) contents =
+some-answer (direct p c e) contents taps =
     some-follows kind.Policy _ _ _ (read_policies (contents p)) (λ judged policy.
     some-follows kind.Script _ _ _ (read_scripts (contents e)) (λ steps script. exactly _))
-some-answer no_form contents = exactly _
+some-answer no_form contents taps = exactly _

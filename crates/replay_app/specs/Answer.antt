@@ -6,23 +6,27 @@ use Rattle.report_core.specs.Faults.{word_of}
 use Rattle.report_core.specs.declared.fault.FaultKind.{FaultKind}
 use Rattle.fabric_core.specs.declared.fabric.Fabric.{Ghosts}
 use Rattle.sched_embedded.specs.Fabrics.{FabricRun, Leaves, LeavesPart}
+use Rattle.sched_capture.specs.Answers.{HaveWatched}
+use Rattle.tap_core.specs.Lists.{Shown}
+use Rattle.tap_core.specs.Watching.{Sight}
 use Rattle.replay_app.specs.Statuses.{status_code, kind_status}
 use Rattle.replay_app.specs.declared.status.Status.{Status}
 use Rattle.outside_core.specs.declared.stop.Stop.{Stop}
 
--- a status, the text that is written, and what is run through the fabric, if anything is
+-- a status, the text that is written, what is run through the fabric, if anything is, and what taps are shown of it
 pub record Answer : Type 0 where
   pub status : ℕ
   pub text : List ℕ
   pub run : Option FabricRun
+  pub shown : Option (List Shown)
 
 -- an input of this kind is refused: one line, and nothing is run
 abbrev pub refusal : FaultKind → ℕ → ℕ → Answer
-refusal kind code place = record { status = status_code (kind_status kind); text = fault_line (word_of kind) code place; run = None }
+refusal kind code place = record { status = status_code (kind_status kind); text = fault_line (word_of kind) code place; run = None; shown = None }
 
 -- a text, and nothing is run
 abbrev pub text_alone : ℕ → List ℕ → Answer
-text_alone status text = record { status = status; text = text; run = None }
+text_alone status text = record { status = status; text = text; run = None; shown = None }
 
 -- ---- what a call did
 -- one of the answers was written whole, and this is its status
@@ -45,7 +49,18 @@ pub record IsTold (output : Answer → Type 0) (r : Result Status Stop) (old new
   pub whole : IfOk r (λ s. IsWritten output (status_code s) old new)
   pub part : OnErr r (IsPartWritten output old new)
 
--- The fabric holds what the run of each of the answers leaves; or the call was stopped, and it holds a first part of that.
-pub record IsLeft {F : Type 0} (fabrics : Ghosts F) (output : Answer → Type 0) (r : Result Status Stop) (old new : F) : Type 0 where
-  pub whole : OnOk r (Each output (λ a. Leaves fabrics a.run old new))
-  pub part : OnErr r (Each output (λ a. LeavesPart fabrics a.run old new))
+-- Something whole holds of each of the answers; or the call was stopped, and something less does.
+pub record IsDone (output : Answer → Type 0) (r : Result Status Stop) (all some : Answer → Type 0) : Type 0 where
+  pub whole : OnOk r (Each output all)
+  pub part : OnErr r (Each output some)
+
+-- the fabric holds what a run leaves, and taps have watched it
+pub record LeavesBoth {F : Type 0} (fabrics : Ghosts F) (old new : F) (before after : Sight) (a : Answer) : Type 0 where
+  pub fabric : Leaves fabrics a.run old new
+  pub taps : HaveWatched a.shown before after
+
+-- The fabric holds what the run of each of the answers leaves, and taps have watched it; or the call was stopped, and the
+-- fabric holds a first part of that.
+abbrev pub IsLeft : {F : Type 0} → Ghosts F → (Answer → Type 0) → Result Status Stop → F → F → Sight → Sight → Type 0
+IsLeft fabrics output r old new before after =
+    IsDone output r (LeavesBoth fabrics old new before after) (λ a. LeavesPart fabrics a.run old new)

@@ -7,7 +7,7 @@ pub mod Targets
 pub mod Scripts
 pub mod Output
 pub mod Stages
-pub mod Fabrics
+pub mod Behind
 pub mod Stops
 pub mod Named
 pub mod Laws

@@ -1,5 +1,7 @@
 -- The files that words name.
 use Rattle.link_defs.specs.Link.{IsRate}
+use Rattle.tap_core.specs.Names.{none_named}
+use Rattle.tap_core.specs.declared.watch.Named.{Named}
 use Rattle.replay_app.specs.Words.{Pacing, script, link, Form, replay, check, plan, direct}
 use Rattle.replay_app.specs.declared.words.Pacing as code
 use Rattle.replay_app.specs.declared.words.Pacing.TheVariants as code_pacing
@@ -10,7 +12,7 @@ use Rattle.replay_app.specs.declared.words.Command.{Command}
 use Rattle.replay_app.specs.declared.words.Command.TheVariants.{Replay, Check, Plan, Direct}
 
 abbrev pub pacing_form : code.Pacing → Pacing
-pacing_form (code_pacing.Script e) = script e.now
+pacing_form (code_pacing.Script e named) = script e.now named
 pacing_form (code_pacing.Link rate) = link rate
 
 abbrev pub replay_form : ReplayFiles → Form
@@ -30,9 +32,14 @@ command_form (Direct f) = direct_form f
 
 -- a link's rate is in range
 abbrev pub HasRate : code.Pacing → Type 0
-HasRate (code_pacing.Script e) = Unit {0}
+HasRate (code_pacing.Script e named) = Unit {0}
 HasRate (code_pacing.Link rate) = IsRate rate
 
 abbrev pub CanRun : Command → Type 0
 CanRun (Replay f) = HasRate f.pacing
 CanRun command = Unit {0}
+
+-- the kinds of taps that watch a run
+abbrev pub named_of : code.Pacing → Named
+named_of (code_pacing.Script e named) = named
+named_of (code_pacing.Link rate) = none_named

@@ -1,57 +1,65 @@
 -- What the program answers to its words and files. This is what a reader of the program's contract has to believe.
-use Rattle.std.specs.Prelude.{◌≡◌, ◌⊎◌, ℕ, Option, None, List}
+use Rattle.std.specs.Prelude.{◌≡◌, ◌⊎◌, ℕ, Option, List, []}
 use Rattle.report_core.specs.declared.fault.FaultKind.TheVariants.{Words}
 use Rattle.policy_rules.specs.Resolved.{Resolved}
 use Rattle.sched_defs.specs.Pace.{Pace}
 use Rattle.sched_embedded.specs.Laid.{Laid}
 use Rattle.sched_embedded.specs.Fabrics.{run_of}
-use Rattle.sched_capture.specs.Answers.{paced_answer}
+use Rattle.sched_capture.specs.Answers.{paced_answer, shown_by}
+use Rattle.tap_core.specs.Lists.{Entry, named_entries}
 use Rattle.replay_app.specs.Answer.{Answer, refusal, IsWritten, IsPartWritten}
 use Rattle.replay_app.specs.Policies.{UnderPolicy, checked}
-use Rattle.replay_app.specs.Scripts.{AlongScript, PacedBy, script_pace, run_answer}
+use Rattle.replay_app.specs.Scripts.{AlongScript, PacedBy, script_pace, run_answer, watched_answer}
 use Rattle.replay_app.specs.Statuses.{IsStop}
 use Rattle.replay_app.specs.Targets.{ForTarget, WithRoom, IsPlanned}
-use Rattle.replay_app.specs.Words.{Form, replay, check, plan, direct, no_form}
+use Rattle.replay_app.specs.Words.{Pacing, script, link, Form, replay, check, plan, direct, no_form}
 
 -- the report of a run through the policy's own tree, without a fabric
 abbrev pub direct_run : Resolved → Pace → List ℕ → Answer
-direct_run policy pace capture = run_answer (paced_answer policy pace capture) None
+direct_run policy pace capture = run_answer (paced_answer policy pace capture)
 
--- the same report, where the run goes through a fabric into which the tree is laid
-abbrev pub laid_run : Resolved → Laid → Pace → List ℕ → Answer
-laid_run policy laid pace capture = run_answer (paced_answer policy pace capture) (run_of policy.policy laid (paced_answer policy pace capture).events)
+-- the same report, where the run goes through a fabric into which the tree is laid, and behind it the lines of these taps
+-- where they watched a run that ended whole
+abbrev pub laid_run : Resolved → Laid → Pace → List ℕ → List Entry → Answer
+laid_run policy laid pace capture watching = watched_answer (paced_answer policy pace capture)
+    (run_of policy.policy laid (paced_answer policy pace capture).events) watching (shown_by policy.policy (paced_answer policy pace capture))
 
--- The answer to words, where the names have these contents. Each input is refused or accepted in its turn: the policy, the
+-- the taps that watch: those of the kinds that are named, and none where a link paces the run
+abbrev pub watchers : Pacing → List Entry → List Entry
+watchers (script e named) taps = named_entries named taps
+watchers (link rate) taps = []
+
+-- The answer to words, where the names have these contents and these taps are handed in. Each input is refused or accepted in its turn: the policy, the
 -- target, the room for the policy's tree in the target, the script, if one paces the run, and then the capture, which is part
 -- of the run.
-abbrev pub IsOutput : Form → (List ℕ → List ℕ) → Answer → Type 0
-IsOutput (replay p t c pacing) contents a =
+abbrev pub IsOutput : Form → (List ℕ → List ℕ) → List Entry → Answer → Type 0
+IsOutput (replay p t c pacing) contents taps a =
     UnderPolicy (contents p) (λ judged.
     ForTarget (contents t) (λ target.
     WithRoom judged.policy.policy target (λ laid.
     PacedBy pacing contents (λ pace b.
-    b ≡ laid_run judged.policy laid pace (contents c))))) a
-IsOutput (direct p c e) contents a =
+    b ≡ laid_run judged.policy laid pace (contents c) (watchers pacing taps))))) a
+IsOutput (direct p c e) contents taps a =
     UnderPolicy (contents p) (λ judged.
     AlongScript (contents e) (λ steps b.
     b ≡ direct_run judged.policy (script_pace steps) (contents c))) a
-IsOutput (plan p t) contents a =
+IsOutput (plan p t) contents taps a =
     UnderPolicy (contents p) (λ judged.
     ForTarget (contents t) (λ target.
     IsPlanned judged.policy.policy target)) a
-IsOutput (check p) contents a = UnderPolicy (contents p) (λ judged b. b ≡ checked judged) a
-IsOutput no_form contents a = a ≡ refusal Words 0 0
+IsOutput (check p) contents taps a = UnderPolicy (contents p) (λ judged b. b ≡ checked judged) a
+IsOutput no_form contents taps a = a ≡ refusal Words 0 0
 
 -- ---- what is written
 -- an answer to the words was written whole, and this is its status
-abbrev pub IsAnswered : Form → (List ℕ → List ℕ) → ℕ → Option (List ℕ) → Option (List ℕ) → Type 0
-IsAnswered form contents = IsWritten (IsOutput form contents)
+abbrev pub IsAnswered : Form → (List ℕ → List ℕ) → List Entry → ℕ → Option (List ℕ) → Option (List ℕ) → Type 0
+IsAnswered form contents taps = IsWritten (IsOutput form contents taps)
 
 -- the program was stopped, and of each answer to the words a first part was written
-pub record IsStopped (form : Form) (contents : List ℕ → List ℕ) (status : ℕ) (old new : Option (List ℕ)) : Type 0 where
+pub record IsStopped (form : Form) (contents : List ℕ → List ℕ) (taps : List Entry) (status : ℕ) (old new : Option (List ℕ)) : Type 0 where
   pub stop : IsStop status
-  pub part : IsPartWritten (IsOutput form contents) old new
+  pub part : IsPartWritten (IsOutput form contents taps) old new
 
 -- an answer to the words was given, or the program was stopped with a first part of it
-abbrev pub Answers : Form → (List ℕ → List ℕ) → ℕ → Option (List ℕ) → Option (List ℕ) → Type 0
-Answers form contents status old new = IsAnswered form contents status old new ⊎ IsStopped form contents status old new
+abbrev pub Answers : Form → (List ℕ → List ℕ) → List Entry → ℕ → Option (List ℕ) → Option (List ℕ) → Type 0
+Answers form contents taps status old new = IsAnswered form contents taps status old new ⊎ IsStopped form contents taps status old new

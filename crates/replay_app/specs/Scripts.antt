@@ -1,5 +1,5 @@
 -- What is read of a script's text, and what is answered to a run.
-use Rattle.std.specs.Prelude.{◌<◌, ℕ, Option, List, length, map}
+use Rattle.std.specs.Prelude.{◌<◌, ℕ, Option, None, Some, List, [], ◌++◌, length, map}
 use Rattle.report_core.specs.declared.fault.FaultKind.TheVariants as kind
 use Rattle.sched_defs.specs.declared.ending.Ending.{Ending}
 use Rattle.sched_defs.specs.declared.ending.Ending.TheVariants.{Whole, BadCapture, PastLast}
@@ -9,6 +9,8 @@ use Rattle.events_core.specs.declared.fault.ScriptFault.{ScriptFault}
 use Rattle.sched_defs.specs.Pace.{Pace, Script, Link}
 use Rattle.sched_embedded.specs.Fabrics.{FabricRun}
 use Rattle.sched_run.specs.Steps.{step_of}
+use Rattle.tap_core.specs.Lists.{Shown, Entry, entry_after, lines_of, Tracks}
+use Rattle.tap_core.specs.Watching.{Sight}
 use Rattle.sched_capture.specs.Answers.{RunAnswer}
 use Rattle.replay_app.specs.Answer.{Answer}
 use Rattle.replay_app.specs.Follows.{Follows}
@@ -29,7 +31,7 @@ script_pace steps = Script (map step_of steps)
 
 -- what follows from what paces a run: the text of a script is read, and a link's rate is known
 abbrev pub PacedBy : Pacing → (List ℕ → List ℕ) → (Pace → Answer → Type 0) → Answer → Type 0
-PacedBy (script e) contents after = AlongScript (contents e) (λ steps. after (script_pace steps))
+PacedBy (script e named) contents after = AlongScript (contents e) (λ steps. after (script_pace steps))
 PacedBy (link rate) contents after = after (Link rate)
 
 -- the status of a run: that of its ending
@@ -38,6 +40,21 @@ ending_status (Whole unsent) = 0
 ending_status (BadCapture c p) = 7
 ending_status (PastLast event) = 6
 
--- what is answered to a run, and what of it goes through the fabric
-abbrev pub run_answer : RunAnswer → Option FabricRun → Answer
-run_answer r through = record { status = ending_status r.ending; text = r.text; run = through }
+-- what is answered to a run that nothing watches and that goes through no fabric
+abbrev pub run_answer : RunAnswer → Answer
+run_answer r = record { status = ending_status r.ending; text = r.text; run = None; shown = None }
+
+-- the lines behind the report: those of all taps that watched, where the run ended whole
+abbrev pub lines_behind : Ending → List Entry → Option (List Shown) → List ℕ
+lines_behind (Whole unsent) watching (Some shown) = lines_of (map (entry_after shown) watching)
+lines_behind ending watching shown = []
+
+-- P holds of the lines of all taps that these slots and taps are those of, where a run ended whole, and of no line elsewhere
+abbrev pub OfLines : Ending → Sight → (List ℕ → Type 0) → Type 0
+OfLines (Whole unsent) sight P = (all : List Entry) → Tracks all sight.slots sight.taps → P (lines_of all)
+OfLines ending sight P = P []
+
+-- what is answered to a run that goes through the fabric, with what is shown to these taps, if it begins
+abbrev pub watched_answer : RunAnswer → Option FabricRun → List Entry → Option (List Shown) → Answer
+watched_answer r through watching shown =
+    record { status = ending_status r.ending; text = r.text ++ lines_behind r.ending watching shown; run = through; shown = shown }

@@ -5,25 +5,42 @@ use Rattle.target_core.specs.declared.target.Target.{Target}
 use Rattle.sched_embedded.specs.Laid.{Laid}
 use Rattle.replay_app.specs.Answer.{Answer}
 use Rattle.replay_app.specs.Output.{direct_run, laid_run}
+use Rattle.replay_app.specs.Policies.{UnderPolicy}
 use Rattle.replay_app.specs.Scripts.{AlongScript, PacedBy, script_pace}
 use Rattle.replay_app.specs.Targets.{ForTarget, WithRoom}
-use Rattle.replay_app.specs.Words.{Pacing, script}
+use Rattle.tap_core.specs.Lists.{Entry, named_entries}
+use Rattle.tap_core.specs.Watching.{Sight}
+use Rattle.replay_app.specs.Words.{Pacing}
 
 -- behind the policy of a run without a fabric
 abbrev pub BehindPolicy : Resolved → List ℕ → List ℕ → Answer → Type 0
 BehindPolicy policy text capture = AlongScript text (λ steps b. b ≡ direct_run policy (script_pace steps) capture)
 
--- behind the placement of a policy's tree
-abbrev pub BehindRoom : Resolved → Laid → Pacing → List ℕ → (List ℕ → List ℕ) → Answer → Type 0
-BehindRoom policy laid pacing capture contents = PacedBy pacing contents (λ pace b. b ≡ laid_run policy laid pace (contents capture))
+-- the taps that watch: those of the kinds that are named
+abbrev pub watching_in : Sight → List Entry
+watching_in sight = named_entries sight.named sight.taps
 
-abbrev pub BehindScript : Resolved → Laid → List ℕ → List ℕ → (List ℕ → List ℕ) → Answer → Type 0
-BehindScript policy laid name capture contents = BehindRoom policy laid (script name) capture contents
+-- behind the placement of a policy's tree, where these taps watch
+abbrev pub BehindRoom : List Entry → Resolved → Laid → Pacing → List ℕ → (List ℕ → List ℕ) → Answer → Type 0
+BehindRoom watching policy laid pacing capture contents =
+    PacedBy pacing contents (λ pace b. b ≡ laid_run policy laid pace (contents capture) watching)
+
+-- where a script paces the run
+abbrev pub BehindScript : List Entry → Resolved → Laid → List ℕ → List ℕ → (List ℕ → List ℕ) → Answer → Type 0
+BehindScript watching policy laid name capture contents =
+    AlongScript (contents name) (λ steps b. b ≡ laid_run policy laid (script_pace steps) (contents capture) watching)
 
 -- behind a target
-abbrev pub BehindTarget : Resolved → Target → Pacing → List ℕ → (List ℕ → List ℕ) → Answer → Type 0
-BehindTarget policy target pacing capture contents = WithRoom policy.policy target (λ laid. BehindRoom policy laid pacing capture contents)
+abbrev pub BehindTarget : List Entry → Resolved → Target → Pacing → List ℕ → (List ℕ → List ℕ) → Answer → Type 0
+BehindTarget watching policy target pacing capture contents =
+    WithRoom policy.policy target (λ laid. BehindRoom watching policy laid pacing capture contents)
 
 -- behind the policy of a run through a fabric
-abbrev pub BehindTargetText : Resolved → List ℕ → Pacing → List ℕ → (List ℕ → List ℕ) → Answer → Type 0
-BehindTargetText policy target pacing capture contents = ForTarget (contents target) (λ read. BehindTarget policy read pacing capture contents)
+abbrev pub BehindTargetText : List Entry → Resolved → List ℕ → Pacing → List ℕ → (List ℕ → List ℕ) → Answer → Type 0
+BehindTargetText watching policy target pacing capture contents =
+    ForTarget (contents target) (λ read. BehindTarget watching policy read pacing capture contents)
+
+-- behind the words of a run through a fabric
+abbrev pub BehindWords : List Entry → List ℕ → List ℕ → Pacing → List ℕ → (List ℕ → List ℕ) → Answer → Type 0
+BehindWords watching policy target pacing capture contents =
+    UnderPolicy (contents policy) (λ judged. BehindTargetText watching judged.policy target pacing capture contents)

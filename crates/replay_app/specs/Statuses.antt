@@ -49,7 +49,7 @@ abbrev pub link_statuses : List ℕ
 link_statuses = 7 ∷ 0 ∷ []
 
 abbrev pub paced_statuses : Pacing → List ℕ
-paced_statuses (script e) = run_statuses
+paced_statuses (script e named) = run_statuses
 paced_statuses (link rate) = link_statuses
 
 abbrev pub pace_statuses : Pace → List ℕ

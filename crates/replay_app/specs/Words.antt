@@ -1,19 +1,21 @@
 -- The words behind the program's name, and the forms that they may have.
-use Rattle.std.specs.Prelude.{◌≡◌, refl, ℕ, nat_le, ◌&&◌, Bool, IsTrue, if◌then◌else◌, Option, None, Some, option_map, List, [], ◌∷◌, map, codes, String, string_bytes}
+use Rattle.std.specs.Prelude.{◌≡◌, refl, ℕ, nat_le, ◌&&◌, Bool, true, false, IsTrue, if◌then◌else◌, Option, None, Some, option_map, List, [], ◌∷◌, map, codes, String, string_bytes}
 use Rattle.std.specs.List.{AllByRecursion}
 use Rattle.std.specs.Option.{option_and_then, option_map_or}
 use Rattle.std.specs.Str.{bytes_eq}
 use Rattle.std.specs.declared.alloc.Global.{Global}
 use Rattle.link_defs.specs.Link.{most_rate}
 use Rattle.text_core.specs.Decimals.{number_of}
+use Rattle.tap_core.specs.Names.{none_named, named_with}
+use Rattle.tap_core.specs.declared.watch.Named.{Named}
 
 -- the bytes of each word
 abbrev pub texts : List (String Global) → List (List ℕ)
 texts words = map string_bytes words
 
--- what paces a run: a script of this name, or a link at this rate in bytes a second
+-- what paces a run: a script of this name, with the kinds of taps that watch, or a link at this rate in bytes a second
 pub data Pacing : Type 0 where
-  script : List ℕ → Pacing
+  script : List ℕ → Named → Pacing
   link : ℕ → Pacing
 
 -- a command with the names of its files
@@ -32,20 +34,33 @@ pub data Form : Type 0 where
 abbrev pub rate_of : List ℕ → Option ℕ
 rate_of w = option_and_then (λ n. if nat_le 1 n && nat_le n most_rate then Some n else None) (number_of w)
 
--- what paces a run through the fabric, by the first word and the last
-abbrev pub pacing_by : List ℕ → List ℕ → Option Pacing
-pacing_by w last = if bytes_eq w (codes "replay") then Some (script last) else (if bytes_eq w (codes "link") then option_map link (rate_of last) else None)
+-- the kinds of taps that words name in pairs, each at most once, and these
+abbrev pub named_in : Named → List (List ℕ) → Option Named
+named_in named [] = Some named
+named_in named (w ∷ []) = None
+named_in named (w ∷ name ∷ more) = if bytes_eq w (codes "tap") then option_and_then (λ n. named_in n more) (named_with named name) else None
+
+-- a link behind whose rate no word stands
+abbrev pub link_by : List ℕ → List (List ℕ) → Option Pacing
+link_by rate [] = option_map link (rate_of rate)
+link_by rate (w ∷ more) = None
+
+-- what paces a run through the fabric, by the first word, the fifth, and those behind it
+abbrev pub pacing_by : List ℕ → List ℕ → List (List ℕ) → Option Pacing
+pacing_by w fifth more =
+    if bytes_eq w (codes "replay") then option_map (script fifth) (named_in none_named more)
+    else (if bytes_eq w (codes "link") then link_by fifth more else None)
 
 abbrev pub form_of : List (List ℕ) → Form
 form_of (w ∷ p ∷ []) = if bytes_eq w (codes "check") then check p else no_form
 form_of (w ∷ p ∷ t ∷ []) = if bytes_eq w (codes "plan") then plan p t else no_form
 form_of (w ∷ p ∷ c ∷ e ∷ []) = if bytes_eq w (codes "direct") then direct p c e else no_form
-form_of (w ∷ p ∷ t ∷ c ∷ last ∷ []) = option_map_or (replay p t c) (pacing_by w last) no_form
+form_of (w ∷ p ∷ t ∷ c ∷ fifth ∷ more) = option_map_or (replay p t c) (pacing_by w fifth more) no_form
 form_of words = no_form
 
 -- the word that names a script, if one does
 abbrev pub pacing_words : Pacing → List (List ℕ)
-pacing_words (script e) = e ∷ []
+pacing_words (script e named) = e ∷ []
 pacing_words (link rate) = []
 
 -- the words that name files
@@ -72,8 +87,21 @@ WhereTold content names P = (contents : List ℕ → List ℕ) → AreTold conte
 abbrev pub form_in : List (String Global) → Form
 form_in words = form_of (texts words)
 
-pub form_of-replay : form_of (codes "replay" ∷ codes "p" ∷ codes "t" ∷ codes "c" ∷ codes "e" ∷ []) ≡ replay (codes "p") (codes "t") (codes "c") (script (codes "e"))
+pub form_of-replay : form_of (codes "replay" ∷ codes "p" ∷ codes "t" ∷ codes "c" ∷ codes "e" ∷ []) ≡ replay (codes "p") (codes "t") (codes "c") (script (codes "e") none_named)
 form_of-replay = refl
+
+pub form_of-replay_with_taps : form_of (codes "replay" ∷ codes "p" ∷ codes "t" ∷ codes "c" ∷ codes "e" ∷ codes "tap" ∷ codes "first" ∷ codes "tap" ∷ codes "bytes" ∷ [])
+    ≡ replay (codes "p") (codes "t") (codes "c") (script (codes "e") (record { bytes = true; order = false; first = true; drops = false }))
+form_of-replay_with_taps = refl
+
+pub form_of-replay_with_a_tap_twice : form_of (codes "replay" ∷ codes "p" ∷ codes "t" ∷ codes "c" ∷ codes "e" ∷ codes "tap" ∷ codes "order" ∷ codes "tap" ∷ codes "order" ∷ []) ≡ no_form
+form_of-replay_with_a_tap_twice = refl
+
+pub form_of-replay_with_half_a_pair : form_of (codes "replay" ∷ codes "p" ∷ codes "t" ∷ codes "c" ∷ codes "e" ∷ codes "tap" ∷ []) ≡ no_form
+form_of-replay_with_half_a_pair = refl
+
+pub form_of-link_with_a_tap : form_of (codes "link" ∷ codes "p" ∷ codes "t" ∷ codes "c" ∷ codes "10" ∷ codes "tap" ∷ codes "bytes" ∷ []) ≡ no_form
+form_of-link_with_a_tap = refl
 
 pub form_of-link : form_of (codes "link" ∷ codes "p" ∷ codes "t" ∷ codes "c" ∷ codes "010" ∷ []) ≡ replay (codes "p") (codes "t") (codes "c") (link 10)
 form_of-link = refl

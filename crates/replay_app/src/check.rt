@@ -1,5 +1,5 @@
 //! The canonical text of a policy.
-ghost use Rattle.std.specs.Prelude.{IfOk, IsTrue, IsErrOf};
+ghost use Rattle.std.specs.Prelude.{[], IfOk, IsTrue, IsErrOf};
 ghost use Rattle.outside_core.specs.Faults.{Rose};
 ghost use Rattle.replay_app.specs.Answer.{IsTold};
 ghost use Rattle.replay_app.specs.Output.{IsOutput};
@@ -25,7 +25,7 @@ pub fn check_file<S: Shelf, K: Sink>(
     requires lent { IsTrue (S.lends shelf.old name.now) }
 
     ensures answer { WhereTold (S.content shelf.old) (file_words (check name.now)) (λ contents.
-        IsTold (IsOutput (check name.now) contents) result (K.written sink.old) (K.written sink.new)) }
+        IsTold (IsOutput (check name.now) contents []) result (K.written sink.old) (K.written sink.new)) }
     ensures statuses { IfOk result (λ s. IsOneOf (statuses_of (check name.now)) (status_code s)) }
     ensures shelf_cause { IsErrOf result Stop.Source → Rose (S.faults shelf.old) (S.faults shelf.new) }
     ensures sink_cause { IsErrOf result Stop.Sink → Rose (K.faults sink.old) (K.faults sink.new) }

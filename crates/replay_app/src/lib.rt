@@ -13,10 +13,13 @@ mod replay;
 mod scripts;
 mod status;
 mod stop;
+#[cfg(test)]
+mod tap_tests;
 mod targets;
 mod task;
 #[cfg(test)]
 mod tests;
+mod watched;
 mod words;
 mod writing;
 

@@ -88,7 +88,7 @@ pub fn plan_files<S: Shelf, K: Sink>(
     requires lent { AreLent (S.lends shelf.old) (file_words (plan_form files.now)) }
 
     ensures answer { WhereTold (S.content shelf.old) (file_words (plan_form files.now)) (λ contents.
-        IsTold (IsOutput (plan_form files.now) contents) result (K.written sink.old) (K.written sink.new)) }
+        IsTold (IsOutput (plan_form files.now) contents []) result (K.written sink.old) (K.written sink.new)) }
     ensures statuses { IfOk result (λ s. IsOneOf (statuses_of (plan_form files.now)) (status_code s)) }
     ensures shelf_cause { IsErrOf result Stop.Source → Rose (S.faults shelf.old) (S.faults shelf.new) }
     ensures sink_cause { IsErrOf result Stop.Sink → Rose (K.faults sink.old) (K.faults sink.new) }

@@ -7,17 +7,17 @@ ghost use Rattle.tree_defs.specs.Topology.{topology_of, complete};
 ghost use Rattle.target_defs.specs.Target.{IsInRange};
 ghost use Rattle.embed_defs.specs.Images.{image_map};
 ghost use Rattle.embed_defs.specs.Embedding.{IsEmbedding};
-ghost use Rattle.sched_embedded.specs.Fabrics.{IsAsItWas, Leaves, LeavesPart, run_of};
+ghost use Rattle.sched_embedded.specs.Fabrics.{IsAsItWas};
 ghost use Rattle.sched_run.specs.Steps.{pace_of, IsBounded};
-ghost use Rattle.sched_capture.specs.Answers.{paced_answer};
 ghost use Rattle.sched_capture.specs.Placements.{laid_by};
 ghost use Rattle.replay_app.specs.Answer.{IsLeft, IsTold};
 ghost use Rattle.replay_app.specs.Named.{pacing_form, replay_form, HasRate};
-ghost use Rattle.replay_app.specs.Output.{IsOutput};
-ghost use Rattle.replay_app.specs.Scripts.{ending_status};
-ghost use Rattle.replay_app.specs.Stages.{BehindScript, BehindRoom, BehindTarget, BehindTargetText};
+ghost use Rattle.replay_app.specs.Output.{laid_run};
+ghost use Rattle.replay_app.specs.Scripts.{OfLines};
+ghost use Rattle.replay_app.specs.Stages.{BehindScript, BehindRoom, BehindTarget, BehindTargetText, BehindWords, watching_in};
 ghost use Rattle.replay_app.specs.Statuses.{IsOneOf, IsRefusal, run_statuses, pace_statuses, paced_statuses, statuses_of, status_code};
 ghost use Rattle.replay_app.specs.Words.{AreLent, WhereTold, file_words, pacing_words};
+ghost use Rattle.tap_core.specs.Watching.{sight_of, AreNoMore};
 
 use crate::policies::read_policy;
 use crate::refusal::{Read, Refusal};
@@ -26,21 +26,42 @@ use crate::status::Status;
 use crate::targets::read_target_file;
 use crate::task::{ScriptFiles, Task};
 use crate::words::{Pacing, ReplayFiles};
-use crate::writing::refuse;
+use crate::writing::{refuse, write};
 use embed_core::{EmbedFault, Target, embed};
 use fabric_core::Fabric;
 use outside_core::{Shelf, Sink, Stop};
 use policy_core::Policy;
 use report_core::FaultKind;
-use sched_capture::{Placement, replay};
+use sched_capture::{Ending, Placement, replay};
 use sched_run::Pace;
 use std::alloc::Global;
+use tap_core::{Tap, Watching};
 
 /// The target has no room for the policy's tree.
 const NO_ROOM: Refusal = Refusal { code: 1, place: 0 };
 
-/// Runs a script or a link over a capture's file.
-fn replay_capture<S: Shelf, K: Sink, F: Fabric>(
+/// Writes the lines of the taps that watched, behind the report of a run that ended whole.
+fn write_lines<K: Sink, T: Tap>(
+    alloc: Global,
+    sink: &mut K,
+    watch: &Watching<T>,
+    ending: Ending,
+) -> Result<(), Stop>
+    ensures text { OnOk result (OfLines ending (sight_of T.kind_of T.state_of watch.now)
+        (Appended (K.written sink.old) (K.written sink.new))) }
+    ensures part { OnErr result (OfLines ending (sight_of T.kind_of T.state_of watch.now)
+        (AppendedPrefix (K.written sink.old) (K.written sink.new))) }
+    ensures sink_cause { IsErrOf result Stop.Sink → Rose (K.faults sink.old) (K.faults sink.new) }
+    ensures reads_nothing { IsErrOf result Stop.Source → ⊥ }
+{
+    match ending {
+        Ending::Whole(_) => write(alloc, &watch.lines()?, sink),
+        Ending::BadCapture(_, _) | Ending::PastLast(_) => Ok(()),
+    }
+}
+
+/// Runs a script or a link over a capture's file, and writes the lines of the taps that watched.
+fn replay_capture<S: Shelf, K: Sink, F: Fabric, T: Tap>(
     alloc: Global,
     policy: &Policy,
     placement: Placement,
@@ -48,6 +69,7 @@ fn replay_capture<S: Shelf, K: Sink, F: Fabric>(
     shelf: &mut S,
     sink: &mut K,
     fabric: &mut F,
+    watch: &mut Watching<T>,
 ) -> Result<Status, Stop>
     requires lent { IsTrue (S.lends shelf.old task.now.capture.now) }
     requires bounded { IsBounded task.now.pace }
@@ -57,29 +79,28 @@ fn replay_capture<S: Shelf, K: Sink, F: Fabric>(
     requires pushes { F.pushed fabric.old < 2 ^ 61 }
     requires pops { F.popped fabric.old < 2 ^ 61 }
 
-    ensures status { IfOk result (λ s. IfSome (S.content shelf.old task.now.capture.now) (λ file.
-        status_code s ≡ ending_status (paced_answer policy.now (pace_of task.now.pace) file).ending)) }
+    ensures answer { IfSome (S.content shelf.old task.now.capture.now) (λ file.
+        IsTold (λ a. a ≡ laid_run policy.now (laid_by placement) (pace_of task.now.pace) file
+        (watching_in (sight_of T.kind_of T.state_of watch.old))) result (K.written sink.old) (K.written sink.new)) }
+    ensures left { IfSome (S.content shelf.old task.now.capture.now) (λ file.
+        IsLeft F.Fabric (λ a. a ≡ laid_run policy.now (laid_by placement) (pace_of task.now.pace) file
+        (watching_in (sight_of T.kind_of T.state_of watch.old))) result fabric.old fabric.new
+        (sight_of T.kind_of T.state_of watch.old) (sight_of T.kind_of T.state_of watch.new)) }
+    ensures fewer { AreNoMore (sight_of T.kind_of T.state_of watch.old) (sight_of T.kind_of T.state_of watch.new) }
     ensures statuses { IfOk result (λ s. IsOneOf (pace_statuses task.now.pace) (status_code s)) }
-    ensures text { OnOk result (IfSome (S.content shelf.old task.now.capture.now) (λ file.
-        Appended (K.written sink.old) (K.written sink.new) (paced_answer policy.now (pace_of task.now.pace) file).text)) }
-    ensures part { OnErr result (IfSome (S.content shelf.old task.now.capture.now) (λ file.
-        AppendedPrefix (K.written sink.old) (K.written sink.new) (paced_answer policy.now (pace_of task.now.pace) file).text)) }
-    ensures fabric { OnOk result (IfSome (S.content shelf.old task.now.capture.now) (λ file.
-        Leaves F.Fabric (run_of policy.now.policy (laid_by placement) (paced_answer policy.now (pace_of task.now.pace) file).events)
-        fabric.old fabric.new)) }
-    ensures fabric_part { OnErr result (IfSome (S.content shelf.old task.now.capture.now) (λ file.
-        LeavesPart F.Fabric (run_of policy.now.policy (laid_by placement) (paced_answer policy.now (pace_of task.now.pace) file).events)
-        fabric.old fabric.new)) }
     ensures shelf_cause { IsErrOf result Stop.Source → Rose (S.faults shelf.old) (S.faults shelf.new) }
     ensures sink_cause { IsErrOf result Stop.Sink → Rose (K.faults sink.old) (K.faults sink.new) }
 {
     shelf.begin(task.capture)?;
-    let ending = replay(alloc, policy, placement, task.pace, shelf, sink, fabric)?;
+    let ending = replay(
+        alloc, policy, placement, task.pace, shelf, sink, fabric, watch,
+    )?;
+    write_lines(alloc, sink, watch, ending)?;
     Ok(Status::of_run(ending))
 }
 
 /// Runs a script's file over a capture's file.
-fn replay_script<S: Shelf, K: Sink, F: Fabric>(
+fn replay_script<S: Shelf, K: Sink, F: Fabric, T: Tap>(
     alloc: Global,
     policy: &Policy,
     placement: Placement,
@@ -87,6 +108,7 @@ fn replay_script<S: Shelf, K: Sink, F: Fabric>(
     shelf: &mut S,
     sink: &mut K,
     fabric: &mut F,
+    watch: &mut Watching<T>,
 ) -> Result<Status, Stop>
     requires lent { AreLent (S.lends shelf.old) (files.now.capture.now ∷ files.now.script.now ∷ []) }
     requires range { IsInRange placement.target.arities placement.target.above }
@@ -96,11 +118,15 @@ fn replay_script<S: Shelf, K: Sink, F: Fabric>(
     requires pops { F.popped fabric.old < 2 ^ 61 }
 
     ensures answer { WhereTold (S.content shelf.old) (files.now.capture.now ∷ files.now.script.now ∷ []) (λ contents.
-        IsTold (BehindScript policy.now (laid_by placement) files.now.script.now files.now.capture.now contents)
+        IsTold (BehindScript (watching_in (sight_of T.kind_of T.state_of watch.old))
+        policy.now (laid_by placement) files.now.script.now files.now.capture.now contents)
         result (K.written sink.old) (K.written sink.new)) }
-    ensures fabric { WhereTold (S.content shelf.old) (files.now.capture.now ∷ files.now.script.now ∷ []) (λ contents.
-        IsLeft F.Fabric (BehindScript policy.now (laid_by placement) files.now.script.now files.now.capture.now contents)
-        result fabric.old fabric.new) }
+    ensures left { WhereTold (S.content shelf.old) (files.now.capture.now ∷ files.now.script.now ∷ []) (λ contents.
+        IsLeft F.Fabric (BehindScript (watching_in (sight_of T.kind_of T.state_of watch.old))
+        policy.now (laid_by placement) files.now.script.now files.now.capture.now contents)
+        result fabric.old fabric.new
+        (sight_of T.kind_of T.state_of watch.old) (sight_of T.kind_of T.state_of watch.new)) }
+    ensures fewer { AreNoMore (sight_of T.kind_of T.state_of watch.old) (sight_of T.kind_of T.state_of watch.new) }
     ensures statuses { IfOk result (λ s. IsOneOf run_statuses (status_code s)) }
     ensures shelf_cause { IsErrOf result Stop.Source → Rose (S.faults shelf.old) (S.faults shelf.new) }
     ensures sink_cause { IsErrOf result Stop.Sink → Rose (K.faults sink.old) (K.faults sink.new) }
@@ -110,14 +136,14 @@ fn replay_script<S: Shelf, K: Sink, F: Fabric>(
             let pace = Pace::Script(script.steps());
             let capture = files.capture;
             let task = Task { pace, capture };
-            replay_capture(alloc, policy, placement, &task, shelf, sink, fabric)
+            replay_capture(alloc, policy, placement, &task, shelf, sink, fabric, watch)
         }
         Read::Refused(refusal) => refuse(alloc, sink, FaultKind::Script, refusal),
     }
 }
 
 /// Runs what paces a run of a policy whose tree is laid into the target.
-fn replay_paced<S: Shelf, K: Sink, F: Fabric>(
+fn replay_paced<S: Shelf, K: Sink, F: Fabric, T: Tap>(
     alloc: Global,
     policy: &Policy,
     placement: Placement,
@@ -125,6 +151,7 @@ fn replay_paced<S: Shelf, K: Sink, F: Fabric>(
     shelf: &mut S,
     sink: &mut K,
     fabric: &mut F,
+    watch: &mut Watching<T>,
 ) -> Result<Status, Stop>
     requires lent { AreLent (S.lends shelf.old) (files.now.capture.now ∷ pacing_words (pacing_form files.now.pacing)) }
     requires rate { HasRate files.now.pacing }
@@ -135,34 +162,38 @@ fn replay_paced<S: Shelf, K: Sink, F: Fabric>(
     requires pops { F.popped fabric.old < 2 ^ 61 }
 
     ensures answer { WhereTold (S.content shelf.old) (files.now.capture.now ∷ pacing_words (pacing_form files.now.pacing)) (λ contents.
-        IsTold (BehindRoom policy.now (laid_by placement) (pacing_form files.now.pacing) files.now.capture.now contents)
+        IsTold (BehindRoom (watching_in (sight_of T.kind_of T.state_of watch.old))
+        policy.now (laid_by placement) (pacing_form files.now.pacing) files.now.capture.now contents)
         result (K.written sink.old) (K.written sink.new)) }
-    ensures fabric { WhereTold (S.content shelf.old) (files.now.capture.now ∷ pacing_words (pacing_form files.now.pacing)) (λ contents.
-        IsLeft F.Fabric (BehindRoom policy.now (laid_by placement) (pacing_form files.now.pacing) files.now.capture.now contents)
-        result fabric.old fabric.new) }
+    ensures left { WhereTold (S.content shelf.old) (files.now.capture.now ∷ pacing_words (pacing_form files.now.pacing)) (λ contents.
+        IsLeft F.Fabric (BehindRoom (watching_in (sight_of T.kind_of T.state_of watch.old))
+        policy.now (laid_by placement) (pacing_form files.now.pacing) files.now.capture.now contents)
+        result fabric.old fabric.new
+        (sight_of T.kind_of T.state_of watch.old) (sight_of T.kind_of T.state_of watch.new)) }
+    ensures fewer { AreNoMore (sight_of T.kind_of T.state_of watch.old) (sight_of T.kind_of T.state_of watch.new) }
     ensures statuses { IfOk result (λ s. IsOneOf (paced_statuses (pacing_form files.now.pacing)) (status_code s)) }
     ensures shelf_cause { IsErrOf result Stop.Source → Rose (S.faults shelf.old) (S.faults shelf.new) }
     ensures sink_cause { IsErrOf result Stop.Sink → Rose (K.faults sink.old) (K.faults sink.new) }
 {
     match files.pacing {
-        Pacing::Script(name) => {
+        Pacing::Script(name, _) => {
             let names = ScriptFiles {
                 capture: files.capture,
                 script: name,
             };
-            replay_script(alloc, policy, placement, &names, shelf, sink, fabric)
+            replay_script(alloc, policy, placement, &names, shelf, sink, fabric, watch)
         }
         Pacing::Link(rate) => {
             let pace = Pace::Link(rate);
             let capture = files.capture;
             let task = Task { pace, capture };
-            replay_capture(alloc, policy, placement, &task, shelf, sink, fabric)
+            replay_capture(alloc, policy, placement, &task, shelf, sink, fabric, watch)
         }
     }
 }
 
 /// Lays the tree of an accepted policy into an accepted target, and runs the other files.
-fn replay_placed<S: Shelf, K: Sink, F: Fabric>(
+fn replay_placed<S: Shelf, K: Sink, F: Fabric, T: Tap>(
     alloc: Global,
     policy: &Policy,
     target: Target,
@@ -170,6 +201,7 @@ fn replay_placed<S: Shelf, K: Sink, F: Fabric>(
     shelf: &mut S,
     sink: &mut K,
     fabric: &mut F,
+    watch: &mut Watching<T>,
 ) -> Result<Status, Stop>
     requires lent { AreLent (S.lends shelf.old) (files.now.capture.now ∷ pacing_words (pacing_form files.now.pacing)) }
     requires rate { HasRate files.now.pacing }
@@ -178,20 +210,26 @@ fn replay_placed<S: Shelf, K: Sink, F: Fabric>(
     requires pops { F.popped fabric.old < 2 ^ 61 }
 
     ensures answer { WhereTold (S.content shelf.old) (files.now.capture.now ∷ pacing_words (pacing_form files.now.pacing)) (λ contents.
-        IsTold (BehindTarget policy.now target (pacing_form files.now.pacing) files.now.capture.now contents)
+        IsTold (BehindTarget (watching_in (sight_of T.kind_of T.state_of watch.old))
+        policy.now target (pacing_form files.now.pacing) files.now.capture.now contents)
         result (K.written sink.old) (K.written sink.new)) }
-    ensures fabric { WhereTold (S.content shelf.old) (files.now.capture.now ∷ pacing_words (pacing_form files.now.pacing)) (λ contents.
-        IsLeft F.Fabric (BehindTarget policy.now target (pacing_form files.now.pacing) files.now.capture.now contents)
-        result fabric.old fabric.new) }
+    ensures left { WhereTold (S.content shelf.old) (files.now.capture.now ∷ pacing_words (pacing_form files.now.pacing)) (λ contents.
+        IsLeft F.Fabric (BehindTarget (watching_in (sight_of T.kind_of T.state_of watch.old))
+        policy.now target (pacing_form files.now.pacing) files.now.capture.now contents)
+        result fabric.old fabric.new
+        (sight_of T.kind_of T.state_of watch.old) (sight_of T.kind_of T.state_of watch.new)) }
+    ensures fewer { AreNoMore (sight_of T.kind_of T.state_of watch.old) (sight_of T.kind_of T.state_of watch.new) }
     ensures statuses { IfOk result (λ s. IsOneOf (5 ∷ paced_statuses (pacing_form files.now.pacing)) (status_code s)) }
     ensures refused { IfOk result (λ s. IsRefusal (status_code s) → IsAsItWas F.Fabric fabric.old fabric.new) }
+    ensures unwatched { IfOk result (λ s. IsRefusal (status_code s)
+        → sight_of T.kind_of T.state_of watch.new ≡ sight_of T.kind_of T.state_of watch.old) }
     ensures shelf_cause { IsErrOf result Stop.Source → Rose (S.faults shelf.old) (S.faults shelf.new) }
     ensures sink_cause { IsErrOf result Stop.Sink → Rose (K.faults sink.old) (K.faults sink.new) }
 {
     match embed(alloc, policy.topo(), &target) {
         Ok(map) => {
             let placement = Placement { target, map };
-            replay_paced(alloc, policy, placement, files, shelf, sink, fabric)
+            replay_paced(alloc, policy, placement, files, shelf, sink, fabric, watch)
         }
         Err(EmbedFault::NoEmbedding) => refuse(alloc, sink, FaultKind::Size, NO_ROOM),
         Err(EmbedFault::NoMemory) => Err(Stop::Memory),
@@ -199,13 +237,14 @@ fn replay_placed<S: Shelf, K: Sink, F: Fabric>(
 }
 
 /// Runs the files of an accepted policy.
-fn replay_target<S: Shelf, K: Sink, F: Fabric>(
+fn replay_target<S: Shelf, K: Sink, F: Fabric, T: Tap>(
     alloc: Global,
     policy: &Policy,
     files: &ReplayFiles<'_>,
     shelf: &mut S,
     sink: &mut K,
     fabric: &mut F,
+    watch: &mut Watching<T>,
 ) -> Result<Status, Stop>
     requires lent { AreLent (S.lends shelf.old) (files.now.target.now ∷ files.now.capture.now ∷ pacing_words (pacing_form files.now.pacing)) }
     requires rate { HasRate files.now.pacing }
@@ -214,31 +253,40 @@ fn replay_target<S: Shelf, K: Sink, F: Fabric>(
 
     ensures answer { WhereTold (S.content shelf.old)
         (files.now.target.now ∷ files.now.capture.now ∷ pacing_words (pacing_form files.now.pacing)) (λ contents.
-        IsTold (BehindTargetText policy.now files.now.target.now (pacing_form files.now.pacing) files.now.capture.now contents)
+        IsTold (BehindTargetText (watching_in (sight_of T.kind_of T.state_of watch.old))
+        policy.now files.now.target.now (pacing_form files.now.pacing) files.now.capture.now contents)
         result (K.written sink.old) (K.written sink.new)) }
-    ensures fabric { WhereTold (S.content shelf.old)
+    ensures left { WhereTold (S.content shelf.old)
         (files.now.target.now ∷ files.now.capture.now ∷ pacing_words (pacing_form files.now.pacing)) (λ contents.
-        IsLeft F.Fabric (BehindTargetText policy.now files.now.target.now (pacing_form files.now.pacing) files.now.capture.now contents)
-        result fabric.old fabric.new) }
+        IsLeft F.Fabric (BehindTargetText (watching_in (sight_of T.kind_of T.state_of watch.old))
+        policy.now files.now.target.now (pacing_form files.now.pacing) files.now.capture.now contents)
+        result fabric.old fabric.new
+        (sight_of T.kind_of T.state_of watch.old) (sight_of T.kind_of T.state_of watch.new)) }
+    ensures fewer { AreNoMore (sight_of T.kind_of T.state_of watch.old) (sight_of T.kind_of T.state_of watch.new) }
     ensures statuses { IfOk result (λ s. IsOneOf (4 ∷ 5 ∷ paced_statuses (pacing_form files.now.pacing)) (status_code s)) }
     ensures refused { IfOk result (λ s. IsRefusal (status_code s) → IsAsItWas F.Fabric fabric.old fabric.new) }
+    ensures unwatched { IfOk result (λ s. IsRefusal (status_code s)
+        → sight_of T.kind_of T.state_of watch.new ≡ sight_of T.kind_of T.state_of watch.old) }
     ensures shelf_cause { IsErrOf result Stop.Source → Rose (S.faults shelf.old) (S.faults shelf.new) }
     ensures sink_cause { IsErrOf result Stop.Sink → Rose (K.faults sink.old) (K.faults sink.new) }
 {
     match read_target_file(alloc, shelf, files.target)? {
-        Read::Accepted(target) => replay_placed(alloc, policy, target, files, shelf, sink, fabric),
+        Read::Accepted(target) => replay_placed(
+            alloc, policy, target, files, shelf, sink, fabric, watch,
+        ),
         Read::Refused(refusal) => refuse(alloc, sink, FaultKind::Target, refusal),
     }
 }
 
 /// Runs these files through the fabric. Each file is read when its turn comes, and the fabric is touched only when the
 /// capture's header is accepted.
-pub fn replay_files<S: Shelf, K: Sink, F: Fabric>(
+pub fn replay_files<S: Shelf, K: Sink, F: Fabric, T: Tap>(
     alloc: Global,
     files: &ReplayFiles<'_>,
     shelf: &mut S,
     sink: &mut K,
     fabric: &mut F,
+    watch: &mut Watching<T>,
 ) -> Result<Status, Stop>
     requires lent { AreLent (S.lends shelf.old) (file_words (replay_form files.now)) }
     requires rate { HasRate files.now.pacing }
@@ -246,16 +294,31 @@ pub fn replay_files<S: Shelf, K: Sink, F: Fabric>(
     requires pops { F.popped fabric.old < 2 ^ 61 }
 
     ensures answer { WhereTold (S.content shelf.old) (file_words (replay_form files.now)) (λ contents.
-        IsTold (IsOutput (replay_form files.now) contents) result (K.written sink.old) (K.written sink.new)) }
-    ensures fabric { WhereTold (S.content shelf.old) (file_words (replay_form files.now)) (λ contents.
-        IsLeft F.Fabric (IsOutput (replay_form files.now) contents) result fabric.old fabric.new) }
+        IsTold (BehindWords (watching_in (sight_of T.kind_of T.state_of watch.old))
+        files.now.policy.now files.now.target.now (pacing_form files.now.pacing) files.now.capture.now contents)
+        result (K.written sink.old) (K.written sink.new)) }
+    ensures left { WhereTold (S.content shelf.old) (file_words (replay_form files.now)) (λ contents.
+        IsLeft F.Fabric (BehindWords (watching_in (sight_of T.kind_of T.state_of watch.old))
+        files.now.policy.now files.now.target.now (pacing_form files.now.pacing) files.now.capture.now contents) result fabric.old fabric.new
+        (sight_of T.kind_of T.state_of watch.old) (sight_of T.kind_of T.state_of watch.new)) }
+    ensures fewer { AreNoMore (sight_of T.kind_of T.state_of watch.old) (sight_of T.kind_of T.state_of watch.new) }
     ensures statuses { IfOk result (λ s. IsOneOf (statuses_of (replay_form files.now)) (status_code s)) }
     ensures refused { IfOk result (λ s. IsRefusal (status_code s) → IsAsItWas F.Fabric fabric.old fabric.new) }
+    ensures unwatched { IfOk result (λ s. IsRefusal (status_code s)
+        → sight_of T.kind_of T.state_of watch.new ≡ sight_of T.kind_of T.state_of watch.old) }
     ensures shelf_cause { IsErrOf result Stop.Source → Rose (S.faults shelf.old) (S.faults shelf.new) }
     ensures sink_cause { IsErrOf result Stop.Sink → Rose (K.faults sink.old) (K.faults sink.new) }
 {
     match read_policy(alloc, shelf, files.policy)? {
-        Read::Accepted(judged) => replay_target(alloc, &judged.policy, files, shelf, sink, fabric),
+        Read::Accepted(judged) => replay_target(
+            alloc,
+            &judged.policy,
+            files,
+            shelf,
+            sink,
+            fabric,
+            watch,
+        ),
         Read::Refused(refusal) => refuse(alloc, sink, FaultKind::Policy, refusal),
     }
 }

@@ -4,8 +4,9 @@ use fabric_core::FlatFabric;
 use outside_core::{MemShelf, MemSink, PlainShelf, PlainSink};
 use std::alloc::Global;
 use std::test::Fail;
+use tap_core::Tap;
 
-const POLICY: &[u8] = b"policy 1\nclass all\nleaf root using fifo classes all\n";
+pub(crate) const POLICY: &[u8] = b"policy 1\nclass all\nleaf root using fifo classes all\n";
 
 /// The same policy with other spaces, and a comment.
 const SPELLED: &[u8] =
@@ -15,15 +16,16 @@ const SPELLED: &[u8] =
 const BELOW_A_ROOT: &[u8] =
     b"policy 1\nclass all\nleaf q using fifo classes all\nnode root using fifo children q\n";
 
-const TARGET: &[u8] = b"arity = 2\nheight = 0\n";
+pub(crate) const TARGET: &[u8] = b"arity = 2\nheight = 0\n";
 
 /// One leaf that holds a packet at most.
-const FULL: &[u8] = b"policy 2\nclass all\nleaf root using fifo limit 1 classes all\n";
+pub(crate) const FULL: &[u8] = b"policy 2\nclass all\nleaf root using fifo limit 1 classes all\n";
 /// The same with a version that has no limits.
 const TOO_OLD: &[u8] = b"policy 1\nclass all\nleaf root using fifo limit 1 classes all\n";
 
 /// A header and two records of four bytes each, as tcpdump writes them.
-const CAPTURE: &[u8] = b"\xd4\xc3\xb2\xa1\x02\0\x04\0\0\0\0\0\0\0\0\0\0\0\x04\0\x93\0\0\0\
+pub(crate) const CAPTURE: &[u8] =
+    b"\xd4\xc3\xb2\xa1\x02\0\x04\0\0\0\0\0\0\0\0\0\0\0\x04\0\x93\0\0\0\
     \x01\0\0\0\0\0\0\0\x04\0\0\0\x04\0\0\0\0\0\0\x01\
     \x01\0\0\0\x01\0\0\0\x04\0\0\0\x04\0\0\0\0\0\0\x02";
 
@@ -34,7 +36,7 @@ const EXACT: &[u8] = b"\xa1\xb2\x3c\x4d\0\x02\0\x04\0\0\0\0\0\0\0\0\0\x04\0\0\0\
     \0\0\0\x0a\0\0\0\x06\0\0\0\x01\0\0\0\x2e\xff";
 
 /// Words in memory.
-fn words(alloc: Global, list: &[&str]) -> Result<Vec<String>, Fail> {
+pub(crate) fn words(alloc: Global, list: &[&str]) -> Result<Vec<String>, Fail> {
     let mut words = Vec::new(alloc);
     for word in list {
         words.push(String::from_str(alloc, word)?)?;
@@ -64,7 +66,7 @@ fn files_for(
 }
 
 /// The files of a run.
-fn files(
+pub(crate) fn files(
     alloc: Global,
     policy: &[u8],
     capture: &[u8],
@@ -83,7 +85,8 @@ fn answer_to(
     let mut shelf = PlainShelf::new(held);
     let mut sink = PlainSink::new(alloc, 200)?;
     let mut fabric = FlatFabric::new(alloc)?;
-    let status = run(alloc, &words, &mut shelf, &mut sink, &mut fabric);
+    let mut taps: Vec<Box<dyn Tap>> = Vec::new(alloc);
+    let status = run(alloc, &words, &mut shelf, &mut sink, &mut fabric, &mut taps);
     Ok((status, sink.bytes().to_vec(alloc)?))
 }
 
@@ -352,7 +355,15 @@ fn a_fault_ends_the_run(rt: HostRuntime) -> Result<(), Fail> {
     first_write_fails.push(1)?;
     let mut sink = MemSink::new(alloc, 200, 9, first_write_fails)?;
     let mut fabric = FlatFabric::new(alloc)?;
-    let answer = run(alloc, &planned, &mut shelf, &mut sink, &mut fabric);
+    let mut taps: Vec<Box<dyn Tap>> = Vec::new(alloc);
+    let answer = run(
+        alloc,
+        &planned,
+        &mut shelf,
+        &mut sink,
+        &mut fabric,
+        &mut taps,
+    );
     assert_eq!(rt; (answer, sink.bytes()), (9, b"".as_slice()));
     for (words, before) in [(&replayed, 3), (&directed, 2)] {
         let mut shelf = PlainShelf::new(files(alloc, POLICY, CAPTURE, b"a\n")?);
@@ -360,7 +371,7 @@ fn a_fault_ends_the_run(rt: HostRuntime) -> Result<(), Fail> {
         let mut second_write_fails = Vec::new(alloc);
         second_write_fails.push(2)?;
         let mut sink = MemSink::new(alloc, 200, 1, second_write_fails)?;
-        let answer = run(alloc, words, &mut shelf, &mut sink, &mut fabric);
+        let answer = run(alloc, words, &mut shelf, &mut sink, &mut fabric, &mut taps);
         assert_eq!(rt; (answer, sink.bytes()), (9, b"a".as_slice()));
 
         // Each file before the capture takes three calls: `begin`, a read that finds all of the file, and
@@ -371,12 +382,26 @@ fn a_fault_ends_the_run(rt: HostRuntime) -> Result<(), Fail> {
         let mut capture_fails = MemShelf::new(held, 1000, first_read_fails);
         let mut sink = PlainSink::new(alloc, 200)?;
         let mut fabric = FlatFabric::new(alloc)?;
-        let answer = run(alloc, words, &mut capture_fails, &mut sink, &mut fabric);
+        let answer = run(
+            alloc,
+            words,
+            &mut capture_fails,
+            &mut sink,
+            &mut fabric,
+            &mut taps,
+        );
         assert_eq!(rt; (answer, sink.bytes().len()), (8, 0));
 
         let mut no_files = MemShelf::new(Vec::new(alloc), 7, Vec::new(alloc));
         let mut fabric = FlatFabric::new(alloc)?;
-        let answer = run(alloc, words, &mut no_files, &mut sink, &mut fabric);
+        let answer = run(
+            alloc,
+            words,
+            &mut no_files,
+            &mut sink,
+            &mut fabric,
+            &mut taps,
+        );
         assert_eq!(rt; (answer, sink.bytes().len()), (8, 0));
     }
     Ok(())

@@ -1,17 +1,18 @@
 //! The words of the commands.
 ghost use Rattle.std.specs.Prelude.{◌≡◌, IfSome, MatchOption, option_map};
 ghost use Rattle.link_defs.specs.Link.{IsRate};
-ghost use Rattle.replay_app.specs.Words.{rate_of, pacing_by, form_of, no_form, texts};
+ghost use Rattle.replay_app.specs.Words.{rate_of, named_in, link_by, pacing_by, form_of, no_form, texts};
 ghost use Rattle.replay_app.specs.Named.{pacing_form, command_form, HasRate, CanRun};
 
 use events_core::MOST_RATE;
+use tap_core::Named;
 use text_core::decimal;
 
 /// What paces a run through the fabric.
 #[derive(Clone, Copy, Debug)]
 pub enum Pacing<'a> {
-    /// The script of this name.
-    Script(&'a str),
+    /// The script of this name, with the kinds of taps that watch.
+    Script(&'a str, Named),
     /// A link at this rate in bytes per second.
     Link(u64),
 }
@@ -62,14 +63,38 @@ fn rate_of(word: &str) -> Option<u64>
     (1..=MOST_RATE).contains(&rate).then_some(rate)
 }
 
-/// What paces a run through the fabric, by the first word and the last.
-fn pacing_of<'a>(command: &str, last: &'a str) -> Option<Pacing<'a>>
-    ensures pacing { option_map pacing_form result ≡ pacing_by command.now last.now }
+/// The kinds of taps that the words name in pairs, each at most once, and these.
+fn named_in(named: Named, words: &[String]) -> Option<Named>
+    ensures { result ≡ named_in named (texts words.now) }
+{
+    match words {
+        [] => Some(named),
+        [word, name, more @ ..] if word.as_str() == "tap" => {
+            named_in(named.with(name.as_str())?, more)
+        }
+        _ => None,
+    }
+}
+
+/// A link behind whose rate no word stands.
+fn link_by<'a>(rate: &str, more: &[String]) -> Option<Pacing<'a>>
+    ensures pacing { option_map pacing_form result ≡ link_by rate.now (texts more.now) }
+    ensures range { IfSome result HasRate }
+{
+    if !more.is_empty() {
+        return None;
+    }
+    Some(Pacing::Link(rate_of(rate)?))
+}
+
+/// What paces a run through the fabric, by the first word, the fifth, and those behind it.
+fn pacing_of<'a>(command: &str, fifth: &'a str, more: &[String]) -> Option<Pacing<'a>>
+    ensures pacing { option_map pacing_form result ≡ pacing_by command.now fifth.now (texts more.now) }
     ensures range { IfSome result HasRate }
 {
     match command {
-        "replay" => Some(Pacing::Script(last)),
-        "link" => Some(Pacing::Link(rate_of(last)?)),
+        "replay" => Some(Pacing::Script(fifth, named_in(Named::none(), more)?)),
+        "link" => link_by(fifth, more),
         _ => None,
     }
 }
@@ -96,8 +121,8 @@ pub fn command_of(words: &[String]) -> Option<Command<'_>>
                 script: script.as_str(),
             }))
         }
-        [command, policy, target, capture, last] => {
-            let pacing = pacing_of(command.as_str(), last.as_str())?;
+        [command, policy, target, capture, fifth, more @ ..] => {
+            let pacing = pacing_of(command.as_str(), fifth.as_str(), more)?;
             Some(Command::Replay(ReplayFiles {
                 policy: policy.as_str(),
                 target: target.as_str(),

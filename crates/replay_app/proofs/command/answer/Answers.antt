@@ -6,21 +6,30 @@ use Rattle.replay_app.proofs.FollowLaws.{exactly_told, known-status}
 use Rattle.replay_app.proofs.Unused.{unused}
 use Rattle.replay_app.proofs.command.answer.Goals as goal
 
-pub returns-in-Some-Replay-clause-fabric : goal.returns-in-Some-Replay-clause-fabric
-returns-in-Some-Replay-clause-fabric g c = rw (rw c.in-Some-Replay.field-0-is at c.in-Some-Replay.ensures.form) c.replay_files.ensures.fabric
+pub returns-in-Some-Replay-clause-left : goal.returns-in-Some-Replay-clause-left
+returns-in-Some-Replay-clause-left g c = rw (rw c.in-Some-Replay.field-0-is at c.in-Some-Replay.ensures.form) c.replay_watched.ensures.left
 
-pub returns-in-Some-Check-clause-fabric : goal.returns-in-Some-Check-clause-fabric
-returns-in-Some-Check-clause-fabric g c =
-    rw (rw c.in-Some-Check.field-0-is at c.in-Some-Check.ensures.form) (λ contents told. unused g.F.Fabric (command_form (Check c.in-Some-Check.policy)) contents tt c.args.fabric.now c.check_file.result)
+pub returns-in-Some-Check-clause-left : goal.returns-in-Some-Check-clause-left
+returns-in-Some-Check-clause-left g c =
+    rw (rw c.in-Some-Check.field-0-is at c.in-Some-Check.ensures.form) (λ contents told. unused g.F.Fabric (command_form (Check c.in-Some-Check.policy)) contents _ tt c.args.fabric.now c.check_file.result)
 
-pub returns-in-Some-Plan-clause-fabric : goal.returns-in-Some-Plan-clause-fabric
-returns-in-Some-Plan-clause-fabric g c =
-    rw (rw c.in-Some-Plan.field-0-is at c.in-Some-Plan.ensures.form) (λ contents told. unused g.F.Fabric (command_form (Plan c.in-Some-Plan.files)) contents tt c.args.fabric.now c.plan_files.result)
+pub returns-in-Some-Plan-clause-left : goal.returns-in-Some-Plan-clause-left
+returns-in-Some-Plan-clause-left g c =
+    rw (rw c.in-Some-Plan.field-0-is at c.in-Some-Plan.ensures.form) (λ contents told. unused g.F.Fabric (command_form (Plan c.in-Some-Plan.files)) contents _ tt c.args.fabric.now c.plan_files.result)
 
-pub returns-in-Some-Direct-clause-fabric : goal.returns-in-Some-Direct-clause-fabric
-returns-in-Some-Direct-clause-fabric g c =
-    rw (rw c.in-Some-Direct.field-0-is at c.in-Some-Direct.ensures.form) (λ contents told. unused g.F.Fabric (command_form (Direct c.in-Some-Direct.files)) contents tt c.args.fabric.now c.direct_files.result)
+pub returns-in-Some-Direct-clause-left : goal.returns-in-Some-Direct-clause-left
+returns-in-Some-Direct-clause-left g c =
+    rw (rw c.in-Some-Direct.field-0-is at c.in-Some-Direct.ensures.form) (λ contents told. unused g.F.Fabric (command_form (Direct c.in-Some-Direct.files)) contents _ tt c.args.fabric.now c.direct_files.result)
 
 pub returns-in-None-clause-answer : goal.returns-in-None-clause-answer
 returns-in-None-clause-answer g c = λ contents told.
     rw c.in-None.ensures.form (exactly_told (refusal kind.Words 0 0) c.refuse.result _ _ (known-status c.refuse.result kind.Words c.refuse.ensures.status) c.refuse.ensures.text c.refuse.ensures.part)
+
+pub returns-in-Some-Check-clause-answer : goal.returns-in-Some-Check-clause-answer
+returns-in-Some-Check-clause-answer g c = rw (rw c.in-Some-Check.field-0-is at c.in-Some-Check.ensures.form) (λ contents told. c.check_file.ensures.answer contents told)
+
+pub returns-in-Some-Plan-clause-answer : goal.returns-in-Some-Plan-clause-answer
+returns-in-Some-Plan-clause-answer g c = rw (rw c.in-Some-Plan.field-0-is at c.in-Some-Plan.ensures.form) (λ contents told. c.plan_files.ensures.answer contents told)
+
+pub returns-in-Some-Direct-clause-answer : goal.returns-in-Some-Direct-clause-answer
+returns-in-Some-Direct-clause-answer g c = rw (rw c.in-Some-Direct.field-0-is at c.in-Some-Direct.ensures.form) (λ contents told. c.direct_files.ensures.answer contents told)

@@ -6,7 +6,10 @@ use Rattle.replay_app.proofs.command.run.Goals as goal
 pub returns-in-Ok-clause-fabric : goal.returns-in-Ok-clause-fabric
 returns-in-Ok-clause-fabric g c = λ contents told.
     let low = low_code c.in-Ok.status in
-    record { whole = λ below. (c.in-Ok.ensures.fabric contents told).whole; part = λ above. absurd (omega (arith, low, above, c.code.ensures)) }
+    record { whole = λ below a is. ((c.in-Ok.ensures.left contents told).whole a is).fabric; part = λ above. absurd (omega (arith, low, above, c.code.ensures)) }
+
+pub returns-in-Ok-clause-taps : goal.returns-in-Ok-clause-taps
+returns-in-Ok-clause-taps g c = λ contents told below a is. ((c.in-Ok.ensures.left contents told).whole a is).taps
 
 pub returns-in-Err-clause-answer : goal.returns-in-Err-clause-answer
 returns-in-Err-clause-answer g c = λ contents told.
@@ -15,4 +18,7 @@ returns-in-Err-clause-answer g c = λ contents told.
 pub returns-in-Err-clause-fabric : goal.returns-in-Err-clause-fabric
 returns-in-Err-clause-fabric g c = λ contents told.
     let high = high_stop c.in-Err.stop in
-    record { whole = λ below. absurd (omega (arith, high, below, c.stop_status.ensures)); part = λ above. (c.in-Err.ensures.fabric contents told).part }
+    record { whole = λ below. absurd (omega (arith, high, below, c.stop_status.ensures)); part = λ above. (c.in-Err.ensures.left contents told).part }
+
+pub returns-in-Err-clause-taps : goal.returns-in-Err-clause-taps
+returns-in-Err-clause-taps g c = λ contents told below. absurd (omega (arith, high_stop c.in-Err.stop, below, c.stop_status.ensures))

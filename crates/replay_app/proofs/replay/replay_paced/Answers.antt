@@ -1,7 +1,3 @@
-use Rattle.sched_defs.specs.Pace.{Link}
-use Rattle.sched_capture.specs.Placements.{laid_by}
-use Rattle.replay_app.specs.Output.{laid_run}
-use Rattle.replay_app.proofs.FollowLaws.{exactly_told, exactly_left}
 use Rattle.replay_app.proofs.replay.replay_paced.Goals as goal
 
 pub replay_script-requires-clause-lent : goal.replay_script-requires-clause-lent
@@ -16,15 +12,11 @@ replay_capture-requires-clause-bounded g c = rw c.in-Link.is at c.requires.rate
 pub returns-in-Script-clause-answer : goal.returns-in-Script-clause-answer
 returns-in-Script-clause-answer g c = rw c.in-Script.is c.replay_script.ensures.answer
 
-pub returns-in-Script-clause-fabric : goal.returns-in-Script-clause-fabric
-returns-in-Script-clause-fabric g c = rw c.in-Script.is c.replay_script.ensures.fabric
+pub returns-in-Script-clause-left : goal.returns-in-Script-clause-left
+returns-in-Script-clause-left g c = rw c.in-Script.is c.replay_script.ensures.left
 
 pub returns-in-Link-clause-answer : goal.returns-in-Link-clause-answer
-returns-in-Link-clause-answer g c = rw c.in-Link.is (λ contents told.
-    let e = c.replay_capture.ensures in
-    exactly_told (laid_run c.args.policy.now (laid_by c.args.placement) (Link c.in-Link.rate) (contents c.args.files.now.capture.now)) c.replay_capture.result _ _ (rw told.0 at e.status) (rw told.0 at e.text) (rw told.0 at e.part))
+returns-in-Link-clause-answer g c = rw c.in-Link.is (λ contents told. rw told.0 at c.replay_capture.ensures.answer)
 
-pub returns-in-Link-clause-fabric : goal.returns-in-Link-clause-fabric
-returns-in-Link-clause-fabric g c = rw c.in-Link.is (λ contents told.
-    let e = c.replay_capture.ensures in
-    exactly_left (laid_run c.args.policy.now (laid_by c.args.placement) (Link c.in-Link.rate) (contents c.args.files.now.capture.now)) c.replay_capture.result g.F.Fabric c.args.fabric.now c.replay_capture.new.fabric (rw told.0 at e.fabric) (rw told.0 at e.fabric_part))
+pub returns-in-Link-clause-left : goal.returns-in-Link-clause-left
+returns-in-Link-clause-left g c = rw c.in-Link.is (λ contents told. rw told.0 at c.replay_capture.ensures.left)

@@ -6,7 +6,7 @@ use Rattle.embed_defs.specs.Embedding.{IsEmbedding, HasEmbedding}
 use Rattle.embed_defs.specs.Images.{image_map}
 use Rattle.report_core.specs.declared.fault.FaultKind.TheVariants as kind
 use Rattle.replay_app.specs.Named.{pacing_form}
-use Rattle.replay_app.proofs.FollowLaws.{accepted_told, accepted_left, refused_told, refused_left}
+use Rattle.replay_app.proofs.FollowLaws.{accepted_told, accepted_done, refused_told, refused_left}
 use Rattle.replay_app.proofs.Inputs.{rooms_are_one, placement}
 use Rattle.replay_app.proofs.AnswerLaws.{paced_no_refusal}
 use Rattle.replay_app.proofs.replay.replay_placed.Goals as goal
@@ -22,10 +22,10 @@ returns-in-Ok-clause-answer g c = λ contents told.
     let is = placement c.args.policy.now.policy c.args.target c.in-Ok.map _ c.topo.ensures.topology c.in-Ok.ensures.canonical c.in-Ok.ensures.embedding in
     accepted_told kind.Size _ _ _ (rooms_are_one c.args.policy.now.policy c.args.target) c.replay_paced.result _ _ c.in-Ok.map is (c.replay_paced.ensures.answer contents told)
 
-pub returns-in-Ok-clause-fabric : goal.returns-in-Ok-clause-fabric
-returns-in-Ok-clause-fabric g c = λ contents told.
+pub returns-in-Ok-clause-left : goal.returns-in-Ok-clause-left
+returns-in-Ok-clause-left g c = λ contents told.
     let is = placement c.args.policy.now.policy c.args.target c.in-Ok.map _ c.topo.ensures.topology c.in-Ok.ensures.canonical c.in-Ok.ensures.embedding in
-    accepted_left kind.Size _ _ _ (rooms_are_one c.args.policy.now.policy c.args.target) c.replay_paced.result g.F.Fabric c.args.fabric.now c.replay_paced.new.fabric c.in-Ok.map is (c.replay_paced.ensures.fabric contents told)
+    accepted_done kind.Size _ _ _ (rooms_are_one c.args.policy.now.policy c.args.target) c.replay_paced.result _ _ c.in-Ok.map is (c.replay_paced.ensures.left contents told)
 
 pub returns-in-Ok-clause-refused : goal.returns-in-Ok-clause-refused
 returns-in-Ok-clause-refused g c = paced_no_refusal (pacing_form c.args.files.now.pacing) c.replay_paced.result _ c.replay_paced.ensures.statuses
@@ -35,7 +35,7 @@ returns-in-Err-NoEmbedding-clause-answer g c = λ contents told.
     let none = subst (λ (s : Topology). HasEmbedding s (complete c.args.target.arities) → ⊥) c.topo.ensures.topology (c.embed.ensures.none (c.in-Err-NoEmbedding.is ∙ ap Err c.in-Err-NoEmbedding.field-0-is)) in
     refused_told kind.Size _ _ _ (rooms_are_one c.args.policy.now.policy c.args.target) c.refuse.result _ _ 1 0 (none, refl, refl) c.refuse.ensures.status c.refuse.ensures.text c.refuse.ensures.part
 
-pub returns-in-Err-NoEmbedding-clause-fabric : goal.returns-in-Err-NoEmbedding-clause-fabric
-returns-in-Err-NoEmbedding-clause-fabric g c = λ contents told.
+pub returns-in-Err-NoEmbedding-clause-left : goal.returns-in-Err-NoEmbedding-clause-left
+returns-in-Err-NoEmbedding-clause-left g c = λ contents told.
     let none = subst (λ (s : Topology). HasEmbedding s (complete c.args.target.arities) → ⊥) c.topo.ensures.topology (c.embed.ensures.none (c.in-Err-NoEmbedding.is ∙ ap Err c.in-Err-NoEmbedding.field-0-is)) in
-    refused_left kind.Size _ _ _ (rooms_are_one c.args.policy.now.policy c.args.target) c.refuse.result g.F.Fabric c.args.fabric.now 1 0 (none, refl, refl)
+    refused_left kind.Size _ _ _ (rooms_are_one c.args.policy.now.policy c.args.target) c.refuse.result g.F.Fabric c.args.fabric.now _ 1 0 (none, refl, refl)

@@ -1,0 +1,92 @@
+-- A run over a capture that taps watch, with their lines.
+use Rattle.std.proofs.Common.{◌≡◌, ap, ◌∙◌, append-nil, inl, inr, ℕ, Option, None, Some, List, []}
+use Rattle.std.specs.Prelude.{Ok, Err, IfSome}
+use Rattle.outside_core.specs.Written.{Appended, AppendedPrefix}
+use Rattle.outside_core.specs.declared.stop.Stop.{Stop}
+use Rattle.outside_core.proofs.WrittenLaws.{appended_in_turn, appended_nothing, prefix_in_turn, prefix_of_longer, prefix_of_nothing}
+use Rattle.fabric_core.specs.declared.fabric.Fabric.{Ghosts}
+use Rattle.policy_rules.specs.Resolved.{Resolved}
+use Rattle.sched_defs.specs.Pace.{Pace}
+use Rattle.sched_defs.specs.declared.ending.Ending.{Ending}
+use Rattle.sched_embedded.specs.Fabrics.{FabricRun, Leaves, LeavesPart, run_of}
+use Rattle.sched_embedded.specs.Laid.{Laid}
+use Rattle.sched_capture.specs.Answers.{paced_answer, shown_by, HaveWatched}
+use Rattle.tap_core.specs.Watching.{Sight}
+use Rattle.replay_app.specs.Answer.{Answer, IsTold, IsLeft}
+use Rattle.replay_app.specs.Output.{laid_run}
+use Rattle.replay_app.specs.Scripts.{OfLines, ending_status}
+use Rattle.replay_app.specs.Stages.{watching_in}
+use Rattle.replay_app.specs.Statuses.{run_status}
+use Rattle.replay_app.specs.declared.status.Status.{Status}
+use Rattle.replay_app.proofs.AnswerLaws.{same_status}
+use Rattle.replay_app.proofs.FollowLaws.{exactly_told, exactly_done, unchanged}
+use Rattle.replay_app.proofs.TapLaws.{lines_told}
+
+-- a run that was made whole is a first part of itself
+whole_part : {F : Type 0} (fabrics : Ghosts F) (run : Option FabricRun) (old new : F) → Leaves fabrics run old new → LeavesPart fabrics run old new
+whole_part fabrics None old new leaves = leaves
+whole_part fabrics (Some run) old new leaves = inr (record { made = run.events; unmade = []; whole = append-nil run.events; holds = leaves })
+
+-- nothing was done yet
+none_part : {F : Type 0} (fabrics : Ghosts F) (run : Option FabricRun) (f : F) → LeavesPart fabrics run f f
+none_part fabrics None f = unchanged fabrics f
+none_part fabrics (Some run) f = inl (unchanged fabrics f)
+
+module _ (policy : Resolved) (laid : Laid) (pace : Pace) (before : Sight) where
+  abbrev pub answer : List ℕ → Answer
+  answer file = laid_run policy laid pace file (watching_in before)
+
+  -- ---- what was written
+  -- the report and the lines
+  pub whole_told : (told : Option (List ℕ)) (e : Ending) (after : Sight) (old mid new : Option (List ℕ)) → IfSome told (λ file. e ≡ (paced_answer policy pace file).ending)
+      → IfSome told (λ file. HaveWatched (shown_by policy.policy (paced_answer policy pace file)) before after)
+      → IfSome told (λ file. Appended old mid (paced_answer policy pace file).text) → OfLines e after (Appended mid new)
+      → IfSome told (λ file. IsTold (λ a. a ≡ answer file) (Ok (run_status e)) old new)
+  whole_told None e after old mid new ends watched text lines = tt
+  whole_told (Some file) e after old mid new ends watched text lines =
+      exactly_told (answer file) (Ok (run_status e)) old new
+      (same_status e ∙ ap (λ (x : Ending). ending_status x) ends)
+      (appended_in_turn old mid new _ _ text (lines_told policy pace file e before after (Appended mid new) ends watched lines)) tt
+
+  -- the report, and a part of the lines
+  pub lines_cut : (told : Option (List ℕ)) (e : Ending) (stop : Stop) (after : Sight) (old mid new : Option (List ℕ)) → IfSome told (λ file. e ≡ (paced_answer policy pace file).ending)
+      → IfSome told (λ file. HaveWatched (shown_by policy.policy (paced_answer policy pace file)) before after)
+      → IfSome told (λ file. Appended old mid (paced_answer policy pace file).text) → OfLines e after (AppendedPrefix mid new)
+      → IfSome told (λ file. IsTold (λ a. a ≡ answer file) (Err stop) old new)
+  lines_cut None e stop after old mid new ends watched text lines = tt
+  lines_cut (Some file) e stop after old mid new ends watched text lines =
+      exactly_told (answer file) (Err stop) old new tt tt
+      (prefix_in_turn old mid new _ _ text (lines_told policy pace file e before after (AppendedPrefix mid new) ends watched lines))
+
+  -- a part of the report
+  pub report_cut : (told : Option (List ℕ)) (stop : Stop) (old new : Option (List ℕ)) → IfSome told (λ file. AppendedPrefix old new (paced_answer policy pace file).text)
+      → IfSome told (λ file. IsTold (λ a. a ≡ answer file) (Err stop) old new)
+  report_cut None stop old new part = tt
+  report_cut (Some file) stop old new part = exactly_told (answer file) (Err stop) old new tt tt (prefix_of_longer old new _ _ part)
+
+  -- nothing
+  pub none_told : (told : Option (List ℕ)) (stop : Stop) (old : Option (List ℕ)) → IfSome told (λ file. IsTold (λ a. a ≡ answer file) (Err stop) old old)
+  none_told None stop old = tt
+  none_told (Some file) stop old = exactly_told (answer file) (Err stop) old old tt tt (prefix_of_nothing old old _ (appended_nothing old))
+
+  -- ---- what is left
+  module _ {F : Type 0} (fabrics : Ghosts F) (old new : F) (after : Sight) where
+    pub whole_left : (told : Option (List ℕ)) (s : Status) → IfSome told (λ file. Leaves fabrics (run_of policy.policy laid (paced_answer policy pace file).events) old new)
+        → IfSome told (λ file. HaveWatched (shown_by policy.policy (paced_answer policy pace file)) before after)
+        → IfSome told (λ file. IsLeft fabrics (λ a. a ≡ answer file) (Ok s) old new before after)
+    whole_left None s fabric watched = tt
+    whole_left (Some file) s fabric watched = exactly_done (answer file) (Ok s) _ _ (record { fabric = fabric; taps = watched }) tt
+
+    pub lines_left : (told : Option (List ℕ)) (stop : Stop) → IfSome told (λ file. Leaves fabrics (run_of policy.policy laid (paced_answer policy pace file).events) old new)
+        → IfSome told (λ file. IsLeft fabrics (λ a. a ≡ answer file) (Err stop) old new before after)
+    lines_left None stop fabric = tt
+    lines_left (Some file) stop fabric = exactly_done (answer file) (Err stop) _ _ tt (whole_part fabrics _ old new fabric)
+
+    pub report_left : (told : Option (List ℕ)) (stop : Stop) → IfSome told (λ file. LeavesPart fabrics (run_of policy.policy laid (paced_answer policy pace file).events) old new)
+        → IfSome told (λ file. IsLeft fabrics (λ a. a ≡ answer file) (Err stop) old new before after)
+    report_left None stop part = tt
+    report_left (Some file) stop part = exactly_done (answer file) (Err stop) _ _ tt part
+
+  pub none_left : {F : Type 0} (fabrics : Ghosts F) (f : F) (after : Sight) (told : Option (List ℕ)) (stop : Stop) → IfSome told (λ file. IsLeft fabrics (λ a. a ≡ answer file) (Err stop) f f before after)
+  none_left fabrics f after None stop = tt
+  none_left fabrics f after (Some file) stop = exactly_done (answer file) (Err stop) _ _ tt (none_part fabrics _ f)

@@ -1,0 +1,71 @@
+-- What taps that watched a run leave.
+use Rattle.std.proofs.Common.{◌≡◌, refl, ap, subst, ℕ, Option, None, Some, List}
+use Rattle.std.proofs.lemmas.Result.{on_ok_weaker}
+use Rattle.std.specs.Prelude.{Result}
+use Rattle.pcap_defs.specs.Reading.{Capture, refused, packets, capture_of}
+use Rattle.policy_rules.specs.Resolved.{Resolved}
+use Rattle.sched_defs.specs.Pace.{Pace}
+use Rattle.sched_defs.specs.declared.ending.Ending.{Ending}
+use Rattle.sched_defs.specs.declared.ending.Ending.TheVariants.{Whole, BadCapture, PastLast}
+use Rattle.sched_capture.specs.Answers.{answer_over, paced_answer, shown_by, HaveWatched}
+use Rattle.tap_core.specs.Lists.{Shown, Entry, named_entries, left_after}
+use Rattle.tap_core.specs.Watching.{Sight, Watches}
+use Rattle.tap_core.specs.declared.watch.Named.{Named}
+use Rattle.fabric_core.specs.declared.fabric.Fabric.{Ghosts}
+use Rattle.outside_core.specs.declared.stop.Stop.{Stop}
+use Rattle.replay_app.specs.declared.status.Status.{Status}
+use Rattle.replay_app.specs.Answer.{IsLeft}
+use Rattle.replay_app.specs.Output.{IsOutput}
+use Rattle.replay_app.specs.Behind.{tap_list, IsLeftOf}
+use Rattle.replay_app.specs.Scripts.{OfLines, lines_behind}
+use Rattle.replay_app.specs.Stages.{watching_in, BehindWords}
+use Rattle.replay_app.specs.Words.{replay, script, link}
+
+-- ---- lines
+lines_by : (e : Ending) (shown : List Shown) (before after : Sight) (P : List ℕ → Type 0) → Watches shown before after → OfLines e after P → P (lines_behind e (watching_in before) (Some shown))
+lines_by (Whole n) shown before after P watched of = of _ watched.tracked
+lines_by (BadCapture c p) shown before after P watched of = of
+lines_by (PastLast n) shown before after P watched of = of
+
+-- what holds of the lines of taps that watched a run over a capture
+lines_over : (policy : Resolved) (pace : Pace) (capture : Capture) (e : Ending) (before after : Sight) (P : List ℕ → Type 0) → e ≡ (answer_over policy pace capture).ending
+    → HaveWatched (shown_by policy.policy (answer_over policy pace capture)) before after → OfLines e after P
+    → P (lines_behind (answer_over policy pace capture).ending (watching_in before) (shown_by policy.policy (answer_over policy pace capture)))
+lines_over policy pace (refused fault) e before after P is watched of = subst (λ (x : Ending). OfLines x after P) is of
+lines_over policy pace (packets head records fault) e before after P is watched of =
+    lines_by _ _ before after P watched (subst (λ (x : Ending). OfLines x after P) is of)
+
+pub lines_told : (policy : Resolved) (pace : Pace) (file : List ℕ) (e : Ending) (before after : Sight) (P : List ℕ → Type 0) → e ≡ (paced_answer policy pace file).ending
+    → HaveWatched (shown_by policy.policy (paced_answer policy pace file)) before after → OfLines e after P
+    → P (lines_behind (paced_answer policy pace file).ending (watching_in before) (shown_by policy.policy (paced_answer policy pace file)))
+lines_told policy pace file = lines_over policy pace (capture_of file)
+
+-- ---- the list
+pub taps_left : (p t c e : List ℕ) (named : Named) (shown : Option (List Shown)) (before after : Sight) → before.named ≡ named → HaveWatched shown before after
+    → after.taps ≡ tap_list (replay p t c (script e named)) shown before.taps
+taps_left p t c e named None before after same watched = ap (λ (s : Sight). s.taps) watched
+taps_left p t c e named (Some shown) before after same watched = subst (λ (n : Named). after.taps ≡ left_after shown (named_entries n before.taps)) same watched.left
+
+-- what is left of a run that a script paces, and of the taps
+pub script_left : {F : Type 0} (fabrics : Ghosts F) (p t c e : List ℕ) (named : Named) (contents : List ℕ → List ℕ) (r : Result Status Stop) (old new : F) (before after : Sight) (taps left : List Entry)
+    → before.named ≡ named → before.taps ≡ taps → after.taps ≡ left
+    → IsLeft fabrics (BehindWords (watching_in before) p t (script e named) c contents) r old new before after
+    → IsLeftOf fabrics (replay p t c (script e named)) contents r old new taps left
+script_left fabrics p t c e named contents r old new before after taps left same first last is =
+    let own : IsLeft fabrics (IsOutput (replay p t c (script e named)) contents before.taps) r old new before after =
+    subst (λ (n : Named). IsLeft fabrics (BehindWords (named_entries n before.taps) p t (script e named) c contents) r old new before after) same is in
+    let all : IsLeftOf fabrics (replay p t c (script e named)) contents r old new before.taps after.taps = record {
+      whole = on_ok_weaker r (λ each a is. let both = each a is in record { fabric = both.fabric; taps = taps_left p t c e named a.shown before after same both.taps }) own.whole;
+      part = own.part;
+    } in
+    subst (λ (ts : List Entry). IsLeftOf fabrics (replay p t c (script e named)) contents r old new taps ts) last
+    (subst (λ (ts : List Entry). IsLeftOf fabrics (replay p t c (script e named)) contents r old new ts after.taps) first all)
+
+-- where a link paces it, no tap is touched
+pub link_left : {F : Type 0} (fabrics : Ghosts F) (p t c : List ℕ) (rate : ℕ) (contents : List ℕ → List ℕ) (taps : List Entry) (r : Result Status Stop) (old new : F) (before after : Sight)
+    → IsLeft fabrics (IsOutput (replay p t c (link rate)) contents taps) r old new before after
+    → IsLeftOf fabrics (replay p t c (link rate)) contents r old new taps taps
+link_left fabrics p t c rate contents taps r old new before after left = record {
+  whole = on_ok_weaker r (λ each a is. record { fabric = (each a is).fabric; taps = refl }) left.whole;
+  part = left.part;
+}

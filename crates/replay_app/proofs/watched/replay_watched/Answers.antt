@@ -1,0 +1,29 @@
+use Rattle.std.proofs.Common.{◌≡◌, refl}
+use Rattle.tap_core.specs.Lists.{entries, named_entries}
+use Rattle.tap_core.specs.Watching.{Sight, sight_of}
+use Rattle.replay_app.specs.Stages.{watching_in}
+use Rattle.replay_app.proofs.TapLaws.{script_left, link_left}
+use Rattle.replay_app.proofs.watched.replay_watched.Goals as goal
+
+pub returns-in-Script-clause-answer : goal.returns-in-Script-clause-answer
+returns-in-Script-clause-answer g c =
+    let same : watching_in (sight_of g.T.Tap.kind_of g.T.Tap.state_of c.new-watch.result) ≡ named_entries c.in-Script.named (entries g.T.Tap.kind_of g.T.Tap.state_of c.args.taps.now.items) =
+    rw (c.new-watch.ensures.named, c.new-watch.ensures.taps, c.replace-watchers.ensures.value) refl in
+    rw c.in-Script.is (rw same at (rw c.in-Script.is at c.replay_files-answer.ensures.answer))
+
+pub returns-in-Script-clause-left : goal.returns-in-Script-clause-left
+returns-in-Script-clause-left g c =
+    let before : Sight = sight_of g.T.Tap.kind_of g.T.Tap.state_of c.new-watch.result in
+    let left = rw c.in-Script.is at c.replay_files-answer.ensures.left in
+    rw c.in-Script.is (λ contents told.
+    script_left g.F.Fabric _ _ _ _ c.in-Script.named contents c.replay_files-answer.result _ _ before _ _ _ c.new-watch.ensures.named
+    (rw (c.new-watch.ensures.taps, c.replace-watchers.ensures.value) refl) (rw (c.into_taps.ensures) refl) (left contents told))
+
+pub returns-in-Link-clause-answer : goal.returns-in-Link-clause-answer
+returns-in-Link-clause-answer g c =
+    rw c.in-Link.is (rw (c.new-watch-in-Link.ensures.taps, c.new-in-Link.ensures.items) at (rw c.in-Link.is at c.replay_files.ensures.answer))
+
+pub returns-in-Link-clause-left : goal.returns-in-Link-clause-left
+returns-in-Link-clause-left g c =
+    let left = rw (c.new-watch-in-Link.ensures.taps, c.new-in-Link.ensures.items) at (rw c.in-Link.is at c.replay_files.ensures.left) in
+    rw c.in-Link.is (λ contents told. link_left g.F.Fabric _ _ _ _ contents _ c.replay_files.result _ _ _ _ (left contents told))
