@@ -21,21 +21,35 @@ def drawn(folder, *words):
 
 def bars(page, form):
     """The numbers of the packets that have a bar, in the order in which they are drawn."""
-    found = (re.fullmatch(form, group.get("id", "")) for group in page.iter(SVG + "g"))
+    found = (re.fullmatch(form, bar.get("id", "")) for bar in page.iter(SVG + "path"))
     return [int(match.group(1)) for match in found if match]
+
+
+def bar_of(page, packet):
+    """The bar of a packet."""
+    return next(bar for bar in page.iter(SVG + "path") if bar.get("id") == "packet-%d" % packet)
 
 
 def width(page, packet):
     """How long the bar of a packet is."""
-    bar = next(group for group in page.iter(SVG + "g") if group.get("id") == "packet-%d" % packet)
-    places = [float(x) for x in re.findall(r"[ML] (\S+)", bar.find(SVG + "path").get("d"))]
-    return max(places) - min(places)
+    data = bar_of(page, packet).get("d")
+    return abs(float(re.search(r"H([\d.]+)", data).group(1)) - float(re.match(r"M([\d.]+)", data).group(1)))
+
+
+def style_of(page, shape):
+    """The style of a shape, its own or that of its class."""
+    rules = dict(re.findall(r"\.(c\d+)\{(.*?)\}", "".join(style.text for style in page.iter(SVG + "style"))))
+    return shape.get("style") or rules[shape.get("class")]
+
+
+def group(page, name):
+    """The group of a name; None where there is none."""
+    return next((found for found in page.iter(SVG + "g") if found.get("id") == name), None)
 
 
 def legend(page):
     """The words of the legend."""
-    group = next(group for group in page.iter(SVG + "g") if group.get("id") == "legend")
-    return [text.text for text in group.iter(SVG + "text")]
+    return [text.text for text in group(page, "legend").iter(SVG + "text")]
 
 
 def words(page):
@@ -47,6 +61,26 @@ def long_report(packets):
     """A report in which every packet leaves at once."""
     lines = ["a %d %d one 0\nd %d %d one 0\n" % (2 * at + 1, at + 1, 2 * at + 2, at + 1) for at in range(packets)]
     return "".join(lines) + "end pushed %d popped %d empty 0 held 0 unsent 0\n" % (packets, packets)
+
+
+END = "end pushed %d popped %d empty 0 held %d unsent 0 dropped %d\n"
+
+
+class Shortened(unittest.TestCase):
+    """What is left out of a picture."""
+
+    def test_paths(self):
+        from zovatsemo_look import svg
+        for data, expected in (("M 1 2 \nL 3 2 \nL 3 4 \nL 1 4 \nz\n", "M1 2H3V4H1z"),
+                               ("M 0 0 \nL 1 0 \nL 2 0 \nL 2 5 \nL 2 1 \nL 9 9 \n", "M0 0H2V5V1L9 9"),
+                               ("M 0 3 \nL 0 3 \nL 1 3 \nC 1 2 3 4 5 6 \nL 5 7 \nz\n", "M0 3H1C1 2 3 4 5 6V7z")):
+            self.assertEqual(svg.path_of(data), expected)
+
+    def test_styles(self):
+        from zovatsemo_look import svg
+        text = '<style>*{a: b}</style>' + '<path style="often"/>' * 4 + '<path style="once"/>'
+        self.assertEqual(svg.with_classes(text), '<style>*{a: b}\n.c0{often}</style>' + '<path class="c0"/>' * 4
+                         + '<path style="once"/>')
 
 
 class Page(unittest.TestCase):
@@ -71,6 +105,8 @@ class Page(unittest.TestCase):
         page = drawn(self.folder, report, "--capture", capture)
         self.assertEqual(sorted(bars(page, r"packet-(\d+)")), [1, 2, 3, 5, 7, 8, 9, 10])
         self.assertEqual(legend(page), ["web", "voice", "dropped"])
+        self.assertEqual(len(group(page, "dropped-web").findall(SVG + "path")), 2)
+        self.assertIsNone(group(page, "dropped-voice"))
         self.assertAlmostEqual(width(page, 2) / width(page, 1), 2.5, delta=0.01)
         self.assertIn("time in ns since the capture's first moment", words(page))
 
@@ -91,15 +127,40 @@ class Page(unittest.TestCase):
         chosen = drawn(self.folder, runs.OFFICE / "report", "--leaf", "dns", "web")
         self.assertEqual(legend(chosen), ["dns", "web"])
         self.assertEqual(sorted(bars(chosen, r"packet-(\d+)")), [1, 2, 4, 6])
-        styles = [next(group.find(SVG + "path").get("style") for group in page.iter(SVG + "g")
-                       if group.get("id") == "packet-6") for page in (whole, chosen)]
-        self.assertEqual(styles[0], styles[1])
+        self.assertEqual(*(style_of(page, bar_of(page, 6)) for page in (whole, chosen)))
 
     def test_many_packets_are_thinned_and_the_page_says_so(self):
         report = runs.write(self.folder, "report", long_report(6001))
         page = drawn(self.folder, report)
         self.assertEqual(len(bars(page, r"packet-(\d+)")), 2001)
-        self.assertIn("of the packets' bars one in 3 is drawn", words(page))
+        self.assertIn("of the packets one in 3 is drawn", words(page))
+
+    def test_many_drops_are_thinned_too(self):
+        lines = "".join("x %d %d one\n" % (at, at) for at in range(1, 6002))
+        page = drawn(self.folder, runs.write(self.folder, "report", lines + END % (0, 0, 0, 6001)))
+        self.assertEqual(len(group(page, "dropped-one").findall(SVG + "path")), 2001)
+        self.assertIn("of the packets one in 3 is drawn", words(page))
+
+    def test_the_title_has_policy_capture_and_command(self):
+        commands = ["zovatsemo link a/first b c 9", "zovatsemo direct a/second c d"]
+        page = words(drawn(self.folder, runs.OFFICE / "report", "--against", runs.OFFICE / "report",
+                           "--command", commands[0], "--against-command", commands[1]))
+        begin = page.index("A: policy a/first")
+        self.assertEqual(page[begin:begin + 5],
+                         ["A: policy a/first", commands[0], "B: policy a/second", commands[1], "capture c"])
+        report = runs.write(self.folder, "$x$", END % (0, 0, 0, 0))
+        page = words(drawn(self.folder, report, "--command", "replay " + "word " * 60))
+        begin = page.index("policy word") + 1
+        self.assertEqual(" ".join(page[begin:begin + 3]), ("replay " + "word " * 60).strip())
+
+    def test_names_of_every_length_stand_on_the_page(self):
+        names = ["_", "_under", "a" * 20, "long_" * 12 + "name", "W" * 64]
+        lines = "".join("a %d %d %s 0\n" % (at, at, name) for at, name in enumerate(names, 1))
+        page = drawn(self.folder, runs.write(self.folder, "report", lines + END % (5, 0, 5, 0)))
+        self.assertEqual(legend(page), names + ["pale: held at the end"])
+        for text in page.iter(SVG + "text"):
+            moved = re.search(r"translate\((\S+) ", text.get("transform", ""))
+            self.assertGreaterEqual(float(moved.group(1) if moved else text.get("x")), 10)
 
     def test_the_page_says_where_a_report_breaks(self):
         report = runs.write(self.folder, "report", "a 1 1 one 0\n")

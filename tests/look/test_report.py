@@ -1,7 +1,9 @@
 """Damaged reports, captures and words: what is there is shown, and one line says what is wrong."""
 import io
 import os
+import pty
 import struct
+import subprocess
 import tempfile
 import unittest
 
@@ -9,6 +11,8 @@ import runs
 from zovatsemo_look import capture, progress
 
 HEAD = "a 1 1 one 0\na 2 2 two 0/7\n"
+WHOLE = HEAD + "d 3 1 one 0\nend pushed 2 popped 1 empty 0 held 1 unsent 0\n"
+TAPS = "tap bytes 1 9\ntap order 0 1\ntap first 1\ntap drops 0 0\n"
 BROKEN = [
     ("", "line 1: the report stops before the end of the run"),
     (HEAD, "line 3: the report stops before the end of the run"),
@@ -33,8 +37,16 @@ BROKEN = [
      "line 3: the end says pushed 3, and the lines before have 2"),
     (HEAD + "end pushed 2 popped 0 empty 0 held 2 unsent 0 dropped 1\n",
      "line 3: the end says dropped 1, and the lines before have 0"),
-    (HEAD + "end pushed 2 popped 0 empty 0 held 2 unsent 0\ntap first 1 2\nspills 3\ne 3\n",
-     "line 6: a line behind the end of the run"),
+    (WHOLE + "e 4\n", "line 5: a line behind the end of the run"),
+    (WHOLE + "tap sum 1\n", "line 5: a line behind the end of the run"),
+    (WHOLE + "tap bytes 1 9\ntap order 0 1", "line 6: the report is cut inside this line"),
+    (WHOLE + "tap bytes 1\n", "line 5: by the lines before, the tap bytes says 1"),
+    (WHOLE + "tap bytes 2 9\n", "line 5: by the lines before, the tap bytes says 1"),
+    (WHOLE + "tap order 1 1\n", "line 5: by the lines before, the tap order says 0 1"),
+    (WHOLE + "tap first 1 2\n", "line 5: by the lines before, the tap first says 1"),
+    (WHOLE + "tap drops 1 9\n", "line 5: by the lines before, the tap drops says 0"),
+    (WHOLE + "tap first 1\ntap first 1\n", "line 6: a second line of the tap first"),
+    (HEAD + "fault capture 6 3\ntap first\n", "line 4: a line behind the end of the run"),
 ]
 TWO_HELD = r"\none +1 +0 +0 +1 +- +- +- +- +- +1 +0\ntwo +1 +0 +0 +1 "
 
@@ -63,6 +75,15 @@ class Damaged(unittest.TestCase):
         self.assertEqual(status, 0)
         self.assertRegex(written, TWO_HELD)
         self.assertEqual(written.splitlines()[-1], "%s: the run ended with fault capture 6 3" % report)
+
+    def test_lines_of_taps_are_shown(self):
+        with tempfile.TemporaryDirectory() as folder:
+            report = runs.write(folder, "report", WHOLE + TAPS)
+            status, written, errors = runs.look(report)
+            self.assertEqual((status, errors), (0, ""))
+            self.assertTrue(written.endswith("\n\n" + TAPS), written)
+            _, written, _ = runs.look(report, "--against", runs.OFFICE / "report")
+        self.assertIn("\n%s: tap order 0 1\n" % report, written)
 
     def test_bytes_that_are_no_text(self):
         with tempfile.TemporaryDirectory() as folder:
@@ -126,6 +147,35 @@ class Refused(unittest.TestCase):
         self.assertEqual(runs.look(report, "--against-command", "x")[0], 2)
         self.assertIn("the leaves are: web voice", runs.look(report, "--leaf", "nobody")[2])
         self.assertEqual(runs.look("no/such/report"), (1, "", "look: no/such/report: No such file or directory\n"))
+
+
+class Terminal(unittest.TestCase):
+    """How far the work is, where standard error is a terminal and where it isn't."""
+
+    def errors_at_a_terminal(self, *words):
+        """What the command writes to a terminal that is its standard error alone."""
+        mine, its = pty.openpty()
+        with subprocess.Popen([runs.TOP / "tools/look", *words], stdout=subprocess.DEVNULL, stderr=its) as child:
+            os.close(its)
+            said = b""
+            while True:
+                try:
+                    said += os.read(mine, 4096)
+                except OSError:  # the other end is closed
+                    break
+        os.close(mine)
+        self.assertEqual(child.returncode, 0)
+        return said
+
+    def test_what_is_done_is_said(self):
+        with tempfile.TemporaryDirectory() as folder:
+            page = os.path.join(folder, "page.svg")
+            said = self.errors_at_a_terminal(runs.OFFICE / "report", "--out", page)
+            self.assertIn(b"drawing picture 4 of 4", said)
+            self.assertTrue(said.endswith(b"\r\x1b[K"), said)
+            done = subprocess.run([runs.TOP / "tools/look", runs.OFFICE / "report", "--out", page], check=True,
+                                  stdout=subprocess.PIPE, stderr=subprocess.PIPE)
+            self.assertEqual((done.stdout, done.stderr), (b"", b""))
 
 
 if __name__ == "__main__":

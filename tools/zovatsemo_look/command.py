@@ -3,7 +3,7 @@ import argparse
 import os
 import sys
 
-from zovatsemo_look import measures, progress, report, table
+from zovatsemo_look import measures, progress, report, table, title
 
 PACKAGES = {"matplotlib": "python3-matplotlib", "numpy": "python3-matplotlib", "dpkt": "python3-dpkt"}
 PICTURES = (".svg", ".png", ".pdf")
@@ -68,23 +68,28 @@ def chosen_leaves(runs, asked):
     return list(dict.fromkeys(asked)) if asked else names
 
 
-def title_of(given, file):
-    """What a run is called on the page: the command that made it, where that is known."""
-    return given or "report %s" % file
-
-
 def show(options, runs, files, capture):
     """Writes the table, or the page and then how a run ended that didn't end whole."""
     chosen = chosen_leaves(runs, options.leaf)
-    if options.out is None:
-        sys.stdout.write(table.text_of(runs, files, capture, chosen))
-        return
-    from zovatsemo_look import page
-    titles = [title_of(given, file) for given, file in zip((options.command, options.against_command), files)]
+    shown = progress.Progress(options.out or "table")
+    try:
+        if options.out is None:
+            shown.tell("counting")
+            written = table.text_of(runs, files, capture, chosen)
+        else:
+            written = draw(options, runs, files, capture, chosen, shown)
+    finally:
+        shown.end()
+    sys.stdout.write(written)
+
+
+def draw(options, runs, files, capture, chosen, shown):
+    """Writes the page; answers the lines on how a run ended that didn't end whole."""
+    from zovatsemo_look import drawing
+    titles = title.lines_of((options.command, options.against_command), files, options.capture)
     endings = table.ending_lines(runs, files)
-    page.draw(options.out, page.Page(runs, capture, chosen), page.title_lines(titles, options.capture), endings)
-    for line in endings:
-        print(line)
+    drawing.draw(options.out, runs, capture, chosen, titles, endings, shown)
+    return "".join(line + "\n" for line in endings)
 
 
 def look(options):

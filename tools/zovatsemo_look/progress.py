@@ -1,4 +1,4 @@
-"""How far a long reading is, said at a terminal alone."""
+"""How far long work is, said at a terminal alone."""
 import os
 import sys
 import time
@@ -7,24 +7,27 @@ EVERY = 0.5  # seconds
 
 
 class Progress:
-    """Says on standard error which part of a file is read, where standard error is a terminal."""
+    """Says on standard error how far the work is, where standard error is a terminal."""
 
-    def __init__(self, name, stream):
+    def __init__(self, name, stream=None):
         self.name = name
         self.is_shown = sys.stderr.isatty()
-        self.size = size_of(stream) if self.is_shown else 0
+        self.size = size_of(stream) if self.is_shown and stream else 0
         self.is_begun = False
         self.next = time.monotonic() + EVERY
 
     def at(self, stream):
         """Says how far the stream is, at most twice a second."""
-        if not self.is_shown or time.monotonic() < self.next:
-            return
-        self.next = time.monotonic() + EVERY
-        self.is_begun = True
-        part = "%3d %%" % (100 * stream.tell() // self.size) if self.size else "reading"
-        sys.stderr.write("\rlook: %s %s" % (part, self.name))
-        sys.stderr.flush()
+        if self.is_shown and time.monotonic() >= self.next:
+            self.next = time.monotonic() + EVERY
+            self.tell("%3d %%" % (100 * stream.tell() // self.size) if self.size else "reading")
+
+    def tell(self, what):
+        """Says what is done just now."""
+        if self.is_shown:
+            self.is_begun = True
+            sys.stderr.write("\r\x1b[Klook: %s: %s" % (self.name, what))
+            sys.stderr.flush()
 
     def end(self):
         """Takes the line away."""

@@ -13,7 +13,8 @@ DROP = re.compile(rb"x (\d+) (\d+) (\w+)\n")
 EMPTY = re.compile(rb"e (\d+)\n")
 END = re.compile(rb"end pushed (\d+) popped (\d+) empty (\d+) held (\d+) unsent (\d+)(?: dropped (\d+))?\n")
 FAULT = re.compile(rb"fault [a-z]+ \d+ \d+\n")
-AFTER_END = re.compile(rb"(?:tap|spills)(?: [a-z0-9]+)*\n")
+TAP = re.compile(rb"tap (bytes|order|first|drops)((?: \d+)*)\n")
+MOST_FIRST = 8  # numbers that the tap `first` has
 
 
 class Leaf:
@@ -59,6 +60,7 @@ class Run:
         self.unsent = None
         self.fault = None  # the line of the fault that ended the run
         self.broken = None  # where and why the report breaks off
+        self.taps = {}  # by kind the line of the tap
         self.last_packet = 0  # the greatest number that left
         self._places = {}
         self._is_over = False
@@ -85,7 +87,8 @@ class Run:
         if not line.endswith(b"\n"):
             return "the report is cut inside this line"
         if self._is_over:
-            return None if self.fault is None and AFTER_END.fullmatch(line) else "a line behind the end of the run"
+            tap = None if self.fault else TAP.fullmatch(line)
+            return self._tap(tap) if tap else "a line behind the end of the run"
         for form, taking in ((DROP, self._drop), (EMPTY, self._find_nothing), (END, self._end), (FAULT, self._fail)):
             found = form.fullmatch(line)
             if found:
@@ -172,6 +175,18 @@ class Run:
             return "the end says %s %d, and the lines before have %d" % wrong[0]
         self.unsent = told[4]
         self._is_over = True
+        return None
+
+    def _tap(self, found):
+        """The line of a tap, whose numbers must be those of the lines before, but for sums of bytes."""
+        kind, told = found.group(1).decode("ascii"), [int(number) for number in found.group(2).split()]
+        here = {"bytes": [self.all.left], "order": [self.all.overtaken, self.last_packet],
+                "first": list(self.order[:MOST_FIRST]), "drops": [self.all.dropped]}[kind]
+        if kind in self.taps:
+            return "a second line of the tap %s" % kind
+        if told[:len(here)] != here or len(told) != len(here) + (kind in ("bytes", "drops")):
+            return "by the lines before, the tap %s says %s" % (kind, " ".join(map(str, here)))
+        self.taps[kind] = found.group().decode("ascii").rstrip("\n")
         return None
 
     def _fail(self, found):

@@ -80,6 +80,12 @@ def ending_lines(runs, names):
     return lines
 
 
+def tap_lines(runs, names):
+    """The lines of taps behind the runs; with two runs the name of the report stands before each."""
+    return ["%s: %s" % (name, line) if len(runs) > 1 else line
+            for run, name in zip(runs, names) for line in run.taps.values()]
+
+
 def text_of(runs, files, capture, chosen):
     """The whole text for one run or two; `files` has the name of each report, `chosen` the leaves to show."""
     unit = measures.unit_of(runs, capture)
@@ -89,7 +95,5 @@ def text_of(runs, files, capture, chosen):
         lines.append("one number where the runs agree, else that of the first, a bar, and that of the second")
     lines.append("")
     lines += table_lines(chosen, [measures.rows_of(run, capture, unit) for run in runs], capture is not None)
-    if len(runs) == 2:
-        lines += [""] + moved_lines(runs[0], runs[1], chosen)
-    ends = ending_lines(runs, files)
-    return "\n".join(lines + ([""] + ends if ends else [])) + "\n"
+    parts = [moved_lines(*runs, chosen) if len(runs) == 2 else [], tap_lines(runs, files), ending_lines(runs, files)]
+    return "\n".join(lines + [line for part in parts if part for line in ["", *part]]) + "\n"

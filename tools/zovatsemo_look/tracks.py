@@ -66,6 +66,10 @@ class Track:
         """The places of a leaf's packets that were held, in the order in which they came."""
         return numpy.flatnonzero((self.leaf_of == leaf) & ~self.is_dropped)
 
+    def drops_of(self, leaf):
+        """The places of a leaf's packets that were dropped."""
+        return numpy.flatnonzero((self.leaf_of == leaf) & self.is_dropped)
+
     def backlog_of(self, leaf):
         """The steps of a leaf's backlog: positions, and how many packets are held from there on."""
         packets = self.packets_of(leaf)
