@@ -12,6 +12,7 @@ import unittest
 
 import runs
 
+LAST = "examples: 5 passed, 0 failed\n"  # of the gate's log
 STAND_IN = "/bin/echo"  # a program that needs the C library alone
 FAULTS = {"words": [0], "size": [1], "target": range(1, 5), "script": range(1, 5), "capture": range(1, 9),
           "policy": [*range(1, 15), *range(21, 25)]}
@@ -38,13 +39,17 @@ class Parts(unittest.TestCase):
     """Parts of tools/release."""
 
     def test_a_gate_that_passed(self):
-        self.assertEqual(release.gate_passed("rt: ok\n57 passed, 0 failed\nplan: 9 passed, 0 failed\n"), "57")
+        self.assertEqual(release.gate_passed("rt: ok\n57 passed, 0 failed\nplan: 9 passed, 0 failed\n" + LAST), "57")
 
     def test_a_gate_that_did_not(self):
         for log in ("", "56 passed, 1 failed\n", "57 passed, 0 failed\nplan: 8 passed, 1 failed\n",
+                    "57 passed, 0 failed\nFAILED (failures=1)\n",
+                    "57 passed, 0 failed\na package of tools/look is missing: apt-get install it\n",
                     "57 passed, 0 failed (plan_core and the crates below alone: not the gate)\n"):
             with self.subTest(log), self.assertRaises(release.ReleaseError):
-                release.gate_passed(log)
+                release.gate_passed(log + LAST)
+        with self.assertRaises(release.ReleaseError):
+            release.gate_passed("57 passed, 0 failed\nplan: 9 passed, 0 failed\n")
 
     def test_an_archive_is_of_no_time_and_no_one(self):
         files = {"b": (b"two", False), "a": (b"one", True)}
@@ -72,7 +77,7 @@ class Archive(unittest.TestCase):
         shutil.copytree(runs.TOP / "tools", cls.clone / "tools", dirs_exist_ok=True)
         for words in (("add", "-A"), ("commit", "-q", "--allow-empty", "-m", "The tools as they are here")):
             subprocess.run(["git", "-c", "user.name=test", "-c", "user.email=test", *words], cwd=cls.clone, check=True)
-        cls.log.write_text("57 passed, 0 failed\n")
+        cls.log.write_text("57 passed, 0 failed\n" + LAST)
         cls.program.write_bytes(pathlib.Path(STAND_IN).read_bytes())
         cls.program.chmod(0o755)
 
