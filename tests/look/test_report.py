@@ -111,6 +111,36 @@ class Captures(unittest.TestCase):
             self.assertEqual(self.read(order, 0xA1B2C3D4, (3, 0)), expected)
             self.assertEqual(self.read(order, 0xA1B23C4D, (3000, 0)), expected)
 
+    def block(self, order, kind, *numbers, behind=b""):
+        """A block of pcapng with some numbers of four bytes and some bytes behind them."""
+        body = struct.pack(order + "%dI" % len(numbers), *numbers) + behind
+        length = struct.pack(order + "I", len(body) + 12)
+        return struct.pack(order + "I", kind) + length + body + length
+
+    def section(self, order, *blocks):
+        """A section of pcapng with some blocks behind its header."""
+        version = struct.pack(order + "HHq", 1, 0, -1)
+        return b"".join([self.block(order, 0x0A0D0D0A, 0x1A2B3C4D, behind=version),
+                         *(self.block(order, *block[0], **block[1]) for block in blocks)])
+
+    def interface(self, order, unit=None):
+        """The block of an interface, with an option that names its unit behind another."""
+        options = struct.pack(order + "HH4sHHB3xHH", 2, 3, b"if0", 9, 1, unit, 0, 0) if unit is not None else b""
+        return (1, 1, 0), {"behind": options}
+
+    def test_pcapng(self):
+        first = self.section("<", self.interface("<"), self.interface("<", 9), self.interface("<", 128 + 10),
+                             ((6, 0, 0, 2000003, 4, 1500), {"behind": bytes(4)}), ((6, 1, 1, 5, 0, 60), {}),
+                             ((5, 0, 0), {}), ((3, 100), {"behind": bytes(100)}), ((6, 2, 0, 1536, 0, 61), {}))
+        second = self.section(">", self.interface(">", 3), ((6, 0, 0, 7, 0, 62), {}), ((6, 1, 0, 7, 0, 63), {}))
+        stream = io.BytesIO(first + second)
+        found = capture.read_capture(stream, 9, progress.Progress("capture", stream))
+        self.assertEqual(list(found.lengths), [1500, 60, 100, 61, 62])
+        self.assertEqual(list(found.moments), [2000003000, 2 ** 32 + 5, 2 ** 32 + 5, 1500000000, 7000000])
+        for cut in range(len(first)):
+            stream = io.BytesIO(first[:cut] if cut > 4 else first[:5])
+            self.assertLess(len(capture.read_capture(stream, 9, progress.Progress("capture", stream)).lengths), 5)
+
     def test_no_more_than_asked_for(self):
         self.assertEqual(self.read("<", 0xA1B2C3D4, (3, 0), most=1), ([1500], [2000003000]))
 
@@ -133,8 +163,8 @@ class Refused(unittest.TestCase):
             _, written = runs.write_link_run(folder)
             whole = written.read_bytes()
             later = whole[:24] + b"\x01\x00\x00\x00" + whole[28:]
-            newer = b"\x0a\x0d\x0d\x0a" + bytes(20)
-            for data, said in ((b"", "fewer than 24 bytes"), (newer, "no capture of the classic format"),
+            for data, said in ((b"", "fewer than 24 bytes"), (bytes(24), "no capture of the classic format and no pcapng"),
+                               (b"\x0a\x0d\x0d\x0a" + bytes(20), "0 whole packets, and in the report 10 came"),
                                (whole[:-1], "9 whole packets, and in the report 10 came"),
                                (later, "packet 1 starts before its moment")):
                 with self.subTest(said):

@@ -4,11 +4,14 @@ dpkt tells the header of the file. Its own reader of records hands out no origin
 the records are read here.
 """
 import array
+import itertools
 import struct
 
 import dpkt.pcap
 
-HEAD = 24
+from zovatsemo_look import pcapng
+
+START, HEAD = 4, 24
 RECORD = 16
 BILLION = 10 ** 9
 
@@ -35,23 +38,31 @@ def head_of(start):
             return order, 1000
         if magic == dpkt.pcap.TCPDUMP_MAGIC_NANO:
             return order, 1
-    raise CaptureError("it is no capture of the classic format")
+    raise CaptureError("it is no capture of the classic format and no pcapng")
+
+
+def packets(stream, start):
+    """Of each whole packet of a classic capture its original length and its moment; `start` has its first bytes."""
+    order, unit = head_of(start + stream.read(HEAD - START))
+    record = struct.Struct(order + "IIII")
+    while True:
+        head = stream.read(RECORD)
+        if len(head) < RECORD:
+            return
+        seconds, fraction, captured, length = record.unpack(head)
+        if len(stream.read(captured)) < captured:
+            return
+        yield length, seconds * BILLION + fraction * unit
 
 
 def read_capture(stream, most, progress):
     """The first packets of a capture, as many as asked for or as there are."""
-    order, unit = head_of(stream.read(HEAD))
-    record = struct.Struct(order + "IIII")
+    start = stream.read(START)
+    found = pcapng.packets(stream, start) if start == pcapng.SECTION else packets(stream, start)
     capture = Capture()
-    for number in range(1, most + 1):
-        start = stream.read(RECORD)
-        if len(start) < RECORD:
-            break
-        seconds, fraction, captured, length = record.unpack(start)
-        if len(stream.read(captured)) < captured:
-            break
+    for number, (length, moment) in enumerate(itertools.islice(found, most)):
         capture.lengths.append(length)
-        capture.moments.append(seconds * BILLION + fraction * unit)
+        capture.moments.append(moment)
         if not number & 0xFFFF:
             progress.at(stream)
     return capture
