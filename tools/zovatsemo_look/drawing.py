@@ -11,7 +11,8 @@ from matplotlib.lines import Line2D  # noqa: E402
 from matplotlib.patches import Patch  # noqa: E402
 
 from zovatsemo_look import pictures, svg  # noqa: E402
-from zovatsemo_look.page import EDGE, GREY, HEAD, SMALL, TEXT, Page, inches_of, lane_name, name_size  # noqa: E402
+from zovatsemo_look.page import (EDGE, GREY, HEAD, SMALL, TEXT, Page, inches_of, lane_name, name_size,  # noqa: E402
+                                 plain)
 from zovatsemo_look.title import RUNS  # noqa: E402
 
 WIDTH = 9  # inches
@@ -130,13 +131,12 @@ def draw_page(page, titles, endings, progress):
     height = above + sum(heights) + sum(GAPS) + BELOW + EDGE + NOTE * len(notes)
     figure = pyplot.figure(figsize=(WIDTH, height))
     for at, (line, look) in enumerate(lines):
-        figure.text(EDGE / WIDTH, 1 - (EDGE + LINE * at) / height, line, va="top", parse_math=False, **look)
+        figure.text(EDGE / WIDTH, 1 - (EDGE + LINE * at) / height, plain(line), va="top", **look)
     legend.draw(figure, EDGE + LINE * (len(lines) + 0.4))
     for number, (draw_one, axes) in enumerate(zip(PICTURES, place_axes(page, figure, heights, above)), 1):
         progress.tell("drawing picture %d of %d" % (number, len(PICTURES)))
         draw_one(page, axes)
-    figure.text(EDGE / WIDTH, EDGE / height, "\n".join(notes), fontsize=SMALL, va="bottom",
-                parse_math=False)
+    figure.text(EDGE / WIDTH, EDGE / height, plain("\n".join(notes)), fontsize=SMALL, va="bottom")
     return figure
 
 

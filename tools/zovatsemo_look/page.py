@@ -1,6 +1,6 @@
 """What the four pictures of a page share: the runs on one axis, and the leaves with their lanes and looks."""
 from matplotlib.textpath import TextPath
-from matplotlib.ticker import MaxNLocator
+from matplotlib.ticker import MaxNLocator, StrMethodFormatter
 
 from zovatsemo_look import measures
 from zovatsemo_look.title import RUNS
@@ -16,9 +16,15 @@ MARKERS = ("o", "s", "^", "D", "v", "P", "X", "*", "<", ">", "p")
 GREY = "#555555"
 
 
+def plain(text):
+    """A text in which no part is taken for a formula."""
+    return text.replace("$", r"\$")
+
+
 def inches_of(text, size=TEXT):
     """How wide a text is on the page."""
-    return max(TextPath((0, 0), line, size=size).get_extents().width if line else 0 for line in text.split("\n")) / 72
+    return max(TextPath((0, 0), plain(line), size=size).get_extents().width if line.strip() else 0
+               for line in text.split("\n")) / 72
 
 
 def name_size(name):
@@ -116,10 +122,13 @@ class Page:
 
     def label_axis(self, axes):
         """Names the axis of events or of time."""
-        axes.set_xlim(0, max(1, self.scale.end) * 1.01)
-        if self.scale.is_time:
-            axes.set_xlabel("time in %s since the capture's first moment" % self.scale.unit)
-        else:
-            axes.set_xlabel("event")
-            axes.xaxis.set_major_locator(MaxNLocator(nbins=9, integer=True))
-            axes.xaxis.set_major_formatter("{x:,.0f}")
+        words = "time in %s since the capture's first moment" % self.scale.unit if self.scale.is_time else "event"
+        self.set_axis(axes, self.scale.end, words)
+
+    def set_axis(self, axes, end, words):
+        """An axis from 0, with room for what stands there, to an end."""
+        end = max(1, end)
+        axes.set_xlim(-0.006 * end, 1.01 * end)
+        axes.set_xlabel(words)
+        axes.xaxis.set_major_locator(MaxNLocator(nbins=9, integer=not self.scale.is_time))
+        axes.xaxis.set_major_formatter(StrMethodFormatter("{x:,g}" if self.scale.is_time else "{x:,.0f}"))

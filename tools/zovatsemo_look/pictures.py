@@ -2,13 +2,14 @@
 import numpy
 from matplotlib.colors import to_rgb
 from matplotlib.patches import Rectangle
-from matplotlib.ticker import MaxNLocator
+from matplotlib.ticker import MaxNLocator, StrMethodFormatter
 
 from zovatsemo_look import measures
 from zovatsemo_look.page import EDGE, GREY, HEAD, SMALL
 from zovatsemo_look.tracks import as_numbers, rows_of_bars
 
 LEAST_OUTLINED = 3  # points that a bar is high and wide, if it has a dark edge
+PERCENTS = (0, 25, 50, 75, 99, 100)  # that a box shows
 DROPS = 0.2  # of a run's part of a lane, where packets were dropped
 
 
@@ -108,7 +109,7 @@ def draw_served(page, axes):
     title(axes, "%s served by each leaf" % word.capitalize())
     axes.set_ylabel(word)
     axes.yaxis.set_major_locator(MaxNLocator(nbins=5, integer=True))
-    axes.yaxis.set_major_formatter("{x:,.0f}")
+    axes.yaxis.set_major_formatter(StrMethodFormatter("{x:,.0f}"))
     axes.set_ylim(bottom=0)
 
 
@@ -119,20 +120,18 @@ def served_word(page):
 
 def draw_waits(page, axes):
     """The distribution of waiting by leaf: quartiles, median, 99th percentile and greatest."""
-    split = [measures.by_leaf(run, measures.waits_of(run, page.capture, page.unit)) for run in page.runs]
+    split, most = [measures.by_leaf(run, measures.waits_of(run, page.capture, page.unit)) for run in page.runs], 0
     for lane, name in page.lanes():
         for which, _, place in page.parts(name):
             ordered = sorted(split[which][place])
             if ordered:
-                draw_box(axes, [page.scale.amount(measures.percentile(ordered, percent))
-                                for percent in (0, 25, 50, 75, 99, 100)],
-                         page.lane_part(lane, which), page.look_of(name)[0], which)
+                numbers = [page.scale.amount(measures.percentile(ordered, percent)) for percent in PERCENTS]
+                draw_box(axes, numbers, page.lane_part(lane, which), page.look_of(name)[0], which)
+                most = max(most, numbers[-1])
     page.label_lanes(axes)
     page.label_runs(axes)
-    axes.set_xlim(left=0)
     word = "delay" if page.scale.is_time else "waiting"
-    axes.set_xlabel("%s in %s" % (word, page.scale.unit))
-    axes.xaxis.set_major_formatter("{x:,g}")
+    page.set_axis(axes, most, "%s in %s" % (word, page.scale.unit))
     title(axes, "Distribution of %s" % word,
           "box: 25th to 75th percentile, mark: median, line: least to 99th, cross: greatest")
 
