@@ -1,5 +1,6 @@
 """What the four pictures of a page share: the runs on one axis, and the leaves with their lanes and looks."""
-from matplotlib.textpath import TextPath
+from matplotlib.font_manager import FontProperties
+from matplotlib.textpath import text_to_path
 from matplotlib.ticker import MaxNLocator, StrMethodFormatter
 
 from zovatsemo_look import measures
@@ -23,8 +24,8 @@ def plain(text):
 
 def inches_of(text, size=TEXT):
     """How wide a text is on the page."""
-    return max(TextPath((0, 0), plain(line), size=size).get_extents().width if line.strip() else 0
-               for line in text.split("\n")) / 72
+    font = FontProperties(size=size)
+    return max(text_to_path.get_text_width_height_descent(line, font, False)[0] for line in text.split("\n")) / 72
 
 
 def name_size(name):
