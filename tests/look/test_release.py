@@ -100,8 +100,10 @@ class Archive(unittest.TestCase):
         self.assertEqual(self.pack().read_bytes(), first)
         top = self.unpack(packed)
         commit = run("git", "rev-parse", "HEAD", cwd=self.clone)[1].strip()
+        about = (top / "RELEASE").read_text()
         for line in ("commit     %s" % commit, "proved by  a toolchain", "gate       57 passed, 0 failed", "replay_app"):
-            self.assertIn(line, (top / "RELEASE").read_text().splitlines())
+            self.assertIn(line, about.splitlines())
+        self.assertRegex(about, r"\nneeds      x86_64 Linux with glibc 2\.\d+ or later\n")
         self.assertEqual((top / "bin/zovatsemo").read_bytes(), self.program.read_bytes())
         self.assertEqual(run(top / "zovatsemo", "check", "some policy"), (0, "check some policy\n", ""))
         help_lines = run(top / "zovatsemo", "--help")[1].splitlines()
