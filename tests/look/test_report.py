@@ -164,8 +164,9 @@ class Refused(unittest.TestCase):
             whole = written.read_bytes()
             later = whole[:24] + b"\x01\x00\x00\x00" + whole[28:]
             for data, said in ((b"", "fewer than 24 bytes"), (bytes(24), "no capture of the classic format and no pcapng"),
-                               (b"\x0a\x0d\x0d\x0a" + bytes(20), "0 whole packets, and in the report 10 came"),
-                               (whole[:-1], "9 whole packets, and in the report 10 came"),
+                               (b"\x0a\x0d\x0d\x0a" + bytes(20), "0 whole packets, and the report speaks of 10"),
+                               (whole + whole[24:], "more than the 10 packets of which the report speaks"),
+                               (whole[:-1], "9 whole packets, and the report speaks of 10"),
                                (later, "packet 1 starts before its moment")):
                 with self.subTest(said):
                     self.assertIn(said, self.look_with_capture(folder, data))

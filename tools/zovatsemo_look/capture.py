@@ -68,11 +68,18 @@ def read_capture(stream, most, progress):
     return capture
 
 
+def packets_told(run):
+    """How many packets a report speaks of: those that came, and those that weren't sent."""
+    return len(run.arrived) + (run.unsent or 0)
+
+
 def check_capture(capture, run):
     """Refuses a capture that can't be that of the run."""
-    if len(capture.lengths) < len(run.arrived):
-        raise CaptureError("it has %d whole packets, and in the report %d came"
-                           % (len(capture.lengths), len(run.arrived)))
+    here, told = len(capture.lengths), packets_told(run)
+    if here < told:
+        raise CaptureError("it has %d whole packets, and the report speaks of %d" % (here, told))
+    if here > told and run.unsent is not None:
+        raise CaptureError("it has more than the %d packets of which the report speaks" % told)
     for packet, start in zip(run.order, run.starts):
         if start < capture.moments[packet - 1]:
             raise CaptureError("packet %d starts before its moment: it isn't the capture of this run" % packet)

@@ -48,7 +48,7 @@ def read_from(stream, name, reader):
 def read_capture(name, runs):
     """The capture of the runs, checked against them."""
     from zovatsemo_look import capture
-    most = max(len(run.arrived) for run in runs)
+    most = max(map(capture.packets_told, runs)) + 1
     try:
         with open(name, "rb") as stream:
             found = read_from(stream, name, lambda bytes_, shown: capture.read_capture(bytes_, most, shown))
