@@ -10,3 +10,6 @@ pub mod ClassLemmas
 pub mod FewClasses
 pub mod AssembledParts
 pub mod WrittenLines
+pub mod OfficeStatements
+pub mod OfficeTree
+pub mod OfficeLines

@@ -4,3 +4,4 @@ pub mod Codes
 pub mod Laws
 pub mod Samples
 pub mod Made
+pub mod Office

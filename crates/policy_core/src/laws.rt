@@ -1,5 +1,6 @@
-//! Laws of numbers, addresses and rows.
+//! Laws of numbers, addresses and rows, and of the office.
 ghost use Rattle.policy_core.specs.Laws.{NumbersUndoAddresses, AddressesUndoNumbers, RowsTellTheTree};
+ghost use Rattle.policy_core.specs.Office.{OfficeIsAccepted, OfficesAreAlike};
 
 /// A node's number is below the count of nodes, and gives its address.
 pub fn addresses_undo_numbers()
@@ -14,4 +15,14 @@ pub fn numbers_undo_addresses()
 /// What is read by number from the rows of a tree stands where the tree has the row's node.
 pub fn rows_tell_the_tree()
     ensures law { RowsTellTheTree }
+{}
+
+/// The statements of the office fail no clause.
+pub fn the_office_is_accepted()
+    ensures law { OfficeIsAccepted }
+{}
+
+/// Each policy that they give is of version 1, has eight classes, and has two nodes of four leaves each below the root.
+pub fn offices_are_alike()
+    ensures law { OfficesAreAlike }
 {}

@@ -2,9 +2,10 @@
 ghost use Rattle.std.specs.Prelude.{◌<◌};
 ghost use Rattle.tree_defs.specs.Tree.{nodes};
 
+use crate::office::statements;
 use crate::{Marks, Policy, PolicyFault, resolve};
 use policy_defs::NodeNames;
-use policy_text::parse;
+use policy_text::{Lines, parse, print};
 use std::alloc::Global;
 use std::test::Fail;
 
@@ -31,6 +32,28 @@ const LIMITED: &[u8] = b"policy 2\n\
     leaf open using own classes rest\n\
     node left using shortest children deep right\n\
     node root using own children left open\n";
+
+/// The office, as it is written.
+const OFFICE: &[u8] = b"policy 1\n\
+    class voice when dscp 46\n\
+    class video when dscp 34\n\
+    class ssh when proto tcp and dport 22\n\
+    class dns when proto udp and dport 53\n\
+    class web when proto tcp and dport 443\n\
+    class mail when proto tcp and dport 25\n\
+    class backup when dst 10.9.0.0/16\n\
+    class other\n\
+    leaf voice using fifo weight 4 classes voice\n\
+    leaf video using fifo weight 2 classes video\n\
+    leaf ssh using fifo classes ssh\n\
+    leaf dns using fifo classes dns\n\
+    leaf web using stfq weight 4 classes web\n\
+    leaf mail using fifo weight 2 classes mail\n\
+    leaf backup using fifo classes backup\n\
+    leaf other using fifo classes other\n\
+    node urgent using stfq prio 0 children voice video ssh dns\n\
+    node normal using stfq prio 1 children web mail backup other\n\
+    node root using strict children urgent normal\n";
 
 const PLAIN: Marks = Marks {
     prio: 0,
@@ -206,6 +229,56 @@ fn a_limit_is_refused_in_version_1_after_all_else(rt: HostRuntime) -> Result<(),
             expected,
             "version {version}: {statements}"
         );
+    }
+    Ok(())
+}
+
+#[test]
+fn the_office_has_the_statements_of_its_text(rt: HostRuntime) -> Result<(), Fail> {
+    let built = Lines::of(rt.alloc(), statements(rt.alloc())?)?;
+    let read = parse(rt.alloc(), OFFICE)?;
+    let built = print(rt.alloc(), &built)?;
+    let read = print(rt.alloc(), &read)?;
+    assert_eq!(rt; built.as_slice(), read.as_slice());
+    Ok(())
+}
+
+#[test]
+fn the_office_is_the_policy_of_its_text(rt: HostRuntime) -> Result<(), Fail> {
+    let office = Policy::office(rt.alloc())?;
+    let read = policy(rt.alloc(), OFFICE)?;
+    assert_eq!(rt; office.version(), 1);
+    assert_eq!(rt; office.count(), 11);
+    for node in 0..11 {
+        assert_eq!(rt; told(&office, node), told(&read, node), "node {node}");
+        assert_eq!(rt; held(&office, node), held(&read, node), "node {node}");
+    }
+    assert_eq!(rt; office.classes().len(), read.classes().len());
+    for (class, expected) in office.classes().iter().zip(read.classes()) {
+        assert_eq!(rt; (class.marks, class.leaf), (expected.marks, expected.leaf));
+        assert_eq!(rt; class.conditions.as_slice(), expected.conditions.as_slice());
+    }
+    Ok(())
+}
+
+#[test]
+fn classes_of_the_office_have_leaves_of_their_order(rt: HostRuntime) -> Result<(), Fail> {
+    let office = Policy::office(rt.alloc())?;
+    let expected = [
+        ("voice", "fifo", 4),
+        ("video", "fifo", 2),
+        ("ssh", "fifo", 1),
+        ("dns", "fifo", 1),
+        ("web", "stfq", 4),
+        ("mail", "fifo", 2),
+        ("backup", "fifo", 1),
+        ("other", "fifo", 1),
+    ];
+    assert_eq!(rt; office.classes().len(), expected.len());
+    for (class, (name, used, weight)) in office.classes().iter().zip(expected) {
+        assert_eq!(rt; held(&office, class.leaf), Some((name, used, None)));
+        let marks = told(&office, class.leaf).map(|told| told.5);
+        assert_eq!(rt; marks, Some(Marks { weight, ..PLAIN }), "{name}");
     }
     Ok(())
 }

@@ -9,3 +9,4 @@ pub mod Unused
 pub mod TapLaws
 pub mod CaptureLaws
 pub mod WordLaws
+pub mod OfficeRoom
