@@ -1,0 +1,3 @@
+pub mod ComposedMaps
+pub mod TreesOfImages
+pub mod PreorderTrees
