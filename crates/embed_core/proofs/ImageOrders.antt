@@ -1,5 +1,5 @@
 -- Children in the order of their images, and a search among them.
-use Rattle.std.proofs.Common.{◌≡◌, ℕ, ◌+◌, ◌-◌, ◌<◌, ◌≤◌, true, false, eqb, ltb, List, [], ◌∷◌, ◌++◌, length, get_or, map, refl, sym, ap, ◌∙◌, subst, arith, inl, inr, eq-eqb, Ordering, Less, Equal, Greater, Bor}
+use Rattle.std.proofs.Common.{◌≡◌, ℕ, ◌+◌, ◌<◌, ◌≤◌, true, false, eqb, ltb, List, [], ◌∷◌, ◌++◌, length, get_or, map, refl, sym, ap, ◌∙◌, subst, arith, inl, inr, eq-eqb, Ordering, Less, Equal, Greater, Bor}
 use Rattle.std.proofs.lemmas.Bool.{true≢false, cases_order, cases_lt, le-ltb, ne_eqb, eqb-true}
 use Rattle.std.proofs.lemmas.List.{get_or_default, get_or-map, map-append, length-map}
 use Rattle.std.proofs.lemmas.Cmp.{nat_list_cmp_total, nat_cmp_total, upto, then_total, on_total}

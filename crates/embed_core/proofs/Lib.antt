@@ -10,3 +10,4 @@ pub mod LiftSteps
 pub mod PickedChildren
 pub mod ImageOrders
 pub mod MapShapes
+pub mod PreorderMaps

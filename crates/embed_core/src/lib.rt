@@ -1,5 +1,5 @@
-//! Source trees laid into complete trees of queues: the canonical map, and ranks lifted and picked along it. Begin with
-//! specs/Picks.antt.
+//! Source trees laid into complete trees of queues: the canonical map, or one that is given, and ranks lifted and picked
+//! along it. Begin with specs/Picks.antt.
 #![tactic(auto)]
 
 mod block;

@@ -1,13 +1,15 @@
-//! The canonical map of a topology into a complete tree.
+//! Maps of a topology into a complete tree: the canonical one, and one that is given.
 ghost use Rattle.std.specs.Prelude.{◌≡◌, ◌+◌, ◌≤◌, ◌++◌, length, replicate, drop, IfOk, MatchOption, Some, None, Err};
-ghost use Rattle.tree_defs.specs.Tree.{nodes, depth as levels, root_of, LeadsToLeaf, SameShape, most_nodes};
+ghost use Rattle.tree_defs.specs.Tree.{nodes, depth as levels, root_of, trees_of, LeadsToLeaf, SameShape, most_nodes};
 ghost use Rattle.tree_defs.specs.Topology.{IsBranched, complete};
 ghost use Rattle.tree_core.specs.Shape.{topology};
+ghost use Rattle.tree_core.specs.TreeContents.{branch};
 ghost use Rattle.target_defs.specs.Target.{IsInRange, lowest};
 ghost use Rattle.embed_defs.specs.Embedding.{IsEmbedding, HasEmbedding};
 ghost use Rattle.embed_defs.specs.Need.{IsLeast, IsNeed, HoldsNeeds, HasHeight};
 ghost use Rattle.embed_defs.specs.Canonical.{canonical, IsCanonical};
 ghost use Rattle.embed_defs.specs.Images.{image_at, image_map};
+ghost use Rattle.embed_map_defs.specs.Preorder.{image_in, tree_in, HoldsImages};
 ghost use Rattle.embed_lift_defs.specs.Lift.{lift_ranks, picked_ranks};
 ghost use Rattle.embed_lift_defs.specs.GoodMaps.{IsGoodMap, IsDeep, IsNested};
 ghost use Rattle.embed_core.specs.Range.{levels_of, FitsInLevels};
@@ -17,6 +19,7 @@ use crate::block::block_start;
 use crate::needs::Needs;
 use crate::order::{child_to, image_order};
 use crate::way::Way;
+use list_core::List;
 use std::alloc::{AllocError, Global};
 use std::marker::Model;
 use target_core::Target;
@@ -73,6 +76,69 @@ impl From<AllocError> for EmbedFault {
 }
 
 impl Map {
+    /// The map of a topology that has these images, one for each node in preorder.
+    pub fn of(
+        alloc: Global,
+        topo: &Topo,
+        target: &Target,
+        images: &List<List<u32>>,
+    ) -> Result<Map, AllocError>
+        requires branched { IsBranched (topology topo.now) }
+        requires few { nodes (topology topo.now) ≤ most_nodes }
+        requires images { length images.now ≡ nodes (topology topo.now) }
+        requires embedding { IsEmbedding (topology topo.now) (complete target.now.arities)
+            (image_in (topology topo.now) images.now) }
+        ensures images { IfOk result (HoldsImages (topology topo.now) (image_in (topology topo.now) images.now)) }
+        ensures shape { IfOk result (λ map. SameShape (topology topo.now) map) }
+        ensures good { IfOk result (λ map. IsGoodMap (length target.now.arities) map) }
+        ensures embedding { IfOk result (λ map.
+            IsEmbedding (topology topo.now) (complete target.now.arities) (image_map map)) }
+    {
+        let (map, _left) = Map::first_of(alloc, topo, images.as_slice())?;
+        Ok(map)
+    }
+
+    /// The map of a topology whose images stand first among these, and the images behind them.
+    fn first_of<'a>(
+        alloc: Global,
+        topo: &Topo,
+        images: &'a [List<u32>],
+    ) -> Result<(Map, &'a [List<u32>]), AllocError>
+        requires branched { IsBranched (topology topo.now) }
+        requires few { nodes (topology topo.now) ≤ most_nodes }
+        requires images { nodes (topology topo.now) ≤ length images.now }
+        ensures map { IfOk result (λ first. first.0 ≡ tree_in (topology topo.now) images.now) }
+        ensures left { IfOk result (λ first. first.1.now ≡ drop (nodes (topology topo.now)) images.now) }
+    {
+        let image = images[0].as_slice().to_vec(alloc)?;
+        let mut left = &images[1..];
+        let mut children = Vec::new(alloc);
+        match topo {
+            Topo::Leaf => Ok((Map::node(alloc, image, children)?, left)),
+            Topo::Inner(inner) => {
+                for child in inner {
+                    let (below, behind) = Map::first_of(alloc, child, left)?;
+                    children.push(below)?;
+                    left = behind;
+                }
+                Ok((Map::node(alloc, image, children)?, left))
+            }
+        }
+    }
+
+    /// A node with this image and these children.
+    fn node(alloc: Global, image: Vec<u32>, children: Vec<Map>) -> Result<Map, AllocError>
+        requires few { length children.items ≤ most_nodes }
+        ensures node { IfOk result (λ map. map ≡ branch image.items (trees_of children.items)) }
+    {
+        let order = image_order(alloc, &children)?;
+        Ok(Map {
+            image,
+            children,
+            order,
+        })
+    }
+
     /// The image of the node at an address.
     pub fn image(&self, address: &[u32]) -> Option<&[u32]>
         ensures image { MatchOption result (image_at self.now address.now ≡ None)
@@ -167,12 +233,7 @@ impl Map {
             below.extend_from_slice(&start[..height - need as usize])?;
             children.push(Map::place(alloc, child, target, need as usize, below)?)?;
         }
-        let order = image_order(alloc, &children)?;
-        Ok(Map {
-            image,
-            children,
-            order,
-        })
+        Map::node(alloc, image, children)
     }
 }
 

@@ -1,8 +1,10 @@
-use Rattle.std.proofs.Common.{rules, ◌≡◌, ◌-◌, ◌<◌, ◌≤◌, [], ◌∷◌, ◌++◌, length, take, refl, sym, ap, ◌∙◌, arith}
+use Rattle.std.proofs.Common.{rules, ◌≡◌, ◌-◌, ◌<◌, [], ◌∷◌, ◌++◌, length, take, refl, sym, ap, ◌∙◌, subst, arith}
 use Rattle.std.proofs.lemmas.List.{length-take-le}
-use Rattle.tree_defs.specs.Tree.{trees_of, nodes, root_of}
+use Rattle.std.specs.Prelude.{IfOk}
+use Rattle.tree_defs.specs.Tree.{Tree, Address, trees_of, nodes, root_of}
+use Rattle.tree_core.specs.TreeContents.{branch}
 use Rattle.embed_defs.specs.Need.{FitsBelow, needs_at, HoldsNeeds}
-use Rattle.embed_defs.specs.Canonical.{image_part, children}
+use Rattle.embed_defs.specs.Canonical.{image_part, children, canonical}
 use Rattle.embed_core.specs.Range.{levels_of}
 use Rattle.embed_core.proofs.TargetArities.{positive}
 use Rattle.embed_defs.proofs.Digits.{length-digits}
@@ -49,23 +51,15 @@ loop-index-preserved t c =
     rw d (images-step (levels_of c.args.target.now) c.args.height c.args.image.items (children (trees_of c.children-siblings.result.now) 0) c.children-siblings.result.now c.loop-index.index c.need-need.result c.index-siblings-index.result c.loop-index.children.items _
     c.extend_from_slice.new.self.items c.in_ok-place.field-0 c.loop-index-test.true c.index-siblings-index.is c.need-need.ensures.need e c.in_ok-place.ensures.canonical c.loop-index.invariant)
 
-pub image_order-requires : goal.image_order-requires
-image_order-requires t c =
-    let n : length c.loop-index.children.items ≤ 1024 = few-images (levels_of c.args.target.now) c.args.height c.args.image.items c.args.needs.now (root_of c.args.needs.now) c.children-siblings.result.now c.loop-index.children.items c.children-siblings.ensures.children c.requires.few
-    (images-done (levels_of c.args.target.now) c.args.height c.args.image.items (children (trees_of c.children-siblings.result.now) 0) c.children-siblings.result.now c.loop-index.index c.loop-index.children.items _ c.loop-index-test.false c.loop-index.invariant) in
-    record { few = omega (arith, n, ap length c.deref-2.ensures.value) }
-
-pub invariant_of-result : goal.invariant_of-result
-invariant_of-result t c = (
-  few-images (levels_of c.args.target.now) c.args.height c.args.image.items c.args.needs.now (root_of c.args.needs.now) c.children-siblings.result.now c.loop-index.children.items c.children-siblings.ensures.children c.requires.few
-      (images-done (levels_of c.args.target.now) c.args.height c.args.image.items (children (trees_of c.children-siblings.result.now) 0) c.children-siblings.result.now c.loop-index.index c.loop-index.children.items _ c.loop-index-test.false c.loop-index.invariant),
-  rw c.deref-2.ensures.value at c.in_ok-order.ensures.order,
-)
+pub node-requires : goal.node-requires
+node-requires t c = record {
+  few = few-images (levels_of c.args.target.now) c.args.height c.args.image.items c.args.needs.now (root_of c.args.needs.now) c.children-siblings.result.now c.loop-index.children.items c.children-siblings.ensures.children c.requires.few
+      (images-done (levels_of c.args.target.now) c.args.height c.args.image.items (children (trees_of c.children-siblings.result.now) 0) c.children-siblings.result.now c.loop-index.index c.loop-index.children.items _ c.loop-index-test.false c.loop-index.invariant);
+}
 
 pub returns : goal.returns
 returns t c =
-    record {
-      canonical =
-          all-images (levels_of c.args.target.now) c.args.height c.args.image.items c.args.needs.now (root_of c.args.needs.now) c.children-siblings.result.now c.loop-index.children.items c.children-siblings.ensures.children
-          (images-done (levels_of c.args.target.now) c.args.height c.args.image.items (children (trees_of c.children-siblings.result.now) 0) c.children-siblings.result.now c.loop-index.index c.loop-index.children.items _ c.loop-index-test.false c.loop-index.invariant);
-    }
+    let placed : branch c.args.image.items (trees_of c.loop-index.children.items) ≡ canonical (levels_of c.args.target.now) c.args.height c.args.image.items c.args.needs.now
+    = all-images (levels_of c.args.target.now) c.args.height c.args.image.items c.args.needs.now (root_of c.args.needs.now) c.children-siblings.result.now c.loop-index.children.items c.children-siblings.ensures.children
+    (images-done (levels_of c.args.target.now) c.args.height c.args.image.items (children (trees_of c.children-siblings.result.now) 0) c.children-siblings.result.now c.loop-index.index c.loop-index.children.items _ c.loop-index-test.false c.loop-index.invariant) in
+    record { canonical = subst (λ (z : Tree Address). IfOk c.node.result (λ map. map ≡ z)) placed c.node.ensures.node }
