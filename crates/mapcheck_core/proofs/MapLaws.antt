@@ -8,11 +8,12 @@ use Rattle.tree_defs.specs.Tree as tree
 use Rattle.tree_defs.proofs.TopologyLaws.{leaf_at}
 use Rattle.tree_defs.specs.Topology.{Topology, IsBranched, IsPrefixOf}
 use Rattle.embed_defs.specs.Embedding.{IsEmbedding}
+use Rattle.embed_map_defs.specs.Preorder.{number_of}
 use Rattle.mapcheck_core.specs.declared.given.Given.{Given}
 use Rattle.mapcheck_core.specs.declared.fault.MapFault.{MapFault}
 use Rattle.mapcheck_core.specs.declared.fault.MapFault.TheVariants as fault
 use Rattle.mapcheck_core.specs.declared.check.Demand.TheVariants as demand
-use Rattle.mapcheck_core.specs.Numbers.{number_of, span_at}
+use Rattle.mapcheck_core.specs.Numbers.{span_at}
 use Rattle.mapcheck_core.specs.GivenMaps.{image_of, line_of, IsOutside, MissesLeaf, KeepsPrefix, HoldsNowhere, IsLeastLine, IsLeastPair, IsInside, KeepsRoot, KeepsLeaves, Breaks, outside, root, leaf, prefix}
 use Rattle.mapcheck_core.specs.Checks.{breaks_at, IsLeast, is_broken, lies_in, is_prefix, differ, IsFirstPair}
 use Rattle.mapcheck_core.proofs.NumberLaws.{positive, at_number, number_inside, span_is, number_root}

@@ -1,12 +1,12 @@
 -- A map that is given between two topologies: an image and a line for each node, in preorder.
-use Rattle.std.specs.Prelude.{◌≡◌, ℕ, ◌<◌, ◌≤◌, ◌⊎◌, ◌↔◌, [], Option, Some, None, length, slice_index, slice_index_or}
+use Rattle.std.specs.Prelude.{◌≡◌, ℕ, ◌<◌, ◌≤◌, ◌⊎◌, ◌↔◌, [], Option, Some, None, length, slice_index}
 use Rattle.tree_defs.specs.Tree.{Address, IsAddressOf, LeadsToLeaf, nodes, depth, most_nodes, most_levels}
 use Rattle.tree_defs.specs.Topology.{Topology, IsPrefixOf, IsBranched}
 use Rattle.embed_defs.specs.Embedding.{IsEmbedding}
+use Rattle.embed_map_defs.specs.Preorder.{number_of, image_in}
 use Rattle.mapcheck_core.specs.declared.given.Given.{Given}
 use Rattle.mapcheck_core.specs.declared.fault.MapFault.{MapFault}
 use Rattle.mapcheck_core.specs.declared.fault.MapFault.TheVariants as fault
-use Rattle.mapcheck_core.specs.Numbers.{number_of}
 
 -- at most 1,024 nodes and 64 levels, and no inner node without a child
 pub record IsWithinLimits (t : Topology) : Type 0 where
@@ -21,7 +21,7 @@ pub record IsGivenFor (s : Topology) (g : Given) : Type 0 where
 
 -- the image of an address stands at its number
 abbrev pub image_of : Topology → Given → Address → Address
-image_of s g a = slice_index_or g.images (number_of s a) []
+image_of s g = image_in s g.images
 
 -- and so does its line
 abbrev pub line_of : Topology → Given → Address → ℕ

@@ -3,18 +3,6 @@ use Rattle.std.specs.Prelude.{◌≡◌, refl, ℕ, zero, suc, ◌+◌, ◌-◌,
 use Rattle.tree_defs.specs.Tree.{leaf, inner, Trees, none, more, Address, subtree, nodes, nodes_below}
 use Rattle.tree_defs.specs.Topology.{Topology, office}
 
--- the number of an address: the root has 0, each node stands before its children, and the first of these first
-abbrev mutual
-  pub number_of : Topology → Address → ℕ
-  number_of (leaf u) a = 0
-  number_of (inner u ts) [] = 0
-  number_of (inner u ts) (i ∷ a) = suc (number_below ts i a)
-
-  pub number_below : Trees (Unit {0}) → ℕ → Address → ℕ
-  number_below none i a = 0
-  number_below (more t ts) zero a = number_of t a
-  number_below (more t ts) (suc i) a = nodes t + number_below ts i a
-
 -- how many nodes the part has whose root has a number
 abbrev mutual
   pub span_at : Topology → ℕ → ℕ
@@ -38,9 +26,6 @@ is_leaf (Some (inner u ts)) = false
 -- an address leads to a leaf
 abbrev pub is_leaf_at : Topology → Address → Bool
 is_leaf_at t a = is_leaf (subtree t a)
-
-office_in_preorder : map (number_of office) ([] ∷ (0 ∷ []) ∷ (1 ∷ []) ∷ (1 ∷ 0 ∷ []) ∷ (1 ∷ 1 ∷ []) ∷ []) ≡ 0 ∷ 1 ∷ 2 ∷ 3 ∷ 4 ∷ []
-office_in_preorder = refl
 
 spans_of_office : map (span_at office) (0 ∷ 1 ∷ 2 ∷ 3 ∷ 4 ∷ []) ≡ 5 ∷ 1 ∷ 3 ∷ 1 ∷ 1 ∷ []
 spans_of_office = refl
