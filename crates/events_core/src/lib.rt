@@ -1,10 +1,12 @@
-//! Scripts of events, with their steps or the line at fault, and the clock of a link. Begin with specs/Script.antt.
+//! Scripts of events, with their steps or the line at fault, the clock of a link, and the generator of a load. Begin with
+//! specs/Script.antt.
 #![tactic(auto)]
 
 mod fault;
 mod laws;
 mod line;
 mod link;
+mod load;
 mod parse;
 mod script;
 mod step;
@@ -14,6 +16,7 @@ mod tests;
 pub use fault::ScriptFault;
 pub use laws::scripts_have_an_answer;
 pub use link::{Link, MOST_RATE, send_time};
+pub use load::Load;
 pub use parse::{MOST_BYTES, MOST_COUNT, parse_events};
 pub use script::Script;
 pub use step::Step;

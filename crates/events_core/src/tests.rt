@@ -1,4 +1,4 @@
-//! Tests of scripts and of send times.
+//! Tests of scripts, of send times and of draws.
 use super::*;
 use std::test::Fail;
 
@@ -73,4 +73,22 @@ fn a_link_at_a_gigabit(rt: HostRuntime) {
     assert_eq!(rt; link.send(64, rate), 17_000);
     assert_eq!(rt; send_time(1, 3), 333_333_334);
     assert_eq!(rt; send_time(0, 1), 0);
+}
+
+#[test]
+fn a_load_draws_the_same_numbers(rt: HostRuntime) {
+    let mut load = Load::new(0);
+    for number in [
+        167_951_807,
+        218_396_424,
+        1_299_921_937,
+        861_605_236,
+        823_830_125,
+    ] {
+        assert_eq!(rt; load.next(), number);
+    }
+    let mut load = Load::new(4_611_686_018_427_387_903);
+    for number in [2_111_423_400, 2_027_203_255, 1_744_373_589] {
+        assert_eq!(rt; load.next(), number);
+    }
 }
