@@ -1,7 +1,6 @@
 -- What is made of an agenda, and what of it is still to come.
 use Rattle.std.proofs.Common.{◌≡◌, ◌≤◌, ◌^◌, ℕ, ◌+◌, Option, None, Some, List, [], ◌++◌, refl, sym, ap, ◌∙◌, subst, arith, append_assoc, append-nil}
 use Rattle.std.specs.Prelude.{IfSome}
-use Rattle.report_core.specs.Gathered.{Gathered, text_of}
 use Rattle.tree_defs.specs.SourceTree.{size}
 use Rattle.policy_defs.specs.Policy.{Policy}
 use Rattle.policy_defs.specs.Accepted.{IsAccepted}
@@ -14,6 +13,8 @@ use Rattle.sched_defs.specs.Packets.{Left}
 use Rattle.sched_defs.specs.declared.ending.Ending.{Ending}
 use Rattle.sched_defs.proofs.Runs.{after-append, none_lost}
 use Rattle.sched_core.specs.declared.scheduler.Scheduler.{Ghosts}
+use Rattle.sched_run.specs.declared.recorder.Recorder as recorder
+use Rattle.sched_run.specs.Recording.{AreJoined}
 use Rattle.sched_core.specs.Standing.{StandForOne}
 use Rattle.tap_core.specs.Watching.{Sight}
 use Rattle.sched_run.specs.declared.tally.Tally.{Tally}
@@ -32,37 +33,37 @@ pub record IsBehind (policy : Policy) (whole rest : Agenda) (events : List Event
 
 -- A part of what was to come was made, and the rest is still to come. Of so many departures that may find nothing so many
 -- are spare.
-pub record HasRun {C U : Type 0} (S : Ghosts C U) (policy : Policy) (whole rest : Agenda) (all spare : ℕ) (before now : Option Left) (old new : Stage C U) : Type 0 where
+pub record HasRun {C U W : Type 0} (S : Ghosts C U) (R : recorder.Ghosts W) (policy : Policy) (whole rest : Agenda) (all spare : ℕ) (before now : Option Left) (old new : Stage C U W) : Type 0 where
   pub events : List Event
-  pub made : Makes S policy events old new
+  pub made : Makes S R policy events old new
   pub few : FromEach S policy old (λ s. empty_in (outcomes policy events s) + spare ≤ all)
   pub told : IfSome before (λ l. FromEach S policy old (λ s. IsBehind policy whole rest events l now s (event_of old.tally) (event_of new.tally)))
 
 behind-append : (es fs : List Event) (c : Course) → behind es (behind fs c) ≡ behind (es ++ fs) c
 behind-append es fs c = ap (λ (events : List Event). record { events = events; ending = c.ending }) (sym (append_assoc es fs c.events))
 
-module _ {C U : Type 0} (S : Ghosts C U) (policy : Policy) where
-  pub run_none : (whole : Agenda) (all : ℕ) (a : Option Left) (c : C) (u : U) (text : Option (List ℕ)) (given : ℕ) (tally : Tally) (sight : Sight) → HasRun S policy whole whole all all a a (stage c u text given tally sight) (stage c u text given tally sight)
-  run_none whole all a c u text given tally sight = record {
+module _ {C U W : Type 0} (S : Ghosts C U) (R : recorder.Ghosts W) (laws : AreJoined R.records R.cuts) (policy : Policy) where
+  pub run_none : (whole : Agenda) (all : ℕ) (a : Option Left) (c : C) (u : U) (w : W) (written : Option (List ℕ)) (given : ℕ) (tally : Tally) (sight : Sight) → HasRun S R policy whole whole all all a a (stage c u w written given tally sight) (stage c u w written given tally sight)
+  run_none whole all a c u w written given tally sight = record {
     events = [];
-    made = makes_none S policy c u text given given tally sight;
+    made = makes_none S R laws policy c u w written given given tally sight;
     few = λ s sound stood below. omega arith;
     told = by_left a;
   }
     where
-      by_left : (a : Option Left) → IfSome a (λ l. FromEach S policy (stage c u text given tally sight) (λ s. IsBehind policy whole whole [] l a s (event_of tally) (event_of tally)))
+      by_left : (a : Option Left) → IfSome a (λ l. FromEach S policy (stage c u w written given tally sight) (λ s. IsBehind policy whole whole [] l a s (event_of tally) (event_of tally)))
       by_left None = tt
       by_left (Some l) = λ s sound stood below. record { left = l; is = refl; joined = refl }
 
-  regiven : (es : List Event) (old : Stage C U) (c : C) (u : U) (text : Option (List ℕ)) (given given' : ℕ) (tally : Tally) (sight : Sight) → Makes S policy es old (stage c u text given tally sight) → Makes S policy es old (stage c u text given' tally sight)
-  regiven es old c u text given given' tally sight made = record { next = made.next; came = made.came; asked = made.asked; dropped = made.dropped; played = made.played; shown = made.shown }
+  pub regiven : (es : List Event) (old : Stage C U W) (c : C) (u : U) (w : W) (written : Option (List ℕ)) (given given' : ℕ) (tally : Tally) (sight : Sight) → Makes S R policy es old (stage c u w written given tally sight) → Makes S R policy es old (stage c u w written given' tally sight)
+  regiven es old c u w written given given' tally sight made = record { next = made.next; came = made.came; asked = made.asked; dropped = made.dropped; played = made.played; shown = made.shown }
 
   -- nothing is still to come
-  pub run_over : (whole rest : Agenda) (all spare : ℕ) (a b : Option Left) (e : Ending) (old : Stage C U) (c : C) (u : U) (text : Option (List ℕ)) (given given' : ℕ) (tally : Tally) (sight : Sight) →
-      HasRun S policy whole rest all spare a b old (stage c u text given tally sight) → IfSome b (λ l. (s : SourceState) → IsCourse [] e (rest l s (event_of tally))) → Courses S policy whole e a old (stage c u text given' tally sight)
-  run_over whole rest all spare a b e old c u text given given' tally sight run ends = record {
+  pub run_over : (whole rest : Agenda) (all spare : ℕ) (a b : Option Left) (e : Ending) (old : Stage C U W) (c : C) (u : U) (w : W) (written : Option (List ℕ)) (given given' : ℕ) (tally : Tally) (sight : Sight) →
+      HasRun S R policy whole rest all spare a b old (stage c u w written given tally sight) → IfSome b (λ l. (s : SourceState) → IsCourse [] e (rest l s (event_of tally))) → Courses S R policy whole e a old (stage c u w written given' tally sight)
+  run_over whole rest all spare a b e old c u w written given given' tally sight run ends = record {
     events = run.events;
-    made = regiven run.events old c u text given given' tally sight run.made;
+    made = regiven run.events old c u w written given given' tally sight run.made;
     told = by_left a run.told;
   }
     where
@@ -76,11 +77,11 @@ module _ {C U : Type 0} (S : Ghosts C U) (policy : Policy) where
           subst (IsCourse run.events e) (sym w.joined) (record { are = sym (append-nil run.events) ∙ ap (λ (es : List Event). run.events ++ es) last.are; ends = last.ends })
 
   -- what was made is all that is made, and a first part of its text is written
-  pub run_halts : (whole rest : Agenda) (all spare : ℕ) (a b : Option Left) (old : Stage C U) (c : C) (u : U) (written : Option (List ℕ)) (report : Gathered) (given : ℕ) (tally : Tally) (sight : Sight) →
-      HasRun S policy whole rest all spare a b old (stage c u (text_of written report) given tally sight) → StopsAmid S policy (λ l s. (whole l s (event_of old.tally)).events) a old c u written
-  run_halts whole rest all spare a b old c u written report given tally sight run = record {
+  pub run_halts : (whole rest : Agenda) (all spare : ℕ) (a b : Option Left) (old : Stage C U W) (c : C) (u : U) (w : W) (written : Option (List ℕ)) (given : ℕ) (tally : Tally) (sight : Sight) →
+      HasRun S R policy whole rest all spare a b old (stage c u w written given tally sight) → StopsAmid S R policy (λ l s. (whole l s (event_of old.tally)).events) a old c u written
+  run_halts whole rest all spare a b old c u w written given tally sight run = record {
     events = run.events;
-    stop = stops_here S policy run.events old c u written report run.made.next run.made.played;
+    stop = stops_here S R laws policy run.events old c u w written run.made.next run.made.played;
     first = by_left a run.told;
   }
     where
@@ -91,19 +92,19 @@ module _ {C U : Type 0} (S : Ghosts C U) (policy : Policy) where
           let w = told s sound stood below in
           ((rest w.left (after policy run.events s) (event_of tally)).events, sym (ap (λ (z : Course). z.events) w.joined))
 
-module _ {C U : Type 0} (S : Ghosts C U) (policy : Policy) (accepted : IsAccepted policy) (whole : Agenda) (all : ℕ) where
-  module _ (next : Agenda) (spare : ℕ) (a b : Option Left) (old mid : Stage C U) (given : mid.given + old.tally.came ≡ old.given + mid.tally.came) (run : HasRun S policy whole next all spare a b old mid) where
+module _ {C U W : Type 0} (S : Ghosts C U) (R : recorder.Ghosts W) (laws : AreJoined R.records R.cuts) (policy : Policy) (accepted : IsAccepted policy) (whole : Agenda) (all : ℕ) where
+  module _ (next : Agenda) (spare : ℕ) (a b : Option Left) (old mid : Stage C U W) (given : mid.given + old.tally.came ≡ old.given + mid.tally.came) (run : HasRun S R policy whole next all spare a b old mid) where
     mid_given : mid.given ≡ old.given + arrivals_in run.events
     mid_given = omega (arith, given, run.made.came)
 
     mid_at : (s : SourceState) → IsSound policy s → S.stands old.scheduler old.under s → IsHeldBelow (old.given + 1) s.held → Stands S policy mid.scheduler mid.under mid.given (after policy run.events s)
-    mid_at s sound stood below = stands_after S policy accepted run.events old mid mid.given s run.made mid_given (record { sound = sound; stood = stood; below = below })
+    mid_at s sound stood below = stands_after S R laws policy accepted run.events old mid mid.given s run.made mid_given (record { sound = sound; stood = stood; below = below })
 
     -- more of it was made
-    pub run_goes : (rest : Agenda) (left : ℕ) (c : Option Left) (new : Stage C U) → HasRun S policy next rest spare left b c mid new → HasRun S policy whole rest all left a c old new
+    pub run_goes : (rest : Agenda) (left : ℕ) (c : Option Left) (new : Stage C U W) → HasRun S R policy next rest spare left b c mid new → HasRun S R policy whole rest all left a c old new
     run_goes rest left c new more = record {
       events = run.events ++ more.events;
-      made = makes_both S policy accepted run.events more.events old mid new mid_given run.made more.made;
+      made = makes_both S R laws policy accepted run.events more.events old mid new mid_given run.made more.made;
       few = λ s sound stood below.
           let at = mid_at s sound stood below in
           omega (
@@ -133,10 +134,10 @@ module _ {C U : Type 0} (S : Ghosts C U) (policy : Policy) (accepted : IsAccepte
             }
 
     -- the rest was made
-    pub run_ends : (e : Ending) (new : Stage C U) → Courses S policy next e b mid new → Courses S policy whole e a old new
+    pub run_ends : (e : Ending) (new : Stage C U W) → Courses S R policy next e b mid new → Courses S R policy whole e a old new
     run_ends e new more = record {
       events = run.events ++ more.events;
-      made = makes_both S policy accepted run.events more.events old mid new mid_given run.made more.made;
+      made = makes_both S R laws policy accepted run.events more.events old mid new mid_given run.made more.made;
       told = by_left a run.told;
     }
       where
@@ -152,11 +153,11 @@ module _ {C U : Type 0} (S : Ghosts C U) (policy : Policy) (accepted : IsAccepte
             subst (IsCourse (run.events ++ more.events) e) (sym w.joined) (record { are = ap (λ (x : List Event). run.events ++ x) last.are; ends = last.ends })
 
     -- the rest stopped
-    pub run_stops : (c : C) (u : U) (written : Option (List ℕ)) → StopsAmid S policy (λ l s. (next l s (event_of mid.tally)).events) b mid c u written
-        → StopsAmid S policy (λ l s. (whole l s (event_of old.tally)).events) a old c u written
+    pub run_stops : (c : C) (u : U) (written : Option (List ℕ)) → StopsAmid S R policy (λ l s. (next l s (event_of mid.tally)).events) b mid c u written
+        → StopsAmid S R policy (λ l s. (whole l s (event_of old.tally)).events) a old c u written
     run_stops c u written amid = record {
       events = run.events ++ amid.events;
-      stop = stops_later S policy accepted run.events amid.events old mid c u written mid_given run.made amid.stop;
+      stop = stops_later S R laws policy accepted run.events amid.events old mid c u written mid_given run.made amid.stop;
       first = by_left a run.told;
     }
       where
@@ -174,9 +175,9 @@ module _ {C U : Type 0} (S : Ghosts C U) (policy : Policy) (accepted : IsAccepte
             )
 
   -- ---- what the rest needs
-  module _ (rest : Agenda) (spare : ℕ) (a b : Option Left) (old mid : Stage C U) (given : mid.given + old.tally.came ≡ old.given + mid.tally.came) (few : mid.given ≤ 4294967295)
+  module _ (rest : Agenda) (spare : ℕ) (a b : Option Left) (old mid : Stage C U W) (given : mid.given + old.tally.came ≡ old.given + mid.tally.came) (few : mid.given ≤ 4294967295)
       (fresh : IsFresh old.tally) (short : all ≤ 4194304)
-      (one : StandForOne S.stands policy old.scheduler old.under (CanBegin old.given)) (run : HasRun S policy whole rest all spare a b old mid) where
+      (one : StandForOne S.stands policy old.scheduler old.under (CanBegin old.given)) (run : HasRun S R policy whole rest all spare a b old mid) where
     bounds : mid.tally.asked + size (after policy run.events one.state).tree ≤ 2 ^ 34
     bounds =
         let held = none_lost policy run.events one.state accepted one.sound (can_make policy run.events (old.given + 1) one.state run.made.next.numbered run.made.next.sendable one.has.held) in
@@ -199,9 +200,9 @@ module _ {C U : Type 0} (S : Ghosts C U) (policy : Policy) (accepted : IsAccepte
 
     pub run_ready : StandForOne S.stands policy mid.scheduler mid.under (IsReady mid.given mid.tally)
     run_ready =
-        let at = stands_after S policy accepted run.events old mid mid.given one.state run.made (omega (arith, given, run.made.came)) (record { sound = one.sound; stood = one.stood; below = one.has.held }) in
+        let at = stands_after S R laws policy accepted run.events old mid mid.given one.state run.made (omega (arith, given, run.made.came)) (record { sound = one.sound; stood = one.stood; below = one.has.held }) in
         record { state = after policy run.events one.state; sound = at.sound; stood = at.stood; has = record { held = at.below; few = bounds } }
 
     pub run_room : HasRoom (S.pushes old.scheduler) (S.departures old.scheduler) old.given old.tally → HasRoom (S.pushes mid.scheduler) (S.departures mid.scheduler) mid.given mid.tally
-    run_room room = room_after S policy accepted run.events old mid given few (omega (arith, bounds, run.made.asked)) run.made
+    run_room room = room_after S R laws policy accepted run.events old mid given few (omega (arith, bounds, run.made.asked)) run.made
         (record { state = one.state; sound = one.sound; stood = one.stood; has = one.has.held }) room

@@ -8,6 +8,7 @@ use Rattle.sched_defs.specs.Script.{Step, Course, course, behind, stopped_or, st
 use Rattle.sched_defs.specs.Packets.{Left}
 use Rattle.sched_defs.specs.declared.ending.Ending.{Ending}
 use Rattle.sched_core.specs.declared.scheduler.Scheduler.{Ghosts}
+use Rattle.sched_run.specs.declared.recorder.Recorder as recorder
 use Rattle.events_core.specs.declared.step.Step as line
 use Rattle.events_core.specs.declared.step.Step.TheVariants as line_step
 use Rattle.events_core.specs.Steps.{count_of, counts_of}
@@ -66,14 +67,14 @@ asked_is (line_step.Depart n) = refl
 asked_is line_step.Rest = refl
 asked_is line_step.Drain = refl
 
-module _ {C U : Type 0} (S : Ghosts C U) (policy : Policy) (step : line.Step) (rest : List line.Step) (a : Option Left) (old : Stage C U) where
+module _ {C U W : Type 0} (S : Ghosts C U) (R : recorder.Ghosts W) (policy : Policy) (step : line.Step) (rest : List line.Step) (a : Option Left) (old : Stage C U W) where
   -- the events of a step and the number of the next one
-  numbered : (c : Option Left) (ending : Option Ending) (new : Stage C U) (turns : Turns S policy (step_of step) ending a c old new) → event_of new.tally ≡ event_of old.tally + length turns.events
+  numbered : (c : Option Left) (ending : Option Ending) (new : Stage C U W) (turns : Turns S R policy (step_of step) ending a c old new) → event_of new.tally ≡ event_of old.tally + length turns.events
   numbered c ending new turns = omega (arith, turns.made.came, turns.made.asked, length-events turns.events)
 
   -- the step was made, and the others are still to come
-  pub step_goes : (c : Option Left) (new : Stage C U) → Turns S policy (step_of step) None a c old new
-      → HasRun S policy (script_agenda policy (step ∷ rest)) (script_agenda policy rest) (counts_of (step ∷ rest)) (counts_of rest) a c old new
+  pub step_goes : (c : Option Left) (new : Stage C U W) → Turns S R policy (step_of step) None a c old new
+      → HasRun S R policy (script_agenda policy (step ∷ rest)) (script_agenda policy rest) (counts_of (step ∷ rest)) (counts_of rest) a c old new
   step_goes c new turns = record {
     events = turns.events;
     made = turns.made;
@@ -93,7 +94,7 @@ module _ {C U : Type 0} (S : Ghosts C U) (policy : Policy) (step : line.Step) (r
           }
 
   -- the step was the last
-  pub step_ends : (c : Option Left) (e : Ending) (new : Stage C U) → Turns S policy (step_of step) (Some e) a c old new → Courses S policy (script_agenda policy (step ∷ rest)) e a old new
+  pub step_ends : (c : Option Left) (e : Ending) (new : Stage C U W) → Turns S R policy (step_of step) (Some e) a c old new → Courses S R policy (script_agenda policy (step ∷ rest)) e a old new
   step_ends c e new turns = record { events = turns.events; made = turns.made; told = by_left a turns.told }
     where
       by_left : (a : Option Left) → IfSome a (λ l. FromEach S policy old (λ s. IsTurn (step_of step) (Some e) (event_of new.tally) turns.events l c s))
@@ -104,8 +105,8 @@ module _ {C U : Type 0} (S : Ghosts C U) (policy : Policy) (step : line.Step) (r
           course_ends policy (step_of step) (map step_of rest) l s (event_of old.tally) turns.events (event_of new.tally) e turn.are (numbered c (Some e) new turns) turn.ends
 
   -- the step stopped
-  pub step_stops : (c : C) (u : U) (written : Option (List ℕ)) → StopsAmid S policy (λ l s. step_events (step_of step) l.packets s) a old c u written
-      → StopsAmid S policy (λ l s. (script_agenda policy (step ∷ rest) l s (event_of old.tally)).events) a old c u written
+  pub step_stops : (c : C) (u : U) (written : Option (List ℕ)) → StopsAmid S R policy (λ l s. step_events (step_of step) l.packets s) a old c u written
+      → StopsAmid S R policy (λ l s. (script_agenda policy (step ∷ rest) l s (event_of old.tally)).events) a old c u written
   step_stops c u written amid = record { events = amid.events; stop = amid.stop; first = by_left a amid.first }
     where
       by_left : (a : Option Left) → IfSome a (λ l. FromEach S policy old (λ s. AreFirst amid.events (step_events (step_of step) l.packets s)))

@@ -5,7 +5,7 @@ use Rattle.sched_core.specs.declared.scheduler.Scheduler.{Ghosts}
 use Rattle.sched_run.specs.declared.run.Run.{Run}
 use Rattle.sched_run.specs.Frames.{Continues, KeepsPackets}
 
-pub continues_then : {C U N : Type 0} (S : Ghosts C U) (a b c : Run C N) → Continues S a b → Continues S b c → Continues S a c
+pub continues_then : {C U N W : Type 0} (S : Ghosts C U) (a b c : Run C N W) → Continues S a b → Continues S b c → Continues S a c
 continues_then S a b c first second = record {
   policy = second.policy ∙ first.policy;
   origin = second.origin ∙ first.origin;

@@ -1,47 +1,24 @@
--- Events in a row, joined, with their lines.
-use Rattle.std.proofs.Common.{◌≡◌, ℕ, ◌+◌, suc, Option, None, Some, Ok, List, [], ◌∷◌, ◌++◌, length, refl, sym, ap, ◌∙◌, arith, append_assoc, append-nil}
-use Rattle.outside_core.proofs.WrittenLaws.{appended_in_turn}
-use Rattle.report_defs.specs.Text.{IsCut, appended}
-use Rattle.report_core.proofs.TextLaws.{IsCut-append, IsCut-longer}
+-- Events in a row, joined, with what is recorded of them.
+use Rattle.std.proofs.Common.{◌≡◌, ℕ, ◌+◌, suc, Option, None, Some, Ok, List, [], ◌∷◌, ◌++◌, length, refl, sym, ap, ◌∙◌, subst, arith, append_assoc, append-nil}
 use Rattle.tree_defs.specs.Tree.{Tree, Address}
 use Rattle.packet_defs.specs.declared.packet.Packet.{Packet}
 use Rattle.policy_defs.specs.Policy.{Policy}
 use Rattle.sched_defs.specs.SourceState.{SourceState, arrived, departed}
-use Rattle.sched_defs.specs.Events.{Event, Arrive, Depart, Outcome, step, after, outcome, outcomes}
-use Rattle.sched_defs.specs.Report.{outcome_line, lines_from}
+use Rattle.sched_defs.specs.Events.{Event, Arrive, Depart, Outcome, step, after, outcomes}
 use Rattle.sched_defs.proofs.Runs.{after-append, outcomes-append, departures_count}
 use Rattle.sched_core.specs.declared.scheduler.Arrival.{Arrival}
 use Rattle.sched_core.specs.declared.scheduler.Scheduler.{Ghosts}
+use Rattle.sched_run.specs.declared.recorder.Recorder as recorder
+use Rattle.sched_run.specs.Recording.{AreJoined}
 use Rattle.sched_core.specs.Arrivals.{arrival_of, pushes_of}
 use Rattle.sched_core.specs.Origins.{Origin, images_of}
 use Rattle.sched_core.specs.Spills.{raised, arrival_spills, spills_in}
-use Rattle.sched_run.specs.Played.{told, HasMade, HasMadeSome, Plays, StopsIn}
+use Rattle.sched_run.specs.Played.{HasMade, HasMadeSome, Plays, StopsIn}
 use Rattle.sched_run.proofs.EventCounts.{outcomes_of, pushes_are, outcomes_both}
 
 pub length-outcomes : (policy : Policy) (es : List Event) (s : SourceState) → length (outcomes policy es s) ≡ length es
 length-outcomes policy [] s = refl
 length-outcomes policy (e ∷ es) s = ap (λ n. suc n) (length-outcomes policy es (step policy e s))
-
-pub lines_from-append : (policy : Policy) (event : ℕ) (os ps : List Outcome) → lines_from policy event (os ++ ps) ≡ lines_from policy event os ++ lines_from policy (event + length os) ps
-lines_from-append policy event [] ps = let e : event + 0 ≡ event = omega arith in ap (λ n. lines_from policy n ps) (sym e)
-lines_from-append policy event (o ∷ os) ps =
-    let e : (event + 1) + length os ≡ event + length (o ∷ os) = omega arith in
-    ap (λ ls. outcome_line policy event o ++ ls) (lines_from-append policy (event + 1) os ps ∙ ap (λ n. lines_from policy (event + 1) os ++ lines_from policy n ps) e)
-    ∙ sym (append_assoc (outcome_line policy event o) (lines_from policy (event + 1) os) (lines_from policy (event + length (o ∷ os)) ps))
-
--- the text of events in a row
-pub told-append : (policy : Policy) (event : ℕ) (es fs : List Event) (s : SourceState) → told policy event (es ++ fs) s ≡ told policy event es s ++ told policy (event + length es) fs (after policy es s)
-told-append policy event es fs s =
-    ap (lines_from policy event) (outcomes-append policy es fs s) ∙ lines_from-append policy event (outcomes policy es s) (outcomes policy fs (after policy es s))
-    ∙ ap (λ n. lines_from policy event (outcomes policy es s) ++ lines_from policy (event + n) (outcomes policy fs (after policy es s))) (length-outcomes policy es s)
-
-pub told-one : (policy : Policy) (event : ℕ) (e : Event) (s : SourceState) → told policy event (e ∷ []) s ≡ outcome_line policy event (outcome policy e s)
-told-one policy event e s = append-nil (outcome_line policy event (outcome policy e s))
-
--- what is written is a first part of the text, and of all that follows it
-pub cut_unwritten : (written : Option (List ℕ)) (unwritten more : List ℕ) → IsCut (appended written unwritten) more written
-cut_unwritten None unwritten more = tt
-cut_unwritten (Some w) unwritten more = record { rest = unwritten ++ more; joined = append_assoc w unwritten more }
 
 -- ---- spills
 pub raised_nothing : (told : Option ℕ) → raised told 0 ≡ told
@@ -137,26 +114,45 @@ module _ {C U : Type 0} (S : Ghosts C U) (policy : Policy) where
     leaves = made_both es some.made s c u c' u' c'' u'' first some.leaves;
   }
 
-  -- ---- with their lines
-  pub plays_both : (event : ℕ) (es fs : List Event) (s : SourceState) (c : C) (u : U) (c' : C) (u' : U) (c'' : C) (u'' : U) (before mid text : Option (List ℕ)) →
-      Plays S policy event es s c u c' u' before mid → Plays S policy (event + length es) fs (after policy es s) c' u' c'' u'' mid text →
-      Plays S policy event (es ++ fs) s c u c'' u'' before text
-  plays_both event es fs s c u c' u' c'' u'' before mid text first second = record {
-    leaves = made_both es fs s c u c' u' c'' u'' first.leaves second.leaves;
-    lines = rw (told-append policy event es fs s) (appended_in_turn before mid text _ _ first.lines second.lines);
+-- ---- with what is recorded of them
+module _ {C U W : Type 0} (S : Ghosts C U) (R : recorder.Ghosts W) (laws : AreJoined R.records R.cuts) (policy : Policy) where
+  -- the outcomes of events, and then of some more
+  all_outcomes : (es fs : List Event) (s : SourceState) → outcomes policy es s ++ outcomes policy fs (after policy es s) ≡ outcomes policy (es ++ fs) s
+  all_outcomes es fs s = sym (outcomes-append policy es fs s)
+
+  numbered : (event : ℕ) (es : List Event) (s : SourceState) → event + length es ≡ event + length (outcomes policy es s)
+  numbered event es s = ap (λ (n : ℕ). event + n) (sym (length-outcomes policy es s))
+
+  pub plays_both : (event : ℕ) (es fs : List Event) (s : SourceState) (c : C) (u : U) (c' : C) (u' : U) (c'' : C) (u'' : U) (w w' w'' : W) (a a' a'' : Option (List ℕ)) →
+      Plays S R policy event es s c u w a c' u' w' a' → Plays S R policy (event + length es) fs (after policy es s) c' u' w' a' c'' u'' w'' a'' →
+      Plays S R policy event (es ++ fs) s c u w a c'' u'' w'' a''
+  plays_both event es fs s c u c' u' c'' u'' w w' w'' a a' a'' first second =
+      let then = subst (λ (n : ℕ). R.records w' a' policy n (outcomes policy fs (after policy es s)) w'' a'') (numbered event es s) second.recorded in
+      record {
+        leaves = made_both S policy es fs s c u c' u' c'' u'' first.leaves second.leaves;
+        recorded = subst (λ (os : List Outcome). R.records w a policy event os w'' a'') (all_outcomes es fs s)
+            (laws.both policy event (outcomes policy es s) (outcomes policy fs (after policy es s)) w w' w'' a a' a'' first.recorded then);
+      }
+
+  pub stops_first : (event : ℕ) (es fs : List Event) (s : SourceState) (c : C) (u : U) (c' : C) (u' : U) (w : W) (a written : Option (List ℕ)) →
+      StopsIn S R policy event es s c u w a c' u' written → StopsIn S R policy event (es ++ fs) s c u w a c' u' written
+  stops_first event es fs s c u c' u' w a written stop = record {
+    leaves = made_first S policy es fs s c u c' u' stop.leaves;
+    cut = subst (λ (os : List Outcome). R.cuts w a policy event os written) (all_outcomes es fs s)
+        (laws.longer policy event (outcomes policy es s) (outcomes policy fs (after policy es s)) w a written stop.cut);
   }
 
-  pub stops_first : (event : ℕ) (es fs : List Event) (s : SourceState) (c : C) (u : U) (c' : C) (u' : U) (before written : Option (List ℕ)) →
-      StopsIn S policy event es s c u c' u' before written → StopsIn S policy event (es ++ fs) s c u c' u' before written
-  stops_first event es fs s c u c' u' before written stop = record {
-    leaves = made_first es fs s c u c' u' stop.leaves;
-    lines = rw (told-append policy event es fs s) (IsCut-longer before written _ _ stop.lines);
-  }
+  pub stops_second : (event : ℕ) (es fs : List Event) (s : SourceState) (c : C) (u : U) (c' : C) (u' : U) (c'' : C) (u'' : U) (w w' : W) (a a' written : Option (List ℕ)) →
+      Plays S R policy event es s c u w a c' u' w' a' → StopsIn S R policy (event + length es) fs (after policy es s) c' u' w' a' c'' u'' written →
+      StopsIn S R policy event (es ++ fs) s c u w a c'' u'' written
+  stops_second event es fs s c u c' u' c'' u'' w w' a a' written first stop =
+      let then = subst (λ (n : ℕ). R.cuts w' a' policy n (outcomes policy fs (after policy es s)) written) (numbered event es s) stop.cut in
+      record {
+        leaves = made_second S policy es fs s c u c' u' c'' u'' first.leaves stop.leaves;
+        cut = subst (λ (os : List Outcome). R.cuts w a policy event os written) (all_outcomes es fs s)
+            (laws.later policy event (outcomes policy es s) (outcomes policy fs (after policy es s)) w w' a a' written first.recorded then);
+      }
 
-  pub stops_second : (event : ℕ) (es fs : List Event) (s : SourceState) (c : C) (u : U) (c' : C) (u' : U) (c'' : C) (u'' : U) (before mid written : Option (List ℕ)) →
-      Plays S policy event es s c u c' u' before mid → StopsIn S policy (event + length es) fs (after policy es s) c' u' c'' u'' mid written →
-      StopsIn S policy event (es ++ fs) s c u c'' u'' before written
-  stops_second event es fs s c u c' u' c'' u'' before mid written first stop = record {
-    leaves = made_second es fs s c u c' u' c'' u'' first.leaves stop.leaves;
-    lines = rw (told-append policy event es fs s) (IsCut-append before mid written _ _ first.lines stop.lines);
-  }
+  -- none of them was made, and nothing was recorded
+  pub cut_none : (event : ℕ) (es : List Event) (s : SourceState) (w : W) (a : Option (List ℕ)) → R.cuts w a policy event (outcomes policy es s) a
+  cut_none event es s w a = laws.longer policy event [] (outcomes policy es s) w a a (laws.written policy event [] w w a a (laws.none policy event w a))

@@ -9,5 +9,7 @@ pub mod StepLaws
 pub mod AgendaLaws
 pub mod CourseLaws
 pub mod LinkLaws
+pub mod TotalLaws
 pub mod ReportLaws
 pub mod StartLaws
+pub mod LoadLaws

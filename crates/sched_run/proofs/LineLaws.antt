@@ -1,4 +1,4 @@
--- The numbers and names of leaves.
+-- The numbers and names of leaves, and what is recorded at them.
 use Rattle.std.proofs.Common.{◌≡◌, ◌≤◌, ◌<◌, ℕ, Bool, true, false, if◌then◌else◌, zero, suc, ◌+◌, List, [], ◌∷◌, length, Option, Some, None, IfSome, option_map, refl, sym, ap, ◌∙◌, subst, arith}
 use Rattle.std.specs.Option.{option_map_or}
 use Rattle.text_core.specs.Tokens.{most_name}
@@ -13,19 +13,16 @@ use Rattle.policy_defs.specs.Accepted.{IsAccepted}
 use Rattle.policy_defs.specs.Numbers.{number_at, number_below}
 use Rattle.sched_defs.specs.SourceState.{SourceState, Leaver, class_of, arrival_ranks, is_full, leaver}
 use Rattle.sched_defs.specs.Sound.{IsSound}
-use Rattle.sched_defs.specs.Events.{Arrive, Depart, Arrived, Dropped, CanArrive, outcome}
-use Rattle.sched_defs.specs.Report.{outcome_line}
+use Rattle.sched_defs.specs.Events as events
+use Rattle.sched_defs.specs.Events.{Arrive, Depart, CanArrive, departure, outcomes}
 use Rattle.sched_defs.specs.Laws.{LeavesItsLeaf}
 use Rattle.sched_defs.proofs.Leaving.{arrives_at_a_leaf, leaves_its_leaf}
 use Rattle.sched_defs.proofs.Soundness.{class_is_ready}
-use Rattle.report_defs.specs.Report.{arrival_line, departure_line, drop_line}
 use Rattle.sched_core.specs.Arrivals.{leaf_number, arrival_of}
 use Rattle.sched_core.specs.Departures.{departed_packet, IsTaken}
 use Rattle.sched_core.specs.declared.scheduler.Arrival.{Arrival}
 use Rattle.sched_core.specs.declared.scheduler.Arrival.TheVariants as arrival
 use Rattle.tree_core.specs.Paths.{Way}
-use Rattle.sched_run.specs.Played.{told}
-use Rattle.sched_run.proofs.JoinedEvents.{told-one}
 
 module _ {Q : Type 0} where
   mutual
@@ -130,14 +127,12 @@ left policy s d accepted sound e =
 pub ranks_left : (policy : Policy) (s : SourceState) (d : Departed) (way : Way) (h : Left policy s d) → IfSome (leaver s) (λ l. IsTaken l way) → way.ranks ≡ h.leaver_is.ranks
 ranks_left policy s d way h t = (subst (λ (o : Option Leaver). IfSome o (λ l. IsTaken l way)) h.leaves t).ranks
 
--- the line of a packet that left
-pub line_left : (policy : Policy) (s : SourceState) (d : Departed) (event : ℕ) (name ranks : List ℕ) (start : Option ℕ) (h : Left policy s d) → name ≡ name_at policy h.leaver_is.digits → ranks ≡ h.leaver_is.ranks
-    → departure_line event d.packet name ranks start ≡ outcome_line policy event (outcome policy (Depart start) s)
-line_left policy s d event name ranks start h n r =
-    ap (λ (z : Departed). departure_line event z.packet name ranks start) (sym h.told)
-    ∙ ap (λ (z : List ℕ). departure_line event h.leaver_is.packet.number z ranks start) n
-    ∙ ap (λ (z : List ℕ). departure_line event h.leaver_is.packet.number (name_at policy h.leaver_is.digits) z start) r
-    ∙ sym (rw h.leaves refl)
+-- what is recorded of a packet that left
+pub outcome_left : (policy : Policy) (s : SourceState) (d : Departed) (ranks : List ℕ) (start : Option ℕ) (h : Left policy s d) → ranks ≡ h.leaver_is.ranks
+    → events.Departed h.leaver_is.packet h.leaver_is.digits ranks start ∷ [] ≡ outcomes policy (Depart start ∷ []) s
+outcome_left policy s d ranks start h r =
+    ap (λ (z : List ℕ). events.Departed h.leaver_is.packet h.leaver_is.digits z start ∷ []) r
+    ∙ sym (ap (λ (o : Option Leaver). departure start o ∷ []) h.leaves)
 
 -- ---- arrivals
 -- the leaf at which a packet arrives
@@ -172,20 +167,16 @@ answer_dropped policy p s number e = by_test (is_full policy p s) refl
     by_test true f = let n : arrival.Dropped number ≡ arrival.Dropped (leaf_number policy p) = answer_by policy p s (arrival.Dropped number) e true f in record { leaf_is = cc; fullness = f }
     by_test false f = let n : arrival.Dropped number ≡ arrival.Pushed (leaf_number policy p) = answer_by policy p s (arrival.Dropped number) e false f in cc
 
--- the lines of an arrival, by whether the leaf is full
-line_by : (policy : Policy) (p : Packet) (s : SourceState) (event : ℕ) (full : Bool) → is_full policy p s ≡ full
-    → outcome_line policy event (if full then Dropped p (class_of policy p).leaf else Arrived p (class_of policy p).leaf (arrival_ranks policy p s)) ≡ told policy event (Arrive p ∷ []) s
-line_by policy p s event full f =
-    ap (λ (t : Bool). outcome_line policy event (if t then Dropped p (class_of policy p).leaf else Arrived p (class_of policy p).leaf (arrival_ranks policy p s))) (sym f)
-    ∙ sym (told-one policy event (Arrive p) s)
+-- what is recorded of an arrival, by whether the leaf is full
+outcome_by : (policy : Policy) (p : Packet) (s : SourceState) (full : Bool) → is_full policy p s ≡ full
+    → (if full then events.Dropped p (class_of policy p).leaf else events.Arrived p (class_of policy p).leaf (arrival_ranks policy p s)) ∷ [] ≡ outcomes policy (Arrive p ∷ []) s
+outcome_by policy p s full f =
+    ap (λ (t : Bool). (if t then events.Dropped p (class_of policy p).leaf else events.Arrived p (class_of policy p).leaf (arrival_ranks policy p s)) ∷ []) (sym f)
 
-pub lines_pushed : (policy : Policy) (p : Packet) (s : SourceState) (event : ℕ) (name ranks : List ℕ) → is_full policy p s ≡ false → name ≡ name_at policy (class_of policy p).leaf → ranks ≡ arrival_ranks policy p s
-    → arrival_line event p.number name ranks ≡ told policy event (Arrive p ∷ []) s
-lines_pushed policy p s event name ranks free n r =
-    ap (λ (z : List ℕ). arrival_line event p.number z ranks) n
-    ∙ ap (λ (z : List ℕ). arrival_line event p.number (name_at policy (class_of policy p).leaf) z) r
-    ∙ line_by policy p s event false free
+pub outcome_pushed : (policy : Policy) (p : Packet) (s : SourceState) (ranks : List ℕ) → is_full policy p s ≡ false → ranks ≡ arrival_ranks policy p s
+    → events.Arrived p (class_of policy p).leaf ranks ∷ [] ≡ outcomes policy (Arrive p ∷ []) s
+outcome_pushed policy p s ranks free r = ap (λ (z : List ℕ). events.Arrived p (class_of policy p).leaf z ∷ []) r ∙ outcome_by policy p s false free
 
-pub lines_dropped : (policy : Policy) (p : Packet) (s : SourceState) (event : ℕ) (name : List ℕ) → is_full policy p s ≡ true → name ≡ name_at policy (class_of policy p).leaf
-    → drop_line event p.number name ≡ told policy event (Arrive p ∷ []) s
-lines_dropped policy p s event name full n = ap (λ (z : List ℕ). drop_line event p.number z) n ∙ line_by policy p s event true full
+pub outcome_dropped : (policy : Policy) (p : Packet) (s : SourceState) → is_full policy p s ≡ true
+    → events.Dropped p (class_of policy p).leaf ∷ [] ≡ outcomes policy (Arrive p ∷ []) s
+outcome_dropped policy p s full = outcome_by policy p s true full

@@ -23,6 +23,8 @@ use Rattle.sched_defs.proofs.Links.{sending, turn_leads, turn_empty}
 use Rattle.sched_defs.proofs.Runs.{after-append}
 use Rattle.sched_core.specs.Departures.{departed_packet, next_departed}
 use Rattle.sched_core.specs.declared.scheduler.Scheduler.{Ghosts}
+use Rattle.sched_run.specs.declared.recorder.Recorder as recorder
+use Rattle.sched_run.specs.Recording.{AreJoined}
 use Rattle.sched_core.specs.Standing.{StandForOne, ForEachState}
 use Rattle.tap_core.specs.Watching.{Sight}
 use Rattle.sched_run.specs.declared.tally.Tally.{Tally}
@@ -120,31 +122,31 @@ module _ (policy : Policy) (rate : ℕ) (until : Option ℕ) where
       part_stops = ((send_until policy rate until (held - (done + 1)) (departed policy mid) (now + send_time one.0.packet.len rate)).events, sym (ap (λ (x : Sent). x.events) unfolded))
 
 -- a part of what is to be sent was made
-pub record SendsPart {C U : Type 0} (S : Ghosts C U) (policy : Policy) (rate : ℕ) (until : Option ℕ) (held done first now : ℕ) (old new : Stage C U) : Type 0 where
+pub record SendsPart {C U W : Type 0} (S : Ghosts C U) (R : recorder.Ghosts W) (policy : Policy) (rate : ℕ) (until : Option ℕ) (held done first now : ℕ) (old new : Stage C U W) : Type 0 where
   pub events : List Event
-  pub made : Makes S policy events old new
+  pub made : Makes S R policy events old new
   pub told : FromEach S policy old (λ s. IsPart policy rate until held done first now events s)
 
-module _ {C U : Type 0} (S : Ghosts C U) (policy : Policy) (accepted : IsAccepted policy) (rate : ℕ) (until : Option ℕ) (held first : ℕ) (old : Stage C U) (holds : ForEachState S.stands policy old.scheduler old.under (λ s. held ≡ size s.tree)) where
-  pub sends_none : SendsPart S policy rate until held 0 first first old old
+module _ {C U W : Type 0} (S : Ghosts C U) (R : recorder.Ghosts W) (laws : AreJoined R.records R.cuts) (policy : Policy) (accepted : IsAccepted policy) (rate : ℕ) (until : Option ℕ) (held first : ℕ) (old : Stage C U W) (holds : ForEachState S.stands policy old.scheduler old.under (λ s. held ≡ size s.tree)) where
+  pub sends_none : SendsPart S R policy rate until held 0 first first old old
   sends_none = record {
     events = [];
-    made = makes_none S policy old.scheduler old.under old.text old.given old.given old.tally old.sight;
+    made = makes_none S R laws policy old.scheduler old.under old.recorder old.written old.given old.given old.tally old.sight;
     told = λ s sound stood below. part_none policy rate until held first s (holds s sound stood);
   }
 
-  module _ (done now : ℕ) (mid : Stage C U) (given : mid.given ≡ old.given) (came : mid.tally.came ≡ old.tally.came) (part : SendsPart S policy rate until held done first now old mid) where
+  module _ (done now : ℕ) (mid : Stage C U W) (given : mid.given ≡ old.given) (came : mid.tally.came ≡ old.tally.came) (part : SendsPart S R policy rate until held done first now old mid) where
     part_given : mid.given ≡ old.given + arrivals_in part.events
     part_given = omega (arith, given, came, part.made.came)
 
     part_at : (s : SourceState) → IsSound policy s → S.stands old.scheduler old.under s → IsHeldBelow (old.given + 1) s.held → Stands S policy mid.scheduler mid.under mid.given (after policy part.events s)
-    part_at s sound stood below = stands_after S policy accepted part.events old mid mid.given s part.made part_given (record { sound = sound; stood = stood; below = below })
+    part_at s sound stood below = stands_after S R laws policy accepted part.events old mid mid.given s part.made part_given (record { sound = sound; stood = stood; below = below })
 
     whole : (s : SourceState) → IsSound policy s → S.stands old.scheduler old.under s → IsSent part.events now (send_until policy rate until held s first) → IsSent part.events now (send_until policy rate until (size s.tree) s first)
     whole s sound stood sent = subst (λ (n : ℕ). IsSent part.events now (send_until policy rate until n s first)) (holds s sound stood) sent
 
     -- the link isn't free in time
-    pub sends_waits : is_due until now ≡ false → Sends S policy (λ s. send_until policy rate until (size s.tree) s first) now old mid
+    pub sends_waits : is_due until now ≡ false → Sends S R policy (λ s. send_until policy rate until (size s.tree) s first) now old mid
     sends_waits due = record {
       events = part.events;
       made = part.made;
@@ -152,7 +154,7 @@ module _ {C U : Type 0} (S : Ghosts C U) (policy : Policy) (accepted : IsAccepte
     }
 
     -- no packet is held any more
-    pub sends_over : held ≤ done → Sends S policy (λ s. send_until policy rate until (size s.tree) s first) now old mid
+    pub sends_over : held ≤ done → Sends S R policy (λ s. send_until policy rate until (size s.tree) s first) now old mid
     sends_over all = record {
       events = part.events;
       made = part.made;
@@ -173,20 +175,20 @@ module _ {C U : Type 0} (S : Ghosts C U) (policy : Policy) (accepted : IsAccepte
         omega (arith, leaves.asked, counts.asked, part.made.asked)
 
     module _ (below : done < held) (due : is_due until now ≡ true) where
-      pub sends_goes : (o : Option Departed) (now' : ℕ) (new : Stage C U) → ForEachState S.stands policy mid.scheduler mid.under (λ s. o ≡ next_departed policy s) → IfSome o (λ d. now' ≡ now + send_time d.len rate)
-          → Makes S policy (Depart (Some now) ∷ []) mid new → SendsPart S policy rate until held (done + 1) first now' old new
+      pub sends_goes : (o : Option Departed) (now' : ℕ) (new : Stage C U W) → ForEachState S.stands policy mid.scheduler mid.under (λ s. o ≡ next_departed policy s) → IfSome o (λ d. now' ≡ now + send_time d.len rate)
+          → Makes S R policy (Depart (Some now) ∷ []) mid new → SendsPart S R policy rate until held (done + 1) first now' old new
       sends_goes o now' new value time made = record {
         events = part.events ++ Depart (Some now) ∷ [];
-        made = makes_both S policy accepted part.events (Depart (Some now) ∷ []) old mid new part_given part.made made;
+        made = makes_both S R laws policy accepted part.events (Depart (Some now) ∷ []) old mid new part_given part.made made;
         told = λ s sound stood low.
             let at = part_at s sound stood low in
             part_goes policy rate until held done first now part.events s (part.told s sound stood low) at.sound below due o now' (value (after policy part.events s) at.sound at.stood) time;
       }
 
-      pub sends_stops : (c : C) (u : U) (written : Option (List ℕ)) → Stops S policy (Depart (Some now) ∷ []) mid c u written → SendsAmid S policy (λ s. send_until policy rate until (size s.tree) s first) old c u written
+      pub sends_stops : (c : C) (u : U) (written : Option (List ℕ)) → Stops S R policy (Depart (Some now) ∷ []) mid c u written → SendsAmid S R policy (λ s. send_until policy rate until (size s.tree) s first) old c u written
       sends_stops c u written stop = record {
         events = part.events ++ Depart (Some now) ∷ [];
-        stop = stops_later S policy accepted part.events (Depart (Some now) ∷ []) old mid c u written part_given part.made stop;
+        stop = stops_later S R laws policy accepted part.events (Depart (Some now) ∷ []) old mid c u written part_given part.made stop;
         first = λ s sound stood low.
             let at = part_at s sound stood low in
             let some = part_stops policy rate until held done first now part.events s (part.told s sound stood low) at.sound below due in
@@ -201,22 +203,22 @@ sends_soon len rate is few =
     omega (arith, least, few)
 
 -- how many packets came then isn't told by what was sent
-pub same_sends : {C U : Type 0} (S : Ghosts C U) (policy : Policy) (sent : SourceState → Sent) (free : ℕ) (old : Stage C U) (c : C) (u : U) (text : Option (List ℕ)) (given given' : ℕ) (tally : Tally) (sight : Sight) → given ≡ given'
-    → Sends S policy sent free old (stage c u text given tally sight) → Sends S policy sent free old (stage c u text given' tally sight)
-same_sends S policy sent free old c u text given given' tally sight e sends = subst (λ (n : ℕ). Sends S policy sent free old (stage c u text n tally sight)) e sends
+pub same_sends : {C U W : Type 0} (S : Ghosts C U) (R : recorder.Ghosts W) (policy : Policy) (sent : SourceState → Sent) (free : ℕ) (old : Stage C U W) (c : C) (u : U) (w : W) (written : Option (List ℕ)) (given given' : ℕ) (tally : Tally) (sight : Sight) → given ≡ given'
+    → Sends S R policy sent free old (stage c u w written given tally sight) → Sends S R policy sent free old (stage c u w written given' tally sight)
+same_sends S R policy sent free old c u w written given given' tally sight e sends = subst (λ (n : ℕ). Sends S R policy sent free old (stage c u w written n tally sight)) e sends
 
 -- ---- the turns of a link
 -- at first the link is free, and all is still to come
-pub link_begins : {C U : Type 0} (S : Ghosts C U) (policy : Policy) (rate free : ℕ) → free ≡ 0 → (a : Option Left) (c : C) (u : U) (text : Option (List ℕ)) (given : ℕ) (tally : Tally) (sight : Sight)
-    → HasRun S policy (link_agenda policy rate 0) (link_agenda policy rate free) 0 0 a a (stage c u text given tally sight) (stage c u text given tally sight)
-link_begins S policy rate free e a c u text given tally sight =
-    subst (λ (n : ℕ). HasRun S policy (link_agenda policy rate 0) (link_agenda policy rate n) 0 0 a a (stage c u text given tally sight) (stage c u text given tally sight)) (sym e)
-    (run_none S policy (link_agenda policy rate 0) 0 a c u text given tally sight)
+pub link_begins : {C U W : Type 0} (S : Ghosts C U) (R : recorder.Ghosts W) (laws : AreJoined R.records R.cuts) (policy : Policy) (rate free : ℕ) → free ≡ 0 → (a : Option Left) (c : C) (u : U) (w : W) (written : Option (List ℕ)) (given : ℕ) (tally : Tally) (sight : Sight)
+    → HasRun S R policy (link_agenda policy rate 0) (link_agenda policy rate free) 0 0 a a (stage c u w written given tally sight) (stage c u w written given tally sight)
+link_begins S R laws policy rate free e a c u w written given tally sight =
+    subst (λ (n : ℕ). HasRun S R policy (link_agenda policy rate 0) (link_agenda policy rate n) 0 0 a a (stage c u w written given tally sight) (stage c u w written given tally sight)) (sym e)
+    (run_none S R laws policy (link_agenda policy rate 0) 0 a c u w written given tally sight)
 
-module _ {C U : Type 0} (S : Ghosts C U) (policy : Policy) (rate free : ℕ) where
+module _ {C U W : Type 0} (S : Ghosts C U) (R : recorder.Ghosts W) (policy : Policy) (rate free : ℕ) where
   -- a packet came, and its turn was made
-  pub link_goes : (p : Packet) (free' : ℕ) (a b : Option Left) (old new : Stage C U) → Came a b (p ∷ []) → Sends S policy (λ s. link_turn policy rate p s free) free' old new
-      → HasRun S policy (link_agenda policy rate free) (link_agenda policy rate free') 0 0 a b old new
+  pub link_goes : (p : Packet) (free' : ℕ) (a b : Option Left) (old new : Stage C U W) → Came a b (p ∷ []) → Sends S R policy (λ s. link_turn policy rate p s free) free' old new
+      → HasRun S R policy (link_agenda policy rate free) (link_agenda policy rate free') 0 0 a b old new
   link_goes p free' a b old new came sends = record {
     events = sends.events;
     made = sends.made;
@@ -244,8 +246,8 @@ module _ {C U : Type 0} (S : Ghosts C U) (policy : Policy) (rate free : ℕ) whe
           }
 
   -- its turn stopped
-  pub link_stops : (p : Packet) (a b : Option Left) (old : Stage C U) (c : C) (u : U) (written : Option (List ℕ)) → Came a b (p ∷ []) → SendsAmid S policy (λ s. link_turn policy rate p s free) old c u written
-      → StopsAmid S policy (λ l s. (link_agenda policy rate free l s (event_of old.tally)).events) a old c u written
+  pub link_stops : (p : Packet) (a b : Option Left) (old : Stage C U W) (c : C) (u : U) (written : Option (List ℕ)) → Came a b (p ∷ []) → SendsAmid S R policy (λ s. link_turn policy rate p s free) old c u written
+      → StopsAmid S R policy (λ l s. (link_agenda policy rate free l s (event_of old.tally)).events) a old c u written
   link_stops p a b old c u written came amid = record { events = amid.events; stop = amid.stop; first = by_left a b came }
     where
       by_left : (a b : Option Left) → Came a b (p ∷ []) → IfSome a (λ l. FromEach S policy old (λ s. AreFirst amid.events (link_agenda policy rate free l s (event_of old.tally)).events))
@@ -269,8 +271,8 @@ module _ {C U : Type 0} (S : Ghosts C U) (policy : Policy) (rate free : ℕ) whe
   over_before (Some l) (Some m) came over = (came.0 ∙ over.0, came.1 ∙ over.1)
 
   -- all that was held was sent
-  pub link_drains : (free' : ℕ) (a b : Option Left) (old new : Stage C U) → Came a b [] → IsOver b → Sends S policy (λ s. send_until policy rate None (size s.tree) s free) free' old new
-      → Courses S policy (link_agenda policy rate free) (Whole 0) a old new
+  pub link_drains : (free' : ℕ) (a b : Option Left) (old new : Stage C U W) → Came a b [] → IsOver b → Sends S R policy (λ s. send_until policy rate None (size s.tree) s free) free' old new
+      → Courses S R policy (link_agenda policy rate free) (Whole 0) a old new
   link_drains free' a b old new came over sends = record { events = sends.events; made = sends.made; told = by_left a (over_before a b came over) }
     where
       by_left : (a : Option Left) → IfSome a (λ l. (l.packets ≡ []) × (l.fault ≡ None)) → IfSome a (λ l. FromEach S policy old (λ s. IsCourse sends.events (Whole 0) (link_agenda policy rate free l s (event_of old.tally))))
@@ -279,8 +281,8 @@ module _ {C U : Type 0} (S : Ghosts C U) (policy : Policy) (rate free : ℕ) whe
           let e = whole_here l s none.0 none.1 in
           record { are = (sends.told s sound stood below).are ∙ sym (ap (λ (x : Course). x.events) e); ends = sym (ap (λ (x : Course). x.ending) e) }
 
-  pub link_drain_stops : (a b : Option Left) (old : Stage C U) (c : C) (u : U) (written : Option (List ℕ)) → Came a b [] → IsOver b → SendsAmid S policy (λ s. send_until policy rate None (size s.tree) s free) old c u written
-      → StopsAmid S policy (λ l s. (link_agenda policy rate free l s (event_of old.tally)).events) a old c u written
+  pub link_drain_stops : (a b : Option Left) (old : Stage C U W) (c : C) (u : U) (written : Option (List ℕ)) → Came a b [] → IsOver b → SendsAmid S R policy (λ s. send_until policy rate None (size s.tree) s free) old c u written
+      → StopsAmid S R policy (λ l s. (link_agenda policy rate free l s (event_of old.tally)).events) a old c u written
   link_drain_stops a b old c u written came over amid = record { events = amid.events; stop = amid.stop; first = by_left a (over_before a b came over) }
     where
       by_left : (a : Option Left) → IfSome a (λ l. (l.packets ≡ []) × (l.fault ≡ None)) → IfSome a (λ l. FromEach S policy old (λ s. AreFirst amid.events (link_agenda policy rate free l s (event_of old.tally)).events))
@@ -290,13 +292,13 @@ module _ {C U : Type 0} (S : Ghosts C U) (policy : Policy) (rate free : ℕ) whe
           (first.0, first.1 ∙ sym (ap (λ (x : Course). x.events) (whole_here l s none.0 none.1)))
 
 -- ---- one turn
-module _ {C U : Type 0} (S : Ghosts C U) (policy : Policy) (accepted : IsAccepted policy) (rate free : ℕ) (p : Packet) (moment : ℕ) (old : Stage C U) (moments : FromEach S policy old (λ s. moment ≡ max s.now p.moment)) where
+module _ {C U W : Type 0} (S : Ghosts C U) (R : recorder.Ghosts W) (laws : AreJoined R.records R.cuts) (policy : Policy) (accepted : IsAccepted policy) (rate free : ℕ) (p : Packet) (moment : ℕ) (old : Stage C U W) (moments : FromEach S policy old (λ s. moment ≡ max s.now p.moment)) where
   -- what is due is the first part of a turn
   is_turn : (s : SourceState) → moment ≡ max s.now p.moment → (link_turn policy rate p s free).events ≡ (send_until policy rate (Some moment) (size s.tree) s free).events ++ Arrive p ∷ []
   is_turn s e = ap (λ (n : ℕ). (send_until policy rate (Some n) (size s.tree) s free).events ++ Arrive p ∷ []) (sym e)
 
-  pub turn_halts : (c : C) (u : U) (written : Option (List ℕ)) → SendsAmid S policy (λ s. send_until policy rate (Some moment) (size s.tree) s free) old c u written
-      → SendsAmid S policy (λ s. link_turn policy rate p s free) old c u written
+  pub turn_halts : (c : C) (u : U) (written : Option (List ℕ)) → SendsAmid S R policy (λ s. send_until policy rate (Some moment) (size s.tree) s free) old c u written
+      → SendsAmid S R policy (λ s. link_turn policy rate p s free) old c u written
   turn_halts c u written amid = record {
     events = amid.events;
     stop = amid.stop;
@@ -305,7 +307,7 @@ module _ {C U : Type 0} (S : Ghosts C U) (policy : Policy) (accepted : IsAccepte
         (first.0 ++ Arrive p ∷ [], sym (append_assoc amid.events first.0 (Arrive p ∷ [])) ∙ ap (λ (es : List Event). es ++ Arrive p ∷ []) first.1 ∙ sym (is_turn s (moments s sound stood below)));
   }
 
-  module _ (mid : Stage C U) (free' : ℕ) (given : mid.given ≡ old.given) (came : mid.tally.came ≡ old.tally.came) (sends : Sends S policy (λ s. send_until policy rate (Some moment) (size s.tree) s free) free' old mid) where
+  module _ (mid : Stage C U W) (free' : ℕ) (given : mid.given ≡ old.given) (came : mid.tally.came ≡ old.tally.came) (sends : Sends S R policy (λ s. send_until policy rate (Some moment) (size s.tree) s free) free' old mid) where
     same_given : mid.given ≡ old.given + arrivals_in sends.events
     same_given = omega (arith, given, came, sends.made.came)
 
@@ -315,7 +317,7 @@ module _ {C U : Type 0} (S : Ghosts C U) (policy : Policy) (accepted : IsAccepte
     turn_stands one sendable =
         let s = one.state in
         let is = sends.told s one.sound one.stood one.has.1 in
-        let at = stands_after S policy accepted sends.events old mid mid.given s sends.made same_given (record { sound = one.sound; stood = one.stood; below = one.has.1 }) in
+        let at = stands_after S R laws policy accepted sends.events old mid mid.given s sends.made same_given (record { sound = one.sound; stood = one.stood; below = one.has.1 }) in
         let due = sending policy rate (Some moment) (size s.tree) s free in
         let state : after policy sends.events s ≡ (send_until policy rate (Some moment) (size s.tree) s free).state = ap (λ (es : List Event). after policy es s) is.are ∙ due.leads in
         let below : IsHeldBelow p.number (after policy sends.events s).held = subst (λ (t : SourceState). IsHeldBelow p.number t.held) (sym state) (due.keeps p.number one.has.0) in
@@ -327,14 +329,14 @@ module _ {C U : Type 0} (S : Ghosts C U) (policy : Policy) (accepted : IsAccepte
         let counts : AreOf sends.events (outcomes policy sends.events one.state) = outcomes_of policy sends.events one.state in
         omega (arith, leaves.pushed, counts.pushed_or_dropped, sends.made.came, came)
 
-    pub turn_goes : (free'' : ℕ) (new : Stage C U) → FromEach S policy mid (λ s. free'' ≡ free_for s moment free') → Makes S policy (Arrive p ∷ []) mid new → Sends S policy (λ s. link_turn policy rate p s free) free'' old new
+    pub turn_goes : (free'' : ℕ) (new : Stage C U W) → FromEach S policy mid (λ s. free'' ≡ free_for s moment free') → Makes S R policy (Arrive p ∷ []) mid new → Sends S R policy (λ s. link_turn policy rate p s free) free'' old new
     turn_goes free'' new idle arrives = record {
       events = sends.events ++ Arrive p ∷ [];
-      made = makes_both S policy accepted sends.events (Arrive p ∷ []) old mid new same_given sends.made arrives;
+      made = makes_both S R laws policy accepted sends.events (Arrive p ∷ []) old mid new same_given sends.made arrives;
       told = λ s sound stood below.
           let is = sends.told s sound stood below in
           let due : Sent = send_until policy rate (Some moment) (size s.tree) s free in
-          let at = stands_after S policy accepted sends.events old mid mid.given s sends.made same_given (record { sound = sound; stood = stood; below = below }) in
+          let at = stands_after S R laws policy accepted sends.events old mid mid.given s sends.made same_given (record { sound = sound; stood = stood; below = below }) in
           let state : after policy sends.events s ≡ due.state = ap (λ (es : List Event). after policy es s) is.are ∙ (sending policy rate (Some moment) (size s.tree) s free).leads in
           let e = moments s sound stood below in
           record {
@@ -346,9 +348,9 @@ module _ {C U : Type 0} (S : Ghosts C U) (policy : Policy) (accepted : IsAccepte
           };
     }
 
-    pub turn_stops : (c : C) (u : U) (written : Option (List ℕ)) → Stops S policy (Arrive p ∷ []) mid c u written → SendsAmid S policy (λ s. link_turn policy rate p s free) old c u written
+    pub turn_stops : (c : C) (u : U) (written : Option (List ℕ)) → Stops S R policy (Arrive p ∷ []) mid c u written → SendsAmid S R policy (λ s. link_turn policy rate p s free) old c u written
     turn_stops c u written stop = record {
       events = sends.events ++ Arrive p ∷ [];
-      stop = stops_later S policy accepted sends.events (Arrive p ∷ []) old mid c u written same_given sends.made stop;
+      stop = stops_later S R laws policy accepted sends.events (Arrive p ∷ []) old mid c u written same_given sends.made stop;
       first = λ s sound stood below. ([], append-nil (sends.events ++ Arrive p ∷ []) ∙ ap (λ (es : List Event). es ++ Arrive p ∷ []) (sends.told s sound stood below).are ∙ sym (is_turn s (moments s sound stood below)));
     }

@@ -1,29 +1,27 @@
 -- Events that are made in a row.
-use Rattle.std.proofs.Common.{◌≡◌, ℕ, zero, suc, ◌+◌, ◌-◌, ◌<◌, Option, None, List, [], ◌∷◌, ◌++◌, length, replicate, refl, sym, ap, ◌∙◌, subst, arith, append_assoc, append-nil}
+use Rattle.std.proofs.Common.{◌≡◌, ℕ, zero, suc, ◌+◌, ◌-◌, ◌<◌, Option, None, List, [], ◌∷◌, ◌++◌, length, replicate, refl, sym, ap, ◌∙◌, subst, arith, append_assoc}
 use Rattle.std.specs.List.{AllByRecursion}
 use Rattle.std.specs.Prelude.{sum_by}
 use Rattle.std.proofs.lemmas.Grind.{replicate_next}
 use Rattle.std.proofs.lemmas.List.{replicate-append-replicate}
 use Rattle.std.proofs.lemmas.List.Sums.{get_or-le-sum_by}
 use Rattle.tree_defs.specs.Packets.{values}
-use Rattle.outside_core.proofs.WrittenLaws.{appended_nothing}
-use Rattle.report_defs.specs.Text.{IsCut}
-use Rattle.report_core.specs.Gathered.{text_of, Gathered}
-use Rattle.report_core.proofs.TextLaws.{IsCut-append}
 use Rattle.packet_defs.specs.declared.packet.Packet.{Packet}
 use Rattle.policy_defs.specs.Policy.{Policy}
 use Rattle.policy_defs.specs.Accepted.{IsAccepted}
 use Rattle.sched_defs.specs.SourceState.{Held, SourceState, arrived, departed}
 use Rattle.sched_defs.specs.Sound.{IsSound}
-use Rattle.sched_defs.specs.Events.{Event, Arrive, Depart, CanArrive, CanMake, after}
+use Rattle.sched_defs.specs.Events.{Event, Arrive, Depart, CanArrive, CanMake, after, outcomes}
 use Rattle.sched_defs.specs.Numbered.{AreNumberedFrom, IsSendable, IsHeldBelow}
 use Rattle.sched_defs.proofs.Courses.{held_none, held_arrived, held_departed}
 use Rattle.sched_defs.proofs.Runs.{sound_after}
 use Rattle.sched_core.specs.declared.scheduler.Scheduler.{Ghosts}
-use Rattle.sched_run.specs.Played.{told, Plays, StopsIn}
+use Rattle.sched_run.specs.declared.recorder.Recorder as recorder
+use Rattle.sched_run.specs.Recording.{AreJoined}
+use Rattle.sched_run.specs.Played.{Plays, StopsIn}
 use Rattle.tap_core.specs.Watching.{Sight}
 use Rattle.tap_core.proofs.WatchLaws.{shows_none}
-use Rattle.sched_run.proofs.JoinedEvents.{made_none, made_all, plays_both, stops_first, stops_second, cut_unwritten}
+use Rattle.sched_run.proofs.JoinedEvents.{made_none, made_all, plays_both, stops_first, stops_second}
 use Rattle.sched_run.proofs.ShownLaws.{shown_both}
 use Rattle.sched_run.specs.Stages.{Stage, stage, event_of, packets_in, arrivals_in, departures_in, AreNext, FromEach, Makes, Stops}
 use Rattle.sched_run.proofs.EventCounts.{arrivals_in-append, departures_in-append, arrivals_in-departures, outcomes_both}
@@ -84,8 +82,8 @@ pub record Stands {C U : Type 0} (S : Ghosts C U) (policy : Policy) (c : C) (u :
   pub stood : S.stands c u s
   pub below : IsHeldBelow (given + 1) s.held
 
-module _ {C U : Type 0} (S : Ghosts C U) (policy : Policy) (accepted : IsAccepted policy) where
-  pub stands_after : (es : List Event) (old new : Stage C U) (given : ℕ) (s : SourceState) → Makes S policy es old new → given ≡ old.given + arrivals_in es →
+module _ {C U W : Type 0} (S : Ghosts C U) (R : recorder.Ghosts W) (laws : AreJoined R.records R.cuts) (policy : Policy) (accepted : IsAccepted policy) where
+  pub stands_after : (es : List Event) (old new : Stage C U W) (given : ℕ) (s : SourceState) → Makes S R policy es old new → given ≡ old.given + arrivals_in es →
       Stands S policy old.scheduler old.under old.given s → Stands S policy new.scheduler new.under given (after policy es s)
   stands_after es old new given s made e at = record {
     sound = sound_after policy es s accepted at.sound (can_make policy es (old.given + 1) s made.next.numbered made.next.sendable at.below);
@@ -94,7 +92,7 @@ module _ {C U : Type 0} (S : Ghosts C U) (policy : Policy) (accepted : IsAccepte
   }
 
   -- events, and then some more
-  pub makes_both : (es fs : List Event) (old mid new : Stage C U) → mid.given ≡ old.given + arrivals_in es → Makes S policy es old mid → Makes S policy fs mid new → Makes S policy (es ++ fs) old new
+  pub makes_both : (es fs : List Event) (old mid new : Stage C U W) → mid.given ≡ old.given + arrivals_in es → Makes S R policy es old mid → Makes S R policy fs mid new → Makes S R policy (es ++ fs) old new
   makes_both es fs old mid new e first second = record {
     next = next_both policy es fs old.given mid.given e first.next second.next;
     came = omega (arith, first.came, second.came, arrivals_in-append es fs);
@@ -105,57 +103,57 @@ module _ {C U : Type 0} (S : Ghosts C U) (policy : Policy) (accepted : IsAccepte
     played = λ s sound stood below.
         let at = stands_after es old mid mid.given s first e (record { sound = sound; stood = stood; below = below }) in
         let number : event_of old.tally + length es ≡ event_of mid.tally = omega (arith, first.came, first.asked, length-events es) in
-        plays_both S policy (event_of old.tally) es fs s old.scheduler old.under mid.scheduler mid.under new.scheduler new.under old.text mid.text new.text
+        plays_both S R laws policy (event_of old.tally) es fs s old.scheduler old.under mid.scheduler mid.under new.scheduler new.under
+        old.recorder mid.recorder new.recorder old.written mid.written new.written
         (first.played s sound stood below)
-        (subst (λ (n : ℕ). Plays S policy n fs (after policy es s) mid.scheduler mid.under new.scheduler new.under mid.text new.text) (sym number) (second.played (after policy es s) at.sound at.stood at.below));
+        (subst (λ (n : ℕ). Plays S R policy n fs (after policy es s) mid.scheduler mid.under mid.recorder mid.written new.scheduler new.under new.recorder new.written) (sym number) (second.played (after policy es s) at.sound at.stood at.below));
     shown = λ s sound stood below.
         let at = stands_after es old mid mid.given s first e (record { sound = sound; stood = stood; below = below }) in
         shown_both policy es fs s old.sight mid.sight new.sight (first.shown s sound stood below) (second.shown (after policy es s) at.sound at.stood at.below);
   }
 
   -- events, and then some that stop
-  pub stops_later : (es fs : List Event) (old mid : Stage C U) (c : C) (u : U) (written : Option (List ℕ)) → mid.given ≡ old.given + arrivals_in es → Makes S policy es old mid → Stops S policy fs mid c u written → Stops S policy (es ++ fs) old c u written
+  pub stops_later : (es fs : List Event) (old mid : Stage C U W) (c : C) (u : U) (written : Option (List ℕ)) → mid.given ≡ old.given + arrivals_in es → Makes S R policy es old mid → Stops S R policy fs mid c u written → Stops S R policy (es ++ fs) old c u written
   stops_later es fs old mid c u written e first second = record {
     next = next_both policy es fs old.given mid.given e first.next second.next;
     stopped = λ s sound stood below.
         let at = stands_after es old mid mid.given s first e (record { sound = sound; stood = stood; below = below }) in
         let number : event_of old.tally + length es ≡ event_of mid.tally = omega (arith, first.came, first.asked, length-events es) in
-        stops_second S policy (event_of old.tally) es fs s old.scheduler old.under mid.scheduler mid.under c u old.text mid.text written
+        stops_second S R laws policy (event_of old.tally) es fs s old.scheduler old.under mid.scheduler mid.under c u
+        old.recorder mid.recorder old.written mid.written written
         (first.played s sound stood below)
-        (subst (λ (n : ℕ). StopsIn S policy n fs (after policy es s) mid.scheduler mid.under c u mid.text written) (sym number) (second.stopped (after policy es s) at.sound at.stood at.below));
+        (subst (λ (n : ℕ). StopsIn S R policy n fs (after policy es s) mid.scheduler mid.under mid.recorder mid.written c u written) (sym number) (second.stopped (after policy es s) at.sound at.stood at.below));
   }
 
-module _ {C U : Type 0} (S : Ghosts C U) (policy : Policy) where
+module _ {C U W : Type 0} (S : Ghosts C U) (R : recorder.Ghosts W) (laws : AreJoined R.records R.cuts) (policy : Policy) where
   -- no event
-  pub makes_none : (c : C) (u : U) (text : Option (List ℕ)) (given given' : ℕ) (tally : _) (sight : Sight) → Makes S policy [] (stage c u text given tally sight) (stage c u text given' tally sight)
-  makes_none c u text given given' tally sight = record {
+  pub makes_none : (c : C) (u : U) (w : W) (written : Option (List ℕ)) (given given' : ℕ) (tally : _) (sight : Sight) → Makes S R policy [] (stage c u w written given tally sight) (stage c u w written given' tally sight)
+  makes_none c u w written given given' tally sight = record {
     next = record { numbered = tt; sendable = tt };
     came = omega arith;
     asked = omega arith;
     dropped = λ s sound stood below. omega arith;
-    played = λ s sound stood below. record { leaves = made_none S policy s c u stood; lines = appended_nothing text };
+    played = λ s sound stood below. record { leaves = made_none S policy s c u stood; recorded = laws.none policy (event_of tally) w written };
     shown = λ s sound stood below. shows_none sight;
   }
 
-  -- events that were made, of which a first part of the text is written
-  pub stops_here : (es : List Event) (old : Stage C U) (c : C) (u : U) (written : Option (List ℕ)) (report : Gathered) → AreNext policy old.given (packets_in es)
-      → FromEach S policy old (λ s. Plays S policy (event_of old.tally) es s old.scheduler old.under c u old.text (text_of written report)) → Stops S policy es old c u written
-  stops_here es old c u written report next played = record {
+  -- events that were made, and what is recorded of them is written in part
+  pub stops_here : (es : List Event) (old : Stage C U W) (c : C) (u : U) (w : W) (written : Option (List ℕ)) → AreNext policy old.given (packets_in es)
+      → FromEach S policy old (λ s. Plays S R policy (event_of old.tally) es s old.scheduler old.under old.recorder old.written c u w written) → Stops S R policy es old c u written
+  stops_here es old c u w written next played = record {
     next = next;
     stopped = λ s sound stood below.
         let plays = played s sound stood below in
-        let text : List ℕ = told policy (event_of old.tally) es s in
         record {
           leaves = made_all S policy es plays.leaves;
-          lines = subst (λ (l : List ℕ). IsCut old.text l written) (append-nil text)
-              (IsCut-append old.text (text_of written report) written text [] plays.lines (cut_unwritten written report.unwritten []));
+          cut = laws.written policy (event_of old.tally) (outcomes policy es s) old.recorder w old.written written plays.recorded;
         };
   }
 
-  pub stops_none : (c : C) (u : U) (written : Option (List ℕ)) (report : Gathered) (given : ℕ) (tally : _) (sight : Sight) → Stops S policy [] (stage c u (text_of written report) given tally sight) c u written
-  stops_none c u written report given tally sight =
-      let none = makes_none c u (text_of written report) given given tally sight in
-      stops_here [] (stage c u (text_of written report) given tally sight) c u written report none.next none.played
+  pub stops_none : (c : C) (u : U) (w : W) (written : Option (List ℕ)) (given : ℕ) (tally : _) (sight : Sight) → Stops S R policy [] (stage c u w written given tally sight) c u written
+  stops_none c u w written given tally sight =
+      let none = makes_none c u w written given given tally sight in
+      stops_here [] (stage c u w written given tally sight) c u w written none.next none.played
 
 -- ---- departures in a row
 packets_in-departures : (n : ℕ) → packets_in (replicate n (Depart None)) ≡ []
@@ -165,24 +163,24 @@ packets_in-departures (suc n) = packets_in-departures n
 next_departures : (policy : Policy) (given n : ℕ) → AreNext policy given (packets_in (replicate n (Depart None)))
 next_departures policy given n = subst (AreNext policy given) (sym (packets_in-departures n)) (record { numbered = tt; sendable = tt })
 
-module _ {C U : Type 0} (S : Ghosts C U) (policy : Policy) (accepted : IsAccepted policy) (n : ℕ) (old mid : Stage C U) (given : mid.given ≡ old.given) (made : Makes S policy (replicate n (Depart None)) old mid) where
+module _ {C U W : Type 0} (S : Ghosts C U) (R : recorder.Ghosts W) (laws : AreJoined R.records R.cuts) (policy : Policy) (accepted : IsAccepted policy) (n : ℕ) (old mid : Stage C U W) (given : mid.given ≡ old.given) (made : Makes S R policy (replicate n (Depart None)) old mid) where
   same_given : mid.given ≡ old.given + arrivals_in (replicate n (Depart None))
   same_given = omega (arith, given, arrivals_in-departures n)
 
   -- one more departure
-  pub departures_more : (new : Stage C U) → Makes S policy (Depart None ∷ []) mid new → Makes S policy (replicate (n + 1) (Depart None)) old new
-  departures_more new one = rw (replicate_next n (Depart None)) (makes_both S policy accepted (replicate n (Depart None)) (Depart None ∷ []) old mid new same_given made one)
+  pub departures_more : (new : Stage C U W) → Makes S R policy (Depart None ∷ []) mid new → Makes S R policy (replicate (n + 1) (Depart None)) old new
+  departures_more new one = rw (replicate_next n (Depart None)) (makes_both S R laws policy accepted (replicate n (Depart None)) (Depart None ∷ []) old mid new same_given made one)
 
   -- one more departure, of more to come, stops
-  pub departures_cut : (count : ℕ) (c : C) (u : U) (written : Option (List ℕ)) → n < count → Stops S policy (Depart None ∷ []) mid c u written → Stops S policy (replicate count (Depart None)) old c u written
+  pub departures_cut : (count : ℕ) (c : C) (u : U) (written : Option (List ℕ)) → n < count → Stops S R policy (Depart None ∷ []) mid c u written → Stops S R policy (replicate count (Depart None)) old c u written
   departures_cut count c u written below stop =
       let first : List Event = replicate n (Depart None) ++ Depart None ∷ [] in
       let rest : List Event = replicate (count - n - 1) (Depart None) in
       let whole : first ++ rest ≡ replicate count (Depart None) =
       append_assoc (replicate n (Depart None)) (Depart None ∷ []) rest ∙ replicate-append-replicate n (suc (count - n - 1)) (Depart None) ∙ ap (λ (m : ℕ). replicate m (Depart None)) (omega (arith, below)) in
-      let one = stops_later S policy accepted (replicate n (Depart None)) (Depart None ∷ []) old mid c u written same_given made stop in
+      let one = stops_later S R laws policy accepted (replicate n (Depart None)) (Depart None ∷ []) old mid c u written same_given made stop in
       record {
         next = next_departures policy old.given count;
-        stopped = λ s sound stood held. subst (λ (es : List Event). StopsIn S policy (event_of old.tally) es s old.scheduler old.under c u old.text written) whole
-            (stops_first S policy (event_of old.tally) first rest s old.scheduler old.under c u old.text written (one.stopped s sound stood held));
+        stopped = λ s sound stood held. subst (λ (es : List Event). StopsIn S R policy (event_of old.tally) es s old.scheduler old.under old.recorder old.written c u written) whole
+            (stops_first S R laws policy (event_of old.tally) first rest s old.scheduler old.under c u old.recorder old.written written (one.stopped s sound stood held));
       }

@@ -7,6 +7,8 @@ use Rattle.policy_defs.specs.Accepted.{IsAccepted}
 use Rattle.sched_defs.specs.Events.{Event, Arrive, outcomes}
 use Rattle.sched_defs.specs.Numbered.{IsHeldBelow}
 use Rattle.sched_core.specs.declared.scheduler.Scheduler.{Ghosts}
+use Rattle.sched_run.specs.declared.recorder.Recorder as recorder
+use Rattle.sched_run.specs.Recording.{AreJoined}
 use Rattle.sched_core.specs.Standing.{StandForOne}
 use Rattle.sched_defs.specs.declared.ending.Ending.{Ending}
 use Rattle.sched_defs.specs.declared.ending.Ending.TheVariants.{Whole, BadCapture, PastLast}
@@ -67,14 +69,14 @@ until_both (BadCapture x y) event (Some l) (Some m) c ps qs came until =
     (came.0 ∙ ap (λ (z : List Packet). ps ++ z) until.0, came.1 ∙ until.1)
 
 -- ---- what the next call needs
-module _ {C U : Type 0} (S : Ghosts C U) (policy : Policy) (accepted : IsAccepted policy) where
-  pub one_after : (es : List Event) (old new : Stage C U) → new.given + old.tally.came ≡ old.given + new.tally.came → Makes S policy es old new →
+module _ {C U W : Type 0} (S : Ghosts C U) (R : recorder.Ghosts W) (laws : AreJoined R.records R.cuts) (policy : Policy) (accepted : IsAccepted policy) where
+  pub one_after : (es : List Event) (old new : Stage C U W) → new.given + old.tally.came ≡ old.given + new.tally.came → Makes S R policy es old new →
       StandForOne S.stands policy old.scheduler old.under (λ s. IsHeldBelow (old.given + 1) s.held) → StandForOne S.stands policy new.scheduler new.under (λ s. IsHeldBelow (new.given + 1) s.held)
   one_after es old new given made one =
-      let at = stands_after S policy accepted es old new new.given one.state made (omega (arith, given, made.came)) (record { sound = one.sound; stood = one.stood; below = one.has }) in
+      let at = stands_after S R laws policy accepted es old new new.given one.state made (omega (arith, given, made.came)) (record { sound = one.sound; stood = one.stood; below = one.has }) in
       record { state = _; sound = at.sound; stood = at.stood; has = at.below }
 
-  pub room_after : (es : List Event) (old new : Stage C U) → new.given + old.tally.came ≡ old.given + new.tally.came → new.given ≤ 4294967295 → old.tally.asked + departures_in es ≤ 2 ^ 34 → Makes S policy es old new →
+  pub room_after : (es : List Event) (old new : Stage C U W) → new.given + old.tally.came ≡ old.given + new.tally.came → new.given ≤ 4294967295 → old.tally.asked + departures_in es ≤ 2 ^ 34 → Makes S R policy es old new →
       StandForOne S.stands policy old.scheduler old.under (λ s. IsHeldBelow (old.given + 1) s.held) →
       HasRoom (S.pushes old.scheduler) (S.departures old.scheduler) old.given old.tally → HasRoom (S.pushes new.scheduler) (S.departures new.scheduler) new.given new.tally
   room_after es old new given few short made one room =
@@ -90,38 +92,38 @@ module _ {C U : Type 0} (S : Ghosts C U) (policy : Policy) (accepted : IsAccepte
       }
 
   -- ---- arrivals in a row
-  pub arrives_more : (n : ℕ) (a b c : Option Left) (old mid new : Stage C U) → mid.given + old.tally.came ≡ old.given + mid.tally.came → Arrives S policy n None a b old mid → Arrives S policy 1 None b c mid new → Arrives S policy (n + 1) None a c old new
+  pub arrives_more : (n : ℕ) (a b c : Option Left) (old mid new : Stage C U W) → mid.given + old.tally.came ≡ old.given + mid.tally.came → Arrives S R policy n None a b old mid → Arrives S R policy 1 None b c mid new → Arrives S R policy (n + 1) None a c old new
   arrives_more n a b c old mid new given first second = record {
     packets = first.packets ++ second.packets;
     count = omega (arith, length-append first.packets second.packets, first.count, second.count);
     came = came_both a b c first.packets second.packets first.came second.came;
-    made = subst (λ (es : List Event). Makes S policy es old new) (sym (map-append Arrive first.packets second.packets))
-        (makes_both S policy accepted (map Arrive first.packets) (map Arrive second.packets) old mid new (omega (arith, given, first.made.came)) first.made second.made);
+    made = subst (λ (es : List Event). Makes S R policy es old new) (sym (map-append Arrive first.packets second.packets))
+        (makes_both S R laws policy accepted (map Arrive first.packets) (map Arrive second.packets) old mid new (omega (arith, given, first.made.came)) first.made second.made);
   }
 
-  pub arrives_end : (n m : ℕ) (e : Ending) (a b c : Option Left) (old mid new : Stage C U) → n < m → mid.given + old.tally.came ≡ old.given + mid.tally.came → Arrives S policy n None a b old mid → Arrives S policy 1 (Some e) b c mid new → Arrives S policy m (Some e) a c old new
+  pub arrives_end : (n m : ℕ) (e : Ending) (a b c : Option Left) (old mid new : Stage C U W) → n < m → mid.given + old.tally.came ≡ old.given + mid.tally.came → Arrives S R policy n None a b old mid → Arrives S R policy 1 (Some e) b c mid new → Arrives S R policy m (Some e) a c old new
   arrives_end n m e a b c old mid new below given first second = record {
     packets = first.packets ++ second.packets;
     count = omega (arith, length-append first.packets second.packets, first.count, second.count);
     came = until_both e (event_of new.tally) a b c first.packets second.packets first.came second.came;
-    made = subst (λ (es : List Event). Makes S policy es old new) (sym (map-append Arrive first.packets second.packets))
-        (makes_both S policy accepted (map Arrive first.packets) (map Arrive second.packets) old mid new (omega (arith, given, first.made.came)) first.made second.made);
+    made = subst (λ (es : List Event). Makes S R policy es old new) (sym (map-append Arrive first.packets second.packets))
+        (makes_both S R laws policy accepted (map Arrive first.packets) (map Arrive second.packets) old mid new (omega (arith, given, first.made.came)) first.made second.made);
   }
 
-  pub arrivals_stop : (n m : ℕ) (a b : Option Left) (old mid : Stage C U) (c : C) (u : U) (written : Option (List ℕ)) → n < m → mid.given + old.tally.came ≡ old.given + mid.tally.came → Arrives S policy n None a b old mid → ArrivalsStop S policy 1 b mid c u written → ArrivalsStop S policy m a old c u written
+  pub arrivals_stop : (n m : ℕ) (a b : Option Left) (old mid : Stage C U W) (c : C) (u : U) (written : Option (List ℕ)) → n < m → mid.given + old.tally.came ≡ old.given + mid.tally.came → Arrives S R policy n None a b old mid → ArrivalsStop S R policy 1 b mid c u written → ArrivalsStop S R policy m a old c u written
   arrivals_stop n m a b old mid c u written below given first second = record {
     packets = first.packets ++ second.packets;
     count = omega (arith, length-append first.packets second.packets, first.count, second.count);
     first = first_both a b first.packets second.packets first.came second.first;
-    stop = subst (λ (es : List Event). Stops S policy es old c u written) (sym (map-append Arrive first.packets second.packets))
-        (stops_later S policy accepted (map Arrive first.packets) (map Arrive second.packets) old mid c u written (omega (arith, given, first.made.came)) first.made second.stop);
+    stop = subst (λ (es : List Event). Stops S R policy es old c u written) (sym (map-append Arrive first.packets second.packets))
+        (stops_later S R laws policy accepted (map Arrive first.packets) (map Arrive second.packets) old mid c u written (omega (arith, given, first.made.came)) first.made second.stop);
   }
 
-module _ {C U : Type 0} (S : Ghosts C U) (policy : Policy) where
-  pub arrives_none : (a : Option Left) (c : C) (u : U) (text : Option (List ℕ)) (given : ℕ) (tally : Tally) (sight : Sight) → Arrives S policy 0 None a a (stage c u text given tally sight) (stage c u text given tally sight)
-  arrives_none a c u text given tally sight = record {
+module _ {C U W : Type 0} (S : Ghosts C U) (R : recorder.Ghosts W) (laws : AreJoined R.records R.cuts) (policy : Policy) where
+  pub arrives_none : (a : Option Left) (c : C) (u : U) (w : W) (written : Option (List ℕ)) (given : ℕ) (tally : Tally) (sight : Sight) → Arrives S R policy 0 None a a (stage c u w written given tally sight) (stage c u w written given tally sight)
+  arrives_none a c u w written given tally sight = record {
     packets = [];
     count = refl;
     came = came_none a;
-    made = makes_none S policy c u text given given tally sight;
+    made = makes_none S R laws policy c u w written given given tally sight;
   }

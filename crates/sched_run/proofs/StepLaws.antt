@@ -12,6 +12,7 @@ use Rattle.sched_defs.specs.SourceState.{SourceState}
 use Rattle.sched_defs.specs.Events.{Event, Arrive, Depart}
 use Rattle.sched_defs.specs.Script.{Step, Arrivals, Departures, Rest, Drain, step_events, left_by, stop_at, ends_at_fault}
 use Rattle.sched_core.specs.declared.scheduler.Scheduler.{Ghosts}
+use Rattle.sched_run.specs.declared.recorder.Recorder as recorder
 use Rattle.sched_core.specs.Standing.{ForEachState}
 use Rattle.sched_defs.specs.declared.ending.Ending.{Ending}
 use Rattle.sched_defs.specs.declared.ending.Ending.TheVariants.{Whole, BadCapture, PastLast}
@@ -59,8 +60,8 @@ rest_broken x y event events ps l after s all fault e = record {
   rest = tt;
 }
 
-module _ {C U : Type 0} (S : Ghosts C U) (policy : Policy) where
-  turns_rest : (m e : ℕ) (a c : Option Left) (old new : Stage C U) → Arrives S policy m (Some (PastLast e)) a c old new → Turns S policy Rest None a c old new
+module _ {C U W : Type 0} (S : Ghosts C U) (R : recorder.Ghosts W) (policy : Policy) where
+  turns_rest : (m e : ℕ) (a c : Option Left) (old new : Stage C U W) → Arrives S R policy m (Some (PastLast e)) a c old new → Turns S R policy Rest None a c old new
   turns_rest m e a c old new all = record {
     events = map Arrive all.packets;
     made = all.made;
@@ -72,7 +73,7 @@ module _ {C U : Type 0} (S : Ghosts C U) (policy : Policy) where
       by_left None came = tt
       by_left (Some l) came = λ s sound stood below. rest_over (event_of new.tally) (map Arrive all.packets) all.packets l c s came all.came.2 refl
 
-  breaks_rest : (m x y : ℕ) (a c : Option Left) (old new : Stage C U) → Arrives S policy m (Some (BadCapture x y)) a c old new → Turns S policy Rest (Some (BadCapture x y)) a c old new
+  breaks_rest : (m x y : ℕ) (a c : Option Left) (old new : Stage C U W) → Arrives S R policy m (Some (BadCapture x y)) a c old new → Turns S R policy Rest (Some (BadCapture x y)) a c old new
   breaks_rest m x y a c old new all = record {
     events = map Arrive all.packets;
     made = all.made;
@@ -85,13 +86,13 @@ module _ {C U : Type 0} (S : Ghosts C U) (policy : Policy) where
       by_left (Some l) came = λ s sound stood below. rest_broken x y (event_of new.tally) (map Arrive all.packets) all.packets l c s came.0 came.1 refl
 
   -- all packets that were left arrived, up to the fault if there is one
-  pub rest_done : (m : ℕ) (e : Ending) (a c : Option Left) (old new : Stage C U) → Arrives S policy m (Some e) a c old new → Turns S policy Rest (ends_at_fault e) a c old new
+  pub rest_done : (m : ℕ) (e : Ending) (a c : Option Left) (old new : Stage C U W) → Arrives S R policy m (Some e) a c old new → Turns S R policy Rest (ends_at_fault e) a c old new
   rest_done m (Whole n) a c old new all = absurd all.came
   rest_done m (PastLast n) a c old new all = turns_rest m n a c old new all
   rest_done m (BadCapture x y) a c old new all = breaks_rest m x y a c old new all
 
   -- some of them arrived, and then one stopped
-  pub rest_stops : (m : ℕ) (a : Option Left) (old : Stage C U) (c : C) (u : U) (written : Option (List ℕ)) → ArrivalsStop S policy m a old c u written → StopsAmid S policy (λ l s. step_events Rest l.packets s) a old c u written
+  pub rest_stops : (m : ℕ) (a : Option Left) (old : Stage C U W) (c : C) (u : U) (written : Option (List ℕ)) → ArrivalsStop S R policy m a old c u written → StopsAmid S R policy (λ l s. step_events Rest l.packets s) a old c u written
   rest_stops m a old c u written stop = record { events = map Arrive stop.packets; stop = stop.stop; first = by_left a stop.first }
     where
       by_left : (a : Option Left) → WereFirst a stop.packets → IfSome a (λ l. FromEach S policy old (λ s. AreFirst (map Arrive stop.packets) (step_events Rest l.packets s)))
@@ -141,8 +142,8 @@ some_broken n event x y ps l after s all fault count =
       rest = tt;
     }
 
-module _ {C U : Type 0} (S : Ghosts C U) (policy : Policy) where
-  pub some_done : (n : ℕ) (e : Option Ending) (a c : Option Left) (old new : Stage C U) → Arrives S policy n e a c old new → Turns S policy (Arrivals n) e a c old new
+module _ {C U W : Type 0} (S : Ghosts C U) (R : recorder.Ghosts W) (policy : Policy) where
+  pub some_done : (n : ℕ) (e : Option Ending) (a c : Option Left) (old new : Stage C U W) → Arrives S R policy n e a c old new → Turns S R policy (Arrivals n) e a c old new
   some_done n e a c old new all = record {
     events = map Arrive all.packets;
     made = all.made;
@@ -158,7 +159,7 @@ module _ {C U : Type 0} (S : Ghosts C U) (policy : Policy) where
       by_left (Some l) (Some (BadCapture x y)) came count = λ s sound stood below. some_broken n (event_of new.tally) x y all.packets l c s came.0 came.1 count
 
   -- some of them arrived, and then one stopped
-  pub some_stops : (n : ℕ) (a : Option Left) (old : Stage C U) (c : C) (u : U) (written : Option (List ℕ)) → ArrivalsStop S policy n a old c u written → StopsAmid S policy (λ l s. step_events (Arrivals n) l.packets s) a old c u written
+  pub some_stops : (n : ℕ) (a : Option Left) (old : Stage C U W) (c : C) (u : U) (written : Option (List ℕ)) → ArrivalsStop S R policy n a old c u written → StopsAmid S R policy (λ l s. step_events (Arrivals n) l.packets s) a old c u written
   some_stops n a old c u written stop = record { events = map Arrive stop.packets; stop = stop.stop; first = by_left a stop.first }
     where
       by_left : (a : Option Left) → WereFirst a stop.packets → IfSome a (λ l. FromEach S policy old (λ s. AreFirst (map Arrive stop.packets) (step_events (Arrivals n) l.packets s)))
@@ -169,11 +170,11 @@ module _ {C U : Type 0} (S : Ghosts C U) (policy : Policy) where
           (map Arrive (take spare first.0), sym (map-append Arrive stop.packets (take spare first.0)) ∙ ap (map Arrive) (sym split))
 
 -- ---- departures
-module _ {C U : Type 0} (S : Ghosts C U) (policy : Policy) where
+module _ {C U W : Type 0} (S : Ghosts C U) (R : recorder.Ghosts W) (policy : Policy) where
   same_left : (step : Step) (events : List Event) (event : ℕ) (l : Left) (s : SourceState) → events ≡ step_events step l.packets s → None ≡ stop_at step l.packets l.fault event → left_by step l.packets ≡ l.packets → IsTurn step None event events l (Some l) s
   same_left step events event l s are ends left = record { are = are; ends = ends; rest = left_is l (left_by step l.packets) l.fault (sym left) refl }
 
-  pub departures_done : (n : ℕ) (a : Option Left) (old new : Stage C U) → Makes S policy (replicate n (Depart None)) old new → Turns S policy (Departures n) None a a old new
+  pub departures_done : (n : ℕ) (a : Option Left) (old new : Stage C U W) → Makes S R policy (replicate n (Depart None)) old new → Turns S R policy (Departures n) None a a old new
   departures_done n a old new made = record {
     events = replicate n (Depart None);
     made = made;
@@ -185,7 +186,7 @@ module _ {C U : Type 0} (S : Ghosts C U) (policy : Policy) where
       by_left None = tt
       by_left (Some l) = λ s sound stood below. same_left (Departures n) (replicate n (Depart None)) (event_of new.tally) l s refl refl refl
 
-  pub departures_stop : (n : ℕ) (a : Option Left) (old : Stage C U) (c : C) (u : U) (written : Option (List ℕ)) → Stops S policy (replicate n (Depart None)) old c u written → StopsAmid S policy (λ l s. step_events (Departures n) l.packets s) a old c u written
+  pub departures_stop : (n : ℕ) (a : Option Left) (old : Stage C U W) (c : C) (u : U) (written : Option (List ℕ)) → Stops S R policy (replicate n (Depart None)) old c u written → StopsAmid S R policy (λ l s. step_events (Departures n) l.packets s) a old c u written
   departures_stop n a old c u written stop = record { events = replicate n (Depart None); stop = stop; first = by_left a }
     where
       by_left : (a : Option Left) → IfSome a (λ l. FromEach S policy old (λ s. AreFirst (replicate n (Depart None)) (replicate n (Depart None))))
@@ -193,7 +194,7 @@ module _ {C U : Type 0} (S : Ghosts C U) (policy : Policy) where
       by_left (Some l) = λ s sound stood below. ([], append-nil (replicate n (Depart None)))
 
   -- as many as are held
-  pub drain_done : (accepted : IsAccepted policy) (n : ℕ) (a : Option Left) (old new : Stage C U) → ForEachState S.stands policy old.scheduler old.under (λ s. n ≡ size s.tree) → Makes S policy (replicate n (Depart None)) old new → Turns S policy Drain None a a old new
+  pub drain_done : (accepted : IsAccepted policy) (n : ℕ) (a : Option Left) (old new : Stage C U W) → ForEachState S.stands policy old.scheduler old.under (λ s. n ≡ size s.tree) → Makes S R policy (replicate n (Depart None)) old new → Turns S R policy Drain None a a old new
   drain_done accepted n a old new held made = record {
     events = replicate n (Depart None);
     made = made;
@@ -205,7 +206,7 @@ module _ {C U : Type 0} (S : Ghosts C U) (policy : Policy) where
       by_left None = tt
       by_left (Some l) = λ s sound stood below. same_left Drain (replicate n (Depart None)) (event_of new.tally) l s (ap (λ (k : ℕ). replicate k (Depart None)) (held s sound stood)) refl refl
 
-  pub drain_stops : (n : ℕ) (a : Option Left) (old : Stage C U) (c : C) (u : U) (written : Option (List ℕ)) → ForEachState S.stands policy old.scheduler old.under (λ s. n ≡ size s.tree) → Stops S policy (replicate n (Depart None)) old c u written → StopsAmid S policy (λ l s. step_events Drain l.packets s) a old c u written
+  pub drain_stops : (n : ℕ) (a : Option Left) (old : Stage C U W) (c : C) (u : U) (written : Option (List ℕ)) → ForEachState S.stands policy old.scheduler old.under (λ s. n ≡ size s.tree) → Stops S R policy (replicate n (Depart None)) old c u written → StopsAmid S R policy (λ l s. step_events Drain l.packets s) a old c u written
   drain_stops n a old c u written held stop = record { events = replicate n (Depart None); stop = stop; first = by_left a }
     where
       by_left : (a : Option Left) → IfSome a (λ l. FromEach S policy old (λ s. AreFirst (replicate n (Depart None)) (replicate (size s.tree) (Depart None))))

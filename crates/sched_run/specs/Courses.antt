@@ -9,6 +9,7 @@ use Rattle.sched_defs.specs.Script.{Course, course}
 use Rattle.sched_defs.specs.Numbered.{IsHeldBelow}
 use Rattle.sched_defs.specs.Report.{course_report}
 use Rattle.sched_core.specs.declared.scheduler.Scheduler.{Ghosts}
+use Rattle.sched_run.specs.declared.recorder.Recorder as recorder
 use Rattle.sched_core.specs.Standing.{ForEachState}
 use Rattle.sched_run.specs.Played.{HasMade, HasMadeSome}
 use Rattle.events_core.specs.declared.step.Step as line
@@ -42,9 +43,9 @@ pub record IsCourse (events : List Event) (ending : Ending) (run : Course) : Typ
   pub ends : ending ≡ run.ending
 
 -- all events that were to come over what was left were made
-pub record Courses {C U : Type 0} (S : Ghosts C U) (policy : Policy) (agenda : Agenda) (ending : Ending) (before : Option Left) (old new : Stage C U) : Type 0 where
+pub record Courses {C U W : Type 0} (S : Ghosts C U) (R : recorder.Ghosts W) (policy : Policy) (agenda : Agenda) (ending : Ending) (before : Option Left) (old new : Stage C U W) : Type 0 where
   pub events : List Event
-  pub made : Makes S policy events old new
+  pub made : Makes S R policy events old new
   pub told : IfSome before (λ l. FromEach S policy old (λ s. IsCourse events ending (agenda l s (event_of old.tally))))
 
 -- P holds of each state for which they stand and in which no packet yet to come is held, with the course from there

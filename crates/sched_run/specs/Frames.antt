@@ -1,5 +1,5 @@
 -- What each call of a run needs, and what it keeps.
-use Rattle.std.specs.Prelude.{◌≡◌, ◌≤◌, ◌+◌, IsTrue}
+use Rattle.std.specs.Prelude.{◌≡◌, ◌≤◌, ◌+◌}
 use Rattle.tree_defs.specs.Tree.{depth}
 use Rattle.policy_defs.specs.Policy.{Policy}
 use Rattle.policy_defs.specs.Accepted.{IsAccepted}
@@ -8,20 +8,21 @@ use Rattle.sched_defs.specs.Packets.{most_packets}
 use Rattle.sched_defs.specs.declared.packets.Packets as packets
 use Rattle.sched_core.specs.declared.scheduler.Scheduler.{Ghosts}
 use Rattle.sched_core.specs.Standing.{StandForOne, ForEachState}
+use Rattle.sched_run.specs.declared.recorder.Recorder as recorder
 use Rattle.sched_run.specs.declared.run.Run.{Run}
 use Rattle.sched_run.specs.declared.tally.Tally.{Tally}
 
--- the policy is accepted, the names are those of its nodes, the version is its own, a path has room, and the report can be
--- written
-pub record IsSet {C U N : Type 0} (S : Ghosts C U) (named : N → Policy) (run : Run C N) : Type 0 where
+-- the policy is accepted, the names are those of its nodes, the version is its own, a path has room, and outcomes can be
+-- recorded
+pub record IsSet {C U N W : Type 0} (S : Ghosts C U) (R : recorder.Ghosts W) (named : N → Policy) (run : Run C N W) : Type 0 where
   pub accepted : IsAccepted (S.policy run.scheduler)
   pub names : named run.names.now ≡ S.policy run.scheduler
   pub version : run.version ≡ (S.policy run.scheduler).version
   pub room : depth (S.policy run.scheduler).tree ≤ run.trace.room
-  pub live : IsTrue run.report.live
+  pub live : R.live run.recorder
 
 -- the policy, the place of the queues, the names, the version and the room for a path stay
-pub record Continues {C U N : Type 0} (S : Ghosts C U) (old new : Run C N) : Type 0 where
+pub record Continues {C U N W : Type 0} (S : Ghosts C U) (old new : Run C N W) : Type 0 where
   pub policy : S.policy new.scheduler ≡ S.policy old.scheduler
   pub origin : S.origin new.scheduler ≡ S.origin old.scheduler
   pub names : new.names.now ≡ old.names.now
@@ -29,11 +30,11 @@ pub record Continues {C U N : Type 0} (S : Ghosts C U) (old new : Run C N) : Typ
   pub room : new.trace.room ≡ old.trace.room
 
 -- the scheduler and what is under it stand for a sound state of which P holds
-abbrev pub Stand : {C U N : Type 0} → Ghosts C U → Run C N → U → (SourceState → Type 0) → Type 0
+abbrev pub Stand : {C U N W : Type 0} → Ghosts C U → Run C N W → U → (SourceState → Type 0) → Type 0
 Stand S run u P = StandForOne S.stands (S.policy run.scheduler) run.scheduler u P
 
 -- P holds of each sound state for which they stand
-abbrev pub FromAll : {C U N : Type 0} → Ghosts C U → Run C N → U → (SourceState → Type 0) → Type 0
+abbrev pub FromAll : {C U N W : Type 0} → Ghosts C U → Run C N W → U → (SourceState → Type 0) → Type 0
 FromAll S run u P = ForEachState S.stands (S.policy run.scheduler) run.scheduler u P
 
 -- packets that have the same policy still, from a source whose count of faults doesn't fall

@@ -1,9 +1,14 @@
 pub mod Frames
 pub mod Played
 pub mod Shown
+pub mod Recording
+pub mod Lines
 pub mod Steps
 pub mod Stages
 pub mod Turns
 pub mod Totals
 pub mod Links
 pub mod Courses
+pub mod Load
+pub mod Drawings
+pub mod Sums

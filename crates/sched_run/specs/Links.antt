@@ -7,6 +7,7 @@ use Rattle.sched_defs.specs.Events.{Event}
 use Rattle.sched_defs.specs.Link.{Sent}
 use Rattle.sched_defs.specs.Numbered.{IsHeldBelow}
 use Rattle.sched_core.specs.declared.scheduler.Scheduler.{Ghosts}
+use Rattle.sched_run.specs.declared.recorder.Recorder as recorder
 use Rattle.sched_run.specs.declared.tally.Tally.{Tally}
 use Rattle.sched_run.specs.Stages.{Stage, FromEach, Makes, Stops}
 use Rattle.sched_run.specs.Turns.{AreFirst}
@@ -17,15 +18,15 @@ pub record IsSent (events : List Event) (free : ℕ) (sent : Sent) : Type 0 wher
   pub is_free : free ≡ sent.free
 
 -- all events that were to be sent were made
-pub record Sends {C U : Type 0} (S : Ghosts C U) (policy : Policy) (sent : SourceState → Sent) (free : ℕ) (old new : Stage C U) : Type 0 where
+pub record Sends {C U W : Type 0} (S : Ghosts C U) (R : recorder.Ghosts W) (policy : Policy) (sent : SourceState → Sent) (free : ℕ) (old new : Stage C U W) : Type 0 where
   pub events : List Event
-  pub made : Makes S policy events old new
+  pub made : Makes S R policy events old new
   pub told : FromEach S policy old (λ s. IsSent events free (sent s))
 
 -- the first of them were made
-pub record SendsAmid {C U : Type 0} (S : Ghosts C U) (policy : Policy) (sent : SourceState → Sent) (old : Stage C U) (c : C) (u : U) (written : Option (List ℕ)) : Type 0 where
+pub record SendsAmid {C U W : Type 0} (S : Ghosts C U) (R : recorder.Ghosts W) (policy : Policy) (sent : SourceState → Sent) (old : Stage C U W) (c : C) (u : U) (written : Option (List ℕ)) : Type 0 where
   pub events : List Event
-  pub stop : Stops S policy events old c u written
+  pub stop : Stops S R policy events old c u written
   pub first : FromEach S policy old (λ s. AreFirst events (sent s).events)
 
 -- the moments of packets are below 2^64, and each departure takes less than 2^62 nanoseconds

@@ -1,7 +1,5 @@
 -- What a call that makes events in a row leaves.
 use Rattle.std.specs.Prelude.{◌≡◌, ℕ, ◌+◌, Option, List, ◌++◌}
-use Rattle.outside_core.specs.Written.{Appended}
-use Rattle.report_defs.specs.Text.{IsCut}
 use Rattle.policy_defs.specs.Policy.{Policy}
 use Rattle.sched_defs.specs.SourceState.{SourceState}
 use Rattle.sched_defs.specs.Events.{Event, after, outcome, outcomes, pushed_in, asked_in}
@@ -9,6 +7,7 @@ use Rattle.sched_defs.specs.Report.{outcome_line, lines_from}
 use Rattle.sched_core.specs.declared.scheduler.Scheduler.{Ghosts}
 use Rattle.sched_core.specs.Origins.{images_of}
 use Rattle.sched_core.specs.Spills.{raised, spills_in}
+use Rattle.sched_run.specs.declared.recorder.Recorder as recorder
 
 -- the lines of events from a state, where the first event has this number
 abbrev pub told : Policy → ℕ → List Event → SourceState → List ℕ
@@ -42,14 +41,14 @@ pub record HasMadeSome {C U : Type 0} (S : Ghosts C U) (policy : Policy) (events
   pub whole : made ++ unmade ≡ events
   pub leaves : HasMade S policy made from c u c' u'
 
--- all of the events were made, and the text grew by a line for each
-pub record Plays {C U : Type 0} (S : Ghosts C U) (policy : Policy) (event : ℕ) (events : List Event) (from : SourceState)
-    (c : C) (u : U) (c' : C) (u' : U) (before text : Option (List ℕ)) : Type 0 where
+-- all of the events were made, and their outcomes are recorded
+pub record Plays {C U W : Type 0} (S : Ghosts C U) (R : recorder.Ghosts W) (policy : Policy) (event : ℕ) (events : List Event) (from : SourceState)
+    (c : C) (u : U) (w : W) (a : Option (List ℕ)) (c' : C) (u' : U) (w' : W) (a' : Option (List ℕ)) : Type 0 where
   pub leaves : HasMade S policy events from c u c' u'
-  pub lines : Appended before text (told policy event events from)
+  pub recorded : R.records w a policy event (outcomes policy events from) w' a'
 
--- the first of the events were made, and a first part of the text with the lines of all is written
-pub record StopsIn {C U : Type 0} (S : Ghosts C U) (policy : Policy) (event : ℕ) (events : List Event) (from : SourceState)
-    (c : C) (u : U) (c' : C) (u' : U) (before written : Option (List ℕ)) : Type 0 where
+-- the first of the events were made, and of what is told of all a first part is written
+pub record StopsIn {C U W : Type 0} (S : Ghosts C U) (R : recorder.Ghosts W) (policy : Policy) (event : ℕ) (events : List Event) (from : SourceState)
+    (c : C) (u : U) (w : W) (a : Option (List ℕ)) (c' : C) (u' : U) (written : Option (List ℕ)) : Type 0 where
   pub leaves : HasMadeSome S policy events from c u c' u'
-  pub lines : IsCut before (told policy event events from) written
+  pub cut : R.cuts w a policy event (outcomes policy events from) written

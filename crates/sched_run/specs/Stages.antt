@@ -3,7 +3,6 @@ use Rattle.std.specs.Prelude.{◌≡◌, ◌<◌, ◌≤◌, ◌^◌, ℕ, ◌+�
 use Rattle.std.specs.List.{AllByRecursion}
 use Rattle.tree_defs.specs.SourceTree.{size}
 use Rattle.packet_defs.specs.declared.packet.Packet.{Packet}
-use Rattle.report_core.specs.Gathered.{text_of}
 use Rattle.policy_defs.specs.Policy.{Policy}
 use Rattle.sched_defs.specs.SourceState.{SourceState, start}
 use Rattle.sched_defs.specs.Events.{Event, Arrive, Depart, outcomes, dropped_in}
@@ -16,23 +15,26 @@ use Rattle.sched_core.specs.Standing.{ForEachState}
 use Rattle.sched_run.specs.Played.{Plays, StopsIn}
 use Rattle.sched_run.specs.Shown.{shown_in}
 use Rattle.tap_core.specs.Watching.{Sight, Shows}
+use Rattle.sched_run.specs.declared.recorder.Recorder as recorder
 use Rattle.sched_run.specs.declared.run.Run.{Run}
 use Rattle.sched_run.specs.declared.tally.Tally.{Tally}
 
--- the scheduler with what is under it, the text so far, how many packets came, the tally, and the taps that watch
-pub record Stage (C U : Type 0) : Type 0 where
+-- the scheduler with what is under it, the recorder with what is written so far, how many packets came, the tally, and the
+-- taps that watch
+pub record Stage (C U W : Type 0) : Type 0 where
   pub scheduler : C
   pub under : U
-  pub text : Option (List ℕ)
+  pub recorder : W
+  pub written : Option (List ℕ)
   pub given : ℕ
   pub tally : Tally
   pub sight : Sight
 
-abbrev pub stage : {C U : Type 0} → C → U → Option (List ℕ) → ℕ → Tally → Sight → Stage C U
-stage c u text given tally sight = record { scheduler = c; under = u; text = text; given = given; tally = tally; sight = sight }
+abbrev pub stage : {C U W : Type 0} → C → U → W → Option (List ℕ) → ℕ → Tally → Sight → Stage C U W
+stage c u w written given tally sight = record { scheduler = c; under = u; recorder = w; written = written; given = given; tally = tally; sight = sight }
 
-abbrev pub stage_of : {C U N : Type 0} → Run C N → U → Option (List ℕ) → ℕ → Sight → Stage C U
-stage_of run u written given sight = stage run.scheduler u (text_of written run.report) given run.tally sight
+abbrev pub stage_of : {C U N W : Type 0} → Run C N W → U → Option (List ℕ) → ℕ → Sight → Stage C U W
+stage_of run u written given sight = stage run.scheduler u run.recorder written given run.tally sight
 
 -- the number of the next event
 abbrev pub event_of : Tally → ℕ
@@ -50,7 +52,7 @@ drops_of (Pushed leaf) = 0
 drops_of (Dropped leaf) = 1
 
 -- P holds of each sound state for which they stand and in which no packet yet to come is held
-abbrev pub FromEach : {C U : Type 0} → Ghosts C U → Policy → Stage C U → (SourceState → Type 0) → Type 0
+abbrev pub FromEach : {C U W : Type 0} → Ghosts C U → Policy → Stage C U W → (SourceState → Type 0) → Type 0
 FromEach S policy at P = ForEachState S.stands policy at.scheduler at.under (λ s. IsHeldBelow (at.given + 1) s.held → P s)
 
 -- no packet yet to come is held, and so few are held that the counts have room for their departures
@@ -76,7 +78,7 @@ pub record HasRoom (pushes departures given : ℕ) (tally : Tally) : Type 0 wher
   pub few : given ≤ most_packets
   pub few_asked : tally.asked ≤ 2 ^ 34
 
-abbrev pub HasRoomFor : {C U N : Type 0} → Ghosts C U → Run C N → ℕ → Type 0
+abbrev pub HasRoomFor : {C U N W : Type 0} → Ghosts C U → Run C N W → ℕ → Type 0
 HasRoomFor S run given = HasRoom (S.pushes run.scheduler) (S.departures run.scheduler) given run.tally
 
 -- the packets of the arrivals, in order
@@ -101,16 +103,17 @@ pub record AreNext (policy : Policy) (given : ℕ) (packets : List Packet) : Typ
   pub numbered : AreNumberedFrom (given + 1) packets
   pub sendable : AllByRecursion (IsSendable policy) packets
 
--- all of the events were made, each with its line, were counted, and were shown to the taps that watch
-pub record Makes {C U : Type 0} (S : Ghosts C U) (policy : Policy) (events : List Event) (old new : Stage C U) : Type 0 where
+-- all of the events were made, their outcomes recorded and counted, and shown to the taps that watch
+pub record Makes {C U W : Type 0} (S : Ghosts C U) (R : recorder.Ghosts W) (policy : Policy) (events : List Event) (old new : Stage C U W) : Type 0 where
   pub next : AreNext policy old.given (packets_in events)
   pub came : new.tally.came ≡ old.tally.came + arrivals_in events
   pub asked : new.tally.asked ≡ old.tally.asked + departures_in events
   pub dropped : FromEach S policy old (λ s. new.tally.dropped ≡ old.tally.dropped + dropped_in (outcomes policy events s))
-  pub played : FromEach S policy old (λ s. Plays S policy (event_of old.tally) events s old.scheduler old.under new.scheduler new.under old.text new.text)
+  pub played : FromEach S policy old (λ s. Plays S R policy (event_of old.tally) events s old.scheduler old.under old.recorder old.written
+      new.scheduler new.under new.recorder new.written)
   pub shown : FromEach S policy old (λ s. Shows (shown_in policy (outcomes policy events s)) old.sight new.sight)
 
--- the first of the events were made, and a first part of the text with the lines of all is written
-pub record Stops {C U : Type 0} (S : Ghosts C U) (policy : Policy) (events : List Event) (old : Stage C U) (c : C) (u : U) (written : Option (List ℕ)) : Type 0 where
+-- the first of the events were made, and of what is told of all a first part is written
+pub record Stops {C U W : Type 0} (S : Ghosts C U) (R : recorder.Ghosts W) (policy : Policy) (events : List Event) (old : Stage C U W) (c : C) (u : U) (written : Option (List ℕ)) : Type 0 where
   pub next : AreNext policy old.given (packets_in events)
-  pub stopped : FromEach S policy old (λ s. StopsIn S policy (event_of old.tally) events s old.scheduler old.under c u old.text written)
+  pub stopped : FromEach S policy old (λ s. StopsIn S R policy (event_of old.tally) events s old.scheduler old.under old.recorder old.written c u written)

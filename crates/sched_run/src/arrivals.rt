@@ -1,6 +1,7 @@
 //! Arrivals of the packets that come next.
 ghost use Rattle.std.specs.Prelude.{◌≡◌};
 
+use crate::recorder::Recorder;
 use crate::run::Run;
 use crate::shown::show_arrival;
 use outside_core::{Sink, Stop};
@@ -10,8 +11,8 @@ use sched_core::Scheduler;
 use sched_defs::{Ending, Halt, Packets};
 use tap_core::{Tap, Watching};
 
-impl<'a, C: Scheduler + Drop, N: NodeNames> Run<'a, C, N> {
-    ghost use Rattle.std.specs.Prelude.{◌≡◌, ◌≤◌, ◌<◌, ◌+◌, ◌^◌, ℕ, [], ◌∷◌, None, IsTrue, IfErr, IfOk, IfNone, OnOk, OnErr};
+impl<'a, C: Scheduler + Drop, N: NodeNames, W: Recorder> Run<'a, C, N, W> {
+    ghost use Rattle.std.specs.Prelude.{◌≡◌, ◌≤◌, ◌<◌, ◌+◌, ◌^◌, ℕ, [], ◌∷◌, None, IfErr, IfOk, IfNone, OnOk, OnErr};
     ghost use Rattle.outside_core.specs.Kept.{KeepsSink, HasCause, HasSinkCause};
     ghost use Rattle.sched_defs.specs.Events.{Arrive, CanArrive};
     ghost use Rattle.sched_defs.specs.Packets.{most_packets};
@@ -30,18 +31,18 @@ impl<'a, C: Scheduler + Drop, N: NodeNames> Run<'a, C, N> {
         watch: &mut Watching<T>,
         packet: &Packet,
     ) -> Result<(), Stop>
-        requires set { IsSet C.Scheduler N.policy self.old }
+        requires set { IsSet C.Scheduler W.Recorder N.policy self.old }
         requires stands { Stand C.Scheduler self.old under.old (λ s. CanArrive (C.policy self.old.scheduler) s packet.now) }
         requires few { C.pushes self.old.scheduler < 2 ^ 61 }
         requires events { self.old.tally.came + self.old.tally.asked < 2 ^ 62 }
         requires dropped { self.old.tally.dropped ≤ self.old.tally.came }
 
         ensures ok { OnOk result ((given : ℕ) → AreNext (C.policy self.old.scheduler) given (packet.now ∷ []) →
-            Makes C.Scheduler (C.policy self.old.scheduler) (Arrive packet.now ∷ [])
+            Makes C.Scheduler W.Recorder (C.policy self.old.scheduler) (Arrive packet.now ∷ [])
             (stage_of self.old under.old (K.written sink.old) given (sight_of T.kind_of T.state_of watch.old))
             (stage_of self.new under.new (K.written sink.new) (given + 1) (sight_of T.kind_of T.state_of watch.new))) }
         ensures err { OnErr result ((given : ℕ) → AreNext (C.policy self.old.scheduler) given (packet.now ∷ []) →
-            Stops C.Scheduler (C.policy self.old.scheduler) (Arrive packet.now ∷ [])
+            Stops C.Scheduler W.Recorder (C.policy self.old.scheduler) (Arrive packet.now ∷ [])
             (stage_of self.old under.old (K.written sink.old) given
             (sight_of T.kind_of T.state_of watch.old)) self.new.scheduler under.new (K.written sink.new)) }
         ensures came { OnOk result (self.new.tally.came ≡ self.old.tally.came + 1) }
@@ -51,7 +52,7 @@ impl<'a, C: Scheduler + Drop, N: NodeNames> Run<'a, C, N> {
         ensures fewer { AreNoMore (sight_of T.kind_of T.state_of watch.old) (sight_of T.kind_of T.state_of watch.new) }
         ensures kept_sink { KeepsSink K.written K.faults sink.old sink.new }
         ensures cause { IfErr result (λ stop. HasSinkCause stop K.faults sink.old sink.new) }
-        ensures live { OnOk result (IsTrue self.new.report.live) }
+        ensures live { OnOk result (W.live self.new.recorder) }
     {
         let event = self.tally.event();
         let arrival = self.arrive_line(under, sink, event, packet)?;
@@ -69,19 +70,19 @@ impl<'a, C: Scheduler + Drop, N: NodeNames> Run<'a, C, N> {
         packets: &mut P,
         source: &mut P::Source,
     ) -> Result<Option<Ending>, Stop>
-        requires set { IsSet C.Scheduler N.policy self.old }
+        requires set { IsSet C.Scheduler W.Recorder N.policy self.old }
         requires packets { P.policy packets.old ≡ C.policy self.old.scheduler }
         requires ready { P.ready packets.old source.old }
         requires stands { Stand C.Scheduler self.old under.old (λ s. IsHeldBelow (P.given packets.old + 1) s.held) }
         requires counts { HasRoomFor C.Scheduler self.old (P.given packets.old) }
 
-        ensures ok { IfOk result (λ e. Arrives C.Scheduler (C.policy self.old.scheduler) 1 e
+        ensures ok { IfOk result (λ e. Arrives C.Scheduler W.Recorder (C.policy self.old.scheduler) 1 e
             (P.left packets.old source.old) (P.left packets.new source.new)
             (stage_of self.old under.old (K.written sink.old) (P.given packets.old)
             (sight_of T.kind_of T.state_of watch.old))
             (stage_of self.new under.new (K.written sink.new) (P.given packets.new)
             (sight_of T.kind_of T.state_of watch.new))) }
-        ensures err { OnErr result (ArrivalsStop C.Scheduler (C.policy self.old.scheduler) 1 (P.left packets.old source.old)
+        ensures err { OnErr result (ArrivalsStop C.Scheduler W.Recorder (C.policy self.old.scheduler) 1 (P.left packets.old source.old)
             (stage_of self.old under.old (K.written sink.old) (P.given packets.old)
             (sight_of T.kind_of T.state_of watch.old)) self.new.scheduler under.new (K.written sink.new)) }
         ensures kept { Continues C.Scheduler self.old self.new }
@@ -92,7 +93,7 @@ impl<'a, C: Scheduler + Drop, N: NodeNames> Run<'a, C, N> {
         ensures further { IfOk result (λ e. GoesOn e (
             IsFurther P.Packets packets.old packets.new source.new self.old.tally self.new.tally)) }
         ensures came { self.new.tally.came ≤ most_packets }
-        ensures live { OnOk result (IsTrue self.new.report.live) }
+        ensures live { OnOk result (W.live self.new.recorder) }
     {
         match packets.next(source) {
             Ok(Some(packet)) => {
@@ -117,19 +118,19 @@ impl<'a, C: Scheduler + Drop, N: NodeNames> Run<'a, C, N> {
         source: &mut P::Source,
         count: u64,
     ) -> Result<Option<Ending>, Stop>
-        requires set { IsSet C.Scheduler N.policy self.old }
+        requires set { IsSet C.Scheduler W.Recorder N.policy self.old }
         requires packets { P.policy packets.old ≡ C.policy self.old.scheduler }
         requires ready { P.ready packets.old source.old }
         requires stands { Stand C.Scheduler self.old under.old (λ s. IsHeldBelow (P.given packets.old + 1) s.held) }
         requires counts { HasRoomFor C.Scheduler self.old (P.given packets.old) }
 
-        ensures ok { IfOk result (λ e. Arrives C.Scheduler (C.policy self.old.scheduler) count e
+        ensures ok { IfOk result (λ e. Arrives C.Scheduler W.Recorder (C.policy self.old.scheduler) count e
             (P.left packets.old source.old) (P.left packets.new source.new)
             (stage_of self.old under.old (K.written sink.old) (P.given packets.old)
             (sight_of T.kind_of T.state_of watch.old))
             (stage_of self.new under.new (K.written sink.new) (P.given packets.new)
             (sight_of T.kind_of T.state_of watch.new))) }
-        ensures err { OnErr result (ArrivalsStop C.Scheduler (C.policy self.old.scheduler) count (P.left packets.old source.old)
+        ensures err { OnErr result (ArrivalsStop C.Scheduler W.Recorder (C.policy self.old.scheduler) count (P.left packets.old source.old)
             (stage_of self.old under.old (K.written sink.old) (P.given packets.old)
             (sight_of T.kind_of T.state_of watch.old)) self.new.scheduler under.new (K.written sink.new)) }
         ensures kept { Continues C.Scheduler self.old self.new }
@@ -140,7 +141,7 @@ impl<'a, C: Scheduler + Drop, N: NodeNames> Run<'a, C, N> {
         ensures further { IfOk result (λ e. IfNone e (
             IsFurther P.Packets packets.old packets.new source.new self.old.tally self.new.tally)) }
         ensures came { self.new.tally.came ≤ most_packets }
-        ensures live { OnOk result (IsTrue self.new.report.live) }
+        ensures live { OnOk result (W.live self.new.recorder) }
     {
         for _sent in 0..count {
             let ending = self.arrive_next(under, sink, watch, packets, source)?;
@@ -161,19 +162,19 @@ impl<'a, C: Scheduler + Drop, N: NodeNames> Run<'a, C, N> {
         packets: &mut P,
         source: &mut P::Source,
     ) -> Result<Option<Ending>, Stop>
-        requires set { IsSet C.Scheduler N.policy self.old }
+        requires set { IsSet C.Scheduler W.Recorder N.policy self.old }
         requires packets { P.policy packets.old ≡ C.policy self.old.scheduler }
         requires ready { P.ready packets.old source.old }
         requires stands { Stand C.Scheduler self.old under.old (λ s. IsHeldBelow (P.given packets.old + 1) s.held) }
         requires counts { HasRoomFor C.Scheduler self.old (P.given packets.old) }
 
-        ensures ok { IfOk result (λ e. Turns C.Scheduler (C.policy self.old.scheduler) Rest e
+        ensures ok { IfOk result (λ e. Turns C.Scheduler W.Recorder (C.policy self.old.scheduler) Rest e
             (P.left packets.old source.old) (P.left packets.new source.new)
             (stage_of self.old under.old (K.written sink.old) (P.given packets.old)
             (sight_of T.kind_of T.state_of watch.old))
             (stage_of self.new under.new (K.written sink.new) (P.given packets.new)
             (sight_of T.kind_of T.state_of watch.new))) }
-        ensures err { OnErr result (StopsAmid C.Scheduler (C.policy self.old.scheduler) (λ l s. step_events Rest l.packets s)
+        ensures err { OnErr result (StopsAmid C.Scheduler W.Recorder (C.policy self.old.scheduler) (λ l s. step_events Rest l.packets s)
             (P.left packets.old source.old)
             (stage_of self.old under.old (K.written sink.old) (P.given packets.old)
             (sight_of T.kind_of T.state_of watch.old)) self.new.scheduler under.new (K.written sink.new)) }
@@ -185,7 +186,7 @@ impl<'a, C: Scheduler + Drop, N: NodeNames> Run<'a, C, N> {
         ensures further { IfOk result (λ e. IfNone e (
             IsFurther P.Packets packets.old packets.new source.new self.old.tally self.new.tally)) }
         ensures came { self.new.tally.came ≤ most_packets }
-        ensures live { OnOk result (IsTrue self.new.report.live) }
+        ensures live { OnOk result (W.live self.new.recorder) }
     {
         loop {
             let ending = self.arrive_next(under, sink, watch, packets, source)?;

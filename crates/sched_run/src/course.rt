@@ -9,6 +9,7 @@ ghost use Rattle.sched_run.specs.Frames.{KeepsPackets};
 ghost use Rattle.sched_run.specs.Totals.{totals_line};
 
 use crate::pace::Pace;
+use crate::recorder::Recorder;
 use crate::run::Run;
 use crate::tally::{Tally, Totals};
 use events_core::Step;
@@ -90,20 +91,17 @@ fn close<K: Sink>(
     report.finish(sink)
 }
 
-impl<'a, C: Scheduler + Drop, N: NodeNames> Run<'a, C, N> {
-    ghost use Rattle.std.specs.Prelude.{◌≡◌, ◌≤◌, ◌<◌, ◌+◌, ◌^◌, [], IsTrue, IfErr, IfOk, OnOk, OnErr};
+impl<'a, C: Scheduler + Drop, N: NodeNames, W: Recorder> Run<'a, C, N, W> {
+    ghost use Rattle.std.specs.Prelude.{◌≤◌, IfErr, IfOk, OnOk, OnErr};
     ghost use Rattle.outside_core.specs.Kept.{KeepsSink, HasCause};
-    ghost use Rattle.report_core.specs.Gathered.{text_of};
     ghost use Rattle.events_core.specs.Script.{most_count};
     ghost use Rattle.events_core.specs.Steps.{counts_of};
     ghost use Rattle.sched_defs.specs.Packets.{most_packets};
     ghost use Rattle.sched_run.specs.Frames.{IsSet, Continues, Stand, KeepsPackets};
     ghost use Rattle.sched_run.specs.Stages.{stage_of, event_of, IsFresh, CanBegin, HasRoomFor};
     ghost use Rattle.sched_run.specs.Turns.{StopsAmid};
-    ghost use Rattle.tap_core.specs.Watching.{sight_of, Shows, AreNoMore};
-    ghost use Rattle.sched_defs.specs.Events.{outcomes};
-    ghost use Rattle.sched_run.specs.Shown.{shown_in};
-    ghost use Rattle.sched_run.specs.Courses.{script_agenda, course_of, Courses, OnCourse, Runs, Breaks};
+    ghost use Rattle.tap_core.specs.Watching.{sight_of, AreNoMore};
+    ghost use Rattle.sched_run.specs.Courses.{script_agenda, course_of, Courses};
     ghost use Rattle.sched_run.specs.Steps.{IsBounded, CanEndSo};
 
     /// Makes the events of a script, each with its line, up to its end or to where no more packets come.
@@ -116,7 +114,7 @@ impl<'a, C: Scheduler + Drop, N: NodeNames> Run<'a, C, N> {
         source: &mut P::Source,
         steps: &[Step],
     ) -> Result<Ending, Stop>
-        requires set { IsSet C.Scheduler N.policy self.old }
+        requires set { IsSet C.Scheduler W.Recorder N.policy self.old }
         requires packets { P.policy packets.old ≡ C.policy self.old.scheduler }
         requires ready { P.ready packets.old source.old }
         requires stands { Stand C.Scheduler self.old under.old (CanBegin (P.given packets.old)) }
@@ -124,13 +122,13 @@ impl<'a, C: Scheduler + Drop, N: NodeNames> Run<'a, C, N> {
         requires fresh { IsFresh self.old.tally }
         requires short { counts_of steps.now ≤ most_count }
 
-        ensures ok { IfOk result (λ e. Courses C.Scheduler (C.policy self.old.scheduler)
+        ensures ok { IfOk result (λ e. Courses C.Scheduler W.Recorder (C.policy self.old.scheduler)
             (script_agenda (C.policy self.old.scheduler) steps.now) e (P.left packets.old source.old)
             (stage_of self.old under.old (K.written sink.old) (P.given packets.old)
             (sight_of T.kind_of T.state_of watch.old))
             (stage_of self.new under.new (K.written sink.new) (P.given packets.new)
             (sight_of T.kind_of T.state_of watch.new))) }
-        ensures err { OnErr result (StopsAmid C.Scheduler (C.policy self.old.scheduler)
+        ensures err { OnErr result (StopsAmid C.Scheduler W.Recorder (C.policy self.old.scheduler)
             (λ l s. (script_agenda (C.policy self.old.scheduler) steps.now l s (event_of self.old.tally)).events) (P.left packets.old source.old)
             (stage_of self.old under.old (K.written sink.old) (P.given packets.old)
             (sight_of T.kind_of T.state_of watch.old)) self.new.scheduler under.new (K.written sink.new)) }
@@ -140,7 +138,7 @@ impl<'a, C: Scheduler + Drop, N: NodeNames> Run<'a, C, N> {
         ensures kept_packets { KeepsPackets P.Packets packets.old packets.new source.old source.new }
         ensures cause { IfErr result (λ stop. HasCause stop P.faults source.old source.new K.faults sink.old sink.new) }
         ensures came { self.new.tally.came ≤ most_packets }
-        ensures live { OnOk result (IsTrue self.new.report.live) }
+        ensures live { OnOk result (W.live self.new.recorder) }
     {
         for step in steps {
             let ending = self.play_step(under, sink, watch, packets, source, *step)?;
@@ -150,6 +148,63 @@ impl<'a, C: Scheduler + Drop, N: NodeNames> Run<'a, C, N> {
         }
         count_unsent(packets, source)
     }
+
+    /// Makes the events of a run, each with its line, up to its end or to where no more packets come.
+    fn play_events<P: Packets, K: Sink, T: Tap>(
+        &mut self,
+        under: &mut C::Under,
+        sink: &mut K,
+        watch: &mut Watching<T>,
+        packets: &mut P,
+        source: &mut P::Source,
+        pace: Pace<'_>,
+    ) -> Result<Ending, Stop>
+        requires set { IsSet C.Scheduler W.Recorder N.policy self.old }
+        requires packets { P.policy packets.old ≡ C.policy self.old.scheduler }
+        requires ready { P.ready packets.old source.old }
+        requires stands { Stand C.Scheduler self.old under.old (CanBegin (P.given packets.old)) }
+        requires counts { HasRoomFor C.Scheduler self.old (P.given packets.old) }
+        requires fresh { IsFresh self.old.tally }
+        requires bounded { IsBounded pace }
+
+        ensures ok { IfOk result (λ e. Courses C.Scheduler W.Recorder (C.policy self.old.scheduler)
+            (course_of (C.policy self.old.scheduler) pace.entry) e (P.left packets.old source.old)
+            (stage_of self.old under.old (K.written sink.old) (P.given packets.old)
+            (sight_of T.kind_of T.state_of watch.old))
+            (stage_of self.new under.new (K.written sink.new) (P.given packets.new)
+            (sight_of T.kind_of T.state_of watch.new))) }
+        ensures err { OnErr result (StopsAmid C.Scheduler W.Recorder (C.policy self.old.scheduler)
+            (λ l s. (course_of (C.policy self.old.scheduler) pace.entry l s (event_of self.old.tally)).events) (P.left packets.old source.old)
+            (stage_of self.old under.old (K.written sink.old) (P.given packets.old)
+            (sight_of T.kind_of T.state_of watch.old)) self.new.scheduler under.new (K.written sink.new)) }
+        ensures kept { Continues C.Scheduler self.old self.new }
+        ensures fewer { AreNoMore (sight_of T.kind_of T.state_of watch.old) (sight_of T.kind_of T.state_of watch.new) }
+        ensures kept_sink { KeepsSink K.written K.faults sink.old sink.new }
+        ensures kept_packets { KeepsPackets P.Packets packets.old packets.new source.old source.new }
+        ensures cause { IfErr result (λ stop. HasCause stop P.faults source.old source.new K.faults sink.old sink.new) }
+        ensures came { self.new.tally.came ≤ most_packets }
+        ensures ends { IfOk result (CanEndSo pace.entry) }
+        ensures live { OnOk result (W.live self.new.recorder) }
+    {
+        match pace {
+            Pace::Script(steps) => self.play_steps(under, sink, watch, packets, source, steps),
+            Pace::Link(rate) => self.play_link(under, sink, watch, packets, source, rate),
+        }
+    }
+}
+
+impl<'a, C: Scheduler + Drop, N: NodeNames> Run<'a, C, N, Report> {
+    ghost use Rattle.std.specs.Prelude.{◌≡◌, ◌≤◌, ◌<◌, ◌+◌, ◌^◌, [], IsTrue, IfErr, IfOk, OnOk, OnErr};
+    ghost use Rattle.outside_core.specs.Kept.{KeepsSink, HasCause};
+    ghost use Rattle.report_core.specs.Gathered.{text_of};
+    ghost use Rattle.sched_defs.specs.Packets.{most_packets};
+    ghost use Rattle.sched_run.specs.Frames.{IsSet, Continues, Stand, KeepsPackets};
+    ghost use Rattle.sched_run.specs.Stages.{CanBegin};
+    ghost use Rattle.tap_core.specs.Watching.{sight_of, Shows, AreNoMore};
+    ghost use Rattle.sched_defs.specs.Events.{outcomes};
+    ghost use Rattle.sched_run.specs.Shown.{shown_in};
+    ghost use Rattle.sched_run.specs.Courses.{course_of, OnCourse, Runs, Breaks};
+    ghost use Rattle.sched_run.specs.Steps.{IsBounded, CanEndSo};
 
     /// Makes the events of a run over the packets that come, each with its line, shows each departure and each drop to the
     /// taps that watch, and writes the report to its end. The answer is how the run ended; where it stops, the text is cut
@@ -163,7 +218,7 @@ impl<'a, C: Scheduler + Drop, N: NodeNames> Run<'a, C, N> {
         source: &mut P::Source,
         pace: Pace<'_>,
     ) -> Result<Ending, Stop>
-        requires set { IsSet C.Scheduler N.policy self.old }
+        requires set { IsSet C.Scheduler ⟦<Report as Recorder>⟧ N.policy self.old }
         requires packets { P.policy packets.old ≡ C.policy self.old.scheduler }
         requires ready { P.ready packets.old source.old }
         requires stands { Stand C.Scheduler self.old under.old (CanBegin (P.given packets.old)) }
@@ -175,13 +230,13 @@ impl<'a, C: Scheduler + Drop, N: NodeNames> Run<'a, C, N> {
         ensures ok { OnOk result (OnCourse C.stands (C.policy self.old.scheduler) self.old.scheduler under.old
             (P.given packets.old) (P.left packets.old source.old) (course_of (C.policy self.old.scheduler) pace.entry) (λ s run.
             Runs C.Scheduler (C.policy self.old.scheduler) run s self.old.scheduler under.old self.new.scheduler under.new
-            (text_of (K.written sink.old) self.old.report) (K.written sink.new))) }
+            (text_of (K.written sink.old) self.old.recorder) (K.written sink.new))) }
         ensures ending { IfOk result (λ e. OnCourse C.stands (C.policy self.old.scheduler) self.old.scheduler under.old
             (P.given packets.old) (P.left packets.old source.old) (course_of (C.policy self.old.scheduler) pace.entry) (λ s run. e ≡ run.ending)) }
         ensures err { OnErr result (OnCourse C.stands (C.policy self.old.scheduler) self.old.scheduler under.old
             (P.given packets.old) (P.left packets.old source.old) (course_of (C.policy self.old.scheduler) pace.entry) (λ s run.
             Breaks C.Scheduler (C.policy self.old.scheduler) run s self.old.scheduler under.old self.new.scheduler under.new
-            (text_of (K.written sink.old) self.old.report) (K.written sink.new))) }
+            (text_of (K.written sink.old) self.old.recorder) (K.written sink.new))) }
         ensures watched { OnOk result (OnCourse C.stands (C.policy self.old.scheduler) self.old.scheduler under.old
             (P.given packets.old) (P.left packets.old source.old)
             (course_of (C.policy self.old.scheduler) pace.entry) (λ s run.
@@ -193,58 +248,15 @@ impl<'a, C: Scheduler + Drop, N: NodeNames> Run<'a, C, N> {
         ensures kept_packets { KeepsPackets P.Packets packets.old packets.new source.old source.new }
         ensures cause { IfErr result (λ stop. HasCause stop P.faults source.old source.new K.faults sink.old sink.new) }
         ensures ends { IfOk result (CanEndSo pace.entry) }
-        ensures live { OnOk result (IsTrue self.new.report.live) }
-        ensures none_left { OnOk result (self.new.report.unwritten ≡ []) }
+        ensures live { OnOk result (IsTrue self.new.recorder.live) }
+        ensures none_left { OnOk result (self.new.recorder.unwritten ≡ []) }
     {
         let first = self.scheduler.held();
         self.tally = Tally::new();
         let ending = self.play_events(under, sink, watch, packets, source, pace)?;
         let held = self.scheduler.held();
         let totals = self.tally.totals(first, held, self.version);
-        close(&mut self.report, sink, ending, totals)?;
+        close(&mut self.recorder, sink, ending, totals)?;
         Ok(ending)
-    }
-
-    /// Makes the events of a run, each with its line, up to its end or to where no more packets come.
-    fn play_events<P: Packets, K: Sink, T: Tap>(
-        &mut self,
-        under: &mut C::Under,
-        sink: &mut K,
-        watch: &mut Watching<T>,
-        packets: &mut P,
-        source: &mut P::Source,
-        pace: Pace<'_>,
-    ) -> Result<Ending, Stop>
-        requires set { IsSet C.Scheduler N.policy self.old }
-        requires packets { P.policy packets.old ≡ C.policy self.old.scheduler }
-        requires ready { P.ready packets.old source.old }
-        requires stands { Stand C.Scheduler self.old under.old (CanBegin (P.given packets.old)) }
-        requires counts { HasRoomFor C.Scheduler self.old (P.given packets.old) }
-        requires fresh { IsFresh self.old.tally }
-        requires bounded { IsBounded pace }
-
-        ensures ok { IfOk result (λ e. Courses C.Scheduler (C.policy self.old.scheduler)
-            (course_of (C.policy self.old.scheduler) pace.entry) e (P.left packets.old source.old)
-            (stage_of self.old under.old (K.written sink.old) (P.given packets.old)
-            (sight_of T.kind_of T.state_of watch.old))
-            (stage_of self.new under.new (K.written sink.new) (P.given packets.new)
-            (sight_of T.kind_of T.state_of watch.new))) }
-        ensures err { OnErr result (StopsAmid C.Scheduler (C.policy self.old.scheduler)
-            (λ l s. (course_of (C.policy self.old.scheduler) pace.entry l s (event_of self.old.tally)).events) (P.left packets.old source.old)
-            (stage_of self.old under.old (K.written sink.old) (P.given packets.old)
-            (sight_of T.kind_of T.state_of watch.old)) self.new.scheduler under.new (K.written sink.new)) }
-        ensures kept { Continues C.Scheduler self.old self.new }
-        ensures fewer { AreNoMore (sight_of T.kind_of T.state_of watch.old) (sight_of T.kind_of T.state_of watch.new) }
-        ensures kept_sink { KeepsSink K.written K.faults sink.old sink.new }
-        ensures kept_packets { KeepsPackets P.Packets packets.old packets.new source.old source.new }
-        ensures cause { IfErr result (λ stop. HasCause stop P.faults source.old source.new K.faults sink.old sink.new) }
-        ensures came { self.new.tally.came ≤ most_packets }
-        ensures ends { IfOk result (CanEndSo pace.entry) }
-        ensures live { OnOk result (IsTrue self.new.report.live) }
-    {
-        match pace {
-            Pace::Script(steps) => self.play_steps(under, sink, watch, packets, source, steps),
-            Pace::Link(rate) => self.play_link(under, sink, watch, packets, source, rate),
-        }
     }
 }

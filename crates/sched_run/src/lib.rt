@@ -4,16 +4,26 @@
 
 mod arrivals;
 mod course;
+mod drawing;
 mod laws;
 mod lines;
 mod link;
+mod load;
 mod pace;
+mod recorder;
+mod report;
 mod run;
 mod shown;
 mod steps;
+mod sum;
 mod tally;
 
+pub use drawing::Drawing;
 pub use laws::runs_begin_at_the_start;
 pub use lines::depart_line;
+pub use load::MOST_LOAD;
 pub use pace::Pace;
+pub use recorder::Recorder;
 pub use run::Run;
+pub use sum::DepartureSum;
+pub use tally::Totals;

@@ -1,17 +1,18 @@
-//! One event with its line of the report.
-ghost use Rattle.std.specs.Prelude.{◌≡◌, ◌<◌, ◌≤◌, ◌+◌, ◌^◌, ◌↔◌, None, option_map, IsNone, IsTrue, IfErr, IfOk, OnOk, OnErr, IfSome, IfNone};
+//! One event, with what is recorded of it.
+ghost use Rattle.std.specs.Prelude.{◌≡◌, ◌<◌, ◌≤◌, ◌+◌, ◌^◌, ◌↔◌, [], ◌∷◌, None, option_map, IsNone, IsTrue, IfErr, IfOk, OnOk, OnErr, IfSome, IfNone};
 ghost use Rattle.outside_core.specs.Faults.{Rose};
 ghost use Rattle.outside_core.specs.Kept.{KeepsSink, HasSinkCause};
-ghost use Rattle.report_core.specs.Gathered.{text_of, Tells, CutsOff};
+ghost use Rattle.report_core.specs.Gathered.{Tells, CutsOff};
 ghost use Rattle.tree_defs.specs.Tree.{depth};
 ghost use Rattle.tree_defs.specs.SourceTree.{size};
 ghost use Rattle.policy_defs.specs.Accepted.{IsAccepted};
 ghost use Rattle.sched_defs.specs.SourceState.{departed, leaver};
-ghost use Rattle.sched_defs.specs.Events.{Arrive, Depart, CanArrive};
+ghost use Rattle.sched_defs.specs.Events.{Depart, outcomes};
 ghost use Rattle.sched_core.specs.Standing.{StandForOne, ForEachState};
 ghost use Rattle.sched_core.specs.Departures.{departed_packet, IsTaken};
 ghost use Rattle.sched_run.specs.Played.{AsksOnce, line_of};
 
+use crate::recorder::Recorder;
 use crate::run::Run;
 use crate::shown::show_departure;
 use outside_core::{Sink, Stop};
@@ -30,13 +31,13 @@ pub(crate) struct Departure {
     pub(crate) start: Option<u128>,
 }
 
-/// Makes a departure, and writes its line. Takes no memory.
-pub(crate) fn depart_at<C: Scheduler, N: NodeNames, K: Sink>(
+/// Makes a departure, and records it. Takes no memory.
+pub(crate) fn depart_at<C: Scheduler, N: NodeNames, W: Recorder, K: Sink>(
     names: &N,
     scheduler: &mut C,
     under: &mut C::Under,
     trace: &mut Taken,
-    report: &mut Report,
+    recorder: &mut W,
     sink: &mut K,
     departure: Departure,
 ) -> Result<Option<Departed>, WriteFault>
@@ -45,7 +46,7 @@ pub(crate) fn depart_at<C: Scheduler, N: NodeNames, K: Sink>(
     requires stands { StandForOne C.stands (C.policy scheduler.old) scheduler.old under.old (λ _. Unit {0}) }
     requires room { depth (C.policy scheduler.old).tree ≤ trace.old.room }
     requires few { C.departures scheduler.old < 2 ^ 61 }
-    requires live { IsTrue report.old.live }
+    requires live { W.live recorder.old }
 
     ensures state { ForEachState C.stands (C.policy scheduler.old) scheduler.old under.old (λ s.
         C.stands scheduler.new under.new (departed (C.policy scheduler.old) s)) }
@@ -59,24 +60,26 @@ pub(crate) fn depart_at<C: Scheduler, N: NodeNames, K: Sink>(
         IfNone (leaver s) (trace.new ≡ trace.old)) }
     ensures room { trace.new.room ≡ trace.old.room }
 
-    ensures text { OnOk result (ForEachState C.stands (C.policy scheduler.old) scheduler.old under.old (λ s.
-        Tells K.written sink.old report.old sink.new report.new (line_of (C.policy scheduler.old) departure.event (Depart departure.start) s))) }
+    ensures recorded { OnOk result (ForEachState C.stands (C.policy scheduler.old) scheduler.old under.old (λ s.
+        W.records recorder.old (K.written sink.old) (C.policy scheduler.old) departure.event
+        (outcomes (C.policy scheduler.old) (Depart departure.start ∷ []) s) recorder.new (K.written sink.new))) }
     ensures cut { OnErr result (ForEachState C.stands (C.policy scheduler.old) scheduler.old under.old (λ s.
-        CutsOff K.written sink.old report.old sink.new (line_of (C.policy scheduler.old) departure.event (Depart departure.start) s))) }
+        W.cuts recorder.old (K.written sink.old) (C.policy scheduler.old) departure.event
+        (outcomes (C.policy scheduler.old) (Depart departure.start ∷ []) s) (K.written sink.new))) }
     ensures kept { KeepsSink K.written K.faults sink.old sink.new }
     ensures cause { OnErr result (Rose (K.faults sink.old) (K.faults sink.new)) }
-    ensures live { OnOk result (IsTrue report.new.live) }
+    ensures live { OnOk result (W.live recorder.new) }
     ensures asked { AsksOnce C.Scheduler scheduler.old under.old scheduler.new under.new }
 {
     let Departure { event, start } = departure;
     match scheduler.depart(under, trace) {
         Some(departed) => {
             let leaf = names.name(departed.leaf);
-            report.departed(sink, event, departed.packet, leaf, trace.ranks(), start)?;
+            recorder.departed(sink, event, &departed, leaf, trace.ranks(), start)?;
             Ok(Some(departed))
         }
         None => {
-            report.empty(sink, event)?;
+            recorder.empty(sink, event)?;
             Ok(None)
         }
     }
@@ -124,10 +127,9 @@ pub fn depart_line<C: Scheduler, N: NodeNames, K: Sink>(
     depart_at(names, scheduler, under, trace, report, sink, departure)
 }
 
-impl<'a, C: Scheduler + Drop, N: NodeNames> Run<'a, C, N> {
+impl<'a, C: Scheduler + Drop, N: NodeNames, W: Recorder> Run<'a, C, N, W> {
     ghost use Rattle.std.specs.Prelude.{◌≡◌, ◌<◌, ◌+◌, ◌^◌, ℕ, [], ◌∷◌, IsTrue, IfErr, IfOk, OnOk, OnErr};
     ghost use Rattle.outside_core.specs.Kept.{KeepsSink, HasSinkCause};
-    ghost use Rattle.report_core.specs.Gathered.{text_of};
     ghost use Rattle.sched_defs.specs.Events.{Arrive, Depart, CanArrive};
     ghost use Rattle.sched_core.specs.Arrivals.{arrival_of};
     ghost use Rattle.sched_core.specs.Departures.{next_departed};
@@ -136,7 +138,7 @@ impl<'a, C: Scheduler + Drop, N: NodeNames> Run<'a, C, N> {
     ghost use Rattle.sched_run.specs.Stages.{stage_of, Makes, Stops};
     ghost use Rattle.tap_core.specs.Watching.{sight_of, AreNoMore};
 
-    /// Makes an arrival, and writes its line. The answer is what became of the packet.
+    /// Makes an arrival, and records it. The answer is what became of the packet.
     pub(crate) fn arrive_line<K: Sink>(
         &mut self,
         under: &mut C::Under,
@@ -144,40 +146,40 @@ impl<'a, C: Scheduler + Drop, N: NodeNames> Run<'a, C, N> {
         event: u64,
         packet: &Packet,
     ) -> Result<Arrival, Stop>
-        requires set { IsSet C.Scheduler N.policy self.old }
+        requires set { IsSet C.Scheduler W.Recorder N.policy self.old }
         requires stands { Stand C.Scheduler self.old under.old (λ s. CanArrive (C.policy self.old.scheduler) s packet.now) }
         requires few { C.pushes self.old.scheduler < 2 ^ 61 }
 
         ensures ok { OnOk result (FromAll C.Scheduler self.old under.old (λ s.
-            Plays C.Scheduler (C.policy self.old.scheduler) event (Arrive packet.now ∷ []) s self.old.scheduler under.old
-            self.new.scheduler under.new (text_of (K.written sink.old) self.old.report) (text_of (K.written sink.new) self.new.report))) }
+            Plays C.Scheduler W.Recorder (C.policy self.old.scheduler) event (Arrive packet.now ∷ []) s self.old.scheduler under.old
+            self.old.recorder (K.written sink.old) self.new.scheduler under.new self.new.recorder (K.written sink.new))) }
         ensures err { OnErr result (FromAll C.Scheduler self.old under.old (λ s.
-            StopsIn C.Scheduler (C.policy self.old.scheduler) event (Arrive packet.now ∷ []) s self.old.scheduler under.old
-            self.new.scheduler under.new (text_of (K.written sink.old) self.old.report) (K.written sink.new))) }
+            StopsIn C.Scheduler W.Recorder (C.policy self.old.scheduler) event (Arrive packet.now ∷ []) s self.old.scheduler under.old
+            self.old.recorder (K.written sink.old) self.new.scheduler under.new (K.written sink.new))) }
         ensures answer { IfOk result (λ a. FromAll C.Scheduler self.old under.old (λ s.
             a ≡ arrival_of (C.policy self.old.scheduler) packet.now s)) }
         ensures kept { Continues C.Scheduler self.old self.new }
         ensures kept_sink { KeepsSink K.written K.faults sink.old sink.new }
         ensures cause { IfErr result (λ stop. HasSinkCause stop K.faults sink.old sink.new) }
-        ensures live { OnOk result (IsTrue self.new.report.live) }
+        ensures live { OnOk result (W.live self.new.recorder) }
         ensures tally { self.new.tally ≡ self.old.tally }
     {
         let arrival = self.scheduler.arrive(under, packet, &mut self.trace)?;
         match arrival {
             Arrival::Pushed(leaf) => {
                 let name = self.names.name(leaf);
-                self.report
-                    .arrived(sink, event, packet.number, name, self.trace.ranks())?;
+                self.recorder
+                    .arrived(sink, event, packet, name, self.trace.ranks())?;
             }
             Arrival::Dropped(leaf) => {
                 let name = self.names.name(leaf);
-                self.report.dropped(sink, event, packet.number, name)?;
+                self.recorder.dropped(sink, event, packet, name)?;
             }
         }
         Ok(arrival)
     }
 
-    /// Makes a departure, which starts at a moment where a link paces it, with its line, counts it, and shows it to the taps
+    /// Makes a departure, which starts at a moment where a link paces it, records it, counts it, and shows it to the taps
     /// that watch. The error can be want of memory for the line of a tap that is done.
     pub(crate) fn depart_next<K: Sink, T: Tap>(
         &mut self,
@@ -186,15 +188,15 @@ impl<'a, C: Scheduler + Drop, N: NodeNames> Run<'a, C, N> {
         watch: &mut Watching<T>,
         start: Option<u128>,
     ) -> Result<Option<Departed>, Stop>
-        requires set { IsSet C.Scheduler N.policy self.old }
+        requires set { IsSet C.Scheduler W.Recorder N.policy self.old }
         requires stands { Stand C.Scheduler self.old under.old (λ _. Unit {0}) }
         requires few { C.departures self.old.scheduler < 2 ^ 61 }
         requires events { self.old.tally.came + self.old.tally.asked < 2 ^ 62 }
 
-        ensures ok { OnOk result ((given : ℕ) → Makes C.Scheduler (C.policy self.old.scheduler) (Depart start ∷ [])
+        ensures ok { OnOk result ((given : ℕ) → Makes C.Scheduler W.Recorder (C.policy self.old.scheduler) (Depart start ∷ [])
             (stage_of self.old under.old (K.written sink.old) given (sight_of T.kind_of T.state_of watch.old))
             (stage_of self.new under.new (K.written sink.new) given (sight_of T.kind_of T.state_of watch.new))) }
-        ensures err { OnErr result ((given : ℕ) → Stops C.Scheduler (C.policy self.old.scheduler) (Depart start ∷ [])
+        ensures err { OnErr result ((given : ℕ) → Stops C.Scheduler W.Recorder (C.policy self.old.scheduler) (Depart start ∷ [])
             (stage_of self.old under.old (K.written sink.old) given
             (sight_of T.kind_of T.state_of watch.old)) self.new.scheduler under.new (K.written sink.new)) }
         ensures value { IfOk result (λ d. FromAll C.Scheduler self.old under.old (λ s.
@@ -206,7 +208,7 @@ impl<'a, C: Scheduler + Drop, N: NodeNames> Run<'a, C, N> {
         ensures fewer { AreNoMore (sight_of T.kind_of T.state_of watch.old) (sight_of T.kind_of T.state_of watch.new) }
         ensures kept_sink { KeepsSink K.written K.faults sink.old sink.new }
         ensures cause { IfErr result (λ stop. HasSinkCause stop K.faults sink.old sink.new) }
-        ensures live { OnOk result (IsTrue self.new.report.live) }
+        ensures live { OnOk result (W.live self.new.recorder) }
     {
         let event = self.tally.event();
         let departed = depart_at(
@@ -214,7 +216,7 @@ impl<'a, C: Scheduler + Drop, N: NodeNames> Run<'a, C, N> {
             &mut self.scheduler,
             under,
             &mut self.trace,
-            &mut self.report,
+            &mut self.recorder,
             sink,
             Departure { event, start },
         )?;

@@ -3,6 +3,7 @@ ghost use Rattle.std.specs.Prelude.{◌≡◌, ◌≤◌, ◌<◌, ◌+◌, ◌^
 ghost use Rattle.link_defs.specs.Link.{IsRate, send_time};
 ghost use Rattle.sched_defs.specs.Link.{is_due};
 
+use crate::recorder::Recorder;
 use crate::run::Run;
 use events_core::Link;
 use outside_core::{Sink, Stop};
@@ -44,8 +45,8 @@ fn idle_at(link: &mut Link, held: u64, moment: u64)
     }
 }
 
-impl<'a, C: Scheduler + Drop, N: NodeNames> Run<'a, C, N> {
-    ghost use Rattle.std.specs.Prelude.{◌≡◌, ◌≤◌, ◌<◌, ◌+◌, ◌^◌, ℕ, IsTrue, IfErr, IfOk, OnOk, OnErr};
+impl<'a, C: Scheduler + Drop, N: NodeNames, W: Recorder> Run<'a, C, N, W> {
+    ghost use Rattle.std.specs.Prelude.{◌≡◌, ◌≤◌, ◌<◌, ◌+◌, ◌^◌, ℕ, IfErr, IfOk, OnOk, OnErr};
     ghost use Rattle.outside_core.specs.Kept.{KeepsSink, HasCause, HasSinkCause};
     ghost use Rattle.link_defs.specs.Link.{IsRate};
     ghost use Rattle.tree_defs.specs.SourceTree.{size};
@@ -70,17 +71,17 @@ impl<'a, C: Scheduler + Drop, N: NodeNames> Run<'a, C, N> {
         rate: u64,
         until: Option<u64>,
     ) -> Result<(), Stop>
-        requires set { IsSet C.Scheduler N.policy self.old }
+        requires set { IsSet C.Scheduler W.Recorder N.policy self.old }
         requires stands { Stand C.Scheduler self.old under.old (CanSend self.old.tally) }
         requires counts { HasRoomToSend (C.departures self.old.scheduler) self.old.tally }
         requires rate { IsRate rate }
         requires early { IsEarly link.old self.old.tally }
 
-        ensures ok { OnOk result ((given : ℕ) → Sends C.Scheduler (C.policy self.old.scheduler)
+        ensures ok { OnOk result ((given : ℕ) → Sends C.Scheduler W.Recorder (C.policy self.old.scheduler)
             (λ s. send_until (C.policy self.old.scheduler) rate until (size s.tree) s link.old) link.new
             (stage_of self.old under.old (K.written sink.old) given (sight_of T.kind_of T.state_of watch.old))
             (stage_of self.new under.new (K.written sink.new) given (sight_of T.kind_of T.state_of watch.new))) }
-        ensures err { OnErr result ((given : ℕ) → SendsAmid C.Scheduler (C.policy self.old.scheduler)
+        ensures err { OnErr result ((given : ℕ) → SendsAmid C.Scheduler W.Recorder (C.policy self.old.scheduler)
             (λ s. send_until (C.policy self.old.scheduler) rate until (size s.tree) s link.old)
             (stage_of self.old under.old (K.written sink.old) given
             (sight_of T.kind_of T.state_of watch.old)) self.new.scheduler under.new (K.written sink.new)) }
@@ -92,7 +93,7 @@ impl<'a, C: Scheduler + Drop, N: NodeNames> Run<'a, C, N> {
         ensures fewer { AreNoMore (sight_of T.kind_of T.state_of watch.old) (sight_of T.kind_of T.state_of watch.new) }
         ensures kept_sink { KeepsSink K.written K.faults sink.old sink.new }
         ensures cause { IfErr result (λ stop. HasSinkCause stop K.faults sink.old sink.new) }
-        ensures live { OnOk result (IsTrue self.new.report.live) }
+        ensures live { OnOk result (W.live self.new.recorder) }
     {
         let held = self.scheduler.held();
         for _sent in 0..held {
@@ -116,7 +117,7 @@ impl<'a, C: Scheduler + Drop, N: NodeNames> Run<'a, C, N> {
         rate: u64,
         packet: &Packet,
     ) -> Result<(), Stop>
-        requires set { IsSet C.Scheduler N.policy self.old }
+        requires set { IsSet C.Scheduler W.Recorder N.policy self.old }
         requires stands { Stand C.Scheduler self.old under.old (λ s.
             IsHeldBelow packet.now.number s.held × CanSend self.old.tally s) }
         requires counts { HasRoomToSend (C.departures self.old.scheduler) self.old.tally }
@@ -126,11 +127,13 @@ impl<'a, C: Scheduler + Drop, N: NodeNames> Run<'a, C, N> {
         requires rate { IsRate rate }
         requires early { IsEarly link.old self.old.tally }
 
-        ensures ok { OnOk result ((given : ℕ) → packet.now.number ≡ given + 1 → Sends C.Scheduler (C.policy self.old.scheduler)
+        ensures ok { OnOk result ((given : ℕ) → packet.now.number ≡ given + 1 →
+            Sends C.Scheduler W.Recorder (C.policy self.old.scheduler)
             (λ s. link_turn (C.policy self.old.scheduler) rate packet.now s link.old) link.new
             (stage_of self.old under.old (K.written sink.old) given (sight_of T.kind_of T.state_of watch.old))
             (stage_of self.new under.new (K.written sink.new) (given + 1) (sight_of T.kind_of T.state_of watch.new))) }
-        ensures err { OnErr result ((given : ℕ) → packet.now.number ≡ given + 1 → SendsAmid C.Scheduler (C.policy self.old.scheduler)
+        ensures err { OnErr result ((given : ℕ) → packet.now.number ≡ given + 1 →
+            SendsAmid C.Scheduler W.Recorder (C.policy self.old.scheduler)
             (λ s. link_turn (C.policy self.old.scheduler) rate packet.now s link.old)
             (stage_of self.old under.old (K.written sink.old) given
             (sight_of T.kind_of T.state_of watch.old)) self.new.scheduler under.new (K.written sink.new)) }
@@ -141,7 +144,7 @@ impl<'a, C: Scheduler + Drop, N: NodeNames> Run<'a, C, N> {
         ensures fewer { AreNoMore (sight_of T.kind_of T.state_of watch.old) (sight_of T.kind_of T.state_of watch.new) }
         ensures kept_sink { KeepsSink K.written K.faults sink.old sink.new }
         ensures cause { IfErr result (λ stop. HasSinkCause stop K.faults sink.old sink.new) }
-        ensures live { OnOk result (IsTrue self.new.report.live) }
+        ensures live { OnOk result (W.live self.new.recorder) }
     {
         let moment = self.scheduler.now().max(packet.moment);
         self.send_until(under, sink, watch, link, rate, Some(moment))?;
@@ -159,7 +162,7 @@ impl<'a, C: Scheduler + Drop, N: NodeNames> Run<'a, C, N> {
         source: &mut P::Source,
         rate: u64,
     ) -> Result<Ending, Stop>
-        requires set { IsSet C.Scheduler N.policy self.old }
+        requires set { IsSet C.Scheduler W.Recorder N.policy self.old }
         requires packets { P.policy packets.old ≡ C.policy self.old.scheduler }
         requires ready { P.ready packets.old source.old }
         requires stands { Stand C.Scheduler self.old under.old (CanBegin (P.given packets.old)) }
@@ -167,13 +170,13 @@ impl<'a, C: Scheduler + Drop, N: NodeNames> Run<'a, C, N> {
         requires fresh { IsFresh self.old.tally }
         requires rate { IsRate rate }
 
-        ensures ok { IfOk result (λ e. Courses C.Scheduler (C.policy self.old.scheduler)
+        ensures ok { IfOk result (λ e. Courses C.Scheduler W.Recorder (C.policy self.old.scheduler)
             (link_agenda (C.policy self.old.scheduler) rate 0) e (P.left packets.old source.old)
             (stage_of self.old under.old (K.written sink.old) (P.given packets.old)
             (sight_of T.kind_of T.state_of watch.old))
             (stage_of self.new under.new (K.written sink.new) (P.given packets.new)
             (sight_of T.kind_of T.state_of watch.new))) }
-        ensures err { OnErr result (StopsAmid C.Scheduler (C.policy self.old.scheduler)
+        ensures err { OnErr result (StopsAmid C.Scheduler W.Recorder (C.policy self.old.scheduler)
             (λ l s. (link_agenda (C.policy self.old.scheduler) rate 0 l s (event_of self.old.tally)).events) (P.left packets.old source.old)
             (stage_of self.old under.old (K.written sink.old) (P.given packets.old)
             (sight_of T.kind_of T.state_of watch.old)) self.new.scheduler under.new (K.written sink.new)) }
@@ -184,7 +187,7 @@ impl<'a, C: Scheduler + Drop, N: NodeNames> Run<'a, C, N> {
         ensures cause { IfErr result (λ stop. HasCause stop P.faults source.old source.new K.faults sink.old sink.new) }
         ensures came { self.new.tally.came ≤ most_packets }
         ensures ends { IfOk result IsNoPastLast }
-        ensures live { OnOk result (IsTrue self.new.report.live) }
+        ensures live { OnOk result (W.live self.new.recorder) }
     {
         let mut link = Link::new();
         loop {

@@ -1,6 +1,7 @@
 //! The events of a step of a script.
 ghost use Rattle.std.specs.Prelude.{◌≡◌};
 
+use crate::recorder::Recorder;
 use crate::run::Run;
 use events_core::Step;
 use outside_core::{Sink, Stop};
@@ -9,8 +10,8 @@ use sched_core::Scheduler;
 use sched_defs::{Ending, Packets};
 use tap_core::{Tap, Watching};
 
-impl<'a, C: Scheduler + Drop, N: NodeNames> Run<'a, C, N> {
-    ghost use Rattle.std.specs.Prelude.{◌≡◌, ◌≤◌, ◌<◌, ◌+◌, ◌^◌, ℕ, replicate, None, IsTrue, IfErr, IfOk, IfNone, OnOk, OnErr};
+impl<'a, C: Scheduler + Drop, N: NodeNames, W: Recorder> Run<'a, C, N, W> {
+    ghost use Rattle.std.specs.Prelude.{◌≡◌, ◌≤◌, ◌<◌, ◌+◌, ◌^◌, ℕ, replicate, None, IfErr, IfOk, IfNone, OnOk, OnErr};
     ghost use Rattle.outside_core.specs.Kept.{KeepsSink, HasCause, HasSinkCause};
     ghost use Rattle.sched_defs.specs.Packets.{most_packets};
     ghost use Rattle.sched_run.specs.Frames.{IsSet, Continues, Stand, KeepsPackets, IsFurther};
@@ -22,23 +23,23 @@ impl<'a, C: Scheduler + Drop, N: NodeNames> Run<'a, C, N> {
     ghost use Rattle.sched_run.specs.Turns.{Turns, StopsAmid};
     ghost use Rattle.tap_core.specs.Watching.{sight_of, AreNoMore};
 
-    /// Makes departures, each with its line.
-    fn depart_some<K: Sink, T: Tap>(
+    /// Makes departures, and records each.
+    pub(crate) fn depart_some<K: Sink, T: Tap>(
         &mut self,
         under: &mut C::Under,
         sink: &mut K,
         watch: &mut Watching<T>,
         count: u64,
     ) -> Result<(), Stop>
-        requires set { IsSet C.Scheduler N.policy self.old }
+        requires set { IsSet C.Scheduler W.Recorder N.policy self.old }
         requires stands { Stand C.Scheduler self.old under.old (λ _. Unit {0}) }
         requires few { C.departures self.old.scheduler + count < 2 ^ 61 }
         requires events { self.old.tally.came + self.old.tally.asked + count < 2 ^ 61 }
 
-        ensures ok { OnOk result ((given : ℕ) → Makes C.Scheduler (C.policy self.old.scheduler) (replicate count (Depart None))
+        ensures ok { OnOk result ((given : ℕ) → Makes C.Scheduler W.Recorder (C.policy self.old.scheduler) (replicate count (Depart None))
             (stage_of self.old under.old (K.written sink.old) given (sight_of T.kind_of T.state_of watch.old))
             (stage_of self.new under.new (K.written sink.new) given (sight_of T.kind_of T.state_of watch.new))) }
-        ensures err { OnErr result ((given : ℕ) → Stops C.Scheduler (C.policy self.old.scheduler) (replicate count (Depart None))
+        ensures err { OnErr result ((given : ℕ) → Stops C.Scheduler W.Recorder (C.policy self.old.scheduler) (replicate count (Depart None))
             (stage_of self.old under.old (K.written sink.old) given
             (sight_of T.kind_of T.state_of watch.old)) self.new.scheduler under.new (K.written sink.new)) }
         ensures came { self.new.tally.came ≡ self.old.tally.came }
@@ -46,7 +47,7 @@ impl<'a, C: Scheduler + Drop, N: NodeNames> Run<'a, C, N> {
         ensures fewer { AreNoMore (sight_of T.kind_of T.state_of watch.old) (sight_of T.kind_of T.state_of watch.new) }
         ensures kept_sink { KeepsSink K.written K.faults sink.old sink.new }
         ensures cause { IfErr result (λ stop. HasSinkCause stop K.faults sink.old sink.new) }
-        ensures live { OnOk result (IsTrue self.new.report.live) }
+        ensures live { OnOk result (W.live self.new.recorder) }
     {
         for _made in 0..count {
             self.depart_next(under, sink, watch, None)?;
@@ -64,21 +65,21 @@ impl<'a, C: Scheduler + Drop, N: NodeNames> Run<'a, C, N> {
         source: &mut P::Source,
         step: Step,
     ) -> Result<Option<Ending>, Stop>
-        requires set { IsSet C.Scheduler N.policy self.old }
+        requires set { IsSet C.Scheduler W.Recorder N.policy self.old }
         requires packets { P.policy packets.old ≡ C.policy self.old.scheduler }
         requires ready { P.ready packets.old source.old }
         requires stands { Stand C.Scheduler self.old under.old (IsReady (P.given packets.old) self.old.tally) }
         requires counts { HasRoomFor C.Scheduler self.old (P.given packets.old) }
         requires short { asked_by (step_of step) ≤ most_count }
 
-        ensures ok { IfOk result (λ e. Turns C.Scheduler (C.policy self.old.scheduler) (step_of step) e
+        ensures ok { IfOk result (λ e. Turns C.Scheduler W.Recorder (C.policy self.old.scheduler) (step_of step) e
             (P.left packets.old source.old) (P.left packets.new source.new)
             (stage_of self.old under.old (K.written sink.old) (P.given packets.old)
             (sight_of T.kind_of T.state_of watch.old))
             (stage_of self.new under.new (K.written sink.new) (P.given packets.new)
             (sight_of T.kind_of T.state_of watch.new))) }
-        ensures err { OnErr result (StopsAmid C.Scheduler (C.policy self.old.scheduler) (λ l s. step_events (step_of step) l.packets s)
-            (P.left packets.old source.old)
+        ensures err { OnErr result (StopsAmid C.Scheduler W.Recorder (C.policy self.old.scheduler)
+            (λ l s. step_events (step_of step) l.packets s) (P.left packets.old source.old)
             (stage_of self.old under.old (K.written sink.old) (P.given packets.old)
             (sight_of T.kind_of T.state_of watch.old)) self.new.scheduler under.new (K.written sink.new)) }
         ensures kept { Continues C.Scheduler self.old self.new }
@@ -89,7 +90,7 @@ impl<'a, C: Scheduler + Drop, N: NodeNames> Run<'a, C, N> {
         ensures further { IfOk result (λ e. IfNone e (
             IsFurther P.Packets packets.old packets.new source.new self.old.tally self.new.tally)) }
         ensures came { self.new.tally.came ≤ most_packets }
-        ensures live { OnOk result (IsTrue self.new.report.live) }
+        ensures live { OnOk result (W.live self.new.recorder) }
     {
         match step {
             Step::Arrive(count) => self.arrive_some(under, sink, watch, packets, source, count),

@@ -1,4 +1,4 @@
-//! The events of a run so far, and the numbers of its last line.
+//! The events of a run so far, and its numbers.
 ghost use Rattle.std.specs.Prelude.{◌≡◌, ◌≤◌, ◌<◌, ◌+◌, ◌^◌};
 ghost use Rattle.sched_run.specs.Stages.{event_of, drops_of, IsFresh};
 ghost use Rattle.sched_run.specs.Totals.{HasTotals, AreTotals};
@@ -16,16 +16,16 @@ pub(crate) struct Tally {
     pub(crate) asked: u64,
 }
 
-/// The numbers of the last line.
+/// The numbers of a run.
 #[derive(Clone, Copy, Debug)]
-pub(crate) struct Totals {
-    pub(crate) pushed: u64,
-    pub(crate) popped: u64,
+pub struct Totals {
+    pub pushed: u64,
+    pub popped: u64,
     /// How many departures were made of nothing.
-    pub(crate) empty: u64,
-    pub(crate) held: u64,
+    pub empty: u64,
+    pub held: u64,
     /// How many packets were dropped, where that is shown.
-    pub(crate) dropped: Option<u64>,
+    pub dropped: Option<u64>,
 }
 
 impl Tally {
@@ -63,7 +63,7 @@ impl Tally {
         }
     }
 
-    /// The numbers of the last line, where so many packets were held at first and so many are now.
+    /// The numbers of the run, where so many packets were held at first and so many are now.
     pub(crate) fn totals(self, first: u64, held: u64, version: u32) -> Totals
         requires { HasTotals self first held }
         ensures { AreTotals self first held version result }

@@ -1,12 +1,10 @@
 use Rattle.std.proofs.Common.{◌<◌, ◌≤◌, List, ℕ, length, sym, subst, ap, ◌∙◌}
 use Rattle.std.proofs.lemmas.Result.{err_from_is_err_and}
-use Rattle.outside_core.specs.Written.{Appended}
-use Rattle.report_defs.specs.Text.{IsCut}
-use Rattle.report_core.specs.Gathered.{text_of}
 use Rattle.tree_defs.specs.Tree.{nodes}
 use Rattle.policy_defs.specs.Policy.{Policy}
 use Rattle.packet_defs.specs.declared.packet.Departed.{Departed}
-use Rattle.sched_run.proofs.LineLaws.{Left, left, ranks_left, line_left, named_leaf}
+use Rattle.sched_defs.specs.Events.{Outcome}
+use Rattle.sched_run.proofs.LineLaws.{Left, left, ranks_left, outcome_left, named_leaf}
 use Rattle.sched_run.proofs.lines.depart_at.Goals as goal
 
 pub name-leaf-requires : goal.name-leaf-requires
@@ -41,17 +39,17 @@ returns-in_err-departed-in-Some-clause-cut g c =
     let h : Left policy s c.in-Some.departed = left policy s c.in-Some.departed c.requires.accepted sound (c.in-Some.ensures.value s sound stood) in
     let named = named_leaf policy (g.N.NodeNames.policy c.args.names.now) h.leaver_is.digits c.in-Some.departed.leaf c.name-leaf.result.now c.requires.names h.leaf_is (ap (λ (z : Departed). z.leaf) h.told) c.name-leaf.ensures.name in
     let same = c.ranks.ensures.ranks ∙ ranks_left policy s c.in-Some.departed c.depart.new.trace h (c.in-Some.ensures.taken s sound stood) in
-    subst (λ (l : List ℕ). IsCut (text_of (g.K.Sink.written c.args.sink.now) c.args.report.now) l (g.K.Sink.written c.departed.new.sink))
-    (line_left policy s c.in-Some.departed c.args.departure.event c.name-leaf.result.now c.ranks.result.now c.args.departure.start h named same)
-    c.in_err-departed-in-Some.ensures.cut)
+    subst (λ (os : List Outcome). g.W.Recorder.cuts c.args.recorder.now (g.K.Sink.written c.args.sink.now) policy c.args.departure.event os (g.K.Sink.written c.departed.new.sink))
+    (outcome_left policy s c.in-Some.departed c.ranks.result.now c.args.departure.start h same)
+    (c.in_err-departed-in-Some.ensures.cut policy h.leaver_is.packet h.leaver_is.digits (sym h.told) named))
 
-pub returns-in_ok-departed-in-Some-clause-text : goal.returns-in_ok-departed-in-Some-clause-text
-returns-in_ok-departed-in-Some-clause-text g c =
+pub returns-in_ok-departed-in-Some-clause-recorded : goal.returns-in_ok-departed-in-Some-clause-recorded
+returns-in_ok-departed-in-Some-clause-recorded g c =
     let policy = g.C.Scheduler.policy c.args.scheduler.now in
     λ s sound stood.
     let h : Left policy s c.in-Some.departed = left policy s c.in-Some.departed c.requires.accepted sound (c.in-Some.ensures.value s sound stood) in
     let named = named_leaf policy (g.N.NodeNames.policy c.args.names.now) h.leaver_is.digits c.in-Some.departed.leaf c.name-leaf.result.now c.requires.names h.leaf_is (ap (λ (z : Departed). z.leaf) h.told) c.name-leaf.ensures.name in
     let same = c.ranks.ensures.ranks ∙ ranks_left policy s c.in-Some.departed c.depart.new.trace h (c.in-Some.ensures.taken s sound stood) in
-    subst (λ (l : List ℕ). Appended (text_of (g.K.Sink.written c.args.sink.now) c.args.report.now) (text_of (g.K.Sink.written c.departed.new.sink) c.departed.new.self) l)
-    (line_left policy s c.in-Some.departed c.args.departure.event c.name-leaf.result.now c.ranks.result.now c.args.departure.start h named same)
-    c.in_ok-departed-in-Some.ensures.ok
+    subst (λ (os : List Outcome). g.W.Recorder.records c.args.recorder.now (g.K.Sink.written c.args.sink.now) policy c.args.departure.event os c.departed.new.self (g.K.Sink.written c.departed.new.sink))
+    (outcome_left policy s c.in-Some.departed c.ranks.result.now c.args.departure.start h same)
+    (c.in_ok-departed-in-Some.ensures.ok policy h.leaver_is.packet h.leaver_is.digits (sym h.told) named)

@@ -1,14 +1,11 @@
 use Rattle.std.proofs.Common.{◌≡◌, ◌<◌, ◌≤◌, List, ℕ, [], ◌∷◌, length, sym, subst, ◌∙◌, arith}
 use Rattle.std.proofs.lemmas.Result.{err_from_is_err_and}
-use Rattle.outside_core.specs.Written.{Appended}
-use Rattle.report_defs.specs.Text.{IsCut}
-use Rattle.report_core.specs.Gathered.{text_of}
 use Rattle.tree_defs.specs.Tree.{nodes}
 use Rattle.policy_defs.specs.Policy.{Policy}
 use Rattle.sched_defs.specs.SourceState.{class_of}
-use Rattle.sched_defs.specs.Events.{Arrive}
-use Rattle.sched_run.proofs.JoinedEvents.{cut_unwritten, made_arrival, made_all, made_some_none}
-use Rattle.sched_run.proofs.LineLaws.{arrives, arrival_few, named_leaf, answer_pushed, answer_dropped, lines_pushed, lines_dropped}
+use Rattle.sched_defs.specs.Events.{Arrive, Outcome}
+use Rattle.sched_run.proofs.JoinedEvents.{cut_none, made_arrival, made_all, made_some_none}
+use Rattle.sched_run.proofs.LineLaws.{arrives, arrival_few, named_leaf, answer_pushed, answer_dropped, outcome_pushed, outcome_dropped}
 use Rattle.sched_run.proofs.run.Run.arrive_line.Goals as goal
 
 pub returns-in_err-arrival-clause-err : goal.returns-in_err-arrival-clause-err
@@ -19,7 +16,7 @@ returns-in_err-arrival-clause-err g c =
     rw (p.1) (λ s sound stood. record {
       leaves = made_some_none S (S.policy c.args.self.now.scheduler) (Arrive c.args.packet.now ∷ []) s (c.in_err-arrival.ensures.err s sound stood)
           pushes c.in_err-arrival.ensures.departures c.in_err-arrival.ensures.origin c.in_err-arrival.ensures.spilled_stays;
-      lines = cut_unwritten (g.K.Sink.written c.args.sink.now) c.args.self.now.report.unwritten _;
+      cut = cut_none S g.W.Recorder g.met.W.Recorder.joined (S.policy c.args.self.now.scheduler) c.args.event (Arrive c.args.packet.now ∷ []) s c.args.self.now.recorder (g.K.Sink.written c.args.sink.now);
     })
 
 pub name-name-requires : goal.name-name-requires
@@ -80,9 +77,9 @@ returns-in_err-arrived-in-Pushed-clause-err g c =
     let a = answer_pushed policy c.args.packet.now s c.in-Pushed.leaf (rw c.in-Pushed.is at (e.answer s sound stood)) in
     record {
       leaves = made_all g.C.Scheduler policy (Arrive c.args.packet.now ∷ []) (made_arrival g.C.Scheduler policy c.in_ok-arrival.arrival (e.answer s sound stood) (e.ok s sound stood) e.pushes e.departures e.origin (e.spilled s sound stood));
-      lines = subst (λ (l : List ℕ). IsCut (text_of (g.K.Sink.written c.args.sink.now) c.args.self.now.report) l (g.K.Sink.written c.arrived.new.sink))
-          (lines_pushed policy c.args.packet.now s c.args.event c.name-name.result.now c.ranks.result.now a.fullness named (c.ranks.ensures.ranks ∙ ranks s sound stood))
-          c.in_err-arrived-in-Pushed.ensures.cut;
+      cut = subst (λ (os : List Outcome). g.W.Recorder.cuts c.args.self.now.recorder (g.K.Sink.written c.args.sink.now) policy c.args.event os (g.K.Sink.written c.arrived.new.sink))
+          (outcome_pushed policy c.args.packet.now s c.ranks.result.now a.fullness (c.ranks.ensures.ranks ∙ ranks s sound stood))
+          (c.in_err-arrived-in-Pushed.ensures.cut policy (class_of policy c.args.packet.now).leaf named);
     })
 
 pub returns-in_ok-arrived-in-Pushed-clause-ok : goal.returns-in_ok-arrived-in-Pushed-clause-ok
@@ -98,9 +95,9 @@ returns-in_ok-arrived-in-Pushed-clause-ok g c =
     let a = answer_pushed policy c.args.packet.now s c.in-Pushed.leaf (rw c.in-Pushed.is at (e.answer s sound stood)) in
     record {
       leaves = made_arrival g.C.Scheduler policy c.in_ok-arrival.arrival (e.answer s sound stood) (e.ok s sound stood) e.pushes e.departures e.origin (e.spilled s sound stood);
-      lines = subst (λ (l : List ℕ). Appended (text_of (g.K.Sink.written c.args.sink.now) c.args.self.now.report) (text_of (g.K.Sink.written c.arrived.new.sink) c.arrived.new.self) l)
-          (lines_pushed policy c.args.packet.now s c.args.event c.name-name.result.now c.ranks.result.now a.fullness named (c.ranks.ensures.ranks ∙ ranks s sound stood))
-          c.in_ok-arrived-in-Pushed.ensures.ok;
+      recorded = subst (λ (os : List Outcome). g.W.Recorder.records c.args.self.now.recorder (g.K.Sink.written c.args.sink.now) policy c.args.event os c.arrived.new.self (g.K.Sink.written c.arrived.new.sink))
+          (outcome_pushed policy c.args.packet.now s c.ranks.result.now a.fullness (c.ranks.ensures.ranks ∙ ranks s sound stood))
+          (c.in_ok-arrived-in-Pushed.ensures.ok policy (class_of policy c.args.packet.now).leaf named);
     }
 
 pub returns-in_err-dropped-in-Dropped-clause-err : goal.returns-in_err-dropped-in-Dropped-clause-err
@@ -116,9 +113,9 @@ returns-in_err-dropped-in-Dropped-clause-err g c =
     let a = answer_dropped policy c.args.packet.now s c.in-Dropped.leaf (rw c.in-Dropped.is at (e.answer s sound stood)) in
     record {
       leaves = made_all g.C.Scheduler policy (Arrive c.args.packet.now ∷ []) (made_arrival g.C.Scheduler policy c.in_ok-arrival.arrival (e.answer s sound stood) (e.ok s sound stood) e.pushes e.departures e.origin (e.spilled s sound stood));
-      lines = subst (λ (l : List ℕ). IsCut (text_of (g.K.Sink.written c.args.sink.now) c.args.self.now.report) l (g.K.Sink.written c.dropped.new.sink))
-          (lines_dropped policy c.args.packet.now s c.args.event c.name-name-in-Dropped.result.now a.fullness named)
-          c.in_err-dropped-in-Dropped.ensures.cut;
+      cut = subst (λ (os : List Outcome). g.W.Recorder.cuts c.args.self.now.recorder (g.K.Sink.written c.args.sink.now) policy c.args.event os (g.K.Sink.written c.dropped.new.sink))
+          (outcome_dropped policy c.args.packet.now s a.fullness)
+          (c.in_err-dropped-in-Dropped.ensures.cut policy (class_of policy c.args.packet.now).leaf named);
     })
 
 pub returns-in_ok-dropped-in-Dropped-clause-ok : goal.returns-in_ok-dropped-in-Dropped-clause-ok
@@ -133,7 +130,7 @@ returns-in_ok-dropped-in-Dropped-clause-ok g c =
     let a = answer_dropped policy c.args.packet.now s c.in-Dropped.leaf (rw c.in-Dropped.is at (e.answer s sound stood)) in
     record {
       leaves = made_arrival g.C.Scheduler policy c.in_ok-arrival.arrival (e.answer s sound stood) (e.ok s sound stood) e.pushes e.departures e.origin (e.spilled s sound stood);
-      lines = subst (λ (l : List ℕ). Appended (text_of (g.K.Sink.written c.args.sink.now) c.args.self.now.report) (text_of (g.K.Sink.written c.dropped.new.sink) c.dropped.new.self) l)
-          (lines_dropped policy c.args.packet.now s c.args.event c.name-name-in-Dropped.result.now a.fullness named)
-          c.in_ok-dropped-in-Dropped.ensures.ok;
+      recorded = subst (λ (os : List Outcome). g.W.Recorder.records c.args.self.now.recorder (g.K.Sink.written c.args.sink.now) policy c.args.event os c.dropped.new.self (g.K.Sink.written c.dropped.new.sink))
+          (outcome_dropped policy c.args.packet.now s a.fullness)
+          (c.in_ok-dropped-in-Dropped.ensures.ok policy (class_of policy c.args.packet.now).leaf named);
     }

@@ -42,7 +42,7 @@ returns-in-Ok-None-clause-ok g c = record {
   packets = [];
   count = omega arith;
   came = (c.event.ensures, rw c.in-Ok-None.field-0-is at c.in-Ok-None.ensures.none, rw c.in-Ok-None.field-0-is at c.in-Ok-None.ensures.over);
-  made = makes_none g.C.Scheduler (g.C.Scheduler.policy c.args.self.now.scheduler) _ _ _ _ _ _ _;
+  made = makes_none g.C.Scheduler g.W.Recorder g.met.W.Recorder.joined (g.C.Scheduler.policy c.args.self.now.scheduler) _ _ _ _ _ _ _ _;
 }
 
 pub returns-in-Err-Fault-clause-ok : goal.returns-in-Err-Fault-clause-ok
@@ -50,7 +50,7 @@ returns-in-Err-Fault-clause-ok g c = record {
   packets = [];
   count = omega arith;
   came = rw c.in-Err-Fault.field-0-is at c.in-Err-Fault.ensures.fault;
-  made = makes_none g.C.Scheduler (g.C.Scheduler.policy c.args.self.now.scheduler) _ _ _ _ _ _ _;
+  made = makes_none g.C.Scheduler g.W.Recorder g.met.W.Recorder.joined (g.C.Scheduler.policy c.args.self.now.scheduler) _ _ _ _ _ _ _ _;
 }
 
 pub returns-in-Err-Source-clause-err : goal.returns-in-Err-Source-clause-err
@@ -58,7 +58,7 @@ returns-in-Err-Source-clause-err g c = record {
   packets = [];
   count = omega arith;
   first = none_first (g.P.Packets.left c.args.packets.now c.args.source.now);
-  stop = stops_none g.C.Scheduler (g.C.Scheduler.policy c.args.self.now.scheduler) _ _ _ c.args.self.now.report _ _ _;
+  stop = stops_none g.C.Scheduler g.W.Recorder g.met.W.Recorder.joined (g.C.Scheduler.policy c.args.self.now.scheduler) _ _ _ _ _ _ _;
 }
 
 pub returns-in-Err-Memory-clause-err : goal.returns-in-Err-Memory-clause-err
@@ -66,5 +66,5 @@ returns-in-Err-Memory-clause-err g c = record {
   packets = [];
   count = omega arith;
   first = none_first (g.P.Packets.left c.args.packets.now c.args.source.now);
-  stop = stops_none g.C.Scheduler (g.C.Scheduler.policy c.args.self.now.scheduler) _ _ _ c.args.self.now.report _ _ _;
+  stop = stops_none g.C.Scheduler g.W.Recorder g.met.W.Recorder.joined (g.C.Scheduler.policy c.args.self.now.scheduler) _ _ _ _ _ _ _;
 }

@@ -10,7 +10,7 @@ use Rattle.sched_run.proofs.run.Run.arrive_rest.Goals as goal
 
 pub loop-ending-init : goal.loop-ending-init
 loop-ending-init g c = record {
-  arrives = (0, arrives_none g.C.Scheduler (g.C.Scheduler.policy c.args.self.now.scheduler) _ _ _ _ _ _ _);
+  arrives = (0, arrives_none g.C.Scheduler g.W.Recorder g.met.W.Recorder.joined (g.C.Scheduler.policy c.args.self.now.scheduler) _ _ _ _ _ _ _ _);
   further = record { ready = c.requires.ready; given = refl; few = c.requires.counts.few };
   kept = record { policy = refl; origin = refl; names = refl; version = refl; room = refl };
   fewer = omega arith;
@@ -22,12 +22,12 @@ loop-ending-init g c = record {
 pub arrive_next-requires-clause-stands : goal.arrive_next-requires-clause-stands
 arrive_next-requires-clause-stands g c =
     let i = c.loop-ending.invariant in
-    rw i.kept.policy (one_after g.C.Scheduler (g.C.Scheduler.policy c.args.self.now.scheduler) c.requires.set.accepted (map Arrive i.arrives.1.packets) _ _ i.further.given i.arrives.1.made c.requires.stands)
+    rw i.kept.policy (one_after g.C.Scheduler g.W.Recorder g.met.W.Recorder.joined (g.C.Scheduler.policy c.args.self.now.scheduler) c.requires.set.accepted (map Arrive i.arrives.1.packets) _ _ i.further.given i.arrives.1.made c.requires.stands)
 
 pub arrive_next-requires-clause-counts : goal.arrive_next-requires-clause-counts
 arrive_next-requires-clause-counts g c =
     let i = c.loop-ending.invariant in
-    room_after g.C.Scheduler (g.C.Scheduler.policy c.args.self.now.scheduler) c.requires.set.accepted (map Arrive i.arrives.1.packets) _ _ i.further.given i.further.few
+    room_after g.C.Scheduler g.W.Recorder g.met.W.Recorder.joined (g.C.Scheduler.policy c.args.self.now.scheduler) c.requires.set.accepted (map Arrive i.arrives.1.packets) _ _ i.further.given i.further.few
     (omega (arith, c.requires.counts.few_asked, departures_in-arrivals i.arrives.1.packets)) i.arrives.1.made c.requires.stands c.requires.counts
 
 pub returns-in_err-ending-clause-err : goal.returns-in_err-ending-clause-err
@@ -38,7 +38,7 @@ returns-in_err-ending-clause-err g c =
     let i = c.loop-ending.invariant in
     let n = i.arrives.0 in
     let stop = rw i.kept.policy at c.in_err-ending.ensures.err in
-    rw (p.1) (rest_stops S policy (n + 1) _ _ _ _ _ (arrivals_stop S policy c.requires.set.accepted n (n + 1) _ _ _ _ _ _ _ (omega arith) i.further.given i.arrives.1 stop))
+    rw (p.1) (rest_stops S g.W.Recorder policy (n + 1) _ _ _ _ _ (arrivals_stop S g.W.Recorder g.met.W.Recorder.joined policy c.requires.set.accepted n (n + 1) _ _ _ _ _ _ _ (omega arith) i.further.given i.arrives.1 stop))
 
 pub returns-in-Some-clause-ok : goal.returns-in-Some-clause-ok
 returns-in-Some-clause-ok g c =
@@ -47,7 +47,7 @@ returns-in-Some-clause-ok g c =
     let i = c.loop-ending.invariant in
     let n = i.arrives.0 in
     let one = rw (i.kept.policy, c.in-Some.is) at c.in_ok-ending.ensures.ok in
-    rw c.at_fault.ensures (rest_done S policy (n + 1) c.in-Some.ending _ _ _ _ (arrives_end S policy c.requires.set.accepted n (n + 1) c.in-Some.ending _ _ _ _ _ _ (omega arith) i.further.given i.arrives.1 one))
+    rw c.at_fault.ensures (rest_done S g.W.Recorder policy (n + 1) c.in-Some.ending _ _ _ _ (arrives_end S g.W.Recorder g.met.W.Recorder.joined policy c.requires.set.accepted n (n + 1) c.in-Some.ending _ _ _ _ _ _ (omega arith) i.further.given i.arrives.1 one))
 
 pub loop-ending-preserved : goal.loop-ending-preserved
 loop-ending-preserved g c =
@@ -58,7 +58,7 @@ loop-ending-preserved g c =
     let one = rw (i.kept.policy, c.in_default.is) at e.ok in
     let further = rw c.in_default.is at e.further in
     record {
-      arrives = (i.arrives.0 + 1, arrives_more S policy c.requires.set.accepted i.arrives.0 _ _ _ _ _ _ i.further.given i.arrives.1 one);
+      arrives = (i.arrives.0 + 1, arrives_more S g.W.Recorder g.met.W.Recorder.joined policy c.requires.set.accepted i.arrives.0 _ _ _ _ _ _ i.further.given i.arrives.1 one);
       further = record { ready = further.ready; given = omega (arith, i.further.given, further.given); few = further.few };
       kept = continues_then S _ _ _ i.kept e.kept;
       fewer = omega (arith, i.fewer, e.fewer);

@@ -1,4 +1,4 @@
-use Rattle.std.proofs.Common.{IsTrue, None}
+use Rattle.std.proofs.Common.{None}
 use Rattle.outside_core.specs.Kept.{KeepsSink}
 use Rattle.tap_core.specs.Watching.{sight_of, AreNoMore}
 use Rattle.sched_run.specs.Stages.{stage_of}
@@ -13,7 +13,7 @@ invariant-loop-sent g l =
     let written = g.K.Sink.written in
     let sight = sight_of g.T.Tap.kind_of g.T.Tap.state_of in
     record {
-      arrives : Arrives S (S.policy l.fn.self.scheduler) l._sent None (P.left l.fn.packets l.fn.source) (P.left l.packets l.source)
+      arrives : Arrives S g.W.Recorder (S.policy l.fn.self.scheduler) l._sent None (P.left l.fn.packets l.fn.source) (P.left l.packets l.source)
           (stage_of l.fn.self l.fn.under (written l.fn.sink) (P.given l.fn.packets) (sight l.fn.watch))
           (stage_of l.self l.under (written l.sink) (P.given l.packets) (sight l.watch));
       further : IsFurther P l.fn.packets l.packets l.source l.fn.self.tally l.self.tally;
@@ -21,5 +21,5 @@ invariant-loop-sent g l =
       fewer : AreNoMore (sight l.fn.watch) (sight l.watch);
       kept_sink : KeepsSink written g.K.Sink.faults l.fn.sink l.sink;
       kept_packets : KeepsPackets P l.fn.packets l.packets l.fn.source l.source;
-      live : IsTrue l.self.report.live;
+      live : g.W.Recorder.live l.self.recorder;
     }

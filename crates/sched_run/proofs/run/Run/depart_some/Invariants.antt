@@ -1,4 +1,4 @@
-use Rattle.std.proofs.Common.{◌≡◌, ◌+◌, ℕ, None, IsTrue, replicate}
+use Rattle.std.proofs.Common.{◌≡◌, ◌+◌, ℕ, None, replicate}
 use Rattle.outside_core.specs.Kept.{KeepsSink}
 use Rattle.sched_defs.specs.Events.{Depart}
 use Rattle.tap_core.specs.Watching.{sight_of, AreNoMore}
@@ -12,12 +12,12 @@ invariant-loop-made g l =
     let written = g.K.Sink.written in
     let sight = sight_of g.T.Tap.kind_of g.T.Tap.state_of in
     record {
-      makes : (given : ℕ) → Makes S (S.policy l.fn.self.scheduler) (replicate l._made (Depart None))
+      makes : (given : ℕ) → Makes S g.W.Recorder (S.policy l.fn.self.scheduler) (replicate l._made (Depart None))
           (stage_of l.fn.self l.fn.under (written l.fn.sink) given (sight l.fn.watch)) (stage_of l.self l.under (written l.sink) given (sight l.watch));
       came : l.self.tally.came ≡ l.fn.self.tally.came;
       asked : l.self.tally.asked ≡ l.fn.self.tally.asked + l._made;
       kept : Continues S l.fn.self l.self;
       fewer : AreNoMore (sight l.fn.watch) (sight l.watch);
       kept_sink : KeepsSink written g.K.Sink.faults l.fn.sink l.sink;
-      live : IsTrue l.self.report.live;
+      live : g.W.Recorder.live l.self.recorder;
     }

@@ -12,7 +12,7 @@ loop-packet-init g c =
     let S = g.C.Scheduler in
     let policy = S.policy c.args.self.now.scheduler in
     record {
-      run = link_begins S policy c.args.rate c.new-link.result c.new-link.ensures _ _ _ _ _ _ _;
+      run = link_begins S g.W.Recorder g.met.W.Recorder.joined policy c.args.rate c.new-link.result c.new-link.ensures _ _ _ _ _ _ _ _;
       early = omega (arith, c.new-link.ensures);
       further = record { ready = c.requires.ready; given = refl; few = c.requires.counts.few };
       kept = record { policy = refl; origin = refl; names = refl; version = refl; room = refl };
@@ -27,7 +27,7 @@ arrive_paced-requires-clause-stands g c =
     let S = g.C.Scheduler in
     let i = c.loop-packet.invariant in
     let number = rw c.in-Ok-Some.field-0-is at c.in-Ok-Some.ensures.number in
-    let ready = run_ready S (S.policy c.args.self.now.scheduler) c.requires.set.accepted _ _ _ _ _ _ _ _ i.further.given i.further.few c.requires.fresh (omega arith) c.requires.stands i.run in
+    let ready = run_ready S g.W.Recorder g.met.W.Recorder.joined (S.policy c.args.self.now.scheduler) c.requires.set.accepted _ _ _ _ _ _ _ _ i.further.given i.further.few c.requires.fresh (omega arith) c.requires.stands i.run in
     rw i.kept.policy (record {
       state = ready.state;
       sound = ready.sound;
@@ -39,21 +39,21 @@ pub arrive_paced-requires-clause-counts : goal.arrive_paced-requires-clause-coun
 arrive_paced-requires-clause-counts g c =
     let S = g.C.Scheduler in
     let i = c.loop-packet.invariant in
-    let room = run_room S (S.policy c.args.self.now.scheduler) c.requires.set.accepted _ _ _ _ _ _ _ _ i.further.given i.further.few c.requires.fresh (omega arith) c.requires.stands i.run c.requires.counts in
+    let room = run_room S g.W.Recorder g.met.W.Recorder.joined (S.policy c.args.self.now.scheduler) c.requires.set.accepted _ _ _ _ _ _ _ _ i.further.given i.further.few c.requires.fresh (omega arith) c.requires.stands i.run c.requires.counts in
     record { departures_fit = room.departures_fit; few_asked = room.few_asked; few_came = omega (arith, room.came, room.few) }
 
 pub arrive_paced-requires-clause-few : goal.arrive_paced-requires-clause-few
 arrive_paced-requires-clause-few g c =
     let S = g.C.Scheduler in
     let i = c.loop-packet.invariant in
-    let room = run_room S (S.policy c.args.self.now.scheduler) c.requires.set.accepted _ _ _ _ _ _ _ _ i.further.given i.further.few c.requires.fresh (omega arith) c.requires.stands i.run c.requires.counts in
+    let room = run_room S g.W.Recorder g.met.W.Recorder.joined (S.policy c.args.self.now.scheduler) c.requires.set.accepted _ _ _ _ _ _ _ _ i.further.given i.further.few c.requires.fresh (omega arith) c.requires.stands i.run c.requires.counts in
     omega (arith, room.pushes_fit, room.came, room.few)
 
 pub arrive_paced-requires-clause-dropped : goal.arrive_paced-requires-clause-dropped
 arrive_paced-requires-clause-dropped g c =
     let S = g.C.Scheduler in
     let i = c.loop-packet.invariant in
-    (run_room S (S.policy c.args.self.now.scheduler) c.requires.set.accepted _ _ _ _ _ _ _ _ i.further.given i.further.few c.requires.fresh (omega arith) c.requires.stands i.run c.requires.counts).dropped
+    (run_room S g.W.Recorder g.met.W.Recorder.joined (S.policy c.args.self.now.scheduler) c.requires.set.accepted _ _ _ _ _ _ _ _ i.further.given i.further.few c.requires.fresh (omega arith) c.requires.stands i.run c.requires.counts).dropped
 
 pub loop-packet-preserved : goal.loop-packet-preserved
 loop-packet-preserved g c =
@@ -67,8 +67,8 @@ loop-packet-preserved g c =
     let came = rw c.in-Ok-Some.field-0-is at n.came in
     let sends = rw i.kept.policy at e.ok in
     record {
-      run = run_goes S policy c.requires.set.accepted _ _ _ _ _ _ _ _ i.further.given i.run _ _ _ _
-          (link_goes S policy c.args.rate c.loop-packet.link c.in-Ok-Some.packet c.arrive_paced.new.link _ _ _ _ came (same_sends S policy _ _ _ _ _ _ _ _ _ _ (sym given) (sends _ number)));
+      run = run_goes S g.W.Recorder g.met.W.Recorder.joined policy c.requires.set.accepted _ _ _ _ _ _ _ _ i.further.given i.run _ _ _ _
+          (link_goes S g.W.Recorder policy c.args.rate c.loop-packet.link c.in-Ok-Some.packet c.arrive_paced.new.link _ _ _ _ came (same_sends S g.W.Recorder policy _ _ _ _ _ _ _ _ _ _ _ (sym given) (sends _ number)));
       early = e.early;
       further = record { ready = n.ready; given = omega (arith, i.further.given, given, e.came); few = n.few };
       kept = continues_then S _ _ _ i.kept e.kept;
@@ -87,21 +87,21 @@ returns-in_err-arrive_paced-in-Ok-Some-clause-err g c =
     let number = rw c.in-Ok-Some.field-0-is at c.in-Ok-Some.ensures.number in
     let came = rw c.in-Ok-Some.field-0-is at c.in-Ok-Some.ensures.came in
     let amid = rw i.kept.policy at c.in_err-arrive_paced-in-Ok-Some.ensures.err in
-    rw (p.1) (run_stops S policy c.requires.set.accepted _ _ _ _ _ _ _ _ i.further.given i.run _ _ _
-    (link_stops S policy c.args.rate c.loop-packet.link c.in-Ok-Some.packet _ _ _ _ _ _ came (amid _ number)))
+    rw (p.1) (run_stops S g.W.Recorder g.met.W.Recorder.joined policy c.requires.set.accepted _ _ _ _ _ _ _ _ i.further.given i.run _ _ _
+    (link_stops S g.W.Recorder policy c.args.rate c.loop-packet.link c.in-Ok-Some.packet _ _ _ _ _ _ came (amid _ number)))
 
 pub send_until-requires-clause-stands : goal.send_until-requires-clause-stands
 send_until-requires-clause-stands g c =
     let S = g.C.Scheduler in
     let i = c.loop-packet.invariant in
-    let ready = run_ready S (S.policy c.args.self.now.scheduler) c.requires.set.accepted _ _ _ _ _ _ _ _ i.further.given i.further.few c.requires.fresh (omega arith) c.requires.stands i.run in
+    let ready = run_ready S g.W.Recorder g.met.W.Recorder.joined (S.policy c.args.self.now.scheduler) c.requires.set.accepted _ _ _ _ _ _ _ _ i.further.given i.further.few c.requires.fresh (omega arith) c.requires.stands i.run in
     rw i.kept.policy (record { state = ready.state; sound = ready.sound; stood = ready.stood; has = record { number = _; below = ready.has.held; few = ready.has.few } })
 
 pub send_until-requires-clause-counts : goal.send_until-requires-clause-counts
 send_until-requires-clause-counts g c =
     let S = g.C.Scheduler in
     let i = c.loop-packet.invariant in
-    let room = run_room S (S.policy c.args.self.now.scheduler) c.requires.set.accepted _ _ _ _ _ _ _ _ i.further.given i.further.few c.requires.fresh (omega arith) c.requires.stands i.run c.requires.counts in
+    let room = run_room S g.W.Recorder g.met.W.Recorder.joined (S.policy c.args.self.now.scheduler) c.requires.set.accepted _ _ _ _ _ _ _ _ i.further.given i.further.few c.requires.fresh (omega arith) c.requires.stands i.run c.requires.counts in
     record { departures_fit = room.departures_fit; few_asked = room.few_asked; few_came = omega (arith, room.came, room.few) }
 
 pub returns-in_err-send_until-in-Ok-None-clause-err : goal.returns-in_err-send_until-in-Ok-None-clause-err
@@ -113,8 +113,8 @@ returns-in_err-send_until-in-Ok-None-clause-err g c =
     let none = rw c.in-Ok-None.field-0-is at c.in-Ok-None.ensures.none in
     let over = rw c.in-Ok-None.field-0-is at c.in-Ok-None.ensures.over in
     let amid = rw i.kept.policy at c.in_err-send_until-in-Ok-None.ensures.err in
-    rw (p.1) (run_stops S policy c.requires.set.accepted _ _ _ _ _ _ _ _ i.further.given i.run _ _ _
-    (link_drain_stops S policy c.args.rate c.loop-packet.link _ _ _ _ _ _ none over (amid _)))
+    rw (p.1) (run_stops S g.W.Recorder g.met.W.Recorder.joined policy c.requires.set.accepted _ _ _ _ _ _ _ _ i.further.given i.run _ _ _
+    (link_drain_stops S g.W.Recorder policy c.args.rate c.loop-packet.link _ _ _ _ _ _ none over (amid _)))
 
 pub returns-in-Ok-None-clause-ok : goal.returns-in-Ok-None-clause-ok
 returns-in-Ok-None-clause-ok g c =
@@ -125,13 +125,13 @@ returns-in-Ok-None-clause-ok g c =
     let over = rw c.in-Ok-None.field-0-is at c.in-Ok-None.ensures.over in
     let given : g.P.Packets.given c.next.new.self ≡ g.P.Packets.given c.loop-packet.packets = (let e = rw c.in-Ok-None.field-0-is at c.in-Ok-None.ensures.given in omega (arith, e)) in
     let sends = rw i.kept.policy at c.in_ok-send_until-in-Ok-None.ensures.ok in
-    run_ends S policy c.requires.set.accepted _ _ _ _ _ _ _ _ i.further.given i.run _ _
-    (link_drains S policy c.args.rate c.loop-packet.link c.send_until.new.link _ _ _ _ none over (same_sends S policy _ _ _ _ _ _ _ _ _ _ (sym given) (sends _)))
+    run_ends S g.W.Recorder g.met.W.Recorder.joined policy c.requires.set.accepted _ _ _ _ _ _ _ _ i.further.given i.run _ _
+    (link_drains S g.W.Recorder policy c.args.rate c.loop-packet.link c.send_until.new.link _ _ _ _ none over (same_sends S g.W.Recorder policy _ _ _ _ _ _ _ _ _ _ _ (sym given) (sends _)))
 
 pub returns-in-Err-Source-clause-err : goal.returns-in-Err-Source-clause-err
 returns-in-Err-Source-clause-err g c =
-    run_halts g.C.Scheduler (g.C.Scheduler.policy c.args.self.now.scheduler) _ _ _ _ _ _ _ _ _ _ c.loop-packet.self.report _ _ _ c.loop-packet.invariant.run
+    run_halts g.C.Scheduler g.W.Recorder g.met.W.Recorder.joined (g.C.Scheduler.policy c.args.self.now.scheduler) _ _ _ _ _ _ _ _ _ c.loop-packet.self.recorder _ _ _ _ c.loop-packet.invariant.run
 
 pub returns-in-Err-Memory-clause-err : goal.returns-in-Err-Memory-clause-err
 returns-in-Err-Memory-clause-err g c =
-    run_halts g.C.Scheduler (g.C.Scheduler.policy c.args.self.now.scheduler) _ _ _ _ _ _ _ _ _ _ c.loop-packet.self.report _ _ _ c.loop-packet.invariant.run
+    run_halts g.C.Scheduler g.W.Recorder g.met.W.Recorder.joined (g.C.Scheduler.policy c.args.self.now.scheduler) _ _ _ _ _ _ _ _ _ c.loop-packet.self.recorder _ _ _ _ c.loop-packet.invariant.run

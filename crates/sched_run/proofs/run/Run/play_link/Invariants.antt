@@ -1,4 +1,4 @@
-use Rattle.std.proofs.Common.{◌-◌, IsTrue}
+use Rattle.std.proofs.Common.{◌-◌}
 use Rattle.outside_core.specs.Kept.{KeepsSink}
 use Rattle.sched_run.specs.Courses.{link_agenda}
 use Rattle.sched_run.specs.Frames.{Continues, KeepsPackets, IsFurther}
@@ -15,7 +15,7 @@ invariant-loop-packet g l =
     let written = g.K.Sink.written in
     let sight = sight_of g.T.Tap.kind_of g.T.Tap.state_of in
     record {
-      run : HasRun S (S.policy l.fn.self.scheduler) (link_agenda (S.policy l.fn.self.scheduler) l.rate 0) (link_agenda (S.policy l.fn.self.scheduler) l.rate l.link) 0 0
+      run : HasRun S g.W.Recorder (S.policy l.fn.self.scheduler) (link_agenda (S.policy l.fn.self.scheduler) l.rate 0) (link_agenda (S.policy l.fn.self.scheduler) l.rate l.link) 0 0
           (P.left l.fn.packets l.fn.source) (P.left l.packets l.source)
           (stage_of l.fn.self l.fn.under (written l.fn.sink) (P.given l.fn.packets) (sight l.fn.watch))
           (stage_of l.self l.under (written l.sink) (P.given l.packets) (sight l.watch));
@@ -25,7 +25,7 @@ invariant-loop-packet g l =
       fewer : AreNoMore (sight l.fn.watch) (sight l.watch);
       kept_sink : KeepsSink written g.K.Sink.faults l.fn.sink l.sink;
       kept_packets : KeepsPackets P l.fn.packets l.packets l.fn.source l.source;
-      live : IsTrue l.self.report.live;
+      live : g.W.Recorder.live l.self.recorder;
     }
 
 abbrev pub decreases-loop-packet : goal.decreases-loop-packet

@@ -1,4 +1,4 @@
-use Rattle.std.proofs.Common.{IsTrue, drop}
+use Rattle.std.proofs.Common.{drop}
 use Rattle.outside_core.specs.Kept.{KeepsSink}
 use Rattle.events_core.specs.Steps.{counts_of}
 use Rattle.tap_core.specs.Watching.{sight_of, AreNoMore}
@@ -15,7 +15,7 @@ invariant-loop-step g l =
     let written = g.K.Sink.written in
     let sight = sight_of g.T.Tap.kind_of g.T.Tap.state_of in
     record {
-      run : HasRun S (S.policy l.fn.self.scheduler) (script_agenda (S.policy l.fn.self.scheduler) l.steps) (script_agenda (S.policy l.fn.self.scheduler) (drop l.step-index l.steps))
+      run : HasRun S g.W.Recorder (S.policy l.fn.self.scheduler) (script_agenda (S.policy l.fn.self.scheduler) l.steps) (script_agenda (S.policy l.fn.self.scheduler) (drop l.step-index l.steps))
           (counts_of l.steps) (counts_of (drop l.step-index l.steps)) (P.left l.fn.packets l.fn.source) (P.left l.packets l.source)
           (stage_of l.fn.self l.fn.under (written l.fn.sink) (P.given l.fn.packets) (sight l.fn.watch))
           (stage_of l.self l.under (written l.sink) (P.given l.packets) (sight l.watch));
@@ -24,5 +24,5 @@ invariant-loop-step g l =
       fewer : AreNoMore (sight l.fn.watch) (sight l.watch);
       kept_sink : KeepsSink written g.K.Sink.faults l.fn.sink l.sink;
       kept_packets : KeepsPackets P l.fn.packets l.packets l.fn.source l.source;
-      live : IsTrue l.self.report.live;
+      live : g.W.Recorder.live l.self.recorder;
     }

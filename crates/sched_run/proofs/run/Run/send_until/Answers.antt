@@ -8,7 +8,7 @@ use Rattle.sched_run.proofs.run.Run.send_until.Goals as goal
 
 pub loop-sent-init : goal.loop-sent-init
 loop-sent-init g c = record {
-  sends = λ given. sends_none g.C.Scheduler (g.C.Scheduler.policy c.args.self.now.scheduler) c.requires.set.accepted c.args.rate c.args.until _ _ _ (c.held-held.ensures c.args.under.now);
+  sends = λ given. sends_none g.C.Scheduler g.W.Recorder g.met.W.Recorder.joined (g.C.Scheduler.policy c.args.self.now.scheduler) c.requires.set.accepted c.args.rate c.args.until _ _ _ (c.held-held.ensures c.args.under.now);
   came = refl;
   dropped = refl;
   asked = omega arith;
@@ -23,20 +23,20 @@ pub returns-then-not-is_due-clause-ok : goal.returns-then-not-is_due-clause-ok
 returns-then-not-is_due-clause-ok g c =
     let i = c.loop-sent.invariant in
     let due = sym c.is_due.ensures ∙ c.if-not-is_due.true in
-    λ given. sends_waits g.C.Scheduler (g.C.Scheduler.policy c.args.self.now.scheduler) c.requires.set.accepted c.args.rate c.args.until _ _ _ (c.held-held.ensures c.args.under.now) _ _ _ refl i.came (i.sends given) due
+    λ given. sends_waits g.C.Scheduler g.W.Recorder g.met.W.Recorder.joined (g.C.Scheduler.policy c.args.self.now.scheduler) c.requires.set.accepted c.args.rate c.args.until _ _ _ (c.held-held.ensures c.args.under.now) _ _ _ refl i.came (i.sends given) due
 
 pub depart_next-requires-clause-stands : goal.depart_next-requires-clause-stands
 depart_next-requires-clause-stands g c =
     let i = c.loop-sent.invariant in
     let one = c.requires.stands in
-    rw i.kept.policy (sends_stand g.C.Scheduler (g.C.Scheduler.policy c.args.self.now.scheduler) c.requires.set.accepted c.args.rate c.args.until _ _ _ (c.held-held.ensures c.args.under.now) _ _ _ refl i.came (i.sends one.has.number)
+    rw i.kept.policy (sends_stand g.C.Scheduler g.W.Recorder g.met.W.Recorder.joined (g.C.Scheduler.policy c.args.self.now.scheduler) c.requires.set.accepted c.args.rate c.args.until _ _ _ (c.held-held.ensures c.args.under.now) _ _ _ refl i.came (i.sends one.has.number)
     (record { state = one.state; sound = one.sound; stood = one.stood; has = held_more _ _ one.has.below }))
 
 pub depart_next-requires-clause-few : goal.depart_next-requires-clause-few
 depart_next-requires-clause-few g c =
     let i = c.loop-sent.invariant in
     let one = c.requires.stands in
-    let asked = sends_asked g.C.Scheduler (g.C.Scheduler.policy c.args.self.now.scheduler) c.requires.set.accepted c.args.rate c.args.until _ _ _ (c.held-held.ensures c.args.under.now) _ _ _ refl i.came (i.sends one.has.number)
+    let asked = sends_asked g.C.Scheduler g.W.Recorder g.met.W.Recorder.joined (g.C.Scheduler.policy c.args.self.now.scheduler) c.requires.set.accepted c.args.rate c.args.until _ _ _ (c.held-held.ensures c.args.under.now) _ _ _ refl i.came (i.sends one.has.number)
     (record { state = one.state; sound = one.sound; stood = one.stood; has = held_more _ _ one.has.below }) in
     omega (arith, asked, i.asked, c.loop-sent-test.true, c.held-held.ensures c.args.under.now one.state one.sound one.stood, one.has.few, c.requires.counts.departures_fit)
 
@@ -58,7 +58,7 @@ returns-in_err-departed-clause-err g c =
     let i = c.loop-sent.invariant in
     let due : true ≡ _ = sym c.if-not-is_due.false ∙ c.is_due.ensures in
     let stop = rw (i.kept.policy, c.free.ensures) at c.in_err-departed.ensures.err in
-    rw (p.1) (λ given. sends_stops g.C.Scheduler (g.C.Scheduler.policy c.args.self.now.scheduler) c.requires.set.accepted c.args.rate c.args.until _ _ _ (c.held-held.ensures c.args.under.now) _ _ _ refl i.came (i.sends given)
+    rw (p.1) (λ given. sends_stops g.C.Scheduler g.W.Recorder g.met.W.Recorder.joined (g.C.Scheduler.policy c.args.self.now.scheduler) c.requires.set.accepted c.args.rate c.args.until _ _ _ (c.held-held.ensures c.args.under.now) _ _ _ refl i.came (i.sends given)
     c.loop-sent-test.true (sym due) _ _ _ (stop given))
 
 pub loop-sent-preserved : goal.loop-sent-preserved
@@ -69,7 +69,7 @@ loop-sent-preserved g c =
     let made = rw (i.kept.policy, c.free.ensures) at e.ok in
     let value = rw i.kept.policy at e.value in
     record {
-      sends = λ given. sends_goes g.C.Scheduler (g.C.Scheduler.policy c.args.self.now.scheduler) c.requires.set.accepted c.args.rate c.args.until _ _ _ (c.held-held.ensures c.args.under.now) _ _ _ refl i.came (i.sends given)
+      sends = λ given. sends_goes g.C.Scheduler g.W.Recorder g.met.W.Recorder.joined (g.C.Scheduler.policy c.args.self.now.scheduler) c.requires.set.accepted c.args.rate c.args.until _ _ _ (c.held-held.ensures c.args.under.now) _ _ _ refl i.came (i.sends given)
           c.loop-sent-test.true (sym due) _ _ _ value c.take_time.ensures.time (made given);
       came = e.came ∙ i.came;
       dropped = e.dropped ∙ i.dropped;
@@ -84,7 +84,7 @@ loop-sent-preserved g c =
 pub returns-clause-ok : goal.returns-clause-ok
 returns-clause-ok g c =
     let i = c.loop-sent.invariant in
-    λ given. sends_over g.C.Scheduler (g.C.Scheduler.policy c.args.self.now.scheduler) c.requires.set.accepted c.args.rate c.args.until _ _ _ (c.held-held.ensures c.args.under.now) _ _ _ refl i.came (i.sends given) (omega arith)
+    λ given. sends_over g.C.Scheduler g.W.Recorder g.met.W.Recorder.joined (g.C.Scheduler.policy c.args.self.now.scheduler) c.requires.set.accepted c.args.rate c.args.until _ _ _ (c.held-held.ensures c.args.under.now) _ _ _ refl i.came (i.sends given) (omega arith)
 
 pub returns-clause-few : goal.returns-clause-few
 returns-clause-few g c =

@@ -1,0 +1,98 @@
+use Rattle.std.proofs.Common.{◌≡◌, ℕ, refl, sym, ap, ◌∙◌, subst, arith, add-one}
+use Rattle.std.proofs.lemmas.Result.{err_from_is_err_and}
+use Rattle.outside_core.proofs.KeptLaws.{sink-same, sink-then}
+use Rattle.sched_defs.specs.Numbered.{IsHeldBelow}
+use Rattle.sched_run.specs.declared.drawing.Drawing.{Drawing}
+use Rattle.sched_run.specs.Load.{load_events, load_next, first_drawing}
+use Rattle.sched_run.proofs.FrameLaws.{continues_then}
+use Rattle.sched_run.proofs.LoadLaws.{is_drawn, load_room, load_arrivals, load_arrivals-more, load_goes, load_stops}
+use Rattle.sched_run.proofs.MadeEvents.{makes_none}
+use Rattle.sched_run.proofs.PacketsInTurn.{one_after}
+use Rattle.sched_run.proofs.run.Run.play_drawings.Goals as goal
+
+pub loop-drawn-init : goal.loop-drawn-init
+loop-drawn-init g c =
+    let S = g.C.Scheduler in
+    let is = c.new-drawing.ensures in
+    record {
+      made = makes_none S g.W.Recorder g.met.W.Recorder.joined (S.policy c.args.self.now.scheduler) _ _ _ _ 0 0 _ _;
+      drawing = is;
+      number = ap (λ (d : Drawing). d.number) is;
+      moment = omega (arith, ap (λ (d : Drawing). d.moment) is);
+      kept = record { policy = refl; origin = refl; names = refl; version = refl; room = refl };
+      fewer = omega arith;
+      kept_sink = sink-same _ _ _;
+      live = c.requires.set.live;
+    }
+
+pub play_drawn-requires-clause-stands : goal.play_drawn-requires-clause-stands
+play_drawn-requires-clause-stands g c =
+    let S = g.C.Scheduler in
+    let i = c.loop-drawn.invariant in
+    let one = c.requires.stands in
+    let at = one_after S g.W.Recorder g.met.W.Recorder.joined (S.policy c.args.self.now.scheduler) c.requires.set.accepted (load_events c.loop-drawn._drawn (first_drawing c.args.seed)) _ _ (omega (arith, i.made.came)) i.made
+    (record { state = one.state; sound = one.sound; stood = one.stood; has = one.has.held }) in
+    rw i.kept.policy (record { state = at.state; sound = at.sound; stood = at.stood; has = subst (λ (n : ℕ). IsHeldBelow n at.state.held) (sym i.number) at.has })
+
+pub play_drawn-requires-clause-early : goal.play_drawn-requires-clause-early
+play_drawn-requires-clause-early g c = omega (arith, c.loop-drawn.invariant.moment, c.loop-drawn-test.true, c.requires.short)
+
+pub play_drawn-requires-clause-few : goal.play_drawn-requires-clause-few
+play_drawn-requires-clause-few g c =
+    omega (arith, c.loop-drawn.invariant.number, load_arrivals c.loop-drawn._drawn (first_drawing c.args.seed), c.loop-drawn-test.true, c.requires.short)
+
+pub play_drawn-requires-clause-pushes : goal.play_drawn-requires-clause-pushes
+play_drawn-requires-clause-pushes g c =
+    let S = g.C.Scheduler in
+    (load_room S g.W.Recorder g.met.W.Recorder.joined (S.policy c.args.self.now.scheduler) c.requires.set.accepted c.loop-drawn._drawn (first_drawing c.args.seed) _ _ (omega (arith, c.loop-drawn-test.true, c.requires.short)) c.requires.fresh c.requires.pushes c.requires.departures c.loop-drawn.invariant.made c.requires.stands).pushes_fit
+
+pub play_drawn-requires-clause-departures : goal.play_drawn-requires-clause-departures
+play_drawn-requires-clause-departures g c =
+    let S = g.C.Scheduler in
+    let room = load_room S g.W.Recorder g.met.W.Recorder.joined (S.policy c.args.self.now.scheduler) c.requires.set.accepted c.loop-drawn._drawn (first_drawing c.args.seed) _ _ (omega (arith, c.loop-drawn-test.true, c.requires.short)) c.requires.fresh c.requires.pushes c.requires.departures c.loop-drawn.invariant.made c.requires.stands in
+    omega (arith, room.departures_fit)
+
+pub play_drawn-requires-clause-events : goal.play_drawn-requires-clause-events
+play_drawn-requires-clause-events g c =
+    let S = g.C.Scheduler in
+    let room = load_room S g.W.Recorder g.met.W.Recorder.joined (S.policy c.args.self.now.scheduler) c.requires.set.accepted c.loop-drawn._drawn (first_drawing c.args.seed) _ _ (omega (arith, c.loop-drawn-test.true, c.requires.short)) c.requires.fresh c.requires.pushes c.requires.departures c.loop-drawn.invariant.made c.requires.stands in
+    omega (arith, room.events)
+
+pub play_drawn-requires-clause-dropped : goal.play_drawn-requires-clause-dropped
+play_drawn-requires-clause-dropped g c =
+    let S = g.C.Scheduler in
+    (load_room S g.W.Recorder g.met.W.Recorder.joined (S.policy c.args.self.now.scheduler) c.requires.set.accepted c.loop-drawn._drawn (first_drawing c.args.seed) _ _ (omega (arith, c.loop-drawn-test.true, c.requires.short)) c.requires.fresh c.requires.pushes c.requires.departures c.loop-drawn.invariant.made c.requires.stands).dropped
+
+pub returns-in_err-play_drawn-clause-err : goal.returns-in_err-play_drawn-clause-err
+returns-in_err-play_drawn-clause-err g c =
+    let p = err_from_is_err_and c.from_residual.result c.from_residual.ensures.1 in
+    let S = g.C.Scheduler in
+    let i = c.loop-drawn.invariant in
+    let stop = rw i.kept.policy at c.in_err-play_drawn.ensures.err in
+    rw (p.1) (load_stops S g.W.Recorder g.met.W.Recorder.joined (S.policy c.args.self.now.scheduler) c.requires.set.accepted c.loop-drawn._drawn c.args.count (first_drawing c.args.seed) c.loop-drawn.drawing _ _ _ _ _ c.loop-drawn-test.true c.requires.classes (omega (arith, c.requires.short)) refl i.drawing (omega arith) i.made
+    (stop _ i.number))
+
+pub loop-drawn-preserved : goal.loop-drawn-preserved
+loop-drawn-preserved g c =
+    let S = g.C.Scheduler in
+    let i = c.loop-drawn.invariant in
+    let e = c.in_ok-play_drawn.ensures in
+    let d = first_drawing c.args.seed in
+    let made = rw i.kept.policy at e.ok in
+    let one = is_drawn c.loop-drawn.drawing in
+    let next : c.play_drawn.new.drawing ≡ load_next c.loop-drawn.drawing = e.next in
+    record {
+      made = load_goes S g.W.Recorder g.met.W.Recorder.joined (S.policy c.args.self.now.scheduler) c.requires.set.accepted c.loop-drawn._drawn d c.loop-drawn.drawing _ _ _ _ _ _ _ _ _ _ i.drawing (omega arith) i.made (made _ i.number);
+      drawing = rw (add-one c.loop-drawn._drawn) (next ∙ ap (λ (x : Drawing). load_next x) i.drawing);
+      number = omega (arith, ap (λ (x : Drawing). x.number) next, one.number, i.number, load_arrivals-more c.loop-drawn._drawn d c.loop-drawn.drawing i.drawing);
+      moment = omega (arith, ap (λ (x : Drawing). x.moment) next, one.moment, i.moment);
+      kept = continues_then S _ _ _ i.kept e.kept;
+      fewer = omega (arith, i.fewer, e.fewer);
+      kept_sink = sink-then _ _ _ _ _ i.kept_sink e.kept_sink;
+      live = e.live;
+    }
+
+pub returns-clause-ok : goal.returns-clause-ok
+returns-clause-ok g c =
+    let all : c.args.count ≡ c.loop-drawn._drawn = omega arith in
+    rw all c.loop-drawn.invariant.made

@@ -1,0 +1,18 @@
+-- What each call of a generated load needs, and what it leaves.
+use Rattle.std.specs.Prelude.{◌≤◌, ℕ, Option, None, Some, length}
+use Rattle.packet_defs.specs.declared.packet.Packet.{Packet}
+use Rattle.policy_defs.specs.Policy.{Policy}
+use Rattle.sched_defs.specs.Events.{Event, Arrive, Depart}
+
+-- the event of a packet that was drawn, or of none
+abbrev pub event_by : Option Packet → Event
+event_by None = Depart None
+event_by (Some p) = Arrive p
+
+-- the most events that are drawn
+abbrev pub most_load : ℕ
+most_load = 1000000
+
+-- the policy has a class for each that is drawn
+abbrev pub HasLoadClasses : Policy → Type 0
+HasLoadClasses policy = 8 ≤ length policy.classes

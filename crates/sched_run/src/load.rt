@@ -1,0 +1,155 @@
+//! The events of a generated load.
+ghost use Rattle.std.specs.Prelude.{◌≡◌};
+
+use crate::drawing::Drawing;
+use crate::recorder::Recorder;
+use crate::run::Run;
+use crate::tally::{Tally, Totals};
+use outside_core::{Sink, Stop};
+use policy_defs::NodeNames;
+use sched_core::Scheduler;
+use tap_core::{Tap, Watching};
+
+/// The most events that are drawn for a load.
+pub const MOST_LOAD: u64 = 1_000_000;
+
+impl<'a, C: Scheduler + Drop, N: NodeNames, W: Recorder> Run<'a, C, N, W> {
+    ghost use Rattle.std.specs.Prelude.{◌≡◌, ◌≤◌, ◌<◌, ◌+◌, ◌^◌, ℕ, [], ◌∷◌, IfErr, IfOk, OnOk, OnErr};
+    ghost use Rattle.outside_core.specs.Kept.{KeepsSink, HasSinkCause};
+    ghost use Rattle.sched_defs.specs.Numbered.{IsHeldBelow};
+    ghost use Rattle.sched_core.specs.Standing.{ForEachState};
+    ghost use Rattle.sched_run.specs.Frames.{IsSet, Continues, Stand};
+    ghost use Rattle.sched_run.specs.Load.{first_drawing, load_event, load_events, load_next, load_run, MakesLoad};
+    ghost use Rattle.sched_run.specs.Drawings.{HasLoadClasses, most_load};
+    ghost use Rattle.sched_run.specs.Played.{StopsIn};
+    ghost use Rattle.sched_run.specs.Stages.{stage_of, arrivals_in, IsFresh, CanBegin, Makes, Stops};
+    ghost use Rattle.tap_core.specs.Watching.{sight_of, AreNoMore};
+
+    /// Makes the event that is drawn next, and records it.
+    fn play_drawn<K: Sink, T: Tap>(
+        &mut self,
+        under: &mut C::Under,
+        sink: &mut K,
+        watch: &mut Watching<T>,
+        drawing: &mut Drawing,
+    ) -> Result<(), Stop>
+        requires set { IsSet C.Scheduler W.Recorder N.policy self.old }
+        requires stands { Stand C.Scheduler self.old under.old (λ s. IsHeldBelow drawing.old.number s.held) }
+        requires classes { HasLoadClasses (C.policy self.old.scheduler) }
+        requires early { drawing.old.moment < 2 ^ 61 }
+        requires few { drawing.old.number < 2 ^ 61 }
+        requires pushes { C.pushes self.old.scheduler < 2 ^ 61 }
+        requires departures { C.departures self.old.scheduler < 2 ^ 61 }
+        requires events { self.old.tally.came + self.old.tally.asked < 2 ^ 62 }
+        requires dropped { self.old.tally.dropped ≤ self.old.tally.came }
+
+        ensures ok { OnOk result ((given : ℕ) → drawing.old.number ≡ given + 1 →
+            Makes C.Scheduler W.Recorder (C.policy self.old.scheduler) (load_event drawing.old ∷ [])
+            (stage_of self.old under.old (K.written sink.old) given (sight_of T.kind_of T.state_of watch.old))
+            (stage_of self.new under.new (K.written sink.new) (given + arrivals_in (load_event drawing.old ∷ []))
+            (sight_of T.kind_of T.state_of watch.new))) }
+        ensures err { OnErr result ((given : ℕ) → drawing.old.number ≡ given + 1 →
+            Stops C.Scheduler W.Recorder (C.policy self.old.scheduler) (load_event drawing.old ∷ [])
+            (stage_of self.old under.old (K.written sink.old) given
+            (sight_of T.kind_of T.state_of watch.old)) self.new.scheduler under.new (K.written sink.new)) }
+        ensures next { drawing.new ≡ load_next drawing.old }
+        ensures kept { Continues C.Scheduler self.old self.new }
+        ensures fewer { AreNoMore (sight_of T.kind_of T.state_of watch.old) (sight_of T.kind_of T.state_of watch.new) }
+        ensures kept_sink { KeepsSink K.written K.faults sink.old sink.new }
+        ensures cause { IfErr result (λ stop. HasSinkCause stop K.faults sink.old sink.new) }
+        ensures live { OnOk result (W.live self.new.recorder) }
+    {
+        match drawing.draw() {
+            Some(packet) => self.admit(under, sink, watch, &packet),
+            None => {
+                self.depart_next(under, sink, watch, None)?;
+                Ok(())
+            }
+        }
+    }
+
+    /// Makes so many events that are drawn from a seed, and records each.
+    fn play_drawings<K: Sink, T: Tap>(
+        &mut self,
+        under: &mut C::Under,
+        sink: &mut K,
+        watch: &mut Watching<T>,
+        seed: u64,
+        count: u64,
+    ) -> Result<(), Stop>
+        requires set { IsSet C.Scheduler W.Recorder N.policy self.old }
+        requires stands { Stand C.Scheduler self.old under.old (CanBegin 0) }
+        requires classes { HasLoadClasses (C.policy self.old.scheduler) }
+        requires pushes { C.pushes self.old.scheduler < 2 ^ 60 }
+        requires departures { C.departures self.old.scheduler < 2 ^ 60 }
+        requires fresh { IsFresh self.old.tally }
+        requires short { count ≤ most_load }
+
+        ensures ok { OnOk result (Makes C.Scheduler W.Recorder (C.policy self.old.scheduler) (load_events count (first_drawing seed))
+            (stage_of self.old under.old (K.written sink.old) 0 (sight_of T.kind_of T.state_of watch.old))
+            (stage_of self.new under.new (K.written sink.new) (arrivals_in (load_events count (first_drawing seed)))
+            (sight_of T.kind_of T.state_of watch.new))) }
+        ensures err { OnErr result (Stops C.Scheduler W.Recorder (C.policy self.old.scheduler) (load_events count (first_drawing seed))
+            (stage_of self.old under.old (K.written sink.old) 0
+            (sight_of T.kind_of T.state_of watch.old)) self.new.scheduler under.new (K.written sink.new)) }
+        ensures kept { Continues C.Scheduler self.old self.new }
+        ensures fewer { AreNoMore (sight_of T.kind_of T.state_of watch.old) (sight_of T.kind_of T.state_of watch.new) }
+        ensures kept_sink { KeepsSink K.written K.faults sink.old sink.new }
+        ensures cause { IfErr result (λ stop. HasSinkCause stop K.faults sink.old sink.new) }
+        ensures live { OnOk result (W.live self.new.recorder) }
+    {
+        let mut drawing = Drawing::new(seed);
+        for _drawn in 0..count {
+            self.play_drawn(under, sink, watch, &mut drawing)?;
+        }
+        Ok(())
+    }
+
+    /// Makes the events of a generated load: so many that are drawn from a seed, at most 1,000,000, and then departures until no
+    /// packet is held. Each is recorded, and shown to the taps that watch. The answer is their numbers.
+    pub fn play_load<K: Sink, T: Tap>(
+        &mut self,
+        under: &mut C::Under,
+        sink: &mut K,
+        watch: &mut Watching<T>,
+        seed: u64,
+        count: u64,
+    ) -> Result<Totals, Stop>
+        requires set { IsSet C.Scheduler W.Recorder N.policy self.old }
+        requires stands { Stand C.Scheduler self.old under.old (CanBegin 0) }
+        requires classes { HasLoadClasses (C.policy self.old.scheduler) }
+        requires pushes { C.pushes self.old.scheduler < 2 ^ 60 }
+        requires departures { C.departures self.old.scheduler < 2 ^ 60 }
+        requires short { count ≤ most_load }
+
+        ensures ok { IfOk result (λ t. ForEachState C.stands (C.policy self.old.scheduler) self.old.scheduler under.old (λ s.
+            IsHeldBelow 1 s.held →
+            MakesLoad C.Scheduler W.Recorder (C.policy self.old.scheduler) seed count s
+            self.old.scheduler under.old self.old.recorder (K.written sink.old)
+            self.new.scheduler under.new self.new.recorder (K.written sink.new) t)) }
+        ensures err { OnErr result (ForEachState C.stands (C.policy self.old.scheduler) self.old.scheduler under.old (λ s.
+            IsHeldBelow 1 s.held → StopsIn C.Scheduler W.Recorder (C.policy self.old.scheduler) 1
+            (load_run (C.policy self.old.scheduler) seed count s) s
+            self.old.scheduler under.old self.old.recorder (K.written sink.old) self.new.scheduler under.new (K.written sink.new))) }
+        ensures kept { Continues C.Scheduler self.old self.new }
+        ensures fewer { AreNoMore (sight_of T.kind_of T.state_of watch.old) (sight_of T.kind_of T.state_of watch.new) }
+        ensures kept_sink { KeepsSink K.written K.faults sink.old sink.new }
+        ensures cause { IfErr result (λ stop. HasSinkCause stop K.faults sink.old sink.new) }
+        ensures live { OnOk result (W.live self.new.recorder) }
+    {
+        let first = self.scheduler.held();
+        self.tally = Tally::new();
+        self.play_drawings(under, sink, watch, seed, count)?;
+        let waiting = self.scheduler.held();
+        self.depart_some(under, sink, watch, waiting)?;
+        let held = self.scheduler.held();
+        Ok(self.tally.totals(first, held, self.version))
+    }
+
+    /// What records the outcomes.
+    pub fn recorder(&self) -> &W
+        ensures { result.now ≡ self.now.recorder }
+    {
+        &self.recorder
+    }
+}

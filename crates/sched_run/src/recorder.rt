@@ -1,0 +1,108 @@
+//! The trait of what is told of the outcomes of a run.
+ghost use Rattle.std.specs.Prelude.{◌≡◌, ◌≤◌, ℕ, Option, List, [], ◌∷◌, length, OnOk, OnErr};
+ghost use Rattle.outside_core.specs.Faults.{Rose};
+ghost use Rattle.outside_core.specs.Kept.{KeepsSink};
+ghost use Rattle.tree_defs.specs.Tree.{Address};
+ghost use Rattle.packet_defs.specs.declared.packet.Packet.{Packet};
+ghost use Rattle.policy_defs.specs.Policy.{Policy, name_at};
+ghost use Rattle.sched_defs.specs.Events as events;
+ghost use Rattle.sched_defs.specs.Events.{Outcome};
+ghost use Rattle.sched_run.specs.Recording.{AreJoined};
+ghost use Rattle.sched_run.specs.Shown.{gone};
+
+use outside_core::Sink;
+use packet_defs::{Departed, Packet};
+use report_core::WriteFault;
+
+/// Records the outcomes of a run one by one, each with the number of its event: as lines of a report, as records of a capture,
+/// or in a sum. No call takes memory.
+pub trait Recorder: Drop {
+    /// Outcomes in a row are recorded, the first of which has this number.
+    ghost records: { Self → Option (List ℕ) → Policy → ℕ → List Outcome → Self → Option (List ℕ) → Type 0 };
+
+    /// Of what was recorded and of outcomes that were to follow a first part is written.
+    ghost cuts: { Self → Option (List ℕ) → Policy → ℕ → List Outcome → Option (List ℕ) → Type 0 };
+
+    /// No call failed so far.
+    ghost live: { Self → Type 0 };
+
+    /// Records a packet that arrived at a leaf of this name with these ranks from the root down.
+    fn arrived<K: Sink>(
+        &mut self,
+        sink: &mut K,
+        event: u64,
+        packet: &Packet,
+        leaf: &str,
+        ranks: &[u64],
+    ) -> Result<(), WriteFault>
+        requires live { live self.old }
+        requires leaf { length leaf.now ≤ 64 }
+        requires few { length ranks.now ≤ 65 }
+
+        ensures ok { OnOk result ((policy : Policy) (a : Address) → leaf.now ≡ name_at policy a →
+            records self.old (K.written sink.old) policy event (events.Arrived packet.now a ranks.now ∷ []) self.new (K.written sink.new)) }
+        ensures cut { OnErr result ((policy : Policy) (a : Address) → leaf.now ≡ name_at policy a →
+            cuts self.old (K.written sink.old) policy event (events.Arrived packet.now a ranks.now ∷ []) (K.written sink.new)) }
+        ensures kept { KeepsSink K.written K.faults sink.old sink.new }
+        ensures cause { OnErr result (Rose (K.faults sink.old) (K.faults sink.new)) }
+        ensures live { OnOk result (live self.new) };
+
+    /// Records a packet that was dropped at a leaf of this name.
+    fn dropped<K: Sink>(
+        &mut self,
+        sink: &mut K,
+        event: u64,
+        packet: &Packet,
+        leaf: &str,
+    ) -> Result<(), WriteFault>
+        requires live { live self.old }
+        requires leaf { length leaf.now ≤ 64 }
+
+        ensures ok { OnOk result ((policy : Policy) (a : Address) → leaf.now ≡ name_at policy a →
+            records self.old (K.written sink.old) policy event (events.Dropped packet.now a ∷ []) self.new (K.written sink.new)) }
+        ensures cut { OnErr result ((policy : Policy) (a : Address) → leaf.now ≡ name_at policy a →
+            cuts self.old (K.written sink.old) policy event (events.Dropped packet.now a ∷ []) (K.written sink.new)) }
+        ensures kept { KeepsSink K.written K.faults sink.old sink.new }
+        ensures cause { OnErr result (Rose (K.faults sink.old) (K.faults sink.new)) }
+        ensures live { OnOk result (live self.new) };
+
+    /// Records a packet that left from a leaf of this name, with the ranks taken from the root down, and with the moment at
+    /// which it starts, in nanoseconds, where a link says it.
+    fn departed<K: Sink>(
+        &mut self,
+        sink: &mut K,
+        event: u64,
+        departed: &Departed,
+        leaf: &str,
+        ranks: &[u64],
+        start: Option<u128>,
+    ) -> Result<(), WriteFault>
+        requires live { live self.old }
+        requires leaf { length leaf.now ≤ 64 }
+        requires few { length ranks.now ≤ 65 }
+
+        ensures ok { OnOk result ((policy : Policy) (p : Packet) (a : Address) →
+            departed.now ≡ gone policy p a → leaf.now ≡ name_at policy a →
+            records self.old (K.written sink.old) policy event (events.Departed p a ranks.now start ∷ []) self.new (K.written sink.new)) }
+        ensures cut { OnErr result ((policy : Policy) (p : Packet) (a : Address) →
+            departed.now ≡ gone policy p a → leaf.now ≡ name_at policy a →
+            cuts self.old (K.written sink.old) policy event (events.Departed p a ranks.now start ∷ []) (K.written sink.new)) }
+        ensures kept { KeepsSink K.written K.faults sink.old sink.new }
+        ensures cause { OnErr result (Rose (K.faults sink.old) (K.faults sink.new)) }
+        ensures live { OnOk result (live self.new) };
+
+    /// Records a departure of nothing.
+    fn empty<K: Sink>(&mut self, sink: &mut K, event: u64) -> Result<(), WriteFault>
+        requires live { live self.old }
+
+        ensures ok { OnOk result ((policy : Policy) →
+            records self.old (K.written sink.old) policy event (events.Empty ∷ []) self.new (K.written sink.new)) }
+        ensures cut { OnErr result ((policy : Policy) →
+            cuts self.old (K.written sink.old) policy event (events.Empty ∷ []) (K.written sink.new)) }
+        ensures kept { KeepsSink K.written K.faults sink.old sink.new }
+        ensures cause { OnErr result (Rose (K.faults sink.old) (K.faults sink.new)) }
+        ensures live { OnOk result (live self.new) };
+
+    /// Outcomes that are recorded in two calls are recorded as those of one.
+    ghost joined: { AreJoined records cuts };
+}

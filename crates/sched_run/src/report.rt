@@ -1,0 +1,55 @@
+//! A report records each outcome as a line.
+ghost use Rattle.std.specs.Prelude.{IsTrue};
+ghost use Rattle.sched_run.specs.Lines.{adds_lines, cuts_lines, lines_are_joined};
+
+use crate::recorder::Recorder;
+use outside_core::Sink;
+use packet_defs::{Departed, Packet};
+use report_core::{Report, WriteFault};
+
+impl Recorder for Report {
+    ghost records = { adds_lines };
+
+    ghost cuts = { cuts_lines };
+
+    ghost live = { λ report. IsTrue report.live };
+
+    fn arrived<K: Sink>(
+        &mut self,
+        sink: &mut K,
+        event: u64,
+        packet: &Packet,
+        leaf: &str,
+        ranks: &[u64],
+    ) -> Result<(), WriteFault> {
+        self.arrived(sink, event, packet.number, leaf, ranks)
+    }
+
+    fn dropped<K: Sink>(
+        &mut self,
+        sink: &mut K,
+        event: u64,
+        packet: &Packet,
+        leaf: &str,
+    ) -> Result<(), WriteFault> {
+        self.dropped(sink, event, packet.number, leaf)
+    }
+
+    fn departed<K: Sink>(
+        &mut self,
+        sink: &mut K,
+        event: u64,
+        departed: &Departed,
+        leaf: &str,
+        ranks: &[u64],
+        start: Option<u128>,
+    ) -> Result<(), WriteFault> {
+        self.departed(sink, event, departed.packet, leaf, ranks, start)
+    }
+
+    fn empty<K: Sink>(&mut self, sink: &mut K, event: u64) -> Result<(), WriteFault> {
+        self.empty(sink, event)
+    }
+
+    ghost joined = { lines_are_joined };
+}

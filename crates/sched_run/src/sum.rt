@@ -1,0 +1,88 @@
+//! A sum of the numbers of packets that left.
+ghost use Rattle.std.specs.Prelude.{◌≡◌, ⊤};
+ghost use Rattle.sched_run.specs.Sums.{AddsUp, StaysUnwritten, sums_are_joined};
+
+use crate::recorder::Recorder;
+use outside_core::Sink;
+use packet_defs::{Departed, Packet};
+use report_core::WriteFault;
+use std::marker::Model;
+
+/// Folds the numbers of the packets that left, in order, into one of 32 bits, which contracts see as this number: at each
+/// departure the sum becomes 31 times itself and the packet's number, modulo 2^32. Nothing is written.
+#[derive(Drop)]
+pub struct DepartureSum {
+    sum: u64,
+}
+
+impl Model for DepartureSum {
+    ghost use Rattle.std.specs.Prelude.{ℕ};
+
+    ghost Value = { ℕ };
+
+    ghost view = { λ s. s.sum };
+}
+
+impl DepartureSum {
+    /// The sum of no departure.
+    pub fn new() -> DepartureSum
+        ensures { result ≡ 0 }
+    {
+        DepartureSum { sum: 0 }
+    }
+
+    pub fn sum(&self) -> u64
+        ensures { result ≡ self.now }
+    {
+        self.sum
+    }
+}
+
+impl Recorder for DepartureSum {
+    ghost records = { AddsUp };
+
+    ghost cuts = { StaysUnwritten };
+
+    ghost live = { λ _. Unit {0} };
+
+    fn arrived<K: Sink>(
+        &mut self,
+        _sink: &mut K,
+        _event: u64,
+        _packet: &Packet,
+        _leaf: &str,
+        _ranks: &[u64],
+    ) -> Result<(), WriteFault> {
+        Ok(())
+    }
+
+    fn dropped<K: Sink>(
+        &mut self,
+        _sink: &mut K,
+        _event: u64,
+        _packet: &Packet,
+        _leaf: &str,
+    ) -> Result<(), WriteFault> {
+        Ok(())
+    }
+
+    fn departed<K: Sink>(
+        &mut self,
+        _sink: &mut K,
+        _event: u64,
+        departed: &Departed,
+        _leaf: &str,
+        _ranks: &[u64],
+        _start: Option<u128>,
+    ) -> Result<(), WriteFault> {
+        let sum = self.sum as u128 * 31 + departed.packet as u128;
+        self.sum = (sum % (1 << 32)) as u64;
+        Ok(())
+    }
+
+    fn empty<K: Sink>(&mut self, _sink: &mut K, _event: u64) -> Result<(), WriteFault> {
+        Ok(())
+    }
+
+    ghost joined = { sums_are_joined };
+}
