@@ -1,4 +1,5 @@
 pub mod FromStart
+pub mod LoadRuns
 pub mod Refusals
 pub mod FabricRuns
 pub mod EventTurns

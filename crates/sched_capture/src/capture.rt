@@ -12,7 +12,7 @@ ghost use Rattle.sched_capture.specs.Answers.{IsRefusal, IsPartOfEach, paced_ans
 use crate::course::run_over;
 use outside_core::{Shelf, Sink, Stop};
 use policy_core::Policy;
-use report_core::{FaultKind, write_fault};
+use report_core::{FaultKind, Report, write_fault};
 use sched_core::Direct;
 use sched_defs::{Ending, Halt};
 use sched_packets::Arrivals;
@@ -98,7 +98,14 @@ pub fn direct<S: Shelf, K: Sink>(
     let Ok((scheduler, mut tree)) = Direct::new(alloc, policy) else {
         return Err(Stop::Memory);
     };
-    let mut run = Run::new(alloc, policy, policy.depth(), policy.version(), scheduler)?;
+    let mut run = Run::new(
+        alloc,
+        policy,
+        policy.depth(),
+        policy.version(),
+        scheduler,
+        Report::new(alloc)?,
+    )?;
     let mut watch: Watching<Box<dyn Tap>> = Watching::new(alloc, Named::none(), Vec::new(alloc));
     run_over(
         policy,

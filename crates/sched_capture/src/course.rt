@@ -15,17 +15,18 @@ ghost use Rattle.tap_core.specs.Watching.{sight_of, Watches, AreNoMore};
 
 use outside_core::{Shelf, Sink, Stop};
 use policy_core::Policy;
+use report_core::Report;
 use sched_core::Scheduler;
 use sched_defs::Ending;
 use sched_packets::Arrivals;
-use sched_run::{Pace, Run};
+use sched_run::{Pace, Recorder, Run};
 use tap_core::{Tap, Watching};
 
 /// Runs the packets that come through any scheduler of this policy that stands for the start, and writes the report. Taps
 /// watch it from the beginning on.
 pub fn run_over<C: Scheduler + Drop, S: Shelf, K: Sink, T: Tap>(
     policy: &Policy,
-    run: &mut Run<'_, C, Policy>,
+    run: &mut Run<'_, C, Policy, Report>,
     under: &mut C::Under,
     pace: Pace<'_>,
     packets: &mut Arrivals<'_, S>,
@@ -33,8 +34,8 @@ pub fn run_over<C: Scheduler + Drop, S: Shelf, K: Sink, T: Tap>(
     sink: &mut K,
     watch: &mut Watching<T>,
 ) -> Result<Ending, Stop>
-    requires set { IsSet C.Scheduler (λ p. p.policy) run.old }
-    requires fresh { run.old.report.unwritten ≡ [] }
+    requires set { IsSet C.Scheduler ⟦<Report as Recorder>⟧ (λ p. p.policy) run.old }
+    requires fresh { run.old.recorder.unwritten ≡ [] }
     requires policy { C.policy run.old.scheduler ≡ policy.now.policy }
     requires packets { policy_of packets.old ≡ policy.now.policy }
     requires none_given { given_by packets.old ≡ 0 }

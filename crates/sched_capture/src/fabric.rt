@@ -20,6 +20,7 @@ use embed_core::{Map, Target};
 use fabric_core::Fabric;
 use outside_core::{Shelf, Sink, Stop};
 use policy_core::Policy;
+use report_core::Report;
 use sched_defs::Ending;
 use sched_embedded::Embedded;
 use sched_run::{Pace, Run};
@@ -81,7 +82,14 @@ pub fn replay<S: Shelf, K: Sink, F: Fabric, T: Tap>(
     let Ok(scheduler) = Embedded::new(alloc, policy, map, &target, fabric) else {
         return Err(Stop::Memory);
     };
-    let mut run = Run::new(alloc, policy, policy.depth(), policy.version(), scheduler)?;
+    let mut run = Run::new(
+        alloc,
+        policy,
+        policy.depth(),
+        policy.version(),
+        scheduler,
+        Report::new(alloc)?,
+    )?;
     run_over(
         policy,
         &mut run,

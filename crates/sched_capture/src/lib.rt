@@ -1,4 +1,5 @@
-//! A run of a script over a capture, through the tree of queues of a policy or through a fabric, with its whole report.
+//! Runs over a capture, through the tree of queues of a policy or through a fabric, with their whole report, and of a generated
+//! load. Begin with specs/Answers.antt.
 #![tactic(auto)]
 
 mod capture;
@@ -6,12 +7,14 @@ mod course;
 mod fabric;
 #[cfg(test)]
 mod fabric_tests;
+mod load;
 #[cfg(test)]
 mod tests;
 
 pub use capture::{begin, direct};
 pub use course::run_over;
 pub use fabric::{Placement, replay};
+pub use load::{LoadCounts, LoadSize, soak};
 pub use outside_core::Stop;
 pub use sched_defs::Ending;
 pub use sched_packets::Arrivals;

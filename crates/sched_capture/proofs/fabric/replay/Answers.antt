@@ -44,6 +44,21 @@ returns-clause-fabric_part g c =
     })
     c.in-Ok.ensures.begins c.run_over.ensures.amid
 
+pub returns-in_err-new-clause-fabric_part : goal.returns-in_err-new-clause-fabric_part
+returns-in_err-new-clause-fabric_part g c =
+    let policy = c.args.policy.now in
+    let laid : Laid = record { images = c.args.placement.map; arities = c.args.placement.target.arities } in
+    let n = c.in-Ok-new.ensures in
+    none_amid g.F.Fabric policy laid c.args.pace _ (g.S.Shelf.left c.args.shelf.now) (left_of c.in-Ok.packets (g.S.Shelf.left c.begin.new.shelf)) c.args.fabric.now c.new.new.fabric
+    (λ l. record {
+      made = [];
+      unmade = _;
+      whole = refl;
+      holds = holds_after g.F.Fabric policy.policy laid c.in-Ok-new.scheduler c.args.fabric.now c.new.new.fabric n.origin n.pushes n.departures n.spilled [] c.in-Ok-new.scheduler c.new.new.fabric
+          n.stands (omega arith) (omega arith) refl (sym (raised_nothing _));
+    })
+    c.in-Ok.ensures.begins
+
 pub returns-in_err-run-clause-fabric_part : goal.returns-in_err-run-clause-fabric_part
 returns-in_err-run-clause-fabric_part g c =
     let policy = c.args.policy.now in
@@ -59,9 +74,14 @@ returns-in_err-run-clause-fabric_part g c =
     })
     c.in-Ok.ensures.begins
 
+pub returns-in_err-new-clause-part : goal.returns-in_err-new-clause-part
+returns-in_err-new-clause-part g c =
+    let p = err_from_is_err_and c.from_residual.result c.from_residual.ensures.1 in
+    rw (p.1, c.in-Ok.ensures.unwritten) (nothing_written (g.S.Shelf.left c.args.shelf.now) (g.K.Sink.written c.args.sink.now) (λ file. (paced_answer c.args.policy.now (pace_of c.args.pace) file).text))
+
 pub returns-in_err-run-clause-part : goal.returns-in_err-run-clause-part
 returns-in_err-run-clause-part g c =
-    let p = err_from_is_err_and c.from_residual.result c.from_residual.ensures.1 in
+    let p = err_from_is_err_and c.from_residual-in_err-run.result c.from_residual-in_err-run.ensures.1 in
     rw (p.1, c.in-Ok.ensures.unwritten) (nothing_written (g.S.Shelf.left c.args.shelf.now) (g.K.Sink.written c.args.sink.now) (λ file. (paced_answer c.args.policy.now (pace_of c.args.pace) file).text))
 
 pub returns-in_default-clause-part : goal.returns-in_default-clause-part

@@ -1,0 +1,87 @@
+//! A generated load through the hardware's queues.
+ghost use Rattle.std.specs.Prelude.{◌≡◌, ◌<◌, ◌≤◌, ◌^◌, Some, IfOk, IfErr, OnOk, OnErr};
+ghost use Rattle.outside_core.specs.Kept.{KeepsSink, HasSinkCause};
+ghost use Rattle.tree_defs.specs.Tree.{SameShape};
+ghost use Rattle.tree_defs.specs.Topology.{topology_of, complete};
+ghost use Rattle.target_defs.specs.Target.{IsInRange};
+ghost use Rattle.embed_defs.specs.Images.{image_map};
+ghost use Rattle.embed_defs.specs.Embedding.{IsEmbedding};
+ghost use Rattle.sched_run.specs.Drawings.{HasLoadClasses, most_load};
+ghost use Rattle.sched_embedded.specs.Fabrics.{Leaves, LeavesPart};
+ghost use Rattle.sched_capture.specs.Placements.{laid_by};
+ghost use Rattle.sched_capture.specs.Loads.{load_counts, load_through};
+
+use crate::fabric::Placement;
+use fabric_core::Fabric;
+use outside_core::{Sink, Stop};
+use policy_core::Policy;
+use sched_embedded::Embedded;
+use sched_run::{DepartureSum, Run};
+use std::alloc::Global;
+use tap_core::{Named, Tap, Watching};
+
+/// The numbers of a load: how many packets were pushed and popped, how many departures found nothing, and the numbers of the
+/// packets that left, folded into 32 bits.
+#[derive(Clone, Copy, PartialEq, Eq, Debug)]
+pub struct LoadCounts {
+    pub pushed: u64,
+    pub popped: u64,
+    pub empty: u64,
+    pub sum: u64,
+}
+
+/// A load: its seed, and how many events are drawn, at most 1,000,000.
+#[derive(Clone, Copy, Debug)]
+pub struct LoadSize {
+    pub seed: u64,
+    pub count: u64,
+}
+
+/// Makes the events of a generated load through a fabric into which the policy's tree is laid by a map, and then departures
+/// until no packet is held. Nothing is written. The error is want of memory.
+pub fn soak<K: Sink, F: Fabric>(
+    alloc: Global,
+    policy: &Policy,
+    placement: Placement,
+    load: LoadSize,
+    sink: &mut K,
+    fabric: &mut F,
+) -> Result<LoadCounts, Stop>
+    requires classes { HasLoadClasses policy.now.policy }
+    requires short { load.count ≤ most_load }
+    requires range { IsInRange placement.target.arities placement.target.above }
+    requires map_shape { SameShape (topology_of policy.now.policy.tree) placement.map }
+    requires embedding { IsEmbedding (topology_of policy.now.policy.tree) (complete placement.target.arities) (image_map placement.map) }
+    requires pushes { F.pushed fabric.old < 2 ^ 61 }
+    requires pops { F.popped fabric.old < 2 ^ 61 }
+
+    ensures counts { IfOk result (λ n. n ≡ load_counts policy.now.policy load) }
+    ensures fabric { OnOk result (
+        Leaves F.Fabric (Some (load_through policy.now.policy (laid_by placement) load)) fabric.old fabric.new) }
+    ensures fabric_part { OnErr result (
+        LeavesPart F.Fabric (Some (load_through policy.now.policy (laid_by placement) load)) fabric.old fabric.new) }
+    ensures unwritten { K.written sink.new ≡ K.written sink.old }
+    ensures kept { KeepsSink K.written K.faults sink.old sink.new }
+    ensures cause { IfErr result (λ stop. HasSinkCause stop K.faults sink.old sink.new) }
+{
+    let Placement { target, map } = placement;
+    let Ok(scheduler) = Embedded::new(alloc, policy, map, &target, fabric) else {
+        return Err(Stop::Memory);
+    };
+    let mut run = Run::new(
+        alloc,
+        policy,
+        policy.depth(),
+        policy.version(),
+        scheduler,
+        DepartureSum::new(),
+    )?;
+    let mut watch: Watching<Box<dyn Tap>> = Watching::new(alloc, Named::none(), Vec::new(alloc));
+    let totals = run.play_load(fabric, sink, &mut watch, load.seed, load.count)?;
+    Ok(LoadCounts {
+        pushed: totals.pushed,
+        popped: totals.popped,
+        empty: totals.empty,
+        sum: run.recorder().sum(),
+    })
+}
