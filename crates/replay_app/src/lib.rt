@@ -4,6 +4,8 @@
 mod check;
 mod command;
 mod direct;
+#[cfg(test)]
+mod hostile_tests;
 mod laws;
 mod load;
 mod plan;

@@ -50,7 +50,7 @@ fn file(alloc: Global, name: &str, content: &[u8]) -> Result<(String, Vec<u8>), 
 }
 
 /// The files of a run through a target.
-fn files_for(
+pub(crate) fn files_for(
     alloc: Global,
     policy: &[u8],
     target: &[u8],
