@@ -23,7 +23,7 @@ use Rattle.replay_app.proofs.FollowLaws.{exactly_told, exactly_done, unchanged}
 use Rattle.replay_app.proofs.TapLaws.{lines_told}
 
 -- a run that was made whole is a first part of itself
-whole_part : {F : Type 0} (fabrics : Ghosts F) (run : Option FabricRun) (old new : F) → Leaves fabrics run old new → LeavesPart fabrics run old new
+pub whole_part : {F : Type 0} (fabrics : Ghosts F) (run : Option FabricRun) (old new : F) → Leaves fabrics run old new → LeavesPart fabrics run old new
 whole_part fabrics None old new leaves = leaves
 whole_part fabrics (Some run) old new leaves = inr (record { made = run.events; unmade = []; whole = append-nil run.events; holds = leaves })
 

@@ -71,7 +71,7 @@ later : (k n : ℕ) (es : List Entry) → k < n → Rises n es → All (λ e. k 
 later k n [] less up = All-nil (λ e. k < e.0)
 later k n (e ∷ es) less up = let first : n ≤ e.0 = up.0 in All-cons (λ d. k < d.0) e es (omega arith) (later k (suc e.0) es (omega arith) up.1)
 
-rising : (n : ℕ) (es : List Entry) → Rises n es → AreRising es
+pub rising : (n : ℕ) (es : List Entry) → Rises n es → AreRising es
 rising n [] up = λ i j d less within. absurd (omega arith)
 rising n (e ∷ es) up = AllPairs-cons (λ a b. a.0 < b.0) e es (later e.0 (suc e.0) es (omega arith) up.1) (rising (suc e.0) es up.1)
 

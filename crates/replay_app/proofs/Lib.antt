@@ -10,3 +10,4 @@ pub mod TapLaws
 pub mod CaptureLaws
 pub mod WordLaws
 pub mod OfficeRoom
+pub mod SoakLaws

@@ -16,9 +16,10 @@ use Rattle.outside_core.specs.declared.stop.Stop.{Stop}
 use Rattle.sched_defs.specs.Pace.{Pace, Link}
 use Rattle.replay_app.specs.Output.{laid_run, watchers}
 use Rattle.replay_app.specs.Scripts.{PacedBy, script_pace}
-use Rattle.replay_app.specs.Words.{Pacing, script, link, replay, check, plan, direct, no_form}
+use Rattle.replay_app.specs.Words.{Pacing, script, link, replay, check, plan, direct, soak, no_form}
 use Rattle.replay_app.proofs.FollowLaws.{one-follows}
 use Rattle.replay_app.proofs.Inputs.{policies_are_one, targets_are_one, rooms_are_one, scripts_are_one}
+use Rattle.replay_app.proofs.SoakLaws.{one-soaked}
 
 pub one-planned : (policy : Policy) (target : Target) (a b : Answer) → IsPlanned policy target a → IsPlanned policy target b → a ≡ b
 one-planned policy target _ _ (planned fits text h) (planned others other k) =
@@ -54,4 +55,5 @@ one-answer (plan p t) contents taps a b x y =
 one-answer (direct p c e) contents taps a b x y =
     one-follows kind.Policy _ _ _ (policies_are_one (contents p)) (λ judged.
     one-follows kind.Script _ _ _ (scripts_are_one (contents e)) (λ steps. same-answer _)) a b x y
+one-answer (soak load) contents taps a b x y = one-soaked load a b x y
 one-answer no_form contents taps a b x y = same-answer _ a b x y

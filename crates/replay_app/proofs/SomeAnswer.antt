@@ -37,8 +37,11 @@ use Rattle.sched_defs.specs.Pace.{Pace, Link}
 use Rattle.replay_app.specs.Output.{laid_run, watchers}
 use Rattle.replay_app.specs.Scripts.{PacedBy}
 use Rattle.replay_app.specs.Words as words
-use Rattle.replay_app.specs.Words.{Pacing, replay, check, plan, direct, no_form}
+use Rattle.replay_app.specs.Words.{Pacing, replay, check, plan, direct, soak, no_form}
+use Rattle.replay_app.specs.Soak.{soak_target}
 use Rattle.replay_app.proofs.FollowLaws.{some-follows}
+use Rattle.replay_app.proofs.OfficeRoom.{in-range}
+use Rattle.replay_app.proofs.SoakLaws.{some-soaked}
 
 -- ---- each input is refused or accepted
 policy_of_text : (text : List ℕ) → ((j : Judged) → IsPolicy text j → ⊥) → ((code line : ℕ) → IsPolicyRefused text code line → ⊥) → (es : List Entry) → HasEntries text es → ⊥
@@ -108,4 +111,5 @@ some-answer (plan p t) contents taps =
 some-answer (direct p c e) contents taps =
     some-follows kind.Policy _ _ _ (read_policies (contents p)) (λ judged policy.
     some-follows kind.Script _ _ _ (read_scripts (contents e)) (λ steps script. exactly _))
+some-answer (soak load) contents taps = some-soaked load (λ policy room none. read_rooms policy.policy soak_target in-range none (λ code place no. no.0 room))
 some-answer no_form contents taps = exactly _

@@ -6,7 +6,7 @@ use Rattle.outside_core.specs.declared.stop.Stop.{Stop}
 use Rattle.replay_app.specs.declared.status.Status.{Status}
 use Rattle.replay_app.specs.Answer.{Answer, Each, IsDone}
 use Rattle.replay_app.specs.Output.{IsOutput}
-use Rattle.replay_app.specs.Words.{Form, replay, script}
+use Rattle.replay_app.specs.Words.{Form, replay, script, soak}
 use Rattle.tap_core.specs.Lists.{Shown, Entry, named_entries, left_after}
 
 -- Where nothing stopped the program, what the run of the words leaves; else what was there, or what a first part of the
@@ -15,9 +15,10 @@ pub record IsLeftBehind {F : Type 0} (fabrics : Ghosts F) (form : Form) (content
   pub whole : status < 8 → Each (IsOutput form contents taps) (λ a. Leaves fabrics a.run old new)
   pub part : 8 ≤ status → Each (IsOutput form contents taps) (λ a. LeavesPart fabrics a.run old new)
 
--- only `replay` and `link` use the fabric
+-- only `replay`, `link` and `soak` use the fabric
 abbrev pub UsesNoFabric : Form → Type 0
 UsesNoFabric (replay p t c pacing) = ⊥
+UsesNoFabric (soak load) = ⊥
 UsesNoFabric form = Unit {0}
 
 -- ---- taps

@@ -5,6 +5,7 @@ pub mod Follows
 pub mod Policies
 pub mod Targets
 pub mod Scripts
+pub mod Soak
 pub mod Output
 pub mod Stages
 pub mod Behind

@@ -1,15 +1,17 @@
 -- The files that words name.
+use Rattle.std.specs.Prelude.{◌≤◌}
 use Rattle.link_defs.specs.Link.{IsRate}
 use Rattle.tap_core.specs.Names.{none_named}
 use Rattle.tap_core.specs.declared.watch.Named.{Named}
-use Rattle.replay_app.specs.Words.{Pacing, script, link, Form, replay, check, plan, direct}
+use Rattle.sched_run.specs.Drawings.{most_load}
+use Rattle.replay_app.specs.Words.{Pacing, script, link, Form, replay, check, plan, direct, soak}
 use Rattle.replay_app.specs.declared.words.Pacing as code
 use Rattle.replay_app.specs.declared.words.Pacing.TheVariants as code_pacing
 use Rattle.replay_app.specs.declared.words.ReplayFiles.{ReplayFiles}
 use Rattle.replay_app.specs.declared.words.DirectFiles.{DirectFiles}
 use Rattle.replay_app.specs.declared.words.PlanFiles.{PlanFiles}
 use Rattle.replay_app.specs.declared.words.Command.{Command}
-use Rattle.replay_app.specs.declared.words.Command.TheVariants.{Replay, Check, Plan, Direct}
+use Rattle.replay_app.specs.declared.words.Command.TheVariants.{Replay, Check, Plan, Direct, Soak}
 
 abbrev pub pacing_form : code.Pacing → Pacing
 pacing_form (code_pacing.Script e named) = script e.now named
@@ -29,14 +31,16 @@ command_form (Replay f) = replay_form f
 command_form (Check p) = check p.now
 command_form (Plan f) = plan_form f
 command_form (Direct f) = direct_form f
+command_form (Soak load) = soak load
 
--- a link's rate is in range
+-- a link's rate is in range, and a load isn't too long
 abbrev pub HasRate : code.Pacing → Type 0
 HasRate (code_pacing.Script e named) = Unit {0}
 HasRate (code_pacing.Link rate) = IsRate rate
 
 abbrev pub CanRun : Command → Type 0
 CanRun (Replay f) = HasRate f.pacing
+CanRun (Soak load) = load.count ≤ most_load
 CanRun command = Unit {0}
 
 -- the kinds of taps that watch a run

@@ -9,10 +9,11 @@ use Rattle.sched_capture.specs.Answers.{paced_answer, shown_by}
 use Rattle.tap_core.specs.Lists.{Entry, named_entries}
 use Rattle.replay_app.specs.Answer.{Answer, refusal, IsWritten, IsPartWritten}
 use Rattle.replay_app.specs.Policies.{UnderPolicy, checked}
+use Rattle.replay_app.specs.Soak.{IsSoaked}
 use Rattle.replay_app.specs.Scripts.{AlongScript, PacedBy, script_pace, run_answer, watched_answer}
 use Rattle.replay_app.specs.Statuses.{IsStop}
 use Rattle.replay_app.specs.Targets.{ForTarget, WithRoom, IsPlanned}
-use Rattle.replay_app.specs.Words.{Pacing, script, link, Form, replay, check, plan, direct, no_form}
+use Rattle.replay_app.specs.Words.{Pacing, script, link, Form, replay, check, plan, direct, soak, no_form}
 
 -- the report of a run through the policy's own tree, without a fabric
 abbrev pub direct_run : Resolved → Pace → List ℕ → Answer
@@ -29,9 +30,9 @@ abbrev pub watchers : Pacing → List Entry → List Entry
 watchers (script e named) taps = named_entries named taps
 watchers (link rate) taps = []
 
--- The answer to words, where the names have these contents and these taps are handed in. Each input is refused or accepted in its turn: the policy, the
--- target, the room for the policy's tree in the target, the script, if one paces the run, and then the capture, which is part
--- of the run.
+-- The answer to words, where the names have these contents and these taps are handed in. Each input is refused or accepted in
+-- its turn: the policy, the target, the room for the policy's tree in the target, the script, if one paces the run, and then
+-- the capture, which is part of the run. A generated load has no input.
 abbrev pub IsOutput : Form → (List ℕ → List ℕ) → List Entry → Answer → Type 0
 IsOutput (replay p t c pacing) contents taps a =
     UnderPolicy (contents p) (λ judged.
@@ -48,6 +49,7 @@ IsOutput (plan p t) contents taps a =
     ForTarget (contents t) (λ target.
     IsPlanned judged.policy.policy target)) a
 IsOutput (check p) contents taps a = UnderPolicy (contents p) (λ judged b. b ≡ checked judged) a
+IsOutput (soak load) contents taps a = IsSoaked load a
 IsOutput no_form contents taps a = a ≡ refusal Words 0 0
 
 -- ---- what is written

@@ -6,7 +6,7 @@ use Rattle.sched_defs.specs.declared.ending.Ending as run
 use Rattle.sched_defs.specs.declared.ending.Ending.TheVariants as run_ending
 use Rattle.sched_run.specs.declared.pace.Pace.{Pace}
 use Rattle.sched_run.specs.declared.pace.Pace.TheVariants as pace
-use Rattle.replay_app.specs.Words.{Pacing, script, link, Form, replay, check, plan, direct, no_form}
+use Rattle.replay_app.specs.Words.{Pacing, script, link, Form, replay, check, plan, direct, soak, no_form}
 use Rattle.replay_app.specs.declared.status.Status.{Status}
 use Rattle.replay_app.specs.declared.status.Status.TheVariants.{Done, NoForm, BadPolicy, BadTarget, NoRoom, BadScript, BadCapture}
 
@@ -62,6 +62,7 @@ statuses_of (replay p t c pacing) = 3 ∷ 4 ∷ 5 ∷ paced_statuses pacing
 statuses_of (check p) = 3 ∷ 0 ∷ []
 statuses_of (plan p t) = 3 ∷ 4 ∷ 5 ∷ 0 ∷ []
 statuses_of (direct p c e) = 3 ∷ run_statuses
+statuses_of (soak load) = 0 ∷ []
 statuses_of no_form = 2 ∷ []
 
 -- reading failed, writing failed, or there was no memory

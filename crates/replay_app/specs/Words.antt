@@ -6,6 +6,9 @@ use Rattle.std.specs.Str.{bytes_eq}
 use Rattle.std.specs.declared.alloc.Global.{Global}
 use Rattle.link_defs.specs.Link.{most_rate}
 use Rattle.text_core.specs.Decimals.{number_of}
+use Rattle.rank_defs.specs.Programs.{max_rank}
+use Rattle.sched_run.specs.Drawings.{most_load}
+use Rattle.sched_capture.specs.declared.load.LoadSize.{LoadSize}
 use Rattle.tap_core.specs.Names.{none_named, named_with}
 use Rattle.tap_core.specs.declared.watch.Named.{Named}
 
@@ -28,11 +31,28 @@ pub data Form : Type 0 where
   plan : List ℕ → List ℕ → Form
   -- a policy, a capture and a script
   direct : List ℕ → List ℕ → List ℕ → Form
+  -- a generated load
+  soak : LoadSize → Form
   no_form : Form
 
 -- the rate that a word says
 abbrev pub rate_of : List ℕ → Option ℕ
 rate_of w = option_and_then (λ n. if nat_le 1 n && nat_le n most_rate then Some n else None) (number_of w)
+
+-- the number that a word says, where it is at most another one
+abbrev pub number_within : ℕ → List ℕ → Option ℕ
+number_within most w = option_and_then (λ n. if nat_le n most then Some n else None) (number_of w)
+
+-- the load that the words behind `soak` say: a seed, and how many events are drawn
+abbrev pub load_of : List ℕ → List ℕ → Option LoadSize
+load_of seed count =
+    option_and_then (λ s. option_map (λ n. record { seed = s; count = n }) (number_within most_load count)) (number_within max_rank seed)
+
+-- the forms of three words
+abbrev pub three_words : List ℕ → List ℕ → List ℕ → Form
+three_words w second third =
+    if bytes_eq w (codes "plan") then plan second third
+    else (if bytes_eq w (codes "soak") then option_map_or soak (load_of second third) no_form else no_form)
 
 -- the kinds of taps that words name in pairs, each at most once, and these
 abbrev pub named_in : Named → List (List ℕ) → Option Named
@@ -53,7 +73,7 @@ pacing_by w fifth more =
 
 abbrev pub form_of : List (List ℕ) → Form
 form_of (w ∷ p ∷ []) = if bytes_eq w (codes "check") then check p else no_form
-form_of (w ∷ p ∷ t ∷ []) = if bytes_eq w (codes "plan") then plan p t else no_form
+form_of (w ∷ second ∷ third ∷ []) = three_words w second third
 form_of (w ∷ p ∷ c ∷ e ∷ []) = if bytes_eq w (codes "direct") then direct p c e else no_form
 form_of (w ∷ p ∷ t ∷ c ∷ fifth ∷ more) = option_map_or (replay p t c) (pacing_by w fifth more) no_form
 form_of words = no_form
@@ -69,6 +89,7 @@ file_words (replay p t c pacing) = p ∷ t ∷ c ∷ pacing_words pacing
 file_words (check p) = p ∷ []
 file_words (plan p t) = p ∷ t ∷ []
 file_words (direct p c e) = p ∷ c ∷ e ∷ []
+file_words (soak load) = []
 file_words no_form = []
 
 -- each of the names is lent
@@ -126,3 +147,15 @@ form_of-plan = refl
 
 pub form_of-direct : form_of (codes "direct" ∷ codes "p" ∷ codes "c" ∷ codes "e" ∷ []) ≡ direct (codes "p") (codes "c") (codes "e")
 form_of-direct = refl
+
+pub form_of-soak : form_of (codes "soak" ∷ codes "7" ∷ codes "0200" ∷ []) ≡ soak (record { seed = 7; count = 200 })
+form_of-soak = refl
+
+pub form_of-soak_most : form_of (codes "soak" ∷ codes "4611686018427387903" ∷ codes "1000000" ∷ []) ≡ soak (record { seed = 4611686018427387903; count = 1000000 })
+form_of-soak_most = refl
+
+pub form_of-soak_too_great_a_seed : form_of (codes "soak" ∷ codes "4611686018427387904" ∷ codes "1" ∷ []) ≡ no_form
+form_of-soak_too_great_a_seed = refl
+
+pub form_of-soak_too_many : form_of (codes "soak" ∷ codes "1" ∷ codes "1000001" ∷ []) ≡ no_form
+form_of-soak_too_many = refl

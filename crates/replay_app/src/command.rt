@@ -13,6 +13,7 @@ use crate::check::check_file;
 use crate::direct::direct_files;
 use crate::plan::plan_files;
 use crate::refusal::Refusal;
+use crate::soak::soak_load;
 use crate::status::Status;
 use crate::stop::stop_status;
 use crate::watched::replay_watched;
@@ -63,6 +64,7 @@ fn answer<S: Shelf, K: Sink, F: Fabric, T: Tap>(
         Some(Command::Check(policy)) => check_file(alloc, policy, shelf, sink),
         Some(Command::Plan(files)) => plan_files(alloc, &files, shelf, sink),
         Some(Command::Direct(files)) => direct_files(alloc, &files, shelf, sink),
+        Some(Command::Soak(load)) => soak_load(alloc, load, sink, fabric),
         None => refuse(alloc, sink, FaultKind::Words, NO_FORM),
     }
 }
@@ -70,8 +72,9 @@ fn answer<S: Shelf, K: Sink, F: Fabric, T: Tap>(
 /// Does what the words say, and answers the status with which the program ends. The words are those behind the program's
 /// name: `replay` and the names of a policy, a target, a capture and a script, with pairs `tap NAME` behind them for the kinds
 /// of taps that are to watch; `link` and the names of a policy, a target and a capture with a rate in bytes per second;
-/// `direct` and the names of a policy, a capture and a script; `plan` and the names of a policy and a target; or `check` and
-/// the name of a policy.
+/// `direct` and the names of a policy, a capture and a script; `plan` and the names of a policy and a target; `check` and the
+/// name of a policy; or `soak` with a seed of at most 4,611,686,018,427,387,903 and how many events are drawn, at most
+/// 1,000,000.
 ///
 /// When the run of `replay` begins, taps whose kind isn't named are dropped. Each other is shown each departure and each drop
 /// until it is done, and their lines are written behind a report that ends whole, in the order of the list.

@@ -13,6 +13,7 @@ mod policies;
 mod refusal;
 mod replay;
 mod scripts;
+mod soak;
 mod status;
 mod stop;
 #[cfg(test)]

@@ -1,10 +1,14 @@
 //! The words of the commands.
-ghost use Rattle.std.specs.Prelude.{◌≡◌, IfSome, MatchOption, option_map};
+ghost use Rattle.std.specs.Prelude.{◌≡◌, ◌≤◌, IfSome, MatchOption, option_map};
 ghost use Rattle.link_defs.specs.Link.{IsRate};
-ghost use Rattle.replay_app.specs.Words.{rate_of, named_in, link_by, pacing_by, form_of, no_form, texts};
+ghost use Rattle.sched_run.specs.Drawings.{most_load};
+ghost use Rattle.replay_app.specs.Words.{rate_of, number_within, load_of, three_words, named_in, link_by, pacing_by, form_of, no_form, texts};
 ghost use Rattle.replay_app.specs.Named.{pacing_form, command_form, HasRate, CanRun};
 
 use events_core::MOST_RATE;
+use rank_defs::MAX_RANK;
+use sched_capture::LoadSize;
+use sched_run::MOST_LOAD;
 use tap_core::Named;
 use text_core::decimal;
 
@@ -52,6 +56,8 @@ pub enum Command<'a> {
     Plan(PlanFiles<'a>),
     /// A run over these files, through the policy's own tree.
     Direct(DirectFiles<'a>),
+    /// A generated load, through the fabric.
+    Soak(LoadSize),
 }
 
 /// The rate that a word says, if one does.
@@ -61,6 +67,39 @@ fn rate_of(word: &str) -> Option<u64>
 {
     let rate = decimal(word.as_bytes())?;
     (1..=MOST_RATE).contains(&rate).then_some(rate)
+}
+
+/// The number that a word says, where it is at most another one.
+fn number_within(most: u64, word: &str) -> Option<u64>
+    ensures { result ≡ number_within most word.now }
+{
+    decimal(word.as_bytes()).filter(|number| *number <= most)
+}
+
+/// The load that the words behind `soak` say: a seed, and how many events are drawn.
+fn load_of(seed: &str, count: &str) -> Option<LoadSize>
+    ensures load { result ≡ load_of seed.now count.now }
+    ensures short { IfSome result (λ load. load.count ≤ most_load) }
+{
+    let seed = number_within(MAX_RANK, seed)?;
+    let count = number_within(MOST_LOAD, count)?;
+    Some(LoadSize { seed, count })
+}
+
+/// The command that three words spell, if they are in a form.
+fn three_words<'a>(command: &str, second: &'a str, third: &'a str) -> Option<Command<'a>>
+    ensures range { IfSome result CanRun }
+    ensures form { MatchOption result (three_words command.now second.now third.now ≡ no_form) (λ c.
+        three_words command.now second.now third.now ≡ command_form c) }
+{
+    match command {
+        "plan" => Some(Command::Plan(PlanFiles {
+            policy: second,
+            target: third,
+        })),
+        "soak" => Some(Command::Soak(load_of(second, third)?)),
+        _ => None,
+    }
 }
 
 /// The kinds of taps that the words name in pairs, each at most once, and these.
@@ -108,11 +147,8 @@ pub fn command_of(words: &[String]) -> Option<Command<'_>>
         [command, policy] => {
             (command.as_str() == "check").then_some(Command::Check(policy.as_str()))
         }
-        [command, policy, target] => {
-            (command.as_str() == "plan").then_some(Command::Plan(PlanFiles {
-                policy: policy.as_str(),
-                target: target.as_str(),
-            }))
+        [command, second, third] => {
+            three_words(command.as_str(), second.as_str(), third.as_str())
         }
         [command, policy, capture, script] => {
             (command.as_str() == "direct").then_some(Command::Direct(DirectFiles {

@@ -1,0 +1,129 @@
+-- A generated load has an answer, and one alone; what is written of it, and left.
+use Rattle.std.proofs.Common.{◌≡◌, ◌∙◌, ℕ, suc, Option, Some, List, [], ◌∷◌, ◌++◌, append_assoc, ap, refl, sym, subst}
+use Rattle.std.specs.Prelude.{Result, Ok, Err, OnOk, is_ok, if◌then◌else◌}
+use Rattle.std.specs.List.{AllByRecursion}
+use Rattle.std.proofs.lemmas.List.Elements.{All-nil, All-cons}
+use Rattle.outside_core.specs.Written.{Appended, AppendedPrefix}
+use Rattle.outside_core.specs.declared.stop.Stop.{Stop}
+use Rattle.outside_core.proofs.WrittenLaws.{appended_nothing, prefix_of_nothing}
+use Rattle.tree_defs.specs.Tree.{Tree, Address}
+use Rattle.tree_defs.specs.Topology.{topology_of, complete}
+use Rattle.target_core.specs.declared.target.Target.{Target}
+use Rattle.embed_defs.specs.Embedding.{HasEmbedding}
+use Rattle.fabric_core.specs.declared.fabric.Fabric.{Ghosts}
+use Rattle.policy_text_defs.specs.Sense.{Sense, Entry, numbered}
+use Rattle.policy_text_defs.specs.Valid.{IsValid}
+use Rattle.policy_text.proofs.EntryLaws.{numbered_rises}
+use Rattle.policy_rules.specs.Entries.{AreRising}
+use Rattle.policy_rules.specs.Resolved.{Resolved, IsResolved}
+use Rattle.policy_places.specs.Laws.{AreValid}
+use Rattle.policy_core.specs.Office.{office_statements, office_lines}
+use Rattle.policy_core.proofs.OfficeStatements.{office-valid, office-accepted}
+use Rattle.policy_laws.proofs.OnePolicy.{one-policy}
+use Rattle.policy_laws.proofs.SomePolicy.{a_policy}
+use Rattle.sched_embedded.specs.Fabrics.{FabricRun, Leaves, LeavesPart}
+use Rattle.sched_capture.specs.Loads.{load_counts, load_through}
+use Rattle.sched_capture.specs.declared.load.LoadCounts.{LoadCounts}
+use Rattle.sched_capture.specs.declared.load.LoadSize.{LoadSize}
+use Rattle.replay_app.specs.Answer.{Answer, IsTold, IsDone}
+use Rattle.replay_app.specs.Soak.{IsSoaked, soak_answer, soak_line, soak_target}
+use Rattle.replay_app.specs.Statuses.{status_code}
+use Rattle.replay_app.specs.Targets.{IsPlacement}
+use Rattle.replay_app.specs.declared.status.Status.{Status}
+use Rattle.replay_app.specs.declared.status.Status.TheVariants.{Done}
+use Rattle.replay_app.proofs.CaptureLaws.{whole_part}
+use Rattle.replay_app.proofs.Inputs.{rising, rooms_are_one}
+use Rattle.replay_app.proofs.OfficeRoom.{office-has-room}
+
+office-rising : AreRising office_lines
+office-rising = rising 1 office_lines (numbered_rises 1 office_statements)
+
+all-valid : (n : ℕ) (ss : List Sense) → AllByRecursion IsValid ss → AreValid (numbered n ss)
+all-valid n [] each = All-nil (λ (e : Entry). IsValid e.1)
+all-valid n (s ∷ ss) each = All-cons (λ (e : Entry). IsValid e.1) _ (numbered (suc n) ss) each.0 (all-valid (suc n) ss each.1)
+
+-- there is one policy of the office, and it is placed in one way
+pub one-soaked : (load : LoadSize) (a b : Answer) → IsSoaked load a → IsSoaked load b → a ≡ b
+one-soaked load a b x y =
+    let policies : x.policy ≡ y.policy = one-policy office_lines x.policy y.policy office-rising office-accepted x.resolved y.resolved in
+    let placed : IsPlacement y.policy.policy soak_target x.images = subst (λ (r : Resolved). IsPlacement r.policy soak_target x.images) policies x.placed in
+    let images : x.images ≡ y.images = (rooms_are_one y.policy.policy soak_target).one x.images y.images placed y.placed in
+    x.is
+    ∙ ap (λ (r : Resolved). soak_answer r.policy (record { images = x.images; arities = soak_target.arities }) load) policies
+    ∙ ap (λ (t : Tree Address). soak_answer y.policy.policy (record { images = t; arities = soak_target.arities }) load) images
+    ∙ sym y.is
+
+-- there is a policy of the office, and it has room
+pub some-soaked : (load : LoadSize)
+    → ((policy : Resolved) → (HasEmbedding (topology_of policy.policy.tree) (complete soak_target.arities)) → ((images : Tree Address) → IsPlacement policy.policy soak_target images → ⊥) → ⊥)
+    → ((a : Answer) → IsSoaked load a → ⊥) → ⊥
+some-soaked load rooms none =
+    let r = a_policy office_lines office-rising (all-valid 1 office_statements office-valid) office-accepted in
+    rooms r.0 (office-has-room (topology_of r.0.policy.tree) r.0 r.1 refl) (λ images placed.
+    none (soak_answer r.0.policy (record { images = images; arities = soak_target.arities }) load)
+    (record { policy = r.0; resolved = r.1; images = images; placed = placed; is = refl }))
+
+-- ---- what was written and left
+-- bytes, and then some more
+pub grown : (o a i b j : List ℕ) → i ≡ o ++ a → j ≡ i ++ b → j ≡ o ++ (a ++ b)
+grown o a i b j first second = second ∙ ap (λ (l : List ℕ). l ++ b) first ∙ append_assoc o a b
+
+-- nothing is written yet
+pub soaked_none : (load : LoadSize) (stop : Stop) (old : Option (List ℕ)) → IsTold (IsSoaked load) (Err stop) old old
+soaked_none load stop old = record { whole = tt; part = λ a is. prefix_of_nothing old old a.text (appended_nothing old) }
+
+-- a list that grew where a call succeeded
+pub when_ok : {T E : Type 0} (r : Result T E) (l a b : List ℕ) → l ≡ (if is_ok r then a else b) → OnOk r (l ≡ a)
+when_ok (Ok t) l a b e = e
+when_ok (Err x) l a b e = tt
+
+module _ (load : LoadSize) (policy : Resolved) (target : Target) (images : Tree Address) (same : target ≡ soak_target) (resolved : IsResolved office_lines policy) (placed : IsPlacement policy.policy target images) where
+  abbrev answer : Answer
+  answer = soak_answer policy.policy (record { images = images; arities = soak_target.arities }) load
+
+  is-soaked : IsSoaked load answer
+  is-soaked = record { policy = policy; resolved = resolved; images = images; placed = subst (λ (t : Target). IsPlacement policy.policy t images) same placed; is = refl }
+
+  only : (a : Answer) → IsSoaked load a → a ≡ answer
+  only a is = one-soaked load a answer is is-soaked
+
+  -- the line
+  pub soaked_whole : (s : Status) (counts : LoadCounts) (line : List ℕ) (old mid new : Option (List ℕ)) → s ≡ Done → counts ≡ load_counts policy.policy load → line ≡ soak_line counts → mid ≡ old → Appended mid new line → IsTold (IsSoaked load) (Ok s) old new
+  soaked_whole s counts line old mid new done are spelt unwritten text = record {
+    whole = record {
+      answer = answer;
+      is = is-soaked;
+      status_is = ap status_code done;
+      text = subst (λ (o : Option (List ℕ)). Appended o new (soak_line (load_counts policy.policy load))) unwritten
+          (subst (λ (n : LoadCounts). Appended mid new (soak_line n)) are (subst (Appended mid new) spelt text));
+    };
+    part = tt;
+  }
+
+  -- a part of the line
+  pub soaked_part : (stop : Stop) (counts : LoadCounts) (line : List ℕ) (old mid new : Option (List ℕ)) → counts ≡ load_counts policy.policy load → line ≡ soak_line counts → mid ≡ old → AppendedPrefix mid new line → IsTold (IsSoaked load) (Err stop) old new
+  soaked_part stop counts line old mid new are spelt unwritten text = record {
+    whole = tt;
+    part = λ a is. subst (λ (x : Answer). AppendedPrefix old new x.text) (sym (only a is))
+        (subst (λ (o : Option (List ℕ)). AppendedPrefix o new (soak_line (load_counts policy.policy load))) unwritten
+        (subst (λ (n : LoadCounts). AppendedPrefix mid new (soak_line n)) are (subst (AppendedPrefix mid new) spelt text)));
+  }
+
+  -- the fabric
+  module _ {F : Type 0} (fabrics : Ghosts F) (old new : F) where
+    abbrev Left : (Option FabricRun → F → F → Type 0) → Type 0
+    Left P = P (Some (load_through policy.policy (record { images = images; arities = target.arities }) load)) old new
+
+    of-answer : (P : Option FabricRun → F → F → Type 0) → Left P → (a : Answer) → IsSoaked load a → P a.run old new
+    of-answer P left a is = subst (λ (x : Answer). P x.run old new) (sym (only a is))
+        (subst (λ (t : Target). P (Some (load_through policy.policy (record { images = images; arities = t.arities }) load)) old new) same left)
+
+    pub left_whole : (s : Status) → Left (Leaves fabrics) → IsDone (IsSoaked load) (Ok s) (λ a. Leaves fabrics a.run old new) (λ a. LeavesPart fabrics a.run old new)
+    left_whole s left = record { whole = of-answer (Leaves fabrics) left; part = tt }
+
+    pub left_part : (stop : Stop) → Left (LeavesPart fabrics) → IsDone (IsSoaked load) (Err stop) (λ a. Leaves fabrics a.run old new) (λ a. LeavesPart fabrics a.run old new)
+    left_part stop left = record { whole = tt; part = of-answer (LeavesPart fabrics) left }
+
+    -- all was made before it stopped
+    pub left_written : (stop : Stop) → Left (Leaves fabrics) → IsDone (IsSoaked load) (Err stop) (λ a. Leaves fabrics a.run old new) (λ a. LeavesPart fabrics a.run old new)
+    left_written stop left = left_part stop (whole_part fabrics (Some (load_through policy.policy (record { images = images; arities = target.arities }) load)) old new left)

@@ -1,0 +1,82 @@
+//! A generated load, and its line.
+ghost use Rattle.std.specs.Prelude.{◌≡◌, ◌++◌, ◌<◌, ◌≤◌, ◌^◌, IfOk, OnOk, IsErrOf};
+ghost use Rattle.outside_core.specs.Faults.{Rose};
+ghost use Rattle.sched_embedded.specs.Fabrics.{Leaves, LeavesPart};
+ghost use Rattle.sched_run.specs.Drawings.{most_load};
+ghost use Rattle.replay_app.specs.Answer.{IsDone, IsTold};
+ghost use Rattle.replay_app.specs.Soak.{IsSoaked, counted, soak_line, soak_target};
+
+use crate::status::Status;
+use crate::writing::write;
+use embed_core::{EmbedFault, Target, embed};
+use fabric_core::Fabric;
+use list_core::List;
+use outside_core::{Sink, Stop};
+use policy_core::Policy;
+use sched_capture::{LoadCounts, LoadSize, Placement, soak};
+use std::alloc::{AllocError, Global};
+use text_core::put_decimal;
+
+/// Appends a word with its count, each behind a space. The error is want of memory.
+fn put_count(into: &mut Vec<u8>, word: &str, count: u64) -> Result<(), AllocError>
+    ensures { OnOk result (into.new.items ≡ into.old.items ++ counted word.now count) }
+{
+    into.push(b' ')?;
+    into.extend_from_slice(word.as_bytes())?;
+    into.push(b' ')?;
+    put_decimal(into, count as u128)
+}
+
+/// Appends the line of a load. The error is want of memory.
+fn put_line(into: &mut Vec<u8>, counts: LoadCounts) -> Result<(), AllocError>
+    ensures { OnOk result (into.new.items ≡ into.old.items ++ soak_line counts) }
+{
+    into.extend_from_slice(b"soak")?;
+    put_count(into, "pushed", counts.pushed)?;
+    put_count(into, "popped", counts.popped)?;
+    put_count(into, "empty", counts.empty)?;
+    put_count(into, "sum", counts.sum)?;
+    into.extend_from_slice(b"\n")
+}
+
+/// A target of three levels of arity 4.
+fn target(alloc: Global) -> Result<Target, AllocError>
+    ensures { IfOk result (λ t. t ≡ soak_target) }
+{
+    let arities = List::from_vec(Vec::from_slice(alloc, &[4, 4, 4])?);
+    Ok(Target { arities, above: 4 })
+}
+
+/// Runs a load through the fabric, under the policy of an office, whose tree is laid into a target of three levels of arity 4,
+/// and writes its line.
+pub fn soak_load<K: Sink, F: Fabric>(
+    alloc: Global,
+    load: LoadSize,
+    sink: &mut K,
+    fabric: &mut F,
+) -> Result<Status, Stop>
+    requires short { load.count ≤ most_load }
+    requires pushes { F.pushed fabric.old < 2 ^ 61 }
+    requires pops { F.popped fabric.old < 2 ^ 61 }
+
+    ensures status { IfOk result (λ s. s ≡ Status.Done) }
+    ensures answer { IsTold (IsSoaked load) result (K.written sink.old) (K.written sink.new) }
+    ensures left { IsDone (IsSoaked load) result
+        (λ a. Leaves F.Fabric a.run fabric.old fabric.new) (λ a. LeavesPart F.Fabric a.run fabric.old fabric.new) }
+    ensures sink_cause { IsErrOf result Stop.Sink → Rose (K.faults sink.old) (K.faults sink.new) }
+    ensures reads_nothing { IsErrOf result Stop.Source → ⊥ }
+{
+    let policy = Policy::office(alloc)?;
+    let target = target(alloc)?;
+    let map = match embed(alloc, policy.topo(), &target) {
+        Ok(map) => map,
+        Err(EmbedFault::NoEmbedding) => unreachable!(),
+        Err(EmbedFault::NoMemory) => return Err(Stop::Memory),
+    };
+    let placement = Placement { target, map };
+    let counts = soak(alloc, &policy, placement, load, sink, fabric)?;
+    let mut line = Vec::new(alloc);
+    put_line(&mut line, counts)?;
+    write(alloc, &line, sink)?;
+    Ok(Status::Done)
+}
