@@ -134,6 +134,8 @@ class Page(unittest.TestCase):
         page = drawn(self.folder, report)
         self.assertEqual(len(bars(page, r"packet-(\d+)")), 2001)
         self.assertIn("of the packets one in 3 is drawn", words(page))
+        page = drawn(self.folder, report, "--against", runs.OFFICE / "report")
+        self.assertIn("of the packets of A one in 3 is drawn, of those of B every one", words(page))
 
     def test_many_drops_are_thinned_too(self):
         lines = "".join("x %d %d one\n" % (at, at) for at in range(1, 6002))

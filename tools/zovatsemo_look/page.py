@@ -57,9 +57,10 @@ class Page:
 
     def notes_on(self, chosen):
         """Says what is left out on the page."""
+        drawn = ["every one" if step == 1 else "one in %d" % step for step in self.steps]
         if max(self.steps) > 1:
-            yield "of the packets %s drawn" % " and ".join(
-                "every one is" if step == 1 else "one in %d is" % step for step in self.steps)
+            yield ("of the packets %s is drawn" % drawn[0] if len(set(drawn)) == 1 else
+                   "of the packets of A %s is drawn, of those of B %s" % tuple(drawn))
         if any(leaf.came + leaf.left > MOST_STEPS for run in self.runs for leaf in run.leaves):
             yield "lines of more than %d steps are thinned, backlogs to the greatest of each stretch" % MOST_STEPS
         if len(self.names) < chosen:
