@@ -101,7 +101,8 @@ class Archive(unittest.TestCase):
         top = self.unpack(packed)
         commit = run("git", "rev-parse", "HEAD", cwd=self.clone)[1].strip()
         about = (top / "RELEASE").read_text()
-        for line in ("commit     %s" % commit, "proved by  a toolchain", "gate       57 passed, 0 failed", "replay_app"):
+        for line in ("commit     %s" % commit, "proved by  a toolchain", "gate       57 passed, 0 failed",
+                     "replay_app"):
             self.assertIn(line, about.splitlines())
         self.assertRegex(about, r"\nneeds      x86_64 Linux with glibc 2\.\d+ or later\n")
         self.assertEqual((top / "bin/zovatsemo").read_bytes(), self.program.read_bytes())

@@ -163,7 +163,8 @@ class Refused(unittest.TestCase):
             _, written = runs.write_link_run(folder)
             whole = written.read_bytes()
             later = whole[:24] + b"\x01\x00\x00\x00" + whole[28:]
-            for data, said in ((b"", "fewer than 24 bytes"), (bytes(24), "no capture of the classic format and no pcapng"),
+            for data, said in ((b"", "fewer than 24 bytes"),
+                               (bytes(24), "no capture of the classic format and no pcapng"),
                                (b"\x0a\x0d\x0d\x0a" + bytes(20), "0 whole packets, and the report speaks of 10"),
                                (whole + whole[24:], "more than the 10 packets of which the report speaks"),
                                (whole[:-1], "9 whole packets, and the report speaks of 10"),

@@ -1,6 +1,7 @@
 """The packets of a capture in the newer format, pcapng: sections of blocks, in either order of bytes.
 
-dpkt names the kinds of blocks. Its own reader rounds moments and hands out no original lengths, so blocks are read here.
+dpkt names the kinds of blocks. Its own reader rounds moments and hands out no original lengths, so blocks are read
+here.
 """
 import struct
 
@@ -50,7 +51,7 @@ def units_in(order, options):
 
 
 def packets(stream, start):
-    """Of each packet its original length in bytes and its moment in nanoseconds, up to the first block that can't be."""
+    """Of each packet its original length and its moment in nanoseconds, up to the first block that can't be."""
     units, moment = [], 0
     try:
         for order, kind, body in blocks(stream, start):

@@ -48,7 +48,7 @@ def with_classes(text):
     """Styles that come often as classes."""
     counts = collections.Counter(re.findall(r' style="([^"]*)"', text))
     names = {style: "c%d" % at for at, (style, count) in enumerate(counts.items()) if count >= OFTEN}
-    text = re.sub(r' style="([^"]*)"',
-                  lambda found: ' class="%s"' % names[found.group(1)] if found.group(1) in names else found.group(), text)
+    text = re.sub(r' style="([^"]*)"', lambda found: ' class="%s"' % names[found.group(1)]
+                  if found.group(1) in names else found.group(), text)
     rules = "".join("\n.%s{%s}" % (name, style) for style, name in names.items())
     return text.replace("</style>", rules + "</style>", 1)
