@@ -1,3 +1,3 @@
-pub mod Windows
 pub mod Records
 pub mod Readings
+pub mod CapturesLeft

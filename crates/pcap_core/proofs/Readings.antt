@@ -7,7 +7,8 @@ use Rattle.pcap_defs.specs.Header.{IsHeaderFault}
 use Rattle.pcap_defs.specs.Record.{Record, IsRecordFault, most_records}
 use Rattle.pcap_defs.specs.Reading.{packets, refused, records_left, with_first, capture_of}
 use Rattle.pcap_defs.proofs.ReadingLaws.{records_left-nothing, records_left-fault, records_left-record, capture_of-header, capture_of-fault}
-use Rattle.pcap_core.specs.Rest.{TakesHeader, TakesRecord, IsWhole}
+use Rattle.capture_core.specs.Rest.{IsWhole}
+use Rattle.pcap_core.specs.Rest.{TakesHeader, TakesRecord}
 
 -- where a header was read, the capture has it, and the records that are left
 pub capture-header : (head : Head) (old new : Option (List ℕ)) (file : List ℕ) → TakesHeader head old new → old ≡ Some file

@@ -11,7 +11,8 @@ use Rattle.pcap_defs.specs.Reading.{head_of as head_in_file}
 use Rattle.pcap_defs.proofs.Numbers.{number_at-append}
 use Rattle.pcap_defs.proofs.Headers.{head_of-header, head_of-fault}
 use Rattle.pcap_defs.proofs.FrontTests.{front_of-spelled, front_of-fault}
-use Rattle.pcap_core.specs.Rest.{rest_of, TakesFront, TakesHeader, TakesRecord, IsWhole, LeavesNothing, IsShort}
+use Rattle.capture_core.specs.Rest.{rest_of, TakesFront, IsWhole, LeavesNothing, IsShort}
+use Rattle.pcap_core.specs.Rest.{TakesHeader, TakesRecord}
 use Rattle.pcap_core.specs.Frames.{IsFrameOf, IsFrontFault}
 
 -- nothing taken leaves nothing to take

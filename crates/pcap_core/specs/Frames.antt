@@ -2,7 +2,7 @@
 use Rattle.std.specs.Prelude.{◌≡◌, ℕ, Bool, List}
 use Rattle.pcap_defs.specs.Fault.{Fault, data_cut}
 use Rattle.pcap_defs.specs.Record.{Record, moment, IsRecordFault}
-use Rattle.pcap_core.specs.declared.frame.Frame.{Frame}
+use Rattle.capture_core.specs.declared.frame.Frame.{Frame}
 
 -- The frame is that of the record, and these are the captured bytes.
 pub record IsFrameOf (nano : Bool) (r : Record) (frame : Frame) (bytes : List ℕ) : Type 0 where

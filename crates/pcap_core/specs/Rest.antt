@@ -1,20 +1,9 @@
--- What is left of a capture: the bytes that a reader holds, and those left of the file.
-use Rattle.std.specs.Prelude.{◌≡◌, ◌<◌, ℕ, Bool, Option, Some, None, List, [], ◌++◌, length, IfSome, IsTrue, ⊤}
-use Rattle.outside_core.specs.Kept.{KeepsShelf}
+-- What a reader takes from the front of what is left of a capture.
+use Rattle.std.specs.Prelude.{ℕ, Bool, Option, List}
+use Rattle.capture_core.specs.Rest.{TakesFront}
 use Rattle.pcap_defs.specs.declared.head.Head.{Head}
 use Rattle.pcap_defs.specs.Header.{IsHeader}
 use Rattle.pcap_defs.specs.Record.{Record, IsSpelling}
-
--- where the shelf tells what is left of the file
-abbrev pub rest_of : List ℕ → Option (List ℕ) → Option (List ℕ)
-rest_of held None = None
-rest_of held (Some left) = Some (held ++ left)
-
--- these bytes were taken from the front of what was left
-abbrev pub TakesFront : Option (List ℕ) → Option (List ℕ) → List ℕ → Type 0
-TakesFront None new bytes = ⊤
-TakesFront (Some old) None bytes = ⊥
-TakesFront (Some old) (Some new) bytes = old ≡ bytes ++ new
 
 -- what was left is an accepted header that says so, and what is left now
 abbrev pub TakesHeader : Head → Option (List ℕ) → Option (List ℕ) → Type 0
@@ -23,20 +12,3 @@ TakesHeader head old new = (header : List ℕ) × IsHeader head header × TakesF
 -- what was left is the spelling of the record, and what is left now
 abbrev pub TakesRecord : Bool → Record → Option (List ℕ) → Option (List ℕ) → Type 0
 TakesRecord big r old new = (spelling : List ℕ) × IsSpelling big r spelling × TakesFront old new spelling
-
--- nothing is left
-abbrev pub IsWhole : Option (List ℕ) → Type 0
-IsWhole rest = IfSome rest (λ bytes. bytes ≡ [])
-
--- where what was left was told, nothing is left now
-abbrev pub LeavesNothing : Option (List ℕ) → Option (List ℕ) → Type 0
-LeavesNothing old new = IfSome old (λ bytes. new ≡ Some [])
-
--- the shelf goes on with the same files, one of them begun, and no fewer faults
-pub record Serves {S : Type 0} (lends : S → List ℕ → Bool) (content : S → List ℕ → Option (List ℕ)) (begun : S → Bool) (faults : S → ℕ) (old new : S) : Type 0 where
-  pub still : IsTrue (begun new)
-  pub kept : KeepsShelf lends content faults old new
-
--- fewer bytes than asked for were taken only where they were all that was left
-abbrev pub IsShort : Option (List ℕ) → List ℕ → ℕ → Type 0
-IsShort old bytes most = length bytes < most → IfSome old (λ left. left ≡ bytes)

@@ -1,10 +1,8 @@
 //! Why a capture isn't read on.
 ghost use Rattle.std.specs.Prelude.{◌≡◌};
-ghost use Rattle.pcap_core.specs.Faults.{code_in, place_in, read_fault};
-ghost use Rattle.pcap_core.specs.declared.fault.CaptureFault.TheVariants.{NoMemory};
+ghost use Rattle.pcap_core.specs.Faults.{code_in, place_in, stop_fault};
 
-use outside_core::ShelfError;
-use std::alloc::AllocError;
+use outside_core::Stop;
 
 /// Why a capture isn't read on. A number is that of the record at fault, counted from 1.
 #[derive(Clone, Copy, PartialEq, Eq, Debug)]
@@ -62,21 +60,13 @@ impl CaptureFault {
     }
 }
 
-impl From<ShelfError> for CaptureFault {
-    ghost from_gives = { λ error e. e ≡ read_fault error };
+impl From<Stop> for CaptureFault {
+    ghost from_gives = { λ stop e. e ≡ stop_fault stop };
 
-    fn from(error: ShelfError) -> CaptureFault {
-        match error {
-            ShelfError::Failed => CaptureFault::ReadFault,
-            ShelfError::NoMemory => CaptureFault::NoMemory,
+    fn from(stop: Stop) -> CaptureFault {
+        match stop {
+            Stop::Memory => CaptureFault::NoMemory,
+            Stop::Source | Stop::Sink => CaptureFault::ReadFault,
         }
-    }
-}
-
-impl From<AllocError> for CaptureFault {
-    ghost from_gives = { λ _ e. e ≡ NoMemory };
-
-    fn from(_error: AllocError) -> CaptureFault {
-        CaptureFault::NoMemory
     }
 }

@@ -6,7 +6,7 @@ ghost use Rattle.pcap_core.specs.Faults.{fault_in};
 ghost use Rattle.pcap_core.specs.Frames.{IsFrontFault};
 
 use crate::fault::CaptureFault;
-use crate::number::read_long;
+use capture_core::read_long;
 use pcap_defs::Head;
 
 /// The bytes of a record count its captured ones.

@@ -7,14 +7,14 @@ ghost use Rattle.pcap_defs.specs.Header.{IsHeaderFault};
 ghost use Rattle.pcap_defs.specs.Record.{Record, IsRecordFault, most_captured, most_records};
 ghost use Rattle.pcap_core.specs.Faults.{fault_in};
 ghost use Rattle.pcap_core.specs.Frames.{IsFrameOf};
-ghost use Rattle.pcap_core.specs.Held.{held};
-ghost use Rattle.pcap_core.specs.Rest.{rest_of, TakesHeader, TakesRecord, IsWhole, LeavesNothing, Serves};
+ghost use Rattle.capture_core.specs.Held.{held};
+ghost use Rattle.capture_core.specs.Rest.{rest_of, IsWhole, LeavesNothing, Serves};
+ghost use Rattle.pcap_core.specs.Rest.{TakesHeader, TakesRecord};
 
 use crate::fault::CaptureFault;
-use crate::frame::Frame;
 use crate::header::{HEADER_LEN, head_in};
 use crate::preface::{RECORD_LEN, preface_in};
-use crate::window::Window;
+use capture_core::{Frame, Window};
 use outside_core::Shelf;
 use pcap_defs::Head;
 use std::alloc::Global;
@@ -35,7 +35,7 @@ fn read_head<S: Shelf>(
     ensures cause { IsErrOf result CaptureFault.ReadFault → Rose (S.faults shelf.old) (S.faults shelf.new) }
 {
     let mut bytes = Vec::new(alloc);
-    window.take(shelf, &mut bytes, HEADER_LEN)?;
+    window.take_anew(shelf, &mut bytes, HEADER_LEN)?;
     head_in(&bytes)
 }
 
@@ -67,12 +67,12 @@ fn read_record<S: Shelf>(
     ensures shelf { Serves S.lends S.content S.begun S.faults shelf.old shelf.new }
     ensures cause { IsErrOf result CaptureFault.ReadFault → Rose (S.faults shelf.old) (S.faults shelf.new) }
 {
-    window.take(shelf, into, RECORD_LEN)?;
+    window.take_anew(shelf, into, RECORD_LEN)?;
     if into.is_empty() {
         return Ok(None);
     }
     let preface = preface_in(head, count, into)?;
-    window.take(shelf, into, preface.captured as usize)?;
+    window.take_anew(shelf, into, preface.captured as usize)?;
     let number = u64::from(count) + 1;
     if into.len() < preface.captured as usize {
         return Err(CaptureFault::DataCut(number));
@@ -104,8 +104,10 @@ impl Reader {
     ghost use Rattle.pcap_defs.specs.Record.{Record, IsRecordFault, most_captured, most_records};
     ghost use Rattle.pcap_core.specs.Faults.{fault_in};
     ghost use Rattle.pcap_core.specs.Frames.{IsFrameOf};
-    ghost use Rattle.pcap_core.specs.Limits.{most_held};
-    ghost use Rattle.pcap_core.specs.Rest.{rest_of, TakesHeader, TakesRecord, IsWhole, LeavesNothing};
+    ghost use Rattle.capture_core.specs.Limits.{most_held};
+    ghost use Rattle.capture_core.specs.Rest.{rest_of, IsWhole, LeavesNothing};
+    ghost use Rattle.pcap_core.specs.Rest.{TakesHeader, TakesRecord};
+    ghost use Rattle.pcap_core.specs.Left.{head_read};
     ghost use Rattle.pcap_core.specs.Readers.{head_of, is_big, is_nano, records_given, bytes_held, is_live, IsNew, rest_left};
 
     pub fn new(alloc: Global) -> Reader
@@ -125,6 +127,16 @@ impl Reader {
         ensures { result ≡ is_live self.now }
     {
         self.live
+    }
+
+    /// The link type that the header told.
+    pub fn link(&self) -> u16
+        ensures { result ≡ (head_read (head_of self.now)).link }
+    {
+        match self.head {
+            Some(head) => head.link,
+            None => 0,
+        }
     }
 
     /// Reads the file header of the begun file.

@@ -4,4 +4,6 @@ pub mod Header
 pub mod Record
 pub mod Capture
 pub mod Reading
+pub mod Packet
+pub mod Contents
 pub mod Rows

@@ -1,0 +1,5 @@
+pub mod Limits
+pub mod Held
+pub mod Rest
+pub mod Passed
+pub mod Captures

@@ -1,0 +1,223 @@
+//! The bytes of a file that were read and aren't used up.
+ghost use Rattle.std.specs.Prelude.{◌≤◌, vec_len};
+ghost use Rattle.capture_core.specs.Limits.{most_held};
+
+use outside_core::{Shelf, Stop};
+use std::alloc::{AllocError, Global};
+
+/// The most bytes that are read at once and held.
+const WINDOW_LEN: usize = 65_536;
+
+/// Bytes that were read and aren't used up.
+#[derive(Drop)]
+pub struct Window {
+    buffer: Vec<u8>,
+    at: usize,
+    end: usize,
+    ghost within: { at ≤ end },
+    ghost inside: { end ≤ vec_len buffer },
+    ghost bounded: { vec_len buffer ≤ most_held },
+}
+
+impl Window {
+    ghost use Rattle.std.specs.Prelude.{◌≡◌, ◌≢◌, ◌+◌, ◌-◌, ◌<◌, ◌≤◌, ◌==◌, [], ◌++◌, List, ℕ, Some, None, length, min, take, drop, vec_len, IfOk, IfErr, OnOk, OnErr, IsTrue, IsErrOf};
+    ghost use Rattle.outside_core.specs.Kept.{HasSourceCause};
+    ghost use Rattle.capture_core.specs.Rest.{rest_of, TakesFront, IsWhole, IsShort, Serves};
+    ghost use Rattle.capture_core.specs.Held.{held};
+    ghost use Rattle.capture_core.specs.Passed.{Passes, IsAll};
+
+    /// One that holds nothing.
+    pub fn new(alloc: Global) -> Window
+        ensures { held result ≡ [] }
+    {
+        Window {
+            buffer: Vec::new(alloc),
+            at: 0,
+            end: 0,
+        }
+    }
+
+    fn is_empty(&self) -> bool
+        ensures { result ≡ (length (held self.now) == 0) }
+    {
+        self.at == self.end
+    }
+
+    /// Makes room, where there is none yet.
+    fn open(&mut self) -> Result<(), AllocError>
+        ensures room { OnOk result (0 < vec_len self.new.buffer) }
+        ensures held { held self.new ≡ held self.old }
+    {
+        if self.buffer.is_empty() {
+            self.buffer.resize(WINDOW_LEN, 0)?;
+        }
+        Ok(())
+    }
+
+    /// Reads the next bytes of the file, in place of those that are used up.
+    fn fill<S: Shelf>(&mut self, shelf: &mut S) -> Result<(), Stop>
+        requires empty { held self.old ≡ [] }
+        requires begun { IsTrue (S.begun shelf.old) }
+        ensures same { TakesFront (rest_of (held self.old) (S.left shelf.old))
+            (rest_of (held self.new) (S.left shelf.new)) [] }
+        ensures end { OnOk result (held self.new ≡ [] →
+            IsWhole (rest_of (held self.old) (S.left shelf.old))) }
+        ensures shelf { Serves S.lends S.content S.begun S.faults shelf.old shelf.new }
+        ensures cause { IfErr result (λ stop. HasSourceCause stop S.faults shelf.old shelf.new) }
+    {
+        self.open()?;
+        self.at = 0;
+        self.end = 0;
+        self.end = shelf.read(&mut self.buffer)?;
+        Ok(())
+    }
+
+    /// Appends held bytes until there are `most`, as far as there are any.
+    fn copy(&mut self, into: &mut Vec<u8>, most: usize) -> Result<(), AllocError>
+        requires { vec_len into.old ≤ most }
+        ensures moved { OnOk result (into.new.items ++ held self.new ≡ into.old.items ++ held self.old) }
+        ensures count { OnOk result (length into.new.items
+            ≡ min most (length into.old.items + length (held self.old))) }
+        ensures err { OnErr result (into.new.items ++ held self.new ≡ into.old.items ++ held self.old) }
+    {
+        let count = (self.end - self.at).min(most - into.len());
+        into.extend_from_slice(&self.buffer[self.at..self.at + count])?;
+        self.at += count;
+        Ok(())
+    }
+
+    /// Appends one piece, held or read, unless nothing is left.
+    fn copy_more<S: Shelf>(
+        &mut self,
+        shelf: &mut S,
+        into: &mut Vec<u8>,
+        most: usize,
+    ) -> Result<(), Stop>
+        requires room { vec_len into.old < most }
+        requires begun { IsTrue (S.begun shelf.old) }
+        ensures taken { OnOk result (TakesFront (rest_of (into.old.items ++ held self.old) (S.left shelf.old))
+            (rest_of (into.new.items ++ held self.new) (S.left shelf.new)) []) }
+        ensures bound { OnOk result (vec_len into.new ≤ most) }
+        ensures grows { OnOk result (vec_len into.old ≤ vec_len into.new) }
+        ensures end { OnOk result (vec_len into.new ≡ vec_len into.old →
+            IsWhole (rest_of (held self.old) (S.left shelf.old))) }
+        ensures shelf { Serves S.lends S.content S.begun S.faults shelf.old shelf.new }
+        ensures cause { IfErr result (λ stop. HasSourceCause stop S.faults shelf.old shelf.new) }
+    {
+        if self.is_empty() {
+            self.fill(shelf)?;
+        }
+        self.copy(into, most)?;
+        Ok(())
+    }
+
+    /// Moves bytes from the front of what is left behind those in `into`, until there are `most`, or all where there are
+    /// fewer.
+    pub fn take<S: Shelf>(
+        &mut self,
+        shelf: &mut S,
+        into: &mut Vec<u8>,
+        most: usize,
+    ) -> Result<(), Stop>
+        requires room { vec_len into.old ≤ most }
+        requires begun { IsTrue (S.begun shelf.old) }
+        ensures taken { OnOk result (TakesFront (rest_of (into.old.items ++ held self.old) (S.left shelf.old))
+            (rest_of (held self.new) (S.left shelf.new)) into.new.items) }
+        ensures bound { OnOk result (vec_len into.new ≤ most) }
+        ensures short { OnOk result (IsShort (rest_of (into.old.items ++ held self.old) (S.left shelf.old)) into.new.items most) }
+        ensures shelf { Serves S.lends S.content S.begun S.faults shelf.old shelf.new }
+        ensures cause { IfErr result (λ stop. HasSourceCause stop S.faults shelf.old shelf.new) }
+    {
+        while into.len() < most {
+            let before = into.len();
+            self.copy_more(shelf, into, most)?;
+            if into.len() == before {
+                break;
+            }
+        }
+        Ok(())
+    }
+
+    /// Moves bytes from the front of what is left into `into`, in place of what it held: `most`, or all where there are
+    /// fewer.
+    pub fn take_anew<S: Shelf>(
+        &mut self,
+        shelf: &mut S,
+        into: &mut Vec<u8>,
+        most: usize,
+    ) -> Result<(), Stop>
+        requires begun { IsTrue (S.begun shelf.old) }
+        ensures taken { OnOk result (TakesFront (rest_of (held self.old) (S.left shelf.old))
+            (rest_of (held self.new) (S.left shelf.new)) into.new.items) }
+        ensures bound { OnOk result (vec_len into.new ≤ most) }
+        ensures short { OnOk result (IsShort (rest_of (held self.old) (S.left shelf.old)) into.new.items most) }
+        ensures shelf { Serves S.lends S.content S.begun S.faults shelf.old shelf.new }
+        ensures cause { IfErr result (λ stop. HasSourceCause stop S.faults shelf.old shelf.new) }
+    {
+        into.clear();
+        self.take(shelf, into, most)
+    }
+
+    /// Reads the next bytes of the file where none are held.
+    fn refill<S: Shelf>(&mut self, shelf: &mut S) -> Result<(), Stop>
+        requires begun { IsTrue (S.begun shelf.old) }
+        ensures same { TakesFront (rest_of (held self.old) (S.left shelf.old))
+            (rest_of (held self.new) (S.left shelf.new)) [] }
+        ensures end { OnOk result (held self.new ≡ [] →
+            IsWhole (rest_of (held self.old) (S.left shelf.old))) }
+        ensures shelf { Serves S.lends S.content S.begun S.faults shelf.old shelf.new }
+        ensures cause { IfErr result (λ stop. HasSourceCause stop S.faults shelf.old shelf.new) }
+    {
+        if self.is_empty() {
+            self.fill(shelf)?;
+        }
+        Ok(())
+    }
+
+    /// Passes over held bytes, at most so many, and answers how many these were.
+    fn advance(&mut self, most: usize) -> usize
+        ensures count { result ≡ min (length (held self.old)) most }
+        ensures passed { held self.new ≡ drop result (held self.old) }
+    {
+        let count = (self.end - self.at).min(most);
+        self.at += count;
+        count
+    }
+
+    /// Passes over one piece of at most `most` bytes, held or read, and answers how many these were: none only where
+    /// nothing is left.
+    fn pass_more<S: Shelf>(&mut self, shelf: &mut S, most: usize) -> Result<usize, Stop>
+        requires some { 0 < most }
+        requires begun { IsTrue (S.begun shelf.old) }
+        ensures passed { IfOk result (λ n. Passes n (rest_of (held self.old) (S.left shelf.old))
+            (rest_of (held self.new) (S.left shelf.new))) }
+        ensures bound { IfOk result (λ n. n ≤ most) }
+        ensures end { IfOk result (λ n. n ≡ 0 → IsWhole (rest_of (held self.old) (S.left shelf.old))) }
+        ensures shelf { Serves S.lends S.content S.begun S.faults shelf.old shelf.new }
+        ensures cause { IfErr result (λ stop. HasSourceCause stop S.faults shelf.old shelf.new) }
+    {
+        self.refill(shelf)?;
+        Ok(self.advance(most))
+    }
+
+    /// Passes over so many bytes at the front of what is left, or all where there are fewer, and answers how many.
+    pub fn pass<S: Shelf>(&mut self, shelf: &mut S, count: usize) -> Result<usize, Stop>
+        requires begun { IsTrue (S.begun shelf.old) }
+        ensures passed { IfOk result (λ n. Passes n (rest_of (held self.old) (S.left shelf.old))
+            (rest_of (held self.new) (S.left shelf.new))) }
+        ensures bound { IfOk result (λ n. n ≤ count) }
+        ensures end { IfOk result (λ n. n < count → IsAll n (rest_of (held self.old) (S.left shelf.old))) }
+        ensures shelf { Serves S.lends S.content S.begun S.faults shelf.old shelf.new }
+        ensures cause { IfErr result (λ stop. HasSourceCause stop S.faults shelf.old shelf.new) }
+    {
+        let mut rest = count;
+        while rest > 0 {
+            let passed = self.pass_more(shelf, rest)?;
+            if passed == 0 {
+                return Ok(count - rest);
+            }
+            rest -= passed;
+        }
+        Ok(count)
+    }
+}

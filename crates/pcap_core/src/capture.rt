@@ -1,0 +1,70 @@
+//! A reader of classic captures as one of captures of any format.
+ghost use Rattle.std.specs.Prelude.{◌≡◌};
+ghost use Rattle.pcap_core.specs.Faults.{unread_as};
+
+use crate::fault::CaptureFault;
+use crate::reader::Reader;
+use capture_core::{CaptureReader, LinkedFrame, Unread};
+use outside_core::Shelf;
+use std::alloc::Global;
+
+/// Why a capture isn't read on, in the words of any format.
+fn unread(fault: CaptureFault) -> Unread
+    ensures { result ≡ unread_as fault }
+{
+    match fault {
+        CaptureFault::ReadFault => Unread::Source,
+        CaptureFault::NoMemory => Unread::Memory,
+        _ => Unread::Fault(fault.code(), fault.place()),
+    }
+}
+
+impl CaptureReader for Reader {
+    ghost use Rattle.std.specs.Prelude.{IsSome, IsTrue};
+    ghost use Rattle.pcap_defs.specs.Reading.{capture_of};
+    ghost use Rattle.pcap_defs.specs.Contents.{in_capture};
+    ghost use Rattle.pcap_core.specs.Readers.{head_of, is_live, records_given, IsNew};
+    ghost use Rattle.pcap_core.specs.Left.{contents_left};
+
+    ghost contents = { λ file. in_capture (capture_of file) };
+
+    ghost left = { contents_left };
+
+    ghost given = { records_given };
+
+    ghost is_live = { is_live };
+
+    ghost fresh = { IsNew };
+
+    ghost ready = { λ r. IsSome (head_of r) × IsTrue (is_live r) };
+
+    fn new(alloc: Global) -> Reader {
+        Reader::new(alloc)
+    }
+
+    fn live(&self) -> bool {
+        Reader::live(self)
+    }
+
+    fn start<S: Shelf>(&mut self, shelf: &mut S) -> Result<(), Unread> {
+        match Reader::start(self, shelf) {
+            Ok(_) => Ok(()),
+            Err(fault) => Err(unread(fault)),
+        }
+    }
+
+    fn next<S: Shelf>(
+        &mut self,
+        shelf: &mut S,
+        into: &mut Vec<u8>,
+    ) -> Result<Option<LinkedFrame>, Unread> {
+        match Reader::next(self, shelf, into) {
+            Ok(Some(frame)) => Ok(Some(LinkedFrame {
+                frame,
+                link: self.link(),
+            })),
+            Ok(None) => Ok(None),
+            Err(fault) => Err(unread(fault)),
+        }
+    }
+}
