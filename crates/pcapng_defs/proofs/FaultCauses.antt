@@ -7,7 +7,7 @@ use Rattle.pcap_defs.specs.Number.{long_at, short_at}
 use Rattle.pcap_defs.specs.Record.{most_captured}
 use Rattle.pcapng_defs.specs.declared.interface.Interface.{Interface}
 use Rattle.pcapng_defs.specs.Fault.{BlockFault, block_cut, block_length, order_magic, ng_version, no_interface, packet_length, interfaces, too_many_blocks, block_end, code}
-use Rattle.pcapng_defs.specs.Packet.{CapturedPacket}
+use Rattle.pcap_defs.specs.Packet.{CapturedPacket}
 use Rattle.pcapng_defs.specs.Block.{Carried, BlockKind, section, interface, enhanced, simple, other, kind_of, ng_major, most_interfaces, enhanced_at, simple_at, simple_len, block_gives}
 use Rattle.pcapng_defs.specs.NgCapture.{BlockFront, nothing, broken, found, front_of, front_at, front_in, front_with, order_at, fits_kind, block_len, most_blocks}
 use Rattle.pcapng_defs.specs.WholeBlock.{IsWholeBlock}

@@ -9,7 +9,7 @@ use Rattle.pcapng_defs.specs.declared.interface.Interface.{Interface}
 use Rattle.pcapng_defs.specs.Fault.{BlockFault, code, place}
 use Rattle.rank_defs.specs.Programs.{max_rank}
 use Rattle.pcapng_defs.specs.Moment.{moment_in, units_a_second}
-use Rattle.pcapng_defs.specs.Packet.{CapturedPacket}
+use Rattle.pcap_defs.specs.Packet.{CapturedPacket}
 use Rattle.pcapng_defs.specs.Block.{Carried, BlockKind, section, interface, enhanced, simple, other, kind_of, least_total, most_total, ng_major, most_interfaces, packet_at, enhanced_at, simple_at, simple_len, block_gives}
 use Rattle.pcapng_defs.specs.NgCapture.{BlockFront, nothing, broken, found, front_of, front_at, front_in, front_with, order_at, fits_kind, block_len, most_blocks, packets_in}
 use Rattle.pcapng_defs.specs.Laws.{IsBounded}

@@ -4,3 +4,4 @@ pub mod WholeBlocks
 pub mod FaultCauses
 pub mod OptionSteps
 pub mod Readings
+pub mod AlikeFiles

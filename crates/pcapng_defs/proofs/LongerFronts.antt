@@ -6,7 +6,7 @@ use Rattle.std.proofs.lemmas.Bool.{ltb-false, le-ltb, eqb-false, ne_eqb, and_cas
 use Rattle.pcap_defs.specs.Number.{long_at}
 use Rattle.pcap_defs.proofs.Numbers.{number_at-append}
 use Rattle.pcapng_defs.specs.Fault.{BlockFault, block_cut, block_end}
-use Rattle.pcapng_defs.specs.Packet.{CapturedPacket}
+use Rattle.pcap_defs.specs.Packet.{CapturedPacket}
 use Rattle.pcapng_defs.specs.Block.{Carried, BlockKind, kind_of, section_type, block_gives}
 use Rattle.pcapng_defs.specs.NgCapture.{BlockFront, nothing, broken, found, front_of, front_at, front_in, front_with, order_in, order_at, order_number, fits_kind, block_len, most_blocks}
 use Rattle.pcapng_defs.specs.Laws.{BlocksStand, FaultsStand}

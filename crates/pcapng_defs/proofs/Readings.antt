@@ -5,7 +5,7 @@ use Rattle.std.specs.Bool.{⊤}
 use Rattle.std.specs.List.{AllByRecursion}
 use Rattle.pcapng_defs.specs.Fault.{BlockFault}
 use Rattle.rank_defs.specs.Programs.{max_rank}
-use Rattle.pcapng_defs.specs.Packet.{CapturedPacket}
+use Rattle.pcap_defs.specs.Packet.{CapturedPacket}
 use Rattle.pcapng_defs.specs.Block.{Carried, at_start}
 use Rattle.pcapng_defs.specs.NgCapture.{BlockFront, nothing, broken, found, front_of, most_blocks, Reading, behind, packets_in, at_front, read_from, reading_of}
 use Rattle.pcapng_defs.specs.Laws.{IsBounded, IsNumbered, GoesBlockByBlock, GoesOnBehindBlocks, FaultsAreNumbered, PacketsAreBounded, PacketsAreFew}

@@ -6,7 +6,7 @@ use Rattle.std.proofs.lemmas.Bool.{ltb-false, leb-true, le-leb, le-ltb, eqb-true
 use Rattle.pcap_defs.specs.Number.{long_at}
 use Rattle.pcap_defs.proofs.Numbers.{number_at-append}
 use Rattle.pcapng_defs.specs.Fault.{BlockFault}
-use Rattle.pcapng_defs.specs.Packet.{CapturedPacket}
+use Rattle.pcap_defs.specs.Packet.{CapturedPacket}
 use Rattle.pcapng_defs.specs.Block.{Carried, BlockKind, kind_of, least_total, most_total, block_gives}
 use Rattle.pcapng_defs.specs.NgCapture.{BlockFront, found, front_of, front_at, front_in, front_with, order_at, fits_kind, block_len, most_blocks}
 use Rattle.pcapng_defs.specs.WholeBlock.{IsWholeBlock, IsBlock, ReadsBlocks}

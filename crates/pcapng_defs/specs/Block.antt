@@ -7,7 +7,7 @@ use Rattle.pcapng_defs.specs.declared.interface.Interface.{Interface}
 use Rattle.pcapng_defs.specs.Fault.{BlockFault, ng_version, no_interface, packet_length, interfaces}
 use Rattle.pcapng_defs.specs.Interface.{interface_at}
 use Rattle.pcapng_defs.specs.Moment.{moment_in}
-use Rattle.pcapng_defs.specs.Packet.{CapturedPacket}
+use Rattle.pcap_defs.specs.Packet.{CapturedPacket}
 
 -- what is carried from block to block: the byte order of the section and its interfaces, the moment of the packet before, and
 -- how many blocks came

@@ -1,12 +1,16 @@
 -- What follows from the definition of a pcapng capture.
-use Rattle.std.specs.Prelude.{◌≡◌, ◌≢◌, ℕ, ◌+◌, ◌≤◌, Bool, Option, Some, None, List, ◌++◌, length}
+use Rattle.std.specs.Prelude.{◌≡◌, ◌≢◌, ℕ, ◌+◌, ◌≤◌, Bool, Option, Some, None, List, ◌++◌, length, map}
 use Rattle.std.specs.List.{AllByRecursion}
 use Rattle.rank_defs.specs.Programs.{max_rank}
-use Rattle.pcap_defs.specs.Record.{most_captured}
+use Rattle.pcap_defs.specs.declared.head.Head.{Head}
+use Rattle.pcap_defs.specs.Record.{Record, most_captured}
+use Rattle.pcap_defs.specs.Reading.{packets, capture_of}
+use Rattle.pcap_defs.specs.Contents.{in_capture}
 use Rattle.pcapng_defs.specs.Fault.{BlockFault, block_cut, code, place}
 use Rattle.pcapng_defs.specs.Interface.{unit_of, at_option, option_front}
-use Rattle.pcapng_defs.specs.Packet.{CapturedPacket}
+use Rattle.pcap_defs.specs.Packet.{CapturedPacket, packet_with}
 use Rattle.pcapng_defs.specs.Block.{Carried}
+use Rattle.pcapng_defs.specs.NgContents.{in_ng_capture}
 use Rattle.pcapng_defs.specs.NgCapture.{broken, found, front_of, at_front, behind, reading_of, ng_capture_of, most_blocks}
 
 -- what is left is read block by block, with what is carried from each to the next
@@ -57,3 +61,15 @@ PacketsAreBounded = (file : List ℕ) → AllByRecursion IsBounded (ng_capture_o
 -- there are no more packets than blocks that came, and no more of these than may come
 abbrev pub PacketsAreFew : Type 0
 PacketsAreFew = (file : List ℕ) → (length (ng_capture_of file).packets ≤ (ng_capture_of file).carried.blocks) × ((ng_capture_of file).carried.blocks ≤ most_blocks)
+
+-- A classic file and a pcapng file, both without fault, whose packets have equal link types, moments, lengths and bytes.
+pub record AreAlike (file ng_file : List ℕ) : Type 0 where
+  pub head : Head
+  pub records : List Record
+  pub classic : capture_of file ≡ packets head records None
+  pub whole : (ng_capture_of ng_file).fault ≡ None
+  pub same : (ng_capture_of ng_file).packets ≡ map (packet_with head) records
+
+-- such files hold the same
+abbrev pub AlikeFilesHoldTheSame : Type 0
+AlikeFilesHoldTheSame = (file ng_file : List ℕ) → AreAlike file ng_file → in_capture (capture_of file) ≡ in_ng_capture ng_file

@@ -1,10 +1,10 @@
 pub mod Fault
 pub mod Moment
 pub mod Interface
-pub mod Packet
 pub mod Block
 pub mod NgCapture
 pub mod WholeBlock
 pub mod FaultCauses
+pub mod NgContents
 pub mod Laws
 pub mod Rows

@@ -2,7 +2,7 @@
 use Rattle.std.specs.Prelude.{ℕ, zero, suc, ◌+◌, ◌-◌, ◌%◌, ◌==◌, ◌&&◌, not, nat_lt, nat_le, Bool, true, false, if◌then◌else◌, Option, Some, None, Result, Ok, Err, List, [], ◌∷◌, ◌++◌, length, take, drop}
 use Rattle.pcap_defs.specs.Number.{long_at}
 use Rattle.pcapng_defs.specs.Fault.{BlockFault, block_cut, block_length, order_magic, too_many_blocks, block_end}
-use Rattle.pcapng_defs.specs.Packet.{CapturedPacket}
+use Rattle.pcap_defs.specs.Packet.{CapturedPacket}
 use Rattle.pcapng_defs.specs.Block.{Carried, at_start, BlockKind, kind_of, section_type, least_total, most_total, block_gives}
 
 -- the most blocks that a capture may have

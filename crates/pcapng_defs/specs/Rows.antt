@@ -4,7 +4,7 @@ use Rattle.pcapng_defs.specs.declared.interface.Unit.TheVariants.{Decimal, Binar
 use Rattle.pcapng_defs.specs.Fault.{BlockFault, block_cut, block_length, order_magic, ng_version, no_interface, packet_length, interfaces, too_many_blocks, block_end, code, place}
 use Rattle.pcapng_defs.specs.Moment.{moment_in}
 use Rattle.pcapng_defs.specs.Interface.{unit_of, unit_from, option_front}
-use Rattle.pcapng_defs.specs.Packet.{CapturedPacket, packet_with}
+use Rattle.pcap_defs.specs.Packet.{CapturedPacket, packet_with}
 use Rattle.pcapng_defs.specs.Block.{Carried}
 use Rattle.pcapng_defs.specs.NgCapture.{BlockFront, nothing, broken, reading_of, ng_capture_of, front_of, read_from}
 

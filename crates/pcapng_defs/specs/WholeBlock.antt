@@ -1,7 +1,7 @@
 -- A whole block without a fault, as bytes (draft-ietf-opsawg-pcapng, 3.1).
 use Rattle.std.specs.Prelude.{◌≡◌, ◌≢◌, ◌↔◌, ◌≤◌, ◌%◌, ◌-◌, ℕ, Bool, Option, Some, Ok, List, ◌++◌, length}
 use Rattle.pcap_defs.specs.Number.{long_at}
-use Rattle.pcapng_defs.specs.Packet.{CapturedPacket}
+use Rattle.pcap_defs.specs.Packet.{CapturedPacket}
 use Rattle.pcapng_defs.specs.Block.{Carried, BlockKind, kind_of, least_total, most_total, block_gives}
 use Rattle.pcapng_defs.specs.NgCapture.{order_at, most_blocks, found, front_of}
 

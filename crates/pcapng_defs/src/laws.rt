@@ -1,7 +1,7 @@
 //! The laws of pcapng captures.
 ghost use Rattle.pcapng_defs.specs.FaultCauses.{ReadsFaults};
 ghost use Rattle.pcapng_defs.specs.WholeBlock.{ReadsBlocks};
-ghost use Rattle.pcapng_defs.specs.Laws.{GoesBlockByBlock, UnitsGoOptionByOption, BlocksStand, FaultsStand, GoesOnBehindBlocks, FaultsAreNumbered, PacketsAreBounded, PacketsAreFew};
+ghost use Rattle.pcapng_defs.specs.Laws.{GoesBlockByBlock, UnitsGoOptionByOption, BlocksStand, FaultsStand, GoesOnBehindBlocks, FaultsAreNumbered, PacketsAreBounded, PacketsAreFew, AlikeFilesHoldTheSame};
 
 /// What is left of a file is read block by block.
 pub fn a_file_goes_block_by_block()
@@ -47,4 +47,9 @@ pub fn packets_are_few()
 /// A packet captures at most 262,144 bytes, and its moment is at most the greatest.
 pub fn packets_are_bounded()
     ensures law { PacketsAreBounded }
+{}
+
+/// A classic file and a pcapng file without fault, whose packets are equal, hold the same.
+pub fn alike_files_hold_the_same()
+    ensures law { AlikeFilesHoldTheSame }
 {}

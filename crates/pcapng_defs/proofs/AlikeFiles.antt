@@ -1,0 +1,24 @@
+-- A classic and a pcapng file whose packets are equal.
+use Rattle.std.proofs.Common.{◌≡◌, ℕ, Some, None, List, refl, sym, ap, ◌∙◌}
+use Rattle.std.specs.Prelude.{option_map}
+use Rattle.pcap_defs.specs.Contents.{in_capture, holds}
+use Rattle.pcapng_defs.specs.Block.{at_start}
+use Rattle.pcapng_defs.specs.NgCapture.{BlockFront, nothing, broken, found, front_of, at_front, reading_of, ng_capture_of, Reading}
+use Rattle.pcapng_defs.specs.NgContents.{block_fault_at, contents_read, behind_front}
+use Rattle.pcapng_defs.specs.Laws.{AlikeFilesHoldTheSame}
+use Rattle.pcapng_defs.proofs.Readings.{goes_block_by_block}
+
+-- a file that is read without fault is a capture
+whole-holds : (front : BlockFront) (file : List ℕ) → front_of at_start file ≡ front → (ng_capture_of file).fault ≡ None → behind_front front (ng_capture_of file) ≡ holds (contents_read (ng_capture_of file))
+whole-holds nothing file e whole = refl
+whole-holds (broken fault) file e whole =
+    let ends : (ng_capture_of file).fault ≡ Some fault = ap (λ (r : Reading). r.fault) (goes_block_by_block at_start file ∙ ap (at_front reading_of at_start) e) in
+    absurd (cc)
+whole-holds (found packet after others) file e whole = refl
+
+pub alike_files : AlikeFilesHoldTheSame
+alike_files file ng_file alike =
+    ap in_capture alike.classic
+    ∙ ap (λ packets. holds (record { packets = packets; fault = None })) (sym alike.same)
+    ∙ ap (λ fault. holds (record { packets = (ng_capture_of ng_file).packets; fault = option_map block_fault_at fault })) (sym alike.whole)
+    ∙ sym (whole-holds (front_of at_start ng_file) ng_file refl alike.whole)

@@ -1,0 +1,28 @@
+-- What a file holds as a pcapng capture, in the words that are those of every capture.
+use Rattle.std.specs.Prelude.{◌≡◌, refl, ℕ, Some, option_map, List, []}
+use Rattle.pcap_defs.specs.Contents.{FaultAt, Contents, FileContents, no_capture, holds}
+use Rattle.pcapng_defs.specs.Fault.{BlockFault, block_cut, order_magic, code, place}
+use Rattle.pcapng_defs.specs.Block.{at_start}
+use Rattle.pcapng_defs.specs.NgCapture.{BlockFront, nothing, broken, front_of, Reading, ended, ng_capture_of}
+
+abbrev pub block_fault_at : BlockFault → FaultAt
+block_fault_at fault = record { code = code fault; place = place fault }
+
+-- the contents that are read
+abbrev pub contents_read : Reading → Contents
+contents_read r = record { packets = r.packets; fault = option_map block_fault_at r.fault }
+
+-- what is in a file at whose front this stands, and of which this is read
+abbrev pub behind_front : BlockFront → Reading → FileContents
+behind_front (broken fault) r = no_capture (block_fault_at fault)
+behind_front _ r = holds (contents_read r)
+
+-- what is in a file: it is no capture where its first block is at fault
+abbrev pub in_ng_capture : List ℕ → FileContents
+in_ng_capture file = behind_front (front_of at_start file) (ng_capture_of file)
+
+behind_front-refused : behind_front (broken (order_magic 1)) (ended at_start (Some (order_magic 1))) ≡ no_capture (record { code = 13; place = 1 })
+behind_front-refused = refl
+
+behind_front-cut : behind_front nothing (ended at_start (Some (block_cut 4))) ≡ holds (record { packets = []; fault = Some (record { code = 11; place = 4 }) })
+behind_front-cut = refl
