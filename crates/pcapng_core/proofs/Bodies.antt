@@ -9,7 +9,7 @@ use Rattle.pcapng_defs.specs.declared.interface.Unit.{Unit}
 use Rattle.pcapng_defs.specs.Fault.{BlockFault, ng_version, interfaces, packet_length}
 use Rattle.pcapng_defs.specs.Interface.{unit_of}
 use Rattle.pcapng_defs.specs.Moment.{moment_in}
-use Rattle.pcapng_defs.specs.Packet.{CapturedPacket}
+use Rattle.pcap_defs.specs.Packet.{CapturedPacket}
 use Rattle.pcapng_defs.specs.Block.{Carried, past, block_gives, ng_major, most_interfaces, packet_at, enhanced_at, simple_at, simple_len}
 use Rattle.pcapng_core.specs.Bodies.{packet_told, packet_body, enhanced_body, simple_body, body_said, captured_in, front_len}
 use Rattle.pcapng_core.specs.Carries.{went}

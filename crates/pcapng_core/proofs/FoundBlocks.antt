@@ -1,6 +1,6 @@
 -- What a reader's steps say of the block at the front, where what is left is told.
 use Rattle.std.proofs.Common.{◌≡◌, ◌<◌, ◌+◌, ℕ, Option, Some, None, List, ◌++◌, length, IfSome, refl, sym, ap, ◌∙◌, subst, arith, append_assoc}
-use Rattle.pcap_core.specs.Rest.{rest_of, TakesFront}
+use Rattle.capture_core.specs.Rest.{rest_of, TakesFront}
 use Rattle.pcapng_defs.specs.declared.interface.Unit.{Unit}
 use Rattle.pcapng_defs.specs.Fault.{BlockFault, block_cut}
 use Rattle.pcapng_defs.specs.Block.{Carried}

@@ -1,5 +1,3 @@
-pub mod Windows
-pub mod Takes
 pub mod OptionFronts
 pub mod OptionReads
 pub mod OptionSteps
@@ -13,3 +11,4 @@ pub mod Behind
 pub mod Packets
 pub mod Moments
 pub mod Refusals
+pub mod CapturesLeft

@@ -1,8 +1,8 @@
 -- What is read up to the next packet.
 use Rattle.std.proofs.Common.{◌≡◌, ◌≢◌, ℕ, Option, Some, None, List, [], IfSome, ap, ◌∙◌}
-use Rattle.pcap_core.specs.Rest.{IsWhole}
+use Rattle.capture_core.specs.Rest.{IsWhole}
 use Rattle.pcapng_defs.specs.Fault.{BlockFault}
-use Rattle.pcapng_defs.specs.Packet.{CapturedPacket}
+use Rattle.pcap_defs.specs.Packet.{CapturedPacket}
 use Rattle.pcapng_defs.specs.Block.{Carried}
 use Rattle.pcapng_defs.specs.NgCapture.{Reading, front_of, broken, reading_of, at_front, behind, ended, packets_in}
 use Rattle.pcapng_defs.proofs.Readings.{goes_block_by_block}

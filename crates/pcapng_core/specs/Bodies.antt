@@ -5,7 +5,7 @@ use Rattle.pcap_defs.specs.Record.{most_captured}
 use Rattle.rank_defs.specs.Programs.{max_rank}
 use Rattle.pcapng_defs.specs.declared.interface.Interface.{Interface}
 use Rattle.pcapng_defs.specs.Moment.{moment_in}
-use Rattle.pcapng_defs.specs.Packet.{CapturedPacket}
+use Rattle.pcap_defs.specs.Packet.{CapturedPacket}
 use Rattle.pcapng_defs.specs.Block.{Carried, ng_major, most_interfaces, simple_len}
 use Rattle.pcapng_core.specs.declared.fault.NgFault.TheVariants.{NgVersion, NoInterface, PacketLength, Interfaces}
 use Rattle.pcapng_core.specs.declared.start.Kind.{Kind}

@@ -4,6 +4,8 @@ use Rattle.std.specs.Option.{option_map_or}
 use Rattle.outside_core.specs.declared.stop.Stop.{Stop}
 use Rattle.outside_core.specs.declared.stop.Stop.TheVariants.{Memory}
 use Rattle.pcapng_defs.specs.Fault.{BlockFault, block_cut, block_length, order_magic, ng_version, no_interface, packet_length, interfaces, too_many_blocks, block_end, code, place}
+use Rattle.capture_core.specs.declared.unread.Unread.{Unread}
+use Rattle.capture_core.specs.declared.unread.Unread.TheVariants as unread
 use Rattle.pcapng_core.specs.declared.fault.NgFault.{NgFault}
 use Rattle.pcapng_core.specs.declared.fault.NgFault.TheVariants.{BlockCut, BlockLength, OrderMagic, NgVersion, NoInterface, PacketLength, Interfaces, TooManyBlocks, BlockEnd, ReadFault, NoMemory}
 
@@ -32,3 +34,9 @@ place_in refusal = option_map_or place (fault_in refusal) 0
 abbrev pub stop_fault : Stop → NgFault
 stop_fault Memory = NoMemory
 stop_fault _ = ReadFault
+
+-- what a refusal becomes in the words of any format
+abbrev pub unread_as : NgFault → Unread
+unread_as ReadFault = unread.Source
+unread_as NoMemory = unread.Memory
+unread_as refusal = unread.Fault (code_in refusal) (place_in refusal)

@@ -1,9 +1,8 @@
 pub mod Faults
-pub mod Held
-pub mod Passed
 pub mod Carries
 pub mod Kinds
 pub mod Bodies
 pub mod Options
 pub mod Blocks
 pub mod Readers
+pub mod Left

@@ -4,16 +4,15 @@ use Rattle.rank_defs.specs.Programs.{max_rank}
 use Rattle.pcap_defs.specs.Record.{most_captured}
 use Rattle.pcapng_core.specs.declared.reader.Block.{Block}
 use Rattle.pcapng_core.specs.declared.reader.Block.TheVariants as block
-use Rattle.pcap_core.specs.Rest.{rest_of}
+use Rattle.capture_core.specs.Rest.{rest_of}
 use Rattle.pcapng_defs.specs.Fault.{BlockFault}
-use Rattle.pcapng_defs.specs.Packet.{CapturedPacket}
+use Rattle.pcap_defs.specs.Packet.{CapturedPacket}
 use Rattle.pcapng_defs.specs.Block.{Carried, at_start}
 use Rattle.pcapng_defs.specs.NgCapture.{front_of, found, reading_of, behind}
-use Rattle.pcapng_core.specs.Held.{held}
+use Rattle.capture_core.specs.Held.{held}
 use Rattle.pcapng_core.specs.Bodies.{packet_told}
 use Rattle.pcapng_core.specs.Carries.{carried_of}
 use Rattle.pcapng_core.specs.declared.body.Packet.{Packet}
-use Rattle.pcapng_core.specs.declared.frame.NgFrame.{NgFrame}
 use Rattle.pcapng_core.specs.declared.reader.NgReader.{NgReader}
 
 -- what it carries from block to block
@@ -42,10 +41,6 @@ pub record IsNew (reader : NgReader) : Type 0 where
   pub none_given : packets_given reader ≡ 0
   pub none_held : bytes_held reader ≡ []
   pub live : is_live reader ≡ true
-
--- the packet that a frame and its captured bytes tell
-abbrev pub packet_of : NgFrame → List ℕ → CapturedPacket
-packet_of f captured = record { link = f.link; moment = f.frame.moment; original = f.frame.len; captured = captured }
 
 -- the packet of a block, with its captured bytes, if it is one
 abbrev pub block_packet : Block → List ℕ → Option CapturedPacket

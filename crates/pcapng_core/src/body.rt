@@ -10,8 +10,8 @@ ghost use Rattle.pcapng_core.specs.Carries.{carried_of};
 use crate::carry::Carry;
 use crate::fault::NgFault;
 use crate::moment::moment_in;
-use crate::number::{read_long, read_short};
 use crate::start::{Kind, Start};
+use capture_core::{read_long, read_short};
 use pcapng_defs::Interface;
 
 const MAJOR_VERSION: u16 = 1;

@@ -2,18 +2,16 @@
 #![tactic(auto)]
 
 mod body;
+mod capture;
 mod carry;
 mod fault;
-mod frame;
 mod moment;
-mod number;
 mod options;
 mod reader;
 mod start;
-mod window;
 
+pub use capture_core::LinkedFrame as NgFrame;
 pub use fault::NgFault;
-pub use frame::NgFrame;
 pub use reader::NgReader;
 
 #[cfg(test)]

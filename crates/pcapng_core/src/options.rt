@@ -1,14 +1,13 @@
 //! The options of an interface, read option by option.
 ghost use Rattle.std.specs.Prelude.{◌≡◌, ◌≤◌, ◌<◌, ◌+◌, ◌-◌, length, vec_len, IfOk, IfErr, IsTrue};
 ghost use Rattle.outside_core.specs.Kept.{HasSourceCause};
-ghost use Rattle.pcap_core.specs.Rest.{rest_of, Serves};
-ghost use Rattle.pcapng_core.specs.Held.{held};
+ghost use Rattle.capture_core.specs.Rest.{rest_of, Serves};
+ghost use Rattle.capture_core.specs.Held.{held};
 ghost use Rattle.pcapng_defs.specs.Interface;
-ghost use Rattle.pcapng_core.specs.Passed.{Passes};
+ghost use Rattle.capture_core.specs.Passed.{Passes};
 ghost use Rattle.pcapng_core.specs.Options.{step_rest, FitsIn, GoesDown, StandsAt, IsUnitOf, FrontOf};
 
-use crate::number::read_short;
-use crate::window::Window;
+use capture_core::{Window, read_short};
 use outside_core::{Shelf, Stop};
 use pcapng_defs::Unit;
 

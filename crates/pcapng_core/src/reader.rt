@@ -2,13 +2,13 @@
 ghost use Rattle.std.specs.Prelude.{◌≡◌, ◌≢◌, ◌≤◌, ◌<◌, ◌+◌, ◌-◌, ℕ, true, List, Option, Some, None, [], ◌++◌, length, vec_len, IfOk, IfErr, OnOk, OnErr, IfSome, IfNone, IsErrOf, IsTrue};
 ghost use Rattle.outside_core.specs.Faults.{Rose};
 ghost use Rattle.outside_core.specs.Kept.{HasSourceCause};
-ghost use Rattle.pcap_core.specs.Rest.{rest_of, TakesFront, IsWhole, LeavesNothing, Serves};
+ghost use Rattle.capture_core.specs.Rest.{rest_of, TakesFront, IsWhole, LeavesNothing, Serves};
 ghost use Rattle.pcapng_defs.specs.Fault.{block_cut};
 ghost use Rattle.pcapng_defs.specs.NgCapture.{front_of, broken, fits_kind, block_len, most_blocks};
 ghost use Rattle.pcapng_core.specs.Faults.{fault_in};
 ghost use Rattle.pcapng_core.specs.Kinds.{kind_said};
-ghost use Rattle.pcapng_core.specs.Held.{held};
-ghost use Rattle.pcapng_core.specs.Passed.{Passes};
+ghost use Rattle.capture_core.specs.Held.{held};
+ghost use Rattle.capture_core.specs.Passed.{Passes};
 ghost use Rattle.pcapng_core.specs.Options.{IsUnitOf};
 ghost use Rattle.pcapng_core.specs.Carries.{carried_of};
 ghost use Rattle.pcapng_core.specs.Bodies;
@@ -18,13 +18,10 @@ ghost use Rattle.pcapng_core.specs.Blocks.{IsStart, HasRoom, ReadsTo, IsEndFault
 use crate::body::{Body, Packet, body_in, front_len};
 use crate::carry::Carry;
 use crate::fault::NgFault;
-use crate::frame::NgFrame;
-use crate::number::read_long;
 use crate::options::read_unit;
 use crate::start::{Kind, START_LEN, Start, start_in};
-use crate::window::Window;
+use capture_core::{Frame, LinkedFrame, Window, read_long};
 use outside_core::{Shelf, Stop};
-use pcap_core::Frame;
 use pcapng_defs::Unit;
 use std::alloc::Global;
 
@@ -209,14 +206,15 @@ impl NgReader {
     ghost use Rattle.outside_core.specs.Faults.{Rose};
     ghost use Rattle.outside_core.specs.Kept.{KeepsShelf};
     ghost use Rattle.rank_defs.specs.Programs.{max_rank};
-    ghost use Rattle.pcap_core.specs.Limits.{most_held};
-    ghost use Rattle.pcap_core.specs.Rest.{IsWhole, LeavesNothing, Serves};
+    ghost use Rattle.capture_core.specs.Captures.{packet_of};
+    ghost use Rattle.capture_core.specs.Limits.{most_held};
+    ghost use Rattle.capture_core.specs.Rest.{IsWhole, LeavesNothing, Serves};
     ghost use Rattle.pcap_defs.specs.Record.{most_captured};
     ghost use Rattle.pcapng_defs.specs.Fault.{BlockFault};
     ghost use Rattle.pcapng_defs.specs.Block.{at_start};
     ghost use Rattle.pcapng_defs.specs.NgCapture.{front_of, broken, most_blocks};
     ghost use Rattle.pcapng_core.specs.Faults.{fault_in};
-    ghost use Rattle.pcapng_core.specs.Readers.{carry_of, packets_given, bytes_held, is_live, IsNew, rest_left, packet_of, TakesBlock, GoesOn, IsOver, block_packet, IsBoundedBlock, IsBoundedPacket};
+    ghost use Rattle.pcapng_core.specs.Readers.{carry_of, packets_given, bytes_held, is_live, IsNew, rest_left, TakesBlock, GoesOn, IsOver, block_packet, IsBoundedBlock, IsBoundedPacket};
     ghost use Rattle.pcapng_core.specs.Bodies.{packet_told};
 
     pub fn new(alloc: Global) -> NgReader
@@ -292,6 +290,7 @@ impl NgReader {
         ensures over { IfOk result (λ o. IfNone o (LeavesNothing
             (rest_left self.old (S.left shelf.old)) (rest_left self.new (S.left shelf.new)))) }
         ensures stays { IfOk result (λ o. IfNone o ((carry_of self.old).blocks ≤ (carry_of self.new).blocks)) }
+        ensures came { IfOk result (λ o. IfNone o ((carry_of self.new).blocks ≢ 0)) }
         ensures fault { IfErr result (λ e. IfSome (fault_in e) (λ fault.
             IfSome (rest_left self.old (S.left shelf.old)) (IsOver (carry_of self.old) (Some fault)))) }
         ensures given { packets_given self.new ≡ packets_given self.old }
@@ -343,7 +342,7 @@ impl NgReader {
         &mut self,
         shelf: &mut S,
         into: &mut Vec<u8>,
-    ) -> Result<Option<NgFrame>, NgFault>
+    ) -> Result<Option<LinkedFrame>, NgFault>
         requires live { IsTrue (is_live self.old) }
         requires begun { IsTrue (S.begun shelf.old) }
 
@@ -360,6 +359,7 @@ impl NgReader {
         ensures ended { IfOk result (λ o. IfNone o (IfSome (rest_left self.old (S.left shelf.old)) (IsOver (carry_of self.old) None))) }
         ensures over { IfOk result (λ o. IfNone o (LeavesNothing
             (rest_left self.old (S.left shelf.old)) (rest_left self.new (S.left shelf.new)))) }
+        ensures came { IfOk result (λ o. IfNone o ((carry_of self.new).blocks ≢ 0)) }
 
         // A fault of the file is answered only where what was left has no packet before it.
         ensures fault { IfErr result (λ e. IfSome (fault_in e) (λ fault.
@@ -382,7 +382,7 @@ impl NgReader {
                     captured: packet.captured,
                     len: packet.len,
                 };
-                Ok(Some(NgFrame {
+                Ok(Some(LinkedFrame {
                     frame,
                     link: packet.link,
                 }))

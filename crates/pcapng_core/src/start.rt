@@ -12,7 +12,7 @@ ghost use Rattle.pcapng_core.specs.Blocks.{IsStart};
 
 use crate::carry::Carry;
 use crate::fault::NgFault;
-use crate::number::read_long;
+use capture_core::read_long;
 
 /// The bytes before a block's body, and the first four of it.
 pub const START_LEN: usize = 12;

@@ -39,6 +39,12 @@ const SECOND: &[u8] =
 
 const BIG_FIRST: &[u8] =
     b"\0\0\0\x06\0\0\0\x24\0\0\0\0\0\0\0\0\0\0\x08\x01\0\0\0\x04\0\0\0\x04\0\0\0\x03\0\0\0\x24";
+/// 120 bytes: two packets of one interface, at the seconds 1 and 2.
+const TWO_PACKETS: &[u8] =
+    b"\x0a\x0d\x0d\x0a\x1c\0\0\0\x4d\x3c\x2b\x1a\x01\0\0\0\xff\xff\xff\xff\xff\xff\xff\xff\
+    \x1c\0\0\0\x01\0\0\0\x14\0\0\0\x93\0\0\0\0\0\x04\0\x14\0\0\0\
+    \x06\0\0\0\x24\0\0\0\0\0\0\0\0\0\0\0\x40\x42\x0f\0\x04\0\0\0\x04\0\0\0\0\0\0\x01\x24\0\0\0\
+    \x06\0\0\0\x24\0\0\0\0\0\0\0\0\0\0\0\x80\x84\x1e\0\x04\0\0\0\x04\0\0\0\0\0\0\x02\x24\0\0\0";
 /// A simple packet of original length 4.
 const SIMPLE: &[u8] = b"\x03\0\0\0\x14\0\0\0\x04\0\0\0\x01\x02\x03\x04\x14\0\0\0";
 /// One whose bytes don't fit.
@@ -102,7 +108,7 @@ fn told(alloc: Global, shelf: &mut MemShelf) -> Result<String, Fail> {
 #[test]
 fn captures_are_read_the_same_however_reads_are_cut(rt: HostRuntime) -> Result<(), Fail> {
     let alloc = rt.alloc();
-    let table: [(&[&[u8]], &str); 34] = [
+    let table: [(&[&[u8]], &str); 40] = [
         (&[SECTION], "end"),
         (&[SECTION, INTERFACE], "end"),
         (&[SECTION, INTERFACE, FIRST], "1 147 1000000000 4 6 1, end"),
@@ -134,8 +140,23 @@ fn captures_are_read_the_same_however_reads_are_cut(rt: HostRuntime) -> Result<(
             ],
             "1 147 1000000000 4 6 1, 2 1 2000976562 4 4 3, 3 101 1000000 4 6 1, end",
         ),
+        // A section has no interface before it describes one, and may describe one behind a packet.
+        (&[SECTION, FIRST, INTERFACE], "fault 15 2"),
+        (
+            &[SECTION, INTERFACE, FIRST, SECTION, FIRST, INTERFACE],
+            "1 147 1000000000 4 6 1, fault 15 5",
+        ),
+        (
+            &[SECTION, INTERFACE, FIRST, SECTION, NANO, FIRST],
+            "1 147 1000000000 4 6 1, 2 101 1000000 4 6 1, end",
+        ),
+        (
+            &[SECTION, INTERFACE, FIRST, NANO, SECOND],
+            "1 147 1000000000 4 6 1, 2 101 4294967297 2 6 2, end",
+        ),
         // Simple packets have the moment of the packet before, and are cut at the snapshot length.
         (&[SECTION, INTERFACE, SIMPLE], "1 147 0 4 4 4, end"),
+        (&[SECTION, NANO, SIMPLE_LONG], "1 101 0 3 5 3, end"),
         (
             &[SECTION, INTERFACE, FIRST, SECTION, NANO, SIMPLE],
             "1 147 1000000000 4 6 1, 2 101 1000000000 3 4 3, end",
@@ -196,6 +217,8 @@ fn captures_are_read_the_same_however_reads_are_cut(rt: HostRuntime) -> Result<(
             "fault 12 2",
         ),
         (&[SECTION, b"\x06\0\0\0\x1c\0\0\0\0\0\0\0"], "fault 12 2"),
+        // The greatest one, of which the rest lacks, and one past it.
+        (&[SECTION, b"\x0b\0\0\0\0\0\0\x01\0\0\0\0"], "fault 11 2"),
         (&[SECTION, b"\x0b\0\0\0\x04\0\0\x01\0\0\0\0"], "fault 12 2"),
         // Ends that differ, of a long block and of the shortest.
         (&[SECTION, BAD_END], "fault 19 2"),
@@ -215,17 +238,68 @@ fn captures_are_read_the_same_however_reads_are_cut(rt: HostRuntime) -> Result<(
     Ok(())
 }
 
-/// A block's bytes, of which the body is of zeros.
+/// A file of two packets, and its first so many bytes.
+#[test]
+fn a_file_is_cut_anywhere(rt: HostRuntime) -> Result<(), Fail> {
+    let alloc = rt.alloc();
+    let mut seen = 0;
+    for (most, want) in [
+        (27, "no start, 11 1"),
+        (28, "end"),
+        (47, "fault 11 2"),
+        (48, "end"),
+        (83, "fault 11 3"),
+        (84, "1 147 1000000000 4 4 1, end"),
+        (119, "1 147 1000000000 4 4 1, fault 11 4"),
+        (120, "1 147 1000000000 4 4 1, 2 147 2000000000 4 4 2, end"),
+    ] {
+        while seen <= most {
+            let piece = TWO_PACKETS.get(..seen).unwrap_or_default();
+            let mut shelf = shelf_of(alloc, &[piece], 65_536, 0)?;
+            let text = told(alloc, &mut shelf)?;
+            assert_eq!(rt; text.as_str(), want, "{seen} bytes");
+            seen += 1;
+        }
+    }
+    assert_eq!(rt; seen, TWO_PACKETS.len() + 1);
+    Ok(())
+}
+
+/// A block's bytes, of which the body is of zeros behind this front.
 fn long_block(alloc: Global, kind: u8, total: u32, front: &[u8]) -> Result<Vec<u8>, AllocError> {
     let mut bytes = Vec::new(alloc);
     bytes.extend_from_slice(&[kind, 0, 0, 0])?;
     bytes.extend_from_slice(&total.to_le_bytes())?;
     bytes.extend_from_slice(front)?;
-    while bytes.len() + 4 < total as usize {
-        bytes.push(0).map_err(AllocError::from)?;
-    }
+    let end = (total as usize).saturating_sub(4).max(bytes.len());
+    bytes.resize(end, 0)?;
     bytes.extend_from_slice(&total.to_le_bytes())?;
     Ok(bytes)
+}
+
+/// The least total length of each kind of block, and ones that it can't have.
+#[test]
+fn blocks_have_lengths_of_their_kinds(rt: HostRuntime) -> Result<(), Fail> {
+    let alloc = rt.alloc();
+    for (kind, total, want) in [
+        (1, 20, "end"),
+        (1, 16, "fault 12 3"),
+        (6, 32, "1 147 0 0 0 0, end"),
+        (6, 28, "fault 12 3"),
+        (3, 16, "1 147 0 0 0 0, end"),
+        (3, 12, "fault 12 3"),
+        (11, 16, "end"),
+        (11, 15, "fault 12 3"),
+        (11, 14, "fault 12 3"),
+        (11, 13, "fault 12 3"),
+        (11, 8, "fault 12 3"),
+    ] {
+        let block = long_block(alloc, kind, total, b"")?;
+        let mut shelf = shelf_of(alloc, &[SECTION, INTERFACE, &block], 65_536, 0)?;
+        let text = told(alloc, &mut shelf)?;
+        assert_eq!(rt; text.as_str(), want, "type {kind}, {total} bytes");
+    }
+    Ok(())
 }
 
 /// A packet captures 262,144 bytes, and not one more; a block is longer than what is held at once.
@@ -296,15 +370,23 @@ fn moments_of_all_units(rt: HostRuntime) -> Result<(), Fail> {
     for (unit, time, want) in [
         (Unit::Decimal(0), 4, 4_000_000_000),
         (Unit::Decimal(0), 4_611_686_019, 4_611_686_018_427_387_903),
+        (Unit::Decimal(6), 1_000_019, 1_000_019_000),
+        (Unit::Decimal(9), 1_000_019, 1_000_019),
         (Unit::Decimal(9), max, 4_611_686_018_427_387_903),
         (Unit::Decimal(10), 19, 1),
         (Unit::Decimal(28), max, 1),
         (Unit::Decimal(29), max, 0),
         (Unit::Decimal(38), max, 0),
         (Unit::Decimal(39), max, 0),
+        (Unit::Decimal(63), max, 0),
+        (Unit::Decimal(64), max, 0),
         (Unit::Decimal(127), max, 0),
         (Unit::Binary(0), 4, 4_000_000_000),
+        (Unit::Binary(6), 3, 46_875_000),
+        (Unit::Binary(9), 3, 5_859_375),
         (Unit::Binary(30), 3, 2),
+        (Unit::Binary(63), max, 1_999_999_999),
+        (Unit::Binary(64), max, 999_999_999),
         (Unit::Binary(93), max, 1),
         (Unit::Binary(94), max, 0),
         (Unit::Binary(127), max, 0),

@@ -1,0 +1,90 @@
+-- What a reader's answers say of what it leaves to come, in the words that are those of every capture.
+use Rattle.std.proofs.Common.{◌≡◌, ◌≢◌, ℕ, Option, Some, None, List, [], ◌∷◌, refl, sym, ap, ◌∙◌, subst}
+use Rattle.std.specs.Prelude.{IfSome, IfNone, option_map}
+use Rattle.std.proofs.lemmas.Option.{IfSome_then}
+use Rattle.pcap_defs.specs.Packet.{CapturedPacket}
+use Rattle.pcap_defs.specs.Contents.{FaultAt, no_capture}
+use Rattle.capture_core.specs.Rest.{LeavesNothing}
+use Rattle.capture_core.specs.declared.frame.LinkedFrame.{LinkedFrame}
+use Rattle.capture_core.specs.Captures.{packet_of, fault_told, Opens, Comes, IsAt, LeavesNone}
+use Rattle.pcapng_defs.specs.Fault.{BlockFault}
+use Rattle.pcapng_defs.specs.Block.{Carried, at_start}
+use Rattle.pcapng_defs.specs.NgCapture.{Reading, front_of, broken, reading_of, ng_capture_of, at_front, behind}
+use Rattle.pcapng_defs.specs.NgContents.{block_fault_at, contents_read, behind_front, in_ng_capture}
+use Rattle.pcapng_defs.proofs.Readings.{goes_block_by_block}
+use Rattle.pcapng_defs.proofs.FaultCauses.{reads_faults}
+use Rattle.pcapng_core.specs.Faults.{fault_in, unread_as}
+use Rattle.pcapng_core.specs.Left.{contents_in}
+use Rattle.pcapng_core.specs.Readers.{TakesBlock, GoesOn, IsOver}
+use Rattle.pcapng_core.specs.declared.fault.NgFault.{NgFault}
+use Rattle.pcapng_core.specs.declared.fault.NgFault.TheVariants.{BlockCut, BlockLength, OrderMagic, NgVersion, NoInterface, PacketLength, Interfaces, TooManyBlocks, BlockEnd, ReadFault, NoMemory}
+
+-- what holds of the fault of the file that a refusal names, and of none, holds of what the refusal becomes
+unread-by : (P : Option FaultAt → Type 0) (refusal : NgFault) → P None → IfSome (fault_in refusal) (λ f. P (Some (block_fault_at f))) → P (fault_told (unread_as refusal))
+unread-by P (BlockCut n) none h = h
+unread-by P (BlockLength n) none h = h
+unread-by P (OrderMagic n) none h = h
+unread-by P (NgVersion n) none h = h
+unread-by P (NoInterface n) none h = h
+unread-by P (PacketLength n) none h = h
+unread-by P (Interfaces n) none h = h
+unread-by P (TooManyBlocks n) none h = h
+unread-by P (BlockEnd n) none h = h
+unread-by P ReadFault none h = none
+unread-by P NoMemory none h = none
+
+-- behind the first block all is left that the file holds
+pub opens : (after : Carried) (file rest : Option (List ℕ)) → TakesBlock at_start None after file rest → IfSome file (λ f. Opens (in_ng_capture f) (option_map (contents_in after) rest))
+opens after None rest t = tt
+opens after (Some file) None t = absurd t
+opens after (Some file) (Some rest) t =
+    subst (λ r. Opens (behind_front (front_of at_start file) r) (Some (contents_in after rest))) (sym (goes_block_by_block at_start file ∙ ap (at_front reading_of at_start) t))
+    (subst (λ f. Opens (behind_front f (behind [] (reading_of after rest))) (Some (contents_in after rest))) (sym t) refl)
+
+-- a refused file is no capture
+pub refuses : (refusal : NgFault) (file : Option (List ℕ)) → IfSome (fault_in refusal) (λ f. IfSome file (λ bytes. front_of at_start bytes ≡ broken f))
+    → IfSome (fault_told (unread_as refusal)) (λ g. IfSome file (λ bytes. in_ng_capture bytes ≡ no_capture g))
+refuses refusal file h =
+    unread-by (λ o. IfSome o (λ g. IfSome file (λ bytes. in_ng_capture bytes ≡ no_capture g))) refusal tt
+    (IfSome_then (fault_in refusal) h (λ f is. IfSome_then file is (λ bytes bad. ap (λ front. behind_front front (ng_capture_of bytes)) bad)))
+
+-- what is read is the next packet
+comes : (c after : Carried) (packet : CapturedPacket) (old new : Option (List ℕ)) → GoesOn c (packet ∷ []) after old new → Comes (option_map (contents_in c) old) (option_map (contents_in after) new) packet
+comes c after packet None new goes = tt
+comes c after packet (Some old) None goes = absurd goes
+comes c after packet (Some old) (Some new) goes = (ap (λ (r : Reading). r.packets) goes, ap (λ (r : Reading). option_map block_fault_at r.fault) goes)
+
+-- there is none, and this fault or none
+at-fault : (c : Carried) (fault : Option BlockFault) (old : Option (List ℕ)) → IfSome old (IsOver c fault) → IsAt (option_map block_fault_at fault) (option_map (contents_in c) old)
+at-fault c fault None over = tt
+at-fault c fault (Some old) over = (over.none, ap (option_map block_fault_at) over.ends)
+
+ends : (c : Carried) (old : Option (List ℕ)) → IfSome old (IsOver c None) → IsAt None (option_map (contents_in c) old)
+ends c old over = at-fault c None old over
+
+pub halts : (c : Carried) (refusal : NgFault) (old : Option (List ℕ)) → IfSome (fault_in refusal) (λ f. IfSome old (IsOver c (Some f)))
+    → IfSome (fault_told (unread_as refusal)) (λ g. IsAt (Some g) (option_map (contents_in c) old))
+halts c refusal old h =
+    unread-by (λ o. IfSome o (λ g. IsAt (Some g) (option_map (contents_in c) old))) refusal tt
+    (IfSome_then (fault_in refusal) h (λ f over. at-fault c (Some f) old over))
+
+-- behind a block nothing is read of nothing
+leaves : (c after : Carried) (old new : Option (List ℕ)) → LeavesNothing old new → after.blocks ≢ 0 → LeavesNone (option_map (contents_in c) old) (option_map (contents_in after) new)
+leaves c after None new none some = tt
+leaves c after (Some old) new none some =
+    ap (option_map (contents_in after)) none
+    ∙ ap (λ (r : Reading). Some (contents_read r)) (goes_block_by_block after [] ∙ ap (at_front reading_of after) ((reads_faults.ends after []).0 (refl, some)))
+
+-- the same of an answer that is a packet or none
+pub comes-at : (c after : Carried) (given : Option LinkedFrame) (bytes : List ℕ) (old new : Option (List ℕ)) → IfSome given (λ f. GoesOn c (packet_of f bytes ∷ []) after old new)
+    → IfSome given (λ f. Comes (option_map (contents_in c) old) (option_map (contents_in after) new) (packet_of f bytes))
+comes-at c after given bytes old new goes = IfSome_then given goes (λ f goes. comes c after (packet_of f bytes) old new goes)
+
+pub ends-at : (c : Carried) (given : Option LinkedFrame) (old : Option (List ℕ)) → IfNone given (IfSome old (IsOver c None)) → IfNone given (IsAt None (option_map (contents_in c) old))
+ends-at c None old over = ends c old over
+ends-at c (Some f) old over = tt
+
+pub leaves-at : (c after : Carried) (given : Option LinkedFrame) (old new : Option (List ℕ)) → IfNone given (LeavesNothing old new) → IfNone given (after.blocks ≢ 0)
+    → IfNone given (LeavesNone (option_map (contents_in c) old) (option_map (contents_in after) new))
+leaves-at c after None old new none some = leaves c after old new none some
+leaves-at c after (Some f) old new none some = tt

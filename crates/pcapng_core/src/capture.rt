@@ -1,0 +1,65 @@
+//! A reader of pcapng captures as one of captures of any format.
+ghost use Rattle.std.specs.Prelude.{◌≡◌};
+ghost use Rattle.pcapng_core.specs.Faults.{unread_as};
+
+use crate::fault::NgFault;
+use crate::reader::NgReader;
+use capture_core::{CaptureReader, LinkedFrame, Unread};
+use outside_core::Shelf;
+use std::alloc::Global;
+
+/// Why a capture isn't read on, in the words of any format.
+fn unread(fault: NgFault) -> Unread
+    ensures { result ≡ unread_as fault }
+{
+    match fault {
+        NgFault::ReadFault => Unread::Source,
+        NgFault::NoMemory => Unread::Memory,
+        _ => Unread::Fault(fault.code(), fault.place()),
+    }
+}
+
+impl CaptureReader for NgReader {
+    ghost use Rattle.std.specs.Prelude.{IsTrue};
+    ghost use Rattle.pcapng_defs.specs.NgContents.{in_ng_capture};
+    ghost use Rattle.pcapng_core.specs.Readers.{is_live, packets_given, IsNew};
+    ghost use Rattle.pcapng_core.specs.Left.{contents_left};
+
+    ghost contents = { in_ng_capture };
+
+    ghost left = { contents_left };
+
+    ghost given = { packets_given };
+
+    ghost is_live = { is_live };
+
+    ghost fresh = { IsNew };
+
+    ghost ready = { λ r. IsTrue (is_live r) };
+
+    fn new(alloc: Global) -> NgReader {
+        NgReader::new(alloc)
+    }
+
+    fn live(&self) -> bool {
+        NgReader::live(self)
+    }
+
+    fn start<S: Shelf>(&mut self, shelf: &mut S) -> Result<(), Unread> {
+        match NgReader::start(self, shelf) {
+            Ok(()) => Ok(()),
+            Err(fault) => Err(unread(fault)),
+        }
+    }
+
+    fn next<S: Shelf>(
+        &mut self,
+        shelf: &mut S,
+        into: &mut Vec<u8>,
+    ) -> Result<Option<LinkedFrame>, Unread> {
+        match NgReader::next(self, shelf, into) {
+            Ok(given) => Ok(given),
+            Err(fault) => Err(unread(fault)),
+        }
+    }
+}
