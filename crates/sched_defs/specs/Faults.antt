@@ -1,7 +1,2 @@
--- The fault behind the packets of a capture.
-use Rattle.std.specs.Prelude.{ℕ}
-
--- its code, and the number of the record at fault, 0 for none
-pub record FaultAt : Type 0 where
-  pub code : ℕ
-  pub place : ℕ
+-- The fault behind the packets of a capture: its code, and the number of the record or block at fault, 0 for none.
+pub use Rattle.pcap_defs.specs.Contents.{FaultAt}

@@ -1,3 +1,4 @@
 pub mod Packets
 pub mod Halts
 pub mod Arrivals
+pub mod Laws

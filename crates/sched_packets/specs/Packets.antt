@@ -1,8 +1,7 @@
--- The packets that a policy makes of the records of a capture.
-use Rattle.std.specs.Prelude.{◌≡◌, refl, ℕ, ◌+◌, false, unwrap_or, List, [], ◌∷◌}
+-- The packets that a policy makes of those of a capture.
+use Rattle.std.specs.Prelude.{◌≡◌, refl, ℕ, ◌+◌, unwrap_or, List, [], ◌∷◌}
 use Rattle.rank_defs.specs.declared.environment.FlowKey.{FlowKey}
-use Rattle.pcap_defs.specs.declared.head.Head.{Head}
-use Rattle.pcap_defs.specs.Record.{Record, moment}
+use Rattle.pcap_defs.specs.Packet.{CapturedPacket}
 use Rattle.packet_defs.specs.declared.fields.Fields.{Fields}
 use Rattle.packet_defs.specs.declared.packet.Packet.{Packet}
 use Rattle.packet_defs.specs.Condition.{class_of}
@@ -18,20 +17,20 @@ use Rattle.policy_rules.specs.Resolved.{Resolved}
 abbrev pub class_given : Resolved → Fields → ℕ → ℕ
 class_given policy fields length = unwrap_or (class_of (conditions_of policy.conditions) fields length) 0
 
--- the packet of the record with this number, by the headers in its captured bytes
-abbrev pub packet_of : Resolved → Head → ℕ → Record → Packet
-packet_of policy head n r = record {
+-- the packet with this number, by the headers in its captured bytes, which its own link type tells
+abbrev pub packet_of : Resolved → ℕ → CapturedPacket → Packet
+packet_of policy n p = record {
   number = n;
-  class = class_given policy (fields_of head.link r.captured) r.original;
-  len = r.original;
-  moment = moment head.nano r;
-  flow = flow_of (fields_of head.link r.captured);
+  class = class_given policy (fields_of p.link p.captured) p.original;
+  len = p.original;
+  moment = p.moment;
+  flow = flow_of (fields_of p.link p.captured);
 }
 
--- the packets of records, of which the first has this number
-abbrev pub packets_from : Resolved → Head → ℕ → List Record → List Packet
-packets_from policy head n [] = []
-packets_from policy head n (r ∷ records) = packet_of policy head n r ∷ packets_from policy head (n + 1) records
+-- the packets of a capture, of which the first has this number
+abbrev pub packets_from : Resolved → ℕ → List CapturedPacket → List Packet
+packets_from policy n [] = []
+packets_from policy n (p ∷ packets) = packet_of policy n p ∷ packets_from policy (n + 1) packets
 
 -- UDP from port 4096 of 10.0.0.1 to port 53 of 10.0.0.2, without a link header, and the flow of it
 abbrev question : List ℕ
@@ -48,9 +47,10 @@ no_flow = record { version = 0; source = 0; target = 0; proto = 0; sport = 0; dp
 abbrev servers_first : Resolved
 servers_first = record { policy = one_leaf; conditions = (Field Dport 53 53 ∷ []) ∷ [] ∷ [] }
 
+-- the second has another link type, of which no headers are read
 packets_from-two_classes :
-    packets_from servers_first (record { link = 101; nano = false; big = false }) 1
-    (record { seconds = 1; fraction = 2; original = 1500; captured = question } ∷ record { seconds = 0; fraction = 3; original = 60; captured = [] } ∷ [])
+    packets_from servers_first 1
+    (record { link = 101; moment = 1000002000; original = 1500; captured = question } ∷ record { link = 147; moment = 3000; original = 60; captured = question } ∷ [])
     ≡ record { number = 1; class = 0; len = 1500; moment = 1000002000; flow = asked }
     ∷ record { number = 2; class = 1; len = 60; moment = 3000; flow = no_flow } ∷ []
 packets_from-two_classes = refl

@@ -2,16 +2,16 @@
 ghost use Rattle.std.specs.Prelude.{◌≡◌};
 ghost use Rattle.sched_packets.specs.Halts.{halt_of};
 
-use pcap_core::CaptureFault;
+use capture_core::Unread;
 use sched_defs::Halt;
 
 /// Why no packet comes, where a capture isn't read on.
-pub(crate) fn halt_of(fault: CaptureFault) -> Halt
-    ensures { result ≡ halt_of fault }
+pub(crate) fn halt_of(unread: Unread) -> Halt
+    ensures { result ≡ halt_of unread }
 {
-    match fault {
-        CaptureFault::ReadFault => Halt::Source,
-        CaptureFault::NoMemory => Halt::Memory,
-        _ => Halt::Fault(fault.code(), fault.place()),
+    match unread {
+        Unread::Fault(code, place) => Halt::Fault(code, place),
+        Unread::Source => Halt::Source,
+        Unread::Memory => Halt::Memory,
     }
 }

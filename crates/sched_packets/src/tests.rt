@@ -1,6 +1,9 @@
-//! Tests of packets of two classes, and of captures with faults.
+//! Tests of packets of two classes, in captures of both formats, and of captures with faults.
 use crate::{Arrivals, Packets};
+use capture_core::CaptureReader;
 use outside_core::{MemShelf, Shelf};
+use pcap_core::Reader;
+use pcapng_core::NgReader;
 use policy_core::{Policy, resolve};
 use policy_text::parse;
 use std::alloc::{AllocError, Global};
@@ -25,6 +28,23 @@ const CLIPPED: &[u8] = b"\0\0\0\x0a\0\0\0\x06\0\0\0\x2a\0\0\x05\xdc\0\0\0\0\0\0\
 /// A record that lacks its four captured bytes.
 const CUT: &[u8] = b"\0\0\0\x0b\0\0\0\0\0\0\0\x04\0\0\0\x04";
 
+/// A pcapng section, lowest byte first, and interfaces of link types 1 and 147, whose times count microseconds.
+const SECTION: &[u8] =
+    b"\x0a\x0d\x0d\x0a\x1c\0\0\0\x4d\x3c\x2b\x1a\x01\0\0\0\xff\xff\xff\xff\xff\xff\xff\xff\x1c\0\0\0";
+
+const ETHERNET: &[u8] = b"\x01\0\0\0\x14\0\0\0\x01\0\0\0\0\0\x04\0\x14\0\0\0";
+
+const OTHER_INTERFACE: &[u8] = b"\x01\0\0\0\x14\0\0\0\x93\0\0\0\0\0\x04\0\x14\0\0\0";
+/// Of 1,500 bytes at interface 0 and of 42 at interface 1 the same 42 are captured.
+const FIRST_BLOCK: &[u8] =
+    b"\x06\0\0\0\x4c\0\0\0\0\0\0\0\0\0\0\0\x40\x42\x0f\0\x2a\0\0\0\xdc\x05\0\0";
+
+const SECOND_BLOCK: &[u8] =
+    b"\x06\0\0\0\x4c\0\0\0\x01\0\0\0\0\0\0\0\x80\x84\x1e\0\x2a\0\0\0\x2a\0\0\0";
+
+const BLOCK_END: &[u8] = b"\0\0\0\0\0\0\0\0\0\0\0\0\x08\0\
+    \x45\0\0\x1c\0\0\0\0\x40\x11\0\0\x0a\0\0\x01\x0a\0\0\x02\x10\0\0\x35\0\x08\0\0\0\0\x4c\0\0\0";
+
 fn policy(alloc: Global) -> Result<Policy, Fail> {
     let lines = parse(alloc, NAME_SERVERS_FIRST).ok().ok_or("parse")?;
     Ok(resolve(alloc, &lines).ok().ok_or("resolve")?)
@@ -42,9 +62,13 @@ fn shelf_of(alloc: Global, pieces: &[&[u8]], fail: u64) -> Result<MemShelf, Allo
 }
 
 /// The packets of a capture in a text: each one's number, class, length, moment and destination port, then how it ends.
-fn told(alloc: Global, policy: &Policy, shelf: &mut MemShelf) -> Result<String, Fail> {
+fn told<R: CaptureReader + Drop>(
+    alloc: Global,
+    policy: &Policy,
+    shelf: &mut MemShelf,
+) -> Result<String, Fail> {
     shelf.begin("c").ok().ok_or("begin")?;
-    let mut arrivals = match Arrivals::start(alloc, policy, shelf) {
+    let mut arrivals = match Arrivals::<R, MemShelf>::start(alloc, policy, shelf) {
         Ok(arrivals) => arrivals,
         Err(halt) => return Ok(format!(in alloc; "{halt:?}")?),
     };
@@ -92,7 +116,55 @@ fn packets_of_two_classes(rt: HostRuntime) -> Result<(), Fail> {
     ];
     for (pieces, fail, want) in table {
         let mut shelf = shelf_of(alloc, pieces, fail)?;
-        let text = told(alloc, &policy, &mut shelf)?;
+        let text = told::<Reader>(alloc, &policy, &mut shelf)?;
+        assert_eq!(rt; text.as_str(), want);
+    }
+    Ok(())
+}
+
+#[test]
+fn packets_have_their_own_link_types(rt: HostRuntime) -> Result<(), Fail> {
+    let alloc = rt.alloc();
+    let policy = policy(alloc)?;
+    let table: [(&[&[u8]], u64, &str); 7] = [
+        (
+            &[
+                SECTION,
+                ETHERNET,
+                OTHER_INTERFACE,
+                FIRST_BLOCK,
+                BLOCK_END,
+                SECOND_BLOCK,
+                BLOCK_END,
+            ],
+            0,
+            "1 0 1500 1000000000 53, 2 1 42 2000000000 0, none, none, none, ",
+        ),
+        (
+            &[
+                SECTION,
+                ETHERNET,
+                FIRST_BLOCK,
+                BLOCK_END,
+                SECOND_BLOCK,
+                BLOCK_END,
+            ],
+            0,
+            "1 0 1500 1000000000 53, Fault(15, 4)",
+        ),
+        (
+            &[SECTION, ETHERNET, FIRST_BLOCK, BLOCK_END, SECOND_BLOCK],
+            0,
+            "1 0 1500 1000000000 53, Fault(11, 4)",
+        ),
+        (&[], 0, "Fault(11, 1)"),
+        (&[HEADER, TAGGED], 0, "Fault(13, 1)"),
+        (&[SECTION, ETHERNET], 2, "Source"),
+        (&[SECTION, ETHERNET, FIRST_BLOCK, BLOCK_END], 4, "Source"),
+    ];
+    for (pieces, fail, want) in table {
+        let mut shelf = shelf_of(alloc, pieces, fail)?;
+        let text = told::<NgReader>(alloc, &policy, &mut shelf)?;
         assert_eq!(rt; text.as_str(), want);
     }
     Ok(())

@@ -3,5 +3,5 @@ use Rattle.sched_packets.proofs.packets.packet_in.Goals as goal
 
 pub returns-clause-packet : goal.returns-clause-packet
 returns-clause-packet c =
-    λ head r linked is. packet-is c.args.policy.now head r c.args.frame.now c.args.link c.classify.result c.args.bytes.now c.read_fields-fields.result c.flow.result
-    linked is c.read_fields-fields.ensures c.classify.ensures.class c.flow.ensures
+    packet-is c.args.policy.now c.args.read.now c.classify.result c.args.bytes.now c.read_fields-fields.result c.flow.result
+    c.read_fields-fields.ensures c.classify.ensures.class c.flow.ensures
