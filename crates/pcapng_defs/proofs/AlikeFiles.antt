@@ -1,10 +1,10 @@
 -- A classic and a pcapng file whose packets are equal.
 use Rattle.std.proofs.Common.{◌≡◌, ℕ, Some, None, List, refl, sym, ap, ◌∙◌}
 use Rattle.std.specs.Prelude.{option_map}
-use Rattle.pcap_defs.specs.Contents.{in_capture, holds}
+use Rattle.pcap_defs.specs.Contents.{holds}
 use Rattle.pcapng_defs.specs.Block.{at_start}
 use Rattle.pcapng_defs.specs.NgCapture.{BlockFront, nothing, broken, found, front_of, at_front, reading_of, ng_capture_of, Reading}
-use Rattle.pcapng_defs.specs.NgContents.{block_fault_at, contents_read, behind_front}
+use Rattle.pcapng_defs.specs.NgContents.{block_fault_at, contents_read, behind_front, in_ng_capture, in_either}
 use Rattle.pcapng_defs.specs.Laws.{AlikeFilesHoldTheSame}
 use Rattle.pcapng_defs.proofs.Readings.{goes_block_by_block}
 
@@ -18,7 +18,8 @@ whole-holds (found packet after others) file e whole = refl
 
 pub alike_files : AlikeFilesHoldTheSame
 alike_files file ng_file alike =
-    ap in_capture alike.classic
+    ap (λ capture. in_either capture (in_ng_capture file)) alike.classic
     ∙ ap (λ packets. holds (record { packets = packets; fault = None })) (sym alike.same)
     ∙ ap (λ fault. holds (record { packets = (ng_capture_of ng_file).packets; fault = option_map block_fault_at fault })) (sym alike.whole)
     ∙ sym (whole-holds (front_of at_start ng_file) ng_file refl alike.whole)
+    ∙ ap (λ capture. in_either capture (in_ng_capture ng_file)) (sym alike.begins)

@@ -4,13 +4,13 @@ use Rattle.std.specs.List.{AllByRecursion}
 use Rattle.rank_defs.specs.Programs.{max_rank}
 use Rattle.pcap_defs.specs.declared.head.Head.{Head}
 use Rattle.pcap_defs.specs.Record.{Record, most_captured}
-use Rattle.pcap_defs.specs.Reading.{packets, capture_of}
-use Rattle.pcap_defs.specs.Contents.{in_capture}
+use Rattle.pcap_defs.specs.Fault.{pcap_ng}
+use Rattle.pcap_defs.specs.Reading.{refused, packets, capture_of}
 use Rattle.pcapng_defs.specs.Fault.{BlockFault, block_cut, code, place}
 use Rattle.pcapng_defs.specs.Interface.{unit_of, at_option, option_front}
 use Rattle.pcap_defs.specs.Packet.{CapturedPacket, packet_with}
 use Rattle.pcapng_defs.specs.Block.{Carried}
-use Rattle.pcapng_defs.specs.NgContents.{in_ng_capture}
+use Rattle.pcapng_defs.specs.NgContents.{in_file}
 use Rattle.pcapng_defs.specs.NgCapture.{broken, found, front_of, at_front, behind, reading_of, ng_capture_of, most_blocks}
 
 -- what is left is read block by block, with what is carried from each to the next
@@ -67,9 +67,10 @@ pub record AreAlike (file ng_file : List ℕ) : Type 0 where
   pub head : Head
   pub records : List Record
   pub classic : capture_of file ≡ packets head records None
+  pub begins : capture_of ng_file ≡ refused pcap_ng
   pub whole : (ng_capture_of ng_file).fault ≡ None
   pub same : (ng_capture_of ng_file).packets ≡ map (packet_with head) records
 
 -- such files hold the same
 abbrev pub AlikeFilesHoldTheSame : Type 0
-AlikeFilesHoldTheSame = (file ng_file : List ℕ) → AreAlike file ng_file → in_capture (capture_of file) ≡ in_ng_capture ng_file
+AlikeFilesHoldTheSame = (file ng_file : List ℕ) → AreAlike file ng_file → in_file file ≡ in_file ng_file

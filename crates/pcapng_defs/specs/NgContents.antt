@@ -1,6 +1,8 @@
--- What a file holds as a pcapng capture, in the words that are those of every capture.
+-- What a file holds as a pcapng capture, and as a capture of either format, in the words that are those of every capture.
 use Rattle.std.specs.Prelude.{◌≡◌, refl, ℕ, Some, option_map, List, []}
-use Rattle.pcap_defs.specs.Contents.{FaultAt, Contents, FileContents, no_capture, holds}
+use Rattle.pcap_defs.specs.Fault.{pcap_ng, bad_magic}
+use Rattle.pcap_defs.specs.Reading.{Capture, refused, capture_of}
+use Rattle.pcap_defs.specs.Contents.{FaultAt, Contents, FileContents, no_capture, holds, in_capture}
 use Rattle.pcapng_defs.specs.Fault.{BlockFault, block_cut, order_magic, code, place}
 use Rattle.pcapng_defs.specs.Block.{at_start}
 use Rattle.pcapng_defs.specs.NgCapture.{BlockFront, nothing, broken, front_of, Reading, ended, ng_capture_of}
@@ -21,8 +23,23 @@ behind_front _ r = holds (contents_read r)
 abbrev pub in_ng_capture : List ℕ → FileContents
 in_ng_capture file = behind_front (front_of at_start file) (ng_capture_of file)
 
+-- what is in a file that is this classic capture, or else, where that is refused since pcapng begins so, these blocks
+abbrev pub in_either : Capture → FileContents → FileContents
+in_either (refused pcap_ng) blocks = blocks
+in_either capture blocks = in_capture capture
+
+-- what is in a file of either format
+abbrev pub in_file : List ℕ → FileContents
+in_file file = in_either (capture_of file) (in_ng_capture file)
+
 behind_front-refused : behind_front (broken (order_magic 1)) (ended at_start (Some (order_magic 1))) ≡ no_capture (record { code = 13; place = 1 })
 behind_front-refused = refl
 
 behind_front-cut : behind_front nothing (ended at_start (Some (block_cut 4))) ≡ holds (record { packets = []; fault = Some (record { code = 11; place = 4 }) })
 behind_front-cut = refl
+
+in_either-blocks : in_either (refused pcap_ng) (no_capture (record { code = 13; place = 1 })) ≡ no_capture (record { code = 13; place = 1 })
+in_either-blocks = refl
+
+in_either-refused : in_either (refused bad_magic) (no_capture (record { code = 13; place = 1 })) ≡ no_capture (record { code = 2; place = 0 })
+in_either-refused = refl

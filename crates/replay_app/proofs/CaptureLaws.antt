@@ -1,9 +1,9 @@
 -- A run over a capture that taps watch, with their lines.
-use Rattle.std.proofs.Common.{◌≡◌, ap, ◌∙◌, append-nil, inl, inr, ℕ, Option, None, Some, List, []}
+use Rattle.std.proofs.Common.{◌≡◌, ap, ◌∙◌, append-nil, inr, ℕ, Option, None, Some, List, []}
 use Rattle.std.specs.Prelude.{Ok, Err, IfSome}
 use Rattle.outside_core.specs.Written.{Appended, AppendedPrefix}
 use Rattle.outside_core.specs.declared.stop.Stop.{Stop}
-use Rattle.outside_core.proofs.WrittenLaws.{appended_in_turn, appended_nothing, prefix_in_turn, prefix_of_longer, prefix_of_nothing}
+use Rattle.outside_core.proofs.WrittenLaws.{appended_in_turn, prefix_in_turn, prefix_of_longer}
 use Rattle.fabric_core.specs.declared.fabric.Fabric.{Ghosts}
 use Rattle.policy_rules.specs.Resolved.{Resolved}
 use Rattle.sched_defs.specs.Pace.{Pace}
@@ -19,18 +19,13 @@ use Rattle.replay_app.specs.Stages.{watching_in}
 use Rattle.replay_app.specs.Statuses.{run_status}
 use Rattle.replay_app.specs.declared.status.Status.{Status}
 use Rattle.replay_app.proofs.AnswerLaws.{same_status}
-use Rattle.replay_app.proofs.FollowLaws.{exactly_told, exactly_done, unchanged}
+use Rattle.replay_app.proofs.FollowLaws.{exactly_told, exactly_done}
 use Rattle.replay_app.proofs.TapLaws.{lines_told}
 
 -- a run that was made whole is a first part of itself
 pub whole_part : {F : Type 0} (fabrics : Ghosts F) (run : Option FabricRun) (old new : F) → Leaves fabrics run old new → LeavesPart fabrics run old new
 whole_part fabrics None old new leaves = leaves
 whole_part fabrics (Some run) old new leaves = inr (record { made = run.events; unmade = []; whole = append-nil run.events; holds = leaves })
-
--- nothing was done yet
-none_part : {F : Type 0} (fabrics : Ghosts F) (run : Option FabricRun) (f : F) → LeavesPart fabrics run f f
-none_part fabrics None f = unchanged fabrics f
-none_part fabrics (Some run) f = inl (unchanged fabrics f)
 
 module _ (policy : Resolved) (laid : Laid) (pace : Pace) (before : Sight) where
   abbrev pub answer : List ℕ → Answer
@@ -64,11 +59,6 @@ module _ (policy : Resolved) (laid : Laid) (pace : Pace) (before : Sight) where
   report_cut None stop old new part = tt
   report_cut (Some file) stop old new part = exactly_told (answer file) (Err stop) old new tt tt (prefix_of_longer old new _ _ part)
 
-  -- nothing
-  pub none_told : (told : Option (List ℕ)) (stop : Stop) (old : Option (List ℕ)) → IfSome told (λ file. IsTold (λ a. a ≡ answer file) (Err stop) old old)
-  none_told None stop old = tt
-  none_told (Some file) stop old = exactly_told (answer file) (Err stop) old old tt tt (prefix_of_nothing old old _ (appended_nothing old))
-
   -- ---- what is left
   module _ {F : Type 0} (fabrics : Ghosts F) (old new : F) (after : Sight) where
     pub whole_left : (told : Option (List ℕ)) (s : Status) → IfSome told (λ file. Leaves fabrics (run_of policy.policy laid (paced_answer policy pace file).events) old new)
@@ -86,7 +76,3 @@ module _ (policy : Resolved) (laid : Laid) (pace : Pace) (before : Sight) where
         → IfSome told (λ file. IsLeft fabrics (λ a. a ≡ answer file) (Err stop) old new before after)
     report_left None stop part = tt
     report_left (Some file) stop part = exactly_done (answer file) (Err stop) _ _ tt part
-
-  pub none_left : {F : Type 0} (fabrics : Ghosts F) (f : F) (after : Sight) (told : Option (List ℕ)) (stop : Stop) → IfSome told (λ file. IsLeft fabrics (λ a. a ≡ answer file) (Err stop) f f before after)
-  none_left fabrics f after None stop = tt
-  none_left fabrics f after (Some file) stop = exactly_done (answer file) (Err stop) _ _ tt (none_part fabrics _ f)

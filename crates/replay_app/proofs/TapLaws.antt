@@ -2,7 +2,8 @@
 use Rattle.std.proofs.Common.{◌≡◌, refl, ap, subst, ℕ, Option, None, Some, List}
 use Rattle.std.proofs.lemmas.Result.{on_ok_weaker}
 use Rattle.std.specs.Prelude.{Result}
-use Rattle.pcap_defs.specs.Reading.{Capture, refused, packets, capture_of}
+use Rattle.pcap_defs.specs.Contents.{FileContents, no_capture, holds}
+use Rattle.pcapng_defs.specs.NgContents.{in_file}
 use Rattle.policy_rules.specs.Resolved.{Resolved}
 use Rattle.sched_defs.specs.Pace.{Pace}
 use Rattle.sched_defs.specs.declared.ending.Ending.{Ending}
@@ -28,17 +29,17 @@ lines_by (BadCapture c p) shown before after P watched of = of
 lines_by (PastLast n) shown before after P watched of = of
 
 -- what holds of the lines of taps that watched a run over a capture
-lines_over : (policy : Resolved) (pace : Pace) (capture : Capture) (e : Ending) (before after : Sight) (P : List ℕ → Type 0) → e ≡ (answer_over policy pace capture).ending
-    → HaveWatched (shown_by policy.policy (answer_over policy pace capture)) before after → OfLines e after P
-    → P (lines_behind (answer_over policy pace capture).ending (watching_in before) (shown_by policy.policy (answer_over policy pace capture)))
-lines_over policy pace (refused fault) e before after P is watched of = subst (λ (x : Ending). OfLines x after P) is of
-lines_over policy pace (packets head records fault) e before after P is watched of =
+lines_over : (policy : Resolved) (pace : Pace) (file : FileContents) (e : Ending) (before after : Sight) (P : List ℕ → Type 0) → e ≡ (answer_over policy pace file).ending
+    → HaveWatched (shown_by policy.policy (answer_over policy pace file)) before after → OfLines e after P
+    → P (lines_behind (answer_over policy pace file).ending (watching_in before) (shown_by policy.policy (answer_over policy pace file)))
+lines_over policy pace (no_capture fault) e before after P is watched of = subst (λ (x : Ending). OfLines x after P) is of
+lines_over policy pace (holds contents) e before after P is watched of =
     lines_by _ _ before after P watched (subst (λ (x : Ending). OfLines x after P) is of)
 
 pub lines_told : (policy : Resolved) (pace : Pace) (file : List ℕ) (e : Ending) (before after : Sight) (P : List ℕ → Type 0) → e ≡ (paced_answer policy pace file).ending
     → HaveWatched (shown_by policy.policy (paced_answer policy pace file)) before after → OfLines e after P
     → P (lines_behind (paced_answer policy pace file).ending (watching_in before) (shown_by policy.policy (paced_answer policy pace file)))
-lines_told policy pace file = lines_over policy pace (capture_of file)
+lines_told policy pace file = lines_over policy pace (in_file file)
 
 -- ---- the list
 pub taps_left : (p t c e : List ℕ) (named : Named) (shown : Option (List Shown)) (before after : Sight) → before.named ≡ named → HaveWatched shown before after

@@ -16,13 +16,12 @@ use crate::policies::read_policy;
 use crate::refusal::Read;
 use crate::scripts::read_script;
 use crate::status::Status;
-use crate::task::Task;
 use crate::words::DirectFiles;
 use crate::writing::refuse;
 use outside_core::{Shelf, Sink, Stop};
 use policy_core::Policy;
 use report_core::FaultKind;
-use sched_capture::direct;
+use sched_capture::{Task, direct};
 use sched_run::Pace;
 use std::alloc::Global;
 
@@ -47,8 +46,7 @@ fn direct_capture<S: Shelf, K: Sink>(
     ensures shelf_cause { IsErrOf result Stop.Source → Rose (S.faults shelf.old) (S.faults shelf.new) }
     ensures sink_cause { IsErrOf result Stop.Sink → Rose (K.faults sink.old) (K.faults sink.new) }
 {
-    shelf.begin(task.capture)?;
-    Ok(Status::of_run(direct(alloc, policy, task.pace, shelf, sink)?))
+    Ok(Status::of_run(direct(alloc, policy, task, shelf, sink)?))
 }
 
 /// Runs the files of an accepted policy.

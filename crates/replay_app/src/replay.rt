@@ -24,7 +24,7 @@ use crate::refusal::{Read, Refusal};
 use crate::scripts::read_script;
 use crate::status::Status;
 use crate::targets::read_target_file;
-use crate::task::{ScriptFiles, Task};
+use crate::task::ScriptFiles;
 use crate::words::{Pacing, ReplayFiles};
 use crate::writing::{refuse, write};
 use embed_core::{EmbedFault, Target, embed};
@@ -32,7 +32,7 @@ use fabric_core::Fabric;
 use outside_core::{Shelf, Sink, Stop};
 use policy_core::Policy;
 use report_core::FaultKind;
-use sched_capture::{Ending, Placement, replay};
+use sched_capture::{Ending, Placement, Task, replay};
 use sched_run::Pace;
 use std::alloc::Global;
 use tap_core::{Tap, Watching};
@@ -91,10 +91,7 @@ fn replay_capture<S: Shelf, K: Sink, F: Fabric, T: Tap>(
     ensures shelf_cause { IsErrOf result Stop.Source → Rose (S.faults shelf.old) (S.faults shelf.new) }
     ensures sink_cause { IsErrOf result Stop.Sink → Rose (K.faults sink.old) (K.faults sink.new) }
 {
-    shelf.begin(task.capture)?;
-    let ending = replay(
-        alloc, policy, placement, task.pace, shelf, sink, fabric, watch,
-    )?;
+    let ending = replay(alloc, policy, placement, task, shelf, sink, fabric, watch)?;
     write_lines(alloc, sink, watch, ending)?;
     Ok(Status::of_run(ending))
 }
@@ -279,7 +276,7 @@ fn replay_target<S: Shelf, K: Sink, F: Fabric, T: Tap>(
 }
 
 /// Runs these files through the fabric. Each file is read when its turn comes, and the fabric is touched only when the
-/// capture's header is accepted.
+/// capture's beginning is accepted.
 pub fn replay_files<S: Shelf, K: Sink, F: Fabric, T: Tap>(
     alloc: Global,
     files: &ReplayFiles<'_>,

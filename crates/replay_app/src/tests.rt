@@ -35,6 +35,13 @@ const EXACT: &[u8] = b"\xa1\xb2\x3c\x4d\0\x02\0\x04\0\0\0\0\0\0\0\0\0\x04\0\0\0\
     \0\0\0\x0a\0\0\0\x05\0\0\0\0\0\0\0\x2e\
     \0\0\0\x0a\0\0\0\x06\0\0\0\x01\0\0\0\x2e\xff";
 
+/// The two packets of four bytes as a pcapng capture: a section, an interface that counts microseconds, and two blocks.
+const BLOCKS: &[u8] =
+    b"\x0a\x0d\x0d\x0a\x1c\0\0\0\x4d\x3c\x2b\x1a\x01\0\0\0\xff\xff\xff\xff\xff\xff\xff\xff\x1c\0\0\0\
+    \x01\0\0\0\x14\0\0\0\x93\0\0\0\0\0\x04\0\x14\0\0\0\
+    \x06\0\0\0\x24\0\0\0\0\0\0\0\0\0\0\0\x40\x42\x0f\0\x04\0\0\0\x04\0\0\0\0\0\0\x01\x24\0\0\0\
+    \x06\0\0\0\x24\0\0\0\0\0\0\0\0\0\0\0\x80\x84\x1e\0\x04\0\0\0\x04\0\0\0\0\0\0\x02\x24\0\0\0";
+
 /// Words in memory.
 pub(crate) fn words(alloc: Global, list: &[&str]) -> Result<Vec<String>, Fail> {
     let mut words = Vec::new(alloc);
@@ -93,7 +100,7 @@ fn answer_to(
 #[test]
 fn replays_over_memory(rt: HostRuntime) -> Result<(), Fail> {
     let alloc = rt.alloc();
-    let table: [(&[u8], &[u8], &[u8], &[u8], u8, &[u8]); 14] = [
+    let table: [(&[u8], &[u8], &[u8], &[u8], u8, &[u8]); 17] = [
         (
             POLICY,
             TARGET,
@@ -134,6 +141,30 @@ fn replays_over_memory(rt: HostRuntime) -> Result<(), Fail> {
             b"a\n",
             7,
             b"a 1 1 root 0\nfault capture 6 2\n",
+        ),
+        (
+            POLICY,
+            TARGET,
+            BLOCKS,
+            b"a\na\nd\nd\nd\n",
+            0,
+            b"a 1 1 root 0\na 2 2 root 0\nd 3 1 root 0\nd 4 2 root 0\ne 5\nend pushed 2 popped 2 empty 1 held 0 unsent 0\n",
+        ),
+        (
+            POLICY,
+            TARGET,
+            &BLOCKS[..118],
+            b"a 2\n",
+            7,
+            b"a 1 1 root 0\nfault capture 11 4\n",
+        ),
+        (
+            POLICY,
+            TARGET,
+            &BLOCKS[..27],
+            b"rest\n",
+            7,
+            b"fault capture 11 1\n",
         ),
         (
             FULL,
@@ -431,6 +462,35 @@ fn links_over_memory(rt: HostRuntime) -> Result<(), Fail> {
     for (policy, rate, status, text) in table {
         let held = files(alloc, policy, CAPTURE, b"")?;
         let (answer, written) = answer_to(alloc, &["link", "p", "t", "c", rate], held)?;
+        assert_eq!(rt; (answer, written.as_slice()), (status, text));
+    }
+    Ok(())
+}
+
+#[test]
+fn soaks_over_memory(rt: HostRuntime) -> Result<(), Fail> {
+    let alloc = rt.alloc();
+    let table: [(&str, &str, u8, &[u8]); 7] = [
+        ("0", "0", 0, b"soak pushed 0 popped 0 empty 0 sum 0\n"),
+        (
+            "7",
+            "200",
+            0,
+            b"soak pushed 114 popped 114 empty 3 sum 823125907\n",
+        ),
+        (
+            "4611686018427387903",
+            "3",
+            0,
+            b"soak pushed 2 popped 2 empty 0 sum 33\n",
+        ),
+        ("4611686018427387904", "3", 2, b"fault words 0 0\n"),
+        ("7", "1000001", 2, b"fault words 0 0\n"),
+        ("", "3", 2, b"fault words 0 0\n"),
+        ("7", "", 2, b"fault words 0 0\n"),
+    ];
+    for (seed, count, status, text) in table {
+        let (answer, written) = answer_to(alloc, &["soak", seed, count], Vec::new(alloc))?;
         assert_eq!(rt; (answer, written.as_slice()), (status, text));
     }
     Ok(())

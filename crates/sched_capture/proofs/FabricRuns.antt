@@ -3,7 +3,8 @@ use Rattle.std.proofs.Common.{◌≡◌, ◌+◌, ℕ, Option, None, Some, Resul
 use Rattle.std.specs.Prelude.{IfSome, OnOk, OnErr}
 use Rattle.embed_defs.specs.Images.{image_map}
 use Rattle.embed_lift_defs.specs.Lift.{IsLift}
-use Rattle.pcap_defs.specs.Reading.{capture_of}
+use Rattle.pcap_defs.specs.Contents.{FileContents, no_capture, holds}
+use Rattle.pcapng_defs.specs.NgContents.{in_file}
 use Rattle.policy_defs.specs.Policy.{Policy}
 use Rattle.sched_defs.specs.SourceState.{start}
 use Rattle.sched_defs.specs.Events.{Event, after, outcomes, pushed_in, asked_in}
@@ -23,7 +24,7 @@ use Rattle.sched_embedded.specs.declared.embedded.Embedded.{Embedded}
 use Rattle.sched_embedded.specs.Embedded.{EmbeddedStands, origin_of}
 use Rattle.sched_embedded.specs.Fabrics.{FabricRun, run_of, HoldsAfter, HoldsAmid, Leaves, LeavesPart}
 use Rattle.sched_embedded.specs.Laid.{Laid}
-use Rattle.sched_capture.specs.Answers.{paced_answer}
+use Rattle.sched_capture.specs.Answers.{answer_over, paced_answer}
 
 module _ {F : Type 0} (fabrics : Ghosts F) (policy : Policy) (laid : Laid) (c : Embedded F) (old mid : F)
     (origin : origin_of c ≡ record { images = laid.images; arities = laid.arities; pushes = fabrics.pushed old; pops = fabrics.popped old })
@@ -53,25 +54,30 @@ module _ {F : Type 0} (fabrics : Ghosts F) (policy : Resolved) (laid : Laid) (pa
   over l = record { policy = policy.policy; laid = laid; events = (course_of policy.policy pace l (start policy.policy) 1).events }
 
   -- what is said of that run is said of the run of the file
-  of_file : (file : List ℕ) (left : Option Left) (Q : Left → Type 0) (P : Option FabricRun → Type 0) → ((l : Left) → Q l → P (Some (over l))) → Begins policy (capture_of file) left → IfSome left Q
+  of_contents : (file : FileContents) (left : Option Left) (Q : Left → Type 0) (P : Option FabricRun → Type 0) → ((l : Left) → Q l → P (Some (over l))) → Begins policy file left → IfSome left Q
+      → P (run_of policy.policy laid (answer_over policy (pace_of pace) file).events)
+  of_contents (no_capture fault) left Q P into begins each = absurd begins
+  of_contents (holds contents) left Q P into begins each = into _ (rw begins at each)
+
+  of_file : (file : List ℕ) (left : Option Left) (Q : Left → Type 0) (P : Option FabricRun → Type 0) → ((l : Left) → Q l → P (Some (over l))) → Begins policy (in_file file) left → IfSome left Q
       → P (run_of policy.policy laid (paced_answer policy (pace_of pace) file).events)
-  of_file file left Q P into begins each = rw (begins.is) (into _ (rw (begins.all) at each))
+  of_file file left Q P into begins each = of_contents (in_file file) left Q P into begins each
 
   pub left_by : (r : Result Ending Stop) (told : Option (List ℕ)) (left : Option Left) (Q : Left → Type 0) (old new : F) → ((l : Left) → Q l → HoldsAfter fabrics (over l) old new) →
-      IfSome told (λ file. Begins policy (capture_of file) left) → OnOk r (IfSome left Q) → OnOk r (IfSome told (λ file. Leaves fabrics (run_of policy.policy laid (paced_answer policy (pace_of pace) file).events) old new))
+      IfSome told (λ file. Begins policy (in_file file) left) → OnOk r (IfSome left Q) → OnOk r (IfSome told (λ file. Leaves fabrics (run_of policy.policy laid (paced_answer policy (pace_of pace) file).events) old new))
   left_by (Err stop) told left Q old new into begins each = tt
   left_by (Ok e) None left Q old new into begins each = tt
   left_by (Ok e) (Some file) left Q old new into begins each = of_file file left Q (λ run. Leaves fabrics run old new) into begins each
 
   pub left_amid : (r : Result Ending Stop) (told : Option (List ℕ)) (left : Option Left) (Q : Left → Type 0) (old new : F) → ((l : Left) → Q l → HoldsAmid fabrics (over l) old new) →
-      IfSome told (λ file. Begins policy (capture_of file) left) → OnErr r (IfSome left Q) → OnErr r (IfSome told (λ file. LeavesPart fabrics (run_of policy.policy laid (paced_answer policy (pace_of pace) file).events) old new))
+      IfSome told (λ file. Begins policy (in_file file) left) → OnErr r (IfSome left Q) → OnErr r (IfSome told (λ file. LeavesPart fabrics (run_of policy.policy laid (paced_answer policy (pace_of pace) file).events) old new))
   left_amid (Ok e) told left Q old new into begins each = tt
   left_amid (Err stop) None left Q old new into begins each = tt
   left_amid (Err stop) (Some file) left Q old new into begins each = of_file file left Q (λ run. LeavesPart fabrics run old new) (λ l q. inr (into l q)) begins each
 
   -- nothing was made yet
   pub none_amid : (r : Result Ending Stop) (told : Option (List ℕ)) (left : Option Left) (old new : F) → ((l : Left) → HoldsAmid fabrics (over l) old new) →
-      IfSome told (λ file. Begins policy (capture_of file) left) → OnErr r (IfSome told (λ file. LeavesPart fabrics (run_of policy.policy laid (paced_answer policy (pace_of pace) file).events) old new))
+      IfSome told (λ file. Begins policy (in_file file) left) → OnErr r (IfSome told (λ file. LeavesPart fabrics (run_of policy.policy laid (paced_answer policy (pace_of pace) file).events) old new))
   none_amid r told left old new each begins = left_amid r told left (λ l. Unit {0}) old new (λ l _. each l) begins (on_err_given r (IfSome left (λ l. Unit {0})) (always left))
     where
       always : (o : Option Left) → IfSome o (λ l. Unit {0})

@@ -8,7 +8,8 @@ use Rattle.outside_core.specs.Written.{Appended, AppendedPrefix}
 use Rattle.outside_core.specs.declared.stop.Stop.{Stop}
 use Rattle.outside_core.specs.declared.stop.Stop.TheVariants.{Source, Sink, Memory}
 use Rattle.outside_core.proofs.FaultLaws.{rose_after}
-use Rattle.pcap_defs.specs.Reading.{capture_of}
+use Rattle.pcap_defs.specs.Contents.{FileContents, no_capture, holds}
+use Rattle.pcapng_defs.specs.NgContents.{in_file}
 use Rattle.policy_rules.specs.Resolved.{Resolved}
 use Rattle.sched_defs.specs.Pace.{Pace}
 use Rattle.sched_defs.specs.declared.ending.Ending.{Ending}
@@ -18,37 +19,42 @@ use Rattle.sched_run.specs.declared.pace.Pace as code
 use Rattle.sched_run.specs.declared.pace.Pace.TheVariants as code_pace
 use Rattle.sched_packets.specs.Arrivals.{Begins}
 use Rattle.tap_core.specs.Watching.{Sight}
-use Rattle.sched_capture.specs.Answers.{RunAnswer, IsRefusal, answer_of, paced_answer, shown_by, HaveWatched}
+use Rattle.sched_capture.specs.Answers.{RunAnswer, IsRefusal, answer_of, answer_over, paced_answer, shown_by, HaveWatched}
 
 module _ (policy : Resolved) (pace : Pace) where
   -- what is said of the answer over what is left is said of the answer for the file
-  over_file : (P : RunAnswer → Type 0) (told : Option (List ℕ)) (left : Option Left) → IfSome told (λ file. Begins policy (capture_of file) left)
+  over_contents : (P : RunAnswer → Type 0) (file : FileContents) (left : Option Left) → Begins policy file left
+      → IfSome left (λ l. P (answer_of policy.policy pace l.packets l.fault)) → P (answer_over policy pace file)
+  over_contents P (no_capture fault) left begins each = absurd begins
+  over_contents P (holds contents) left begins each = rw begins at each
+
+  over_file : (P : RunAnswer → Type 0) (told : Option (List ℕ)) (left : Option Left) → IfSome told (λ file. Begins policy (in_file file) left)
       → IfSome left (λ l. P (answer_of policy.policy pace l.packets l.fault)) → IfSome told (λ file. P (paced_answer policy pace file))
   over_file P None left begins each = tt
-  over_file P (Some file) left begins each = rw (begins.is) (rw (begins.all) at each)
+  over_file P (Some file) left begins each = over_contents P (in_file file) left begins each
 
-  pub ending_of : (r : Result Ending Stop) (told : Option (List ℕ)) (left : Option Left) → IfSome told (λ file. Begins policy (capture_of file) left)
+  pub ending_of : (r : Result Ending Stop) (told : Option (List ℕ)) (left : Option Left) → IfSome told (λ file. Begins policy (in_file file) left)
       → IfOk r (λ e. IfSome left (λ l. e ≡ (answer_of policy.policy pace l.packets l.fault).ending)) → IfOk r (λ e. IfSome told (λ file. e ≡ (paced_answer policy pace file).ending))
   ending_of r told left begins each =
       IfOk-weaker r (λ e. IfSome left (λ l. e ≡ (answer_of policy.policy pace l.packets l.fault).ending)) (λ e. IfSome told (λ file. e ≡ (paced_answer policy pace file).ending))
       (λ e. over_file (λ a. e ≡ a.ending) told left begins) each
 
-  pub text_of_file : (r : Result Ending Stop) (told : Option (List ℕ)) (left : Option Left) (before written : Option (List ℕ)) → IfSome told (λ file. Begins policy (capture_of file) left)
+  pub text_of_file : (r : Result Ending Stop) (told : Option (List ℕ)) (left : Option Left) (before written : Option (List ℕ)) → IfSome told (λ file. Begins policy (in_file file) left)
       → OnOk r (IfSome left (λ l. Appended before written (answer_of policy.policy pace l.packets l.fault).text)) → OnOk r (IfSome told (λ file. Appended before written (paced_answer policy pace file).text))
   text_of_file r told left before written begins each = on_ok_weaker r (over_file (λ a. Appended before written a.text) told left begins) each
 
-  pub part_of_file : (r : Result Ending Stop) (told : Option (List ℕ)) (left : Option Left) (before written : Option (List ℕ)) → IfSome told (λ file. Begins policy (capture_of file) left)
+  pub part_of_file : (r : Result Ending Stop) (told : Option (List ℕ)) (left : Option Left) (before written : Option (List ℕ)) → IfSome told (λ file. Begins policy (in_file file) left)
       → OnErr r (IfSome left (λ l. AppendedPrefix before written (answer_of policy.policy pace l.packets l.fault).text)) → OnErr r (IfSome told (λ file. AppendedPrefix before written (paced_answer policy pace file).text))
   part_of_file r told left before written begins each = on_err_weaker r (over_file (λ a. AppendedPrefix before written a.text) told left begins) each
 
-  pub watched_of_file : (r : Result Ending Stop) (told : Option (List ℕ)) (left : Option Left) (before after : Sight) → IfSome told (λ file. Begins policy (capture_of file) left)
+  pub watched_of_file : (r : Result Ending Stop) (told : Option (List ℕ)) (left : Option Left) (before after : Sight) → IfSome told (λ file. Begins policy (in_file file) left)
       → OnOk r (IfSome left (λ l. HaveWatched (shown_by policy.policy (answer_of policy.policy pace l.packets l.fault)) before after))
       → OnOk r (IfSome told (λ file. HaveWatched (shown_by policy.policy (paced_answer policy pace file)) before after))
   watched_of_file r told left before after begins each = on_ok_weaker r (over_file (λ a. HaveWatched (shown_by policy.policy a) before after) told left begins) each
 
   -- where no run begins taps are as they were
   pub unwatched : (answer : Result Ending Stop) (told : Option (List ℕ)) (before written : Option (List ℕ)) (sight : Sight)
-      → IfOk answer (λ e. IfSome told (λ file. IsRefusal (capture_of file) e before written))
+      → IfOk answer (λ e. IfSome told (λ file. IsRefusal (in_file file) e before written))
       → OnOk answer (IfSome told (λ file. HaveWatched (shown_by policy.policy (paced_answer policy pace file)) sight sight))
   unwatched (Ok e) None before written sight refused = tt
   unwatched (Ok e) (Some file) before written sight refused = rw (refused.is) refl

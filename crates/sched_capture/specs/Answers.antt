@@ -1,8 +1,8 @@
 -- What a run over a policy's own tree of queues answers.
 use Rattle.std.specs.Prelude.{◌≡◌, ℕ, Option, None, Some, option_map, List, codes}
 use Rattle.outside_core.specs.Written.{Appended, AppendedPrefix}
-use Rattle.pcap_defs.specs.Fault.{Fault, code, place}
-use Rattle.pcap_defs.specs.Reading.{Capture, refused, packets, capture_of}
+use Rattle.pcap_defs.specs.Contents.{FileContents, no_capture, holds}
+use Rattle.pcapng_defs.specs.NgContents.{in_file}
 use Rattle.packet_defs.specs.declared.packet.Packet.{Packet}
 use Rattle.policy_defs.specs.Policy.{Policy}
 use Rattle.report_defs.specs.Report.{fault_line}
@@ -13,8 +13,7 @@ use Rattle.sched_defs.specs.declared.ending.Ending.TheVariants.{BadCapture}
 use Rattle.sched_defs.specs.Faults.{FaultAt}
 use Rattle.sched_defs.specs.Pace.{Pace, paced_course, paced_report}
 use Rattle.policy_rules.specs.Resolved.{Resolved}
-use Rattle.sched_packets.specs.Halts.{fault_at}
-use Rattle.sched_packets.specs.Packets.{packets_from}
+use Rattle.sched_packets.specs.Arrivals.{left_in}
 use Rattle.sched_run.specs.Shown.{shown_in}
 use Rattle.tap_core.specs.Lists.{Shown}
 use Rattle.tap_core.specs.Watching.{Sight, Watches}
@@ -25,18 +24,18 @@ pub record RunAnswer : Type 0 where
   pub text : List ℕ
   pub events : Option (List Event)
 
--- a header at fault is told in one line
-abbrev pub refusal_answer : Fault → RunAnswer
+-- a fault at the beginning is told in one line
+abbrev pub refusal_answer : FaultAt → RunAnswer
 refusal_answer fault = record {
-  ending = BadCapture (code fault) (place fault);
-  text = fault_line (codes "capture") (code fault) (place fault);
+  ending = BadCapture fault.code fault.place;
+  text = fault_line (codes "capture") fault.code fault.place;
   events = None;
 }
 
--- the capture's header is refused, which is how the run ends, and the text with its line is written
-pub record IsRefusal (capture : Capture) (ending : Ending) (before written : Option (List ℕ)) : Type 0 where
-  pub fault : Fault
-  pub is : capture ≡ refused fault
+-- the file is no capture, which is how the run ends, and the text with its line is written
+pub record IsRefusal (file : FileContents) (ending : Ending) (before written : Option (List ℕ)) : Type 0 where
+  pub fault : FaultAt
+  pub is : file ≡ no_capture fault
   pub ends : ending ≡ (refusal_answer fault).ending
   pub text : Appended before written (refusal_answer fault).text
 
@@ -48,13 +47,13 @@ answer_of policy pace arriving fault = record {
   events = Some (paced_course policy pace arriving fault (start policy) 1).events;
 }
 
-abbrev pub answer_over : Resolved → Pace → Capture → RunAnswer
-answer_over policy pace (refused fault) = refusal_answer fault
-answer_over policy pace (packets head records fault) = answer_of policy.policy pace (packets_from policy head 1 records) (option_map fault_at fault)
+abbrev pub answer_over : Resolved → Pace → FileContents → RunAnswer
+answer_over policy pace (no_capture fault) = refusal_answer fault
+answer_over policy pace (holds contents) = answer_of policy.policy pace (left_in policy 0 contents).packets (left_in policy 0 contents).fault
 
--- the answer for a policy, what paces the run, and the bytes of a capture
+-- the answer for a policy, what paces the run, and the bytes of a capture of either format
 abbrev pub paced_answer : Resolved → Pace → List ℕ → RunAnswer
-paced_answer policy pace file = answer_over policy pace (capture_of file)
+paced_answer policy pace file = answer_over policy pace (in_file file)
 
 -- of the text of each run over the bytes of a capture a first part was written
 abbrev pub IsPartOfEach : Resolved → List ℕ → Option (List ℕ) → Option (List ℕ) → Type 0

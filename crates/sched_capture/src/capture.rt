@@ -4,23 +4,25 @@ ghost use Rattle.outside_core.specs.Faults.{Rose};
 ghost use Rattle.outside_core.specs.Kept.{KeepsSink, HasCause, HasSinkCause};
 ghost use Rattle.outside_core.specs.Written.{Appended, AppendedPrefix};
 ghost use Rattle.report_defs.specs.Report.{fault_line};
-ghost use Rattle.pcap_defs.specs.Reading.{capture_of};
-ghost use Rattle.sched_packets.specs.Arrivals.{policy_of, given_by, left_of, IsReady, Begins};
+ghost use Rattle.pcapng_defs.specs.NgContents.{in_file};
+ghost use Rattle.sched_packets.specs.Arrivals.{Begins};
+ghost use Rattle.sched_packets.specs.AnyArrivals.{policy_of, given_by, left_of, IsReady};
 ghost use Rattle.sched_run.specs.Steps.{pace_of, IsBounded, IsNoPastLast, CanEndSo};
 ghost use Rattle.sched_capture.specs.Answers.{IsRefusal, IsPartOfEach, paced_answer};
 
 use crate::course::run_over;
+use crate::task::Task;
 use outside_core::{Shelf, Sink, Stop};
 use policy_core::Policy;
 use report_core::{FaultKind, Report, write_fault};
 use sched_core::Direct;
 use sched_defs::{Ending, Halt};
-use sched_packets::Arrivals;
-use sched_run::{Pace, Run};
+use sched_packets::AnyArrivals;
+use sched_run::Run;
 use std::alloc::Global;
 use tap_core::{Named, Tap, Watching};
 
-/// Writes the line of a capture whose header is at fault, as the whole report. The answer is how the run ends.
+/// Writes the line of a file that is no capture, as the whole report. The answer is how the run ends.
 fn refuse<K: Sink>(alloc: Global, sink: &mut K, code: u32, place: u64) -> Result<Ending, Stop>
     ensures ending { IfOk result (λ e. e ≡ Ending.BadCapture code place) }
     ensures text { OnOk result (Appended (K.written sink.old) (K.written sink.new) (fault_line (codes "capture") code place)) }
@@ -32,34 +34,35 @@ fn refuse<K: Sink>(alloc: Global, sink: &mut K, code: u32, place: u64) -> Result
     Ok(Ending::BadCapture(code, place))
 }
 
-/// Reads the header of the begun capture. Where no run goes on from there, the error is the run's answer: the capture's
-/// fault, told in the one line of the report, or the cause of a stop.
+/// Begins the capture of this name, and reads its beginning. Where no run goes on from there, the error is the run's answer:
+/// the capture's fault, told in the one line of the report, or the cause of a stop.
 pub fn begin<'a, S: Shelf, K: Sink>(
     alloc: Global,
     policy: &'a Policy,
+    capture: &str,
     shelf: &mut S,
     sink: &mut K,
-) -> Result<Arrivals<'a, S>, Result<Ending, Stop>>
-    requires begun { IsTrue (S.begun shelf.old) }
+) -> Result<AnyArrivals<'a, S>, Result<Ending, Stop>>
+    requires lent { IsTrue (S.lends shelf.old capture.now) }
 
-    ensures begins { IfOk result (λ a. IfSome (S.left shelf.old) (λ file.
-        Begins policy.now (capture_of file) (left_of a (S.left shelf.new)))) }
+    ensures begins { IfOk result (λ a. IfSome (S.content shelf.old capture.now) (λ file.
+        Begins policy.now (in_file file) (left_of a (S.left shelf.new)))) }
     ensures policy { IfOk result (λ a. policy_of a ≡ policy.now.policy) }
     ensures none_given { IfOk result (λ a. given_by a ≡ 0) }
     ensures ready { IfOk result (λ a. IsReady a (S.begun shelf.new)) }
     ensures unwritten { OnOk result (sink.new ≡ sink.old) }
 
-    ensures refused { IfErr result (λ answer. IfOk answer (λ e. IfSome (S.left shelf.old) (λ file.
-        IsRefusal (capture_of file) e (K.written sink.old) (K.written sink.new)))) }
+    ensures refused { IfErr result (λ answer. IfOk answer (λ e. IfSome (S.content shelf.old capture.now) (λ file.
+        IsRefusal (in_file file) e (K.written sink.old) (K.written sink.new)))) }
     ensures at_capture { IfErr result (λ answer. IfOk answer IsNoPastLast) }
-    ensures part { IfErr result (λ answer. OnErr answer (IfSome (S.left shelf.old) (λ file.
+    ensures part { IfErr result (λ answer. OnErr answer (IfSome (S.content shelf.old capture.now) (λ file.
         IsPartOfEach policy.now file (K.written sink.old) (K.written sink.new)))) }
     ensures kept { KeepsSink K.written K.faults sink.old sink.new }
     ensures later { S.faults shelf.old ≤ S.faults shelf.new }
     ensures cause { IfErr result (λ answer. IfErr answer (λ stop.
         HasCause stop S.faults shelf.old shelf.new K.faults sink.old sink.new)) }
 {
-    match Arrivals::start(alloc, policy, shelf) {
+    match AnyArrivals::open(alloc, policy, shelf, capture) {
         Ok(packets) => Ok(packets),
         Err(Halt::Fault(code, place)) => Err(refuse(alloc, sink, code, place)),
         Err(Halt::Source) => Err(Err(Stop::Source)),
@@ -67,31 +70,31 @@ pub fn begin<'a, S: Shelf, K: Sink>(
     }
 }
 
-/// Runs a script or a link over the begun capture, through the policy's own tree of queues, and writes the whole report.
+/// Runs a script or a link over a capture, through the policy's own tree of queues, and writes the whole report.
 /// The answer is how the run ended: at a capture with a fault and at a script that asks for too much, too. It is an error
 /// where the capture can't be read, the report can't be written, or there is no memory; the report is then cut short.
 pub fn direct<S: Shelf, K: Sink>(
     alloc: Global,
     policy: &Policy,
-    pace: Pace<'_>,
+    task: &Task<'_, '_>,
     shelf: &mut S,
     sink: &mut K,
 ) -> Result<Ending, Stop>
-    requires begun { IsTrue (S.begun shelf.old) }
-    requires bounded { IsBounded pace }
+    requires lent { IsTrue (S.lends shelf.old task.now.capture.now) }
+    requires bounded { IsBounded task.now.pace }
 
-    ensures ends { IfOk result (CanEndSo pace.entry) }
-    ensures ending { IfOk result (λ e. IfSome (S.left shelf.old) (λ file. e ≡ (paced_answer policy.now (pace_of pace.entry) file).ending)) }
-    ensures text { OnOk result (IfSome (S.left shelf.old) (λ file.
-        Appended (K.written sink.old) (K.written sink.new) (paced_answer policy.now (pace_of pace.entry) file).text)) }
-    ensures part { OnErr result (IfSome (S.left shelf.old) (λ file.
-        AppendedPrefix (K.written sink.old) (K.written sink.new) (paced_answer policy.now (pace_of pace.entry) file).text)) }
+    ensures ends { IfOk result (CanEndSo task.now.pace) }
+    ensures ending { IfOk result (λ e. IfSome (S.content shelf.old task.now.capture.now) (λ file. e ≡ (paced_answer policy.now (pace_of task.now.pace) file).ending)) }
+    ensures text { OnOk result (IfSome (S.content shelf.old task.now.capture.now) (λ file.
+        Appended (K.written sink.old) (K.written sink.new) (paced_answer policy.now (pace_of task.now.pace) file).text)) }
+    ensures part { OnErr result (IfSome (S.content shelf.old task.now.capture.now) (λ file.
+        AppendedPrefix (K.written sink.old) (K.written sink.new) (paced_answer policy.now (pace_of task.now.pace) file).text)) }
     ensures sink_cause { IsErrOf result Stop.Sink → Rose (K.faults sink.old) (K.faults sink.new) }
     ensures source_cause { IsErrOf result Stop.Source → Rose (S.faults shelf.old) (S.faults shelf.new) }
     ensures kept { KeepsSink K.written K.faults sink.old sink.new }
     ensures later { S.faults shelf.old ≤ S.faults shelf.new }
 {
-    let mut packets = match begin(alloc, policy, shelf, sink) {
+    let mut packets = match begin(alloc, policy, task.capture, shelf, sink) {
         Ok(packets) => packets,
         Err(answer) => return answer,
     };
@@ -111,7 +114,7 @@ pub fn direct<S: Shelf, K: Sink>(
         policy,
         &mut run,
         &mut tree,
-        pace,
+        task.pace,
         &mut packets,
         shelf,
         sink,

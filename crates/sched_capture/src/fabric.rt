@@ -16,6 +16,7 @@ ghost use Rattle.tap_core.specs.Watching.{sight_of, AreNoMore};
 
 use crate::capture::begin;
 use crate::course::run_over;
+use crate::task::Task;
 use embed_core::{Map, Target};
 use fabric_core::Fabric;
 use outside_core::{Shelf, Sink, Stop};
@@ -23,7 +24,7 @@ use policy_core::Policy;
 use report_core::Report;
 use sched_defs::Ending;
 use sched_embedded::Embedded;
-use sched_run::{Pace, Run};
+use sched_run::Run;
 use std::alloc::Global;
 use tap_core::{Tap, Watching};
 
@@ -34,39 +35,39 @@ pub struct Placement {
     pub map: Map,
 }
 
-/// Runs a script or a link over the begun capture, through a fabric into which the policy's tree is laid by a map, and
-/// writes the whole report: that of the policy's own tree. The fabric takes the target's shape when the capture's header
-/// is accepted, and from then on taps watch. The answer and the errors are those of `direct`.
+/// Runs a script or a link over a capture, through a fabric into which the policy's tree is laid by a map, and writes the
+/// whole report: that of the policy's own tree. The fabric takes the target's shape when the capture's beginning is accepted,
+/// and from then on taps watch. The answer and the errors are those of `direct`.
 pub fn replay<S: Shelf, K: Sink, F: Fabric, T: Tap>(
     alloc: Global,
     policy: &Policy,
     placement: Placement,
-    pace: Pace<'_>,
+    task: &Task<'_, '_>,
     shelf: &mut S,
     sink: &mut K,
     fabric: &mut F,
     watch: &mut Watching<T>,
 ) -> Result<Ending, Stop>
-    requires begun { IsTrue (S.begun shelf.old) }
-    requires bounded { IsBounded pace }
+    requires lent { IsTrue (S.lends shelf.old task.now.capture.now) }
+    requires bounded { IsBounded task.now.pace }
     requires range { IsInRange placement.target.arities placement.target.above }
     requires map_shape { SameShape (topology_of policy.now.policy.tree) placement.map }
     requires embedding { IsEmbedding (topology_of policy.now.policy.tree) (complete placement.target.arities) (image_map placement.map) }
     requires pushes { F.pushed fabric.old < 2 ^ 61 }
     requires pops { F.popped fabric.old < 2 ^ 61 }
 
-    ensures ends { IfOk result (CanEndSo pace.entry) }
-    ensures ending { IfOk result (λ e. IfSome (S.left shelf.old) (λ file. e ≡ (paced_answer policy.now (pace_of pace.entry) file).ending)) }
-    ensures text { OnOk result (IfSome (S.left shelf.old) (λ file.
-        Appended (K.written sink.old) (K.written sink.new) (paced_answer policy.now (pace_of pace.entry) file).text)) }
-    ensures part { OnErr result (IfSome (S.left shelf.old) (λ file.
-        AppendedPrefix (K.written sink.old) (K.written sink.new) (paced_answer policy.now (pace_of pace.entry) file).text)) }
-    ensures fabric { OnOk result (IfSome (S.left shelf.old) (λ file.
-        Leaves F.Fabric (run_of policy.now.policy (laid_by placement) (paced_answer policy.now (pace_of pace.entry) file).events) fabric.old fabric.new)) }
-    ensures fabric_part { OnErr result (IfSome (S.left shelf.old) (λ file.
-        LeavesPart F.Fabric (run_of policy.now.policy (laid_by placement) (paced_answer policy.now (pace_of pace.entry) file).events) fabric.old fabric.new)) }
-    ensures watched { OnOk result (IfSome (S.left shelf.old) (λ file.
-        HaveWatched (shown_by policy.now.policy (paced_answer policy.now (pace_of pace.entry) file))
+    ensures ends { IfOk result (CanEndSo task.now.pace) }
+    ensures ending { IfOk result (λ e. IfSome (S.content shelf.old task.now.capture.now) (λ file. e ≡ (paced_answer policy.now (pace_of task.now.pace) file).ending)) }
+    ensures text { OnOk result (IfSome (S.content shelf.old task.now.capture.now) (λ file.
+        Appended (K.written sink.old) (K.written sink.new) (paced_answer policy.now (pace_of task.now.pace) file).text)) }
+    ensures part { OnErr result (IfSome (S.content shelf.old task.now.capture.now) (λ file.
+        AppendedPrefix (K.written sink.old) (K.written sink.new) (paced_answer policy.now (pace_of task.now.pace) file).text)) }
+    ensures fabric { OnOk result (IfSome (S.content shelf.old task.now.capture.now) (λ file.
+        Leaves F.Fabric (run_of policy.now.policy (laid_by placement) (paced_answer policy.now (pace_of task.now.pace) file).events) fabric.old fabric.new)) }
+    ensures fabric_part { OnErr result (IfSome (S.content shelf.old task.now.capture.now) (λ file.
+        LeavesPart F.Fabric (run_of policy.now.policy (laid_by placement) (paced_answer policy.now (pace_of task.now.pace) file).events) fabric.old fabric.new)) }
+    ensures watched { OnOk result (IfSome (S.content shelf.old task.now.capture.now) (λ file.
+        HaveWatched (shown_by policy.now.policy (paced_answer policy.now (pace_of task.now.pace) file))
         (sight_of T.kind_of T.state_of watch.old) (sight_of T.kind_of T.state_of watch.new))) }
     ensures fewer { AreNoMore (sight_of T.kind_of T.state_of watch.old) (sight_of T.kind_of T.state_of watch.new) }
     ensures sink_cause { IsErrOf result Stop.Sink → Rose (K.faults sink.old) (K.faults sink.new) }
@@ -74,7 +75,7 @@ pub fn replay<S: Shelf, K: Sink, F: Fabric, T: Tap>(
     ensures kept { KeepsSink K.written K.faults sink.old sink.new }
     ensures later { S.faults shelf.old ≤ S.faults shelf.new }
 {
-    let mut packets = match begin(alloc, policy, shelf, sink) {
+    let mut packets = match begin(alloc, policy, task.capture, shelf, sink) {
         Ok(packets) => packets,
         Err(answer) => return answer,
     };
@@ -94,7 +95,7 @@ pub fn replay<S: Shelf, K: Sink, F: Fabric, T: Tap>(
         policy,
         &mut run,
         fabric,
-        pace,
+        task.pace,
         &mut packets,
         shelf,
         sink,

@@ -7,14 +7,18 @@ mod course;
 mod fabric;
 #[cfg(test)]
 mod fabric_tests;
+mod laws;
 mod load;
+mod task;
 #[cfg(test)]
 mod tests;
 
 pub use capture::{begin, direct};
 pub use course::run_over;
 pub use fabric::{Placement, replay};
+pub use laws::alike_files_have_equal_answers;
 pub use load::{LoadCounts, LoadSize, soak};
 pub use outside_core::Stop;
 pub use sched_defs::Ending;
-pub use sched_packets::Arrivals;
+pub use sched_packets::AnyArrivals;
+pub use task::Task;

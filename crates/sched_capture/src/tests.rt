@@ -1,7 +1,7 @@
 //! Tests of runs through the policy's own tree.
-use crate::{Ending, Stop, direct};
+use crate::{Ending, Stop, Task, direct};
 use events_core::parse_events;
-use outside_core::{MemShelf, MemSink, Shelf};
+use outside_core::{MemShelf, MemSink};
 use policy_core::resolve;
 use policy_text::parse;
 use sched_run::Pace;
@@ -66,9 +66,9 @@ fn ends(
     let lines = parse(alloc, policy).ok().ok_or("parse")?;
     let policy = resolve(alloc, &lines).ok().ok_or("resolve")?;
     let script = parse_events(alloc, script).ok().ok_or("script")?;
-    shelf.begin("c").ok().ok_or("begin")?;
     let pace = Pace::Script(script.steps());
-    Ok(direct(alloc, &policy, pace, shelf, sink))
+    let task = Task { pace, capture: "c" };
+    Ok(direct(alloc, &policy, &task, shelf, sink))
 }
 
 /// How a run over the shelf's one file ends at the pace of a link that sends four bytes a second.
@@ -80,8 +80,11 @@ fn link_ends(
 ) -> Result<Result<Ending, Stop>, Fail> {
     let lines = parse(alloc, policy).ok().ok_or("parse")?;
     let policy = resolve(alloc, &lines).ok().ok_or("resolve")?;
-    shelf.begin("c").ok().ok_or("begin")?;
-    Ok(direct(alloc, &policy, Pace::Link(4), shelf, sink))
+    let task = Task {
+        pace: Pace::Link(4),
+        capture: "c",
+    };
+    Ok(direct(alloc, &policy, &task, shelf, sink))
 }
 
 #[test]

@@ -1,4 +1,4 @@
 pub mod Packets
 pub mod Halts
 pub mod Arrivals
-pub mod Laws
+pub mod AnyArrivals

@@ -3,7 +3,7 @@ ghost use Rattle.std.specs.Prelude.{◌≡◌, IfOk, IfErr, IfSome, IsErrOf, IsT
 ghost use Rattle.outside_core.specs.Faults.{Rose};
 ghost use Rattle.outside_core.specs.Kept.{KeepsShelf};
 
-use crate::halts::halt_of;
+use crate::halts::{halt_of, halt_unbegun};
 use crate::packets::packet_in;
 use capture_core::CaptureReader;
 use outside_core::Shelf;
@@ -56,6 +56,31 @@ impl<'a, R: CaptureReader + Drop, S: Shelf> Arrivals<'a, R, S> {
                 shelf: PhantomData,
             }),
             Err(unread) => Err(halt_of(unread)),
+        }
+    }
+
+    /// Begins the file of this name, and reads its beginning.
+    pub fn open(
+        alloc: Global,
+        policy: &'a Policy,
+        shelf: &mut S,
+        name: &str,
+    ) -> Result<Arrivals<'a, R, S>, Halt>
+        requires lent { IsTrue (S.lends shelf.old name.now) }
+
+        ensures begins { IfOk result (λ a. IfSome (S.content shelf.old name.now) (λ file.
+            Begins policy.now (R.contents file) (left_of R.left R.given a (S.left shelf.new)))) }
+        ensures policy { IfOk result (λ a. policy_of a ≡ policy.now.policy) }
+        ensures none_given { IfOk result (λ a. given_by R.given a ≡ 0) }
+        ensures ready { IfOk result (λ a. IsReady R.ready R.given a (S.begun shelf.new)) }
+
+        ensures refuses { IfErr result (λ halt. IfSome (S.content shelf.old name.now) (λ file. Refuses halt (R.contents file))) }
+        ensures kept { KeepsShelf S.lends S.content S.faults shelf.old shelf.new }
+        ensures cause { IsErrOf result Halt.Source → Rose (S.faults shelf.old) (S.faults shelf.new) }
+    {
+        match shelf.begin(name) {
+            Ok(()) => Self::start(alloc, policy, shelf),
+            Err(error) => Err(halt_unbegun(error)),
         }
     }
 }

@@ -1,8 +1,9 @@
 //! Why no more packets come.
 ghost use Rattle.std.specs.Prelude.{◌≡◌};
-ghost use Rattle.sched_packets.specs.Halts.{halt_of};
+ghost use Rattle.sched_packets.specs.Halts.{halt_of, halt_unbegun};
 
 use capture_core::Unread;
+use outside_core::ShelfError;
 use sched_defs::Halt;
 
 /// Why no packet comes, where a capture isn't read on.
@@ -13,5 +14,15 @@ pub(crate) fn halt_of(unread: Unread) -> Halt
         Unread::Fault(code, place) => Halt::Fault(code, place),
         Unread::Source => Halt::Source,
         Unread::Memory => Halt::Memory,
+    }
+}
+
+/// Why no packet comes, where the file can't be begun.
+pub(crate) fn halt_unbegun(error: ShelfError) -> Halt
+    ensures { result ≡ halt_unbegun error }
+{
+    match error {
+        ShelfError::Failed => Halt::Source,
+        ShelfError::NoMemory => Halt::Memory,
     }
 }

@@ -1,14 +1,14 @@
 //! The packets of a capture of either format, one by one, each with its own link type, the class that a policy gives it and
-//! its flow.
+//! its flow. Begin with specs/AnyArrivals.antt.
 #![tactic(auto)]
 
+mod any_arrivals;
 mod arrivals;
 mod halts;
-mod laws;
 mod packets;
 #[cfg(test)]
 mod tests;
 
+pub use any_arrivals::AnyArrivals;
 pub use arrivals::Arrivals;
-pub use laws::alike_files_have_equal_reports;
 pub use sched_defs::{Halt, Packets};

@@ -1,9 +1,6 @@
 //! Tests of packets of two classes, in captures of both formats, and of captures with faults.
-use crate::{Arrivals, Packets};
-use capture_core::CaptureReader;
-use outside_core::{MemShelf, Shelf};
-use pcap_core::Reader;
-use pcapng_core::NgReader;
+use crate::{AnyArrivals, Packets};
+use outside_core::MemShelf;
 use policy_core::{Policy, resolve};
 use policy_text::parse;
 use std::alloc::{AllocError, Global};
@@ -62,13 +59,8 @@ fn shelf_of(alloc: Global, pieces: &[&[u8]], fail: u64) -> Result<MemShelf, Allo
 }
 
 /// The packets of a capture in a text: each one's number, class, length, moment and destination port, then how it ends.
-fn told<R: CaptureReader + Drop>(
-    alloc: Global,
-    policy: &Policy,
-    shelf: &mut MemShelf,
-) -> Result<String, Fail> {
-    shelf.begin("c").ok().ok_or("begin")?;
-    let mut arrivals = match Arrivals::<R, MemShelf>::start(alloc, policy, shelf) {
+fn told(alloc: Global, policy: &Policy, shelf: &mut MemShelf) -> Result<String, Fail> {
+    let mut arrivals = match AnyArrivals::open(alloc, policy, shelf, "c") {
         Ok(arrivals) => arrivals,
         Err(halt) => return Ok(format!(in alloc; "{halt:?}")?),
     };
@@ -116,7 +108,7 @@ fn packets_of_two_classes(rt: HostRuntime) -> Result<(), Fail> {
     ];
     for (pieces, fail, want) in table {
         let mut shelf = shelf_of(alloc, pieces, fail)?;
-        let text = told::<Reader>(alloc, &policy, &mut shelf)?;
+        let text = told(alloc, &policy, &mut shelf)?;
         assert_eq!(rt; text.as_str(), want);
     }
     Ok(())
@@ -126,7 +118,7 @@ fn packets_of_two_classes(rt: HostRuntime) -> Result<(), Fail> {
 fn packets_have_their_own_link_types(rt: HostRuntime) -> Result<(), Fail> {
     let alloc = rt.alloc();
     let policy = policy(alloc)?;
-    let table: [(&[&[u8]], u64, &str); 7] = [
+    let table: [(&[&[u8]], u64, &str); 9] = [
         (
             &[
                 SECTION,
@@ -157,14 +149,20 @@ fn packets_have_their_own_link_types(rt: HostRuntime) -> Result<(), Fail> {
             0,
             "1 0 1500 1000000000 53, Fault(11, 4)",
         ),
-        (&[], 0, "Fault(11, 1)"),
-        (&[HEADER, TAGGED], 0, "Fault(13, 1)"),
-        (&[SECTION, ETHERNET], 2, "Source"),
-        (&[SECTION, ETHERNET, FIRST_BLOCK, BLOCK_END], 4, "Source"),
+        (&[&SECTION[..4], &[0; 24]], 0, "Fault(13, 1)"),
+        (&[&SECTION[..27]], 0, "Fault(11, 1)"),
+        (&[&SECTION[..20]], 0, "Fault(1, 0)"),
+        (&[SECTION, ETHERNET], 3, "Source"),
+        (&[SECTION, ETHERNET], 4, "Source"),
+        (
+            &[SECTION, ETHERNET, FIRST_BLOCK, BLOCK_END],
+            6,
+            "1 0 1500 1000000000 53, Source",
+        ),
     ];
     for (pieces, fail, want) in table {
         let mut shelf = shelf_of(alloc, pieces, fail)?;
-        let text = told::<NgReader>(alloc, &policy, &mut shelf)?;
+        let text = told(alloc, &policy, &mut shelf)?;
         assert_eq!(rt; text.as_str(), want);
     }
     Ok(())

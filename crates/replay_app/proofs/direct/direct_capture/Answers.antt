@@ -5,7 +5,7 @@ use Rattle.replay_app.proofs.direct.direct_capture.Goals as goal
 
 pub returns-clause-status : goal.returns-clause-status
 returns-clause-status g c = rw (c.of_run.ensures)
-    (status_told c.in_ok-direct.field-0 _ (λ file. (paced_answer c.args.policy.now (pace_of c.args.task.now.pace) file).ending) (rw (c.in_ok-begin.ensures.whole) at c.in_ok-direct.ensures.ending))
+    (status_told c.in_ok-direct.field-0 _ (λ file. (paced_answer c.args.policy.now (pace_of c.args.task.now.pace) file).ending) c.in_ok-direct.ensures.ending)
 
 pub returns-clause-statuses : goal.returns-clause-statuses
 returns-clause-statuses g c = rw (c.of_run.ensures) (run_ends c.in_ok-direct.field-0)

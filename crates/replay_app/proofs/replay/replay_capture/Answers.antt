@@ -3,32 +3,20 @@ use Rattle.sched_run.specs.Steps.{pace_of}
 use Rattle.sched_capture.specs.Placements.{laid_by}
 use Rattle.tap_core.specs.Watching.{Sight, sight_of}
 use Rattle.replay_app.proofs.AnswerLaws.{pace_ends}
-use Rattle.replay_app.proofs.CaptureLaws.{whole_told, lines_cut, report_cut, none_told, whole_left, lines_left, report_left, none_left}
+use Rattle.replay_app.proofs.CaptureLaws.{whole_told, lines_cut, report_cut, whole_left, lines_left, report_left}
 use Rattle.replay_app.proofs.replay.replay_capture.Goals as goal
-
-pub returns-in_err-begin-clause-answer : goal.returns-in_err-begin-clause-answer
-returns-in_err-begin-clause-answer g c =
-    let p = err_from_is_err_and c.from_residual.result c.from_residual.ensures.1 in
-    let before : Sight = sight_of g.T.Tap.kind_of g.T.Tap.state_of c.args.watch.now in
-    rw (p.1) (none_told c.args.policy.now (laid_by c.args.placement) (pace_of c.args.task.now.pace) before (g.S.Shelf.content c.args.shelf.now c.args.task.now.capture.now) _ (g.K.Sink.written c.args.sink.now))
-
-pub returns-in_err-begin-clause-left : goal.returns-in_err-begin-clause-left
-returns-in_err-begin-clause-left g c =
-    let p = err_from_is_err_and c.from_residual.result c.from_residual.ensures.1 in
-    let before : Sight = sight_of g.T.Tap.kind_of g.T.Tap.state_of c.args.watch.now in
-    rw (p.1) (none_left c.args.policy.now (laid_by c.args.placement) (pace_of c.args.task.now.pace) before g.F.Fabric c.args.fabric.now before (g.S.Shelf.content c.args.shelf.now c.args.task.now.capture.now) _)
 
 pub returns-in_err-ending-clause-answer : goal.returns-in_err-ending-clause-answer
 returns-in_err-ending-clause-answer g c =
-    let p = err_from_is_err_and c.from_residual-in_err-ending.result c.from_residual-in_err-ending.ensures.1 in
+    let p = err_from_is_err_and c.from_residual.result c.from_residual.ensures.1 in
     let before : Sight = sight_of g.T.Tap.kind_of g.T.Tap.state_of c.args.watch.now in
-    rw (p.1) (report_cut c.args.policy.now (laid_by c.args.placement) (pace_of c.args.task.now.pace) before _ _ _ _ (rw (c.in_ok-begin.ensures.whole) at c.in_err-ending.ensures.part))
+    rw (p.1) (report_cut c.args.policy.now (laid_by c.args.placement) (pace_of c.args.task.now.pace) before _ _ _ _ c.in_err-ending.ensures.part)
 
 pub returns-in_err-ending-clause-left : goal.returns-in_err-ending-clause-left
 returns-in_err-ending-clause-left g c =
-    let p = err_from_is_err_and c.from_residual-in_err-ending.result c.from_residual-in_err-ending.ensures.1 in
+    let p = err_from_is_err_and c.from_residual.result c.from_residual.ensures.1 in
     let before : Sight = sight_of g.T.Tap.kind_of g.T.Tap.state_of c.args.watch.now in
-    rw (p.1) (report_left c.args.policy.now (laid_by c.args.placement) (pace_of c.args.task.now.pace) before g.F.Fabric _ _ _ _ _ (rw (c.in_ok-begin.ensures.whole) at c.in_err-ending.ensures.fabric_part))
+    rw (p.1) (report_left c.args.policy.now (laid_by c.args.placement) (pace_of c.args.task.now.pace) before g.F.Fabric _ _ _ _ _ c.in_err-ending.ensures.fabric_part)
 
 pub returns-in_err-write_lines-clause-answer : goal.returns-in_err-write_lines-clause-answer
 returns-in_err-write_lines-clause-answer g c =
@@ -36,27 +24,27 @@ returns-in_err-write_lines-clause-answer g c =
     let before : Sight = sight_of g.T.Tap.kind_of g.T.Tap.state_of c.args.watch.now in
     let e = c.in_ok-ending.ensures in
     rw (p.1) (lines_cut c.args.policy.now (laid_by c.args.placement) (pace_of c.args.task.now.pace) before _ _ _ _ _ _ _
-    (rw (c.in_ok-begin.ensures.whole) at e.ending) (rw (c.in_ok-begin.ensures.whole) at e.watched) (rw (c.in_ok-begin.ensures.whole) at e.text) c.in_err-write_lines.ensures.part)
+    e.ending e.watched e.text c.in_err-write_lines.ensures.part)
 
 pub returns-in_err-write_lines-clause-left : goal.returns-in_err-write_lines-clause-left
 returns-in_err-write_lines-clause-left g c =
     let p = err_from_is_err_and c.from_residual-in_err-write_lines.result c.from_residual-in_err-write_lines.ensures.1 in
     let before : Sight = sight_of g.T.Tap.kind_of g.T.Tap.state_of c.args.watch.now in
-    rw (p.1) (lines_left c.args.policy.now (laid_by c.args.placement) (pace_of c.args.task.now.pace) before g.F.Fabric _ _ _ _ _ (rw (c.in_ok-begin.ensures.whole) at c.in_ok-ending.ensures.fabric))
+    rw (p.1) (lines_left c.args.policy.now (laid_by c.args.placement) (pace_of c.args.task.now.pace) before g.F.Fabric _ _ _ _ _ c.in_ok-ending.ensures.fabric)
 
 pub returns-clause-answer : goal.returns-clause-answer
 returns-clause-answer g c =
     let before : Sight = sight_of g.T.Tap.kind_of g.T.Tap.state_of c.args.watch.now in
     let e = c.in_ok-ending.ensures in
     rw (c.of_run.ensures) (whole_told c.args.policy.now (laid_by c.args.placement) (pace_of c.args.task.now.pace) before _ _ _ _ _ _
-    (rw (c.in_ok-begin.ensures.whole) at e.ending) (rw (c.in_ok-begin.ensures.whole) at e.watched) (rw (c.in_ok-begin.ensures.whole) at e.text) c.in_ok-write_lines.ensures.text)
+    e.ending e.watched e.text c.in_ok-write_lines.ensures.text)
 
 pub returns-clause-left : goal.returns-clause-left
 returns-clause-left g c =
     let before : Sight = sight_of g.T.Tap.kind_of g.T.Tap.state_of c.args.watch.now in
     let e = c.in_ok-ending.ensures in
     rw (c.of_run.ensures) (whole_left c.args.policy.now (laid_by c.args.placement) (pace_of c.args.task.now.pace) before g.F.Fabric _ _ _ _ _
-    (rw (c.in_ok-begin.ensures.whole) at e.fabric) (rw (c.in_ok-begin.ensures.whole) at e.watched))
+    e.fabric e.watched)
 
 pub returns-clause-statuses : goal.returns-clause-statuses
 returns-clause-statuses g c = rw (c.of_run.ensures) (pace_ends c.args.task.now.pace c.in_ok-ending.ending c.in_ok-ending.ensures.ends)

@@ -2,7 +2,7 @@ use Rattle.std.proofs.Common.{[], refl, sym, ap, ◌∙◌, arith}
 use Rattle.std.proofs.lemmas.Option.{IfSome_then}
 use Rattle.std.proofs.lemmas.Result.{IfOk-weaker, on_err_weaker, err_from_is_err_and}
 use Rattle.report_core.proofs.WholeTexts.{nothing_written}
-use Rattle.sched_packets.specs.Arrivals.{left_of}
+use Rattle.sched_packets.specs.AnyArrivals.{left_of}
 use Rattle.sched_run.specs.Steps.{pace_of, IsNoPastLast, CanEndSo}
 use Rattle.sched_capture.specs.Answers.{paced_answer}
 use Rattle.sched_capture.proofs.FileRuns.{can_end, ending_of, text_of_file, part_of_file, watched_of_file, unwatched, sink_rose, source_rose}
@@ -13,10 +13,10 @@ use Rattle.sched_capture.proofs.FabricRuns.{holds_after, left_by, left_amid, non
 use Rattle.sched_capture.proofs.fabric.replay.Goals as goal
 
 pub returns-in-Err-clause-ends : goal.returns-in-Err-clause-ends
-returns-in-Err-clause-ends g c = IfOk-weaker c.in-Err.answer IsNoPastLast (CanEndSo c.args.pace) (can_end c.args.pace) c.in-Err.ensures.at_capture
+returns-in-Err-clause-ends g c = IfOk-weaker c.in-Err.answer IsNoPastLast (CanEndSo c.args.task.now.pace) (can_end c.args.task.now.pace) c.in-Err.ensures.at_capture
 
 pub returns-in-Err-clause-part : goal.returns-in-Err-clause-part
-returns-in-Err-clause-part g c = on_err_weaker c.in-Err.answer (λ all. IfSome_then (g.S.Shelf.left c.args.shelf.now) all (λ file each. each (pace_of c.args.pace))) c.in-Err.ensures.part
+returns-in-Err-clause-part g c = on_err_weaker c.in-Err.answer (λ all. IfSome_then (g.S.Shelf.content c.args.shelf.now c.args.task.now.capture.now) all (λ file each. each (pace_of c.args.task.now.pace))) c.in-Err.ensures.part
 
 pub returns-clause-fabric : goal.returns-clause-fabric
 returns-clause-fabric g c =
@@ -24,7 +24,7 @@ returns-clause-fabric g c =
     let laid : Laid = record { images = c.args.placement.map; arities = c.args.placement.target.arities } in
     let n = c.in-Ok-new.ensures in
     let runs = c.in_ok-run.ensures.scheduler in
-    left_by g.F.Fabric policy laid c.args.pace c.run_over.result (g.S.Shelf.left c.args.shelf.now) (left_of c.in-Ok.packets (g.S.Shelf.left c.begin.new.shelf)) _ c.args.fabric.now c.run_over.new.under
+    left_by g.F.Fabric policy laid c.args.task.now.pace c.run_over.result (g.S.Shelf.content c.args.shelf.now c.args.task.now.capture.now) (left_of c.in-Ok.packets (g.S.Shelf.left c.begin.new.shelf)) _ c.args.fabric.now c.run_over.new.under
     (λ l made. holds_after g.F.Fabric policy.policy laid c.in_ok-run.run'.scheduler c.args.fabric.now c.new.new.fabric (ap (λ s. origin_of s) runs ∙ n.origin) (ap (λ s. s.own.pushes) runs ∙ n.pushes) (ap (λ s. s.own.departures) runs ∙ n.departures) n.spilled _ c.run_over.new.run.scheduler c.run_over.new.under made.state made.pushed made.asked made.origin made.spilled)
     c.in-Ok.ensures.begins c.run_over.ensures.state
 
@@ -34,7 +34,7 @@ returns-clause-fabric_part g c =
     let laid : Laid = record { images = c.args.placement.map; arities = c.args.placement.target.arities } in
     let n = c.in-Ok-new.ensures in
     let runs = c.in_ok-run.ensures.scheduler in
-    left_amid g.F.Fabric policy laid c.args.pace c.run_over.result (g.S.Shelf.left c.args.shelf.now) (left_of c.in-Ok.packets (g.S.Shelf.left c.begin.new.shelf)) _ c.args.fabric.now c.run_over.new.under
+    left_amid g.F.Fabric policy laid c.args.task.now.pace c.run_over.result (g.S.Shelf.content c.args.shelf.now c.args.task.now.capture.now) (left_of c.in-Ok.packets (g.S.Shelf.left c.begin.new.shelf)) _ c.args.fabric.now c.run_over.new.under
     (λ l some. record {
       made = some.made;
       unmade = some.unmade;
@@ -49,7 +49,7 @@ returns-in_err-new-clause-fabric_part g c =
     let policy = c.args.policy.now in
     let laid : Laid = record { images = c.args.placement.map; arities = c.args.placement.target.arities } in
     let n = c.in-Ok-new.ensures in
-    none_amid g.F.Fabric policy laid c.args.pace _ (g.S.Shelf.left c.args.shelf.now) (left_of c.in-Ok.packets (g.S.Shelf.left c.begin.new.shelf)) c.args.fabric.now c.new.new.fabric
+    none_amid g.F.Fabric policy laid c.args.task.now.pace _ (g.S.Shelf.content c.args.shelf.now c.args.task.now.capture.now) (left_of c.in-Ok.packets (g.S.Shelf.left c.begin.new.shelf)) c.args.fabric.now c.new.new.fabric
     (λ l. record {
       made = [];
       unmade = _;
@@ -64,7 +64,7 @@ returns-in_err-run-clause-fabric_part g c =
     let policy = c.args.policy.now in
     let laid : Laid = record { images = c.args.placement.map; arities = c.args.placement.target.arities } in
     let n = c.in-Ok-new.ensures in
-    none_amid g.F.Fabric policy laid c.args.pace _ (g.S.Shelf.left c.args.shelf.now) (left_of c.in-Ok.packets (g.S.Shelf.left c.begin.new.shelf)) c.args.fabric.now c.new.new.fabric
+    none_amid g.F.Fabric policy laid c.args.task.now.pace _ (g.S.Shelf.content c.args.shelf.now c.args.task.now.capture.now) (left_of c.in-Ok.packets (g.S.Shelf.left c.begin.new.shelf)) c.args.fabric.now c.new.new.fabric
     (λ l. record {
       made = [];
       unmade = _;
@@ -77,16 +77,16 @@ returns-in_err-run-clause-fabric_part g c =
 pub returns-in_err-new-clause-part : goal.returns-in_err-new-clause-part
 returns-in_err-new-clause-part g c =
     let p = err_from_is_err_and c.from_residual.result c.from_residual.ensures.1 in
-    rw (p.1, c.in-Ok.ensures.unwritten) (nothing_written (g.S.Shelf.left c.args.shelf.now) (g.K.Sink.written c.args.sink.now) (λ file. (paced_answer c.args.policy.now (pace_of c.args.pace) file).text))
+    rw (p.1, c.in-Ok.ensures.unwritten) (nothing_written (g.S.Shelf.content c.args.shelf.now c.args.task.now.capture.now) (g.K.Sink.written c.args.sink.now) (λ file. (paced_answer c.args.policy.now (pace_of c.args.task.now.pace) file).text))
 
 pub returns-in_err-run-clause-part : goal.returns-in_err-run-clause-part
 returns-in_err-run-clause-part g c =
     let p = err_from_is_err_and c.from_residual-in_err-run.result c.from_residual-in_err-run.ensures.1 in
-    rw (p.1, c.in-Ok.ensures.unwritten) (nothing_written (g.S.Shelf.left c.args.shelf.now) (g.K.Sink.written c.args.sink.now) (λ file. (paced_answer c.args.policy.now (pace_of c.args.pace) file).text))
+    rw (p.1, c.in-Ok.ensures.unwritten) (nothing_written (g.S.Shelf.content c.args.shelf.now c.args.task.now.capture.now) (g.K.Sink.written c.args.sink.now) (λ file. (paced_answer c.args.policy.now (pace_of c.args.task.now.pace) file).text))
 
 pub returns-in_default-clause-part : goal.returns-in_default-clause-part
 returns-in_default-clause-part g c =
-    rw (c.in-Ok.ensures.unwritten) (nothing_written (g.S.Shelf.left c.args.shelf.now) (g.K.Sink.written c.args.sink.now) (λ file. (paced_answer c.args.policy.now (pace_of c.args.pace) file).text))
+    rw (c.in-Ok.ensures.unwritten) (nothing_written (g.S.Shelf.content c.args.shelf.now c.args.task.now.capture.now) (g.K.Sink.written c.args.sink.now) (λ file. (paced_answer c.args.policy.now (pace_of c.args.task.now.pace) file).text))
 
 pub returns-in-Err-clause-sink_cause : goal.returns-in-Err-clause-sink_cause
 returns-in-Err-clause-sink_cause g c =
@@ -98,16 +98,16 @@ returns-in-Err-clause-source_cause g c =
 
 pub returns-clause-ending : goal.returns-clause-ending
 returns-clause-ending g c =
-    ending_of c.args.policy.now (pace_of c.args.pace) c.run_over.result (g.S.Shelf.left c.args.shelf.now) (left_of c.in-Ok.packets (g.S.Shelf.left c.begin.new.shelf)) c.in-Ok.ensures.begins c.run_over.ensures.ending
+    ending_of c.args.policy.now (pace_of c.args.task.now.pace) c.run_over.result (g.S.Shelf.content c.args.shelf.now c.args.task.now.capture.now) (left_of c.in-Ok.packets (g.S.Shelf.left c.begin.new.shelf)) c.in-Ok.ensures.begins c.run_over.ensures.ending
 
 pub returns-clause-text : goal.returns-clause-text
 returns-clause-text g c =
-    text_of_file c.args.policy.now (pace_of c.args.pace) c.run_over.result (g.S.Shelf.left c.args.shelf.now) (left_of c.in-Ok.packets (g.S.Shelf.left c.begin.new.shelf)) (g.K.Sink.written c.args.sink.now) (g.K.Sink.written c.run_over.new.sink)
+    text_of_file c.args.policy.now (pace_of c.args.task.now.pace) c.run_over.result (g.S.Shelf.content c.args.shelf.now c.args.task.now.capture.now) (left_of c.in-Ok.packets (g.S.Shelf.left c.begin.new.shelf)) (g.K.Sink.written c.args.sink.now) (g.K.Sink.written c.run_over.new.sink)
     c.in-Ok.ensures.begins (rw (c.in-Ok.ensures.unwritten) at c.run_over.ensures.text)
 
 pub returns-clause-part : goal.returns-clause-part
 returns-clause-part g c =
-    part_of_file c.args.policy.now (pace_of c.args.pace) c.run_over.result (g.S.Shelf.left c.args.shelf.now) (left_of c.in-Ok.packets (g.S.Shelf.left c.begin.new.shelf)) (g.K.Sink.written c.args.sink.now) (g.K.Sink.written c.run_over.new.sink)
+    part_of_file c.args.policy.now (pace_of c.args.task.now.pace) c.run_over.result (g.S.Shelf.content c.args.shelf.now c.args.task.now.capture.now) (left_of c.in-Ok.packets (g.S.Shelf.left c.begin.new.shelf)) (g.K.Sink.written c.args.sink.now) (g.K.Sink.written c.run_over.new.sink)
     c.in-Ok.ensures.begins (rw (c.in-Ok.ensures.unwritten) at c.run_over.ensures.part)
 
 pub returns-clause-sink_cause : goal.returns-clause-sink_cause
@@ -120,8 +120,8 @@ returns-clause-source_cause g c =
 
 pub returns-in-Err-clause-watched : goal.returns-in-Err-clause-watched
 returns-in-Err-clause-watched g c =
-    unwatched c.args.policy.now (pace_of c.args.pace) c.in-Err.answer (g.S.Shelf.left c.args.shelf.now) _ _ _ c.in-Err.ensures.refused
+    unwatched c.args.policy.now (pace_of c.args.task.now.pace) c.in-Err.answer (g.S.Shelf.content c.args.shelf.now c.args.task.now.capture.now) _ _ _ c.in-Err.ensures.refused
 
 pub returns-clause-watched : goal.returns-clause-watched
 returns-clause-watched g c =
-    watched_of_file c.args.policy.now (pace_of c.args.pace) c.run_over.result (g.S.Shelf.left c.args.shelf.now) (left_of c.in-Ok.packets (g.S.Shelf.left c.begin.new.shelf)) _ _ c.in-Ok.ensures.begins c.run_over.ensures.watched
+    watched_of_file c.args.policy.now (pace_of c.args.task.now.pace) c.run_over.result (g.S.Shelf.content c.args.shelf.now c.args.task.now.capture.now) (left_of c.in-Ok.packets (g.S.Shelf.left c.begin.new.shelf)) _ _ c.in-Ok.ensures.begins c.run_over.ensures.watched

@@ -1,8 +1,0 @@
-//! What captures of both formats have in common.
-ghost use Rattle.sched_packets.specs.Laws.{AlikeFilesHaveEqualPackets, AlikeFilesHaveEqualReports};
-
-/// A classic file and a pcapng file without fault, whose packets are equal, have equal reports.
-pub fn alike_files_have_equal_reports()
-    ensures packets { AlikeFilesHaveEqualPackets }
-    ensures reports { AlikeFilesHaveEqualReports }
-{}
