@@ -44,11 +44,13 @@ class Documents(unittest.TestCase):
                 self.assertIn("(pictures/%s)" % name, PAGE.read_text())
                 self.assertEqual(drawn_of(drawn / name), drawn_of(PICTURES / name))
 
-    def test_the_capture_is_made_by_its_command(self):
-        with tempfile.TemporaryDirectory() as folder:
-            made = pathlib.Path(folder) / "capture"
-            subprocess.run([runs.TOP / "tools/make_capture", made], check=True)
-            self.assertEqual(made.read_bytes(), (runs.TOP / "examples/uplink/capture").read_bytes())
+    def test_captures_are_made_by_their_commands(self):
+        for kept, words in ((runs.TOP / "examples/uplink/capture", ()),
+                            (runs.OFFICE / "capture.pcapng", ("--of", runs.OFFICE / "capture"))):
+            with tempfile.TemporaryDirectory() as folder:
+                made = pathlib.Path(folder) / "capture"
+                subprocess.run([runs.TOP / "tools/make_capture", made, *words], check=True)
+                self.assertEqual(made.read_bytes(), kept.read_bytes())
 
 
 if __name__ == "__main__":

@@ -14,7 +14,7 @@ import runs
 
 LAST = "examples: 5 passed, 0 failed\n"  # of the gate's log
 STAND_IN = "/bin/echo"  # a program that needs the C library alone
-FAULTS = {"words": [0], "size": [1], "target": range(1, 5), "script": range(1, 5), "capture": range(1, 9),
+FAULTS = {"words": [0], "size": [1], "target": range(1, 5), "script": range(1, 5), "capture": [1, 2, *range(4, 9), *range(11, 20)],
           "policy": [*range(1, 15), *range(21, 25)]}
 
 
@@ -138,7 +138,7 @@ class Explain(unittest.TestCase):
                     self.assertGreater(len(written.splitlines()), 1)
 
     def test_no_other_is(self):
-        for kind, code in (("policy", 15), ("policy", "7 "), ("nothing", 1), ("capture", 0)):
+        for kind, code in (("policy", 15), ("policy", "7 "), ("nothing", 1), ("capture", 0), ("capture", 3)):
             self.assertEqual(run(runs.TOP / "tools/explain", kind, code)[:2], (2, ""))
         self.assertEqual(run(runs.TOP / "tools/explain", "policy")[:2], (2, ""))
 

@@ -1,9 +1,9 @@
-"""Blocks of a pcapng capture, written for make_rows by draft-ietf-opsawg-pcapng: nothing of the program is used."""
+"""Blocks of a pcapng capture, as draft-ietf-opsawg-pcapng has them: for make_capture, and for the rows of the tests."""
 import struct
 
-SECTION, INTERFACE, SIMPLE, ENHANCED = 0x0A0D0D0A, 1, 3, 6
+SECTION, INTERFACE, SIMPLE, STATISTICS, ENHANCED = 0x0A0D0D0A, 1, 3, 5, 6
 ORDER_NUMBER = 0x1A2B3C4D
-UNIT = 9  # the option that names an interface's unit of time
+END, NAME, APPLICATION, RECEIVED, UNIT = 0, 2, 4, 4, 9  # options, each of its kinds of blocks
 
 
 def filled(content):
@@ -18,8 +18,8 @@ def block(kind, body, order="<", total=None, end=None):
     return struct.pack(order + "II", kind, total) + body + struct.pack(order + "I", total if end is None else end)
 
 
-def section(order="<", major=1, minor=0, mark=ORDER_NUMBER):
-    return block(SECTION, struct.pack(order + "IHHq", mark, major, minor, -1), order)
+def section(options=b"", order="<", major=1, minor=0, mark=ORDER_NUMBER):
+    return block(SECTION, struct.pack(order + "IHHq", mark, major, minor, -1) + options, order)
 
 
 def option(code, value, order="<"):
