@@ -18,3 +18,5 @@ pub mod TreeSteps
 pub mod LineTrees
 pub mod LineForms
 pub mod EntryLines
+pub mod TextAnswers
+pub mod SomeVerdict

@@ -14,6 +14,8 @@ pub enum FaultKind {
     Size,
     Script,
     Capture,
+    Tree,
+    Map,
 }
 
 impl FaultKind {
@@ -28,6 +30,8 @@ impl FaultKind {
             FaultKind::Size => "size",
             FaultKind::Script => "script",
             FaultKind::Capture => "capture",
+            FaultKind::Tree => "tree",
+            FaultKind::Map => "map",
         }
     }
 }

@@ -26,6 +26,8 @@ fn a_line_of_each_form(rt: HostRuntime) -> Result<(), Fail> {
     report.fault(&mut sink, FaultKind::Size, 1, 0)?;
     report.fault(&mut sink, FaultKind::Script, 2, 1)?;
     report.fault(&mut sink, FaultKind::Capture, 7, 1)?;
+    report.fault(&mut sink, FaultKind::Tree, 2, 1)?;
+    report.fault(&mut sink, FaultKind::Map, 9, 0)?;
     report.dropped(&mut sink, 17, 9, "web")?;
     report.end(&mut sink, 8, 7, 2, 1, 3, Some(1))?;
     report.finish(&mut sink)?;
@@ -41,6 +43,8 @@ fn a_line_of_each_form(rt: HostRuntime) -> Result<(), Fail> {
         fault size 1 0\n\
         fault script 2 1\n\
         fault capture 7 1\n\
+        fault tree 2 1\n\
+        fault map 9 0\n\
         x 17 9 web\n\
         end pushed 8 popped 7 empty 2 held 1 unsent 3 dropped 1\n";
     assert_eq!(rt; sink.bytes(), text.as_bytes());
