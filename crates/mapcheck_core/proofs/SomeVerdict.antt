@@ -1,40 +1,42 @@
--- Each map has a verdict: no clause of an embedding is broken, or there is a first.
-use Rattle.std.proofs.Common.{◌≡◌, ℕ, zero, suc, ◌+◌, ◌<◌, ◌≤◌, Bool, true, false, List, [], ◌∷◌, Option, Some, None, ◌⊎◌, inl, inr, refl, sym, ◌∙◌, subst, arith, below_more}
-use Rattle.std.proofs.lemmas.Bool.{cases_Bool}
-use Rattle.tree_defs.specs.Tree.{Address, nodes}
-use Rattle.tree_defs.specs.Topology.{Topology, IsBranched}
+-- There is no map without a verdict: no clause of an embedding is broken, or there is a first.
+use Rattle.std.proofs.Common.{◌≡◌, ℕ, zero, suc, ◌+◌, ◌<◌, ◌≤◌, false, [], ◌∷◌, Option, Some, None, ◌⊎◌, inl, inr, refl, sym, ◌∙◌, subst, arith, below_more}
+use Rattle.std.proofs.lemmas.Bool.{cases_Bool, cases_lt}
+use Rattle.tree_defs.specs.Tree.{Address, IsAddressOf, nodes}
+use Rattle.tree_defs.specs.Topology.{Topology}
 use Rattle.mapcheck_core.specs.declared.given.Given.{Given}
 use Rattle.mapcheck_core.specs.declared.fault.MapFault.{MapFault}
 use Rattle.mapcheck_core.specs.declared.fault.MapFault.TheVariants as fault
-use Rattle.mapcheck_core.specs.declared.check.Demand.TheVariants as demand
 use Rattle.mapcheck_core.specs.Numbers.{span_at}
-use Rattle.mapcheck_core.specs.GivenMaps.{image_of, line_of, IsInside, KeepsRoot, KeepsLeaves, IsVerdict, root, prefix}
-use Rattle.mapcheck_core.specs.Checks.{breaks_at, IsLeast, is_broken, IsFirstBroken, IsFirstPair}
-use Rattle.mapcheck_core.proofs.LeastLines.{least_skip, least_take}
-use Rattle.mapcheck_core.proofs.MapLaws.{outside_broken, none_outside, leaf_broken, leaves_kept, pair_found, all_kept, embeds}
+use Rattle.mapcheck_core.specs.GivenMaps.{image_of, line_of, IsOutside, MissesLeaf, HoldsNowhere, IsLeastLine, IsInside, KeepsRoot, KeepsLeaves, IsVerdict, outside, root, leaf, prefix}
+use Rattle.mapcheck_core.specs.Checks.{is_broken, IsFirstBroken, IsFirstPair}
+use Rattle.mapcheck_core.proofs.MapLaws.{pair_found, all_kept, embeds}
 
 -- ---- the least line
-module _ (test : ℕ → Bool) (lines : List ℕ) where
-  Least : ℕ → Type 0
-  Least n = (o : Option ℕ) × IsLeast test lines n o
+module _ (s : Topology) (g : Given) (P : Address → Type 0) (none : (n : ℕ) → IsLeastLine s g P n → ⊥) where
+  -- what holds of an address has a least line, and that is below any number above the address's own
+  below : (k : ℕ) (a : Address) → IsAddressOf s a → P a → line_of s g a < k → ⊥
+  below zero a inside holds low = omega (arith, low)
+  below (suc k) a inside holds low = none (line_of s g a) (record {
+    address = a;
+    inside = inside;
+    holds = holds;
+    line = refl;
+    least = λ b within same. elim (cases_lt (line_of s g b) (line_of s g a)) [
+      | inl lower ↦ absurd (below k b within same (omega (arith, lower, low)))
+      | inr higher ↦ higher
+    ];
+  })
 
-  one_more : (n : ℕ) → Least n → Least (n + 1)
-  one_more n (o, l) = elim (cases_Bool (test n)) [
-    | inl yes' ↦ (_, least_take test lines n o l yes')
-    | inr no' ↦ (o, least_skip test lines n o l no')
-  ]
-
-  least : (n : ℕ) → Least n
-  least zero = (None, λ i low. absurd (omega (arith, low)))
-  least (suc n) = let same : n + 1 ≡ suc n = omega arith in subst Least same (one_more n (least n))
+  nowhere : HoldsNowhere s P
+  nowhere a inside holds = below (suc (line_of s g a)) a inside holds (omega arith)
 
 -- ---- the first pair
 module _ (s : Topology) (g : Given) where
-  First : ℕ → ℕ → Type 0
+  abbrev First : ℕ → ℕ → Type 0
   First a n = (o : Option ℕ) × IsFirstBroken g a (span_at s a) n o
 
   next_broken : (a n : ℕ) → First a n → First a (n + 1)
-  next_broken a n (Some m, found) = let low : m < n + 1 = omega (arith, found.0) in (Some m, (low, found.1.0, found.1.1))
+  next_broken a n (Some m, found) = let low : m < n + 1 = omega (arith, found.0) in (Some m, (low, found.1, found.2))
   next_broken a n (None, all) = elim (cases_Bool (is_broken g a (span_at s a) n)) [
     | inl yes' ↦ let low : n < n + 1 = omega arith in (Some n, (low, yes', all))
     | inr no' ↦ (None, below_more (λ (k : ℕ). is_broken g a (span_at s a) k ≡ false) n all no')
@@ -45,7 +47,7 @@ module _ (s : Topology) (g : Given) where
   first_broken a (suc n) = let same : n + 1 ≡ suc n = omega arith in subst (First a) same (next_broken a n (first_broken a n))
 
   -- the first k numbers have no pair, or there is a first pair
-  Pairs : ℕ → ℕ → Type 0
+  abbrev Pairs : ℕ → ℕ → Type 0
   Pairs n k = ((a : ℕ) → a < k → IsFirstBroken g a (span_at s a) n None) ⊎ ((p : ℕ × ℕ) × IsFirstPair s g n (Some p))
 
   next_pairs : (n k : ℕ) → k < n → Pairs n k → First k n → Pairs n (k + 1)
@@ -60,28 +62,20 @@ module _ (s : Topology) (g : Given) where
       subst (Pairs n) same (next_pairs n k (omega (arith, low)) (pairs n k (omega (arith, low))) (first_broken k n))
 
 -- ---- the verdict
-module _ (s t : Topology) (g : Given) (branched : IsBranched s) where
-  Verdict : Type 0
-  Verdict = (v : Option MapFault) × IsVerdict s t g v
+module _ (s t : Topology) (g : Given) (none : (v : Option MapFault) → IsVerdict s t g v → ⊥) where
+  within : IsInside s t g
+  within = nowhere s g (IsOutside s t g) (λ n least. none (Some (fault.NoAddress n)) (outside n least))
 
-  by_pairs : IsInside s t g → KeepsRoot s g → KeepsLeaves s t g → Pairs s g (nodes s) (nodes s) → Verdict
-  by_pairs within same leaves (inl all) = (None, embeds s t g within same leaves (all_kept s g all))
-  by_pairs within same leaves (inr (p, found)) = (Some (fault.Prefix p.0 p.1), prefix p.0 p.1 within same leaves (pair_found s g p.0 p.1 found))
+  leaves : KeepsRoot s g → KeepsLeaves s t g
+  leaves same = nowhere s g (MissesLeaf s t g) (λ n least. none (Some (fault.Leaf n)) (leaf n within same least))
 
-  by_leaves : IsInside s t g → KeepsRoot s g → Least (breaks_at demand.Leaf s t g) g.lines (nodes s) → Verdict
-  by_leaves within same (Some n, l) = (Some (fault.Leaf n), leaf_broken s t g (Some n) n branched within same l refl)
-  by_leaves within same (None, l) = by_pairs within same (leaves_kept s t g None branched l (λ n e. absurd cc)) (pairs s g (nodes s) (nodes s) (omega arith))
+  by_pairs : KeepsRoot s g → Pairs s g (nodes s) (nodes s) → ⊥
+  by_pairs same (inl all) = none None (embeds s t g within same (leaves same) (all_kept s g all))
+  by_pairs same (inr (p, found)) = none (Some (fault.Prefix p.0 p.1)) (prefix p.0 p.1 within same (leaves same) (pair_found s g p.0 p.1 found))
 
-  by_root : IsInside s t g → (a : Address) → image_of s g [] ≡ a → Verdict
-  by_root within [] e = by_leaves within e (least (breaks_at demand.Leaf s t g) g.lines (nodes s))
-  by_root within (x ∷ a) e = (Some (fault.Root (line_of s g [])), root (line_of s g []) within (λ same. elsewhere (sym same ∙ e)) refl)
-    where
-      elsewhere : [] ≡ x ∷ a → ⊥
-      elsewhere same = cc
+  by_root : (a : Address) → image_of s g [] ≡ a → ⊥
+  by_root [] same = by_pairs same (pairs s g (nodes s) (nodes s) (omega arith))
+  by_root (x ∷ a) other = none (Some (fault.Root (line_of s g []))) (root (line_of s g []) within (λ (same : image_of s g [] ≡ []). let wrong : [] ≡ x ∷ a = sym same ∙ other in cc) refl)
 
-  by_images : Least (breaks_at demand.Address s t g) g.lines (nodes s) → Verdict
-  by_images (Some n, l) = (Some (fault.NoAddress n), outside_broken s t g (Some n) n l refl)
-  by_images (None, l) = by_root (none_outside s t g None l (λ n e. absurd cc)) (image_of s g []) refl
-
-  pub a_verdict : Verdict
-  a_verdict = by_images (least (breaks_at demand.Address s t g) g.lines (nodes s))
+  pub some_verdict : ⊥
+  some_verdict = by_root (image_of s g []) refl

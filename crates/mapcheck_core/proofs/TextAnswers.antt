@@ -21,7 +21,6 @@ use Rattle.mapcheck_core.proofs.GiveLaws.{Give-push}
 module _ {A : Type 0} (Gives : ℕ → List ℕ → List A → Type 0) (AtFault : List A → ℕ → List ℕ → Type 0) (Right : List A → Type 0)
     (decides : (before : List A) (n : ℕ) (line : List ℕ) → Right before → ((s : List A) → Gives n line s → Right (before ++ s) → ⊥) → (AtFault before n line → ⊥) → ⊥)
     (lines : List (List ℕ)) (none_right : (ss : List A) → Give Gives 1 lines ss → Right ss → ⊥) (none_wrong : (n : ℕ) → IsFirstAtFault Gives AtFault lines n → ⊥) where
-
   behind : (after before : List (List ℕ)) (given : List A) → lines ≡ before ++ after → Give Gives 1 before given → Right given → ⊥
   behind [] before given split give right = none_right given (subst (λ ls. Give Gives 1 ls given) (sym (split ∙ append-nil before)) give) right
   behind (line ∷ after) before given split give right =
