@@ -1,5 +1,5 @@
 -- Contents that are told, and what is told of endings.
-use Rattle.std.proofs.Common.{◌≡◌, ◌<◌, ◌≤◌, ℕ, Bool, Option, None, Some, List, [], ◌∷◌, map, refl, ap, ◌∙◌, arith, inl, inr}
+use Rattle.std.proofs.Common.{◌≡◌, ◌<◌, ◌⊎◌, ℕ, Bool, Option, None, Some, List, [], ◌∷◌, map, refl, ap, ◌∙◌, arith, inl, inr}
 use Rattle.std.specs.Prelude.{IfSome, Result, Ok, Err, IfOk}
 use Rattle.outside_core.specs.Files.{KeepsFiles}
 use Rattle.policy_text_defs.specs.Canonical.{canonical_text}
@@ -13,7 +13,7 @@ use Rattle.replay_app.specs.Scripts.{ending_status}
 use Rattle.replay_app.specs.Statuses.{IsOneOf, IsRefusal, IsStop, run_statuses, pace_statuses, paced_statuses, run_status, status_code}
 use Rattle.replay_app.specs.Stops.{stop_status}
 use Rattle.replay_app.specs.declared.status.Status.TheVariants as status
-use Rattle.replay_app.specs.declared.status.Status.TheVariants.{Done, NoForm, BadPolicy, BadTarget, NoRoom, BadScript}
+use Rattle.replay_app.specs.declared.status.Status.TheVariants.{Done, NoForm, BadPolicy, BadTarget, NoRoom, BadScript, BadTree, BadMap}
 use Rattle.outside_core.specs.declared.stop.Stop.TheVariants.{Source, Sink, Memory}
 use Rattle.replay_app.specs.declared.status.Status.{Status}
 use Rattle.outside_core.specs.declared.stop.Stop.{Stop}
@@ -61,9 +61,12 @@ pace_ends (pace.Link rate) (PastLast n) can = absurd can
 
 -- a run that was begun ends with none of the statuses of a refusal
 pub no_refusal : (n : ℕ) → IsOneOf run_statuses n → IsRefusal n → ⊥
-no_refusal n (inl e) r = let low = r.1 in omega arith
-no_refusal n (inr (inl e)) r = let low = r.1 in omega arith
-no_refusal n (inr (inr (inl e))) r = let high = r.0 in omega arith
+no_refusal n (inl e) (inl r) = omega (arith, e, r.1)
+no_refusal n (inl e) (inr r) = omega (arith, e, r.0)
+no_refusal n (inr (inl e)) (inl r) = omega (arith, e, r.1)
+no_refusal n (inr (inl e)) (inr r) = omega (arith, e, r.0)
+no_refusal n (inr (inr (inl e))) (inl r) = omega (arith, e, r.0)
+no_refusal n (inr (inr (inl e))) (inr r) = omega (arith, e, r.0)
 no_refusal n (inr (inr (inr e))) r = e
 
 no_refusal_by : (p : Pacing) (n : ℕ) → IsOneOf (paced_statuses p) n → IsRefusal n → ⊥
@@ -75,21 +78,32 @@ paced_no_refusal p (Ok s) A one = λ refused. absurd (no_refusal_by p (status_co
 paced_no_refusal p (Err e) A one = tt
 
 -- ---- statuses, and what stops the program
-pub low_code : (s : Status) → status_code s < 8
-low_code Done = omega arith
-low_code NoForm = omega arith
-low_code BadPolicy = omega arith
-low_code BadTarget = omega arith
-low_code NoRoom = omega arith
-low_code BadScript = omega arith
-low_code status.BadCapture = omega arith
+apart : (s : Status) → (status_code s < 8) ⊎ (10 < status_code s)
+apart Done = inl (omega arith)
+apart NoForm = inl (omega arith)
+apart BadPolicy = inl (omega arith)
+apart BadTarget = inl (omega arith)
+apart NoRoom = inl (omega arith)
+apart BadScript = inl (omega arith)
+apart status.BadCapture = inl (omega arith)
+apart BadTree = inr (omega arith)
+apart BadMap = inr (omega arith)
+
+outside : (n : ℕ) → (n < 8) ⊎ (10 < n) → IsStop n → ⊥
+outside n (inl low) (inl e) = omega (arith, low, e)
+outside n (inl low) (inr (inl e)) = omega (arith, low, e)
+outside n (inl low) (inr (inr (inl e))) = omega (arith, low, e)
+outside n (inl low) (inr (inr (inr e))) = e
+outside n (inr high) (inl e) = omega (arith, high, e)
+outside n (inr high) (inr (inl e)) = omega (arith, high, e)
+outside n (inr high) (inr (inr (inl e))) = omega (arith, high, e)
+outside n (inr high) (inr (inr (inr e))) = e
+
+-- where nothing stopped the program, its status is none of those where something does
+pub no_stop : (s : Status) → IsStop (status_code s) → ⊥
+no_stop s = outside (status_code s) (apart s)
 
 pub is_stop : (stop : Stop) → IsStop (stop_status stop)
 is_stop Source = inl refl
 is_stop Sink = inr (inl refl)
 is_stop Memory = inr (inr (inl refl))
-
-pub high_stop : (stop : Stop) → 8 ≤ stop_status stop
-high_stop Source = omega arith
-high_stop Sink = omega arith
-high_stop Memory = omega arith

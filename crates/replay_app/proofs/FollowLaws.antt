@@ -28,11 +28,11 @@ all_ok : {T E : Type 0} {P Q : T → Type 0} {R : Type 0} (r : Result T E) → (
 all_ok (Ok t) f p q = f t p q
 all_ok (Err e) f p q = tt
 
-always_ok : {T E : Type 0} {P : Type 0} (r : Result T E) → P → OnOk r P
+pub always_ok : {T E : Type 0} {P : Type 0} (r : Result T E) → P → OnOk r P
 always_ok (Ok t) p = p
 always_ok (Err e) p = tt
 
-always_err : {T E : Type 0} {P : Type 0} (r : Result T E) → P → OnErr r P
+pub always_err : {T E : Type 0} {P : Type 0} (r : Result T E) → P → OnErr r P
 always_err (Ok t) p = tt
 always_err (Err e) p = p
 

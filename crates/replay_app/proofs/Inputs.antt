@@ -4,7 +4,7 @@ use Rattle.std.specs.List.{All}
 use Rattle.std.proofs.lemmas.List.Elements.{All-nil, All-cons}
 use Rattle.std.proofs.lemmas.List.Kept.{AllPairs-cons}
 use Rattle.tree_defs.specs.Tree.{Tree, Address}
-use Rattle.tree_defs.specs.Topology.{Topology, topology_of, complete}
+use Rattle.tree_defs.specs.Topology.{Topology, complete}
 use Rattle.target_defs.specs.Levels.{levels}
 use Rattle.embed_defs.specs.Canonical.{IsCanonical}
 use Rattle.embed_defs.specs.Embedding.{IsEmbedding}
@@ -22,7 +22,6 @@ use Rattle.policy_text.specs.Codes.{code_of as text_code, line_of as text_line}
 use Rattle.policy_text.proofs.EntryLaws.{Rises, entries_rise}
 use Rattle.policy_text.proofs.TextSteps.{entries_no_cause, one_cause}
 use Rattle.policy_laws.proofs.OnePolicy.{one-policy}
-use Rattle.policy_defs.specs.Policy.{Policy}
 use Rattle.events_core.specs.Script as script
 use Rattle.events_core.proofs.ScriptLaws.{IsScript-one, IsFirstFault-one, IsScript-IsFirstFault}
 use Rattle.target_core.specs.declared.target.Target.{Target}
@@ -96,17 +95,17 @@ targets_are_one text = record {
 }
 
 -- ---- room
-pub rooms_are_one : (policy : Policy) (target : Target) → AreOne (HasNoRoom policy target) (IsPlacement policy target)
-rooms_are_one policy target = record {
+pub rooms_are_one : (s : Topology) (target : Target) → AreOne (HasNoRoom s target) (IsPlacement s target)
+rooms_are_one s target = record {
   one_refusal = λ code place d m h k. (h.1 ∙ sym k.1, h.2 ∙ sym k.2);
   one = λ m n h k. canonical_placements_are_one-holds _ _ _ m n h.canonical k.canonical;
   no_both = λ m code place h k. k.0 (_, h.embedding);
 }
 
--- what lays the policy's topology lays its tree
-pub placement : (policy : Policy) (t : Target) (images : Tree Address) (s : Topology) → s ≡ topology_of policy.tree → IsCanonical (levels t.arities t.above) (length t.arities) s images
-    → IsEmbedding s (complete t.arities) (image_map images) → IsPlacement policy t images
-placement policy t images s e canonical embeds = record {
+-- what lays a topology lays one that is the same
+pub placement : (same : Topology) (t : Target) (images : Tree Address) (s : Topology) → s ≡ same → IsCanonical (levels t.arities t.above) (length t.arities) s images
+    → IsEmbedding s (complete t.arities) (image_map images) → IsPlacement same t images
+placement same t images s e canonical embeds = record {
   canonical = subst (λ (u : Topology). IsCanonical (levels t.arities t.above) (length t.arities) u images) e canonical;
   embedding = subst (λ (u : Topology). IsEmbedding u (complete t.arities) (image_map images)) e embeds;
 }

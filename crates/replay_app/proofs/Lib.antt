@@ -2,6 +2,10 @@ pub mod LoadLaws
 pub mod ScriptFaults
 pub mod FollowLaws
 pub mod Inputs
+pub mod ViaInputs
+pub mod ViaLaws
+pub mod NodeNames
+pub mod TextFaults
 pub mod OneAnswer
 pub mod SomeAnswer
 pub mod AnswerLaws

@@ -3,6 +3,7 @@ use Rattle.std.proofs.Common.{◌≡◌, ℕ, Bool, Option, List, sym, subst, �
 use Rattle.std.specs.Prelude.{Result, Ok, Err, IfOk, OnOk, OnErr}
 use Rattle.outside_core.specs.Written.{Appended, AppendedPrefix}
 use Rattle.report_core.specs.declared.fault.FaultKind.TheVariants as kind
+use Rattle.tree_defs.specs.Topology.{topology_of}
 use Rattle.policy_defs.specs.Policy.{Policy}
 use Rattle.embed_plan.specs.Plan.{IsPlan}
 use Rattle.embed_plan.proofs.OnePlan.{one_plan}
@@ -16,9 +17,12 @@ use Rattle.outside_core.specs.declared.stop.Stop.{Stop}
 use Rattle.sched_defs.specs.Pace.{Pace, Link}
 use Rattle.replay_app.specs.Output.{laid_run, watchers}
 use Rattle.replay_app.specs.Scripts.{PacedBy, script_pace}
-use Rattle.replay_app.specs.Words.{Pacing, script, link, replay, check, plan, direct, soak, no_form}
+use Rattle.replay_app.specs.Via.{names_of}
+use Rattle.replay_app.specs.Words.{Pacing, script, link, replay, check, plan, direct, soak, via, no_form}
 use Rattle.replay_app.proofs.FollowLaws.{one-follows}
 use Rattle.replay_app.proofs.Inputs.{policies_are_one, targets_are_one, rooms_are_one, scripts_are_one}
+use Rattle.replay_app.proofs.ViaInputs.{topologies_are_one, maps_are_one, carried_are_one}
+use Rattle.replay_app.proofs.ViaLaws.{one-unbroken}
 use Rattle.replay_app.proofs.SoakLaws.{one-soaked}
 
 pub one-planned : (policy : Policy) (target : Target) (a b : Answer) → IsPlanned policy target a → IsPlanned policy target b → a ≡ b
@@ -46,7 +50,7 @@ pub one-answer : HaveOneAnswer
 one-answer (replay p t c pacing) contents taps a b x y =
     one-follows kind.Policy _ _ _ (policies_are_one (contents p)) (λ judged.
     one-follows kind.Target _ _ _ (targets_are_one (contents t)) (λ target.
-    one-follows kind.Size _ _ _ (rooms_are_one judged.policy.policy target) (λ images.
+    one-follows kind.Size _ _ _ (rooms_are_one (topology_of judged.policy.policy.tree) target) (λ images.
     one-paced pacing contents (λ pace. laid_run judged.policy (record { images = images; arities = target.arities }) pace (contents c) (watchers pacing taps))))) a b x y
 one-answer (check p) contents taps a b x y = one-follows kind.Policy _ _ _ (policies_are_one (contents p)) (λ judged. same-answer _) a b x y
 one-answer (plan p t) contents taps a b x y =
@@ -56,4 +60,12 @@ one-answer (direct p c e) contents taps a b x y =
     one-follows kind.Policy _ _ _ (policies_are_one (contents p)) (λ judged.
     one-follows kind.Script _ _ _ (scripts_are_one (contents e)) (λ steps. same-answer _)) a b x y
 one-answer (soak load) contents taps a b x y = one-soaked load a b x y
+one-answer (via p g m t c e) contents taps a b x y =
+    one-follows kind.Policy _ _ _ (policies_are_one (contents p)) (λ judged.
+    one-follows kind.Tree _ _ _ (topologies_are_one (contents g)) (λ middle.
+    one-follows kind.Map _ _ _ (maps_are_one judged.policy.policy middle (contents m)) (λ tried.
+    one-unbroken (names_of judged.policy.policy) tried.fault _ (
+    one-follows kind.Target _ _ _ (targets_are_one (contents t)) (λ target.
+    one-follows kind.Size _ _ _ (carried_are_one judged.policy.policy tried.given middle target) (λ images.
+    one-follows kind.Script _ _ _ (scripts_are_one (contents e)) (λ steps. same-answer _))))))) a b x y
 one-answer no_form contents taps a b x y = same-answer _ a b x y

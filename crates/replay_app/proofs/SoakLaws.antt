@@ -46,8 +46,8 @@ all-valid n (s ∷ ss) each = All-cons (λ (e : Entry). IsValid e.1) _ (numbered
 pub one-soaked : (load : LoadSize) (a b : Answer) → IsSoaked load a → IsSoaked load b → a ≡ b
 one-soaked load a b x y =
     let policies : x.policy ≡ y.policy = one-policy office_lines x.policy y.policy office-rising office-accepted x.resolved y.resolved in
-    let placed : IsPlacement y.policy.policy soak_target x.images = subst (λ (r : Resolved). IsPlacement r.policy soak_target x.images) policies x.placed in
-    let images : x.images ≡ y.images = (rooms_are_one y.policy.policy soak_target).one x.images y.images placed y.placed in
+    let placed : IsPlacement (topology_of y.policy.policy.tree) soak_target x.images = subst (λ (r : Resolved). IsPlacement (topology_of r.policy.tree) soak_target x.images) policies x.placed in
+    let images : x.images ≡ y.images = (rooms_are_one (topology_of y.policy.policy.tree) soak_target).one x.images y.images placed y.placed in
     x.is
     ∙ ap (λ (r : Resolved). soak_answer r.policy (record { images = x.images; arities = soak_target.arities }) load) policies
     ∙ ap (λ (t : Tree Address). soak_answer y.policy.policy (record { images = t; arities = soak_target.arities }) load) images
@@ -55,7 +55,7 @@ one-soaked load a b x y =
 
 -- there is a policy of the office, and it has room
 pub some-soaked : (load : LoadSize)
-    → ((policy : Resolved) → (HasEmbedding (topology_of policy.policy.tree) (complete soak_target.arities)) → ((images : Tree Address) → IsPlacement policy.policy soak_target images → ⊥) → ⊥)
+    → ((policy : Resolved) → (HasEmbedding (topology_of policy.policy.tree) (complete soak_target.arities)) → ((images : Tree Address) → IsPlacement (topology_of policy.policy.tree) soak_target images → ⊥) → ⊥)
     → ((a : Answer) → IsSoaked load a → ⊥) → ⊥
 some-soaked load rooms none =
     let r = a_policy office_lines office-rising (all-valid 1 office_statements office-valid) office-accepted in
@@ -77,12 +77,12 @@ pub when_ok : {T E : Type 0} (r : Result T E) (l a b : List ℕ) → l ≡ (if i
 when_ok (Ok t) l a b e = e
 when_ok (Err x) l a b e = tt
 
-module _ (load : LoadSize) (policy : Resolved) (target : Target) (images : Tree Address) (same : target ≡ soak_target) (resolved : IsResolved office_lines policy) (placed : IsPlacement policy.policy target images) where
+module _ (load : LoadSize) (policy : Resolved) (target : Target) (images : Tree Address) (same : target ≡ soak_target) (resolved : IsResolved office_lines policy) (placed : IsPlacement (topology_of policy.policy.tree) target images) where
   abbrev answer : Answer
   answer = soak_answer policy.policy (record { images = images; arities = soak_target.arities }) load
 
   is-soaked : IsSoaked load answer
-  is-soaked = record { policy = policy; resolved = resolved; images = images; placed = subst (λ (t : Target). IsPlacement policy.policy t images) same placed; is = refl }
+  is-soaked = record { policy = policy; resolved = resolved; images = images; placed = subst (λ (t : Target). IsPlacement (topology_of policy.policy.tree) t images) same placed; is = refl }
 
   only : (a : Answer) → IsSoaked load a → a ≡ answer
   only a is = one-soaked load a answer is is-soaked

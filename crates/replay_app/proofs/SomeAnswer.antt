@@ -2,7 +2,7 @@
 use Rattle.std.proofs.Common.{◌≡◌, ℕ, List, length, refl, sym, subst, inl, inr}
 use Rattle.std.proofs.lemmas.Bool.{cases_lt}
 use Rattle.tree_defs.specs.Tree.{Tree, Address}
-use Rattle.tree_defs.specs.Topology.{topology_of, complete}
+use Rattle.tree_defs.specs.Topology.{Topology, topology_of, complete}
 use Rattle.target_defs.specs.Levels.{levels}
 use Rattle.target_defs.specs.Target.{IsInRange}
 use Rattle.target_defs.proofs.LevelLaws.{heights_in_range-holds}
@@ -37,9 +37,12 @@ use Rattle.sched_defs.specs.Pace.{Pace, Link}
 use Rattle.replay_app.specs.Output.{laid_run, watchers}
 use Rattle.replay_app.specs.Scripts.{PacedBy}
 use Rattle.replay_app.specs.Words as words
-use Rattle.replay_app.specs.Words.{Pacing, replay, check, plan, direct, soak, no_form}
+use Rattle.replay_app.specs.Words.{Pacing, replay, check, plan, direct, soak, via, no_form}
 use Rattle.replay_app.specs.Soak.{soak_target}
+use Rattle.replay_app.specs.Via.{names_of}
 use Rattle.replay_app.proofs.FollowLaws.{some-follows}
+use Rattle.replay_app.proofs.ViaInputs.{read_topologies, read_maps, map_fits, read_carried}
+use Rattle.replay_app.proofs.ViaLaws.{some-unbroken}
 use Rattle.replay_app.proofs.OfficeRoom.{in-range}
 use Rattle.replay_app.proofs.SoakLaws.{some-soaked}
 
@@ -68,15 +71,15 @@ read_targets text none none' = elim (an_answer-holds text) [
   | inr (code, is) ↦ none' code 0 (is, refl)
 ]
 
-read_rooms : (policy : Policy) (t : Target) → IsInRange t.arities t.above → ((images : Tree Address) → IsPlacement policy t images → ⊥) → ((code place : ℕ) → HasNoRoom policy t code place → ⊥) → ⊥
-read_rooms policy t range none none' =
+read_rooms : (s : Topology) (t : Target) → IsInRange t.arities t.above → ((images : Tree Address) → IsPlacement s t images → ⊥) → ((code place : ℕ) → HasNoRoom s t code place → ⊥) → ⊥
+read_rooms s t range none none' =
     let wide : AreWide (levels t.arities t.above) = λ h. (heights_in_range-holds t.arities t.above range h).0 in
-    elim (there_or_none (levels t.arities t.above) (length t.arities) (topology_of policy.tree) wide) [
+    elim (there_or_none (levels t.arities t.above) (length t.arities) s wide) [
       | inl (images, canonical, embeds) ↦ none images (record {
         canonical = canonical;
-        embedding = subst (λ (ds : List ℕ). IsEmbedding (topology_of policy.tree) (complete ds) (image_map images)) (all_levels t.arities t.above) embeds;
+        embedding = subst (λ (ds : List ℕ). IsEmbedding s (complete ds) (image_map images)) (all_levels t.arities t.above) embeds;
       })
-      | inr unfit ↦ none' 1 0 (λ has. unfit (subst (λ (ds : List ℕ). HasEmbedding (topology_of policy.tree) (complete ds)) (sym (all_levels t.arities t.above)) has), refl, refl)
+      | inr unfit ↦ none' 1 0 (λ has. unfit (subst (λ (ds : List ℕ). HasEmbedding s (complete ds)) (sym (all_levels t.arities t.above)) has), refl, refl)
     ]
 
 read_scripts : (text : List ℕ) → ((steps : List Step) → IsScript text steps → ⊥) → ((code line : ℕ) → scripts.IsScriptRefused text code line → ⊥) → ⊥
@@ -102,7 +105,7 @@ pub some-answer : HaveAnAnswer
 some-answer (replay p t c pacing) contents taps =
     some-follows kind.Policy _ _ _ (read_policies (contents p)) (λ judged policy.
     some-follows kind.Target _ _ _ (read_targets (contents t)) (λ target is.
-    some-follows kind.Size _ _ _ (read_rooms judged.policy.policy target (in_range-holds (contents t) target.arities target.above is)) (λ images placed.
+    some-follows kind.Size _ _ _ (read_rooms (topology_of judged.policy.policy.tree) target (in_range-holds (contents t) target.arities target.above is)) (λ images placed.
     some-paced pacing contents (λ pace. laid_run judged.policy (record { images = images; arities = target.arities }) pace (contents c) (watchers pacing taps)))))
 some-answer (check p) contents taps = some-follows kind.Policy _ _ _ (read_policies (contents p)) (λ judged policy. exactly _)
 some-answer (plan p t) contents taps =
@@ -111,5 +114,14 @@ some-answer (plan p t) contents taps =
 some-answer (direct p c e) contents taps =
     some-follows kind.Policy _ _ _ (read_policies (contents p)) (λ judged policy.
     some-follows kind.Script _ _ _ (read_scripts (contents e)) (λ steps script. exactly _))
-some-answer (soak load) contents taps = some-soaked load (λ policy room none. read_rooms policy.policy soak_target in-range none (λ code place no. no.0 room))
+some-answer (soak load) contents taps = some-soaked load (λ policy room none. read_rooms (topology_of policy.policy.tree) soak_target in-range none (λ code place no. no.0 room))
+some-answer (via p g m t c e) contents taps =
+    some-follows kind.Policy _ _ _ (read_policies (contents p)) (λ judged policy.
+    some-follows kind.Tree _ _ _ (read_topologies (contents g)) (λ middle is_tree.
+    some-follows kind.Map _ _ _ (read_maps judged.policy.policy middle (contents m)) (λ tried is_tried.
+    some-unbroken (names_of judged.policy.policy) tried.fault _ (
+    some-follows kind.Target _ _ _ (read_targets (contents t)) (λ target is.
+    some-follows kind.Size _ _ _ (read_carried judged.policy.policy tried.given middle target (map_fits judged.policy.policy middle (contents m) tried is_tried)
+    (read_rooms middle target (in_range-holds (contents t) target.arities target.above is))) (λ images carried.
+    some-follows kind.Script _ _ _ (read_scripts (contents e)) (λ steps script. exactly _)))))))
 some-answer no_form contents taps = exactly _

@@ -10,7 +10,7 @@ use Rattle.replay_app.specs.Answer.{Answer}
 use Rattle.replay_app.specs.Behind.{UsesNoFabric, IsLeftOf, tap_list}
 use Rattle.replay_app.specs.Output.{IsOutput}
 use Rattle.replay_app.specs.Targets.{IsPlanned, planned}
-use Rattle.replay_app.specs.Words.{Form, replay, check, plan, direct, soak, no_form}
+use Rattle.replay_app.specs.Words.{Form, replay, check, plan, direct, soak, via, no_form}
 use Rattle.replay_app.specs.declared.status.Status.{Status}
 use Rattle.outside_core.specs.declared.stop.Stop.{Stop}
 use Rattle.replay_app.proofs.FollowLaws.{each-follows, unchanged}
@@ -30,6 +30,7 @@ no_run (direct p c e) contents taps none a is =
     each-follows kind.Policy _ _ _ (λ b. b.run ≡ None) (λ code place h. refl) (λ judged b h k.
     each-follows kind.Script _ _ _ (λ d. d.run ≡ None) (λ code place l. refl) (λ steps d l m. ap (λ (x : Answer). x.run) m) b k) a is
 no_run (soak load) contents taps none a is = absurd none
+no_run (via p g m t c e) contents taps none a is = absurd none
 no_run no_form contents taps none a is = ap (λ (x : Answer). x.run) is
 
 -- and taps are as they were
@@ -39,6 +40,7 @@ same_taps (check p) shown taps none = refl
 same_taps (plan p t) shown taps none = refl
 same_taps (direct p c e) shown taps none = refl
 same_taps (soak load) shown taps none = absurd none
+same_taps (via p g m t c e) shown taps none = absurd none
 same_taps no_form shown taps none = refl
 
 pub unused : {F : Type 0} (fabrics : Ghosts F) (form : Form) (contents : List ℕ → List ℕ) (taps : List Entry) → UsesNoFabric form → (f : F) (r : Result Status Stop) → IsLeftOf fabrics form contents r f f taps taps

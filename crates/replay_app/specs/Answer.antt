@@ -54,6 +54,10 @@ pub record IsDone (output : Answer → Type 0) (r : Result Status Stop) (all som
   pub whole : OnOk r (Each output all)
   pub part : OnErr r (Each output some)
 
+-- The fabric holds what the run of each of the answers leaves; or the call was stopped, and it holds a first part of that.
+abbrev pub HoldsRun : {F : Type 0} → Ghosts F → (Answer → Type 0) → Result Status Stop → F → F → Type 0
+HoldsRun fabrics output r old new = IsDone output r (λ a. Leaves fabrics a.run old new) (λ a. LeavesPart fabrics a.run old new)
+
 -- the fabric holds what a run leaves, and taps have watched it
 pub record LeavesBoth {F : Type 0} (fabrics : Ghosts F) (old new : F) (before after : Sight) (a : Answer) : Type 0 where
   pub fabric : Leaves fabrics a.run old new

@@ -6,6 +6,7 @@ pub mod Policies
 pub mod Targets
 pub mod Scripts
 pub mod Soak
+pub mod Via
 pub mod Output
 pub mod Stages
 pub mod Behind

@@ -4,14 +4,15 @@ use Rattle.link_defs.specs.Link.{IsRate}
 use Rattle.tap_core.specs.Names.{none_named}
 use Rattle.tap_core.specs.declared.watch.Named.{Named}
 use Rattle.sched_run.specs.Drawings.{most_load}
-use Rattle.replay_app.specs.Words.{Pacing, script, link, Form, replay, check, plan, direct, soak}
+use Rattle.replay_app.specs.Words.{Pacing, script, link, Form, replay, check, plan, direct, soak, via}
 use Rattle.replay_app.specs.declared.words.Pacing as code
 use Rattle.replay_app.specs.declared.words.Pacing.TheVariants as code_pacing
 use Rattle.replay_app.specs.declared.words.ReplayFiles.{ReplayFiles}
 use Rattle.replay_app.specs.declared.words.DirectFiles.{DirectFiles}
 use Rattle.replay_app.specs.declared.words.PlanFiles.{PlanFiles}
+use Rattle.replay_app.specs.declared.words.ViaFiles.{ViaFiles}
 use Rattle.replay_app.specs.declared.words.Command.{Command}
-use Rattle.replay_app.specs.declared.words.Command.TheVariants.{Replay, Check, Plan, Direct, Soak}
+use Rattle.replay_app.specs.declared.words.Command.TheVariants.{Replay, Check, Plan, Direct, Soak, Via}
 
 abbrev pub pacing_form : code.Pacing → Pacing
 pacing_form (code_pacing.Script e named) = script e.now named
@@ -26,12 +27,16 @@ plan_form f = plan f.policy.now f.target.now
 abbrev pub direct_form : DirectFiles → Form
 direct_form f = direct f.policy.now f.capture.now f.script.now
 
+abbrev pub via_form : ViaFiles → Form
+via_form f = via f.policy.now f.topology.now f.map.now f.target.now f.capture.now f.script.now
+
 abbrev pub command_form : Command → Form
 command_form (Replay f) = replay_form f
 command_form (Check p) = check p.now
 command_form (Plan f) = plan_form f
 command_form (Direct f) = direct_form f
 command_form (Soak load) = soak load
+command_form (Via f) = via_form f
 
 -- a link's rate is in range, and a load isn't too long
 abbrev pub HasRate : code.Pacing → Type 0

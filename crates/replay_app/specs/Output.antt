@@ -1,6 +1,7 @@
 -- What the program answers to its words and files. This is what a reader of the program's contract has to believe.
 use Rattle.std.specs.Prelude.{◌≡◌, ◌⊎◌, ℕ, Option, List, []}
 use Rattle.report_core.specs.declared.fault.FaultKind.TheVariants.{Words}
+use Rattle.tree_defs.specs.Topology.{topology_of}
 use Rattle.policy_rules.specs.Resolved.{Resolved}
 use Rattle.sched_defs.specs.Pace.{Pace}
 use Rattle.sched_embedded.specs.Laid.{Laid}
@@ -13,7 +14,8 @@ use Rattle.replay_app.specs.Soak.{IsSoaked}
 use Rattle.replay_app.specs.Scripts.{AlongScript, PacedBy, script_pace, run_answer, watched_answer}
 use Rattle.replay_app.specs.Statuses.{IsStop}
 use Rattle.replay_app.specs.Targets.{ForTarget, WithRoom, IsPlanned}
-use Rattle.replay_app.specs.Words.{Pacing, script, link, Form, replay, check, plan, direct, soak, no_form}
+use Rattle.replay_app.specs.Via.{ForTopology, ForMap, WithRoomAlong}
+use Rattle.replay_app.specs.Words.{Pacing, script, link, Form, replay, check, plan, direct, soak, via, no_form}
 
 -- the report of a run through the policy's own tree, without a fabric
 abbrev pub direct_run : Resolved → Pace → List ℕ → Answer
@@ -32,12 +34,13 @@ watchers (link rate) taps = []
 
 -- The answer to words, where the names have these contents and these taps are handed in. Each input is refused or accepted in
 -- its turn: the policy, the target, the room for the policy's tree in the target, the script, if one paces the run, and then
--- the capture, which is part of the run. A generated load has no input.
+-- the capture, which is part of the run. Along a given map the topology and the map come behind the policy, and it is the
+-- topology that needs room in the target. A generated load has no input.
 abbrev pub IsOutput : Form → (List ℕ → List ℕ) → List Entry → Answer → Type 0
 IsOutput (replay p t c pacing) contents taps a =
     UnderPolicy (contents p) (λ judged.
     ForTarget (contents t) (λ target.
-    WithRoom judged.policy.policy target (λ laid.
+    WithRoom (topology_of judged.policy.policy.tree) target (λ laid.
     PacedBy pacing contents (λ pace b.
     b ≡ laid_run judged.policy laid pace (contents c) (watchers pacing taps))))) a
 IsOutput (direct p c e) contents taps a =
@@ -50,6 +53,14 @@ IsOutput (plan p t) contents taps a =
     IsPlanned judged.policy.policy target)) a
 IsOutput (check p) contents taps a = UnderPolicy (contents p) (λ judged b. b ≡ checked judged) a
 IsOutput (soak load) contents taps a = IsSoaked load a
+IsOutput (via p g m t c e) contents taps a =
+    UnderPolicy (contents p) (λ judged.
+    ForTopology (contents g) (λ middle.
+    ForMap judged.policy.policy middle (contents m) (λ given.
+    ForTarget (contents t) (λ target.
+    WithRoomAlong judged.policy.policy given middle target (λ laid.
+    AlongScript (contents e) (λ steps b.
+    b ≡ laid_run judged.policy laid (script_pace steps) (contents c) [])))))) a
 IsOutput no_form contents taps a = a ≡ refusal Words 0 0
 
 -- ---- what is written

@@ -2,6 +2,7 @@
 use Rattle.std.specs.Prelude.{◌≡◌, refl, ℕ, None, Some, List, [], ◌∷◌, ◌++◌, decimal, codes}
 use Rattle.std.specs.Fmt.{digits}
 use Rattle.tree_defs.specs.Tree.{Tree, Address}
+use Rattle.tree_defs.specs.Topology.{topology_of}
 use Rattle.policy_defs.specs.Policy.{Policy}
 use Rattle.policy_rules.specs.Resolved.{Resolved, IsResolved}
 use Rattle.policy_core.specs.Office.{office_lines}
@@ -37,7 +38,7 @@ pub record IsSoaked (load : LoadSize) (a : Answer) : Type 0 where
   pub policy : Resolved
   pub resolved : IsResolved office_lines policy
   pub images : Tree Address
-  pub placed : IsPlacement policy.policy soak_target images
+  pub placed : IsPlacement (topology_of policy.policy.tree) soak_target images
   pub is : a ≡ soak_answer policy.policy (record { images = images; arities = soak_target.arities }) load
 
 soak_line-one : soak_line (record { pushed = 1; popped = 1; empty = 0; sum = 1 }) ≡ codes "soak pushed 1 popped 1 empty 0 sum 1\n"

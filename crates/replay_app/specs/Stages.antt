@@ -1,5 +1,6 @@
--- What the answer to a replay still depends on behind each of its inputs.
-use Rattle.std.specs.Prelude.{◌≡◌, ℕ, List}
+-- What the answer to a run still depends on behind each of its inputs.
+use Rattle.std.specs.Prelude.{◌≡◌, ℕ, List, []}
+use Rattle.tree_defs.specs.Topology.{Topology, topology_of}
 use Rattle.policy_rules.specs.Resolved.{Resolved}
 use Rattle.target_core.specs.declared.target.Target.{Target}
 use Rattle.sched_embedded.specs.Laid.{Laid}
@@ -7,10 +8,13 @@ use Rattle.replay_app.specs.Answer.{Answer}
 use Rattle.replay_app.specs.Output.{direct_run, laid_run}
 use Rattle.replay_app.specs.Policies.{UnderPolicy}
 use Rattle.replay_app.specs.Scripts.{AlongScript, PacedBy, script_pace}
+use Rattle.mapcheck_core.specs.declared.given.Given.{Given}
 use Rattle.replay_app.specs.Targets.{ForTarget, WithRoom}
+use Rattle.replay_app.specs.Via.{ForTopology, ForMap, WithRoomAlong}
 use Rattle.tap_core.specs.Lists.{Entry, named_entries}
 use Rattle.tap_core.specs.Watching.{Sight}
 use Rattle.replay_app.specs.Words.{Pacing}
+use Rattle.replay_app.specs.declared.words.ViaFiles.{ViaFiles}
 
 -- behind the policy of a run without a fabric
 abbrev pub BehindPolicy : Resolved → List ℕ → List ℕ → Answer → Type 0
@@ -33,7 +37,7 @@ BehindScript watching policy laid name capture contents =
 -- behind a target
 abbrev pub BehindTarget : List Entry → Resolved → Target → Pacing → List ℕ → (List ℕ → List ℕ) → Answer → Type 0
 BehindTarget watching policy target pacing capture contents =
-    WithRoom policy.policy target (λ laid. BehindRoom watching policy laid pacing capture contents)
+    WithRoom (topology_of policy.policy.tree) target (λ laid. BehindRoom watching policy laid pacing capture contents)
 
 -- behind the policy of a run through a fabric
 abbrev pub BehindTargetText : List Entry → Resolved → List ℕ → Pacing → List ℕ → (List ℕ → List ℕ) → Answer → Type 0
@@ -44,3 +48,22 @@ BehindTargetText watching policy target pacing capture contents =
 abbrev pub BehindWords : List Entry → List ℕ → List ℕ → Pacing → List ℕ → (List ℕ → List ℕ) → Answer → Type 0
 BehindWords watching policy target pacing capture contents =
     UnderPolicy (contents policy) (λ judged. BehindTargetText watching judged.policy target pacing capture contents)
+
+-- ---- along a given map
+-- behind the target: the topology needs room, and the policy's tree is laid along the map
+abbrev pub AlongTarget : Resolved → Topology → Given → Target → ViaFiles → (List ℕ → List ℕ) → Answer → Type 0
+AlongTarget policy middle given target files contents =
+    WithRoomAlong policy.policy given middle target (λ laid. BehindScript [] policy laid files.script.now files.capture.now contents)
+
+-- behind the map
+abbrev pub AlongMap : Resolved → Topology → Given → ViaFiles → (List ℕ → List ℕ) → Answer → Type 0
+AlongMap policy middle given files contents = ForTarget (contents files.target.now) (λ target. AlongTarget policy middle given target files contents)
+
+-- behind the topology
+abbrev pub BehindTopology : Resolved → Topology → ViaFiles → (List ℕ → List ℕ) → Answer → Type 0
+BehindTopology policy middle files contents =
+    ForMap policy.policy middle (contents files.map.now) (λ given. AlongMap policy middle given files contents)
+
+-- behind the policy
+abbrev pub AlongPolicy : Resolved → ViaFiles → (List ℕ → List ℕ) → Answer → Type 0
+AlongPolicy policy files contents = ForTopology (contents files.topology.now) (λ middle. BehindTopology policy middle files contents)

@@ -1,14 +1,14 @@
 -- The statuses with which the program ends.
 use Rattle.std.specs.Prelude.{◌≡◌, ◌⊎◌, ◌≤◌, ℕ, List, [], ◌∷◌}
 use Rattle.report_core.specs.declared.fault.FaultKind.{FaultKind}
-use Rattle.report_core.specs.declared.fault.FaultKind.TheVariants.{Words, Policy, Target, Size, Script, Capture}
+use Rattle.report_core.specs.declared.fault.FaultKind.TheVariants.{Words, Policy, Target, Size, Script, Capture, Tree, Map}
 use Rattle.sched_defs.specs.declared.ending.Ending as run
 use Rattle.sched_defs.specs.declared.ending.Ending.TheVariants as run_ending
 use Rattle.sched_run.specs.declared.pace.Pace.{Pace}
 use Rattle.sched_run.specs.declared.pace.Pace.TheVariants as pace
-use Rattle.replay_app.specs.Words.{Pacing, script, link, Form, replay, check, plan, direct, soak, no_form}
+use Rattle.replay_app.specs.Words.{Pacing, script, link, Form, replay, check, plan, direct, soak, via, no_form}
 use Rattle.replay_app.specs.declared.status.Status.{Status}
-use Rattle.replay_app.specs.declared.status.Status.TheVariants.{Done, NoForm, BadPolicy, BadTarget, NoRoom, BadScript, BadCapture}
+use Rattle.replay_app.specs.declared.status.Status.TheVariants.{Done, NoForm, BadPolicy, BadTarget, NoRoom, BadScript, BadCapture, BadTree, BadMap}
 
 abbrev pub status_code : Status → ℕ
 status_code Done = 0
@@ -18,6 +18,8 @@ status_code BadTarget = 4
 status_code NoRoom = 5
 status_code BadScript = 6
 status_code BadCapture = 7
+status_code BadTree = 12
+status_code BadMap = 13
 
 -- where an input of this kind is refused
 abbrev pub kind_status : FaultKind → Status
@@ -27,6 +29,8 @@ kind_status Target = BadTarget
 kind_status Size = NoRoom
 kind_status Script = BadScript
 kind_status Capture = BadCapture
+kind_status Tree = BadTree
+kind_status Map = BadMap
 
 -- where a run ended so
 abbrev pub run_status : run.Ending → Status
@@ -63,6 +67,7 @@ statuses_of (check p) = 3 ∷ 0 ∷ []
 statuses_of (plan p t) = 3 ∷ 4 ∷ 5 ∷ 0 ∷ []
 statuses_of (direct p c e) = 3 ∷ run_statuses
 statuses_of (soak load) = 0 ∷ []
+statuses_of (via p g m t c e) = 3 ∷ 12 ∷ 13 ∷ 4 ∷ 5 ∷ run_statuses
 statuses_of no_form = 2 ∷ []
 
 -- reading failed, writing failed, or there was no memory
@@ -73,6 +78,6 @@ IsStop status = IsOneOf (8 ∷ 9 ∷ 10 ∷ []) status
 abbrev pub CanEnd : Form → ℕ → Type 0
 CanEnd form status = IsOneOf (statuses_of form) status ⊎ IsStop status
 
--- the words, the policy or the target are refused, or the target has no room for the policy: no run was begun
+-- the words, the policy, the topology, the map or the target are refused, or the target has no room: no run was begun
 abbrev pub IsRefusal : ℕ → Type 0
-IsRefusal status = (2 ≤ status) × (status ≤ 5)
+IsRefusal status = ((2 ≤ status) × (status ≤ 5)) ⊎ ((12 ≤ status) × (status ≤ 13))

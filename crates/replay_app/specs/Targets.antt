@@ -1,7 +1,7 @@
--- What is read of a target's text, and whether a policy's tree can be laid into the target.
+-- What is read of a target's text, and whether a topology can be laid into the target.
 use Rattle.std.specs.Prelude.{◌≡◌, ℕ, Bool, true, false, List, ◌++◌, length, codes}
 use Rattle.tree_defs.specs.Tree.{Tree, Address}
-use Rattle.tree_defs.specs.Topology.{topology_of, complete}
+use Rattle.tree_defs.specs.Topology.{Topology, complete}
 use Rattle.target_defs.specs.Levels.{levels}
 use Rattle.target_core.specs.TargetText.{IsTargetText, IsRefused}
 use Rattle.target_core.specs.declared.target.Target.{Target}
@@ -27,19 +27,19 @@ IsTargetOf text target = IsTargetText text target.arities target.above
 abbrev pub ForTarget : List ℕ → (Target → Answer → Type 0) → Answer → Type 0
 ForTarget text after = Follows kind.Target (IsTargetRefused text) (IsTargetOf text) after
 
--- ---- room for a policy's tree
--- no map of the policy's tree into the target keeps root, leaves and prefixes
-abbrev pub HasNoRoom : Policy → Target → ℕ → ℕ → Type 0
-HasNoRoom policy target code place = (HasEmbedding (topology_of policy.tree) (complete target.arities) → ⊥) × (code ≡ 1) × (place ≡ 0)
+-- ---- room for a topology
+-- no map of the topology into the target keeps root, leaves and prefixes
+abbrev pub HasNoRoom : Topology → Target → ℕ → ℕ → Type 0
+HasNoRoom s target code place = (HasEmbedding s (complete target.arities) → ⊥) × (code ≡ 1) × (place ≡ 0)
 
 -- the image of each node by the canonical placement, which is such a map
-pub record IsPlacement (policy : Policy) (target : Target) (images : Tree Address) : Type 0 where
-  pub canonical : IsCanonical (levels target.arities target.above) (length target.arities) (topology_of policy.tree) images
-  pub embedding : IsEmbedding (topology_of policy.tree) (complete target.arities) (image_map images)
+pub record IsPlacement (s : Topology) (target : Target) (images : Tree Address) : Type 0 where
+  pub canonical : IsCanonical (levels target.arities target.above) (length target.arities) s images
+  pub embedding : IsEmbedding s (complete target.arities) (image_map images)
 
--- what follows where a policy's tree is to be laid into a target
-abbrev pub WithRoom : Policy → Target → (Laid → Answer → Type 0) → Answer → Type 0
-WithRoom policy target after = Follows kind.Size (HasNoRoom policy target) (IsPlacement policy target) (λ images. after (record { images = images; arities = target.arities }))
+-- what follows where a topology is to be laid into a target
+abbrev pub WithRoom : Topology → Target → (Laid → Answer → Type 0) → Answer → Type 0
+WithRoom s target after = Follows kind.Size (HasNoRoom s target) (IsPlacement s target) (λ images. after (record { images = images; arities = target.arities }))
 
 -- ---- plans
 -- what is told of a plan; where there is no room, the refusal comes behind the least height

@@ -33,6 +33,8 @@ pub data Form : Type 0 where
   direct : List ℕ → List ℕ → List ℕ → Form
   -- a generated load
   soak : LoadSize → Form
+  -- a policy, a topology, a map of the policy's tree into it, a target, a capture and a script
+  via : List ℕ → List ℕ → List ℕ → List ℕ → List ℕ → List ℕ → Form
   no_form : Form
 
 -- the rate that a word says
@@ -71,11 +73,18 @@ pacing_by w fifth more =
     if bytes_eq w (codes "replay") then option_map (script fifth) (named_in none_named more)
     else (if bytes_eq w (codes "link") then link_by fifth more else None)
 
+-- a run along a given map, by the names of a policy, a topology, a map and a target, behind which two more stand
+abbrev pub via_by : List ℕ → List ℕ → List ℕ → List ℕ → List (List ℕ) → Form
+via_by p g m t (c ∷ e ∷ []) = via p g m t c e
+via_by p g m t more = no_form
+
 abbrev pub form_of : List (List ℕ) → Form
 form_of (w ∷ p ∷ []) = if bytes_eq w (codes "check") then check p else no_form
 form_of (w ∷ second ∷ third ∷ []) = three_words w second third
 form_of (w ∷ p ∷ c ∷ e ∷ []) = if bytes_eq w (codes "direct") then direct p c e else no_form
-form_of (w ∷ p ∷ t ∷ c ∷ fifth ∷ more) = option_map_or (replay p t c) (pacing_by w fifth more) no_form
+form_of (w ∷ p ∷ second ∷ third ∷ fourth ∷ more) =
+    if bytes_eq w (codes "via") then via_by p second third fourth more
+    else option_map_or (replay p second third) (pacing_by w fourth more) no_form
 form_of words = no_form
 
 -- the word that names a script, if one does
@@ -90,6 +99,7 @@ file_words (check p) = p ∷ []
 file_words (plan p t) = p ∷ t ∷ []
 file_words (direct p c e) = p ∷ c ∷ e ∷ []
 file_words (soak load) = []
+file_words (via p g m t c e) = p ∷ g ∷ m ∷ t ∷ c ∷ e ∷ []
 file_words no_form = []
 
 -- each of the names is lent
@@ -159,3 +169,12 @@ form_of-soak_too_great_a_seed = refl
 
 pub form_of-soak_too_many : form_of (codes "soak" ∷ codes "1" ∷ codes "1000001" ∷ []) ≡ no_form
 form_of-soak_too_many = refl
+
+pub form_of-via : form_of (codes "via" ∷ codes "p" ∷ codes "g" ∷ codes "m" ∷ codes "t" ∷ codes "c" ∷ codes "e" ∷ []) ≡ via (codes "p") (codes "g") (codes "m") (codes "t") (codes "c") (codes "e")
+form_of-via = refl
+
+pub form_of-via_without_a_script : form_of (codes "via" ∷ codes "p" ∷ codes "g" ∷ codes "m" ∷ codes "t" ∷ codes "c" ∷ []) ≡ no_form
+form_of-via_without_a_script = refl
+
+pub form_of-via_with_a_tap : form_of (codes "via" ∷ codes "p" ∷ codes "g" ∷ codes "m" ∷ codes "t" ∷ codes "c" ∷ codes "e" ∷ codes "tap" ∷ codes "bytes" ∷ []) ≡ no_form
+form_of-via_with_a_tap = refl

@@ -16,6 +16,7 @@ use crate::refusal::Refusal;
 use crate::soak::soak_load;
 use crate::status::Status;
 use crate::stop::stop_status;
+use crate::via::via_files;
 use crate::watched::replay_watched;
 use crate::words::{Command, command_of};
 use crate::writing::refuse;
@@ -65,6 +66,7 @@ fn answer<S: Shelf, K: Sink, F: Fabric, T: Tap>(
         Some(Command::Plan(files)) => plan_files(alloc, &files, shelf, sink),
         Some(Command::Direct(files)) => direct_files(alloc, &files, shelf, sink),
         Some(Command::Soak(load)) => soak_load(alloc, load, sink, fabric),
+        Some(Command::Via(files)) => via_files(alloc, &files, shelf, sink, fabric),
         None => refuse(alloc, sink, FaultKind::Words, NO_FORM),
     }
 }
@@ -73,7 +75,8 @@ fn answer<S: Shelf, K: Sink, F: Fabric, T: Tap>(
 /// name: `replay` and the names of a policy, a target, a capture and a script, with pairs `tap NAME` behind them for the kinds
 /// of taps that are to watch; `link` and the names of a policy, a target and a capture with a rate in bytes per second;
 /// `direct` and the names of a policy, a capture and a script; `plan` and the names of a policy and a target; `check` and the
-/// name of a policy; or `soak` with a seed of at most 4,611,686,018,427,387,903 and how many events are drawn, at most
+/// name of a policy; `via` and the names of a policy, a topology, a map of the policy's tree into it, a target, a capture and a
+/// script; or `soak` with a seed of at most 4,611,686,018,427,387,903 and how many events are drawn, at most
 /// 1,000,000.
 ///
 /// When the run of `replay` begins, taps whose kind isn't named are dropped. Each other is shown each departure and each drop

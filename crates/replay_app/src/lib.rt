@@ -8,6 +8,7 @@ mod direct;
 mod hostile_tests;
 mod laws;
 mod load;
+mod maps;
 mod plan;
 mod policies;
 mod refusal;
@@ -22,6 +23,10 @@ mod targets;
 mod task;
 #[cfg(test)]
 mod tests;
+mod topologies;
+mod via;
+#[cfg(test)]
+mod via_tests;
 mod watched;
 mod words;
 mod writing;

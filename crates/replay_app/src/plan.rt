@@ -1,5 +1,5 @@
 //! Where a policy's tree is laid in a target.
-ghost use Rattle.std.specs.Prelude.{◌≡◌, ◌∷◌, [], false, IfOk, OnOk, OnErr, IsTrue, IsErrOf};
+ghost use Rattle.std.specs.Prelude.{◌≡◌, ◌∷◌, [], IfOk, OnOk, OnErr, IsTrue, IsErrOf};
 ghost use Rattle.outside_core.specs.Faults.{Rose};
 ghost use Rattle.outside_core.specs.Written.{Appended, AppendedPrefix};
 ghost use Rattle.replay_app.specs.Answer.{IsTold};
@@ -12,29 +12,14 @@ ghost use Rattle.replay_app.specs.Words.{AreLent, WhereTold, file_words};
 use crate::policies::read_policy;
 use crate::refusal::Read;
 use crate::status::Status;
-use crate::targets::read_target_file;
+use crate::targets::{NO_ROOM, read_target_file};
 use crate::words::PlanFiles;
-use crate::writing::{refuse, write};
+use crate::writing::{refuse, refuse_behind, write};
 use embed_plan::{PlanText, plan};
 use outside_core::{Shelf, Sink, Stop};
 use policy_core::Policy;
-use report_core::{FaultKind, Report};
+use report_core::FaultKind;
 use std::alloc::Global;
-
-/// Writes the plan of a target that has no room.
-fn refuse_size<K: Sink>(alloc: Global, text: &[u8], sink: &mut K) -> Result<Status, Stop>
-    ensures status { IfOk result (λ s. s ≡ Status.NoRoom) }
-    ensures text { OnOk result (Appended (K.written sink.old) (K.written sink.new) (plan_answer false text.now).text) }
-    ensures part { OnErr result (AppendedPrefix (K.written sink.old) (K.written sink.new) (plan_answer false text.now).text) }
-    ensures sink_cause { IsErrOf result Stop.Sink → Rose (K.faults sink.old) (K.faults sink.new) }
-    ensures reads_nothing { IsErrOf result Stop.Source → ⊥ }
-{
-    let mut report = Report::new(alloc)?;
-    report.piece(sink, text)?;
-    report.fault(sink, FaultKind::Size, 1, 0)?;
-    report.finish(sink)?;
-    Ok(Status::NoRoom)
-}
 
 /// Writes a plan.
 fn write_plan<K: Sink>(alloc: Global, plan: &PlanText, sink: &mut K) -> Result<Status, Stop>
@@ -47,7 +32,7 @@ fn write_plan<K: Sink>(alloc: Global, plan: &PlanText, sink: &mut K) -> Result<S
     ensures reads_nothing { IsErrOf result Stop.Source → ⊥ }
 {
     if !plan.fits {
-        return refuse_size(alloc, &plan.text, sink);
+        return refuse_behind(alloc, &plan.text, sink, FaultKind::Size, NO_ROOM);
     }
     write(alloc, &plan.text, sink)?;
     Ok(Status::Done)

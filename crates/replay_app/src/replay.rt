@@ -20,10 +20,10 @@ ghost use Rattle.replay_app.specs.Words.{AreLent, WhereTold, file_words, pacing_
 ghost use Rattle.tap_core.specs.Watching.{sight_of, AreNoMore};
 
 use crate::policies::read_policy;
-use crate::refusal::{Read, Refusal};
+use crate::refusal::Read;
 use crate::scripts::read_script;
 use crate::status::Status;
-use crate::targets::read_target_file;
+use crate::targets::{NO_ROOM, read_target_file};
 use crate::task::ScriptFiles;
 use crate::words::{Pacing, ReplayFiles};
 use crate::writing::{refuse, write};
@@ -36,9 +36,6 @@ use sched_capture::{Ending, Placement, Task, replay};
 use sched_run::Pace;
 use std::alloc::Global;
 use tap_core::{Tap, Watching};
-
-/// The target has no room for the policy's tree.
-const NO_ROOM: Refusal = Refusal { code: 1, place: 0 };
 
 /// Writes the lines of the taps that watched, behind the report of a run that ended whole.
 fn write_lines<K: Sink, T: Tap>(
@@ -97,7 +94,7 @@ fn replay_capture<S: Shelf, K: Sink, F: Fabric, T: Tap>(
 }
 
 /// Runs a script's file over a capture's file.
-fn replay_script<S: Shelf, K: Sink, F: Fabric, T: Tap>(
+pub fn replay_script<S: Shelf, K: Sink, F: Fabric, T: Tap>(
     alloc: Global,
     policy: &Policy,
     placement: Placement,

@@ -16,12 +16,16 @@ pub enum Status {
     BadPolicy,
     /// The target is refused.
     BadTarget,
-    /// The policy's tree can't be laid into the target.
+    /// The policy's tree, or the topology, can't be laid into the target.
     NoRoom,
     /// The script is refused, or asks for a packet past the last.
     BadScript,
     /// The capture has a fault.
     BadCapture,
+    /// The topology is refused.
+    BadTree,
+    /// The map is refused.
+    BadMap,
 }
 
 impl Status {
@@ -37,6 +41,8 @@ impl Status {
             Status::NoRoom => 5,
             Status::BadScript => 6,
             Status::BadCapture => 7,
+            Status::BadTree => 12,
+            Status::BadMap => 13,
         }
     }
 
@@ -51,6 +57,8 @@ impl Status {
             FaultKind::Size => Status::NoRoom,
             FaultKind::Script => Status::BadScript,
             FaultKind::Capture => Status::BadCapture,
+            FaultKind::Tree => Status::BadTree,
+            FaultKind::Map => Status::BadMap,
         }
     }
 

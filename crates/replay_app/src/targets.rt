@@ -14,6 +14,9 @@ use outside_core::{Shelf, Stop};
 use std::alloc::{AllocError, Global};
 use target_core::MOST_BYTES;
 
+/// The target has no room for the topology.
+pub const NO_ROOM: Refusal = Refusal { code: 1, place: 0 };
+
 /// How the fault of a target, which has no place is told. The error is want of memory.
 fn told_of(fault: TargetFault) -> Result<Refusal, AllocError>
     ensures memory { OnOk result (fault ≢ TargetFault.NoMemory) }

@@ -52,7 +52,7 @@ pub(crate) fn words(alloc: Global, list: &[&str]) -> Result<Vec<String>, Fail> {
 }
 
 /// A file by its name.
-fn file(alloc: Global, name: &str, content: &[u8]) -> Result<(String, Vec<u8>), Fail> {
+pub(crate) fn file(alloc: Global, name: &str, content: &[u8]) -> Result<(String, Vec<u8>), Fail> {
     Ok((String::from_str(alloc, name)?, content.to_vec(alloc)?))
 }
 
@@ -83,7 +83,7 @@ pub(crate) fn files(
 }
 
 /// The status with which the program answers words over files, and what it writes.
-fn answer_to(
+pub(crate) fn answer_to(
     alloc: Global,
     list: &[&str],
     held: Vec<(String, Vec<u8>)>,

@@ -2,8 +2,8 @@
 ghost use Rattle.std.specs.Prelude.{◌≡◌, ◌≤◌, IfSome, MatchOption, option_map};
 ghost use Rattle.link_defs.specs.Link.{IsRate};
 ghost use Rattle.sched_run.specs.Drawings.{most_load};
-ghost use Rattle.replay_app.specs.Words.{rate_of, number_within, load_of, three_words, named_in, link_by, pacing_by, form_of, no_form, texts};
-ghost use Rattle.replay_app.specs.Named.{pacing_form, command_form, HasRate, CanRun};
+ghost use Rattle.replay_app.specs.Words.{rate_of, number_within, load_of, three_words, named_in, link_by, pacing_by, via_by, form_of, no_form, texts};
+ghost use Rattle.replay_app.specs.Named.{pacing_form, via_form, command_form, HasRate, CanRun};
 
 use events_core::MOST_RATE;
 use rank_defs::MAX_RANK;
@@ -45,6 +45,17 @@ pub struct PlanFiles<'a> {
     pub target: &'a str,
 }
 
+/// The names of the files of a run along a given map.
+#[derive(Clone, Copy, Debug)]
+pub struct ViaFiles<'a> {
+    pub policy: &'a str,
+    pub topology: &'a str,
+    pub map: &'a str,
+    pub target: &'a str,
+    pub capture: &'a str,
+    pub script: &'a str,
+}
+
 /// What the words ask for.
 #[derive(Clone, Copy, Debug)]
 pub enum Command<'a> {
@@ -58,6 +69,8 @@ pub enum Command<'a> {
     Direct(DirectFiles<'a>),
     /// A generated load, through the fabric.
     Soak(LoadSize),
+    /// A run over these files, through the fabric, along a map that is given into a topology.
+    Via(ViaFiles<'a>),
 }
 
 /// The rate that a word says, if one does.
@@ -138,6 +151,30 @@ fn pacing_of<'a>(command: &str, fifth: &'a str, more: &[String]) -> Option<Pacin
     }
 }
 
+/// A run along a given map, by the names of a policy, a topology, a map and a target, if two more stand behind them.
+fn via_by<'a>(
+    policy: &'a str,
+    topology: &'a str,
+    map: &'a str,
+    target: &'a str,
+    more: &'a [String],
+) -> Option<ViaFiles<'a>>
+    ensures { MatchOption result (via_by policy.now topology.now map.now target.now (texts more.now) ≡ no_form) (λ files.
+        via_by policy.now topology.now map.now target.now (texts more.now) ≡ via_form files) }
+{
+    match more {
+        [capture, script] => Some(ViaFiles {
+            policy,
+            topology,
+            map,
+            target,
+            capture: capture.as_str(),
+            script: script.as_str(),
+        }),
+        _ => None,
+    }
+}
+
 /// The command that the words spell, if they are in a form.
 pub fn command_of(words: &[String]) -> Option<Command<'_>>
     ensures range { IfSome result CanRun }
@@ -156,6 +193,16 @@ pub fn command_of(words: &[String]) -> Option<Command<'_>>
                 capture: capture.as_str(),
                 script: script.as_str(),
             }))
+        }
+        [command, policy, topology, map, target, more @ ..] if command.as_str() == "via" => {
+            let files = via_by(
+                policy.as_str(),
+                topology.as_str(),
+                map.as_str(),
+                target.as_str(),
+                more,
+            )?;
+            Some(Command::Via(files))
         }
         [command, policy, target, capture, fifth, more @ ..] => {
             let pacing = pacing_of(command.as_str(), fifth.as_str(), more)?;

@@ -1,7 +1,9 @@
 //! Texts that are written whole.
-ghost use Rattle.std.specs.Prelude.{◌≡◌, IfOk, OnOk, OnErr, IsErrOf};
+ghost use Rattle.std.specs.Prelude.{◌≡◌, ◌++◌, IfOk, OnOk, OnErr, IsErrOf};
 ghost use Rattle.outside_core.specs.Faults.{Rose};
 ghost use Rattle.outside_core.specs.Written.{Appended, AppendedPrefix};
+ghost use Rattle.report_core.specs.Faults.{word_of};
+ghost use Rattle.report_defs.specs.Report.{fault_line};
 ghost use Rattle.replay_app.specs.Answer.{refusal};
 ghost use Rattle.replay_app.specs.Statuses.{kind_status};
 
@@ -25,6 +27,29 @@ pub fn refuse<K: Sink>(
     ensures reads_nothing { IsErrOf result Stop.Source → ⊥ }
 {
     write_fault(alloc, sink, kind, cause.code, u64::from(cause.place))?;
+    Ok(Status::refused(kind))
+}
+
+/// Writes a text, and the line of a refusal behind it.
+pub fn refuse_behind<K: Sink>(
+    alloc: Global,
+    text: &[u8],
+    sink: &mut K,
+    kind: FaultKind,
+    cause: Refusal,
+) -> Result<Status, Stop>
+    ensures status { IfOk result (λ s. s ≡ kind_status kind) }
+    ensures text { OnOk result (Appended (K.written sink.old) (K.written sink.new)
+        (text.now ++ fault_line (word_of kind) cause.code cause.place)) }
+    ensures part { OnErr result (AppendedPrefix (K.written sink.old) (K.written sink.new)
+        (text.now ++ fault_line (word_of kind) cause.code cause.place)) }
+    ensures sink_cause { IsErrOf result Stop.Sink → Rose (K.faults sink.old) (K.faults sink.new) }
+    ensures reads_nothing { IsErrOf result Stop.Source → ⊥ }
+{
+    let mut report = Report::new(alloc)?;
+    report.piece(sink, text)?;
+    report.fault(sink, kind, cause.code, u64::from(cause.place))?;
+    report.finish(sink)?;
     Ok(Status::refused(kind))
 }
 

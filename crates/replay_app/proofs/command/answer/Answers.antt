@@ -4,6 +4,7 @@ use Rattle.replay_app.specs.Named.{command_form}
 use Rattle.replay_app.specs.declared.words.Command.TheVariants.{Check, Plan, Direct}
 use Rattle.replay_app.proofs.FollowLaws.{exactly_told, known-status}
 use Rattle.replay_app.proofs.Unused.{unused}
+use Rattle.replay_app.proofs.ViaLaws.{via_left}
 use Rattle.replay_app.proofs.command.answer.Goals as goal
 
 pub returns-in-Some-Replay-clause-left : goal.returns-in-Some-Replay-clause-left
@@ -33,3 +34,12 @@ returns-in-Some-Plan-clause-answer g c = rw (rw c.in-Some-Plan.field-0-is at c.i
 
 pub returns-in-Some-Direct-clause-answer : goal.returns-in-Some-Direct-clause-answer
 returns-in-Some-Direct-clause-answer g c = rw (rw c.in-Some-Direct.field-0-is at c.in-Some-Direct.ensures.form) (λ contents told. c.direct_files.ensures.answer contents told)
+
+pub returns-in-Some-Via-clause-left : goal.returns-in-Some-Via-clause-left
+returns-in-Some-Via-clause-left g c =
+    let f = c.in-Some-Via.files in
+    rw (rw c.in-Some-Via.field-0-is at c.in-Some-Via.ensures.form)
+    (λ contents told. via_left g.F.Fabric f.policy.now f.topology.now f.map.now f.target.now f.capture.now f.script.now contents _ c.via_files.result _ _ (c.via_files.ensures.left contents told))
+
+pub returns-in-Some-Via-clause-answer : goal.returns-in-Some-Via-clause-answer
+returns-in-Some-Via-clause-answer g c = rw (rw c.in-Some-Via.field-0-is at c.in-Some-Via.ensures.form) (λ contents told. c.via_files.ensures.answer contents told)

@@ -1,7 +1,7 @@
 use Rattle.std.proofs.Common.{refl, ap, subst, ◌∙◌}
 use Rattle.std.specs.Prelude.{Err}
 use Rattle.tree_defs.specs.Tree.{SameShape}
-use Rattle.tree_defs.specs.Topology.{Topology, complete}
+use Rattle.tree_defs.specs.Topology.{Topology, topology_of, complete}
 use Rattle.embed_defs.specs.Embedding.{IsEmbedding, HasEmbedding}
 use Rattle.embed_defs.specs.Images.{image_map}
 use Rattle.report_core.specs.declared.fault.FaultKind.TheVariants as kind
@@ -19,13 +19,13 @@ replay_paced-requires-clause-embedding g c = subst (λ (s : Topology). IsEmbeddi
 
 pub returns-in-Ok-clause-answer : goal.returns-in-Ok-clause-answer
 returns-in-Ok-clause-answer g c = λ contents told.
-    let is = placement c.args.policy.now.policy c.args.target c.in-Ok.map _ c.topo.ensures.topology c.in-Ok.ensures.canonical c.in-Ok.ensures.embedding in
-    accepted_told kind.Size _ _ _ (rooms_are_one c.args.policy.now.policy c.args.target) c.replay_paced.result _ _ c.in-Ok.map is (c.replay_paced.ensures.answer contents told)
+    let is = placement (topology_of c.args.policy.now.policy.tree) c.args.target c.in-Ok.map _ c.topo.ensures.topology c.in-Ok.ensures.canonical c.in-Ok.ensures.embedding in
+    accepted_told kind.Size _ _ _ (rooms_are_one (topology_of c.args.policy.now.policy.tree) c.args.target) c.replay_paced.result _ _ c.in-Ok.map is (c.replay_paced.ensures.answer contents told)
 
 pub returns-in-Ok-clause-left : goal.returns-in-Ok-clause-left
 returns-in-Ok-clause-left g c = λ contents told.
-    let is = placement c.args.policy.now.policy c.args.target c.in-Ok.map _ c.topo.ensures.topology c.in-Ok.ensures.canonical c.in-Ok.ensures.embedding in
-    accepted_done kind.Size _ _ _ (rooms_are_one c.args.policy.now.policy c.args.target) c.replay_paced.result _ _ c.in-Ok.map is (c.replay_paced.ensures.left contents told)
+    let is = placement (topology_of c.args.policy.now.policy.tree) c.args.target c.in-Ok.map _ c.topo.ensures.topology c.in-Ok.ensures.canonical c.in-Ok.ensures.embedding in
+    accepted_done kind.Size _ _ _ (rooms_are_one (topology_of c.args.policy.now.policy.tree) c.args.target) c.replay_paced.result _ _ c.in-Ok.map is (c.replay_paced.ensures.left contents told)
 
 pub returns-in-Ok-clause-refused : goal.returns-in-Ok-clause-refused
 returns-in-Ok-clause-refused g c = paced_no_refusal (pacing_form c.args.files.now.pacing) c.replay_paced.result _ c.replay_paced.ensures.statuses
@@ -33,9 +33,9 @@ returns-in-Ok-clause-refused g c = paced_no_refusal (pacing_form c.args.files.no
 pub returns-in-Err-NoEmbedding-clause-answer : goal.returns-in-Err-NoEmbedding-clause-answer
 returns-in-Err-NoEmbedding-clause-answer g c = λ contents told.
     let none = subst (λ (s : Topology). HasEmbedding s (complete c.args.target.arities) → ⊥) c.topo.ensures.topology (c.embed.ensures.none (c.in-Err-NoEmbedding.is ∙ ap Err c.in-Err-NoEmbedding.field-0-is)) in
-    refused_told kind.Size _ _ _ (rooms_are_one c.args.policy.now.policy c.args.target) c.refuse.result _ _ 1 0 (none, refl, refl) c.refuse.ensures.status c.refuse.ensures.text c.refuse.ensures.part
+    refused_told kind.Size _ _ _ (rooms_are_one (topology_of c.args.policy.now.policy.tree) c.args.target) c.refuse.result _ _ 1 0 (none, refl, refl) c.refuse.ensures.status c.refuse.ensures.text c.refuse.ensures.part
 
 pub returns-in-Err-NoEmbedding-clause-left : goal.returns-in-Err-NoEmbedding-clause-left
 returns-in-Err-NoEmbedding-clause-left g c = λ contents told.
     let none = subst (λ (s : Topology). HasEmbedding s (complete c.args.target.arities) → ⊥) c.topo.ensures.topology (c.embed.ensures.none (c.in-Err-NoEmbedding.is ∙ ap Err c.in-Err-NoEmbedding.field-0-is)) in
-    refused_left kind.Size _ _ _ (rooms_are_one c.args.policy.now.policy c.args.target) c.refuse.result g.F.Fabric c.args.fabric.now _ 1 0 (none, refl, refl)
+    refused_left kind.Size _ _ _ (rooms_are_one (topology_of c.args.policy.now.policy.tree) c.args.target) c.refuse.result g.F.Fabric c.args.fabric.now _ 1 0 (none, refl, refl)

@@ -1,0 +1,25 @@
+-- The fault of a text that is read is the reason of its refusal.
+use Rattle.std.proofs.Common.{◌≡◌, ◌≢◌, ◌⊎◌, ℕ, List, Result, Ok, Err, inl, inr, subst}
+use Rattle.policy_defs.specs.Policy.{Policy}
+use Rattle.mapcheck_core.specs.declared.given.Given.{Given}
+use Rattle.mapcheck_core.specs.declared.fault.MapFault.{MapFault}
+use Rattle.mapcheck_core.specs.declared.fault.MapFault.TheVariants as map
+use Rattle.mapcheck_core.specs.declared.tree_fault.TreeFault.{TreeFault}
+use Rattle.mapcheck_core.specs.declared.tree_fault.TreeFault.TheVariants as tree
+use Rattle.mapcheck_core.specs.MapFaults.{code_of, place_of}
+use Rattle.mapcheck_core.specs.MapTexts.{IsMapAnswer}
+use Rattle.mapcheck_core.specs.TreeTexts.{IsTreeFault, code_of as tree_code, place_of as tree_place}
+use Rattle.replay_app.specs.Via.{IsTreeRefused, at_fault, IsMapRefused, unread, names_of}
+
+pub tree_refused : (text : List ℕ) (f : TreeFault) → f ≢ tree.NoMemory → (f ≡ tree.NoMemory) ⊎ IsTreeFault text f → IsTreeRefused text (tree_code f) (tree_place f)
+tree_refused text f some (inl none) = absurd (some none)
+tree_refused text f some (inr is) = at_fault f is
+
+module _ (policy : Policy) (text : List ℕ) (names : List (List ℕ)) (same : names ≡ names_of policy) where
+  pub map_refused : (r : Result Given MapFault) (f : MapFault) → r ≡ Err f → f ≢ map.NoMemory → (r ≡ Err map.NoMemory) ⊎ IsMapAnswer text names r → IsMapRefused policy text (code_of f) (place_of f)
+  map_refused r f is some (inl none) = absurd (some cc)
+  map_refused r f is some (inr answer) = unread f (subst (λ (ns : List (List ℕ)). IsMapAnswer text ns (Err f)) same (subst (IsMapAnswer text names) is answer))
+
+  pub map_answer : (r : Result Given MapFault) (g : Given) → r ≡ Ok g → (r ≡ Err map.NoMemory) ⊎ IsMapAnswer text names r → IsMapAnswer text (names_of policy) (Ok g)
+  map_answer r g is (inl none) = absurd cc
+  map_answer r g is (inr answer) = subst (λ (ns : List (List ℕ)). IsMapAnswer text ns (Ok g)) same (subst (IsMapAnswer text names) is answer)

@@ -1,0 +1,111 @@
+//! Maps of a policy's tree into a topology, read from files.
+ghost use Rattle.std.specs.Prelude.{◌≡◌, ◌≢◌, ◌≤◌, length, IfOk, OnOk, IfSome, IsTrue, IsErrOf};
+ghost use Rattle.outside_core.specs.Faults.{Rose};
+ghost use Rattle.outside_core.specs.Kept.{KeepsShelf};
+ghost use Rattle.tree_defs.specs.Tree.{most_nodes};
+ghost use Rattle.tree_core.specs.Shape.{topology};
+ghost use Rattle.mapcheck_core.specs.GivenMaps.{IsWithinLimits, IsGivenFor, IsVerdict};
+ghost use Rattle.mapcheck_core.specs.MapFaults.{code_of, place_of};
+ghost use Rattle.replay_app.specs.Follows.{IsRead, IfAccepted};
+ghost use Rattle.replay_app.specs.Via.{HasVerdict, IsMapRefused, IsTried, names_of};
+
+use crate::load::load_short;
+use crate::refusal::{Read, Refusal};
+use list_core::{List, Name};
+use mapcheck_core::{Given, MOST_MAP_BYTES, MapFault, check_map, read_map};
+use outside_core::{Shelf, Stop};
+use policy_core::Policy;
+use std::alloc::{AllocError, Global};
+use tree_core::Topo;
+
+/// A map that was read, and the first clause of an embedding that it breaks, if it breaks one.
+#[derive(Drop)]
+pub struct Tried {
+    pub given: Given,
+    pub fault: Option<MapFault>,
+}
+
+/// How the fault of a map is told. The error is want of memory.
+fn told_of(fault: MapFault) -> Result<Refusal, AllocError>
+    ensures memory { OnOk result (fault ≢ MapFault.NoMemory) }
+    ensures told { IfOk result (λ r. r ≡ record { code = code_of fault; place = place_of fault }) }
+{
+    match fault {
+        MapFault::NoMemory => Err(AllocError),
+        _ => Ok(Refusal {
+            code: fault.code(),
+            place: fault.place(),
+        }),
+    }
+}
+
+/// The names of a policy's nodes and leaves in preorder.
+fn names_of(alloc: Global, policy: &Policy) -> Result<List<Name>, AllocError>
+    ensures names { IfOk result (λ names. names ≡ names_of policy.now.policy) }
+    ensures few { IfOk result (λ names. length names ≤ most_nodes) }
+{
+    let mut names = List::from_vec(Vec::new(alloc));
+    for node in 0..policy.count() {
+        names.push(Name::new(alloc, policy.name(node))?)?;
+    }
+    Ok(names)
+}
+
+/// The first clause of an embedding that a map breaks, if it breaks one.
+fn first_broken(topo: &Topo, middle: &Topo, given: &Given) -> Option<MapFault>
+    requires topo { IsWithinLimits (topology topo.now) }
+    requires middle { IsWithinLimits (topology middle.now) }
+    requires given { IsGivenFor (topology topo.now) given.now }
+    ensures { IsVerdict (topology topo.now) (topology middle.now) given.now result }
+{
+    match check_map(topo, middle, given) {
+        Ok(()) => None,
+        Err(fault) => Some(fault),
+    }
+}
+
+/// The map of a policy's tree that a text gives, tried, or why the text is refused. The error is want of memory.
+fn map_in(
+    alloc: Global,
+    policy: &Policy,
+    middle: &Topo,
+    text: &[u8],
+) -> Result<Read<Tried>, AllocError>
+    requires middle { IsWithinLimits (topology middle.now) }
+    ensures read { IfOk result (λ read. IsRead (IsMapRefused policy.now.policy text.now)
+        (IsTried policy.now.policy (topology middle.now) text.now) read) }
+    ensures verdict { IfOk result (λ read. IfAccepted read (HasVerdict policy.now.policy (topology middle.now))) }
+{
+    let names = names_of(alloc, policy)?;
+    match read_map(alloc, text, &names) {
+        Ok(given) => {
+            let fault = first_broken(policy.topo(), middle, &given);
+            Ok(Read::Accepted(Tried { given, fault }))
+        }
+        Err(fault) => Ok(Read::Refused(told_of(fault)?)),
+    }
+}
+
+/// Reads the file of a map of a policy's tree, and tries whether the map is an embedding in a topology.
+pub fn read_map_file<S: Shelf>(
+    alloc: Global,
+    policy: &Policy,
+    middle: &Topo,
+    shelf: &mut S,
+    name: &str,
+) -> Result<Read<Tried>, Stop>
+    requires middle { IsWithinLimits (topology middle.now) }
+    requires lent { IsTrue (S.lends shelf.old name.now) }
+
+    ensures read { IfOk result (λ read. IfSome (S.content shelf.old name.now) (λ text.
+        IsRead (IsMapRefused policy.now.policy text) (IsTried policy.now.policy (topology middle.now) text) read)) }
+    ensures verdict { IfOk result (λ read. IfAccepted read (HasVerdict policy.now.policy (topology middle.now))) }
+    ensures kept { KeepsShelf S.lends S.content S.faults shelf.old shelf.new }
+    ensures cause { IsErrOf result Stop.Source → Rose (S.faults shelf.old) (S.faults shelf.new) }
+    ensures writes_nothing { IsErrOf result Stop.Sink → ⊥ }
+{
+    match load_short(alloc, shelf, name, MOST_MAP_BYTES)? {
+        Some(text) => Ok(map_in(alloc, policy, middle, &text)?),
+        None => Ok(Read::Refused(told_of(MapFault::TooLong)?)),
+    }
+}
