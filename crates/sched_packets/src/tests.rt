@@ -29,6 +29,15 @@ const CUT: &[u8] = b"\0\0\0\x0b\0\0\0\0\0\0\0\x04\0\0\0\x04";
 const SECTION: &[u8] =
     b"\x0a\x0d\x0d\x0a\x1c\0\0\0\x4d\x3c\x2b\x1a\x01\0\0\0\xff\xff\xff\xff\xff\xff\xff\xff\x1c\0\0\0";
 
+/// A section header whose byte order is missing, one without its last byte, and one that is shorter than a classic header.
+const NO_ORDER: &[u8] = b"\x0a\x0d\x0d\x0a\0\0\0\0\0\0\0\0\0\0\0\0\0\0\0\0\0\0\0\0\0\0\0\0";
+
+const CUT_SECTION: &[u8] =
+    b"\x0a\x0d\x0d\x0a\x1c\0\0\0\x4d\x3c\x2b\x1a\x01\0\0\0\xff\xff\xff\xff\xff\xff\xff\xff\x1c\0\0";
+
+const SHORT_SECTION: &[u8] =
+    b"\x0a\x0d\x0d\x0a\x1c\0\0\0\x4d\x3c\x2b\x1a\x01\0\0\0\xff\xff\xff\xff";
+
 const ETHERNET: &[u8] = b"\x01\0\0\0\x14\0\0\0\x01\0\0\0\0\0\x04\0\x14\0\0\0";
 
 const OTHER_INTERFACE: &[u8] = b"\x01\0\0\0\x14\0\0\0\x93\0\0\0\0\0\x04\0\x14\0\0\0";
@@ -149,9 +158,9 @@ fn packets_have_their_own_link_types(rt: HostRuntime) -> Result<(), Fail> {
             0,
             "1 0 1500 1000000000 53, Fault(11, 4)",
         ),
-        (&[&SECTION[..4], &[0; 24]], 0, "Fault(13, 1)"),
-        (&[&SECTION[..27]], 0, "Fault(11, 1)"),
-        (&[&SECTION[..20]], 0, "Fault(1, 0)"),
+        (&[NO_ORDER], 0, "Fault(13, 1)"),
+        (&[CUT_SECTION], 0, "Fault(11, 1)"),
+        (&[SHORT_SECTION], 0, "Fault(1, 0)"),
         (&[SECTION, ETHERNET], 3, "Source"),
         (&[SECTION, ETHERNET], 4, "Source"),
         (
