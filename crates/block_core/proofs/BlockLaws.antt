@@ -1,0 +1,210 @@
+-- A queue of rank stores: after a push, and after a pop.
+use Rattle.std.proofs.Common.{◌≡◌, ◌≢◌, ◌≤◌, ◌<◌, ◌+◌, inl, inr, ℕ, zero, suc, Bool, true, false, cond, eqb, ltb, ◌&&◌, ◌||◌, List, [], ◌∷◌, ◌++◌, map, length, get_or, set, Some, refl, ap, sym, subst, ◌∙◌, arith, length-set, get_or-set_same, get_or-set_other}
+use Rattle.std.specs.List.{AllByRecursion, list_any}
+use Rattle.std.specs.List.Sorted.{IsPermutation}
+use Rattle.std.specs.Ordering.{is_lt}
+use Rattle.std.specs.BinaryHeap.{IsHeap, IsUpperBound}
+use Rattle.std.specs.declared.cmp.Reverse.{Reverse}
+use Rattle.std.proofs.lemmas.Bool.{cases_Bool, cases_lt, lt-ltb, le-ltb, eqb-true, eqb-false, eq-eqb, ne_eqb}
+use Rattle.std.proofs.lemmas.Bool.Decides.{nat_tests}
+use Rattle.std.proofs.lemmas.List.Sorted.{IsPermutation-map, All-permutation}
+use Rattle.std.proofs.lemmas.List.Elements.{All-from_recursion, recursion_from_All}
+use Rattle.pifo_defs.specs.Queue.{Queue, put, take_least}
+use Rattle.block_core.specs.declared.waiting.Waiting.{Waiting}
+use Rattle.block_core.specs.Arrival.{weight, came_as, in_order, pair, queue_of, Precedes}
+use Rattle.block_core.specs.Stores.{waiting_in, head_of, heads_of, last_rank, Follows, IsFifo, flow_of, IsStored}
+use Rattle.block_core.specs.Block.{spills_in, held, all_of, queue_in, heap_order, IsNumbered, IsPassed, IsBlock}
+use Rattle.block_core.proofs.Weights.{weight-append, weight-IsPermutation, weight-none, none-weight, weight-set, heads-set}
+use Rattle.block_core.proofs.ArrivalLaws.{All-append, All-weaker, same, same-self, same-is, numbered_all, numbered_more, numbered_fewer, weight-ordered, queue-pushed, queue-popped}
+use Rattle.block_core.proofs.StoreLaws.{last_rank-pushed, ranks_up_to, fifo-pushed, behind_all, last_rank-popped, stored_at, stored-set, IsHeadAt, head_found, heads_precede}
+
+-- ---- who leaves first
+abbrev bad : Waiting → Waiting → ℕ
+bad x w = cond (ltb w.rank x.rank || (eqb w.rank x.rank && ltb w.arrival x.arrival)) 1 0
+
+precedes-bad : (x w : Waiting) → Precedes x w → bad x w ≡ 0
+precedes-bad x w p =
+    rw (le-ltb w.rank x.rank p.rank) (elim (cases_Bool (eqb w.rank x.rank)) [
+      | inl t ↦ rw t (rw (le-ltb w.arrival x.arrival (p.tie (sym (eqb-true w.rank x.rank t)))) refl)
+      | inr t ↦ rw t refl
+    ])
+
+bad-precedes : (x w : Waiting) → bad x w ≡ 0 → Precedes x w
+bad-precedes x w h = record { rank = grind (arith, nat_tests, h); tie = λ e. grind (arith, nat_tests, h, e) }
+
+all-bad : (x : Waiting) (ws : List Waiting) → AllByRecursion (Precedes x) ws → AllByRecursion (λ w. bad x w ≡ 0) ws
+all-bad x ws h = All-weaker (Precedes x) (λ w. bad x w ≡ 0) (precedes-bad x) ws h
+
+-- among lighter lists too
+precedes_fewer : (x : Waiting) (us vs : List Waiting) → ((f : Waiting → ℕ) → weight f vs ≤ weight f us) → AllByRecursion (Precedes x) us → AllByRecursion (Precedes x) vs
+precedes_fewer x us vs h k =
+    All-weaker (λ w. bad x w ≡ 0) (Precedes x) (bad-precedes x) vs (none-weight (bad x) vs (omega (arith, h (bad x), weight-none (bad x) us (all-bad x us k))))
+
+pub precedes-self : (x : Waiting) → Precedes x x
+precedes-self x = record { rank = omega arith; tie = λ _. omega arith }
+
+pub precedes-trans : (x y z : Waiting) → Precedes x y → Precedes y z → Precedes x z
+precedes-trans x y z p q = record { rank = omega (arith, p.rank, q.rank); tie = λ e. omega (arith, p.tie (omega (arith, e, p.rank, q.rank)), q.tie (omega (arith, e, p.rank, q.rank))) }
+
+-- the top of a heap
+top_precedes : (x w : Waiting) → is_lt (heap_order (record { 0 = x }) (record { 0 = w })) ≡ false → Precedes x w
+top_precedes x w upper = record { rank = grind (arith, nat_tests, upper); tie = λ e. grind (arith, nat_tests, upper, e) }
+
+pub heap_precedes : (x : Reverse Waiting) (items : List (Reverse Waiting)) → IsUpperBound heap_order x items → AllByRecursion (Precedes x.0) (held items)
+heap_precedes x [] upper = tt
+heap_precedes x (y ∷ items) upper = (top_precedes x.0 y.0 upper.0, heap_precedes x items upper.1)
+
+pub weight-held : (f : Waiting → ℕ) (old new : List (Reverse Waiting)) → IsPermutation old new → weight f (held new) ≡ weight f (held old)
+weight-held f old new p = weight-IsPermutation f (held old) (held new) (IsPermutation-map (λ (r : Reverse Waiting). r.0) old new p)
+
+moved : (P : Waiting → Type 0) (old new : List (Reverse Waiting)) → IsPermutation old new → AllByRecursion P (held old) → AllByRecursion P (held new)
+moved P old new p h =
+    recursion_from_All P (held new) (All-permutation P (held old) (held new) (IsPermutation-map (λ (r : Reverse Waiting). r.0) old new p) (All-from_recursion P (held old) h))
+
+-- ---- what spilled ranks below the last of its flow
+abbrev pub passed_by : ℕ → List (List Waiting) → Waiting → Type 0
+passed_by flows stores w = w.rank < last_rank (get_or stores (flow_of flows w.value) [])
+
+passed-set : (flows : ℕ) (ss : List (List Waiting)) (j : ℕ) (s : List Waiting) (ws : List Waiting) → j < length ss
+    → AllByRecursion (λ (w : Waiting). w.rank < last_rank (get_or ss j []) → w.rank < last_rank s) ws → AllByRecursion (passed_by flows ss) ws → AllByRecursion (passed_by flows (set ss j s)) ws
+passed-set flows ss j s [] l q h = tt
+passed-set flows ss j s (w ∷ ws) l q h =
+    let P : List Waiting → Type 0 = λ z. w.rank < last_rank z in (
+      elim (cases_Bool (eqb (flow_of flows w.value) j)) [
+        | inl t ↦ (
+          let e : flow_of flows w.value ≡ j = eqb-true (flow_of flows w.value) j t in
+          subst (λ z. P (get_or (set ss j s) z [])) (sym e) (subst P (sym (get_or-set_same ss j s [] l)) (q.0 (subst (λ z. P (get_or ss z [])) e h.0))))
+        | inr t ↦ subst P (sym (get_or-set_other ss j (flow_of flows w.value) s [] (eqb-false (flow_of flows w.value) j t))) h.0
+      ],
+      passed-set flows ss j s ws l q.1 h.1,
+    )
+
+passed_again : (ss : List (List Waiting)) (j : ℕ) (s : List Waiting) (ws : List Waiting) → AllByRecursion (passed_by (length ss) (set ss j s)) ws → AllByRecursion (IsPassed (set ss j s)) ws
+passed_again ss j s ws h = subst (λ (n : ℕ). AllByRecursion (passed_by n (set ss j s)) ws) (sym (length-set ss j s)) h
+
+for_all : (P : Waiting → Type 0) → ((w : Waiting) → P w) → (ws : List Waiting) → AllByRecursion P ws
+for_all P h [] = tt
+for_all P h (w ∷ ws) = (h w, for_all P h ws)
+
+All-front : (P : Waiting → Type 0) (xs ys : List Waiting) → AllByRecursion P (xs ++ ys) → AllByRecursion P xs
+All-front P [] ys h = tt
+All-front P (x ∷ xs) ys h = (h.0, All-front P xs ys h.1)
+
+All-back : (P : Waiting → Type 0) (xs ys : List Waiting) → AllByRecursion P (xs ++ ys) → AllByRecursion P ys
+All-back P [] ys h = h
+All-back P (x ∷ xs) ys h = All-back P xs ys h.1
+
+at_store : (P : Waiting → Type 0) (ss : List (List Waiting)) (j : ℕ) → AllByRecursion P (waiting_in ss) → AllByRecursion P (get_or ss j [])
+at_store P [] j h = tt
+at_store P (s ∷ ss) zero h = All-front P s (waiting_in ss) h
+at_store P (s ∷ ss) (suc j) h = at_store P ss j (All-back P s (waiting_in ss) h)
+
+-- ---- an entry joins the end of its flow
+module _ (ss : List (List Waiting)) (heads new_heads spilled : List (Reverse Waiting)) (x : Waiting) (j : ℕ) (b : IsBlock ss heads spilled x.arrival) (flow : flow_of (length ss) x.value ≡ j) (l : j < length ss)
+    (low : last_rank (get_or ss j []) ≤ x.rank) (hs : (f : Waiting → ℕ) → weight f (held new_heads) + weight f (head_of (get_or ss j [])) ≡ weight f (held heads) + weight f (head_of (get_or ss j [] ++ x ∷ []))) (o : IsHeap heap_order new_heads) where
+  stored_more : (f : Waiting → ℕ) → weight f (all_of (set ss j (get_or ss j [] ++ x ∷ [])) (held spilled)) ≡ f x + weight f (all_of ss (held spilled))
+  stored_more f =
+      omega (arith, weight-append f (waiting_in (set ss j (get_or ss j [] ++ x ∷ []))) (held spilled), weight-append f (waiting_in ss) (held spilled), weight-set f ss j (get_or ss j [] ++ x ∷ []) l, weight-append f (get_or ss j []) (x ∷ []))
+
+  pub stored_is : IsBlock (set ss j (get_or ss j [] ++ x ∷ [])) new_heads spilled (x.arrival + 1)
+  stored_is =
+      let at : AllByRecursion (λ (w : Waiting). flow_of (length ss) w.value ≡ 0 + j) (get_or ss j []) × IsFifo (get_or ss j []) = stored_at (length ss) 0 ss j l b.in_flows in
+      let early : AllByRecursion (λ (w : Waiting). w.arrival < x.arrival) (get_or ss j [])
+      = at_store (λ (w : Waiting). w.arrival < x.arrival) ss j (All-front _ (waiting_in ss) (held spilled) (numbered_all x.arrival (all_of ss (held spilled)) b.numbered)) in
+      record {
+        some = omega (arith, b.some, length-set ss j (get_or ss j [] ++ x ∷ []));
+        numbered = numbered_more x (all_of (set ss j (get_or ss j [] ++ x ∷ [])) (held spilled)) (all_of ss (held spilled)) stored_more b.numbered;
+        in_flows = subst (λ (n : ℕ). IsStored n 0 (set ss j (get_or ss j [] ++ x ∷ []))) (sym (length-set ss j (get_or ss j [] ++ x ∷ [])))
+            (stored-set (length ss) 0 ss j (get_or ss j [] ++ x ∷ []) b.in_flows (All-append _ (get_or ss j []) (x ∷ []) at.0 (omega (arith, flow), tt))
+            (fifo-pushed (get_or ss j []) x at.1 (behind_all (get_or ss j []) x (ranks_up_to (get_or ss j []) at.1) low early)));
+        heads_are = λ f. omega (arith, hs f, heads-set f ss j (get_or ss j [] ++ x ∷ []) l, b.heads_are f);
+        passed = passed_again ss j (get_or ss j [] ++ x ∷ []) (held spilled) (passed-set (length ss) ss j (get_or ss j [] ++ x ∷ []) (held spilled) l
+            (for_all _ (λ w k. omega (arith, k, low, last_rank-pushed (get_or ss j []) x)) (held spilled)) b.passed);
+        heads_order = o;
+        spilled_order = b.spilled_order;
+      }
+
+  pub stored_queue : queue_in (x.arrival + 1) (set ss j (get_or ss j [] ++ x ∷ [])) (held spilled) ≡ put (queue_in x.arrival ss (held spilled)) x.rank x.value
+  stored_queue = queue-pushed x (all_of (set ss j (get_or ss j [] ++ x ∷ [])) (held spilled)) (all_of ss (held spilled)) (x.arrival + 1) stored_more stored_is.numbered
+
+-- ---- an entry spills
+module _ (ss : List (List Waiting)) (heads spilled new_spilled : List (Reverse Waiting)) (x : Reverse Waiting) (b : IsBlock ss heads spilled x.0.arrival)
+    (p : IsPermutation (x ∷ spilled) new_spilled) (low : IsPassed ss x.0) (o : IsHeap heap_order new_spilled) where
+  spilt_more : (f : Waiting → ℕ) → weight f (all_of ss (held new_spilled)) ≡ f x.0 + weight f (all_of ss (held spilled))
+  spilt_more f = omega (arith, weight-append f (waiting_in ss) (held new_spilled), weight-append f (waiting_in ss) (held spilled), weight-held f (x ∷ spilled) new_spilled p)
+
+  pub spilt_is : IsBlock ss heads new_spilled (x.0.arrival + 1)
+  spilt_is = record {
+    some = b.some;
+    numbered = numbered_more x.0 (all_of ss (held new_spilled)) (all_of ss (held spilled)) spilt_more b.numbered;
+    in_flows = b.in_flows;
+    heads_are = b.heads_are;
+    passed = moved (IsPassed ss) (x ∷ spilled) new_spilled p (low, b.passed);
+    heads_order = b.heads_order;
+    spilled_order = o;
+  }
+
+  pub spilt_queue : queue_in (x.0.arrival + 1) ss (held new_spilled) ≡ put (queue_in x.0.arrival ss (held spilled)) x.0.rank x.0.value
+  spilt_queue = queue-pushed x.0 (all_of ss (held new_spilled)) (all_of ss (held spilled)) (x.0.arrival + 1) spilt_more spilt_is.numbered
+
+-- ---- the first of what spilled leaves
+module _ (ss : List (List Waiting)) (heads spilled new_spilled : List (Reverse Waiting)) (pushed : ℕ) (x : Reverse Waiting) (b : IsBlock ss heads spilled pushed)
+    (p : IsPermutation spilled (x ∷ new_spilled)) (upper : IsUpperBound heap_order x new_spilled) (first : AllByRecursion (Precedes x.0) (held heads)) (o : IsHeap heap_order new_spilled) where
+  unspilt_more : (f : Waiting → ℕ) → weight f (all_of ss (held spilled)) ≡ f x.0 + weight f (all_of ss (held new_spilled))
+  unspilt_more f = omega (arith, weight-append f (waiting_in ss) (held new_spilled), weight-append f (waiting_in ss) (held spilled), weight-held f spilled (x ∷ new_spilled) p)
+
+  pub unspilt_is : IsBlock ss heads new_spilled pushed
+  unspilt_is =
+      let passed : AllByRecursion (IsPassed ss) (held (x ∷ new_spilled)) = moved (IsPassed ss) spilled (x ∷ new_spilled) p b.passed in
+      record {
+        some = b.some;
+        numbered = numbered_fewer x.0 (all_of ss (held spilled)) (all_of ss (held new_spilled)) pushed unspilt_more b.numbered;
+        in_flows = b.in_flows;
+        heads_are = b.heads_are;
+        passed = passed.1;
+        heads_order = b.heads_order;
+        spilled_order = o;
+      }
+
+  pub unspilt_queue : take_least (queue_in pushed ss (held spilled)) ≡ Some (record { rank = x.0.rank; value = x.0.value; rest = queue_in pushed ss (held new_spilled) })
+  unspilt_queue =
+      let heads_first : AllByRecursion (Precedes x.0) (heads_of ss) = precedes_fewer x.0 (held heads) (heads_of ss) (λ f. omega (arith, b.heads_are f)) first in
+      queue-popped x.0 (all_of ss (held spilled)) (all_of ss (held new_spilled)) pushed unspilt_more b.numbered
+      (All-append (Precedes x.0) (waiting_in ss) (held new_spilled) (heads_precede (length ss) 0 ss x.0 b.in_flows heads_first) (heap_precedes x new_spilled upper))
+
+-- ---- the first of the heads leaves
+pub head_at : (ss : List (List Waiting)) (heads left spilled : List (Reverse Waiting)) (pushed : ℕ) (x : Reverse Waiting) → IsBlock ss heads spilled pushed → IsPermutation heads (x ∷ left) → IsHeadAt (length ss) 0 ss x.0
+head_at ss heads left spilled pushed x b p =
+    head_found (length ss) 0 ss x.0 b.in_flows (omega (arith, b.heads_are (same x.0), weight-held (same x.0) heads (x ∷ left) p, same-self x.0))
+
+module _ (ss : List (List Waiting)) (heads left new_heads spilled : List (Reverse Waiting)) (pushed : ℕ) (x : Reverse Waiting) (j : ℕ) (rest : List Waiting) (b : IsBlock ss heads spilled pushed)
+    (p : IsPermutation heads (x ∷ left)) (upper : IsUpperBound heap_order x left) (first : AllByRecursion (Precedes x.0) (held spilled)) (l : j < length ss) (at : get_or ss j [] ≡ x.0 ∷ rest)
+    (hs : (f : Waiting → ℕ) → weight f (held new_heads) ≡ weight f (held left) + weight f (head_of rest)) (o : IsHeap heap_order new_heads) where
+  led_more : (f : Waiting → ℕ) → weight f (all_of ss (held spilled)) ≡ f x.0 + weight f (all_of (set ss j rest) (held spilled))
+  led_more f =
+      omega (arith, weight-append f (waiting_in (set ss j rest)) (held spilled), weight-append f (waiting_in ss) (held spilled), weight-set f ss j rest l, ap (λ z. weight f z) at)
+
+  all_precede : AllByRecursion (Precedes x.0) (all_of ss (held spilled))
+  all_precede =
+      let heads_first : AllByRecursion (Precedes x.0) (heads_of ss) = precedes_fewer x.0 (held (x ∷ left)) (heads_of ss) (λ f. omega (arith, b.heads_are f, weight-held f heads (x ∷ left) p)) (precedes-self x.0, heap_precedes x left upper) in
+      All-append (Precedes x.0) (waiting_in ss) (held spilled) (heads_precede (length ss) 0 ss x.0 b.in_flows heads_first) first
+
+  pub led_is : IsBlock (set ss j rest) new_heads spilled pushed
+  led_is =
+      let there : AllByRecursion (λ (w : Waiting). flow_of (length ss) w.value ≡ 0 + j) (x.0 ∷ rest) × IsFifo (x.0 ∷ rest)
+      = subst (λ z. AllByRecursion (λ (w : Waiting). flow_of (length ss) w.value ≡ 0 + j) z × IsFifo z) at (stored_at (length ss) 0 ss j l b.in_flows) in
+      record {
+        some = omega (arith, b.some, length-set ss j rest);
+        numbered = numbered_fewer x.0 (all_of ss (held spilled)) (all_of (set ss j rest) (held spilled)) pushed led_more b.numbered;
+        in_flows = subst (λ (n : ℕ). IsStored n 0 (set ss j rest)) (sym (length-set ss j rest)) (stored-set (length ss) 0 ss j rest b.in_flows there.0.1 there.1.1);
+        heads_are = λ f. omega (arith, hs f, heads-set f ss j rest l, ap (λ z. weight f (head_of z)) at, b.heads_are f, weight-held f heads (x ∷ left) p);
+        passed = passed_again ss j rest (held spilled) (passed-set (length ss) ss j rest (held spilled) l
+            (All-weaker (Precedes x.0) (λ (w : Waiting). w.rank < last_rank (get_or ss j []) → w.rank < last_rank rest) (λ w q k. last_rank-popped x.0 w rest q.rank (subst (λ z. w.rank < last_rank z) at k)) (held spilled) first) b.passed);
+        heads_order = o;
+        spilled_order = b.spilled_order;
+      }
+
+  pub led_queue : take_least (queue_in pushed ss (held spilled)) ≡ Some (record { rank = x.0.rank; value = x.0.value; rest = queue_in pushed (set ss j rest) (held spilled) })
+  led_queue =
+      queue-popped x.0 (all_of ss (held spilled)) (all_of (set ss j rest) (held spilled)) pushed led_more b.numbered
+      (precedes_fewer x.0 (all_of ss (held spilled)) (all_of (set ss j rest) (held spilled)) (λ f. omega (arith, led_more f)) all_precede)

@@ -1,0 +1,4 @@
+mod Weights
+mod ArrivalLaws
+mod StoreLaws
+mod BlockLaws

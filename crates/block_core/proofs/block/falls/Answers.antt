@@ -1,0 +1,9 @@
+use Rattle.std.proofs.Common.{◌<◌, nat_lt, ap, sym, ◌∙◌, arith, rules, deque_len, length, get_or, ◌-◌}
+use Rattle.block_core.proofs.StoreLaws.{last_is}
+use Rattle.block_core.proofs.BlockLaws.{stored_is, spilt_is, unspilt_is, led_is}
+use Rattle.block_core.proofs.block.falls.Goals as goal
+
+pub returns-in-Some : goal.returns-in-Some
+returns-in-Some c =
+    let some : 0 < deque_len c.args.store.now = search rules in
+    ap (λ z. nat_lt c.args.rank z) (ap (λ z. z.rank) c.in-Some.ensures.lookup ∙ ap (λ n. (get_or c.args.store.now.items (n - 1) c.in-Some.last.now).rank) c.args.store.now.ok.0 ∙ last_is c.args.store.now.items c.in-Some.last.now (omega (arith, some, c.args.store.now.ok.0)))

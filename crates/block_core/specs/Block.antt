@@ -1,0 +1,62 @@
+-- What a queue of rank stores is and keeps.
+use Rattle.std.specs.Prelude.{◌≡◌, refl, ◌≤◌, ◌<◌, ℕ, ◌+◌, Bool, true, false, ◌&&◌, List, [], ◌∷◌, ◌++◌, length, map, nat_eq, nat_lt, slice_index_or, if◌then◌else◌}
+use Rattle.std.specs.List.{AllByRecursion, list_any}
+use Rattle.std.specs.BinaryHeap.{IsHeap}
+use Rattle.std.specs.declared.cmp.Ordering.{Ordering}
+use Rattle.std.specs.Ordering.{nat_cmp, ordering_then}
+use Rattle.std.specs.declared.cmp.Reverse.{Reverse}
+use Rattle.pifo_defs.specs.Queue.{Queue}
+use Rattle.block_core.specs.declared.waiting.Waiting.{Waiting}
+use Rattle.block_core.specs.Arrival.{weight, came_as, queue_of}
+use Rattle.block_core.specs.Stores.{waiting_in, heads_of, last_rank, flow_of, IsStored}
+
+-- what contracts see of a queue
+pub record Block : Type 0 where
+  pub flows : ℕ
+  pub entries : Queue
+  pub pushes : ℕ
+  pub spare : ℕ
+
+-- an entry of a greater rank waits in the flow of this value
+abbrev pub spills_in : ℕ → ℕ → ℕ → Queue → Bool
+spills_in flows rank value q = list_any (λ e. nat_eq (flow_of flows e.1) (flow_of flows value) && nat_lt rank e.0) q
+
+abbrev pub held : List (Reverse Waiting) → List Waiting
+held items = map (λ r. r.0) items
+
+-- the heads, those behind them, and what spilled
+abbrev pub all_of : List (List Waiting) → List Waiting → List Waiting
+all_of stores spilled = waiting_in stores ++ spilled
+
+-- the same in order of arrival
+abbrev pub queue_in : ℕ → List (List Waiting) → List Waiting → Queue
+queue_in pushed stores spilled = queue_of pushed (all_of stores spilled)
+
+-- by rank, then by number
+abbrev pub leaving_order : Waiting → Waiting → Ordering
+leaving_order x y = ordering_then (nat_cmp x.rank y.rank) (ordering_then (nat_cmp x.arrival y.arrival) (nat_cmp x.value y.value))
+
+-- the greatest of a heap is the first to leave
+abbrev pub heap_order : Reverse Waiting → Reverse Waiting → Ordering
+heap_order x y = leaving_order y.0 x.0
+
+-- each number below this one came to at most one entry, and no other number to any
+abbrev pub IsNumbered : ℕ → List Waiting → Type 0
+IsNumbered pushed ws = (n : ℕ) → weight (came_as n) ws ≤ (if nat_lt n pushed then 1 else 0)
+
+-- an entry that spilled has a lower rank than the last of its flow
+abbrev pub IsPassed : List (List Waiting) → Waiting → Type 0
+IsPassed stores w = w.rank < last_rank (slice_index_or stores (flow_of (length stores) w.value) [])
+
+pub record IsBlock (stores : List (List Waiting)) (heads spilled : List (Reverse Waiting)) (pushed : ℕ) : Type 0 where
+  pub some : 1 ≤ length stores
+  pub numbered : IsNumbered pushed (all_of stores (held spilled))
+  pub in_flows : IsStored (length stores) 0 stores
+  pub heads_are : (f : Waiting → ℕ) → weight f (held heads) ≡ weight f (heads_of stores)
+  pub passed : AllByRecursion (IsPassed stores) (held spilled)
+  pub heads_order : IsHeap heap_order heads
+  pub spilled_order : IsHeap heap_order spilled
+
+-- each of these lengths is so much below its capacity
+abbrev pub HasSpare : ℕ → List (ℕ × ℕ) → Type 0
+HasSpare spare rooms = AllByRecursion (λ r. r.0 + spare ≤ r.1) rooms

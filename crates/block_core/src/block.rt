@@ -1,0 +1,235 @@
+//! A queue of rank stores: a first-in first-out queue a flow, a scheduler over the heads, and what spilled.
+ghost use Rattle.std.specs.Prelude.{◌≡◌, ◌≤◌, ◌<◌, ◌+◌, ◌^◌, ℕ, true, false, [], ◌∷◌, ◌++◌, length, nat_lt, drop, slice_index_or, OnOk, OnErr, IfOk};
+ghost use Rattle.std.specs.List.{AllByRecursion};
+ghost use Rattle.std.specs.BinaryHeap.{IsHeap, heap_items, heap_len, heap_capacity};
+ghost use Rattle.std.specs.VecDeque.{deque_items, deque_len, deque_capacity};
+ghost use Rattle.std.specs.declared.cmp.Reverse.{Reverse};
+ghost use Rattle.block_core.specs.declared.waiting.Waiting.{Waiting};
+ghost use Rattle.block_core.specs.Arrival.{weight, Precedes};
+ghost use Rattle.block_core.specs.Stores.{head_of, last_rank, flow_of};
+ghost use Rattle.block_core.specs.Block.{held, heap_order};
+
+use crate::waiting::Waiting;
+use pifo_core::Pifo;
+use std::alloc::{AllocError, Global};
+use std::cmp::Reverse;
+use std::collections::{BinaryHeap, VecDeque};
+use std::marker::Model;
+
+/// A queue whose pairs wait behind each other by flow, as long as the ranks of a flow don't fall. The head of each flow stands
+/// in a heap too, and a pair that falls below one of its own flow in a heap of its own.
+#[derive(Drop)]
+pub struct BlockPifo {
+    /// The pairs of each flow in order of arrival. Their ranks don't fall.
+    stores: Vec<VecDeque<Waiting>>,
+    heads: BinaryHeap<Reverse<Waiting>>,
+    spilled: BinaryHeap<Reverse<Waiting>>,
+    pushed: u64,
+    /// For how many pushes there is room, whatever their flows.
+    spare: usize,
+}
+
+impl Model for BlockPifo {
+    ghost use Rattle.std.specs.Prelude.{◌+◌, ◌≤◌, length, map};
+    ghost use Rattle.std.specs.BinaryHeap.{heap_items, heap_len, heap_capacity};
+    ghost use Rattle.std.specs.VecDeque.{deque_items, deque_len, deque_capacity};
+    ghost use Rattle.block_core.specs.Block.{Block, IsBlock, HasSpare, queue_in, held};
+
+    ghost Value = { Block };
+
+    ghost view = { λ b. record {
+        flows = length b.stores.items;
+        entries = queue_in b.pushed (map deque_items b.stores.items) (held (heap_items b.spilled));
+        pushes = b.pushed;
+        spare = b.spare;
+    } };
+
+    ghost invariant = { λ b. IsBlock (map deque_items b.stores.items) (heap_items b.heads) (heap_items b.spilled) b.pushed
+        × HasSpare b.spare (map (λ s. (deque_len s, deque_capacity s)) b.stores.items)
+        × (heap_len b.heads + b.spare ≤ heap_capacity b.heads)
+        × (heap_len b.spilled + b.spare ≤ heap_capacity b.spilled) };
+}
+
+impl BlockPifo {
+    ghost use Rattle.block_core.specs.Block.{spills_in};
+
+    /// A queue without a pair, of so many flows.
+    pub fn new(alloc: Global, flows: u32) -> Result<BlockPifo, AllocError>
+        requires some { 1 ≤ flows }
+        ensures flows { IfOk result (λ b. b.flows ≡ flows) }
+        ensures entries { IfOk result (λ b. b.entries ≡ []) }
+        ensures pushes { IfOk result (λ b. b.pushes ≡ 0) }
+    {
+        let mut stores = Vec::new(alloc);
+        for _ in 0..flows {
+            stores.push(VecDeque::new(alloc))?;
+        }
+        Ok(BlockPifo {
+            stores,
+            heads: BinaryHeap::new(alloc),
+            spilled: BinaryHeap::new(alloc),
+            pushed: 0,
+            spare: 0,
+        })
+    }
+
+    /// Whether an entry of a greater rank waits in the flow of a value.
+    pub fn spills(&self, rank: u64, value: u64) -> bool
+        ensures { result ≡ spills_in self.now.flows rank value self.now.entries }
+    {
+        falls(&self.stores[flow_of(self.stores.len(), value)], rank)
+    }
+}
+
+impl Pifo for BlockPifo {
+    ghost entries = { λ b. b.entries };
+
+    ghost pushes = { λ b. b.pushes };
+
+    ghost spare = { λ b. b.spare };
+
+    fn reserve(&mut self, more: usize) -> Result<(), AllocError> {
+        if more <= self.spare {
+            return Ok(());
+        }
+        reserve_each(&mut self.stores, more)?;
+        self.heads.reserve(more)?;
+        self.spilled.reserve(more)?;
+        self.spare = more;
+        Ok(())
+    }
+
+    fn push(&mut self, rank: u64, value: u64) {
+        let entry = Waiting {
+            rank,
+            arrival: self.pushed,
+            value,
+        };
+        let flow = flow_of(self.stores.len(), value);
+        self.pushed += 1;
+        self.spare -= 1;
+        if falls(&self.stores[flow], rank) {
+            // There is a spare place, so this can't fail.
+            let _ = self.spilled.push(Reverse(entry));
+            return;
+        }
+        join_flow(&mut self.stores[flow], &mut self.heads, entry);
+    }
+
+    fn pop(&mut self) -> Option<(u64, u64)> {
+        if spill_is_first(&self.heads, &self.spilled) {
+            let Reverse(first) = self.spilled.pop()?;
+            return Some((first.rank, first.value));
+        }
+        let Reverse(first) = self.heads.pop()?;
+        let flow = flow_of(self.stores.len(), first.value);
+        leave_flow(&mut self.stores[flow], &mut self.heads);
+        Some((first.rank, first.value))
+    }
+
+    fn len(&self) -> usize {
+        let mut count = self.spilled.len();
+        for store in &self.stores {
+            count += store.len();
+        }
+        count
+    }
+
+    fn pushed(&self) -> u64 {
+        self.pushed
+    }
+}
+
+/// The flow of a value among so many. A value without a flow of its own goes with the last.
+fn flow_of(flows: usize, value: u64) -> usize
+    requires some { 1 ≤ flows }
+    ensures flow { result ≡ flow_of flows value }
+    ensures within { result < flows }
+{
+    let last = flows - 1;
+    if value < last as u64 {
+        value as usize
+    } else {
+        last
+    }
+}
+
+/// Whether a rank is below that of the last of a flow.
+fn falls(store: &VecDeque<Waiting>, rank: u64) -> bool
+    ensures { result ≡ nat_lt rank (last_rank (deque_items store.now)) }
+{
+    match store.back() {
+        Some(last) => rank < last.rank,
+        None => false,
+    }
+}
+
+/// Puts an entry last in its flow, and among the heads where it is the first.
+fn join_flow(
+    store: &mut VecDeque<Waiting>,
+    heads: &mut BinaryHeap<Reverse<Waiting>>,
+    entry: Waiting,
+)
+    requires store_room { deque_len store.old < deque_capacity store.old }
+    requires heads_room { heap_len heads.old < heap_capacity heads.old }
+    ensures items { deque_items store.new ≡ deque_items store.old ++ entry ∷ [] }
+    ensures store_room { (deque_len store.new ≡ deque_len store.old + 1) × (deque_capacity store.old ≤ deque_capacity store.new) }
+    ensures heads { (f : Waiting → ℕ) →
+        weight f (held (heap_items heads.new)) + weight f (head_of (deque_items store.old)) ≡
+            weight f (held (heap_items heads.old)) + weight f (head_of (deque_items store.old ++ entry ∷ [])) }
+    ensures order { IsHeap heap_order (heap_items heads.old) → IsHeap heap_order (heap_items heads.new) }
+    ensures heads_room { (heap_len heads.new ≤ heap_len heads.old + 1) × (heap_capacity heads.old ≤ heap_capacity heads.new) }
+{
+    let leads = store.is_empty();
+    store.push_back_reserved(entry);
+    if leads {
+        // There is room, so this can't fail.
+        let _ = heads.push(Reverse(entry));
+    }
+}
+
+/// Takes the first entry out of its flow, and puts the next one among the heads, if there is one.
+fn leave_flow(store: &mut VecDeque<Waiting>, heads: &mut BinaryHeap<Reverse<Waiting>>)
+    requires heads_room { heap_len heads.old < heap_capacity heads.old }
+    ensures items { deque_items store.new ≡ drop 1 (deque_items store.old) }
+    ensures store_room { (deque_len store.new ≤ deque_len store.old) × (deque_capacity store.new ≡ deque_capacity store.old) }
+    ensures heads { (f : Waiting → ℕ) →
+        weight f (held (heap_items heads.new)) ≡ weight f (held (heap_items heads.old)) + weight f (head_of (drop 1 (deque_items store.old))) }
+    ensures order { IsHeap heap_order (heap_items heads.old) → IsHeap heap_order (heap_items heads.new) }
+    ensures heads_room { (heap_len heads.new ≤ heap_len heads.old + 1) × (heap_capacity heads.old ≤ heap_capacity heads.new) }
+{
+    let _ = store.pop_front();
+    if let Some(next) = store.front() {
+        // There is room, so this can't fail.
+        let _ = heads.push(Reverse(*next));
+    }
+}
+
+/// Whether the first of what spilled leaves before the first of the heads.
+fn spill_is_first(
+    heads: &BinaryHeap<Reverse<Waiting>>,
+    spilled: &BinaryHeap<Reverse<Waiting>>,
+) -> bool
+    requires heads { IsHeap heap_order (heap_items heads.now) }
+    requires spilled { IsHeap heap_order (heap_items spilled.now) }
+    ensures some { result ≡ true → 0 < heap_len spilled.now }
+    ensures spill { result ≡ true → (d : Reverse Waiting) →
+        AllByRecursion (Precedes (slice_index_or (heap_items spilled.now) 0 d).0) (held (heap_items heads.now)) }
+    ensures head { result ≡ false → (d : Reverse Waiting) →
+        AllByRecursion (Precedes (slice_index_or (heap_items heads.now) 0 d).0) (held (heap_items spilled.now)) }
+{
+    match (spilled.peek(), heads.peek()) {
+        (Some(spill), Some(head)) => head < spill,
+        (Some(_), None) => true,
+        (None, _) => false,
+    }
+}
+
+/// Makes room for so many more entries in each flow.
+fn reserve_each(stores: &mut [VecDeque<Waiting>], more: usize) -> Result<(), AllocError>
+{
+    for flow in 0..stores.len() {
+        stores[flow].reserve(more)?;
+    }
+    Ok(())
+}
