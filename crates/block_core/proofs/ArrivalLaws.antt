@@ -117,8 +117,8 @@ numbered_first pushed w ws h =
     elim (cases_lt w.arrival pushed) [
       | inl l ↦ l
       | inr l ↦ absurd (
-        let k : came_as w.arrival w + weight (came_as w.arrival) ws ≡ 0 = none_from w.arrival pushed (w ∷ ws) l h in
-        let one : came_as w.arrival w ≡ 1 = rw (eq-eqb w.arrival w.arrival refl) refl in omega (arith, k, one))
+          let k : came_as w.arrival w + weight (came_as w.arrival) ws ≡ 0 = none_from w.arrival pushed (w ∷ ws) l h in
+          let one : came_as w.arrival w ≡ 1 = rw (eq-eqb w.arrival w.arrival refl) refl in omega (arith, k, one))
     ]
 
 pub numbered_all : (pushed : ℕ) (ws : List Waiting) → IsNumbered pushed ws → AllByRecursion (λ (w : Waiting). w.arrival < pushed) ws
@@ -250,8 +250,8 @@ module _ (x : Waiting) (big small : List Waiting) (pushed : ℕ) (more : (f : Wa
       elim (cases_lt x.arrival pushed) [
         | inl l ↦ l
         | inr l ↦ absurd (
-          let one : came_as x.arrival x ≡ 1 = rw (eq-eqb x.arrival x.arrival refl) refl in
-          omega (arith, one, more (came_as x.arrival), none_from x.arrival pushed big l numbered))
+            let one : came_as x.arrival x ≡ 1 = rw (eq-eqb x.arrival x.arrival refl) refl in
+            omega (arith, one, more (came_as x.arrival), none_from x.arrival pushed big l numbered))
       ]
 
   -- where none of the others leaves before it, it leaves
@@ -270,16 +270,16 @@ pub numbered_more : (x : Waiting) (big small : List Waiting) → ((f : Waiting �
 numbered_more x big small more h n =
     elim (cases_lt n x.arrival) [
       | inl l ↦ (
-        let other : came_as n x ≡ 0 = rw (ne_eqb x.arrival n (λ e. omega (arith, e, l))) refl in
-        let old : weight (came_as n) small ≤ 1 = at_most_one n x.arrival small h in
-        rw (lt-ltb n (x.arrival + 1) (omega (arith, l))) (omega (arith, other, old, more (came_as n))))
+          let other : came_as n x ≡ 0 = rw (ne_eqb x.arrival n (λ e. omega (arith, e, l))) refl in
+          let old : weight (came_as n) small ≤ 1 = at_most_one n x.arrival small h in
+          rw (lt-ltb n (x.arrival + 1) (omega (arith, l))) (omega (arith, other, old, more (came_as n))))
       | inr l ↦ elim (eq-or-lt_of_le l) [
         | inl e ↦ (
-          let one : came_as n x ≤ 1 = elim (cases_Bool (eqb x.arrival n)) [ inl t ↦ rw t (omega arith) | inr t ↦ rw t (omega arith) ] in
-          rw (lt-ltb n (x.arrival + 1) (omega (arith, e))) (omega (arith, one, none_from n x.arrival small l h, more (came_as n))))
+            let one : came_as n x ≤ 1 = elim (cases_Bool (eqb x.arrival n)) [ inl t ↦ rw t (omega arith) | inr t ↦ rw t (omega arith) ] in
+            rw (lt-ltb n (x.arrival + 1) (omega (arith, e))) (omega (arith, one, none_from n x.arrival small l h, more (came_as n))))
         | inr k ↦ (
-          let other : came_as n x ≡ 0 = rw (ne_eqb x.arrival n (λ e. omega (arith, e, k))) refl in
-          rw (le-ltb n (x.arrival + 1) (omega (arith, k))) (omega (arith, other, none_from n x.arrival small l h, more (came_as n))))
+            let other : came_as n x ≡ 0 = rw (ne_eqb x.arrival n (λ e. omega (arith, e, k))) refl in
+            rw (le-ltb n (x.arrival + 1) (omega (arith, k))) (omega (arith, other, none_from n x.arrival small l h, more (came_as n))))
       ]
     ]
 

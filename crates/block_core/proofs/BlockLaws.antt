@@ -13,7 +13,7 @@ use Rattle.pifo_defs.specs.Queue.{Queue, put, take_least}
 use Rattle.block_core.specs.declared.waiting.Waiting.{Waiting}
 use Rattle.block_core.specs.Arrival.{weight, came_as, in_order, pair, queue_of, Precedes}
 use Rattle.block_core.specs.Stores.{waiting_in, head_of, heads_of, last_rank, Follows, IsFifo, flow_of, IsStored}
-use Rattle.block_core.specs.Block.{spills_in, held, all_of, queue_in, heap_order, IsNumbered, IsPassed, IsBlock}
+use Rattle.block_core.specs.Block.{spills_in, held, all_of, queue_in, heap_order, IsNumbered, IsPassed, IsBlock, IsCounted}
 use Rattle.block_core.proofs.Weights.{weight-append, weight-IsPermutation, weight-none, none-weight, weight-set, heads-set}
 use Rattle.block_core.proofs.ArrivalLaws.{All-append, All-weaker, same, same-self, same-is, numbered_all, numbered_more, numbered_fewer, weight-ordered, queue-pushed, queue-popped}
 use Rattle.block_core.proofs.StoreLaws.{last_rank-pushed, ranks_up_to, fifo-pushed, behind_all, last_rank-popped, stored_at, stored-set, IsHeadAt, head_found, heads_precede}
@@ -72,8 +72,8 @@ passed-set flows ss j s (w ∷ ws) l q h =
     let P : List Waiting → Type 0 = λ z. w.rank < last_rank z in (
       elim (cases_Bool (eqb (flow_of flows w.value) j)) [
         | inl t ↦ (
-          let e : flow_of flows w.value ≡ j = eqb-true (flow_of flows w.value) j t in
-          subst (λ z. P (get_or (set ss j s) z [])) (sym e) (subst P (sym (get_or-set_same ss j s [] l)) (q.0 (subst (λ z. P (get_or ss z [])) e h.0))))
+            let e : flow_of flows w.value ≡ j = eqb-true (flow_of flows w.value) j t in
+            subst (λ z. P (get_or (set ss j s) z [])) (sym e) (subst P (sym (get_or-set_same ss j s [] l)) (q.0 (subst (λ z. P (get_or ss z [])) e h.0))))
         | inr t ↦ subst P (sym (get_or-set_other ss j (flow_of flows w.value) s [] (eqb-false (flow_of flows w.value) j t))) h.0
       ],
       passed-set flows ss j s ws l q.1 h.1,
@@ -102,7 +102,7 @@ at_store P (s ∷ ss) (suc j) h = at_store P ss j (All-back P s (waiting_in ss) 
 -- ---- an entry joins the end of its flow
 module _ (ss : List (List Waiting)) (heads new_heads spilled : List (Reverse Waiting)) (x : Waiting) (j : ℕ) (b : IsBlock ss heads spilled x.arrival) (flow : flow_of (length ss) x.value ≡ j) (l : j < length ss)
     (low : last_rank (get_or ss j []) ≤ x.rank) (hs : (f : Waiting → ℕ) → weight f (held new_heads) + weight f (head_of (get_or ss j [])) ≡ weight f (held heads) + weight f (head_of (get_or ss j [] ++ x ∷ []))) (o : IsHeap heap_order new_heads) where
-  stored_more : (f : Waiting → ℕ) → weight f (all_of (set ss j (get_or ss j [] ++ x ∷ [])) (held spilled)) ≡ f x + weight f (all_of ss (held spilled))
+  pub stored_more : (f : Waiting → ℕ) → weight f (all_of (set ss j (get_or ss j [] ++ x ∷ [])) (held spilled)) ≡ f x + weight f (all_of ss (held spilled))
   stored_more f =
       omega (arith, weight-append f (waiting_in (set ss j (get_or ss j [] ++ x ∷ []))) (held spilled), weight-append f (waiting_in ss) (held spilled), weight-set f ss j (get_or ss j [] ++ x ∷ []) l, weight-append f (get_or ss j []) (x ∷ []))
 
@@ -130,7 +130,7 @@ module _ (ss : List (List Waiting)) (heads new_heads spilled : List (Reverse Wai
 -- ---- an entry spills
 module _ (ss : List (List Waiting)) (heads spilled new_spilled : List (Reverse Waiting)) (x : Reverse Waiting) (b : IsBlock ss heads spilled x.0.arrival)
     (p : IsPermutation (x ∷ spilled) new_spilled) (low : IsPassed ss x.0) (o : IsHeap heap_order new_spilled) where
-  spilt_more : (f : Waiting → ℕ) → weight f (all_of ss (held new_spilled)) ≡ f x.0 + weight f (all_of ss (held spilled))
+  pub spilt_more : (f : Waiting → ℕ) → weight f (all_of ss (held new_spilled)) ≡ f x.0 + weight f (all_of ss (held spilled))
   spilt_more f = omega (arith, weight-append f (waiting_in ss) (held new_spilled), weight-append f (waiting_in ss) (held spilled), weight-held f (x ∷ spilled) new_spilled p)
 
   pub spilt_is : IsBlock ss heads new_spilled (x.0.arrival + 1)
@@ -150,7 +150,7 @@ module _ (ss : List (List Waiting)) (heads spilled new_spilled : List (Reverse W
 -- ---- the first of what spilled leaves
 module _ (ss : List (List Waiting)) (heads spilled new_spilled : List (Reverse Waiting)) (pushed : ℕ) (x : Reverse Waiting) (b : IsBlock ss heads spilled pushed)
     (p : IsPermutation spilled (x ∷ new_spilled)) (upper : IsUpperBound heap_order x new_spilled) (first : AllByRecursion (Precedes x.0) (held heads)) (o : IsHeap heap_order new_spilled) where
-  unspilt_more : (f : Waiting → ℕ) → weight f (all_of ss (held spilled)) ≡ f x.0 + weight f (all_of ss (held new_spilled))
+  pub unspilt_more : (f : Waiting → ℕ) → weight f (all_of ss (held spilled)) ≡ f x.0 + weight f (all_of ss (held new_spilled))
   unspilt_more f = omega (arith, weight-append f (waiting_in ss) (held new_spilled), weight-append f (waiting_in ss) (held spilled), weight-held f spilled (x ∷ new_spilled) p)
 
   pub unspilt_is : IsBlock ss heads new_spilled pushed
@@ -180,7 +180,7 @@ head_at ss heads left spilled pushed x b p =
 module _ (ss : List (List Waiting)) (heads left new_heads spilled : List (Reverse Waiting)) (pushed : ℕ) (x : Reverse Waiting) (j : ℕ) (rest : List Waiting) (b : IsBlock ss heads spilled pushed)
     (p : IsPermutation heads (x ∷ left)) (upper : IsUpperBound heap_order x left) (first : AllByRecursion (Precedes x.0) (held spilled)) (l : j < length ss) (at : get_or ss j [] ≡ x.0 ∷ rest)
     (hs : (f : Waiting → ℕ) → weight f (held new_heads) ≡ weight f (held left) + weight f (head_of rest)) (o : IsHeap heap_order new_heads) where
-  led_more : (f : Waiting → ℕ) → weight f (all_of ss (held spilled)) ≡ f x.0 + weight f (all_of (set ss j rest) (held spilled))
+  pub led_more : (f : Waiting → ℕ) → weight f (all_of ss (held spilled)) ≡ f x.0 + weight f (all_of (set ss j rest) (held spilled))
   led_more f =
       omega (arith, weight-append f (waiting_in (set ss j rest)) (held spilled), weight-append f (waiting_in ss) (held spilled), weight-set f ss j rest l, ap (λ z. weight f z) at)
 
@@ -208,3 +208,165 @@ module _ (ss : List (List Waiting)) (heads left new_heads spilled : List (Revers
   led_queue =
       queue-popped x.0 (all_of ss (held spilled)) (all_of (set ss j rest) (held spilled)) pushed led_more b.numbered
       (precedes_fewer x.0 (all_of ss (held spilled)) (all_of (set ss j rest) (held spilled)) (λ f. omega (arith, led_more f)) all_precede)
+
+-- ---- which pushes spill
+abbrev spilling : ℕ → ℕ → ℕ → Waiting → Bool
+spilling flows j rank w = eqb (flow_of flows w.value) j && ltb rank w.rank
+
+abbrev spilling_one : ℕ → ℕ → ℕ → Waiting → ℕ
+spilling_one flows j rank w = cond (spilling flows j rank w) 1 0
+
+any-pairs : (flows j rank : ℕ) (ws : List Waiting) → list_any (λ (e : ℕ × ℕ). eqb (flow_of flows e.1) j && ltb rank e.0) (map pair ws) ≡ ltb 0 (weight (spilling_one flows j rank) ws)
+any-pairs flows j rank [] = sym (le-ltb 0 0 (omega arith))
+any-pairs flows j rank (w ∷ ws) =
+    elim (cases_Bool (spilling flows j rank w)) [
+      | inl t ↦ rw t (sym (lt-ltb 0 (1 + weight (spilling_one flows j rank) ws) (omega arith)))
+      | inr t ↦ rw t (any-pairs flows j rank ws ∙ ap (λ (n : ℕ). ltb 0 n) (let n : weight (spilling_one flows j rank) ws ≡ 0 + weight (spilling_one flows j rank) ws = omega arith in n))
+    ]
+
+-- a flow whose last ranks above has one that ranks above
+some_above : (flows j rank : ℕ) (s : List Waiting) → AllByRecursion (λ (w : Waiting). flow_of flows w.value ≡ j) s → rank < last_rank s → 1 ≤ weight (spilling_one flows j rank) s
+some_above flows j rank [] a l = absurd (omega (arith, l))
+some_above flows j rank (w ∷ []) a l =
+    let one : spilling_one flows j rank w ≡ 1 = rw (eq-eqb (flow_of flows w.value) j a.0) (rw (lt-ltb rank w.rank l) refl) in omega (arith, one)
+some_above flows j rank (w ∷ v ∷ s) a l = omega (arith, some_above flows j rank (v ∷ s) a.1 l)
+
+-- no store has one, where the last of the flow doesn't rank above
+none_there : (flows j rank k : ℕ) (s : List Waiting) → AllByRecursion (λ (w : Waiting). flow_of flows w.value ≡ k) s → (k ≡ j → AllByRecursion (λ (w : Waiting). w.rank ≤ rank) s) → AllByRecursion (λ w. spilling_one flows j rank w ≡ 0) s
+none_there flows j rank k [] a h = tt
+none_there flows j rank k (w ∷ s) a h = (
+  elim (cases_Bool (eqb (flow_of flows w.value) j)) [
+    | inl t ↦ rw t (rw (le-ltb rank w.rank (h (sym a.0 ∙ eqb-true (flow_of flows w.value) j t)).0) refl)
+    | inr t ↦ rw t refl
+  ],
+  none_there flows j rank k s a.1 (λ e. (h e).1),
+)
+
+none_stored : (flows j rank k : ℕ) (ss : List (List Waiting)) → IsStored flows k ss → ((i : ℕ) → k + i ≡ j → last_rank (get_or ss i []) ≤ rank) → AllByRecursion (λ w. spilling_one flows j rank w ≡ 0) (waiting_in ss)
+none_stored flows j rank k [] i h = tt
+none_stored flows j rank k (s ∷ ss) i h =
+    All-append _ s (waiting_in ss)
+    (none_there flows j rank k s i.0 (λ e. All-weaker (λ (w : Waiting). w.rank ≤ last_rank s) (λ (w : Waiting). w.rank ≤ rank) (λ w l. omega (arith, l, h 0 (omega (arith, e)))) s (ranks_up_to s i.1)))
+    (none_stored flows j rank (k + 1) ss i.2 (λ n e. h (suc n) (omega (arith, e))))
+
+none_spilled : (flows j rank : ℕ) (ss : List (List Waiting)) (ws : List Waiting) → AllByRecursion (passed_by flows ss) ws → last_rank (get_or ss j []) ≤ rank → AllByRecursion (λ w. spilling_one flows j rank w ≡ 0) ws
+none_spilled flows j rank ss [] p l = tt
+none_spilled flows j rank ss (w ∷ ws) p l = (
+  elim (cases_Bool (eqb (flow_of flows w.value) j)) [
+    | inl t ↦ (
+        let at : w.rank < last_rank (get_or ss j []) = subst (λ z. w.rank < last_rank (get_or ss z [])) (eqb-true (flow_of flows w.value) j t) p.0 in
+        rw t (rw (le-ltb rank w.rank (omega (arith, at, l))) refl))
+    | inr t ↦ rw t refl
+  ],
+  none_spilled flows j rank ss ws p.1 l,
+)
+
+-- whether one of its flow ranks above is told by the last of the flow
+pub spills-by_last : (ss : List (List Waiting)) (heads spilled : List (Reverse Waiting)) (pushed rank value j : ℕ) → IsBlock ss heads spilled pushed → j < length ss → flow_of (length ss) value ≡ j
+    → ltb rank (last_rank (get_or ss j [])) ≡ spills_in (length ss) rank value (queue_in pushed ss (held spilled))
+unfolding queue_of
+spills-by_last ss heads spilled pushed rank value j b l e =
+    let told : ltb rank (last_rank (get_or ss j [])) ≡ ltb 0 (weight (spilling_one (length ss) j rank) (all_of ss (held spilled)))
+    = elim (cases_lt rank (last_rank (get_or ss j []))) [
+      | inl above ↦ (
+          let some : 1 ≤ weight (spilling_one (length ss) j rank) (get_or ss j [])
+          = some_above (length ss) j rank (get_or ss j []) (All-weaker _ (λ (w : Waiting). flow_of (length ss) w.value ≡ j) (λ w f. omega (arith, f)) (get_or ss j []) (stored_at (length ss) 0 ss j l b.in_flows).0) above in
+          lt-ltb rank (last_rank (get_or ss j [])) above
+          ∙ sym (lt-ltb 0 (weight (spilling_one (length ss) j rank) (all_of ss (held spilled)))
+          (omega (arith, some, weight-append (spilling_one (length ss) j rank) (waiting_in ss) (held spilled), weight-set (spilling_one (length ss) j rank) ss j [] l))))
+      | inr low ↦ (
+          let none : weight (spilling_one (length ss) j rank) (all_of ss (held spilled)) ≡ 0
+          = weight-none (spilling_one (length ss) j rank) (all_of ss (held spilled))
+          (All-append _ (waiting_in ss) (held spilled) (none_stored (length ss) j rank 0 ss b.in_flows (λ i f. subst (λ z. last_rank (get_or ss z []) ≤ rank) (let g : j ≡ i = omega (arith, f) in g) low)) (none_spilled (length ss) j rank ss (held spilled) b.passed low)) in
+          le-ltb rank (last_rank (get_or ss j [])) low ∙ sym (le-ltb 0 (weight (spilling_one (length ss) j rank) (all_of ss (held spilled))) (omega (arith, none))))
+    ] in
+    told
+    ∙ ap (λ (n : ℕ). ltb 0 n) (sym (weight-ordered (spilling_one (length ss) j rank) pushed (all_of ss (held spilled)) b.numbered))
+    ∙ sym (any-pairs (length ss) j rank (in_order pushed (all_of ss (held spilled))))
+    ∙ ap (λ (z : ℕ). list_any (λ (e : ℕ × ℕ). eqb (flow_of (length ss) e.1) z && ltb rank e.0) (map pair (in_order pushed (all_of ss (held spilled))))) (sym e)
+
+-- ---- the first of an empty flow leads it
+pub heads_led : (s : List Waiting) (old new : List (Reverse Waiting)) (x : Reverse Waiting) → length s ≡ 0 → IsPermutation (x ∷ old) new
+    → (f : Waiting → ℕ) → weight f (held new) + weight f (head_of s) ≡ weight f (held old) + weight f (head_of (s ++ x.0 ∷ []))
+heads_led [] old new x e p f = omega (arith, weight-held f (x ∷ old) new p)
+heads_led (w ∷ s) old new x e p f = absurd (omega (arith, e))
+
+-- the next of a flow leads it
+pub heads_next : (s : List Waiting) (old new : List (Reverse Waiting)) (x : Reverse Waiting) → 0 < length s → x.0 ≡ get_or s 0 x.0 → IsPermutation (x ∷ old) new
+    → (f : Waiting → ℕ) → weight f (held new) ≡ weight f (held old) + weight f (head_of s)
+heads_next [] old new x l e p f = absurd (omega (arith, l))
+heads_next (w ∷ s) old new x l e p f = omega (arith, weight-held f (x ∷ old) new p, ap f e)
+
+-- ---- the first of a heap
+pub top_is : (items : List (Reverse Waiting)) (x d : Reverse Waiting) → 0 < length items → x ≡ get_or items 0 x → get_or items 0 d ≡ x
+top_is [] x d l e = absurd (omega (arith, l))
+top_is (y ∷ items) x d l e = sym e
+
+pub heap_behind : (x : Waiting) (top : Reverse Waiting) (items : List (Reverse Waiting)) → Precedes x top.0 → IsUpperBound heap_order top items → AllByRecursion (Precedes x) (held items)
+heap_behind x top items p upper = All-weaker (Precedes top.0) (Precedes x) (λ w q. precedes-trans x top.0 w p q) (held items) (heap_precedes top items upper)
+
+-- ---- where no flow has a head, nothing waits
+no_heads : (ss : List (List Waiting)) → weight (λ _. 1) (heads_of ss) ≡ 0 → (waiting_in ss ≡ []) × ((j : ℕ) → last_rank (get_or ss j []) ≡ 0)
+no_heads [] e = (refl, λ j. refl)
+no_heads ([] ∷ ss) e = let ih = no_heads ss e in (ih.0, λ j. go j ih.1)
+  where
+    go : (j : ℕ) → ((k : ℕ) → last_rank (get_or ss k []) ≡ 0) → last_rank (get_or ([] ∷ ss) j []) ≡ 0
+    go zero h = refl
+    go (suc j) h = h j
+no_heads ((w ∷ s) ∷ ss) e = absurd (omega (arith, e))
+
+none_passed : (flows : ℕ) (ss : List (List Waiting)) (ws : List Waiting) → ((j : ℕ) → last_rank (get_or ss j []) ≡ 0) → AllByRecursion (passed_by flows ss) ws → ws ≡ []
+none_passed flows ss [] h p = refl
+none_passed flows ss (w ∷ ws) h p = absurd (omega (arith, p.0, h (flow_of flows w.value)))
+
+in_order-none : (n : ℕ) → in_order n [] ≡ []
+in_order-none zero = refl
+in_order-none (suc n) = ap (λ z. z ++ []) (in_order-none n)
+
+pub nothing_waits : (ss : List (List Waiting)) (heads spilled : List (Reverse Waiting)) (pushed : ℕ) → IsBlock ss heads spilled pushed → length heads ≡ 0 → queue_in pushed ss (held spilled) ≡ []
+unfolding queue_of
+nothing_waits ss [] spilled pushed b e =
+    let none = no_heads ss (sym (b.heads_are (λ _. 1))) in
+    ap (λ z. map pair (in_order pushed (z ++ held spilled))) none.0 ∙ ap (λ z. map pair (in_order pushed z)) (none_passed (length ss) ss (held spilled) none.1 b.passed) ∙ ap (map pair) (in_order-none pushed)
+nothing_waits ss (x ∷ heads) spilled pushed b e = absurd (omega (arith, e))
+
+-- ---- how many wait
+length-pairs : (ws : List Waiting) → length (map pair ws) ≡ weight (λ _. 1) ws
+length-pairs [] = refl
+length-pairs (w ∷ ws) = omega (arith, length-pairs ws)
+
+pub length-queue_in : (ss : List (List Waiting)) (heads spilled : List (Reverse Waiting)) (pushed : ℕ) → IsBlock ss heads spilled pushed → length (queue_in pushed ss (held spilled)) ≡ weight (λ _. 1) (all_of ss (held spilled))
+unfolding queue_of
+length-queue_in ss heads spilled pushed b = length-pairs (in_order pushed (all_of ss (held spilled))) ∙ weight-ordered (λ _. 1) pushed (all_of ss (held spilled)) b.numbered
+
+-- ---- a queue that nothing came to
+nothing_in : (flows k : ℕ) (ss : List (List Waiting)) → AllByRecursion (λ (s : List Waiting). s ≡ []) ss → (waiting_in ss ≡ []) × (heads_of ss ≡ []) × IsStored flows k ss
+nothing_in flows k [] h = (refl, refl, tt)
+nothing_in flows k ([] ∷ ss) h = let ih = nothing_in flows (k + 1) ss h.1 in (ih.0, ih.1, (tt, tt, ih.2))
+nothing_in flows k ((w ∷ s) ∷ ss) h = cc
+
+pub new_is : (ss : List (List Waiting)) (heads spilled : List (Reverse Waiting)) → 1 ≤ length ss → AllByRecursion (λ (s : List Waiting). s ≡ []) ss → heads ≡ [] → spilled ≡ [] → IsHeap heap_order heads → IsHeap heap_order spilled → IsBlock ss heads spilled 0
+new_is ss [] [] some h e d o q =
+    let none = nothing_in (length ss) 0 ss h in
+    record {
+      some = some;
+      numbered = λ n. omega (arith, ap (λ z. weight (came_as n) (z ++ [])) none.0);
+      in_flows = none.2;
+      heads_are = λ f. sym (ap (λ z. weight f z) none.1);
+      passed = tt;
+      heads_order = o;
+      spilled_order = q;
+    }
+new_is ss (x ∷ heads) spilled some h e d o q = cc
+new_is ss [] (x ∷ spilled) some h e d o q = cc
+
+pub new_counted : (ss : List (List Waiting)) (spilled : List (Reverse Waiting)) → AllByRecursion (λ (s : List Waiting). s ≡ []) ss → spilled ≡ [] → IsCounted 0 0 ss (held spilled)
+new_counted ss [] h e = record { all = ap (λ z. weight (λ _. 1) (z ++ [])) (nothing_in 0 0 ss h).0; few = omega arith }
+new_counted ss (x ∷ spilled) h e = cc
+
+pub queue_in-new : (ss : List (List Waiting)) (ws : List Waiting) → queue_in 0 ss ws ≡ []
+unfolding queue_of
+queue_in-new ss ws = refl
+
+pub more_counted : (x : Waiting) (big small : List Waiting) (waiting pushed : ℕ) → ((f : Waiting → ℕ) → weight f big ≡ f x + weight f small) → weight (λ _. 1) small ≡ waiting → weight (λ _. 1) big ≡ waiting + 1
+more_counted x big small waiting pushed more e = omega (arith, more (λ _. 1), e)

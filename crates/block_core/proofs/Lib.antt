@@ -2,3 +2,4 @@ mod Weights
 mod ArrivalLaws
 mod StoreLaws
 mod BlockLaws
+mod PartLaws

@@ -74,16 +74,16 @@ head_found flows k ([] ∷ ss) h i l =
 head_found flows k ((w ∷ s) ∷ ss) h i l =
     elim (cases_lt 0 (same h w)) [
       | inl one ↦ (
-        let e : h ≡ w = same-is h w one in record {
-          place = 0;
-          flow = ap (λ (z : Waiting). flow_of flows z.value) e ∙ (let f : flow_of flows w.value ≡ k + 0 = omega (arith, i.0.0) in f);
-          within = omega arith;
-          rest = s;
-          first = ap (λ z. z ∷ s) (sym e);
-        })
+          let e : h ≡ w = same-is h w one in record {
+            place = 0;
+            flow = ap (λ (z : Waiting). flow_of flows z.value) e ∙ (let f : flow_of flows w.value ≡ k + 0 = omega (arith, i.0.0) in f);
+            within = omega arith;
+            rest = s;
+            first = ap (λ z. z ∷ s) (sym e);
+          })
       | inr none ↦ (
-        let ih = head_found flows (k + 1) ss h i.2 (omega (arith, l, none)) in
-        record { place = suc ih.place; flow = omega (arith, ih.flow); within = omega (arith, ih.within); rest = ih.rest; first = ih.first })
+          let ih = head_found flows (k + 1) ss h i.2 (omega (arith, l, none)) in
+          record { place = suc ih.place; flow = omega (arith, ih.flow); within = omega (arith, ih.within); rest = ih.rest; first = ih.first })
     ]
 
 -- what precedes a head precedes all of its flow

@@ -5,6 +5,8 @@ use Rattle.std.specs.BinaryHeap.{IsHeap}
 use Rattle.std.specs.declared.cmp.Ordering.{Ordering}
 use Rattle.std.specs.Ordering.{nat_cmp, ordering_then}
 use Rattle.std.specs.declared.cmp.Reverse.{Reverse}
+use Rattle.std.specs.declared.collections.VecDeque.{VecDeque}
+use Rattle.std.specs.VecDeque.{deque_len, deque_capacity}
 use Rattle.pifo_defs.specs.Queue.{Queue}
 use Rattle.block_core.specs.declared.waiting.Waiting.{Waiting}
 use Rattle.block_core.specs.Arrival.{weight, came_as, queue_of}
@@ -57,6 +59,15 @@ pub record IsBlock (stores : List (List Waiting)) (heads spilled : List (Reverse
   pub heads_order : IsHeap heap_order heads
   pub spilled_order : IsHeap heap_order spilled
 
--- each of these lengths is so much below its capacity
+-- how many entries each store has, and for how many it has room
+abbrev pub rooms : {Z : Type 0} → List (VecDeque Waiting Z) → List (ℕ × ℕ)
+rooms stores = map (λ s. (deque_len s, deque_capacity s)) stores
+
+-- each store has room for so many more
 abbrev pub HasSpare : ℕ → List (ℕ × ℕ) → Type 0
 HasSpare spare rooms = AllByRecursion (λ r. r.0 + spare ≤ r.1) rooms
+
+-- so many wait, and no more than came
+pub record IsCounted (waiting pushed : ℕ) (stores : List (List Waiting)) (spilled : List Waiting) : Type 0 where
+  pub all : weight (λ _. 1) (all_of stores spilled) ≡ waiting
+  pub few : waiting ≤ pushed

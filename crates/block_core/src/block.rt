@@ -1,5 +1,5 @@
 //! A queue of rank stores: a first-in first-out queue a flow, a scheduler over the heads, and what spilled.
-ghost use Rattle.std.specs.Prelude.{◌≡◌, ◌≤◌, ◌<◌, ◌+◌, ◌^◌, ℕ, true, false, [], ◌∷◌, ◌++◌, length, nat_lt, drop, slice_index_or, OnOk, OnErr, IfOk};
+ghost use Rattle.std.specs.Prelude.{◌≡◌, ◌≤◌, ◌<◌, ◌+◌, ℕ, true, false, [], ◌∷◌, ◌++◌, length, map, nat_lt, drop, slice_index_or, OnOk, IfOk};
 ghost use Rattle.std.specs.List.{AllByRecursion};
 ghost use Rattle.std.specs.BinaryHeap.{IsHeap, heap_items, heap_len, heap_capacity};
 ghost use Rattle.std.specs.VecDeque.{deque_items, deque_len, deque_capacity};
@@ -7,7 +7,7 @@ ghost use Rattle.std.specs.declared.cmp.Reverse.{Reverse};
 ghost use Rattle.block_core.specs.declared.waiting.Waiting.{Waiting};
 ghost use Rattle.block_core.specs.Arrival.{weight, Precedes};
 ghost use Rattle.block_core.specs.Stores.{head_of, last_rank, flow_of};
-ghost use Rattle.block_core.specs.Block.{held, heap_order};
+ghost use Rattle.block_core.specs.Block.{held, heap_order, rooms, HasSpare};
 
 use crate::waiting::Waiting;
 use pifo_core::Pifo;
@@ -15,6 +15,9 @@ use std::alloc::{AllocError, Global};
 use std::cmp::Reverse;
 use std::collections::{BinaryHeap, VecDeque};
 use std::marker::Model;
+
+/// For how many pushes room is made at the least, since each flow has to be looked at.
+const MARGIN: usize = 8;
 
 /// A queue whose pairs wait behind each other by flow, as long as the ranks of a flow don't fall. The head of each flow stands
 /// in a heap too, and a pair that falls below one of its own flow in a heap of its own.
@@ -25,6 +28,8 @@ pub struct BlockPifo {
     heads: BinaryHeap<Reverse<Waiting>>,
     spilled: BinaryHeap<Reverse<Waiting>>,
     pushed: u64,
+    /// How many pairs wait.
+    waiting: usize,
     /// For how many pushes there is room, whatever their flows.
     spare: usize,
 }
@@ -32,22 +37,23 @@ pub struct BlockPifo {
 impl Model for BlockPifo {
     ghost use Rattle.std.specs.Prelude.{◌+◌, ◌≤◌, length, map};
     ghost use Rattle.std.specs.BinaryHeap.{heap_items, heap_len, heap_capacity};
-    ghost use Rattle.std.specs.VecDeque.{deque_items, deque_len, deque_capacity};
-    ghost use Rattle.block_core.specs.Block.{Block, IsBlock, HasSpare, queue_in, held};
+    ghost use Rattle.std.specs.VecDeque.{deque_items};
+    ghost use Rattle.block_core.specs.Block.{Block, IsBlock, IsCounted, HasSpare, rooms, queue_in, held};
 
     ghost Value = { Block };
 
     ghost view = { λ b. record {
-        flows = length b.stores.items;
-        entries = queue_in b.pushed (map deque_items b.stores.items) (held (heap_items b.spilled));
-        pushes = b.pushed;
-        spare = b.spare;
+      flows = length b.stores.items;
+      entries = queue_in b.pushed (map deque_items b.stores.items) (held (heap_items b.spilled));
+      pushes = b.pushed;
+      spare = b.spare;
     } };
 
     ghost invariant = { λ b. IsBlock (map deque_items b.stores.items) (heap_items b.heads) (heap_items b.spilled) b.pushed
-        × HasSpare b.spare (map (λ s. (deque_len s, deque_capacity s)) b.stores.items)
+        × HasSpare b.spare (rooms b.stores.items)
         × (heap_len b.heads + b.spare ≤ heap_capacity b.heads)
-        × (heap_len b.spilled + b.spare ≤ heap_capacity b.spilled) };
+        × (heap_len b.spilled + b.spare ≤ heap_capacity b.spilled)
+        × IsCounted b.waiting b.pushed (map deque_items b.stores.items) (held (heap_items b.spilled)) };
 }
 
 impl BlockPifo {
@@ -69,6 +75,7 @@ impl BlockPifo {
             heads: BinaryHeap::new(alloc),
             spilled: BinaryHeap::new(alloc),
             pushed: 0,
+            waiting: 0,
             spare: 0,
         })
     }
@@ -92,10 +99,11 @@ impl Pifo for BlockPifo {
         if more <= self.spare {
             return Ok(());
         }
-        reserve_each(&mut self.stores, more)?;
-        self.heads.reserve(more)?;
-        self.spilled.reserve(more)?;
-        self.spare = more;
+        let ample = more.max(MARGIN);
+        reserve_each(&mut self.stores, ample)?;
+        self.heads.reserve(ample)?;
+        self.spilled.reserve(ample)?;
+        self.spare = ample;
         Ok(())
     }
 
@@ -107,6 +115,7 @@ impl Pifo for BlockPifo {
         };
         let flow = flow_of(self.stores.len(), value);
         self.pushed += 1;
+        self.waiting += 1;
         self.spare -= 1;
         if falls(&self.stores[flow], rank) {
             // There is a spare place, so this can't fail.
@@ -119,20 +128,18 @@ impl Pifo for BlockPifo {
     fn pop(&mut self) -> Option<(u64, u64)> {
         if spill_is_first(&self.heads, &self.spilled) {
             let Reverse(first) = self.spilled.pop()?;
+            self.waiting -= 1;
             return Some((first.rank, first.value));
         }
         let Reverse(first) = self.heads.pop()?;
         let flow = flow_of(self.stores.len(), first.value);
         leave_flow(&mut self.stores[flow], &mut self.heads);
+        self.waiting -= 1;
         Some((first.rank, first.value))
     }
 
     fn len(&self) -> usize {
-        let mut count = self.spilled.len();
-        for store in &self.stores {
-            count += store.len();
-        }
-        count
+        self.waiting
     }
 
     fn pushed(&self) -> u64 {
@@ -176,7 +183,7 @@ fn join_flow(
     ensures store_room { (deque_len store.new ≡ deque_len store.old + 1) × (deque_capacity store.old ≤ deque_capacity store.new) }
     ensures heads { (f : Waiting → ℕ) →
         weight f (held (heap_items heads.new)) + weight f (head_of (deque_items store.old)) ≡
-            weight f (held (heap_items heads.old)) + weight f (head_of (deque_items store.old ++ entry ∷ [])) }
+        weight f (held (heap_items heads.old)) + weight f (head_of (deque_items store.old ++ entry ∷ [])) }
     ensures order { IsHeap heap_order (heap_items heads.old) → IsHeap heap_order (heap_items heads.new) }
     ensures heads_room { (heap_len heads.new ≤ heap_len heads.old + 1) × (heap_capacity heads.old ≤ heap_capacity heads.new) }
 {
@@ -205,6 +212,14 @@ fn leave_flow(store: &mut VecDeque<Waiting>, heads: &mut BinaryHeap<Reverse<Wait
     }
 }
 
+/// Whether the first leaves before the second, or is the same.
+fn precedes(first: &Waiting, second: &Waiting) -> bool
+    ensures yes { result ≡ true → Precedes first.now second.now }
+    ensures no { result ≡ false → Precedes second.now first.now }
+{
+    first.rank < second.rank || first.rank == second.rank && first.arrival <= second.arrival
+}
+
 /// Whether the first of what spilled leaves before the first of the heads.
 fn spill_is_first(
     heads: &BinaryHeap<Reverse<Waiting>>,
@@ -219,14 +234,18 @@ fn spill_is_first(
         AllByRecursion (Precedes (slice_index_or (heap_items heads.now) 0 d).0) (held (heap_items spilled.now)) }
 {
     match (spilled.peek(), heads.peek()) {
-        (Some(spill), Some(head)) => head < spill,
+        (Some(spill), Some(head)) => !precedes(&head.0, &spill.0),
         (Some(_), None) => true,
         (None, _) => false,
     }
 }
 
 /// Makes room for so many more entries in each flow.
-fn reserve_each(stores: &mut [VecDeque<Waiting>], more: usize) -> Result<(), AllocError>
+fn reserve_each(stores: &mut Vec<VecDeque<Waiting>>, more: usize) -> Result<(), AllocError>
+    ensures count { length stores.new.items ≡ length stores.old.items }
+    ensures items { map deque_items stores.new.items ≡ map deque_items stores.old.items }
+    ensures room { OnOk result (HasSpare more (rooms stores.new.items)) }
+    ensures kept { (n : ℕ) → HasSpare n (rooms stores.old.items) → HasSpare n (rooms stores.new.items) }
 {
     for flow in 0..stores.len() {
         stores[flow].reserve(more)?;

@@ -3,6 +3,8 @@
 #![tactic(auto)]
 
 mod block;
+#[cfg(test)]
+mod tests;
 mod waiting;
 
 pub use block::BlockPifo;

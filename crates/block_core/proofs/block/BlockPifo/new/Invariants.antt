@@ -1,0 +1,9 @@
+use Rattle.std.proofs.Common.{◌≡◌, [], length, map, deque_items}
+use Rattle.std.specs.List.{AllByRecursion}
+use Rattle.block_core.proofs.block.BlockPifo.new.Given as goal
+
+abbrev pub invariant-loop : goal.invariant-loop
+invariant-loop l = record {
+  count : length l.stores.items ≡ l.counter;
+  empty : AllByRecursion (λ s. s ≡ []) (map deque_items l.stores.items);
+}
