@@ -5,7 +5,6 @@ use Rattle.std.proofs.lemmas.List.{map-set, get_or-map, length-map}
 use Rattle.block_core.specs.declared.waiting.Waiting.{Waiting}
 use Rattle.block_core.specs.Stores.{last_rank, flow_of}
 use Rattle.std.specs.declared.collections.VecDeque.{VecDeque}
-use Rattle.std.specs.VecDeque.{deque_items}
 use Rattle.block_core.specs.Block.{HasSpare, rooms, IsPassed}
 
 module _ {A : Type 0} (items : A → List Waiting) (stores : List A) where

@@ -1,11 +1,10 @@
 -- First-in first-out queues, one a flow: an entry comes or goes.
-use Rattle.std.proofs.Common.{◌≡◌, ◌≢◌, ◌≤◌, ◌<◌, ◌+◌, ◌-◌, inl, inr, ℕ, zero, suc, Bool, true, false, cond, eqb, ltb, ◌&&◌, List, [], ◌∷◌, ◌++◌, length, get_or, set, refl, ap, sym, subst, ◌∙◌, arith}
+use Rattle.std.proofs.Common.{◌≡◌, ◌≤◌, ◌<◌, ◌+◌, ◌-◌, inl, inr, ℕ, zero, suc, List, [], ◌∷◌, ◌++◌, length, get_or, set, refl, ap, sym, ◌∙◌, arith}
 use Rattle.std.specs.List.{AllByRecursion}
-use Rattle.std.proofs.lemmas.Bool.{cases_Bool, cases_lt, lt-ltb, le-ltb, eqb-true, eqb-false, eq-eqb, ne_eqb}
+use Rattle.std.proofs.lemmas.Bool.{cases_lt}
 use Rattle.block_core.specs.declared.waiting.Waiting.{Waiting}
 use Rattle.block_core.specs.Arrival.{weight, Precedes}
-use Rattle.block_core.specs.Stores.{waiting_in, head_of, heads_of, last_rank, Follows, IsFifo, flow_of, IsStored}
-use Rattle.block_core.proofs.Weights.{weight-append}
+use Rattle.block_core.specs.Stores.{waiting_in, heads_of, last_rank, Follows, IsFifo, flow_of, IsStored}
 use Rattle.block_core.proofs.ArrivalLaws.{All-append, All-weaker, same, same-is}
 
 -- ---- one flow

@@ -1,6 +1,5 @@
-use Rattle.std.proofs.Common.{◌<◌, nat_lt, ap, sym, ◌∙◌, arith, rules, deque_len, length, get_or, ◌-◌}
+use Rattle.std.proofs.Common.{◌<◌, nat_lt, ap, ◌∙◌, arith, rules, deque_len, get_or, ◌-◌}
 use Rattle.block_core.proofs.StoreLaws.{last_is}
-use Rattle.block_core.proofs.BlockLaws.{stored_is, spilt_is, unspilt_is, led_is}
 use Rattle.block_core.proofs.block.falls.Goals as goal
 
 pub returns-in-Some : goal.returns-in-Some

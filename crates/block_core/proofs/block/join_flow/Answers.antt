@@ -1,4 +1,4 @@
-use Rattle.std.proofs.Common.{◌≡◌, ◌∷◌, rules, arith, length, IsOk, heap_items, deque_len}
+use Rattle.std.proofs.Common.{◌≡◌, ◌∷◌, rules, arith, IsOk, heap_items, deque_len}
 use Rattle.std.specs.List.Sorted.{IsPermutation}
 use Rattle.std.specs.declared.cmp.Reverse.{Reverse}
 use Rattle.std.proofs.lemmas.Bool.Decides.{nat_tests}

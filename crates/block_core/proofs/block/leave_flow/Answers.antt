@@ -1,4 +1,4 @@
-use Rattle.std.proofs.Common.{◌≡◌, ◌<◌, ◌+◌, ◌∷◌, ◌∙◌, ℕ, refl, rules, arith, ap, subst, drop, length, IsOk, heap_items, deque_len, deque_items}
+use Rattle.std.proofs.Common.{◌≡◌, ◌<◌, ◌+◌, ◌∷◌, rules, arith, subst, IsOk, heap_items, deque_len}
 use Rattle.std.specs.List.Sorted.{IsPermutation}
 use Rattle.std.specs.declared.cmp.Reverse.{Reverse}
 use Rattle.block_core.specs.declared.waiting.Waiting.{Waiting}

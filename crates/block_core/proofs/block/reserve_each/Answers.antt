@@ -1,4 +1,4 @@
-use Rattle.std.proofs.Common.{refl, ◌≡◌, ◌<◌, ◌+◌, ◌∙◌, ℕ, suc, List, arith, ap, sym, subst, length, take, set, deque_items, deque_len, deque_capacity, length-set}
+use Rattle.std.proofs.Common.{refl, ◌≡◌, ◌<◌, ◌+◌, ◌∙◌, ℕ, suc, arith, ap, sym, subst, length, take, set, deque_items, deque_len, deque_capacity, length-set}
 use Rattle.std.proofs.lemmas.List.{map-set, length-map}
 use Rattle.std.proofs.Math.Seq.{map-set_same}
 use Rattle.block_core.specs.Block.{HasSpare, rooms}

@@ -1,9 +1,6 @@
-use Rattle.std.proofs.Common.{◌≡◌, ◌<◌, ◌∷◌, ◌∙◌, ℕ, true, false, refl, rules, arith, ap, sym, subst, length, get_or, heap_items, heap_len}
+use Rattle.std.proofs.Common.{◌≡◌, ◌<◌, true, false, rules, arith, sym, subst, length, heap_items}
 use Rattle.std.specs.List.{AllByRecursion}
 use Rattle.std.specs.BinaryHeap.{IsUpperBound}
-use Rattle.std.specs.declared.cmp.Reverse.{Reverse}
-use Rattle.std.proofs.lemmas.Bool.Decides.{nat_tests}
-use Rattle.block_core.specs.declared.waiting.Waiting.{Waiting}
 use Rattle.block_core.specs.Arrival.{Precedes}
 use Rattle.block_core.specs.Block.{held, heap_order}
 use Rattle.block_core.proofs.BlockLaws.{top_is, heap_behind}

@@ -1,4 +1,4 @@
-use Rattle.std.proofs.Common.{◌≡◌, ◌≤◌, rules, arith, length, map, heap_items, heap_len, deque_items}
+use Rattle.std.proofs.Common.{rules, arith, map, heap_items, deque_items}
 use Rattle.std.proofs.lemmas.List.{length-map}
 use Rattle.block_core.specs.Block.{held}
 use Rattle.block_core.proofs.BlockLaws.{new_is, new_counted, queue_in-new}

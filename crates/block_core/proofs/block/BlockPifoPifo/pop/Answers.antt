@@ -1,11 +1,10 @@
-use Rattle.std.proofs.Common.{refl, List, [], Some, ◌≡◌, ◌≤◌, ◌<◌, ◌+◌, ◌-◌, ◌∷◌, ◌∙◌, ◌++◌, ℕ, rules, arith, ap, sym, subst, drop, length, map, heap_items, heap_len, deque_items, deque_len, deque_capacity, get_or, set}
+use Rattle.std.proofs.Common.{[], Some, ◌≡◌, ◌+◌, ◌-◌, ◌∷◌, ◌∙◌, ℕ, rules, arith, ap, sym, subst, drop, length, map, heap_items, heap_len, deque_items, deque_len, deque_capacity, get_or, set}
 use Rattle.std.specs.List.{AllByRecursion}
-use Rattle.std.specs.BinaryHeap.{IsUpperBound}
 use Rattle.std.specs.declared.cmp.Reverse.{Reverse}
 use Rattle.pifo_defs.specs.Queue.{take_least}
 use Rattle.block_core.specs.declared.waiting.Waiting.{Waiting}
 use Rattle.block_core.specs.Arrival.{weight, Precedes}
-use Rattle.block_core.specs.Stores.{last_rank, flow_of, head_of}
+use Rattle.block_core.specs.Stores.{head_of}
 use Rattle.block_core.specs.Block.{held, heap_order, queue_in, IsBlock, IsCounted, all_of}
 use Rattle.block_core.proofs.StoreLaws.{IsHeadAt}
 use Rattle.block_core.proofs.BlockLaws.{unspilt_is, unspilt_more, unspilt_queue, led_is, led_more, led_queue, head_at, nothing_waits}

@@ -1,4 +1,4 @@
-use Rattle.std.proofs.Common.{◌≡◌, arith, sym, subst, map, heap_items, deque_items}
+use Rattle.std.proofs.Common.{arith, sym, subst, map, heap_items, deque_items}
 use Rattle.block_core.specs.Block.{IsBlock, IsCounted, held}
 use Rattle.block_core.proofs.block.BlockPifoPifo.reserve.Goals as goal
 
