@@ -1,5 +1,5 @@
 -- The answer for a file that is no capture.
-use Rattle.std.proofs.Common.{◌≡◌, refl, ℕ, Option, None, Some, Result, Ok, Err, List}
+use Rattle.std.proofs.Common.{◌≡◌, ℕ, Option, None, Some, Result, Ok, Err, List}
 use Rattle.std.specs.Prelude.{IfSome, IfOk, OnOk, codes}
 use Rattle.outside_core.specs.Written.{Appended}
 use Rattle.pcap_defs.specs.Contents.{no_capture}

@@ -84,7 +84,8 @@ pub fn direct<S: Shelf, K: Sink>(
     requires bounded { IsBounded task.now.pace }
 
     ensures ends { IfOk result (CanEndSo task.now.pace) }
-    ensures ending { IfOk result (λ e. IfSome (S.content shelf.old task.now.capture.now) (λ file. e ≡ (paced_answer policy.now (pace_of task.now.pace) file).ending)) }
+    ensures ending { IfOk result (λ e. IfSome (S.content shelf.old task.now.capture.now) (λ file.
+        e ≡ (paced_answer policy.now (pace_of task.now.pace) file).ending)) }
     ensures text { OnOk result (IfSome (S.content shelf.old task.now.capture.now) (λ file.
         Appended (K.written sink.old) (K.written sink.new) (paced_answer policy.now (pace_of task.now.pace) file).text)) }
     ensures part { OnErr result (IfSome (S.content shelf.old task.now.capture.now) (λ file.

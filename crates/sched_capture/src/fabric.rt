@@ -57,15 +57,18 @@ pub fn replay<S: Shelf, K: Sink, F: Fabric, T: Tap>(
     requires pops { F.popped fabric.old < 2 ^ 61 }
 
     ensures ends { IfOk result (CanEndSo task.now.pace) }
-    ensures ending { IfOk result (λ e. IfSome (S.content shelf.old task.now.capture.now) (λ file. e ≡ (paced_answer policy.now (pace_of task.now.pace) file).ending)) }
+    ensures ending { IfOk result (λ e. IfSome (S.content shelf.old task.now.capture.now) (λ file.
+        e ≡ (paced_answer policy.now (pace_of task.now.pace) file).ending)) }
     ensures text { OnOk result (IfSome (S.content shelf.old task.now.capture.now) (λ file.
         Appended (K.written sink.old) (K.written sink.new) (paced_answer policy.now (pace_of task.now.pace) file).text)) }
     ensures part { OnErr result (IfSome (S.content shelf.old task.now.capture.now) (λ file.
         AppendedPrefix (K.written sink.old) (K.written sink.new) (paced_answer policy.now (pace_of task.now.pace) file).text)) }
     ensures fabric { OnOk result (IfSome (S.content shelf.old task.now.capture.now) (λ file.
-        Leaves F.Fabric (run_of policy.now.policy (laid_by placement) (paced_answer policy.now (pace_of task.now.pace) file).events) fabric.old fabric.new)) }
+        Leaves F.Fabric (run_of policy.now.policy (laid_by placement) (paced_answer policy.now (pace_of task.now.pace) file).events)
+        fabric.old fabric.new)) }
     ensures fabric_part { OnErr result (IfSome (S.content shelf.old task.now.capture.now) (λ file.
-        LeavesPart F.Fabric (run_of policy.now.policy (laid_by placement) (paced_answer policy.now (pace_of task.now.pace) file).events) fabric.old fabric.new)) }
+        LeavesPart F.Fabric (run_of policy.now.policy (laid_by placement) (paced_answer policy.now (pace_of task.now.pace) file).events)
+        fabric.old fabric.new)) }
     ensures watched { OnOk result (IfSome (S.content shelf.old task.now.capture.now) (λ file.
         HaveWatched (shown_by policy.now.policy (paced_answer policy.now (pace_of task.now.pace) file))
         (sight_of T.kind_of T.state_of watch.old) (sight_of T.kind_of T.state_of watch.new))) }
