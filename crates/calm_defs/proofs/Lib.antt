@@ -1,0 +1,2 @@
+pub mod SpreadDigits
+pub mod EachNode
