@@ -2,5 +2,8 @@ pub mod Clamping
 pub mod Steady
 pub mod SteadyBuiltins
 pub mod SteadyNodes
+pub mod TreeFloors
+pub mod StateFloors
+pub mod ArrivalFloors
 pub mod SpreadDigits
 pub mod EachNode
