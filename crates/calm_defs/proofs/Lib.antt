@@ -7,3 +7,5 @@ pub mod StateFloors
 pub mod ArrivalFloors
 pub mod SpreadDigits
 pub mod EachNode
+pub mod OwnDigits
+pub mod LiftSpills
