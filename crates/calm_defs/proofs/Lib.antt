@@ -9,3 +9,5 @@ pub mod SpreadDigits
 pub mod EachNode
 pub mod OwnDigits
 pub mod LiftSpills
+pub mod NeverSpills
+pub mod SomeCalm

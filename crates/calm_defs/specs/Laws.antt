@@ -1,8 +1,16 @@
 -- What holds of calm policies.
-use Rattle.std.specs.Prelude.{◌≡◌, ◌↔◌, ℕ, true, Some, length, slice_index, codes}
+use Rattle.std.specs.Prelude.{◌≡◌, ◌↔◌, ℕ, true, Some, List, [], ◌∷◌, length, slice_index, codes}
 use Rattle.std.specs.List.{Contains}
 use Rattle.tree_defs.specs.Tree.{Tree, leaf, inner, Trees, Address, child, root_of, subtree}
-use Rattle.policy_defs.specs.Policy.{Node}
+use Rattle.rank_defs.specs.Programs.{Program}
+use Rattle.rank_defs.specs.Builtins.{builtin}
+use Rattle.packet_defs.specs.declared.packet.Packet.{Packet}
+use Rattle.policy_defs.specs.Policy.{Policy, Node, node_at}
+use Rattle.policy_defs.specs.Accepted.{IsAccepted}
+use Rattle.embed_lift_defs.specs.Laws.{Maps}
+use Rattle.embed_lift_defs.specs.Spilling.{push_spills}
+use Rattle.sched_defs.specs.SourceState.{SourceState, start, class_of, arrival_ranks, arrived, departed}
+use Rattle.sched_defs.specs.Events.{Event, Arrive, Depart, after, CanArrive, CanMake}
 use Rattle.calm_defs.specs.Calm.{steady, is_calm}
 
 -- ---- calm at each node
@@ -24,3 +32,40 @@ pub record IsCalmAtEachNode (tree : Tree Node) (images : Tree Address) : Type 0 
 
 abbrev pub CalmAtEachNode : Type 0
 CalmAtEachNode = (tree : Tree Node) (images : Tree Address) → (is_calm tree images ≡ true) ↔ IsCalmAtEachNode tree images
+
+-- ---- spills
+-- a node that uses the name of a built-in transaction has its program
+abbrev pub AreBuiltIn : Policy → Type 0
+AreBuiltIn policy =
+    (a : Address) (n : Node) (program : Program) → node_at policy.tree a ≡ Some n → builtin n.using ≡ Some program
+    → n.program ≡ program
+
+-- a calm policy, laid by a good map into a complete tree of height h
+pub record IsLaidCalmly (h : ℕ) (policy : Policy) (images : Tree Address) : Type 0 where
+  pub accepted : IsAccepted policy
+  pub built_in : AreBuiltIn policy
+  pub maps : Maps h (start policy).tree images
+  pub calm : is_calm policy.tree images ≡ true
+
+-- the push of a packet that arrives spills at no node
+abbrev pub SpillsNowhere : Tree Address → Policy → Packet → SourceState → Type 0
+SpillsNowhere images policy p s = push_spills images s.tree (class_of policy p).leaf (arrival_ranks policy p s) ≡ 0
+
+-- no push of these events spills
+abbrev pub NoneSpills : Tree Address → Policy → List Event → SourceState → Type 0
+NoneSpills images policy [] s = Unit {0}
+NoneSpills images policy (Arrive p ∷ events) s = SpillsNowhere images policy p s × NoneSpills images policy events (arrived policy p s)
+NoneSpills images policy (Depart start ∷ events) s = NoneSpills images policy events (departed policy s)
+
+-- after all events that can be made from the start, the push of each packet that can arrive then spills at no node
+abbrev pub CalmPoliciesNeverSpill : Type 0
+CalmPoliciesNeverSpill =
+    (h : ℕ) (policy : Policy) (images : Tree Address) (events : List Event) (p : Packet) → IsLaidCalmly h policy images
+    → CanMake policy events (start policy) → CanArrive policy (after policy events (start policy)) p
+    → SpillsNowhere images policy p (after policy events (start policy))
+
+-- and so no push of such events spills
+abbrev pub CalmRunsNeverSpill : Type 0
+CalmRunsNeverSpill =
+    (h : ℕ) (policy : Policy) (images : Tree Address) (events : List Event) → IsLaidCalmly h policy images
+    → CanMake policy events (start policy) → NoneSpills images policy events (start policy)
