@@ -1,0 +1,4 @@
+pub mod LateEvents
+pub mod SentPackets
+pub mod ReadBack
+pub mod OneLinkLaws

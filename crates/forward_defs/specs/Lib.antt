@@ -1,0 +1,4 @@
+pub mod Sendings
+pub mod Forwarded
+pub mod OneLink
+pub mod Laws

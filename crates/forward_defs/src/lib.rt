@@ -1,0 +1,9 @@
+//! What a capture of departures holds, and when a run that writes one ends. Begin with specs/Forwarded.antt.
+#![tactic(auto)]
+
+mod laws;
+
+pub use laws::{
+    a_late_departure_ends_a_run, captures_of_one_link_are_whole,
+    forwarded_departures_are_read_back, forwarded_runs_are_read_back,
+};
