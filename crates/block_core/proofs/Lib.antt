@@ -3,3 +3,4 @@ mod ArrivalLaws
 mod StoreLaws
 mod BlockLaws
 mod PartLaws
+mod NodeSpills

@@ -1,3 +1,4 @@
 pub mod Arrival
 pub mod Stores
 pub mod Block
+pub mod BlockTree

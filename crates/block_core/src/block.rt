@@ -10,6 +10,7 @@ ghost use Rattle.block_core.specs.Stores.{head_of, last_rank, flow_of};
 ghost use Rattle.block_core.specs.Block.{held, heap_order, rooms, HasSpare};
 
 use crate::waiting::Waiting;
+use fabric_core::NodeQueue;
 use pifo_core::Pifo;
 use std::alloc::{AllocError, Global};
 use std::cmp::Reverse;
@@ -89,13 +90,23 @@ impl BlockPifo {
 }
 
 impl Pifo for BlockPifo {
+    ghost use Rattle.std.specs.Prelude.{◌^◌};
+    ghost use Rattle.pifo_defs.specs.Queue.{put};
+    ghost use Rattle.pifo_core.specs.Taking.{Pops};
+
     ghost entries = { λ b. b.entries };
 
     ghost pushes = { λ b. b.pushes };
 
     ghost spare = { λ b. b.spare };
 
-    fn reserve(&mut self, more: usize) -> Result<(), AllocError> {
+    fn reserve(&mut self, more: usize) -> Result<(), AllocError>
+        ensures room { OnOk result (more ≤ self.new.spare) }
+        ensures kept { self.old.spare ≤ self.new.spare }
+        ensures entries { self.new.entries ≡ self.old.entries }
+        ensures pushes { self.new.pushes ≡ self.old.pushes }
+        ensures flows { self.new.flows ≡ self.old.flows }
+    {
         if more <= self.spare {
             return Ok(());
         }
@@ -107,7 +118,14 @@ impl Pifo for BlockPifo {
         Ok(())
     }
 
-    fn push(&mut self, rank: u64, value: u64) {
+    fn push(&mut self, rank: u64, value: u64)
+        requires room { 1 ≤ self.old.spare }
+        requires few { self.old.pushes < 2 ^ 62 }
+        ensures entries { self.new.entries ≡ put self.old.entries rank value }
+        ensures pushes { self.new.pushes ≡ self.old.pushes + 1 }
+        ensures spare { self.new.spare + 1 ≡ self.old.spare }
+        ensures flows { self.new.flows ≡ self.old.flows }
+    {
         let entry = Waiting {
             rank,
             arrival: self.pushed,
@@ -125,7 +143,12 @@ impl Pifo for BlockPifo {
         join_flow(&mut self.stores[flow], &mut self.heads, entry);
     }
 
-    fn pop(&mut self) -> Option<(u64, u64)> {
+    fn pop(&mut self) -> Option<(u64, u64)>
+        ensures taken { Pops self.old.entries result self.new.entries }
+        ensures pushes { self.new.pushes ≡ self.old.pushes }
+        ensures spare { self.old.spare ≤ self.new.spare }
+        ensures flows { self.new.flows ≡ self.old.flows }
+    {
         if spill_is_first(&self.heads, &self.spilled) {
             let Reverse(first) = self.spilled.pop()?;
             self.waiting -= 1;
@@ -144,6 +167,40 @@ impl Pifo for BlockPifo {
 
     fn pushed(&self) -> u64 {
         self.pushed
+    }
+}
+
+impl NodeQueue for BlockPifo {
+    ghost entries = { λ b. b.entries };
+
+    ghost pushes = { λ b. b.pushes };
+
+    ghost spare = { λ b. b.spare };
+
+    ghost tells = { true };
+
+    ghost flows = { λ b. b.flows };
+
+    fn empty(alloc: Global, count: u32) -> Result<BlockPifo, AllocError> {
+        BlockPifo::new(alloc, count)
+    }
+
+    fn make_room(&mut self) -> Result<(), AllocError> {
+        self.reserve(1)
+    }
+
+    fn push_pair(&mut self, rank: u64, value: u64) -> bool {
+        let spills = self.spills(rank, value);
+        self.push(rank, value);
+        spills
+    }
+
+    fn pop_pair(&mut self) -> Option<(u64, u64)> {
+        self.pop()
+    }
+
+    fn is_empty(&self) -> bool {
+        self.len() == 0
     }
 }
 

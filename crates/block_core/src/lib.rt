@@ -3,8 +3,12 @@
 #![tactic(auto)]
 
 mod block;
+mod fabric;
+#[cfg(test)]
+mod fabric_tests;
 #[cfg(test)]
 mod tests;
 mod waiting;
 
 pub use block::BlockPifo;
+pub use fabric::BlockFabric;

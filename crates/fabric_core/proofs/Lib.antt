@@ -1,11 +1,13 @@
-mod ArrayUpdates
-mod FlatLaws
+pub mod ArrayReads
+pub mod ArrayUpdates
+pub mod FabricLaws
 mod FlowLaws
+mod LevelSteps
+mod LevelWalks
 mod NodeCounts
 mod PopLaws
 mod PopSteps
 mod PushLaws
 mod PushSteps
-mod ArrayReads
 mod ReserveSteps
-mod LevelWalks
+mod SpillSteps

@@ -1,12 +1,12 @@
 -- The loop of a pop.
-use Rattle.std.proofs.Common.{◌≡◌, ◌≢◌, ℕ, ◌+◌, ◌*◌, ◌<◌, List, [], ◌∷◌, ◌++◌, length, get_or, set, take, drop, Option, Some, None, refl, sym, ap, subst, ◌∙◌, arith, length-set}
+use Rattle.std.proofs.Common.{◌≡◌, ◌≢◌, ℕ, ◌+◌, ◌*◌, ◌<◌, List, [], ◌∷◌, ◌++◌, length, map, get_or, set, take, drop, Option, Some, None, refl, sym, ap, subst, ◌∙◌, arith, length-set}
 use Rattle.std.specs.Prelude.{option_map}
 use Rattle.std.proofs.lemmas.List.{drop_more, drop_all, take_all, take_more_set, append_assoc, append-nil}
 use Rattle.std.proofs.Math.Seq.{map-set_same}
 use Rattle.pifo_defs.specs.Queue.{Queue, Taking, take_least}
 use Rattle.tree_defs.specs.Tree.{Popping, option_bind}
-use Rattle.pifo_core.specs.Sorted.{Contents}
-use Rattle.fabric_core.specs.Array.{nodes, queues_at, entries_of, pushes_of, of_last, of_digit, array_pop}
+use Rattle.fabric_core.specs.declared.node.NodeQueue.{Ghosts}
+use Rattle.fabric_core.specs.Array.{nodes, queues_at, of_last, of_digit, array_pop}
 use Rattle.fabric_core.specs.Flow.{IsFlow}
 use Rattle.fabric_defs.specs.Family.{Family}
 use Rattle.fabric_core.proofs.ArrayReads.{read-root}
@@ -30,100 +30,101 @@ resumed-none None = refl
 resumed-none (Some r) = refl
 
 -- the rest of the pop, from the node that was come to, is the whole pop, and there is something to pop
-pub record IsPopping (arities : List ℕ) (old now : List Contents) (digits ranks : List ℕ) (level begin width place : ℕ) : Type 0 where
+pub record IsPopping {Q : Type 0} (node : Ghosts Q) (arities : List ℕ) (old now : List Q) (digits ranks : List ℕ) (level begin width place : ℕ) : Type 0 where
   pub here : IsAt arities (length now) level begin width place
   pub count : length now ≡ length old
   pub digits_long : length digits ≡ length arities
   pub ranks_long : length ranks ≡ length arities + 1
-  pub flow : IsFlow (drop level arities) (queues_at (drop level arities) (entries_of now) begin width place)
-  pub some : get_or (entries_of now) (begin + place) [] ≢ []
-  pub popping : option_map (resumed (take level digits) (take level ranks)) (array_pop (drop level arities) (entries_of now) begin width place) ≡ array_pop arities (entries_of old) 0 1 0
-  pub pushes : pushes_of now ≡ pushes_of old
+  pub flow : IsFlow (drop level arities) (queues_at (drop level arities) (map node.entries now) begin width place)
+  pub some : get_or (map node.entries now) (begin + place) [] ≢ []
+  pub popping : option_map (resumed (take level digits) (take level ranks)) (array_pop (drop level arities) (map node.entries now) begin width place) ≡ array_pop arities (map node.entries old) 0 1 0
+  pub pushes : map node.pushes now ≡ map node.pushes old
 
-pub popping_first : (arities : List ℕ) (old : List Contents) (digits ranks : List ℕ) (b w p : ℕ) → nodes arities ≡ length old → length digits ≡ length arities → length ranks ≡ length arities + 1
-    → IsFlow arities (queues_at arities (entries_of old) 0 1 0) → queues_at arities (entries_of old) 0 1 0 [] ≢ [] → b ≡ 0 → w ≡ 1 → p ≡ 0 → IsPopping arities old old digits ranks 0 b w p
-popping_first arities old digits ranks b w p count ld lr flow some eb ew ep =
-    placed_as (λ x y z. IsPopping arities old old digits ranks 0 x y z) b 0 w 1 p 0 eb ew ep (record {
-      here = record { within = omega arith; counted = omega (arith, count) };
-      count = refl;
-      digits_long = ld;
-      ranks_long = lr;
-      flow = flow;
-      some = λ e. some (read-root arities (entries_of old) [] 0 1 0 ∙ e);
-      popping = resumed-none (array_pop arities (entries_of old) 0 1 0);
-      pushes = refl;
-    })
+module _ {Q : Type 0} (node : Ghosts Q) where
+  pub popping_first : (arities : List ℕ) (old : List Q) (digits ranks : List ℕ) (b w p : ℕ) → nodes arities ≡ length old → length digits ≡ length arities → length ranks ≡ length arities + 1
+      → IsFlow arities (queues_at arities (map node.entries old) 0 1 0) → queues_at arities (map node.entries old) 0 1 0 [] ≢ [] → b ≡ 0 → w ≡ 1 → p ≡ 0 → IsPopping node arities old old digits ranks 0 b w p
+  popping_first arities old digits ranks b w p count ld lr flow some eb ew ep =
+      placed_as (λ x y z. IsPopping node arities old old digits ranks 0 x y z) b 0 w 1 p 0 eb ew ep (record {
+        here = record { within = omega arith; counted = omega (arith, count) };
+        count = refl;
+        digits_long = ld;
+        ranks_long = lr;
+        flow = flow;
+        some = λ e. some (read-root arities (map node.entries old) [] 0 1 0 ∙ e);
+        popping = resumed-none (array_pop arities (map node.entries old) 0 1 0);
+        pushes = refl;
+      })
 
--- what is taken at the node that was come to
-pub taken_here : (arities : List ℕ) (old now : List Contents) (digits ranks : List ℕ) (level begin width place i : ℕ) (t : Taking) (e : Contents) → IsPopping arities old now digits ranks level begin width place → i ≡ begin + place
-    → take_least (get_or now i e).entries ≡ Some t → take_least (get_or (entries_of now) (begin + place) []) ≡ Some t
-taken_here arities old now digits ranks level begin width place i t e s ei p =
-    ap (λ (q : Queue). take_least q) (entries-at now (begin + place) e (at_index arities (length now) level begin width place s.here) ∙ ap (λ (z : ℕ). (get_or now z e).entries) (sym ei)) ∙ p
+  -- what is taken at the node that was come to
+  pub taken_here : (arities : List ℕ) (old now : List Q) (digits ranks : List ℕ) (level begin width place i : ℕ) (t : Taking) (e : Q) → IsPopping node arities old now digits ranks level begin width place → i ≡ begin + place
+      → take_least (node.entries (get_or now i e)) ≡ Some t → take_least (get_or (map node.entries now) (begin + place) []) ≡ Some t
+  taken_here arities old now digits ranks level begin width place i t e s ei p =
+      ap (λ (q : Queue). take_least q) (entries-at node now (begin + place) e (at_index arities (length now) level begin width place s.here) ∙ ap (λ (z : ℕ). (node.entries (get_or now z e))) (sym ei)) ∙ p
 
--- the flow at the node that was come to, with its arity in front
-flow_here : (arities : List ℕ) (old now : List Contents) (digits ranks : List ℕ) (level begin width place : ℕ) → level < length arities → IsPopping arities old now digits ranks level begin width place
-    → IsFlow (get_or arities level 0 ∷ drop (level + 1) arities) (queues_at (get_or arities level 0 ∷ drop (level + 1) arities) (entries_of now) begin width place)
-flow_here arities old now digits ranks level begin width place l s = subst (λ (z : List ℕ). IsFlow z (queues_at z (entries_of now) begin width place)) (drop_more arities level 0 l) s.flow
+  -- the flow at the node that was come to, with its arity in front
+  flow_here : (arities : List ℕ) (old now : List Q) (digits ranks : List ℕ) (level begin width place : ℕ) → level < length arities → IsPopping node arities old now digits ranks level begin width place
+      → IsFlow (get_or arities level 0 ∷ drop (level + 1) arities) (queues_at (get_or arities level 0 ∷ drop (level + 1) arities) (map node.entries now) begin width place)
+  flow_here arities old now digits ranks level begin width place l s = subst (λ (z : List ℕ). IsFlow z (queues_at z (map node.entries now) begin width place)) (drop_more arities level 0 l) s.flow
 
-pub digit_taken : (arities : List ℕ) (old now : List Contents) (digits ranks : List ℕ) (level begin width place i : ℕ) (t : Taking) (e : Contents) → level < length arities → IsPopping arities old now digits ranks level begin width place
-    → i ≡ begin + place → take_least (get_or now i e).entries ≡ Some t → t.value < get_or arities level 0
-digit_taken arities old now digits ranks level begin width place i t e l s ei p =
-    names-taken (get_or arities level 0) (get_or (entries_of now) (begin + place) []) t (flow_here arities old now digits ranks level begin width place l s).0 (taken_here arities old now digits ranks level begin width place i t e s ei p)
+  pub digit_taken : (arities : List ℕ) (old now : List Q) (digits ranks : List ℕ) (level begin width place i : ℕ) (t : Taking) (e : Q) → level < length arities → IsPopping node arities old now digits ranks level begin width place
+      → i ≡ begin + place → take_least (node.entries (get_or now i e)) ≡ Some t → t.value < get_or arities level 0
+  digit_taken arities old now digits ranks level begin width place i t e l s ei p =
+      names-taken (get_or arities level 0) (get_or (map node.entries now) (begin + place) []) t (flow_here arities old now digits ranks level begin width place l s).0 (taken_here arities old now digits ranks level begin width place i t e s ei p)
 
-popping_below : (arities : List ℕ) (old now : List Contents) (digits ranks : List ℕ) (level begin width place : ℕ) (t : Taking) (c e : Contents) → level < length arities → IsPopping arities old now digits ranks level begin width place
-    → take_least (get_or (entries_of now) (begin + place) []) ≡ Some t → c.entries ≡ t.rest → t.value < get_or arities level 0 → c.pushes ≡ (get_or now (begin + place) e).pushes
-    → IsPopping arities old (set now (begin + place) c) (set digits level t.value) (set ranks level t.rank) (level + 1) (begin + width) (width * get_or arities level 0) (place * get_or arities level 0 + t.value)
-popping_below arities old now digits ranks level begin width place t c e l s p rest m pushes =
-    let inside : place < width = s.here.within in
-    let flow : IsFlow (get_or arities level 0 ∷ drop (level + 1) arities) (queues_at (get_or arities level 0 ∷ drop (level + 1) arities) (entries_of now) begin width place)
-    = flow_here arities old now digits ranks level begin width place l s in
-    let after : set (entries_of now) (begin + place) t.rest ≡ entries_of (set now (begin + place) c)
-    = ap (λ (q : Queue). set (entries_of now) (begin + place) q) (sym rest) ∙ sym (entries-set now (begin + place) c) in
-    record {
-      here = subst (λ (n : ℕ). IsAt arities n (level + 1) (begin + width) (width * get_or arities level 0) (place * get_or arities level 0 + t.value)) (sym (length-set now (begin + place) c))
-          (at_child arities (length now) level begin width place t.value (begin + width) (width * get_or arities level 0) (place * get_or arities level 0 + t.value) l m s.here refl refl refl);
-      count = length-set now (begin + place) c ∙ s.count;
-      digits_long = length-set digits level t.value ∙ s.digits_long;
-      ranks_long = length-set ranks level t.rank ∙ s.ranks_long;
-      flow = subst (λ (z : List Queue). IsFlow (drop (level + 1) arities) (queues_at (drop (level + 1) arities) z (begin + width) (width * get_or arities level 0) (place * get_or arities level 0 + t.value))) after
-          (flow-child (get_or arities level 0) (drop (level + 1) arities) (entries_of now) t.rest begin width place (begin + place) t.value (omega arith) m flow);
-      some = λ none. child-waits (get_or arities level 0) (drop (level + 1) arities) (queues_at (get_or arities level 0 ∷ drop (level + 1) arities) (entries_of now) begin width place) t flow p
-          (ap (λ (F : Family). F []) (queues-child (get_or arities level 0) (drop (level + 1) arities) (entries_of now) t.rest begin width place (begin + place) t.value (omega arith) m)
-          ∙ read-root (drop (level + 1) arities) (set (entries_of now) (begin + place) t.rest) [] (begin + width) (width * get_or arities level 0) (place * get_or arities level 0 + t.value)
-          ∙ ap (λ (z : List Queue). get_or z ((begin + width) + (place * get_or arities level 0 + t.value)) []) after ∙ none);
-      popping =
-          ap (λ (z : List ℕ). option_map (resumed z (take (level + 1) (set ranks level t.rank))) (array_pop (drop (level + 1) arities) (entries_of (set now (begin + place) c)) (begin + width) (width * get_or arities level 0) (place * get_or arities level 0 + t.value))) (take_more_set digits level t.value (omega (arith, s.digits_long)))
-          ∙ ap (λ (z : List ℕ). option_map (resumed (take level digits ++ t.value ∷ []) z) (array_pop (drop (level + 1) arities) (entries_of (set now (begin + place) c)) (begin + width) (width * get_or arities level 0) (place * get_or arities level 0 + t.value))) (take_more_set ranks level t.rank (omega (arith, s.ranks_long)))
-          ∙ ap (λ (z : List Queue). option_map (resumed (take level digits ++ t.value ∷ []) (take level ranks ++ t.rank ∷ [])) (array_pop (drop (level + 1) arities) z (begin + width) (width * get_or arities level 0) (place * get_or arities level 0 + t.value))) (sym after)
-          ∙ sym (resumed-digit (take level digits) (take level ranks) t (array_pop (drop (level + 1) arities) (set (entries_of now) (begin + place) t.rest) (begin + width) (width * get_or arities level 0) (place * get_or arities level 0 + t.value)))
-          ∙ sym (ap (λ (o : Option Taking). option_map (resumed (take level digits) (take level ranks)) (option_bind o (λ u. option_map (of_digit u) (array_pop (drop (level + 1) arities) (set (entries_of now) (begin + place) u.rest) (begin + width) (width * get_or arities level 0) (place * get_or arities level 0 + u.value))))) p)
-          ∙ subst (λ (z : List ℕ). option_map (resumed (take level digits) (take level ranks)) (array_pop z (entries_of now) begin width place) ≡ array_pop arities (entries_of old) 0 1 0) (drop_more arities level 0 l) s.popping;
-      pushes = map-set_same (λ q. q.pushes) now (begin + place) c e pushes ∙ s.pushes;
-    }
+  popping_below : (arities : List ℕ) (old now : List Q) (digits ranks : List ℕ) (level begin width place : ℕ) (t : Taking) (c e : Q) → level < length arities → IsPopping node arities old now digits ranks level begin width place
+      → take_least (get_or (map node.entries now) (begin + place) []) ≡ Some t → node.entries c ≡ t.rest → t.value < get_or arities level 0 → node.pushes c ≡ node.pushes (get_or now (begin + place) e)
+      → IsPopping node arities old (set now (begin + place) c) (set digits level t.value) (set ranks level t.rank) (level + 1) (begin + width) (width * get_or arities level 0) (place * get_or arities level 0 + t.value)
+  popping_below arities old now digits ranks level begin width place t c e l s p rest m pushes =
+      let inside : place < width = s.here.within in
+      let flow : IsFlow (get_or arities level 0 ∷ drop (level + 1) arities) (queues_at (get_or arities level 0 ∷ drop (level + 1) arities) (map node.entries now) begin width place)
+      = flow_here arities old now digits ranks level begin width place l s in
+      let after : set (map node.entries now) (begin + place) t.rest ≡ map node.entries (set now (begin + place) c)
+      = ap (λ (q : Queue). set (map node.entries now) (begin + place) q) (sym rest) ∙ sym (entries-set node now (begin + place) c) in
+      record {
+        here = subst (λ (n : ℕ). IsAt arities n (level + 1) (begin + width) (width * get_or arities level 0) (place * get_or arities level 0 + t.value)) (sym (length-set now (begin + place) c))
+            (at_child arities (length now) level begin width place t.value (begin + width) (width * get_or arities level 0) (place * get_or arities level 0 + t.value) l m s.here refl refl refl);
+        count = length-set now (begin + place) c ∙ s.count;
+        digits_long = length-set digits level t.value ∙ s.digits_long;
+        ranks_long = length-set ranks level t.rank ∙ s.ranks_long;
+        flow = subst (λ (z : List Queue). IsFlow (drop (level + 1) arities) (queues_at (drop (level + 1) arities) z (begin + width) (width * get_or arities level 0) (place * get_or arities level 0 + t.value))) after
+            (flow-child (get_or arities level 0) (drop (level + 1) arities) (map node.entries now) t.rest begin width place (begin + place) t.value (omega arith) m flow);
+        some = λ none. child-waits (get_or arities level 0) (drop (level + 1) arities) (queues_at (get_or arities level 0 ∷ drop (level + 1) arities) (map node.entries now) begin width place) t flow p
+            (ap (λ (F : Family). F []) (queues-child (get_or arities level 0) (drop (level + 1) arities) (map node.entries now) t.rest begin width place (begin + place) t.value (omega arith) m)
+            ∙ read-root (drop (level + 1) arities) (set (map node.entries now) (begin + place) t.rest) [] (begin + width) (width * get_or arities level 0) (place * get_or arities level 0 + t.value)
+            ∙ ap (λ (z : List Queue). get_or z ((begin + width) + (place * get_or arities level 0 + t.value)) []) after ∙ none);
+        popping =
+            ap (λ (z : List ℕ). option_map (resumed z (take (level + 1) (set ranks level t.rank))) (array_pop (drop (level + 1) arities) (map node.entries (set now (begin + place) c)) (begin + width) (width * get_or arities level 0) (place * get_or arities level 0 + t.value))) (take_more_set digits level t.value (omega (arith, s.digits_long)))
+            ∙ ap (λ (z : List ℕ). option_map (resumed (take level digits ++ t.value ∷ []) z) (array_pop (drop (level + 1) arities) (map node.entries (set now (begin + place) c)) (begin + width) (width * get_or arities level 0) (place * get_or arities level 0 + t.value))) (take_more_set ranks level t.rank (omega (arith, s.ranks_long)))
+            ∙ ap (λ (z : List Queue). option_map (resumed (take level digits ++ t.value ∷ []) (take level ranks ++ t.rank ∷ [])) (array_pop (drop (level + 1) arities) z (begin + width) (width * get_or arities level 0) (place * get_or arities level 0 + t.value))) (sym after)
+            ∙ sym (resumed-digit (take level digits) (take level ranks) t (array_pop (drop (level + 1) arities) (set (map node.entries now) (begin + place) t.rest) (begin + width) (width * get_or arities level 0) (place * get_or arities level 0 + t.value)))
+            ∙ sym (ap (λ (o : Option Taking). option_map (resumed (take level digits) (take level ranks)) (option_bind o (λ u. option_map (of_digit u) (array_pop (drop (level + 1) arities) (set (map node.entries now) (begin + place) u.rest) (begin + width) (width * get_or arities level 0) (place * get_or arities level 0 + u.value))))) p)
+            ∙ subst (λ (z : List ℕ). option_map (resumed (take level digits) (take level ranks)) (array_pop z (map node.entries now) begin width place) ≡ array_pop arities (map node.entries old) 0 1 0) (drop_more arities level 0 l) s.popping;
+        pushes = map-set_same node.pushes now (begin + place) c e pushes ∙ s.pushes;
+      }
 
-pub popping_next : (arities : List ℕ) (old now : List Contents) (digits ranks : List ℕ) (level begin width place i b w p : ℕ) (t : Taking) (c e : Contents) → level < length arities → IsPopping arities old now digits ranks level begin width place
-    → i ≡ begin + place → take_least (get_or now i e).entries ≡ Some t → c.entries ≡ t.rest → c.pushes ≡ (get_or now i e).pushes
-    → b ≡ begin + width → w ≡ width * get_or arities level 0 → p ≡ place * get_or arities level 0 + t.value
-    → IsPopping arities old (set now i c) (set digits level t.value) (set ranks level t.rank) (level + 1) b w p
-popping_next arities old now digits ranks level begin width place i b w p t c e l s ei least rest pushes eb ew ep =
-    placed_as (λ x y z. IsPopping arities old (set now i c) (set digits level t.value) (set ranks level t.rank) (level + 1) x y z) b (begin + width) w (width * get_or arities level 0) p (place * get_or arities level 0 + t.value) eb ew ep
-    (subst (λ (n : ℕ). c.pushes ≡ (get_or now n e).pushes → IsPopping arities old (set now n c) (set digits level t.value) (set ranks level t.rank) (level + 1) (begin + width) (width * get_or arities level 0) (place * get_or arities level 0 + t.value)) (sym ei)
-    (popping_below arities old now digits ranks level begin width place t c e l s (taken_here arities old now digits ranks level begin width place i t e s ei least) rest (digit_taken arities old now digits ranks level begin width place i t e l s ei least))
-    pushes)
+  pub popping_next : (arities : List ℕ) (old now : List Q) (digits ranks : List ℕ) (level begin width place i b w p : ℕ) (t : Taking) (c e : Q) → level < length arities → IsPopping node arities old now digits ranks level begin width place
+      → i ≡ begin + place → take_least (node.entries (get_or now i e)) ≡ Some t → node.entries c ≡ t.rest → node.pushes c ≡ node.pushes (get_or now i e)
+      → b ≡ begin + width → w ≡ width * get_or arities level 0 → p ≡ place * get_or arities level 0 + t.value
+      → IsPopping node arities old (set now i c) (set digits level t.value) (set ranks level t.rank) (level + 1) b w p
+  popping_next arities old now digits ranks level begin width place i b w p t c e l s ei least rest pushes eb ew ep =
+      placed_as (λ x y z. IsPopping node arities old (set now i c) (set digits level t.value) (set ranks level t.rank) (level + 1) x y z) b (begin + width) w (width * get_or arities level 0) p (place * get_or arities level 0 + t.value) eb ew ep
+      (subst (λ (n : ℕ). node.pushes c ≡ node.pushes (get_or now n e) → IsPopping node arities old (set now n c) (set digits level t.value) (set ranks level t.rank) (level + 1) (begin + width) (width * get_or arities level 0) (place * get_or arities level 0 + t.value)) (sym ei)
+      (popping_below arities old now digits ranks level begin width place t c e l s (taken_here arities old now digits ranks level begin width place i t e s ei least) rest (digit_taken arities old now digits ranks level begin width place i t e l s ei least))
+      pushes)
 
--- the last step, at the leaf
-pub popped_last : (arities : List ℕ) (old now : List Contents) (digits ranks : List ℕ) (level begin width place end i : ℕ) (t : Taking) (c e : Contents) → level ≡ end → end ≡ length arities → IsPopping arities old now digits ranks level begin width place
-    → i ≡ begin + place → take_least (get_or now i e).entries ≡ Some t → c.entries ≡ t.rest
-    → array_pop arities (entries_of old) 0 1 0 ≡ Some (record { value = t.value; digits = digits; ranks = set ranks end t.rank; left = entries_of (set now i c) })
-popped_last arities old now digits ranks level begin width place end i t c e le l s ei least rest =
-    let p : take_least (get_or (entries_of now) (begin + place) []) ≡ Some t = taken_here arities old now digits ranks level begin width place i t e s ei least in
-    let after : set (entries_of now) (begin + place) t.rest ≡ entries_of (set now i c)
-    = ap (λ (q : Queue). set (entries_of now) (begin + place) q) (sym rest) ∙ ap (λ (z : ℕ). set (entries_of now) z c.entries) (sym ei) ∙ sym (entries-set now i c) in
-    let ds : take level digits ++ [] ≡ digits = append-nil (take level digits) ∙ take_all level digits (omega (arith, le, l, s.digits_long)) in
-    let rs : take level ranks ++ t.rank ∷ [] ≡ set ranks end t.rank
-    = sym (take_more_set ranks level t.rank (omega (arith, l, s.ranks_long))) ∙ take_all (level + 1) (set ranks level t.rank) (omega (arith, l, s.ranks_long, length-set ranks level t.rank)) ∙ ap (λ (z : ℕ). set ranks z t.rank) le in
-    sym (subst (λ (z : List ℕ). option_map (resumed (take level digits) (take level ranks)) (array_pop z (entries_of now) begin width place) ≡ array_pop arities (entries_of old) 0 1 0) (drop_all level arities (omega (arith, le, l))) s.popping)
-    ∙ ap (λ (o : Option Taking). option_map (resumed (take level digits) (take level ranks)) (option_map (of_last (entries_of now) (begin + place)) o)) p
-    ∙ ap (λ (z : List ℕ). Some (record { value = t.value; digits = z; ranks = take level ranks ++ t.rank ∷ []; left = set (entries_of now) (begin + place) t.rest })) ds
-    ∙ ap (λ (z : List ℕ). Some (record { value = t.value; digits = digits; ranks = z; left = set (entries_of now) (begin + place) t.rest })) rs
-    ∙ ap (λ (z : List Queue). Some (record { value = t.value; digits = digits; ranks = set ranks end t.rank; left = z })) after
+  -- the last step, at the leaf
+  pub popped_last : (arities : List ℕ) (old now : List Q) (digits ranks : List ℕ) (level begin width place end i : ℕ) (t : Taking) (c e : Q) → level ≡ end → end ≡ length arities → IsPopping node arities old now digits ranks level begin width place
+      → i ≡ begin + place → take_least (node.entries (get_or now i e)) ≡ Some t → node.entries c ≡ t.rest
+      → array_pop arities (map node.entries old) 0 1 0 ≡ Some (record { value = t.value; digits = digits; ranks = set ranks end t.rank; left = map node.entries (set now i c) })
+  popped_last arities old now digits ranks level begin width place end i t c e le l s ei least rest =
+      let p : take_least (get_or (map node.entries now) (begin + place) []) ≡ Some t = taken_here arities old now digits ranks level begin width place i t e s ei least in
+      let after : set (map node.entries now) (begin + place) t.rest ≡ map node.entries (set now i c)
+      = ap (λ (q : Queue). set (map node.entries now) (begin + place) q) (sym rest) ∙ ap (λ (z : ℕ). set (map node.entries now) z (node.entries c)) (sym ei) ∙ sym (entries-set node now i c) in
+      let ds : take level digits ++ [] ≡ digits = append-nil (take level digits) ∙ take_all level digits (omega (arith, le, l, s.digits_long)) in
+      let rs : take level ranks ++ t.rank ∷ [] ≡ set ranks end t.rank
+      = sym (take_more_set ranks level t.rank (omega (arith, l, s.ranks_long))) ∙ take_all (level + 1) (set ranks level t.rank) (omega (arith, l, s.ranks_long, length-set ranks level t.rank)) ∙ ap (λ (z : ℕ). set ranks z t.rank) le in
+      sym (subst (λ (z : List ℕ). option_map (resumed (take level digits) (take level ranks)) (array_pop z (map node.entries now) begin width place) ≡ array_pop arities (map node.entries old) 0 1 0) (drop_all level arities (omega (arith, le, l))) s.popping)
+      ∙ ap (λ (o : Option Taking). option_map (resumed (take level digits) (take level ranks)) (option_map (of_last (map node.entries now) (begin + place)) o)) p
+      ∙ ap (λ (z : List ℕ). Some (record { value = t.value; digits = z; ranks = take level ranks ++ t.rank ∷ []; left = set (map node.entries now) (begin + place) t.rest })) ds
+      ∙ ap (λ (z : List ℕ). Some (record { value = t.value; digits = digits; ranks = z; left = set (map node.entries now) (begin + place) t.rest })) rs
+      ∙ ap (λ (z : List Queue). Some (record { value = t.value; digits = digits; ranks = set ranks end t.rank; left = z })) after

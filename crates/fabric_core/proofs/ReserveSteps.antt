@@ -1,11 +1,11 @@
 -- The loop that makes room.
-use Rattle.std.proofs.Common.{◌≡◌, ℕ, ◌+◌, ◌*◌, ◌<◌, ◌≤◌, eqb, List, [], ◌∷◌, length, get_or, set, drop, sym, subst, arith, inl, inr, get_or-set_same, get_or-set_other}
+use Rattle.std.proofs.Common.{◌≡◌, ℕ, ◌+◌, ◌*◌, ◌<◌, ◌≤◌, eqb, List, [], ◌∷◌, length, map, get_or, set, drop, sym, subst, arith, inl, inr, get_or-set_same, get_or-set_other}
 use Rattle.std.proofs.lemmas.List.{drop_more, drop_all}
 use Rattle.std.proofs.lemmas.Bool.{cases_Bool, eqb-true, eqb-false}
 use mathlib.Core.Path.{fun_ext}
-use Rattle.pifo_core.specs.Sorted.{Contents}
+use Rattle.fabric_core.specs.declared.node.NodeQueue.{Ghosts}
 use Rattle.fabric_defs.specs.Family.{Address, IsLeafAddress, HasRoomAlong}
-use Rattle.fabric_core.specs.Array.{room_at, spare_of}
+use Rattle.fabric_core.specs.Array.{room_at}
 use Rattle.fabric_core.proofs.ArrayReads.{read-below}
 use Rattle.fabric_core.proofs.LevelWalks.{leaf_length, digit_below}
 use Rattle.fabric_core.proofs.ArrayUpdates.{spare-at, spare-set, length-spare}
@@ -61,20 +61,21 @@ room_last arities digits spare level begin width place i k leaf l within s ei ke
     (let here : 0 < get_or (set spare (begin + place) k) (begin + place) 0 = omega (arith, get_or-set_same spare (begin + place) k 0 within, some) in here))))
 
 -- ---- the same on the queues
-spare_kept : (qs : List Contents) (n i k : ℕ) (e : Contents) → n < length qs → i ≡ n → (get_or qs i e).spare ≤ k → get_or (spare_of qs) n 0 ≤ k
-spare_kept qs n i k e l ei m = let same : (get_or qs n e).spare ≤ k = subst (λ (z : ℕ). (get_or qs z e).spare ≤ k) ei m in omega (arith, spare-at qs n e l, same)
+module _ {Q : Type 0} (node : Ghosts Q) where
+  spare_kept : (qs : List Q) (n i k : ℕ) (e : Q) → n < length qs → i ≡ n → node.spare (get_or qs i e) ≤ k → get_or (map node.spare qs) n 0 ≤ k
+  spare_kept qs n i k e l ei m = let same : node.spare (get_or qs n e) ≤ k = subst (λ (z : ℕ). node.spare (get_or qs z e) ≤ k) ei m in omega (arith, spare-at node qs n e l, same)
 
-pub room_next_queue : (arities digits : List ℕ) (qs : List Contents) (level begin width place i b w p : ℕ) (c e : Contents) → IsLeafAddress arities digits → level < length digits → begin + place < length qs
-    → HasRoomSoFar arities digits level (spare_of qs) begin width place → i ≡ begin + place → (get_or qs i e).spare ≤ c.spare → 1 ≤ c.spare
-    → b ≡ begin + width → w ≡ width * get_or arities level 0 → p ≡ place * get_or arities level 0 + get_or digits level 0
-    → HasRoomSoFar arities digits (level + 1) (spare_of (set qs i c)) b w p
-room_next_queue arities digits qs level begin width place i b w p c e leaf l within s ei kept some eb ew ep =
-    subst (λ (z : List ℕ). HasRoomSoFar arities digits (level + 1) z b w p) (sym (spare-set qs i c))
-    (room_next arities digits (spare_of qs) level begin width place i c.spare b w p leaf l (omega (arith, within, length-spare qs)) s ei (spare_kept qs (begin + place) i c.spare e within ei kept) some eb ew ep)
+  pub room_next_queue : (arities digits : List ℕ) (qs : List Q) (level begin width place i b w p : ℕ) (c e : Q) → IsLeafAddress arities digits → level < length digits → begin + place < length qs
+      → HasRoomSoFar arities digits level (map node.spare qs) begin width place → i ≡ begin + place → node.spare (get_or qs i e) ≤ node.spare c → 1 ≤ node.spare c
+      → b ≡ begin + width → w ≡ width * get_or arities level 0 → p ≡ place * get_or arities level 0 + get_or digits level 0
+      → HasRoomSoFar arities digits (level + 1) (map node.spare (set qs i c)) b w p
+  room_next_queue arities digits qs level begin width place i b w p c e leaf l within s ei kept some eb ew ep =
+      subst (λ (z : List ℕ). HasRoomSoFar arities digits (level + 1) z b w p) (sym (spare-set node qs i c))
+      (room_next arities digits (map node.spare qs) level begin width place i (node.spare c) b w p leaf l (omega (arith, within, length-spare node qs)) s ei (spare_kept qs (begin + place) i (node.spare c) e within ei kept) some eb ew ep)
 
-pub room_last_queue : (arities digits : List ℕ) (qs : List Contents) (level begin width place i : ℕ) (c e : Contents) → IsLeafAddress arities digits → length digits ≤ level → begin + place < length qs
-    → HasRoomSoFar arities digits level (spare_of qs) begin width place → i ≡ begin + place → (get_or qs i e).spare ≤ c.spare → 1 ≤ c.spare
-    → HasRoomAlong (room_at arities (spare_of (set qs i c)) 0 1 0) digits
-room_last_queue arities digits qs level begin width place i c e leaf l within s ei kept some =
-    subst (λ (z : List ℕ). HasRoomAlong (room_at arities z 0 1 0) digits) (sym (spare-set qs i c))
-    (room_last arities digits (spare_of qs) level begin width place i c.spare leaf l (omega (arith, within, length-spare qs)) s ei (spare_kept qs (begin + place) i c.spare e within ei kept) some)
+  pub room_last_queue : (arities digits : List ℕ) (qs : List Q) (level begin width place i : ℕ) (c e : Q) → IsLeafAddress arities digits → length digits ≤ level → begin + place < length qs
+      → HasRoomSoFar arities digits level (map node.spare qs) begin width place → i ≡ begin + place → node.spare (get_or qs i e) ≤ node.spare c → 1 ≤ node.spare c
+      → HasRoomAlong (room_at arities (map node.spare (set qs i c)) 0 1 0) digits
+  room_last_queue arities digits qs level begin width place i c e leaf l within s ei kept some =
+      subst (λ (z : List ℕ). HasRoomAlong (room_at arities z 0 1 0) digits) (sym (spare-set node qs i c))
+      (room_last arities digits (map node.spare qs) level begin width place i (node.spare c) leaf l (omega (arith, within, length-spare node qs)) s ei (spare_kept qs (begin + place) i (node.spare c) e within ei kept) some)

@@ -1,9 +1,8 @@
 -- The queues of a complete tree in one array, level by level from the root. Child x of the node at a place of its level
 -- stands at that place times the level's arity, and x, of the level below.
-use Rattle.std.specs.Prelude.{◌≡◌, refl, ℕ, ◌+◌, ◌*◌, List, [], ◌∷◌, Option, Some, option_map, map, nat_lt, slice_index, slice_index_or, slice_set, drop, if◌then◌else◌}
+use Rattle.std.specs.Prelude.{◌≡◌, refl, ℕ, ◌+◌, ◌*◌, List, [], ◌∷◌, Option, Some, option_map, nat_lt, slice_index, slice_index_or, slice_set, drop, if◌then◌else◌}
 use Rattle.pifo_defs.specs.Queue.{Queue, Taking, put, take_least}
 use Rattle.tree_defs.specs.Tree.{Popping, option_bind}
-use Rattle.pifo_core.specs.Sorted.{Contents}
 use Rattle.fabric_defs.specs.Family.{Address, Family}
 
 -- the number of nodes of the complete tree of these arities
@@ -24,15 +23,8 @@ queues_at arities queues = read arities queues []
 abbrev pub room_at : List ℕ → List ℕ → ℕ → ℕ → ℕ → Address → ℕ
 room_at arities spare = read arities spare 0
 
--- ---- the parts of an array of queues
-abbrev pub entries_of : List Contents → List Queue
-entries_of queues = map (λ q. q.entries) queues
-
-abbrev pub pushes_of : List Contents → List ℕ
-pushes_of queues = map (λ q. q.pushes) queues
-
-abbrev pub spare_of : List Contents → List ℕ
-spare_of queues = map (λ q. q.spare) queues
+abbrev pub flows_at : List ℕ → List ℕ → ℕ → ℕ → ℕ → Address → ℕ
+flows_at arities flows = read arities flows 0
 
 -- ---- pushes
 abbrev pub put_at : List Queue → ℕ → ℕ → ℕ → List Queue

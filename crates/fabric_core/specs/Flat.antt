@@ -1,10 +1,9 @@
 -- What a flat fabric is.
-use Rattle.std.specs.Prelude.{ℕ, ◌≡◌, ◌≤◌, ◌<◌, ◌^◌, [], List, length}
-use Rattle.std.specs.List.{AllByRecursion}
+use Rattle.std.specs.Prelude.{ℕ, ◌≡◌, [], List, map}
+use Rattle.pifo_defs.specs.Queue.{Queue}
 use Rattle.pifo_core.specs.Sorted.{Contents}
 use Rattle.fabric_defs.specs.Family.{Address, Family, IsEmpty}
-use Rattle.fabric_core.specs.Array.{nodes, queues_at, room_at, entries_of, pushes_of, spare_of}
-use Rattle.fabric_core.specs.Flow.{IsFlow}
+use Rattle.fabric_core.specs.Array.{queues_at, room_at}
 
 -- what contracts see of it
 pub record Flat : Type 0 where
@@ -13,6 +12,16 @@ pub record Flat : Type 0 where
   pub pushed : ℕ
   pub popped : ℕ
 
+-- ---- the parts of its queues
+abbrev pub entries_of : List Contents → List Queue
+entries_of queues = map (λ q. q.entries) queues
+
+abbrev pub pushes_of : List Contents → List ℕ
+pushes_of queues = map (λ q. q.pushes) queues
+
+abbrev pub spare_of : List Contents → List ℕ
+spare_of queues = map (λ q. q.spare) queues
+
 -- the queue at each address from the root
 abbrev pub flat_queues : Flat → Family
 flat_queues f = queues_at f.arities (entries_of f.queues) 0 1 0
@@ -20,13 +29,6 @@ flat_queues f = queues_at f.arities (entries_of f.queues) 0 1 0
 -- the spare places of the queue at each address
 abbrev pub flat_room : Flat → Address → ℕ
 flat_room f = room_at f.arities (spare_of f.queues) 0 1 0
-
--- there is a queue for each node, none had more pushes than the fabric, and what stands at each node has come from its parent
-pub record IsSound (arities : List ℕ) (queues : List Contents) (pushed : ℕ) : Type 0 where
-  pub nodes : nodes arities ≡ length queues
-  pub small : length queues < 2 ^ 32
-  pub pushes : AllByRecursion (λ n. n ≤ pushed) (pushes_of queues)
-  pub flow : IsFlow arities (queues_at arities (entries_of queues) 0 1 0)
 
 -- a single leaf without an entry, a push or a pop
 pub record IsNew (f : Flat) : Type 0 where

@@ -1,10 +1,11 @@
 //! The flat model of the hardware: all queues in one array.
-ghost use Rattle.std.specs.Prelude.{◌≡◌, [], length, IfOk};
-ghost use Rattle.std.specs.List.{AllByRecursion};
+ghost use Rattle.std.specs.Prelude.{IfOk};
 
 use crate::fabric::Fabric;
-use crate::walk::{nodes, pop_along, push_along, reserve_along};
-use pifo_core::{HeapPifo, Pifo};
+use crate::levels::empty_queues;
+use crate::node::NodeQueue;
+use crate::walk::{pop_along, push_along, reserve_along};
+use pifo_core::HeapPifo;
 use std::alloc::{AllocError, Global};
 use std::marker::Model;
 
@@ -19,25 +20,14 @@ pub struct FlatFabric {
 }
 
 impl Model for FlatFabric {
-    ghost use Rattle.fabric_core.specs.Flat.{Flat, IsSound};
+    ghost use Rattle.fabric_core.specs.Flow.{IsSound};
+    ghost use Rattle.fabric_core.specs.Flat.{Flat, entries_of, pushes_of};
 
     ghost Value = { Flat };
 
     ghost view = { λ f. record { arities = f.arities.items; queues = f.queues.items; pushed = f.pushed; popped = f.popped } };
 
-    ghost invariant = { λ f. IsSound f.arities.items f.queues.items f.pushed };
-}
-
-/// So many queues without an entry.
-fn empty_queues(alloc: Global, count: usize) -> Result<Vec<HeapPifo>, AllocError>
-    ensures count { IfOk result (λ v. length v.items ≡ count) }
-    ensures empty { IfOk result (λ v. AllByRecursion (λ q. (q.entries ≡ []) × (q.pushes ≡ 0)) v.items) }
-{
-    let mut queues = Vec::new(alloc);
-    for _ in 0..count {
-        queues.push(HeapPifo::new(alloc))?;
-    }
-    Ok(queues)
+    ghost invariant = { λ f. IsSound f.arities.items (entries_of f.queues.items) (pushes_of f.queues.items) f.pushed };
 }
 
 impl FlatFabric {
@@ -50,7 +40,7 @@ impl FlatFabric {
         Ok(FlatFabric {
             alloc,
             arities: Vec::new(alloc),
-            queues: empty_queues(alloc, 1)?,
+            queues: empty_queues(alloc, &[])?,
             pushed: 0,
             popped: 0,
         })
@@ -74,7 +64,7 @@ impl Fabric for FlatFabric {
     ghost room = { λ f. flat_room f };
 
     fn configure(&mut self, arities: &[u32]) -> Result<(), AllocError> {
-        let queues = empty_queues(self.alloc, nodes(arities))?;
+        let queues = empty_queues(self.alloc, arities)?;
         self.arities = arities.to_vec(self.alloc)?;
         self.queues = queues;
         Ok(())
@@ -91,7 +81,7 @@ impl Fabric for FlatFabric {
 
     fn pop(&mut self, digits: &mut [u32], ranks: &mut [u64]) -> Option<u64> {
         self.popped += 1;
-        if self.queues[0].len() == 0 {
+        if self.queues[0].is_empty() {
             return None;
         }
         Some(pop_along(&mut self.queues, &self.arities, digits, ranks))

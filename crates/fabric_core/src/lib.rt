@@ -4,6 +4,8 @@
 
 mod fabric;
 mod flat;
+mod levels;
+mod node;
 mod spot;
 #[cfg(test)]
 mod tests;
@@ -11,3 +13,6 @@ mod walk;
 
 pub use fabric::Fabric;
 pub use flat::FlatFabric;
+pub use levels::empty_queues;
+pub use node::NodeQueue;
+pub use walk::{pop_along, push_along, reserve_along};

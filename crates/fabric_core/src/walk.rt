@@ -1,79 +1,76 @@
 //! Walks from the root of a complete tree of queues to a leaf.
-ghost use Rattle.std.specs.Prelude.{ℕ, ◌≡◌, ◌≢◌, ◌≤◌, ◌<◌, ◌+◌, ◌^◌, [], Some, length, OnOk};
+ghost use Rattle.std.specs.Prelude.{ℕ, ◌≡◌, ◌≢◌, ◌≤◌, ◌<◌, ◌+◌, ◌^◌, [], Some, length, map, OnOk};
 ghost use Rattle.std.specs.List.{AllByRecursion};
-ghost use Rattle.target_defs.specs.Target.{IsTarget};
 ghost use Rattle.fabric_defs.specs.Family.{IsLeafAddress, HasRoomAlong};
-ghost use Rattle.fabric_core.specs.Array.{nodes, queues_at, room_at, entries_of, pushes_of, spare_of, array_push, ArrayPops};
-ghost use Rattle.fabric_core.specs.Flow.{IsFlow};
+ghost use Rattle.fabric_defs.specs.Spills.{spills_along};
+ghost use Rattle.fabric_core.specs.Array.{nodes, queues_at, room_at, flows_at, array_push, ArrayPops};
+ghost use Rattle.fabric_core.specs.Flow.{IsFlow, HasFlows};
 ghost use Rattle.pifo_core.specs.Taking.{Pops};
 
+use crate::node::NodeQueue;
 use crate::spot::Spot;
-use pifo_core::{HeapPifo, Pifo};
 use std::alloc::AllocError;
 
-/// How many nodes the complete tree of these arities has.
-pub fn nodes(arities: &[u32]) -> usize
-    requires { IsTarget arities.now }
-    ensures nodes { result ≡ nodes arities.now }
-    ensures few { result < 2 ^ 32 }
-{
-    let mut spot = Spot::root();
-    for arity in arities {
-        spot = spot.child(*arity, 0);
-    }
-    spot.begin + spot.width
-}
-
 /// Makes room for one more entry at each node on the way to a leaf.
-pub fn reserve_along(
-    queues: &mut [HeapPifo],
+pub fn reserve_along<Q: NodeQueue>(
+    queues: &mut [Q],
     arities: &[u32],
     digits: &[u32],
 ) -> Result<(), AllocError>
     requires leaf { IsLeafAddress arities.now digits.now }
     requires nodes { nodes arities.now ≡ length queues.old }
     requires small { length queues.old < 2 ^ 32 }
-    ensures room { OnOk result (HasRoomAlong (room_at arities.now (spare_of queues.new) 0 1 0) digits.now) }
-    ensures entries { entries_of queues.new ≡ entries_of queues.old }
-    ensures pushes { pushes_of queues.new ≡ pushes_of queues.old }
+    ensures room { OnOk result (HasRoomAlong (room_at arities.now (map Q.spare queues.new) 0 1 0) digits.now) }
+    ensures entries { map Q.entries queues.new ≡ map Q.entries queues.old }
+    ensures pushes { map Q.pushes queues.new ≡ map Q.pushes queues.old }
+    ensures flows { map Q.flows queues.new ≡ map Q.flows queues.old }
 {
     let mut spot = Spot::root();
     for (level, digit) in digits.iter().enumerate() {
-        queues[spot.index()].reserve(1)?;
+        queues[spot.index()].make_room()?;
         spot = spot.child(arities[level], *digit);
     }
-    queues[spot.index()].reserve(1)
+    queues[spot.index()].make_room()
 }
 
-/// Pushes a rank and the next digit at each inner node on the way to a leaf, and the last rank and the item at the leaf.
-pub fn push_along(
-    queues: &mut [HeapPifo],
+/// Pushes a rank and the next digit at each inner node on the way to a leaf, and the last rank and the item at the leaf. Says
+/// at how many nodes that spilled, where the queues tell it.
+pub fn push_along<Q: NodeQueue>(
+    queues: &mut [Q],
     arities: &[u32],
     digits: &[u32],
     ranks: &[u64],
     item: u64,
-)
+) -> u64
     requires leaf { IsLeafAddress arities.now digits.now }
     requires one_more { length ranks.now ≡ length digits.now + 1 }
     requires nodes { nodes arities.now ≡ length queues.old }
     requires small { length queues.old < 2 ^ 32 }
-    requires room { HasRoomAlong (room_at arities.now (spare_of queues.old) 0 1 0) digits.now }
-    requires few { AllByRecursion (λ n. n < 2 ^ 62) (pushes_of queues.old) }
-    ensures entries { entries_of queues.new ≡ array_push arities.now (entries_of queues.old) 0 1 0 digits.now ranks.now item }
+    requires room { HasRoomAlong (room_at arities.now (map Q.spare queues.old) 0 1 0) digits.now }
+    requires few { AllByRecursion (λ n. n < 2 ^ 62) (map Q.pushes queues.old) }
+    ensures entries { map Q.entries queues.new ≡ array_push arities.now (map Q.entries queues.old) 0 1 0 digits.now ranks.now item }
     ensures pushes { (n : ℕ) →
-        AllByRecursion (λ k. k ≤ n) (pushes_of queues.old) → AllByRecursion (λ k. k ≤ n + 1) (pushes_of queues.new) }
+        AllByRecursion (λ k. k ≤ n) (map Q.pushes queues.old) → AllByRecursion (λ k. k ≤ n + 1) (map Q.pushes queues.new) }
+    ensures flows { map Q.flows queues.new ≡ map Q.flows queues.old }
+    ensures spilled { HasFlows arities.now (flows_at arities.now (map Q.flows queues.old) 0 1 0) →
+        IsFlow arities.now (queues_at arities.now (map Q.entries queues.old) 0 1 0) →
+        result ≡ spills_along digits.now ranks.now (queues_at arities.now (map Q.entries queues.old) 0 1 0) }
+    ensures few_spilled { result ≤ length digits.now + 1 }
 {
     let mut spot = Spot::root();
+    let mut spilled = 0;
     for (level, digit) in digits.iter().enumerate() {
-        queues[spot.index()].push(ranks[level], u64::from(*digit));
+        let spills = queues[spot.index()].push_pair(ranks[level], u64::from(*digit));
+        spilled += u64::from(spills);
         spot = spot.child(arities[level], *digit);
     }
-    queues[spot.index()].push(ranks[digits.len()], item);
+    let spills = queues[spot.index()].push_pair(ranks[digits.len()], item);
+    spilled + u64::from(spills)
 }
 
 /// Pops the root's queue, which has an entry, then the queue that each taken digit names, down to an item.
-pub fn pop_along(
-    queues: &mut [HeapPifo],
+pub fn pop_along<Q: NodeQueue>(
+    queues: &mut [Q],
     arities: &[u32],
     digits: &mut [u32],
     ranks: &mut [u64],
@@ -82,10 +79,11 @@ pub fn pop_along(
     requires ranks { length ranks.old ≡ length arities.now + 1 }
     requires nodes { nodes arities.now ≡ length queues.old }
     requires small { length queues.old < 2 ^ 32 }
-    requires flow { IsFlow arities.now (queues_at arities.now (entries_of queues.old) 0 1 0) }
-    requires some { queues_at arities.now (entries_of queues.old) 0 1 0 [] ≢ [] }
-    ensures popped { ArrayPops arities.now (entries_of queues.old) result digits.new ranks.new (entries_of queues.new) }
-    ensures pushes { pushes_of queues.new ≡ pushes_of queues.old }
+    requires flow { IsFlow arities.now (queues_at arities.now (map Q.entries queues.old) 0 1 0) }
+    requires some { queues_at arities.now (map Q.entries queues.old) 0 1 0 [] ≢ [] }
+    ensures popped { ArrayPops arities.now (map Q.entries queues.old) result digits.new ranks.new (map Q.entries queues.new) }
+    ensures pushes { map Q.pushes queues.new ≡ map Q.pushes queues.old }
+    ensures flows { map Q.flows queues.new ≡ map Q.flows queues.old }
 {
     let mut spot = Spot::root();
     for (level, arity) in arities.iter().enumerate() {
@@ -100,12 +98,13 @@ pub fn pop_along(
 }
 
 /// Takes the pair that leaves a queue that has one.
-fn pop_one(queue: &mut HeapPifo) -> (u64, u64)
-    requires { queue.old.entries ≢ [] }
-    ensures taken { Pops queue.old.entries (Some result) queue.new.entries }
-    ensures pushes { queue.new.pushes ≡ queue.old.pushes }
+fn pop_one<Q: NodeQueue>(queue: &mut Q) -> (u64, u64)
+    requires { Q.entries queue.old ≢ [] }
+    ensures taken { Pops (Q.entries queue.old) (Some result) (Q.entries queue.new) }
+    ensures pushes { Q.pushes queue.new ≡ Q.pushes queue.old }
+    ensures flows { Q.flows queue.new ≡ Q.flows queue.old }
 {
-    let Some(taken) = queue.pop() else {
+    let Some(taken) = queue.pop_pair() else {
         unreachable!()
     };
     taken

@@ -1,6 +1,6 @@
 use Rattle.std.proofs.Common.{[], ◌≡◌, nat_lt, ap, sym, ◌∙◌, arith, length, map, get_or, heap_items, deque_items}
 use Rattle.std.proofs.lemmas.List.{length-map}
-use Rattle.block_core.specs.Stores.{last_rank, flow_of}
+use Rattle.block_core.specs.Stores.{last_rank}
 use Rattle.block_core.specs.Block.{spills_in, held, queue_in}
 use Rattle.block_core.proofs.BlockLaws.{spills-by_last}
 use Rattle.block_core.proofs.PartLaws.{store_at, flow_at, within}

@@ -5,7 +5,7 @@ use Rattle.pifo_defs.specs.Queue.{take_least}
 use Rattle.block_core.specs.declared.waiting.Waiting.{Waiting}
 use Rattle.block_core.specs.Arrival.{weight, Precedes}
 use Rattle.block_core.specs.Stores.{head_of}
-use Rattle.block_core.specs.Block.{held, heap_order, queue_in, IsBlock, IsCounted, all_of}
+use Rattle.block_core.specs.Block.{held, queue_in, IsBlock, IsCounted, all_of}
 use Rattle.block_core.proofs.StoreLaws.{IsHeadAt}
 use Rattle.block_core.proofs.BlockLaws.{unspilt_is, unspilt_more, unspilt_queue, led_is, led_more, led_queue, head_at, nothing_waits}
 use Rattle.block_core.proofs.PartLaws.{store_at, flow_at, within, stores-set, room_at, room_set}

@@ -1,16 +1,22 @@
-use Rattle.std.proofs.Common.{refl, sym, arith, ap, ◌∙◌, List, ℕ}
+use Rattle.std.proofs.Common.{refl, sym, ap, ◌∙◌, arith, List, ℕ}
+use Rattle.std.proofs.lemmas.List.{length-map}
+use Rattle.pifo_core.specs.Sorted.{Contents}
 use Rattle.fabric_core.specs.Array.{nodes}
-use Rattle.fabric_core.proofs.FlatLaws.{new_sound, new_empty}
+use Rattle.fabric_core.specs.Flat.{entries_of, pushes_of}
+use Rattle.fabric_core.proofs.FabricLaws.{new_sound, new_empty}
 use Rattle.fabric_core.proofs.flat.FlatFabric.new.Goals as goal
 
 pub invariant_of-result : goal.invariant_of-result
 invariant_of-result c =
-    new_sound c.new.result.items c.in_ok-empty_queues.field-0.items 0 (ap (λ (z : List ℕ). nodes z) c.new.ensures.items ∙ sym c.in_ok-empty_queues.ensures.count) (omega (arith, c.in_ok-empty_queues.ensures.count)) c.in_ok-empty_queues.ensures.empty
+    let qs = c.in_ok-empty_queues.field-0.items in
+    let made = c.in_ok-empty_queues.ensures in
+    new_sound c.new.result.items (entries_of qs) (pushes_of qs) 0 (ap (λ (z : List ℕ). nodes z) c.new.ensures.items ∙ made.nodes ∙ sym (length-map qs (λ (q : Contents). q.entries)))
+    (omega (arith, made.small, length-map qs (λ (q : Contents). q.entries))) made.entries made.pushes
 
 pub returns : goal.returns
 returns c = record {
   leaf = c.new.ensures.items;
-  empty = new_empty c.new.result.items c.in_ok-empty_queues.field-0.items c.in_ok-empty_queues.ensures.empty;
+  empty = new_empty c.new.result.items (entries_of c.in_ok-empty_queues.field-0.items) c.in_ok-empty_queues.ensures.entries;
   pushed = refl;
   popped = refl;
 }

@@ -1,42 +1,41 @@
 use Rattle.std.proofs.Common.{◌≡◌, [], ℕ, List, Some, true≢false, refl, sym, subst, ap, ◌∙◌, arith, length}
 use Rattle.std.proofs.lemmas.List.{with_items_is}
 use Rattle.std.specs.Vec.{with_items}
-use Rattle.pifo_defs.specs.Queue.{Queue}
 use Rattle.pifo_core.specs.Sorted.{Contents}
 use Rattle.fabric_defs.specs.Family.{Pops}
-use Rattle.fabric_core.specs.Array.{entries_of, pushes_of, array_pop, queues_at}
-use Rattle.fabric_core.specs.Flat.{Flat, flat_queues}
-use Rattle.fabric_core.proofs.FlatLaws.{popped_sound, popped_queues, root_within, root_queue, none_long}
+use Rattle.fabric_core.specs.Array.{array_pop, queues_at}
+use Rattle.fabric_core.specs.Flat.{Flat, flat_queues, entries_of, pushes_of}
+use Rattle.fabric_core.proofs.FabricLaws.{popped_sound, popped_queues, root_within, root_queue}
 use Rattle.fabric_core.proofs.flat.FlatFabricFabric.pop.Goals as goal
 
 pub index-requires : goal.index-requires
 index-requires c =
     let f = c.self.inside in
-    omega (arith, root_within f.arities.items f.queues.items f.pushed c.self.invariant, f.queues.ok.0)
+    omega (arith, root_within (λ (q : Contents). q.entries) f.arities.items f.queues.items (pushes_of f.queues.items) f.pushed c.self.invariant, f.queues.ok.0)
 
-pub returns-then-len-eq0-clause-none : goal.returns-then-len-eq0-clause-none
-returns-then-len-eq0-clause-none c =
+pub returns-then-is_empty-clause-none : goal.returns-then-is_empty-clause-none
+returns-then-is_empty-clause-none c =
     let f = c.self.inside in
     let root : queues_at f.arities.items (entries_of f.queues.items) 0 1 0 [] ≡ c.index.result.now.entries
-    = root_queue f.arities.items f.queues.items f.pushed c.index.result.now c.self.invariant ∙ ap (λ (z : Contents). z.entries) (sym c.index.ensures) in
-    let none : c.index.result.now.entries ≡ [] = none_long c.index.result.now.entries (omega (arith, c.len.ensures.length, c.if-len-eq0.true)) in
+    = root_queue (λ (q : Contents). q.entries) f.arities.items f.queues.items (pushes_of f.queues.items) f.pushed c.index.result.now c.self.invariant ∙ ap (λ (z : Contents). z.entries) (sym c.index.ensures) in
+    let none : c.index.result.now.entries ≡ [] = c.is_empty.ensures.0 c.if-is_empty.true in
     ((λ _. sym (ap (λ (v : Flat). flat_queues v []) c.self.view_is) ∙ root ∙ none), (λ _. refl))
 
 pub pop_along-requires-clause-some : goal.pop_along-requires-clause-some
 pop_along-requires-clause-some c none =
     let f = c.self.inside in
     let root : queues_at f.arities.items (entries_of f.queues.items) 0 1 0 [] ≡ c.index.result.now.entries
-    = root_queue f.arities.items f.queues.items f.pushed c.index.result.now c.self.invariant ∙ ap (λ (z : Contents). z.entries) (sym c.index.ensures) in
+    = root_queue (λ (q : Contents). q.entries) f.arities.items f.queues.items (pushes_of f.queues.items) f.pushed c.index.result.now c.self.invariant ∙ ap (λ (z : Contents). z.entries) (sym c.index.ensures) in
     let here : queues_at f.arities.items (entries_of f.queues.items) 0 1 0 [] ≡ []
     = sym (ap (λ (z : List ℕ). queues_at z (entries_of c.deref_mut.result.now) 0 1 0 []) c.deref.ensures.value
     ∙ ap (λ (z : List Contents). queues_at f.arities.items (entries_of z) 0 1 0 []) c.deref_mut.ensures.value) ∙ none in
-    c.if-len-eq0.false (c.len.ensures.length ∙ ap (λ (z : Queue). length z) (sym root ∙ here))
+    true≢false (sym (c.is_empty.ensures.1 (sym root ∙ here)) ∙ c.if-is_empty.false)
 
 pub invariant_of-self-2 : goal.invariant_of-self-2
 invariant_of-self-2 c =
     let f = c.self.inside in
     let back = with_items_is f.queues c.pop_along.new.queues (omega (arith, c.pop_along.auto.queues, c.deref_mut.ensures.len)) in
-    popped_sound f.arities.items f.queues.items (with_items f.queues c.pop_along.new.queues).items f.pushed c.pop_along.result c.pop_along.new.digits c.pop_along.new.ranks c.self.invariant
+    popped_sound f.arities.items (entries_of f.queues.items) (entries_of (with_items f.queues c.pop_along.new.queues).items) (pushes_of f.queues.items) (pushes_of (with_items f.queues c.pop_along.new.queues).items) f.pushed c.pop_along.result c.pop_along.new.digits c.pop_along.new.ranks c.self.invariant
     (sym (ap (λ (z : List ℕ). array_pop z (entries_of c.deref_mut.result.now) 0 1 0) c.deref.ensures.value
     ∙ ap (λ (z : List Contents). array_pop f.arities.items (entries_of z) 0 1 0) c.deref_mut.ensures.value)
     ∙ c.pop_along.ensures.popped
@@ -47,9 +46,9 @@ pub returns-clause-none : goal.returns-clause-none
 returns-clause-none c =
     let f = c.self.inside in
     let root : queues_at f.arities.items (entries_of f.queues.items) 0 1 0 [] ≡ c.index.result.now.entries
-    = root_queue f.arities.items f.queues.items f.pushed c.index.result.now c.self.invariant ∙ ap (λ (z : Contents). z.entries) (sym c.index.ensures) in (
+    = root_queue (λ (q : Contents). q.entries) f.arities.items f.queues.items (pushes_of f.queues.items) f.pushed c.index.result.now c.self.invariant ∙ ap (λ (z : Contents). z.entries) (sym c.index.ensures) in (
       (λ no. absurd (true≢false no)),
-      (λ none. absurd (c.if-len-eq0.false (c.len.ensures.length ∙ ap (λ (z : Queue). length z) (sym root ∙ ap (λ (v : Flat). flat_queues v []) c.self.view_is ∙ none)))),
+      (λ none. absurd (true≢false (sym (c.is_empty.ensures.1 (sym root ∙ ap (λ (v : Flat). flat_queues v []) c.self.view_is ∙ none)) ∙ c.if-is_empty.false))),
     )
 
 pub returns-clause-taken : goal.returns-clause-taken
@@ -57,7 +56,7 @@ returns-clause-taken c =
     let f = c.self.inside in
     let back = with_items_is f.queues c.pop_along.new.queues (omega (arith, c.pop_along.auto.queues, c.deref_mut.ensures.len)) in
     subst (λ (v : Flat). Pops (length v.arities) (flat_queues v) c.pop_along.result c.pop_along.new.digits c.pop_along.new.ranks (queues_at f.arities.items (entries_of (with_items f.queues c.pop_along.new.queues).items) 0 1 0)) c.self.view_is
-    (popped_queues f.arities.items f.queues.items (with_items f.queues c.pop_along.new.queues).items f.pushed c.pop_along.result c.pop_along.new.digits c.pop_along.new.ranks c.self.invariant
+    (popped_queues f.arities.items (entries_of f.queues.items) (entries_of (with_items f.queues c.pop_along.new.queues).items) (pushes_of f.queues.items) f.pushed c.pop_along.result c.pop_along.new.digits c.pop_along.new.ranks c.self.invariant
     (sym (ap (λ (z : List ℕ). array_pop z (entries_of c.deref_mut.result.now) 0 1 0) c.deref.ensures.value
     ∙ ap (λ (z : List Contents). array_pop f.arities.items (entries_of z) 0 1 0) c.deref_mut.ensures.value)
     ∙ c.pop_along.ensures.popped

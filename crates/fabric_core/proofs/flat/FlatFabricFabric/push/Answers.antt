@@ -4,16 +4,16 @@ use Rattle.std.specs.Vec.{with_items}
 use Rattle.std.specs.List.{AllByRecursion}
 use Rattle.pifo_core.specs.Sorted.{Contents}
 use Rattle.fabric_defs.specs.Family.{IsLeafAddress, push_along}
-use Rattle.fabric_core.specs.Array.{entries_of, pushes_of, array_push}
-use Rattle.fabric_core.specs.Flat.{Flat, flat_queues}
-use Rattle.fabric_core.proofs.FlatLaws.{pushed_sound, pushed_queues}
+use Rattle.fabric_core.specs.Array.{array_push}
+use Rattle.fabric_core.specs.Flat.{Flat, flat_queues, entries_of, pushes_of}
+use Rattle.fabric_core.proofs.FabricLaws.{pushed_sound, pushed_queues}
 use Rattle.fabric_core.proofs.flat.FlatFabricFabric.push.Goals as goal
 
 pub invariant_of-self : goal.invariant_of-self
 invariant_of-self c =
     let f = c.self.inside in
     let back = with_items_is f.queues c.push_along.new.queues (omega (arith, c.push_along.auto.queues, c.deref_mut.ensures.len)) in
-    pushed_sound f.arities.items f.queues.items (with_items f.queues c.push_along.new.queues).items f.pushed c.args.digits.now c.args.ranks.now c.args.item c.self.invariant
+    pushed_sound f.arities.items (entries_of f.queues.items) (entries_of (with_items f.queues c.push_along.new.queues).items) (pushes_of f.queues.items) (pushes_of (with_items f.queues c.push_along.new.queues).items) f.pushed c.args.digits.now c.args.ranks.now c.args.item c.self.invariant
     (subst (λ (v : Flat). IsLeafAddress v.arities c.args.digits.now) (sym c.self.view_is) c.requires.leaf)
     (ap (λ (z : List Contents). entries_of z) back ∙ c.push_along.ensures.entries
     ∙ ap (λ (z : List ℕ). array_push z (entries_of c.deref_mut.result.now) 0 1 0 c.args.digits.now c.args.ranks.now c.args.item) c.deref.ensures.value
@@ -25,7 +25,7 @@ pub returns-clause-queues : goal.returns-clause-queues
 returns-clause-queues c b =
     let f = c.self.inside in
     let back = with_items_is f.queues c.push_along.new.queues (omega (arith, c.push_along.auto.queues, c.deref_mut.ensures.len)) in
-    pushed_queues f.arities.items f.queues.items (with_items f.queues c.push_along.new.queues).items f.pushed c.args.digits.now c.args.ranks.now c.args.item c.self.invariant
+    pushed_queues f.arities.items (entries_of f.queues.items) (entries_of (with_items f.queues c.push_along.new.queues).items) (pushes_of f.queues.items) f.pushed c.args.digits.now c.args.ranks.now c.args.item c.self.invariant
     (subst (λ (v : Flat). IsLeafAddress v.arities c.args.digits.now) (sym c.self.view_is) c.requires.leaf)
     (ap (λ (z : List Contents). entries_of z) back ∙ c.push_along.ensures.entries
     ∙ ap (λ (z : List ℕ). array_push z (entries_of c.deref_mut.result.now) 0 1 0 c.args.digits.now c.args.ranks.now c.args.item) c.deref.ensures.value

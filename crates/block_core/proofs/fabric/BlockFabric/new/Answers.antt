@@ -1,0 +1,29 @@
+use Rattle.std.proofs.Common.{refl, sym, ap, subst, ◌∙◌, arith, List, ℕ}
+use Rattle.std.proofs.lemmas.List.{length-map}
+use Rattle.fabric_core.specs.Array.{nodes, flows_at}
+use Rattle.fabric_core.specs.Flow.{HasFlows}
+use Rattle.fabric_core.proofs.FabricLaws.{new_sound, new_empty}
+use Rattle.block_core.specs.Block.{Block}
+use Rattle.block_core.specs.BlockTree.{entries_of, pushes_of, flows_of}
+use Rattle.block_core.proofs.fabric.BlockFabric.new.Goals as goal
+
+pub invariant_of-result : goal.invariant_of-result
+invariant_of-result c =
+    let qs = c.in_ok-empty_queues.field-0.items in
+    let made = c.in_ok-empty_queues.ensures in
+    record {
+      sound =
+          new_sound c.new.result.items (entries_of qs) (pushes_of qs) 0 (ap (λ (z : List ℕ). nodes z) c.new.ensures.items ∙ made.nodes ∙ sym (length-map qs (λ (q : Block). q.entries)))
+          (omega (arith, made.small, length-map qs (λ (q : Block). q.entries))) made.entries made.pushes;
+      flows = subst (λ (z : List ℕ). HasFlows z (flows_at z (flows_of qs) 0 1 0)) (sym c.new.ensures.items) (made.flows refl);
+      few = omega arith;
+    }
+
+pub returns : goal.returns
+returns c = record {
+  leaf = c.new.ensures.items;
+  empty = new_empty c.new.result.items (entries_of c.in_ok-empty_queues.field-0.items) c.in_ok-empty_queues.ensures.entries;
+  pushed = refl;
+  popped = refl;
+  spilled = refl;
+}

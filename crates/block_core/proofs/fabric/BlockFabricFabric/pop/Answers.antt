@@ -1,0 +1,71 @@
+use Rattle.std.proofs.Common.{◌≡◌, [], ℕ, List, Some, true≢false, refl, sym, subst, ap, ◌∙◌, arith, length}
+use Rattle.std.proofs.lemmas.List.{with_items_is}
+use Rattle.std.specs.Vec.{with_items}
+use Rattle.block_core.specs.Block.{Block}
+use Rattle.fabric_defs.specs.Family.{Pops}
+use Rattle.fabric_core.specs.Array.{array_pop, queues_at, flows_at}
+use Rattle.fabric_core.specs.Flow.{HasFlows}
+use Rattle.block_core.specs.BlockTree.{BlockTree, block_queues, entries_of, pushes_of, flows_of}
+use Rattle.fabric_core.proofs.FabricLaws.{popped_sound, popped_queues, root_within, root_queue}
+use Rattle.block_core.proofs.fabric.BlockFabricFabric.pop.Goals as goal
+
+pub index-requires : goal.index-requires
+index-requires c =
+    let f = c.self.inside in
+    omega (arith, root_within (λ (q : Block). q.entries) f.arities.items f.queues.items (pushes_of f.queues.items) f.pushed c.self.invariant.sound, f.queues.ok.0)
+
+pub returns-then-is_empty-clause-none : goal.returns-then-is_empty-clause-none
+returns-then-is_empty-clause-none c =
+    let f = c.self.inside in
+    let root : queues_at f.arities.items (entries_of f.queues.items) 0 1 0 [] ≡ c.index.result.now.entries
+    = root_queue (λ (q : Block). q.entries) f.arities.items f.queues.items (pushes_of f.queues.items) f.pushed c.index.result.now c.self.invariant.sound ∙ ap (λ (z : Block). z.entries) (sym c.index.ensures) in
+    let none : c.index.result.now.entries ≡ [] = c.is_empty.ensures.0 c.if-is_empty.true in
+    ((λ _. sym (ap (λ (v : BlockTree). block_queues v []) c.self.view_is) ∙ root ∙ none), (λ _. refl))
+
+pub pop_along-requires-clause-some : goal.pop_along-requires-clause-some
+pop_along-requires-clause-some c none =
+    let f = c.self.inside in
+    let root : queues_at f.arities.items (entries_of f.queues.items) 0 1 0 [] ≡ c.index.result.now.entries
+    = root_queue (λ (q : Block). q.entries) f.arities.items f.queues.items (pushes_of f.queues.items) f.pushed c.index.result.now c.self.invariant.sound ∙ ap (λ (z : Block). z.entries) (sym c.index.ensures) in
+    let here : queues_at f.arities.items (entries_of f.queues.items) 0 1 0 [] ≡ []
+    = sym (ap (λ (z : List ℕ). queues_at z (entries_of c.deref_mut.result.now) 0 1 0 []) c.deref.ensures.value
+    ∙ ap (λ (z : List Block). queues_at f.arities.items (entries_of z) 0 1 0 []) c.deref_mut.ensures.value) ∙ none in
+    true≢false (sym (c.is_empty.ensures.1 (sym root ∙ here)) ∙ c.if-is_empty.false)
+
+pub invariant_of-self-2 : goal.invariant_of-self-2
+invariant_of-self-2 c =
+    let f = c.self.inside in
+    let back = with_items_is f.queues c.pop_along.new.queues (omega (arith, c.pop_along.auto.queues, c.deref_mut.ensures.len)) in
+    let flows : flows_of (with_items f.queues c.pop_along.new.queues).items ≡ flows_of f.queues.items
+    = ap (λ (z : List Block). flows_of z) back ∙ c.pop_along.ensures.flows ∙ ap (λ (z : List Block). flows_of z) c.deref_mut.ensures.value in
+    record {
+      sound =
+          popped_sound f.arities.items (entries_of f.queues.items) (entries_of (with_items f.queues c.pop_along.new.queues).items) (pushes_of f.queues.items) (pushes_of (with_items f.queues c.pop_along.new.queues).items) f.pushed c.pop_along.result c.pop_along.new.digits c.pop_along.new.ranks c.self.invariant.sound
+          (sym (ap (λ (z : List ℕ). array_pop z (entries_of c.deref_mut.result.now) 0 1 0) c.deref.ensures.value
+          ∙ ap (λ (z : List Block). array_pop f.arities.items (entries_of z) 0 1 0) c.deref_mut.ensures.value)
+          ∙ c.pop_along.ensures.popped
+          ∙ ap (λ (z : List Block). Some (record { value = c.pop_along.result; digits = c.pop_along.new.digits; ranks = c.pop_along.new.ranks; left = entries_of z })) (sym back))
+          (ap (λ (z : List Block). pushes_of z) back ∙ c.pop_along.ensures.pushes ∙ ap (λ (z : List Block). pushes_of z) c.deref_mut.ensures.value);
+      flows = subst (λ (z : List ℕ). HasFlows f.arities.items (flows_at f.arities.items z 0 1 0)) (sym flows) c.self.invariant.flows;
+      few = c.self.invariant.few;
+    }
+
+pub returns-clause-none : goal.returns-clause-none
+returns-clause-none c =
+    let f = c.self.inside in
+    let root : queues_at f.arities.items (entries_of f.queues.items) 0 1 0 [] ≡ c.index.result.now.entries
+    = root_queue (λ (q : Block). q.entries) f.arities.items f.queues.items (pushes_of f.queues.items) f.pushed c.index.result.now c.self.invariant.sound ∙ ap (λ (z : Block). z.entries) (sym c.index.ensures) in (
+      (λ no. absurd (true≢false no)),
+      (λ none. absurd (true≢false (sym (c.is_empty.ensures.1 (sym root ∙ ap (λ (v : BlockTree). block_queues v []) c.self.view_is ∙ none)) ∙ c.if-is_empty.false))),
+    )
+
+pub returns-clause-taken : goal.returns-clause-taken
+returns-clause-taken c =
+    let f = c.self.inside in
+    let back = with_items_is f.queues c.pop_along.new.queues (omega (arith, c.pop_along.auto.queues, c.deref_mut.ensures.len)) in
+    subst (λ (v : BlockTree). Pops (length v.arities) (block_queues v) c.pop_along.result c.pop_along.new.digits c.pop_along.new.ranks (queues_at f.arities.items (entries_of (with_items f.queues c.pop_along.new.queues).items) 0 1 0)) c.self.view_is
+    (popped_queues f.arities.items (entries_of f.queues.items) (entries_of (with_items f.queues c.pop_along.new.queues).items) (pushes_of f.queues.items) f.pushed c.pop_along.result c.pop_along.new.digits c.pop_along.new.ranks c.self.invariant.sound
+    (sym (ap (λ (z : List ℕ). array_pop z (entries_of c.deref_mut.result.now) 0 1 0) c.deref.ensures.value
+    ∙ ap (λ (z : List Block). array_pop f.arities.items (entries_of z) 0 1 0) c.deref_mut.ensures.value)
+    ∙ c.pop_along.ensures.popped
+    ∙ ap (λ (z : List Block). Some (record { value = c.pop_along.result; digits = c.pop_along.new.digits; ranks = c.pop_along.new.ranks; left = entries_of z })) (sym back)))

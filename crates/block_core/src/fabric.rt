@@ -1,0 +1,109 @@
+//! The hardware that tells its spills: all queues of rank stores in one array.
+ghost use Rattle.std.specs.Prelude.{◌≡◌, IfOk};
+
+use crate::block::BlockPifo;
+use fabric_core::{Fabric, NodeQueue, empty_queues, pop_along, push_along, reserve_along};
+use std::alloc::{AllocError, Global};
+use std::marker::Model;
+
+/// A fabric whose queues of rank stores stand in one array, level by level from the root. It counts the pushes that spill.
+#[derive(Drop)]
+pub struct BlockFabric {
+    alloc: Global,
+    arities: Vec<u32>,
+    queues: Vec<BlockPifo>,
+    pushed: u64,
+    popped: u64,
+    spilled: u128,
+}
+
+impl Model for BlockFabric {
+    ghost use Rattle.block_core.specs.BlockTree.{BlockTree, IsBlockTree};
+
+    ghost Value = { BlockTree };
+
+    ghost view = { λ f. record {
+      arities = f.arities.items;
+      queues = f.queues.items;
+      pushed = f.pushed;
+      popped = f.popped;
+      spilled = f.spilled;
+    } };
+
+    ghost invariant = { λ f. IsBlockTree f.arities.items f.queues.items f.pushed f.spilled };
+}
+
+impl BlockFabric {
+    ghost use Rattle.block_core.specs.BlockTree.{IsNew};
+
+    /// A single leaf, without an entry, a push, a pop or a spill.
+    pub fn new(alloc: Global) -> Result<BlockFabric, AllocError>
+        ensures { IfOk result IsNew }
+    {
+        Ok(BlockFabric {
+            alloc,
+            arities: Vec::new(alloc),
+            queues: empty_queues(alloc, &[])?,
+            pushed: 0,
+            popped: 0,
+            spilled: 0,
+        })
+    }
+
+    /// At how many nodes pushes spilled.
+    pub fn spills(&self) -> u128
+        ensures { result ≡ self.now.spilled }
+    {
+        self.spilled
+    }
+}
+
+impl Fabric for BlockFabric {
+    ghost use Rattle.std.specs.Prelude.{Some};
+    ghost use Rattle.block_core.specs.BlockTree.{block_queues, block_room};
+
+    ghost shape = { λ f. f.arities };
+
+    ghost queues = { λ f. block_queues f };
+
+    ghost pushed = { λ f. f.pushed };
+
+    ghost popped = { λ f. f.popped };
+
+    ghost spilled = { λ f. Some f.spilled };
+
+    ghost room = { λ f. block_room f };
+
+    fn configure(&mut self, arities: &[u32]) -> Result<(), AllocError> {
+        let queues = empty_queues(self.alloc, arities)?;
+        self.arities = arities.to_vec(self.alloc)?;
+        self.queues = queues;
+        Ok(())
+    }
+
+    fn reserve(&mut self, digits: &[u32]) -> Result<(), AllocError> {
+        reserve_along(&mut self.queues, &self.arities, digits)
+    }
+
+    fn push(&mut self, digits: &[u32], ranks: &[u64], item: u64) {
+        let spilled = push_along(&mut self.queues, &self.arities, digits, ranks, item);
+        self.spilled += u128::from(spilled);
+        self.pushed += 1;
+    }
+
+    fn pop(&mut self, digits: &mut [u32], ranks: &mut [u64]) -> Option<u64> {
+        self.popped += 1;
+        if self.queues[0].is_empty() {
+            return None;
+        }
+        Some(pop_along(&mut self.queues, &self.arities, digits, ranks))
+    }
+
+    fn pushes(&self) -> u64 {
+        self.pushed
+    }
+
+    fn pops(&self) -> u64 {
+        self.popped
+    }
+}

@@ -1,0 +1,90 @@
+-- What a fabric keeps, after each call: by its queues in one array, and how many pushes each of them had.
+use Rattle.std.proofs.Common.{◌≡◌, ℕ, zero, suc, ◌+◌, ◌<◌, ◌≤◌, ◌^◌, List, [], ◌∷◌, length, map, get_or, refl, sym, ap, subst, ◌∙◌, arith, Some}
+use Rattle.std.specs.List.{AllByRecursion}
+use Rattle.std.proofs.lemmas.List.{get_or-map, length-map}
+use mathlib.Core.Path.{fun_ext}
+use Rattle.pifo_defs.specs.Queue.{Queue}
+use Rattle.tree_defs.specs.SourceTree.{times}
+use Rattle.fabric_defs.specs.Family.{Family, IsEmpty, IsLeafAddress, SameQueues, Pops, below, push_along}
+use Rattle.fabric_core.specs.Array.{nodes, queues_at, array_push, array_pop}
+use Rattle.fabric_core.specs.Flow.{NamesBelow, IsFlow, IsSound}
+use Rattle.fabric_core.proofs.ArrayReads.{read-none, read-root, some_nodes}
+use Rattle.fabric_core.proofs.PushLaws.{array_push-along, length-array_push}
+use Rattle.fabric_core.proofs.PopLaws.{array_pop-along, length-array_pop}
+use Rattle.fabric_core.proofs.FlowLaws.{flow-push, flow-pop}
+use Rattle.fabric_core.proofs.ArrayUpdates.{bound-more}
+
+-- ---- empty queues
+new_at : (qs : List Queue) (j : ℕ) → AllByRecursion (λ q. q ≡ []) qs → get_or qs j [] ≡ []
+new_at [] j n = refl
+new_at (q ∷ qs) zero n = n.0
+new_at (q ∷ qs) (suc j) n = new_at qs j n.1
+
+flow_empty : (ar : List ℕ) (F : Family) → IsEmpty F → IsFlow ar F
+flow_empty [] F e = tt
+flow_empty (d ∷ ar) F e = (
+  subst (λ (q : Queue). NamesBelow d q) (sym (e [])) tt,
+  λ x l. (ap (λ (q : Queue). times x q) (e []) ∙ ap (λ (q : Queue). length q) (sym (e (x ∷ []))), flow_empty ar (below F x) (λ b. e (x ∷ b))),
+)
+
+pub new_empty : (ar : List ℕ) (qs : List Queue) → AllByRecursion (λ q. q ≡ []) qs → IsEmpty (queues_at ar qs 0 1 0)
+new_empty ar qs n b = read-none ar qs [] 0 1 0 b (λ j. new_at qs j n)
+
+pub new_sound : (ar : List ℕ) (qs : List Queue) (counts : List ℕ) (pushed : ℕ) → nodes ar ≡ length qs → length qs < 2 ^ 32 → AllByRecursion (λ q. q ≡ []) qs → AllByRecursion (λ n. n ≡ 0) counts → IsSound ar qs counts pushed
+new_sound ar qs counts pushed count small n p = record {
+  nodes = count;
+  small = small;
+  pushes = bound-more (λ n. n ≡ 0) (λ n. n ≤ pushed) counts (λ k e. omega (arith, e)) p;
+  flow = flow_empty ar (queues_at ar qs 0 1 0) (new_empty ar qs n);
+}
+
+-- ---- pushes
+pub pushed_queues : (ar : List ℕ) (old new : List Queue) (before : List ℕ) (pushed : ℕ) (digits ranks : List ℕ) (item : ℕ) → IsSound ar old before pushed → IsLeafAddress ar digits
+    → new ≡ array_push ar old 0 1 0 digits ranks item → SameQueues (queues_at ar new 0 1 0) (push_along digits ranks item (queues_at ar old 0 1 0))
+pushed_queues ar old new before pushed digits ranks item s leaf e b =
+    ap (λ (z : List Queue). queues_at ar z 0 1 0 b) e ∙ array_push-along ar old 0 1 0 digits ranks item b (omega arith) (omega (arith, s.nodes)) leaf
+
+pub pushed_sound : (ar : List ℕ) (old new : List Queue) (before after : List ℕ) (pushed : ℕ) (digits ranks : List ℕ) (item : ℕ) → IsSound ar old before pushed → IsLeafAddress ar digits
+    → new ≡ array_push ar old 0 1 0 digits ranks item
+    → ((n : ℕ) → AllByRecursion (λ k. k ≤ n) before → AllByRecursion (λ k. k ≤ n + 1) after) → IsSound ar new after (pushed + 1)
+pushed_sound ar old new before after pushed digits ranks item s leaf e p =
+    let long : length new ≡ length old = ap (λ (z : List Queue). length z) e ∙ length-array_push ar old 0 1 0 digits ranks item in record {
+      nodes = s.nodes ∙ sym long;
+      small = omega (arith, s.small, long);
+      pushes = p pushed s.pushes;
+      flow = subst (λ (F : Family). IsFlow ar F) (sym (fun_ext (pushed_queues ar old new before pushed digits ranks item s leaf e)))
+          (flow-push ar (queues_at ar old 0 1 0) digits ranks item s.flow leaf);
+    }
+
+-- ---- pops
+pub popped_queues : (ar : List ℕ) (old new : List Queue) (before : List ℕ) (pushed item : ℕ) (digits ranks : List ℕ) → IsSound ar old before pushed
+    → array_pop ar old 0 1 0 ≡ Some (record { value = item; digits = digits; ranks = ranks; left = new })
+    → Pops (length ar) (queues_at ar old 0 1 0) item digits ranks (queues_at ar new 0 1 0)
+popped_queues ar old new before pushed item digits ranks s e =
+    array_pop-along ar old 0 1 0 (record { value = item; digits = digits; ranks = ranks; left = new }) (omega arith) (omega (arith, s.nodes)) s.flow e
+
+pub popped_sound : (ar : List ℕ) (old new : List Queue) (before after : List ℕ) (pushed item : ℕ) (digits ranks : List ℕ) → IsSound ar old before pushed
+    → array_pop ar old 0 1 0 ≡ Some (record { value = item; digits = digits; ranks = ranks; left = new }) → after ≡ before → IsSound ar new after pushed
+popped_sound ar old new before after pushed item digits ranks s e p =
+    let long : length new ≡ length old = length-array_pop ar old 0 1 0 (record { value = item; digits = digits; ranks = ranks; left = new }) e in
+    let pops : Pops (length ar) (queues_at ar old 0 1 0) item digits ranks (queues_at ar new 0 1 0) = popped_queues ar old new before pushed item digits ranks s e in record {
+      nodes = s.nodes ∙ sym long;
+      small = omega (arith, s.small, long);
+      pushes = subst (λ (z : List ℕ). AllByRecursion (λ n. n ≤ pushed) z) (sym p) s.pushes;
+      flow = subst (λ (F : Family). IsFlow ar F) (sym (fun_ext pops.left)) (flow-pop ar (queues_at ar old 0 1 0) pops.taken s.flow pops.popped);
+    }
+
+-- ---- the queues as they are kept
+module _ {Q : Type 0} (entries : Q → Queue) where
+  pub nodes_kept : (ar : List ℕ) (qs : List Q) (counts : List ℕ) (pushed : ℕ) → IsSound ar (map entries qs) counts pushed → nodes ar ≡ length qs
+  nodes_kept ar qs counts pushed s = s.nodes ∙ length-map qs entries
+
+  pub few_kept : (ar : List ℕ) (qs : List Q) (counts : List ℕ) (pushed : ℕ) → IsSound ar (map entries qs) counts pushed → length qs < 2 ^ 32
+  few_kept ar qs counts pushed s = omega (arith, s.small, length-map qs entries)
+
+  -- the root's queue is the first of the array
+  pub root_within : (ar : List ℕ) (qs : List Q) (counts : List ℕ) (pushed : ℕ) → IsSound ar (map entries qs) counts pushed → 0 < length qs
+  root_within ar qs counts pushed s = omega (arith, nodes_kept ar qs counts pushed s, some_nodes ar)
+
+  pub root_queue : (ar : List ℕ) (qs : List Q) (counts : List ℕ) (pushed : ℕ) (e : Q) → IsSound ar (map entries qs) counts pushed → queues_at ar (map entries qs) 0 1 0 [] ≡ entries (get_or qs 0 e)
+  root_queue ar qs counts pushed e s = read-root ar (map entries qs) [] 0 1 0 ∙ get_or-map entries qs 0 e [] (root_within ar qs counts pushed s)

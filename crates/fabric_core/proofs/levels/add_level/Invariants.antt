@@ -1,0 +1,12 @@
+use Rattle.std.proofs.Common.{◌≡◌, ◌≤◌, ◌<◌, ◌+◌, ℕ, true, [], length, map, get_or}
+use Rattle.std.specs.List.{AllByRecursion}
+use Rattle.fabric_core.proofs.levels.add_level.Given as goal
+
+abbrev pub invariant-loop : goal.invariant-loop
+invariant-loop g l = record {
+  long : length l.queues.items ≡ length l.initial.queues.items + l.counter;
+  entries : AllByRecursion (λ q. q ≡ []) (map g.Q.NodeQueue.entries l.initial.queues.items) → AllByRecursion (λ q. q ≡ []) (map g.Q.NodeQueue.entries l.queues.items);
+  pushes : AllByRecursion (λ n. n ≡ 0) (map g.Q.NodeQueue.pushes l.initial.queues.items) → AllByRecursion (λ n. n ≡ 0) (map g.Q.NodeQueue.pushes l.queues.items);
+  kept : (j : ℕ) → j < length l.initial.queues.items → get_or (map g.Q.NodeQueue.flows l.queues.items) j 0 ≡ get_or (map g.Q.NodeQueue.flows l.initial.queues.items) j 0;
+  flows : g.Q.NodeQueue.tells ≡ true → (j : ℕ) → length l.initial.queues.items ≤ j → j < length l.queues.items → get_or (map g.Q.NodeQueue.flows l.queues.items) j 0 ≡ l.count;
+}

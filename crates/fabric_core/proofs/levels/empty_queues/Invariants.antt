@@ -1,0 +1,19 @@
+use Rattle.std.proofs.Common.{◌≡◌, ◌≤◌, ◌+◌, ◌*◌, true, [], length, map, drop}
+use Rattle.std.specs.List.{AllByRecursion}
+use Rattle.target_defs.specs.Target.{leaves}
+use Rattle.fabric_core.specs.Array.{nodes}
+use Rattle.fabric_core.proofs.LevelSteps.{HasFlowsSoFar}
+use Rattle.fabric_core.proofs.levels.empty_queues.Given as goal
+
+abbrev pub invariant-loop-arity : goal.invariant-loop-arity
+invariant-loop-arity g l = record {
+  counted : l.spot.begin + l.spot.width * nodes (drop l.arity-index l.arities) ≡ nodes l.arities;
+  leaves : l.spot.width * leaves (drop l.arity-index l.arities) ≡ leaves l.arities;
+  before : l.spot.begin ≤ l.arity-index * 65536;
+  some : 1 ≤ l.spot.width;
+  first : l.spot.place ≡ 0;
+  long : length l.queues.items ≡ l.spot.begin;
+  entries : AllByRecursion (λ q. q ≡ []) (map g.Q.NodeQueue.entries l.queues.items);
+  pushes : AllByRecursion (λ n. n ≡ 0) (map g.Q.NodeQueue.pushes l.queues.items);
+  flows : g.Q.NodeQueue.tells ≡ true → HasFlowsSoFar l.arities l.arity-index (map g.Q.NodeQueue.flows l.queues.items) l.spot.begin l.spot.width;
+}
