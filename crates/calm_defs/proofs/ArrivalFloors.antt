@@ -15,7 +15,7 @@ use Rattle.policy_defs.specs.Policy.{Marks, no_marks, Node, Class, node_at, node
 use Rattle.policy_defs.specs.Accepted.{AreMarksInRange, IsNodeReady}
 use Rattle.sched_defs.specs.Visits.{States, Visit, visit, env_for, child_marks, visits_from, visits_below, with_state, rank_at, ranks_pushed, after_pushes}
 use Rattle.sched_defs.proofs.Members.{all_joined}
-use Rattle.sched_defs.proofs.Visits.{IsVisitTo, visits_from-are}
+use Rattle.sched_defs.proofs.Visits.{IsVisitTo, IsPart, root_stands, visits_from-are}
 use Rattle.sched_defs.proofs.States.{AreStatesInRange}
 use Rattle.calm_defs.proofs.Steady.{floor, HasMarksOf}
 use Rattle.calm_defs.proofs.SteadyNodes.{HasSteadyPrograms, HaveSteadyPrograms, steady_at}
@@ -23,19 +23,12 @@ use Rattle.calm_defs.proofs.TreeFloors.{AreRanksUnder, AreRanksOver}
 use Rattle.calm_defs.proofs.StateFloors.{told, marks_of, floor_in, floors, IsArrivalAt, visit_over, visit_under, floors-pushes, pushed_in_range}
 
 -- ---- marks of children
-root_stands : (t : Tree Node) → node_at t [] ≡ Some (root_of t)
-root_stands (leaf n) = refl
-root_stands (inner n ts) = refl
-
 child_marks-are : (ts : Trees Node) (i : ℕ) → option_map_or (λ n. n.marks) (node_below ts i []) no_marks ≡ child_marks ts i
 child_marks-are none i = refl
 child_marks-are (more t ts) zero = rw (root_stands t) refl
 child_marks-are (more t ts) (suc i) = child_marks-are ts i
 
--- what stands in the part of a tree at an address stands in the tree
-abbrev IsPart : Tree Node → Address → Tree Node → Type 0
-IsPart root a t = (b : Address) → node_at root (a ++ b) ≡ node_at t b
-
+-- and what stands below a node
 abbrev ArePart : Tree Node → (ℕ → Address) → Trees Node → Type 0
 ArePart root at ts = (i : ℕ) (b : Address) → node_at root (at i ++ b) ≡ node_below ts i b
 

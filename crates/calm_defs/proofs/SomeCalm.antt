@@ -6,10 +6,11 @@ use Rattle.rank_defs.specs.Builtins.{builtin, named, fifo, stfq}
 use Rattle.rank_defs.proofs.Table.{builtins-checked}
 use Rattle.policy_defs.specs.Policy.{Policy, Node, node_at}
 use Rattle.policy_defs.specs.Accepted.{IsNodeReady, IsAccepted}
+use Rattle.policy_defs.specs.BuiltIn.{AreBuiltIn}
 use Rattle.embed_lift_defs.specs.Laws.{Maps}
 use Rattle.sched_defs.specs.SourceState.{start}
 use Rattle.sched_defs.proofs.Visits.{no_marks_in_range}
-use Rattle.calm_defs.specs.Laws.{AreBuiltIn, IsLaidCalmly}
+use Rattle.calm_defs.specs.Laws.{IsLaidCalmly}
 use Rattle.calm_defs.specs.Rows.{node_of, pair_by, side_by_side}
 
 abbrev fair : Policy

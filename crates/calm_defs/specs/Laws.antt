@@ -2,11 +2,10 @@
 use Rattle.std.specs.Prelude.{◌≡◌, ◌↔◌, ℕ, true, Some, List, [], ◌∷◌, length, slice_index, codes}
 use Rattle.std.specs.List.{Contains}
 use Rattle.tree_defs.specs.Tree.{Tree, leaf, inner, Trees, Address, child, root_of, subtree}
-use Rattle.rank_defs.specs.Programs.{Program}
-use Rattle.rank_defs.specs.Builtins.{builtin}
 use Rattle.packet_defs.specs.declared.packet.Packet.{Packet}
-use Rattle.policy_defs.specs.Policy.{Policy, Node, node_at}
+use Rattle.policy_defs.specs.Policy.{Policy, Node}
 use Rattle.policy_defs.specs.Accepted.{IsAccepted}
+use Rattle.policy_defs.specs.BuiltIn.{AreBuiltIn}
 use Rattle.embed_lift_defs.specs.Laws.{Maps}
 use Rattle.embed_lift_defs.specs.Spilling.{push_spills}
 use Rattle.sched_defs.specs.SourceState.{SourceState, start, class_of, arrival_ranks, arrived, departed}
@@ -34,12 +33,6 @@ abbrev pub CalmAtEachNode : Type 0
 CalmAtEachNode = (tree : Tree Node) (images : Tree Address) → (is_calm tree images ≡ true) ↔ IsCalmAtEachNode tree images
 
 -- ---- spills
--- a node that uses the name of a built-in transaction has its program
-abbrev pub AreBuiltIn : Policy → Type 0
-AreBuiltIn policy =
-    (a : Address) (n : Node) (program : Program) → node_at policy.tree a ≡ Some n → builtin n.using ≡ Some program
-    → n.program ≡ program
-
 -- a calm policy, laid by a good map into a complete tree of height h
 pub record IsLaidCalmly (h : ℕ) (policy : Policy) (images : Tree Address) : Type 0 where
   pub accepted : IsAccepted policy

@@ -12,6 +12,7 @@ use Rattle.policy_text_defs.specs.declared.condition.Condition.{Condition}
 use Rattle.policy_text_defs.specs.Sense.{Entry}
 use Rattle.policy_defs.specs.Policy.{Node, Class as Aimed}
 use Rattle.policy_defs.specs.Accepted.{IsAccepted}
+use Rattle.policy_defs.specs.BuiltIn.{AreBuiltIn}
 use Rattle.policy_rules.specs.Names.{Name, declared, class_name, node_name}
 use Rattle.policy_rules.specs.Clauses.{root, most_classes, version_of}
 use Rattle.policy_rules.specs.Programs.{place, programs}
@@ -32,6 +33,7 @@ use Rattle.policy_places.proofs.Classes.{classes-of, names-classes}
 use Rattle.policy_places.proofs.ResolvedTrees.{node-tree}
 use Rattle.policy_places.proofs.Shape.{topology-map}
 use Rattle.policy_places.proofs.AcceptedPolicies.{acceptable}
+use Rattle.policy_places.proofs.BuiltIns.{built-in}
 use Rattle.policy_places.proofs.AcceptedStatements.{root-there}
 use Rattle.policy_rules.proofs.Places.{found, place-within}
 use Rattle.policy_places.proofs.HomePasses.{length-graph}
@@ -164,6 +166,9 @@ module _ (es : List Entry) (accepted : AreAccepted es) (tree : Numbered) (ss : L
             (subst (λ (all : List Aimed). AreClassesOf es (nodes_at es below.tree) (classes_in es) all) (sym classes-made) (classes-of es below.tree ns below.is_tree homes-below));
         conditions = conditions-made;
       }
+
+  pub built-in-made : (v : ℕ) → v ≡ version_of es → AreValid es → AreBuiltIn (resolved v tree ss ps cs).policy
+  built-in-made v version valid = built-in es (resolved v tree ss ps cs) (resolved-made v version valid)
 
   -- ---- the conditions under which a policy may be made of them
   home-leaves : (ds : List Declared) (names : List Name) (ms : List ℕ) → AllZip (IsHome es tree.rows) names ms → AllByRecursion (λ (m : Made). m.leaf < length tree.rows) (made_of ds ms)

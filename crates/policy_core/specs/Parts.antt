@@ -6,6 +6,7 @@ use Rattle.rank_defs.specs.Programs.{Program}
 use Rattle.policy_text_defs.specs.declared.condition.Condition.{Condition}
 use Rattle.policy_defs.specs.Policy.{Node, Class as Aimed, Marks as Told}
 use Rattle.policy_defs.specs.Accepted.{IsAccepted}
+use Rattle.policy_defs.specs.BuiltIn.{AreBuiltIn}
 use Rattle.policy_rules.specs.Clauses.{most_classes}
 use Rattle.policy_rules.specs.Resolved.{Resolved}
 use Rattle.tree_graph.specs.Row.{row_at}
@@ -75,3 +76,4 @@ pub record IsWhole (version : ℕ) (tree : Numbered) (ss : List Station) (ps : L
   pub few : length cs ≤ most_classes
   pub catch_all : HasCatchAll (map (λ c. c.conditions) cs)
   pub accepted : IsAccepted (resolved version tree ss ps cs).policy
+  pub built_in : AreBuiltIn (resolved version tree ss ps cs).policy

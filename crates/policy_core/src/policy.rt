@@ -5,6 +5,7 @@ ghost use Rattle.tree_defs.specs.Tree.{depth as levels, nodes, IsAddressOf, Lead
 ghost use Rattle.tree_defs.specs.Topology.{topology_of, IsBranched};
 ghost use Rattle.tree_core.specs.Shape.{topology};
 ghost use Rattle.policy_defs.specs.Accepted.{IsAccepted};
+ghost use Rattle.policy_defs.specs.BuiltIn.{AreBuiltIn};
 ghost use Rattle.text_core.specs.Tokens.{most_name};
 ghost use Rattle.policy_defs.specs.Numbers.{number_at};
 ghost use Rattle.policy_core.specs.Numbering.{address_at, HasAt};
@@ -61,6 +62,7 @@ impl Policy {
         requires few { length classes ≤ most_classes }
         requires catch_all { HasCatchAll (map (λ c. c.conditions) classes) }
         requires accepted { IsAccepted (resolved version tree stations programs classes).policy }
+        requires built_in { AreBuiltIn (resolved version tree stations programs classes).policy }
         ensures policy { result ≡ resolved version tree stations programs classes }
     {
         Policy {
@@ -173,6 +175,7 @@ impl Policy {
     pub fn using(&self, node: u32) -> &str
         requires there { node < nodes self.now.policy.tree }
         ensures using { HasAt self.now.policy.tree node (λ n. result.now ≡ n.using) }
+        ensures built_in { AreBuiltIn self.now.policy }
     {
         station_of(&self.tree, self.stations.as_slice(), node)
             .using

@@ -1,3 +1,4 @@
 pub mod Policy
 pub mod Accepted
+pub mod BuiltIn
 pub mod Numbers

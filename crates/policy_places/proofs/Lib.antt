@@ -10,5 +10,6 @@ pub mod HomePasses
 pub mod DistinctClasses
 pub mod HomeLaws
 pub mod AcceptedPolicies
+pub mod BuiltIns
 pub mod Shape
 pub mod TreeAgreement

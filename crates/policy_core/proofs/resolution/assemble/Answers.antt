@@ -8,7 +8,7 @@ use Rattle.tree_graph.specs.Preorder.{Numbered, IsSound}
 use Rattle.policy_programs.proofs.KnownPrograms.{shaped_known}
 use Rattle.policy_family.proofs.FamilyFaults.{is-forest, is-shallow}
 use Rattle.policy_places.specs.Homes.{AreHomes}
-use Rattle.policy_core.proofs.AssembledParts.{root-is, root-small, graph-few, homes-count, parts-made, leaves-there, few-made, catch-all-made, stations-there, accepted-made, resolved-made}
+use Rattle.policy_core.proofs.AssembledParts.{root-is, root-small, graph-few, homes-count, parts-made, leaves-there, few-made, catch-all-made, stations-there, accepted-made, built-in-made, resolved-made}
 use Rattle.policy_core.proofs.resolution.assemble.Goals as goal
 
 pub overflow_cast-root : goal.overflow_cast-root
@@ -87,6 +87,14 @@ new-requires-2-clause-accepted c =
     accepted-made es c.requires.accepted _ _ _ _ _ parts c.version.result c.version.ensures c.requires.rising c.requires.valid
     (shaped_known es c.requires.rising c.requires.accepted.0.0.0.0.0.0.0.0 c.requires.valid).1.1.1.1.1.1
     (subst (λ (p : Numbered). IsSound p.rows p.topology) c.tree.view_is c.tree.invariant)
+
+pub new-requires-2-clause-built_in : goal.new-requires-2-clause-built_in
+new-requires-2-clause-built_in c =
+    let es = entries_of c.args.lines.now in
+    let at = root-is es c.args.spaces.now.nodes c.place.result c.unwrap_or-root.result c.requires.accepted c.requires.spaces.nodes_are c.place.ensures c.unwrap_or-root.ensures in
+    let parts = parts-made es (lists c.args.graph.now) c.unwrap_or-root.result c.in_ok-tree.tree c.in_ok-stations.stations c.args.programs c.as_slice.result.now _ c.in_ok-classes.classes c.requires.graph at c.in_ok-tree.ensures.tree
+    c.requires.programs c.in_ok-stations.ensures.nodes c.as_slice.ensures.value c.in_ok-leaves.ensures.homes c.in_ok-classes.ensures.classes in
+    built-in-made es c.requires.accepted _ _ _ _ _ parts c.version.result c.version.ensures c.requires.valid
 
 pub returns : goal.returns
 returns c =

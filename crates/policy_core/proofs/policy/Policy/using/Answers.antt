@@ -1,3 +1,6 @@
+use Rattle.std.proofs.Common.{subst}
+use Rattle.policy_defs.specs.BuiltIn.{AreBuiltIn}
+use Rattle.policy_rules.specs.Resolved.{Resolved}
 use Rattle.policy_core.proofs.PolicyParts.{within, own-station, using-is}
 use Rattle.policy_core.proofs.policy.Policy.using.Goals as goal
 
@@ -5,4 +8,7 @@ pub station_of-requires-clause-there : goal.station_of-requires-clause-there
 station_of-requires-clause-there c = within _ _ _ _ _ c.args.self.now c.self.view_is c.self.invariant c.args.node c.requires.there
 
 pub returns : goal.returns
-returns c = record { using = using-is _ _ _ _ _ c.args.self.now c.self.view_is c.self.invariant c.args.node c.station_of.result.now c.as_str.result.now c.requires.there (own-station _ _ _ _ _ c.args.self.now c.self.view_is c.self.invariant c.args.node c.station_of.result.now c.as_slice.result.now c.as_slice.ensures c.station_of.ensures) c.as_str.ensures }
+returns c = record {
+  using = using-is _ _ _ _ _ c.args.self.now c.self.view_is c.self.invariant c.args.node c.station_of.result.now c.as_str.result.now c.requires.there (own-station _ _ _ _ _ c.args.self.now c.self.view_is c.self.invariant c.args.node c.station_of.result.now c.as_slice.result.now c.as_slice.ensures c.station_of.ensures) c.as_str.ensures;
+  built_in = subst (λ (r : Resolved). AreBuiltIn r.policy) c.self.view_is c.self.invariant.built_in;
+}
