@@ -23,7 +23,8 @@ use Rattle.sched_defs.proofs.Soundness.{sound_start}
 use Rattle.sched_defs.proofs.Runs.{CanMake-front, outcomes-append, pushed_in-append, none_lost}
 use Rattle.sched_defs.proofs.Links.{link_can, link_leaves}
 use Rattle.forward_defs.specs.Sendings.{Sending, late, sendings, up_to_late}
-use Rattle.forward_defs.specs.Forwarded.{Captured, sent_record, sent_packet, forward_bytes}
+use Rattle.sched_defs.specs.Packets.{Captured}
+use Rattle.forward_defs.specs.Forwarded.{sent_record, sent_packet, forward_bytes}
 use Rattle.forward_defs.specs.Laws.{FitsRecord, ForwardedAreReadBack, ForwardedRunsAreReadBack}
 use Rattle.forward_defs.proofs.LateEvents.{up_to_late-first}
 use Rattle.forward_defs.proofs.SentPackets.{sendings-on_time, sendings-few, sendings-known}

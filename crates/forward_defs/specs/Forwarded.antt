@@ -1,5 +1,5 @@
 -- The bytes of a capture of departures: little-endian, with nanoseconds (libpcap 2.4).
-use Rattle.std.specs.Prelude.{◌≡◌, refl, ℕ, ◌+◌, ◌==◌, if◌then◌else◌, Some, List, [], ◌∷◌, map}
+use Rattle.std.specs.Prelude.{◌≡◌, refl, ℕ, Some, List, [], ◌∷◌, map}
 use Rattle.pcap_defs.specs.Packet.{CapturedPacket}
 use Rattle.pcap_defs.specs.Record.{Record}
 use Rattle.pcapout_core.specs.Bytes.{file_bytes, two_packets_file}
@@ -7,16 +7,8 @@ use Rattle.pcapout_core.specs.Laws.{record_at}
 use Rattle.packet_defs.specs.declared.packet.Packet.{Packet}
 use Rattle.rank_defs.specs.declared.environment.FlowKey.{FlowKey}
 use Rattle.sched_defs.specs.Events.{Outcome, Departed, Empty, Dropped}
+use Rattle.sched_defs.specs.Packets.{Captured, captured_from}
 use Rattle.forward_defs.specs.Sendings.{Sending, sendings}
-
--- the captured bytes of each packet, by its number
-abbrev pub Captured : Type 0
-Captured = ℕ → List ℕ
-
--- those of the packets of a capture, of which the first has this number
-abbrev pub captured_from : ℕ → List CapturedPacket → Captured
-captured_from first [] n = []
-captured_from first (p ∷ packets) n = if n == first then p.captured else captured_from (first + 1) packets n
 
 -- the record of a packet that leaves: the moment at which it starts, its original length and its captured bytes
 abbrev pub sent_record : Captured → Sending → Record
@@ -34,10 +26,10 @@ forward_bytes link captured os = file_bytes link (map (sent_record captured) (se
 abbrev no_flow : FlowKey
 no_flow = record { version = 0; source = 0; target = 0; proto = 0; sport = 0; dport = 0 }
 
-abbrev packet_of : ℕ → Packet
+abbrev pub packet_of : ℕ → Packet
 packet_of n = record { number = n; class = 0; len = 4; moment = 1000000000; flow = no_flow }
 
-abbrev two_captured : Captured
+abbrev pub two_captured : Captured
 two_captured = captured_from 1 (record { link = 147; moment = 1; original = 4; captured = 0 ∷ 0 ∷ 0 ∷ 1 ∷ [] } ∷ record { link = 147; moment = 1; original = 4; captured = 0 ∷ 0 ∷ 0 ∷ 2 ∷ [] } ∷ [])
 
 -- what is dropped and what finds nothing is no record, and neither is what leaves late

@@ -1,4 +1,5 @@
 pub mod Sendings
 pub mod Forwarded
 pub mod OneLink
+pub mod Keeping
 pub mod Laws

@@ -32,8 +32,9 @@ fn header(link: u16) -> [u8; 24]
     bytes
 }
 
-/// What stands before the captured bytes of a record.
-fn front(seconds: u32, nanos: u32, captured: u32, len: u32) -> [u8; 16]
+/// What stands before the captured bytes of a record: its moment in seconds and nanoseconds, and two counts of bytes, the
+/// captured ones and the packet's original length.
+pub fn record_front(seconds: u32, nanos: u32, captured: u32, len: u32) -> [u8; 16]
     ensures { result ≡ record_front seconds nanos captured len }
 {
     let mut bytes = [0u8; 16];
@@ -70,6 +71,6 @@ pub fn put_record<K: Sink>(
     ensures kept { KeepsSink K.written K.faults sink.old sink.new }
     ensures cause { IsErrOf result SinkError.Failed → Rose (K.faults sink.old) (K.faults sink.new) }
 {
-    write_all(sink, &front(seconds, nanos, bytes.len() as u32, len))?;
+    write_all(sink, &record_front(seconds, nanos, bytes.len() as u32, len))?;
     write_all(sink, bytes)
 }

@@ -1,0 +1,16 @@
+-- What is told of outcomes in a row is told of the first of them, and then of the others.
+use Rattle.std.proofs.Common.{◌≡◌, ℕ, List, [], ◌∷◌, ◌++◌, refl, sym, ap, ◌∙◌, append_assoc}
+use Rattle.sched_defs.specs.Events.{Outcome}
+use Rattle.sched_defs.specs.Packets.{Captured}
+use Rattle.forward_defs.specs.Keeping.{Keeping, keeps, record_of, kept_behind, records_of}
+
+pub kept_behind-append : (captured : Captured) (k : Keeping) (os ps : List Outcome) → kept_behind captured k (os ++ ps) ≡ kept_behind captured (kept_behind captured k os) ps
+kept_behind-append captured k [] ps = refl
+kept_behind-append captured k (o ∷ os) ps = kept_behind-append captured (keeps captured k o) os ps
+
+pub records_of-append : (captured : Captured) (k : Keeping) (os ps : List Outcome)
+    → records_of captured k (os ++ ps) ≡ records_of captured k os ++ records_of captured (kept_behind captured k os) ps
+records_of-append captured k [] ps = refl
+records_of-append captured k (o ∷ os) ps =
+    ap (λ (x : List ℕ). record_of k o ++ x) (records_of-append captured (keeps captured k o) os ps)
+    ∙ sym (append_assoc (record_of k o) (records_of captured (keeps captured k o) os) (records_of captured (kept_behind captured (keeps captured k o) os) ps))
