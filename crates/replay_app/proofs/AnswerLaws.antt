@@ -10,17 +10,19 @@ use Rattle.sched_defs.specs.declared.ending.Ending.{Ending}
 use Rattle.sched_defs.specs.declared.ending.Ending.TheVariants.{Whole, BadCapture, PastLast}
 use Rattle.replay_app.specs.Policies.{entries_in, senses_of}
 use Rattle.replay_app.specs.Scripts.{ending_status}
-use Rattle.replay_app.specs.Statuses.{IsOneOf, IsRefusal, IsStop, run_statuses, pace_statuses, paced_statuses, run_status, status_code}
+use Rattle.replay_app.specs.Statuses.{IsOneOf, IsRefusal, IsStop, run_statuses, pace_statuses, paced_statuses, forward_statuses, run_status, forward_status, status_code}
 use Rattle.replay_app.specs.Stops.{stop_status}
 use Rattle.replay_app.specs.declared.status.Status.TheVariants as status
-use Rattle.replay_app.specs.declared.status.Status.TheVariants.{Done, NoForm, BadPolicy, BadTarget, NoRoom, BadScript, BadTree, BadMap}
+use Rattle.replay_app.specs.declared.status.Status.TheVariants.{Done, NoForm, BadPolicy, BadTarget, NoRoom, BadScript, BadTree, BadMap, LateStart, OtherLink}
 use Rattle.outside_core.specs.declared.stop.Stop.TheVariants.{Source, Sink, Memory}
 use Rattle.replay_app.specs.declared.status.Status.{Status}
 use Rattle.outside_core.specs.declared.stop.Stop.{Stop}
 use Rattle.sched_run.specs.Steps.{CanEndSo}
+use Rattle.sched_capture.specs.declared.departures.ForwardEnding.{ForwardEnding}
+use Rattle.sched_capture.specs.declared.departures.ForwardEnding.TheVariants as forward_ending
 use Rattle.sched_run.specs.declared.pace.Pace.{Pace}
 use Rattle.sched_run.specs.declared.pace.Pace.TheVariants as pace
-use Rattle.replay_app.specs.Words.{AreTold, Pacing, script, link}
+use Rattle.replay_app.specs.Words.{AreTold, Pacing, script, link, forward}
 
 -- a name that was told is told after others were read
 pub told-later : {S : Type 0} (lends : S → List ℕ → Bool) (content : S → List ℕ → Option (List ℕ)) (old new : S) (contents : List ℕ → List ℕ) (names : List (List ℕ))
@@ -69,9 +71,27 @@ no_refusal n (inr (inr (inl e))) (inl r) = omega (arith, e, r.0)
 no_refusal n (inr (inr (inl e))) (inr r) = omega (arith, e, r.0)
 no_refusal n (inr (inr (inr e))) r = e
 
+no_refusal_forward : (n : ℕ) → IsOneOf forward_statuses n → IsRefusal n → ⊥
+no_refusal_forward n (inl e) (inl r) = omega (arith, e, r.1)
+no_refusal_forward n (inl e) (inr r) = omega (arith, e, r.0)
+no_refusal_forward n (inr (inl e)) (inl r) = omega (arith, e, r.1)
+no_refusal_forward n (inr (inl e)) (inr r) = omega (arith, e, r.1)
+no_refusal_forward n (inr (inr (inl e))) (inl r) = omega (arith, e, r.1)
+no_refusal_forward n (inr (inr (inl e))) (inr r) = omega (arith, e, r.1)
+no_refusal_forward n (inr (inr (inr (inl e)))) (inl r) = omega (arith, e, r.0)
+no_refusal_forward n (inr (inr (inr (inl e)))) (inr r) = omega (arith, e, r.0)
+no_refusal_forward n (inr (inr (inr (inr e)))) r = e
+
+pub forward_ends : (e : ForwardEnding) → IsOneOf forward_statuses (status_code (forward_status e))
+forward_ends forward_ending.Whole = inr (inr (inr (inl refl)))
+forward_ends (forward_ending.BadCapture c p) = inl refl
+forward_ends (forward_ending.OtherLink n) = inr (inl refl)
+forward_ends forward_ending.Late = inr (inr (inl refl))
+
 no_refusal_by : (p : Pacing) (n : ℕ) → IsOneOf (paced_statuses p) n → IsRefusal n → ⊥
 no_refusal_by (script e named) n one r = no_refusal n one r
 no_refusal_by (link rate) n one r = no_refusal n (inr one) r
+no_refusal_by (forward rate) n one r = no_refusal_forward n one r
 
 pub paced_no_refusal : (p : Pacing) (r : Result Status Stop) (A : Type 0) → IfOk r (λ s. IsOneOf (paced_statuses p) (status_code s)) → IfOk r (λ s. IsRefusal (status_code s) → A)
 paced_no_refusal p (Ok s) A one = λ refused. absurd (no_refusal_by p (status_code s) one refused)
@@ -88,6 +108,8 @@ apart BadScript = inl (omega arith)
 apart status.BadCapture = inl (omega arith)
 apart BadTree = inr (omega arith)
 apart BadMap = inr (omega arith)
+apart LateStart = inr (omega arith)
+apart OtherLink = inr (omega arith)
 
 outside : (n : ℕ) → (n < 8) ⊎ (10 < n) → IsStop n → ⊥
 outside n (inl low) (inl e) = omega (arith, low, e)

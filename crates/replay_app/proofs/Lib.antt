@@ -12,6 +12,7 @@ pub mod AnswerLaws
 pub mod Unused
 pub mod TapLaws
 pub mod CaptureLaws
+pub mod ForwardLaws
 pub mod WordLaws
 pub mod OfficeRoom
 pub mod SoakLaws

@@ -14,11 +14,14 @@ use Rattle.replay_app.specs.Targets.{IsPlanned, planned, plan_answer}
 use Rattle.replay_app.specs.Statuses.{status_code}
 use Rattle.replay_app.specs.declared.status.Status.{Status}
 use Rattle.outside_core.specs.declared.stop.Stop.{Stop}
-use Rattle.sched_defs.specs.Pace.{Pace, Link}
-use Rattle.replay_app.specs.Output.{laid_run, watchers}
-use Rattle.replay_app.specs.Scripts.{PacedBy, script_pace}
+use Rattle.policy_rules.specs.Resolved.{Resolved}
+use Rattle.sched_defs.specs.Pace.{Link}
+use Rattle.sched_embedded.specs.Laid.{Laid}
+use Rattle.tap_core.specs.Lists.{Entry}
+use Rattle.replay_app.specs.Output.{laid_run, forward_run, watchers, IsPaced}
+use Rattle.replay_app.specs.Scripts.{script_pace}
 use Rattle.replay_app.specs.Via.{names_of}
-use Rattle.replay_app.specs.Words.{Pacing, script, link, replay, check, plan, direct, soak, via, no_form}
+use Rattle.replay_app.specs.Words.{Pacing, script, link, forward, replay, check, plan, direct, soak, via, no_form}
 use Rattle.replay_app.proofs.FollowLaws.{one-follows}
 use Rattle.replay_app.proofs.Inputs.{policies_are_one, targets_are_one, rooms_are_one, scripts_are_one}
 use Rattle.replay_app.proofs.ViaInputs.{topologies_are_one, maps_are_one, carried_are_one}
@@ -39,19 +42,22 @@ planned_told policy target fits text is old new (Err e) status whole part = reco
   part = λ b k. subst (λ (a : Answer). AppendedPrefix old new a.text) (one-planned policy target (plan_answer fits text) b (planned fits text is) k) part;
 }
 
-same-answer : (x a b : Answer) → a ≡ x → b ≡ x → a ≡ b
+pub same-answer : (x a b : Answer) → a ≡ x → b ≡ x → a ≡ b
 same-answer x a b e f = e ∙ sym f
 
-one-paced : (pacing : Pacing) (contents : List ℕ → List ℕ) (x : Pace → Answer) (a b : Answer) → PacedBy pacing contents (λ pace b. b ≡ x pace) a → PacedBy pacing contents (λ pace b. b ≡ x pace) b → a ≡ b
-one-paced (script e named) contents x = one-follows kind.Script _ _ _ (scripts_are_one (contents e)) (λ steps. same-answer (x (script_pace steps)))
-one-paced (link rate) contents x = same-answer (x (Link rate))
+one-paced : (watching : List Entry) (policy : Resolved) (laid : Laid) (pacing : Pacing) (capture : List ℕ) (contents : List ℕ → List ℕ) (a b : Answer)
+    → IsPaced watching policy laid pacing capture contents a → IsPaced watching policy laid pacing capture contents b → a ≡ b
+one-paced watching policy laid (script e named) capture contents =
+    one-follows kind.Script _ _ _ (scripts_are_one (contents e)) (λ steps. same-answer (laid_run policy laid (script_pace steps) capture watching))
+one-paced watching policy laid (link rate) capture contents = same-answer (laid_run policy laid (Link rate) capture watching)
+one-paced watching policy laid (forward rate) capture contents = same-answer (forward_run policy laid rate capture)
 
 pub one-answer : HaveOneAnswer
 one-answer (replay p t c pacing) contents taps a b x y =
     one-follows kind.Policy _ _ _ (policies_are_one (contents p)) (λ judged.
     one-follows kind.Target _ _ _ (targets_are_one (contents t)) (λ target.
     one-follows kind.Size _ _ _ (rooms_are_one (topology_of judged.policy.policy.tree) target) (λ images.
-    one-paced pacing contents (λ pace. laid_run judged.policy (record { images = images; arities = target.arities }) pace (contents c) (watchers pacing taps))))) a b x y
+    one-paced (watchers pacing taps) judged.policy (record { images = images; arities = target.arities }) pacing (contents c) contents))) a b x y
 one-answer (check p) contents taps a b x y = one-follows kind.Policy _ _ _ (policies_are_one (contents p)) (λ judged. same-answer _) a b x y
 one-answer (plan p t) contents taps a b x y =
     one-follows kind.Policy _ _ _ (policies_are_one (contents p)) (λ judged.

@@ -33,9 +33,11 @@ use Rattle.replay_app.specs.Laws.{HaveAnAnswer}
 use Rattle.replay_app.specs.Policies.{at_fault, IsPolicyRefused, text_refused, statements_refused, Judged, IsPolicy}
 use Rattle.replay_app.specs.Scripts as scripts
 use Rattle.replay_app.specs.Targets.{IsTargetRefused, IsTargetOf, HasNoRoom, IsPlacement, IsPlanned, planned, plan_answer}
-use Rattle.sched_defs.specs.Pace.{Pace, Link}
-use Rattle.replay_app.specs.Output.{laid_run, watchers}
-use Rattle.replay_app.specs.Scripts.{PacedBy}
+use Rattle.policy_rules.specs.Resolved.{Resolved}
+use Rattle.sched_defs.specs.Pace.{Link}
+use Rattle.sched_embedded.specs.Laid.{Laid}
+use Rattle.tap_core.specs.Lists as lists
+use Rattle.replay_app.specs.Output.{laid_run, forward_run, watchers, IsPaced}
 use Rattle.replay_app.specs.Words as words
 use Rattle.replay_app.specs.Words.{Pacing, replay, check, plan, direct, soak, via, no_form}
 use Rattle.replay_app.specs.Soak.{soak_target}
@@ -59,19 +61,19 @@ refused_at text n not_text first none' = none' 22 n (text_refused 22 n (at_fault
 refused_at text n syntax_fault first none' = none' 23 n (text_refused 23 n (at_fault (fault.Syntax n) first))
 refused_at text n shaping first none' = none' 24 n (text_refused 24 n (at_fault (fault.Shaping n) first))
 
-read_policies : (text : List ℕ) → ((j : Judged) → IsPolicy text j → ⊥) → ((code line : ℕ) → IsPolicyRefused text code line → ⊥) → ⊥
+pub read_policies : (text : List ℕ) → ((j : Judged) → IsPolicy text j → ⊥) → ((code line : ℕ) → IsPolicyRefused text code line → ⊥) → ⊥
 read_policies text none none' = elim (cases_lt most_text (length text)) [
   | inl long ↦ none' 21 0 (text_refused 21 0 (at_fault fault.TooLong long))
   | inr short ↦ an_answer text short (policy_of_text text none none') (λ n f first. refused_at text n f first none')
 ]
 
-read_targets : (text : List ℕ) → ((t : Target) → IsTargetOf text t → ⊥) → ((code place : ℕ) → IsTargetRefused text code place → ⊥) → ⊥
+pub read_targets : (text : List ℕ) → ((t : Target) → IsTargetOf text t → ⊥) → ((code place : ℕ) → IsTargetRefused text code place → ⊥) → ⊥
 read_targets text none none' = elim (an_answer-holds text) [
   | inl (arities, (above, is)) ↦ none (record { arities = arities; above = above }) is
   | inr (code, is) ↦ none' code 0 (is, refl)
 ]
 
-read_rooms : (s : Topology) (t : Target) → IsInRange t.arities t.above → ((images : Tree Address) → IsPlacement s t images → ⊥) → ((code place : ℕ) → HasNoRoom s t code place → ⊥) → ⊥
+pub read_rooms : (s : Topology) (t : Target) → IsInRange t.arities t.above → ((images : Tree Address) → IsPlacement s t images → ⊥) → ((code place : ℕ) → HasNoRoom s t code place → ⊥) → ⊥
 read_rooms s t range none none' =
     let wide : AreWide (levels t.arities t.above) = λ h. (heights_in_range-holds t.arities t.above range h).0 in
     elim (there_or_none (levels t.arities t.above) (length t.arities) s wide) [
@@ -89,7 +91,7 @@ read_scripts text none none' = elim (cases_lt most_bytes (length text)) [
 ]
 
 -- ---- words and contents
-exactly : (x : Answer) → ((a : Answer) → a ≡ x → ⊥) → ⊥
+pub exactly : (x : Answer) → ((a : Answer) → a ≡ x → ⊥) → ⊥
 exactly x none = none x refl
 
 a_plan_of : (policy : Policy) (t : Target) → IsInRange t.arities t.above → ((a : Answer) → IsPlanned policy t a → ⊥) → ⊥
@@ -97,16 +99,19 @@ a_plan_of policy t range none =
     let p = a_plan policy t.arities t.above range in
     none (plan_answer p.0 p.1.0) (planned p.0 p.1.0 p.1.1)
 
-some-paced : (pacing : Pacing) (contents : List ℕ → List ℕ) (x : Pace → Answer) → ((a : Answer) → PacedBy pacing contents (λ pace b. b ≡ x pace) a → ⊥) → ⊥
-some-paced (words.script e named) contents x = some-follows kind.Script _ _ _ (read_scripts (contents e)) (λ steps is. exactly (x (scripts.script_pace steps)))
-some-paced (words.link rate) contents x = exactly (x (Link rate))
+some-paced : (watching : List lists.Entry) (policy : Resolved) (laid : Laid) (pacing : Pacing) (capture : List ℕ) (contents : List ℕ → List ℕ)
+    → ((a : Answer) → IsPaced watching policy laid pacing capture contents a → ⊥) → ⊥
+some-paced watching policy laid (words.script e named) capture contents =
+    some-follows kind.Script _ _ _ (read_scripts (contents e)) (λ steps is. exactly (laid_run policy laid (scripts.script_pace steps) capture watching))
+some-paced watching policy laid (words.link rate) capture contents = exactly (laid_run policy laid (Link rate) capture watching)
+some-paced watching policy laid (words.forward rate) capture contents = exactly (forward_run policy laid rate capture)
 
 pub some-answer : HaveAnAnswer
 some-answer (replay p t c pacing) contents taps =
     some-follows kind.Policy _ _ _ (read_policies (contents p)) (λ judged policy.
     some-follows kind.Target _ _ _ (read_targets (contents t)) (λ target is.
     some-follows kind.Size _ _ _ (read_rooms (topology_of judged.policy.policy.tree) target (in_range-holds (contents t) target.arities target.above is)) (λ images placed.
-    some-paced pacing contents (λ pace. laid_run judged.policy (record { images = images; arities = target.arities }) pace (contents c) (watchers pacing taps)))))
+    some-paced (watchers pacing taps) judged.policy (record { images = images; arities = target.arities }) pacing (contents c) contents)))
 some-answer (check p) contents taps = some-follows kind.Policy _ _ _ (read_policies (contents p)) (λ judged policy. exactly _)
 some-answer (plan p t) contents taps =
     some-follows kind.Policy _ _ _ (read_policies (contents p)) (λ judged policy.

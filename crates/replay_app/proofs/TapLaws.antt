@@ -20,7 +20,7 @@ use Rattle.replay_app.specs.Output.{IsOutput}
 use Rattle.replay_app.specs.Behind.{tap_list, IsLeftOf}
 use Rattle.replay_app.specs.Scripts.{OfLines, lines_behind}
 use Rattle.replay_app.specs.Stages.{watching_in, BehindWords}
-use Rattle.replay_app.specs.Words.{replay, script, link}
+use Rattle.replay_app.specs.Words.{Pacing, replay, script, link, forward}
 
 -- ---- lines
 lines_by : (e : Ending) (shown : List Shown) (before after : Sight) (P : List ℕ → Type 0) → Watches shown before after → OfLines e after P → P (lines_behind e (watching_in before) (Some shown))
@@ -63,10 +63,19 @@ script_left fabrics p t c e named contents r old new before after taps left same
     (subst (λ (ts : List Entry). IsLeftOf fabrics (replay p t c (script e named)) contents r old new ts after.taps) first all)
 
 -- where a link paces it, no tap is touched
-pub link_left : {F : Type 0} (fabrics : Ghosts F) (p t c : List ℕ) (rate : ℕ) (contents : List ℕ → List ℕ) (taps : List Entry) (r : Result Status Stop) (old new : F) (before after : Sight)
-    → IsLeft fabrics (IsOutput (replay p t c (link rate)) contents taps) r old new before after
-    → IsLeftOf fabrics (replay p t c (link rate)) contents r old new taps taps
-link_left fabrics p t c rate contents taps r old new before after left = record {
-  whole = on_ok_weaker r (λ each a is. record { fabric = (each a is).fabric; taps = refl }) left.whole;
+abbrev WatchesNothing : Pacing → Type 0
+WatchesNothing (script e named) = ⊥
+WatchesNothing pacing = Unit {0}
+
+untouched : (p t c : List ℕ) (pacing : Pacing) (shown : Option (List Shown)) (taps : List Entry) → WatchesNothing pacing → taps ≡ tap_list (replay p t c pacing) shown taps
+untouched p t c (script e named) shown taps none = absurd none
+untouched p t c (link rate) shown taps none = refl
+untouched p t c (forward rate) shown taps none = refl
+
+pub link_left : {F : Type 0} (fabrics : Ghosts F) (p t c : List ℕ) (pacing : Pacing) (contents : List ℕ → List ℕ) (taps : List Entry) (r : Result Status Stop) (old new : F) (before after : Sight) → WatchesNothing pacing
+    → IsLeft fabrics (IsOutput (replay p t c pacing) contents taps) r old new before after
+    → IsLeftOf fabrics (replay p t c pacing) contents r old new taps taps
+link_left fabrics p t c pacing contents taps r old new before after none left = record {
+  whole = on_ok_weaker r (λ each a is. record { fabric = (each a is).fabric; taps = untouched p t c pacing a.shown taps none }) left.whole;
   part = left.part;
 }

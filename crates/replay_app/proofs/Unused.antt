@@ -20,7 +20,7 @@ planned_alone policy target a (planned true text h) = refl
 planned_alone policy target a (planned false text h) = refl
 
 -- nothing is run
-no_run : (form : Form) (contents : List ℕ → List ℕ) (taps : List Entry) → UsesNoFabric form → (a : Answer) → IsOutput form contents taps a → a.run ≡ None
+pub no_run : (form : Form) (contents : List ℕ → List ℕ) (taps : List Entry) → UsesNoFabric form → (a : Answer) → IsOutput form contents taps a → a.run ≡ None
 no_run (replay p t c pacing) contents taps none a is = absurd none
 no_run (check p) contents taps none a is = each-follows kind.Policy _ _ _ (λ b. b.run ≡ None) (λ code place h. refl) (λ judged b h e. ap (λ (x : Answer). x.run) e) a is
 no_run (plan p t) contents taps none a is =

@@ -1,5 +1,5 @@
 -- What the program answers.
-use Rattle.std.specs.Prelude.{◌≡◌, ℕ, Option, None, List, Result, IfOk, OnOk, OnErr}
+use Rattle.std.specs.Prelude.{◌≡◌, ◌⊎◌, ℕ, Option, None, List, Result, IfOk, OnOk, OnErr}
 use Rattle.outside_core.specs.Written.{Appended, AppendedPrefix}
 use Rattle.report_defs.specs.Report.{fault_line}
 use Rattle.report_core.specs.Faults.{word_of}
@@ -9,7 +9,7 @@ use Rattle.sched_embedded.specs.Fabrics.{FabricRun, Leaves, LeavesPart}
 use Rattle.sched_capture.specs.Answers.{HaveWatched}
 use Rattle.tap_core.specs.Lists.{Shown}
 use Rattle.tap_core.specs.Watching.{Sight}
-use Rattle.replay_app.specs.Statuses.{status_code, kind_status}
+use Rattle.replay_app.specs.Statuses.{status_code, kind_status, IsStop}
 use Rattle.replay_app.specs.declared.status.Status.{Status}
 use Rattle.outside_core.specs.declared.stop.Stop.{Stop}
 
@@ -43,6 +43,15 @@ Each output P = (a : Answer) → output a → P a
 -- of each of the answers a first part was written
 abbrev pub IsPartWritten : (Answer → Type 0) → Option (List ℕ) → Option (List ℕ) → Type 0
 IsPartWritten output old new = Each output (λ a. AppendedPrefix old new a.text)
+
+-- the program was stopped, and of each of the answers a first part was written
+pub record IsStopped (output : Answer → Type 0) (status : ℕ) (old new : Option (List ℕ)) : Type 0 where
+  pub stop : IsStop status
+  pub part : IsPartWritten output old new
+
+-- one of the answers was given, or the program was stopped with a first part of each of them
+abbrev pub IsGiven : (Answer → Type 0) → ℕ → Option (List ℕ) → Option (List ℕ) → Type 0
+IsGiven output status old new = IsWritten output status old new ⊎ IsStopped output status old new
 
 -- One of the answers was written whole, and its status is given; or the call was stopped with a first part of each of them.
 pub record IsTold (output : Answer → Type 0) (r : Result Status Stop) (old new : Option (List ℕ)) : Type 0 where

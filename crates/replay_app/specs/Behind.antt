@@ -10,13 +10,16 @@ use Rattle.replay_app.specs.Statuses.{IsStop}
 use Rattle.replay_app.specs.Words.{Form, replay, script, soak, via}
 use Rattle.tap_core.specs.Lists.{Shown, Entry, named_entries, left_after}
 
--- Where nothing stopped the program, what the run of the words leaves; else what was there, or what a first part of the
--- run leaves.
-pub record IsLeftBehind {F : Type 0} (fabrics : Ghosts F) (form : Form) (contents : List ℕ → List ℕ) (taps : List Entry) (status : ℕ) (old new : F) : Type 0 where
-  pub whole : ¬ IsStop status → Each (IsOutput form contents taps) (λ a. Leaves fabrics a.run old new)
-  pub part : IsStop status → Each (IsOutput form contents taps) (λ a. LeavesPart fabrics a.run old new)
+-- Where nothing stopped the program, what the run of each of the answers leaves; else what was there, or what a first part of
+-- the run leaves.
+pub record HoldsLeft {F : Type 0} (fabrics : Ghosts F) (output : Answer → Type 0) (status : ℕ) (old new : F) : Type 0 where
+  pub whole : ¬ IsStop status → Each output (λ a. Leaves fabrics a.run old new)
+  pub part : IsStop status → Each output (λ a. LeavesPart fabrics a.run old new)
 
--- only `replay`, `link`, `soak` and `via` use the fabric
+abbrev pub IsLeftBehind : {F : Type 0} → Ghosts F → Form → (List ℕ → List ℕ) → List Entry → ℕ → F → F → Type 0
+IsLeftBehind fabrics form contents taps = HoldsLeft fabrics (IsOutput form contents taps)
+
+-- only `replay`, `link`, `forward`, `soak` and `via` use the fabric
 abbrev pub UsesNoFabric : Form → Type 0
 UsesNoFabric (replay p t c pacing) = ⊥
 UsesNoFabric (soak load) = ⊥
@@ -30,9 +33,12 @@ abbrev pub tap_list : Form → Option (List Shown) → List Entry → List Entry
 tap_list (replay p t c (script e named)) (Some shown) taps = left_after shown (named_entries named taps)
 tap_list form shown taps = taps
 
--- where nothing stopped the program, these taps are left
+-- where nothing stopped the program, the taps are left that each of the answers leaves
+abbrev pub AreLeft : (Answer → Type 0) → (Answer → List Entry) → ℕ → List Entry → Type 0
+AreLeft output left status new = ¬ IsStop status → Each output (λ a. new ≡ left a)
+
 abbrev pub AreTapsLeft : Form → (List ℕ → List ℕ) → ℕ → List Entry → List Entry → Type 0
-AreTapsLeft form contents status old new = ¬ IsStop status → Each (IsOutput form contents old) (λ a. new ≡ tap_list form a.shown old)
+AreTapsLeft form contents status old new = AreLeft (IsOutput form contents old) (λ a. tap_list form a.shown old) status new
 
 -- only a run that a script paces shows anything to taps
 abbrev pub UsesNoTaps : Form → Type 0

@@ -4,7 +4,7 @@ use Rattle.link_defs.specs.Link.{IsRate}
 use Rattle.tap_core.specs.Names.{none_named}
 use Rattle.tap_core.specs.declared.watch.Named.{Named}
 use Rattle.sched_run.specs.Drawings.{most_load}
-use Rattle.replay_app.specs.Words.{Pacing, script, link, Form, replay, check, plan, direct, soak, via}
+use Rattle.replay_app.specs.Words.{Pacing, script, link, forward, Form, replay, check, plan, direct, soak, via}
 use Rattle.replay_app.specs.declared.words.Pacing as code
 use Rattle.replay_app.specs.declared.words.Pacing.TheVariants as code_pacing
 use Rattle.replay_app.specs.declared.words.ReplayFiles.{ReplayFiles}
@@ -17,6 +17,7 @@ use Rattle.replay_app.specs.declared.words.Command.TheVariants.{Replay, Check, P
 abbrev pub pacing_form : code.Pacing → Pacing
 pacing_form (code_pacing.Script e named) = script e.now named
 pacing_form (code_pacing.Link rate) = link rate
+pacing_form (code_pacing.Forward rate) = forward rate
 
 abbrev pub replay_form : ReplayFiles → Form
 replay_form f = replay f.policy.now f.target.now f.capture.now (pacing_form f.pacing)
@@ -42,6 +43,7 @@ command_form (Via f) = via_form f
 abbrev pub HasRate : code.Pacing → Type 0
 HasRate (code_pacing.Script e named) = Unit {0}
 HasRate (code_pacing.Link rate) = IsRate rate
+HasRate (code_pacing.Forward rate) = IsRate rate
 
 abbrev pub CanRun : Command → Type 0
 CanRun (Replay f) = HasRate f.pacing
@@ -52,3 +54,4 @@ CanRun command = Unit {0}
 abbrev pub named_of : code.Pacing → Named
 named_of (code_pacing.Script e named) = named
 named_of (code_pacing.Link rate) = none_named
+named_of (code_pacing.Forward rate) = none_named

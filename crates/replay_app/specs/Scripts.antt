@@ -6,7 +6,7 @@ use Rattle.sched_defs.specs.declared.ending.Ending.TheVariants.{Whole, BadCaptur
 use Rattle.events_core.specs.Script.{IsScript, IsFirstFault, most_bytes, code_of, place_of}
 use Rattle.events_core.specs.declared.step.Step.{Step}
 use Rattle.events_core.specs.declared.fault.ScriptFault.{ScriptFault}
-use Rattle.sched_defs.specs.Pace.{Pace, Script, Link}
+use Rattle.sched_defs.specs.Pace.{Pace, Script}
 use Rattle.sched_embedded.specs.Fabrics.{FabricRun}
 use Rattle.sched_run.specs.Steps.{step_of}
 use Rattle.tap_core.specs.Lists.{Shown, Entry, entry_after, lines_of, Tracks}
@@ -14,7 +14,6 @@ use Rattle.tap_core.specs.Watching.{Sight}
 use Rattle.sched_capture.specs.Answers.{RunAnswer}
 use Rattle.replay_app.specs.Answer.{Answer}
 use Rattle.replay_app.specs.Follows.{Follows}
-use Rattle.replay_app.specs.Words.{Pacing, script, link}
 
 -- the code and the line with which a script is refused: it is too long, or its first line at fault decides
 pub data IsScriptRefused (text : List ℕ) : ℕ → ℕ → Type 0 where
@@ -28,11 +27,6 @@ AlongScript text after = Follows kind.Script (IsScriptRefused text) (IsScript te
 -- a run that a script paces
 abbrev pub script_pace : List Step → Pace
 script_pace steps = Script (map step_of steps)
-
--- what follows from what paces a run: the text of a script is read, and a link's rate is known
-abbrev pub PacedBy : Pacing → (List ℕ → List ℕ) → (Pace → Answer → Type 0) → Answer → Type 0
-PacedBy (script e named) contents after = AlongScript (contents e) (λ steps. after (script_pace steps))
-PacedBy (link rate) contents after = after (Link rate)
 
 -- the status of a run: that of its ending
 abbrev pub ending_status : Ending → ℕ

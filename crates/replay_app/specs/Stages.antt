@@ -5,9 +5,9 @@ use Rattle.policy_rules.specs.Resolved.{Resolved}
 use Rattle.target_core.specs.declared.target.Target.{Target}
 use Rattle.sched_embedded.specs.Laid.{Laid}
 use Rattle.replay_app.specs.Answer.{Answer}
-use Rattle.replay_app.specs.Output.{direct_run, laid_run}
+use Rattle.replay_app.specs.Output.{direct_run, laid_run, IsPaced}
 use Rattle.replay_app.specs.Policies.{UnderPolicy}
-use Rattle.replay_app.specs.Scripts.{AlongScript, PacedBy, script_pace}
+use Rattle.replay_app.specs.Scripts.{AlongScript, script_pace}
 use Rattle.mapcheck_core.specs.declared.given.Given.{Given}
 use Rattle.replay_app.specs.Targets.{ForTarget, WithRoom}
 use Rattle.replay_app.specs.Via.{ForTopology, ForMap, WithRoomAlong}
@@ -26,8 +26,7 @@ watching_in sight = named_entries sight.named sight.taps
 
 -- behind the placement of a policy's tree, where these taps watch
 abbrev pub BehindRoom : List Entry → Resolved → Laid → Pacing → List ℕ → (List ℕ → List ℕ) → Answer → Type 0
-BehindRoom watching policy laid pacing capture contents =
-    PacedBy pacing contents (λ pace b. b ≡ laid_run policy laid pace (contents capture) watching)
+BehindRoom watching policy laid pacing capture contents = IsPaced watching policy laid pacing (contents capture) contents
 
 -- where a script paces the run
 abbrev pub BehindScript : List Entry → Resolved → Laid → List ℕ → List ℕ → (List ℕ → List ℕ) → Answer → Type 0

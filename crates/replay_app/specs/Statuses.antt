@@ -4,11 +4,13 @@ use Rattle.report_core.specs.declared.fault.FaultKind.{FaultKind}
 use Rattle.report_core.specs.declared.fault.FaultKind.TheVariants.{Words, Policy, Target, Size, Script, Capture, Tree, Map}
 use Rattle.sched_defs.specs.declared.ending.Ending as run
 use Rattle.sched_defs.specs.declared.ending.Ending.TheVariants as run_ending
+use Rattle.sched_capture.specs.declared.departures.ForwardEnding.{ForwardEnding}
+use Rattle.sched_capture.specs.declared.departures.ForwardEnding.TheVariants as forward_ending
 use Rattle.sched_run.specs.declared.pace.Pace.{Pace}
 use Rattle.sched_run.specs.declared.pace.Pace.TheVariants as pace
-use Rattle.replay_app.specs.Words.{Pacing, script, link, Form, replay, check, plan, direct, soak, via, no_form}
+use Rattle.replay_app.specs.Words.{Pacing, script, link, forward, Form, replay, check, plan, direct, soak, via, no_form}
 use Rattle.replay_app.specs.declared.status.Status.{Status}
-use Rattle.replay_app.specs.declared.status.Status.TheVariants.{Done, NoForm, BadPolicy, BadTarget, NoRoom, BadScript, BadCapture, BadTree, BadMap}
+use Rattle.replay_app.specs.declared.status.Status.TheVariants.{Done, NoForm, BadPolicy, BadTarget, NoRoom, BadScript, BadCapture, BadTree, BadMap, LateStart, OtherLink}
 
 abbrev pub status_code : Status → ℕ
 status_code Done = 0
@@ -20,6 +22,8 @@ status_code BadScript = 6
 status_code BadCapture = 7
 status_code BadTree = 12
 status_code BadMap = 13
+status_code LateStart = 14
+status_code OtherLink = 15
 
 -- where an input of this kind is refused
 abbrev pub kind_status : FaultKind → Status
@@ -38,6 +42,13 @@ run_status (run_ending.Whole unsent) = Done
 run_status (run_ending.PastLast event) = BadScript
 run_status (run_ending.BadCapture c p) = BadCapture
 
+-- where a run ended so whose departures are written as a capture
+abbrev pub forward_status : ForwardEnding → Status
+forward_status forward_ending.Whole = Done
+forward_status (forward_ending.BadCapture c p) = BadCapture
+forward_status (forward_ending.OtherLink n) = OtherLink
+forward_status forward_ending.Late = LateStart
+
 -- ---- what the words alone decide
 -- it is one of these
 abbrev pub IsOneOf : List ℕ → ℕ → Type 0
@@ -52,9 +63,14 @@ run_statuses = 6 ∷ 7 ∷ 0 ∷ []
 abbrev pub link_statuses : List ℕ
 link_statuses = 7 ∷ 0 ∷ []
 
+-- a record of another link type ends a run, and a departure that starts late
+abbrev pub forward_statuses : List ℕ
+forward_statuses = 7 ∷ 15 ∷ 14 ∷ 0 ∷ []
+
 abbrev pub paced_statuses : Pacing → List ℕ
 paced_statuses (script e named) = run_statuses
 paced_statuses (link rate) = link_statuses
+paced_statuses (forward rate) = forward_statuses
 
 abbrev pub pace_statuses : Pace → List ℕ
 pace_statuses (pace.Script steps) = run_statuses

@@ -16,10 +16,12 @@ use Rattle.tap_core.specs.declared.watch.Named.{Named}
 abbrev pub texts : List (String Global) → List (List ℕ)
 texts words = map string_bytes words
 
--- what paces a run: a script of this name, with the kinds of taps that watch, or a link at this rate in bytes a second
+-- what paces a run: a script of this name, with the kinds of taps that watch, or a link at this rate in bytes a second; or a
+-- link whose departures are written as a capture
 pub data Pacing : Type 0 where
   script : List ℕ → Named → Pacing
   link : ℕ → Pacing
+  forward : ℕ → Pacing
 
 -- a command with the names of its files
 pub data Form : Type 0 where
@@ -62,16 +64,17 @@ named_in named [] = Some named
 named_in named (w ∷ []) = None
 named_in named (w ∷ name ∷ more) = if bytes_eq w (codes "tap") then option_and_then (λ n. named_in n more) (named_with named name) else None
 
--- a link behind whose rate no word stands
-abbrev pub link_by : List ℕ → List (List ℕ) → Option Pacing
-link_by rate [] = option_map link (rate_of rate)
-link_by rate (w ∷ more) = None
+-- a rate behind which no word stands
+abbrev pub last_rate : List ℕ → List (List ℕ) → Option ℕ
+last_rate rate [] = rate_of rate
+last_rate rate (w ∷ more) = None
 
 -- what paces a run through the fabric, by the first word, the fifth, and those behind it
 abbrev pub pacing_by : List ℕ → List ℕ → List (List ℕ) → Option Pacing
 pacing_by w fifth more =
     if bytes_eq w (codes "replay") then option_map (script fifth) (named_in none_named more)
-    else (if bytes_eq w (codes "link") then link_by fifth more else None)
+    else (if bytes_eq w (codes "link") then option_map link (last_rate fifth more)
+    else (if bytes_eq w (codes "forward") then option_map forward (last_rate fifth more) else None))
 
 -- a run along a given map, by the names of a policy, a topology, a map and a target, behind which two more stand
 abbrev pub via_by : List ℕ → List ℕ → List ℕ → List ℕ → List (List ℕ) → Form
@@ -91,6 +94,7 @@ form_of words = no_form
 abbrev pub pacing_words : Pacing → List (List ℕ)
 pacing_words (script e named) = e ∷ []
 pacing_words (link rate) = []
+pacing_words (forward rate) = []
 
 -- the words that name files
 abbrev pub file_words : Form → List (List ℕ)
@@ -145,6 +149,12 @@ form_of-link_fastest = refl
 
 pub form_of-link_too_fast : form_of (codes "link" ∷ codes "p" ∷ codes "t" ∷ codes "c" ∷ codes "1000000000001" ∷ []) ≡ no_form
 form_of-link_too_fast = refl
+
+pub form_of-forward : form_of (codes "forward" ∷ codes "p" ∷ codes "t" ∷ codes "c" ∷ codes "10" ∷ []) ≡ replay (codes "p") (codes "t") (codes "c") (forward 10)
+form_of-forward = refl
+
+pub form_of-forward_with_a_tap : form_of (codes "forward" ∷ codes "p" ∷ codes "t" ∷ codes "c" ∷ codes "10" ∷ codes "tap" ∷ codes "bytes" ∷ []) ≡ no_form
+form_of-forward_with_a_tap = refl
 
 pub form_of-replay_alone : form_of (codes "replay" ∷ []) ≡ no_form
 form_of-replay_alone = refl

@@ -1,5 +1,5 @@
 //! The canonical text of a policy.
-ghost use Rattle.std.specs.Prelude.{[], IfOk, IsTrue, IsErrOf};
+ghost use Rattle.std.specs.Prelude.{◌≤◌, [], IfOk, IsTrue, IsErrOf};
 ghost use Rattle.outside_core.specs.Faults.{Rose};
 ghost use Rattle.replay_app.specs.Answer.{IsTold};
 ghost use Rattle.replay_app.specs.Output.{IsOutput};
@@ -29,6 +29,7 @@ pub fn check_file<S: Shelf, K: Sink>(
     ensures statuses { IfOk result (λ s. IsOneOf (statuses_of (check name.now)) (status_code s)) }
     ensures shelf_cause { IsErrOf result Stop.Source → Rose (S.faults shelf.old) (S.faults shelf.new) }
     ensures sink_cause { IsErrOf result Stop.Sink → Rose (K.faults sink.old) (K.faults sink.new) }
+    ensures sink_later { K.faults sink.old ≤ K.faults sink.new }
 {
     match read_policy(alloc, shelf, name)? {
         Read::Accepted(judged) => {

@@ -27,7 +27,7 @@ use std::alloc::Global;
 use tap_core::Tap;
 
 /// The words are in no form.
-const NO_FORM: Refusal = Refusal { code: 0, place: 0 };
+pub const NO_FORM: Refusal = Refusal { code: 0, place: 0 };
 
 /// Answers the words.
 fn answer<S: Shelf, K: Sink, F: Fabric, T: Tap>(
@@ -59,6 +59,7 @@ fn answer<S: Shelf, K: Sink, F: Fabric, T: Tap>(
     ensures no_files { file_words (form_in words.now) ≡ [] → IsErrOf result Stop.Source → ⊥ }
     ensures shelf_cause { IsErrOf result Stop.Source → Rose (S.faults shelf.old) (S.faults shelf.new) }
     ensures sink_cause { IsErrOf result Stop.Sink → Rose (K.faults sink.old) (K.faults sink.new) }
+    ensures sink_later { K.faults sink.old ≤ K.faults sink.new }
 {
     match command_of(words) {
         Some(Command::Replay(files)) => replay_watched(alloc, &files, shelf, sink, fabric, taps),
@@ -73,8 +74,8 @@ fn answer<S: Shelf, K: Sink, F: Fabric, T: Tap>(
 
 /// Does what the words say, and answers the status with which the program ends. The words are those behind the program's
 /// name: `replay` and the names of a policy, a target, a capture and a script, with pairs `tap NAME` behind them for the kinds
-/// of taps that are to watch; `link` and the names of a policy, a target and a capture with a rate in bytes per second;
-/// `direct` and the names of a policy, a capture and a script; `plan` and the names of a policy and a target; `check` and the
+/// of taps that are to watch; `link` or `forward` and the names of a policy, a target and a capture with a rate in bytes per
+/// second; `direct` and the names of a policy, a capture and a script; `plan` and the names of a policy and a target; `check` and the
 /// name of a policy; `via` and the names of a policy, a topology, a map of the policy's tree into it, a target, a capture and a
 /// script; or `soak` with a seed of at most 4,611,686,018,427,387,903 and how many events are drawn, at most
 /// 1,000,000.
@@ -120,6 +121,7 @@ pub fn run<S: Shelf, K: Sink, F: Fabric>(
     ensures shelf_cause { result ≡ 8 → Rose (S.faults shelf.old) (S.faults shelf.new) }
     ensures no_files { file_words (form_in words.now) ≡ [] → result ≢ 8 }
     ensures sink_cause { result ≡ 9 → Rose (K.faults sink.old) (K.faults sink.new) }
+    ensures sink_later { K.faults sink.old ≤ K.faults sink.new }
 {
     match answer(alloc, words, shelf, sink, fabric, taps) {
         Ok(status) => status.code(),

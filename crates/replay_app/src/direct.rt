@@ -1,5 +1,5 @@
 //! Runs through a policy's own tree of queues.
-ghost use Rattle.std.specs.Prelude.{◌≡◌, ◌∷◌, [], IfOk, IfSome, OnOk, OnErr, IsTrue, IsErrOf};
+ghost use Rattle.std.specs.Prelude.{◌≡◌, ◌≤◌, ◌∷◌, [], IfOk, IfSome, OnOk, OnErr, IsTrue, IsErrOf};
 ghost use Rattle.outside_core.specs.Faults.{Rose};
 ghost use Rattle.outside_core.specs.Written.{Appended, AppendedPrefix};
 ghost use Rattle.sched_run.specs.Steps.{pace_of, IsBounded};
@@ -45,6 +45,7 @@ fn direct_capture<S: Shelf, K: Sink>(
         AppendedPrefix (K.written sink.old) (K.written sink.new) (paced_answer policy.now (pace_of task.now.pace) file).text)) }
     ensures shelf_cause { IsErrOf result Stop.Source → Rose (S.faults shelf.old) (S.faults shelf.new) }
     ensures sink_cause { IsErrOf result Stop.Sink → Rose (K.faults sink.old) (K.faults sink.new) }
+    ensures sink_later { K.faults sink.old ≤ K.faults sink.new }
 {
     Ok(Status::of_run(direct(alloc, policy, task, shelf, sink)?))
 }
@@ -64,6 +65,7 @@ fn direct_script<S: Shelf, K: Sink>(
     ensures statuses { IfOk result (λ s. IsOneOf run_statuses (status_code s)) }
     ensures shelf_cause { IsErrOf result Stop.Source → Rose (S.faults shelf.old) (S.faults shelf.new) }
     ensures sink_cause { IsErrOf result Stop.Sink → Rose (K.faults sink.old) (K.faults sink.new) }
+    ensures sink_later { K.faults sink.old ≤ K.faults sink.new }
 {
     match read_script(alloc, shelf, files.script)? {
         Read::Accepted(script) => {
@@ -90,6 +92,7 @@ pub fn direct_files<S: Shelf, K: Sink>(
     ensures statuses { IfOk result (λ s. IsOneOf (statuses_of (direct_form files.now)) (status_code s)) }
     ensures shelf_cause { IsErrOf result Stop.Source → Rose (S.faults shelf.old) (S.faults shelf.new) }
     ensures sink_cause { IsErrOf result Stop.Sink → Rose (K.faults sink.old) (K.faults sink.new) }
+    ensures sink_later { K.faults sink.old ≤ K.faults sink.new }
 {
     match read_policy(alloc, shelf, files.policy)? {
         Read::Accepted(judged) => direct_script(alloc, &judged.policy, files, shelf, sink),

@@ -1,5 +1,5 @@
 //! Where a policy's tree is laid in a target.
-ghost use Rattle.std.specs.Prelude.{◌≡◌, ◌∷◌, [], IfOk, OnOk, OnErr, IsTrue, IsErrOf};
+ghost use Rattle.std.specs.Prelude.{◌≡◌, ◌≤◌, ◌∷◌, [], IfOk, OnOk, OnErr, IsTrue, IsErrOf};
 ghost use Rattle.outside_core.specs.Faults.{Rose};
 ghost use Rattle.outside_core.specs.Written.{Appended, AppendedPrefix};
 ghost use Rattle.replay_app.specs.Answer.{IsTold};
@@ -29,6 +29,7 @@ fn write_plan<K: Sink>(alloc: Global, plan: &PlanText, sink: &mut K) -> Result<S
     ensures part { OnErr result (AppendedPrefix (K.written sink.old) (K.written sink.new)
         (plan_answer plan.now.fits plan.now.text.items).text) }
     ensures sink_cause { IsErrOf result Stop.Sink → Rose (K.faults sink.old) (K.faults sink.new) }
+    ensures sink_later { K.faults sink.old ≤ K.faults sink.new }
     ensures reads_nothing { IsErrOf result Stop.Source → ⊥ }
 {
     if !plan.fits {
@@ -53,6 +54,7 @@ fn plan_target<S: Shelf, K: Sink>(
     ensures statuses { IfOk result (λ s. IsOneOf (4 ∷ 5 ∷ 0 ∷ []) (status_code s)) }
     ensures shelf_cause { IsErrOf result Stop.Source → Rose (S.faults shelf.old) (S.faults shelf.new) }
     ensures sink_cause { IsErrOf result Stop.Sink → Rose (K.faults sink.old) (K.faults sink.new) }
+    ensures sink_later { K.faults sink.old ≤ K.faults sink.new }
 {
     match read_target_file(alloc, shelf, name)? {
         Read::Accepted(target) => {
@@ -77,6 +79,7 @@ pub fn plan_files<S: Shelf, K: Sink>(
     ensures statuses { IfOk result (λ s. IsOneOf (statuses_of (plan_form files.now)) (status_code s)) }
     ensures shelf_cause { IsErrOf result Stop.Source → Rose (S.faults shelf.old) (S.faults shelf.new) }
     ensures sink_cause { IsErrOf result Stop.Sink → Rose (K.faults sink.old) (K.faults sink.new) }
+    ensures sink_later { K.faults sink.old ≤ K.faults sink.new }
 {
     match read_policy(alloc, shelf, files.policy)? {
         Read::Accepted(judged) => plan_target(alloc, &judged.policy, files.target, shelf, sink),

@@ -1,5 +1,5 @@
 //! Runs through a fabric into which a policy's tree is laid.
-ghost use Rattle.std.specs.Prelude.{◌≡◌, ◌<◌, ◌^◌, ◌∷◌, [], IfOk, IfSome, OnOk, OnErr, IsTrue, IsErrOf};
+ghost use Rattle.std.specs.Prelude.{◌≡◌, ◌<◌, ◌≤◌, ◌^◌, ◌∷◌, [], IfOk, IfSome, OnOk, OnErr, IsTrue, IsErrOf};
 ghost use Rattle.outside_core.specs.Faults.{Rose};
 ghost use Rattle.outside_core.specs.Written.{Appended, AppendedPrefix};
 ghost use Rattle.tree_defs.specs.Tree.{SameShape};
@@ -19,6 +19,7 @@ ghost use Rattle.replay_app.specs.Statuses.{IsOneOf, IsRefusal, run_statuses, pa
 ghost use Rattle.replay_app.specs.Words.{AreLent, WhereTold, file_words, pacing_words};
 ghost use Rattle.tap_core.specs.Watching.{sight_of, AreNoMore};
 
+use crate::forward::forward_capture;
 use crate::policies::read_policy;
 use crate::refusal::Read;
 use crate::scripts::read_script;
@@ -49,6 +50,7 @@ fn write_lines<K: Sink, T: Tap>(
     ensures part { OnErr result (OfLines ending (sight_of T.kind_of T.state_of watch.now)
         (AppendedPrefix (K.written sink.old) (K.written sink.new))) }
     ensures sink_cause { IsErrOf result Stop.Sink → Rose (K.faults sink.old) (K.faults sink.new) }
+    ensures sink_later { K.faults sink.old ≤ K.faults sink.new }
     ensures reads_nothing { IsErrOf result Stop.Source → ⊥ }
 {
     match ending {
@@ -87,6 +89,7 @@ fn replay_capture<S: Shelf, K: Sink, F: Fabric, T: Tap>(
     ensures statuses { IfOk result (λ s. IsOneOf (pace_statuses task.now.pace) (status_code s)) }
     ensures shelf_cause { IsErrOf result Stop.Source → Rose (S.faults shelf.old) (S.faults shelf.new) }
     ensures sink_cause { IsErrOf result Stop.Sink → Rose (K.faults sink.old) (K.faults sink.new) }
+    ensures sink_later { K.faults sink.old ≤ K.faults sink.new }
 {
     let ending = replay(alloc, policy, placement, task, shelf, sink, fabric, watch)?;
     write_lines(alloc, sink, watch, ending)?;
@@ -124,6 +127,7 @@ pub fn replay_script<S: Shelf, K: Sink, F: Fabric, T: Tap>(
     ensures statuses { IfOk result (λ s. IsOneOf run_statuses (status_code s)) }
     ensures shelf_cause { IsErrOf result Stop.Source → Rose (S.faults shelf.old) (S.faults shelf.new) }
     ensures sink_cause { IsErrOf result Stop.Sink → Rose (K.faults sink.old) (K.faults sink.new) }
+    ensures sink_later { K.faults sink.old ≤ K.faults sink.new }
 {
     match read_script(alloc, shelf, files.script)? {
         Read::Accepted(script) => {
@@ -168,6 +172,7 @@ fn replay_paced<S: Shelf, K: Sink, F: Fabric, T: Tap>(
     ensures statuses { IfOk result (λ s. IsOneOf (paced_statuses (pacing_form files.now.pacing)) (status_code s)) }
     ensures shelf_cause { IsErrOf result Stop.Source → Rose (S.faults shelf.old) (S.faults shelf.new) }
     ensures sink_cause { IsErrOf result Stop.Sink → Rose (K.faults sink.old) (K.faults sink.new) }
+    ensures sink_later { K.faults sink.old ≤ K.faults sink.new }
 {
     match files.pacing {
         Pacing::Script(name, _) => {
@@ -183,6 +188,16 @@ fn replay_paced<S: Shelf, K: Sink, F: Fabric, T: Tap>(
             let task = Task { pace, capture };
             replay_capture(alloc, policy, placement, &task, shelf, sink, fabric, watch)
         }
+        Pacing::Forward(rate) => forward_capture(
+            alloc,
+            policy,
+            placement,
+            files.capture,
+            rate,
+            shelf,
+            sink,
+            fabric,
+        ),
     }
 }
 
@@ -219,6 +234,7 @@ fn replay_placed<S: Shelf, K: Sink, F: Fabric, T: Tap>(
         → sight_of T.kind_of T.state_of watch.new ≡ sight_of T.kind_of T.state_of watch.old) }
     ensures shelf_cause { IsErrOf result Stop.Source → Rose (S.faults shelf.old) (S.faults shelf.new) }
     ensures sink_cause { IsErrOf result Stop.Sink → Rose (K.faults sink.old) (K.faults sink.new) }
+    ensures sink_later { K.faults sink.old ≤ K.faults sink.new }
 {
     match embed(alloc, policy.topo(), &target) {
         Ok(map) => {
@@ -263,6 +279,7 @@ fn replay_target<S: Shelf, K: Sink, F: Fabric, T: Tap>(
         → sight_of T.kind_of T.state_of watch.new ≡ sight_of T.kind_of T.state_of watch.old) }
     ensures shelf_cause { IsErrOf result Stop.Source → Rose (S.faults shelf.old) (S.faults shelf.new) }
     ensures sink_cause { IsErrOf result Stop.Sink → Rose (K.faults sink.old) (K.faults sink.new) }
+    ensures sink_later { K.faults sink.old ≤ K.faults sink.new }
 {
     match read_target_file(alloc, shelf, files.target)? {
         Read::Accepted(target) => replay_placed(
@@ -302,6 +319,7 @@ pub fn replay_files<S: Shelf, K: Sink, F: Fabric, T: Tap>(
         → sight_of T.kind_of T.state_of watch.new ≡ sight_of T.kind_of T.state_of watch.old) }
     ensures shelf_cause { IsErrOf result Stop.Source → Rose (S.faults shelf.old) (S.faults shelf.new) }
     ensures sink_cause { IsErrOf result Stop.Sink → Rose (K.faults sink.old) (K.faults sink.new) }
+    ensures sink_later { K.faults sink.old ≤ K.faults sink.new }
 {
     match read_policy(alloc, shelf, files.policy)? {
         Read::Accepted(judged) => replay_target(

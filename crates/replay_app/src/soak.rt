@@ -64,6 +64,7 @@ pub fn soak_load<K: Sink, F: Fabric>(
     ensures left { IsDone (IsSoaked load) result
         (λ a. Leaves F.Fabric a.run fabric.old fabric.new) (λ a. LeavesPart F.Fabric a.run fabric.old fabric.new) }
     ensures sink_cause { IsErrOf result Stop.Sink → Rose (K.faults sink.old) (K.faults sink.new) }
+    ensures sink_later { K.faults sink.old ≤ K.faults sink.new }
     ensures reads_nothing { IsErrOf result Stop.Source → ⊥ }
 {
     let policy = Policy::office(alloc)?;

@@ -1,8 +1,9 @@
 //! The statuses with which the program ends where nothing stops it.
 ghost use Rattle.std.specs.Prelude.{◌≡◌};
-ghost use Rattle.replay_app.specs.Statuses.{status_code, kind_status, run_status};
+ghost use Rattle.replay_app.specs.Statuses.{status_code, kind_status, run_status, forward_status};
 
 use report_core::FaultKind;
+use sched_capture::ForwardEnding;
 use sched_defs::Ending;
 
 /// How the program ends where nothing stops it.
@@ -26,6 +27,10 @@ pub enum Status {
     BadTree,
     /// The map is refused.
     BadMap,
+    /// A departure would start at 2^32 seconds or later.
+    LateStart,
+    /// A packet has another link type than the first.
+    OtherLink,
 }
 
 impl Status {
@@ -43,6 +48,8 @@ impl Status {
             Status::BadCapture => 7,
             Status::BadTree => 12,
             Status::BadMap => 13,
+            Status::LateStart => 14,
+            Status::OtherLink => 15,
         }
     }
 
@@ -70,6 +77,18 @@ impl Status {
             Ending::Whole(_) => Status::Done,
             Ending::PastLast(_) => Status::BadScript,
             Ending::BadCapture(_, _) => Status::BadCapture,
+        }
+    }
+
+    /// The status of a run that ended so, whose departures are written as a capture.
+    pub fn of_forward(ending: ForwardEnding) -> Status
+        ensures { result ≡ forward_status ending }
+    {
+        match ending {
+            ForwardEnding::Whole => Status::Done,
+            ForwardEnding::BadCapture(_, _) => Status::BadCapture,
+            ForwardEnding::OtherLink(_) => Status::OtherLink,
+            ForwardEnding::Late => Status::LateStart,
         }
     }
 }

@@ -1,5 +1,5 @@
 //! Runs along a map that is given of a policy's tree into a topology, which is laid into the target.
-ghost use Rattle.std.specs.Prelude.{◌≡◌, ◌<◌, ◌^◌, ◌∷◌, ◌++◌, [], IfOk, OnOk, OnErr, IsErrOf};
+ghost use Rattle.std.specs.Prelude.{◌≡◌, ◌<◌, ◌≤◌, ◌^◌, ◌∷◌, ◌++◌, [], IfOk, OnOk, OnErr, IsErrOf};
 ghost use Rattle.outside_core.specs.Faults.{Rose};
 ghost use Rattle.outside_core.specs.Written.{Appended, AppendedPrefix};
 ghost use Rattle.tree_defs.specs.Tree.{SameShape, nodes};
@@ -85,6 +85,7 @@ fn refuse_map<K: Sink>(
     ensures part { OnErr result (AppendedPrefix (K.written sink.old) (K.written sink.new)
         (map_refusal (names_of policy.now.policy) fault).text) }
     ensures sink_cause { IsErrOf result Stop.Sink → Rose (K.faults sink.old) (K.faults sink.new) }
+    ensures sink_later { K.faults sink.old ≤ K.faults sink.new }
     ensures reads_nothing { IsErrOf result Stop.Source → ⊥ }
 {
     let pair = pair_text(alloc, policy, fault)?;
@@ -121,6 +122,7 @@ fn run_alone<S: Shelf, K: Sink, F: Fabric>(
     ensures statuses { IfOk result (λ s. IsOneOf run_statuses (status_code s)) }
     ensures shelf_cause { IsErrOf result Stop.Source → Rose (S.faults shelf.old) (S.faults shelf.new) }
     ensures sink_cause { IsErrOf result Stop.Sink → Rose (K.faults sink.old) (K.faults sink.new) }
+    ensures sink_later { K.faults sink.old ≤ K.faults sink.new }
 {
     let mut watch: Watching<OrderTap> = Watching::new(alloc, Named::none(), Vec::new(alloc));
     replay_script(
@@ -154,6 +156,7 @@ fn via_placed<S: Shelf, K: Sink, F: Fabric>(
     ensures refused { IfOk result (λ s. IsRefusal (status_code s) → IsAsItWas F.Fabric fabric.old fabric.new) }
     ensures shelf_cause { IsErrOf result Stop.Source → Rose (S.faults shelf.old) (S.faults shelf.new) }
     ensures sink_cause { IsErrOf result Stop.Sink → Rose (K.faults sink.old) (K.faults sink.new) }
+    ensures sink_later { K.faults sink.old ≤ K.faults sink.new }
 {
     match embed(alloc, route.middle, &target) {
         Ok(laid) => {
@@ -196,6 +199,7 @@ fn via_target<S: Shelf, K: Sink, F: Fabric>(
     ensures refused { IfOk result (λ s. IsRefusal (status_code s) → IsAsItWas F.Fabric fabric.old fabric.new) }
     ensures shelf_cause { IsErrOf result Stop.Source → Rose (S.faults shelf.old) (S.faults shelf.new) }
     ensures sink_cause { IsErrOf result Stop.Sink → Rose (K.faults sink.old) (K.faults sink.new) }
+    ensures sink_later { K.faults sink.old ≤ K.faults sink.new }
 {
     match read_target_file(alloc, shelf, files.target)? {
         Read::Accepted(target) => via_placed(alloc, route, target, files, shelf, sink, fabric),
@@ -230,6 +234,7 @@ fn via_map<S: Shelf, K: Sink, F: Fabric>(
     ensures refused { IfOk result (λ s. IsRefusal (status_code s) → IsAsItWas F.Fabric fabric.old fabric.new) }
     ensures shelf_cause { IsErrOf result Stop.Source → Rose (S.faults shelf.old) (S.faults shelf.new) }
     ensures sink_cause { IsErrOf result Stop.Sink → Rose (K.faults sink.old) (K.faults sink.new) }
+    ensures sink_later { K.faults sink.old ≤ K.faults sink.new }
 {
     match read_map_file(alloc, policy, middle, shelf, files.map)? {
         Read::Accepted(tried) => match tried.fault {
@@ -271,6 +276,7 @@ fn via_topology<S: Shelf, K: Sink, F: Fabric>(
     ensures refused { IfOk result (λ s. IsRefusal (status_code s) → IsAsItWas F.Fabric fabric.old fabric.new) }
     ensures shelf_cause { IsErrOf result Stop.Source → Rose (S.faults shelf.old) (S.faults shelf.new) }
     ensures sink_cause { IsErrOf result Stop.Sink → Rose (K.faults sink.old) (K.faults sink.new) }
+    ensures sink_later { K.faults sink.old ≤ K.faults sink.new }
 {
     match read_topology(alloc, shelf, files.topology)? {
         Read::Accepted(middle) => via_map(alloc, policy, &middle, files, shelf, sink, fabric),
@@ -299,6 +305,7 @@ pub fn via_files<S: Shelf, K: Sink, F: Fabric>(
     ensures refused { IfOk result (λ s. IsRefusal (status_code s) → IsAsItWas F.Fabric fabric.old fabric.new) }
     ensures shelf_cause { IsErrOf result Stop.Source → Rose (S.faults shelf.old) (S.faults shelf.new) }
     ensures sink_cause { IsErrOf result Stop.Sink → Rose (K.faults sink.old) (K.faults sink.new) }
+    ensures sink_later { K.faults sink.old ≤ K.faults sink.new }
 {
     match read_policy(alloc, shelf, files.policy)? {
         Read::Accepted(judged) => via_topology(alloc, &judged.policy, files, shelf, sink, fabric),

@@ -48,6 +48,7 @@ pub fn replay_watched<S: Shelf, K: Sink, F: Fabric, T: Tap>(
         → entries T.kind_of T.state_of taps.new.items ≡ entries T.kind_of T.state_of taps.old.items }
     ensures shelf_cause { IsErrOf result Stop.Source → Rose (S.faults shelf.old) (S.faults shelf.new) }
     ensures sink_cause { IsErrOf result Stop.Sink → Rose (K.faults sink.old) (K.faults sink.new) }
+    ensures sink_later { K.faults sink.old ≤ K.faults sink.new }
 {
     match files.pacing {
         Pacing::Script(_, named) => {
@@ -57,7 +58,7 @@ pub fn replay_watched<S: Shelf, K: Sink, F: Fabric, T: Tap>(
             *taps = watch.into_taps();
             answer
         }
-        Pacing::Link(_) => {
+        Pacing::Link(_) | Pacing::Forward(_) => {
             let mut watch: Watching<T> = Watching::new(alloc, Named::none(), Vec::new(alloc));
             replay_files(alloc, files, shelf, sink, fabric, &mut watch)
         }

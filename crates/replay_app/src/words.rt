@@ -1,8 +1,9 @@
 //! The words of the commands.
-ghost use Rattle.std.specs.Prelude.{◌≡◌, ◌≤◌, IfSome, MatchOption, option_map};
+ghost use Rattle.std.specs.Prelude.{◌≡◌, ◌≤◌, IfSome, IsFalse, IsTrue, MatchOption, option_map};
 ghost use Rattle.link_defs.specs.Link.{IsRate};
 ghost use Rattle.sched_run.specs.Drawings.{most_load};
-ghost use Rattle.replay_app.specs.Words.{rate_of, number_within, load_of, three_words, named_in, link_by, pacing_by, via_by, form_of, no_form, texts};
+ghost use Rattle.replay_app.specs.Behind.{UsesNoFabric};
+ghost use Rattle.replay_app.specs.Words.{form_in, rate_of, number_within, load_of, three_words, named_in, last_rate, pacing_by, via_by, form_of, no_form, texts};
 ghost use Rattle.replay_app.specs.Named.{pacing_form, via_form, command_form, HasRate, CanRun};
 
 use events_core::MOST_RATE;
@@ -19,6 +20,8 @@ pub enum Pacing<'a> {
     Script(&'a str, Named),
     /// A link at this rate in bytes per second.
     Link(u64),
+    /// A link at this rate in bytes per second, whose departures are written as a capture.
+    Forward(u64),
 }
 
 /// The names of the files of a run through the fabric.
@@ -128,15 +131,15 @@ fn named_in(named: Named, words: &[String]) -> Option<Named>
     }
 }
 
-/// A link behind whose rate no word stands.
-fn link_by<'a>(rate: &str, more: &[String]) -> Option<Pacing<'a>>
-    ensures pacing { option_map pacing_form result ≡ link_by rate.now (texts more.now) }
-    ensures range { IfSome result HasRate }
+/// The rate that a word says, behind which no other stands.
+fn last_rate(rate: &str, more: &[String]) -> Option<u64>
+    ensures value { result ≡ last_rate rate.now (texts more.now) }
+    ensures range { IfSome result IsRate }
 {
     if !more.is_empty() {
         return None;
     }
-    Some(Pacing::Link(rate_of(rate)?))
+    rate_of(rate)
 }
 
 /// What paces a run through the fabric, by the first word, the fifth, and those behind it.
@@ -146,7 +149,8 @@ fn pacing_of<'a>(command: &str, fifth: &'a str, more: &[String]) -> Option<Pacin
 {
     match command {
         "replay" => Some(Pacing::Script(fifth, named_in(Named::none(), more)?)),
-        "link" => link_by(fifth, more),
+        "link" => Some(Pacing::Link(last_rate(fifth, more)?)),
+        "forward" => Some(Pacing::Forward(last_rate(fifth, more)?)),
         _ => None,
     }
 }
@@ -215,4 +219,15 @@ pub fn command_of(words: &[String]) -> Option<Command<'_>>
         }
         _ => None,
     }
+}
+
+/// Whether the words are in a form that runs packets through the fabric.
+pub fn uses_fabric(words: &[String]) -> bool
+    ensures used { IsTrue result → UsesNoFabric (form_in words.now) → ⊥ }
+    ensures unused { IsFalse result → UsesNoFabric (form_in words.now) }
+{
+    matches!(
+        command_of(words),
+        Some(Command::Replay(_) | Command::Soak(_) | Command::Via(_))
+    )
 }

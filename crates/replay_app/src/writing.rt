@@ -1,5 +1,5 @@
 //! Texts that are written whole.
-ghost use Rattle.std.specs.Prelude.{◌≡◌, ◌++◌, IfOk, OnOk, OnErr, IsErrOf};
+ghost use Rattle.std.specs.Prelude.{◌≡◌, ◌≤◌, ◌++◌, IfOk, OnOk, OnErr, IsErrOf};
 ghost use Rattle.outside_core.specs.Faults.{Rose};
 ghost use Rattle.outside_core.specs.Written.{Appended, AppendedPrefix};
 ghost use Rattle.report_core.specs.Faults.{word_of};
@@ -24,6 +24,7 @@ pub fn refuse<K: Sink>(
     ensures text { OnOk result (Appended (K.written sink.old) (K.written sink.new) (refusal kind cause.code cause.place).text) }
     ensures part { OnErr result (AppendedPrefix (K.written sink.old) (K.written sink.new) (refusal kind cause.code cause.place).text) }
     ensures sink_cause { IsErrOf result Stop.Sink → Rose (K.faults sink.old) (K.faults sink.new) }
+    ensures sink_later { K.faults sink.old ≤ K.faults sink.new }
     ensures reads_nothing { IsErrOf result Stop.Source → ⊥ }
 {
     write_fault(alloc, sink, kind, cause.code, u64::from(cause.place))?;
@@ -44,6 +45,7 @@ pub fn refuse_behind<K: Sink>(
     ensures part { OnErr result (AppendedPrefix (K.written sink.old) (K.written sink.new)
         (text.now ++ fault_line (word_of kind) cause.code cause.place)) }
     ensures sink_cause { IsErrOf result Stop.Sink → Rose (K.faults sink.old) (K.faults sink.new) }
+    ensures sink_later { K.faults sink.old ≤ K.faults sink.new }
     ensures reads_nothing { IsErrOf result Stop.Source → ⊥ }
 {
     let mut report = Report::new(alloc)?;
@@ -58,6 +60,7 @@ pub fn write<K: Sink>(alloc: Global, text: &[u8], sink: &mut K) -> Result<(), St
     ensures text { OnOk result (Appended (K.written sink.old) (K.written sink.new) text.now) }
     ensures part { OnErr result (AppendedPrefix (K.written sink.old) (K.written sink.new) text.now) }
     ensures sink_cause { IsErrOf result Stop.Sink → Rose (K.faults sink.old) (K.faults sink.new) }
+    ensures sink_later { K.faults sink.old ≤ K.faults sink.new }
     ensures reads_nothing { IsErrOf result Stop.Source → ⊥ }
 {
     let mut report = Report::new(alloc)?;

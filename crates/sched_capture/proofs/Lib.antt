@@ -5,3 +5,6 @@ pub mod FabricRuns
 pub mod EventTurns
 pub mod Exchanges
 pub mod FileRuns
+pub mod ForwardFiles
+pub mod ForwardRuns
+pub mod ForwardRefusals

@@ -1,16 +1,19 @@
 -- The answer for a file that is no capture.
-use Rattle.std.proofs.Common.{◌≡◌, ℕ, Option, None, Some, Result, Ok, Err, List}
-use Rattle.std.specs.Prelude.{IfSome, IfOk, OnOk, codes}
-use Rattle.outside_core.specs.Written.{Appended}
-use Rattle.pcap_defs.specs.Contents.{no_capture}
+use Rattle.std.proofs.Common.{◌≡◌, ℕ, Option, None, Some, Result, Ok, Err, List, [], sym, subst}
+use Rattle.std.specs.Prelude.{IfSome, IfOk, OnOk, OnErr, codes}
+use Rattle.std.proofs.lemmas.Option.{IfSome_then}
+use Rattle.std.proofs.lemmas.Result.{on_err_weaker}
+use Rattle.outside_core.specs.Written.{Appended, AppendedPrefix}
+use Rattle.outside_core.proofs.WrittenLaws.{appended_nothing, prefix_of_nothing}
+use Rattle.pcap_defs.specs.Contents.{FaultAt, FileContents, no_capture, holds}
 use Rattle.pcapng_defs.specs.NgContents.{in_file}
 use Rattle.report_defs.specs.Report.{fault_line}
+use Rattle.sched_defs.specs.Pace.{Pace}
 use Rattle.sched_defs.specs.declared.ending.Ending.{Ending}
 use Rattle.sched_defs.specs.declared.ending.Ending.TheVariants.{BadCapture}
 use Rattle.outside_core.specs.declared.stop.Stop.{Stop}
-use Rattle.report_core.proofs.WholeTexts.{nothing_written}
 use Rattle.policy_rules.specs.Resolved.{Resolved}
-use Rattle.sched_capture.specs.Answers.{IsRefusal, IsPartOfEach, paced_answer}
+use Rattle.sched_capture.specs.Answers.{IsRefusal, IsRefusalPart, refusal_answer, answer_over, paced_answer}
 
 -- where the line of the fault is written, that is the refusal
 pub refusal_told : (c p : ℕ) (before written : Option (List ℕ)) (r : Result Ending Stop) (told : Option (List ℕ)) → IfOk r (λ e. e ≡ BadCapture c p)
@@ -20,7 +23,33 @@ refusal_told c p before written (Err stop) told ends is line = tt
 refusal_told c p before written (Ok e) None ends is line = tt
 refusal_told c p before written (Ok e) (Some file) ends is line = record { fault = record { code = c; place = p }; is = is; ends = ends; text = line }
 
--- what was written is a first part of each text where nothing is written
-pub part_of_none : (policy : Resolved) (told written : Option (List ℕ)) → IfSome told (λ file. IsPartOfEach policy file written written)
-part_of_none policy None written = tt
-part_of_none policy (Some file) written = λ pace. nothing_written (Some file) written (λ f. (paced_answer policy pace f).text)
+-- where nothing is written, that is no more than a first part of a refusal
+pub nothing_part : (file : FileContents) (old new : Option (List ℕ)) → Appended old new [] → IsRefusalPart file old new
+nothing_part (no_capture fault) old new nothing = prefix_of_nothing old new (refusal_answer fault).text nothing
+nothing_part (holds contents) old new nothing = nothing
+
+pub none_part : (file : FileContents) (w : Option (List ℕ)) → IsRefusalPart file w w
+none_part file w = nothing_part file w w (appended_nothing w)
+
+pub none_told : (told w : Option (List ℕ)) → IfSome told (λ file. IsRefusalPart (in_file file) w w)
+none_told None w = tt
+none_told (Some file) w = none_part (in_file file) w
+
+-- a first part of the line of the fault is written
+pub told_part : (file : FileContents) (fault : FaultAt) (old new : Option (List ℕ)) → file ≡ no_capture fault → AppendedPrefix old new (refusal_answer fault).text → IsRefusalPart file old new
+told_part file fault old new is part = subst (λ (f : FileContents). IsRefusalPart f old new) (sym is) part
+
+pub refused_part : (c p : ℕ) (old new : Option (List ℕ)) (r : Result Ending Stop) (told : Option (List ℕ)) → IfSome told (λ file. in_file file ≡ no_capture (record { code = c; place = p }))
+    → OnErr r (AppendedPrefix old new (fault_line (codes "capture") c p)) → OnErr r (IfSome told (λ file. IsRefusalPart (in_file file) old new))
+refused_part c p old new (Ok e) told is part = tt
+refused_part c p old new (Err stop) None is part = tt
+refused_part c p old new (Err stop) (Some file) is part = told_part (in_file file) (record { code = c; place = p }) old new is part
+
+-- so it is a first part of the report of each run
+pub part_of_report : (policy : Resolved) (pace : Pace) (r : Result Ending Stop) (told old new : Option (List ℕ)) → OnErr r (IfSome told (λ file. IsRefusalPart (in_file file) old new))
+    → OnErr r (IfSome told (λ file. AppendedPrefix old new (paced_answer policy pace file).text))
+part_of_report policy pace r told old new = on_err_weaker r (λ all. IfSome_then told all (λ file part. of_file (in_file file) part))
+  where
+    of_file : (file : FileContents) → IsRefusalPart file old new → AppendedPrefix old new (answer_over policy pace file).text
+    of_file (no_capture fault) part = part
+    of_file (holds contents) nothing = prefix_of_nothing old new (answer_over policy pace (holds contents)).text nothing

@@ -1,5 +1,5 @@
 -- What a run over a policy's own tree of queues answers.
-use Rattle.std.specs.Prelude.{◌≡◌, ℕ, Option, None, Some, option_map, List, codes}
+use Rattle.std.specs.Prelude.{◌≡◌, ℕ, Option, None, Some, option_map, List, [], codes}
 use Rattle.outside_core.specs.Written.{Appended, AppendedPrefix}
 use Rattle.pcap_defs.specs.Contents.{FileContents, no_capture, holds}
 use Rattle.pcapng_defs.specs.NgContents.{in_file}
@@ -39,6 +39,11 @@ pub record IsRefusal (file : FileContents) (ending : Ending) (before written : O
   pub ends : ending ≡ (refusal_answer fault).ending
   pub text : Appended before written (refusal_answer fault).text
 
+-- where the file is no capture, a first part of its line is written, and else nothing
+abbrev pub IsRefusalPart : FileContents → Option (List ℕ) → Option (List ℕ) → Type 0
+IsRefusalPart (no_capture fault) before written = AppendedPrefix before written (refusal_answer fault).text
+IsRefusalPart (holds contents) before written = Appended before written []
+
 -- a paced run goes over packets, and then meets the fault behind them
 abbrev pub answer_of : Policy → Pace → List Packet → Option FaultAt → RunAnswer
 answer_of policy pace arriving fault = record {
@@ -54,10 +59,6 @@ answer_over policy pace (holds contents) = answer_of policy.policy pace (left_in
 -- the answer for a policy, what paces the run, and the bytes of a capture of either format
 abbrev pub paced_answer : Resolved → Pace → List ℕ → RunAnswer
 paced_answer policy pace file = answer_over policy pace (in_file file)
-
--- of the text of each run over the bytes of a capture a first part was written
-abbrev pub IsPartOfEach : Resolved → List ℕ → Option (List ℕ) → Option (List ℕ) → Type 0
-IsPartOfEach policy file before written = (pace : Pace) → AppendedPrefix before written (paced_answer policy pace file).text
 
 -- what taps are shown, if the run begins
 abbrev pub shown_by : Policy → RunAnswer → Option (List Shown)

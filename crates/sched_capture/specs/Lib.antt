@@ -2,3 +2,4 @@ pub mod Answers
 pub mod Placements
 pub mod Loads
 pub mod Laws
+pub mod Forwards

@@ -6,9 +6,10 @@ ghost use Rattle.outside_core.specs.Written.{Appended, AppendedPrefix};
 ghost use Rattle.report_defs.specs.Report.{fault_line};
 ghost use Rattle.pcapng_defs.specs.NgContents.{in_file};
 ghost use Rattle.sched_packets.specs.Arrivals.{Begins};
-ghost use Rattle.sched_packets.specs.AnyArrivals.{policy_of, given_by, left_of, IsReady};
+ghost use Rattle.capture_core.specs.Captures.{Opens};
+ghost use Rattle.sched_packets.specs.AnyArrivals.{resolved_of, given_by, contents_of, left_of, IsReady};
 ghost use Rattle.sched_run.specs.Steps.{pace_of, IsBounded, IsNoPastLast, CanEndSo};
-ghost use Rattle.sched_capture.specs.Answers.{IsRefusal, IsPartOfEach, paced_answer};
+ghost use Rattle.sched_capture.specs.Answers.{IsRefusal, IsRefusalPart, paced_answer};
 
 use crate::course::run_over;
 use crate::task::Task;
@@ -23,7 +24,12 @@ use std::alloc::Global;
 use tap_core::{Named, Tap, Watching};
 
 /// Writes the line of a file that is no capture, as the whole report. The answer is how the run ends.
-fn refuse<K: Sink>(alloc: Global, sink: &mut K, code: u32, place: u64) -> Result<Ending, Stop>
+pub(crate) fn refuse<K: Sink>(
+    alloc: Global,
+    sink: &mut K,
+    code: u32,
+    place: u64,
+) -> Result<Ending, Stop>
     ensures ending { IfOk result (λ e. e ≡ Ending.BadCapture code place) }
     ensures text { OnOk result (Appended (K.written sink.old) (K.written sink.new) (fault_line (codes "capture") code place)) }
     ensures part { OnErr result (AppendedPrefix (K.written sink.old) (K.written sink.new) (fault_line (codes "capture") code place)) }
@@ -45,9 +51,11 @@ pub fn begin<'a, S: Shelf, K: Sink>(
 ) -> Result<AnyArrivals<'a, S>, Result<Ending, Stop>>
     requires lent { IsTrue (S.lends shelf.old capture.now) }
 
+    ensures opens { IfOk result (λ a. IfSome (S.content shelf.old capture.now) (λ file.
+        Opens (in_file file) (contents_of a (S.left shelf.new)))) }
     ensures begins { IfOk result (λ a. IfSome (S.content shelf.old capture.now) (λ file.
         Begins policy.now (in_file file) (left_of a (S.left shelf.new)))) }
-    ensures policy { IfOk result (λ a. policy_of a ≡ policy.now.policy) }
+    ensures policy { IfOk result (λ a. resolved_of a ≡ policy.now) }
     ensures none_given { IfOk result (λ a. given_by a ≡ 0) }
     ensures ready { IfOk result (λ a. IsReady a (S.begun shelf.new)) }
     ensures unwritten { OnOk result (sink.new ≡ sink.old) }
@@ -56,7 +64,7 @@ pub fn begin<'a, S: Shelf, K: Sink>(
         IsRefusal (in_file file) e (K.written sink.old) (K.written sink.new)))) }
     ensures at_capture { IfErr result (λ answer. IfOk answer IsNoPastLast) }
     ensures part { IfErr result (λ answer. OnErr answer (IfSome (S.content shelf.old capture.now) (λ file.
-        IsPartOfEach policy.now file (K.written sink.old) (K.written sink.new)))) }
+        IsRefusalPart (in_file file) (K.written sink.old) (K.written sink.new)))) }
     ensures kept { KeepsSink K.written K.faults sink.old sink.new }
     ensures later { S.faults shelf.old ≤ S.faults shelf.new }
     ensures cause { IfErr result (λ answer. IfErr answer (λ stop.

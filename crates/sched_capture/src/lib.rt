@@ -4,6 +4,7 @@
 
 mod capture;
 mod course;
+mod departures;
 mod fabric;
 #[cfg(test)]
 mod fabric_tests;
@@ -15,6 +16,7 @@ mod tests;
 
 pub use capture::{begin, direct};
 pub use course::run_over;
+pub use departures::{ForwardEnding, forward};
 pub use fabric::{Placement, replay};
 pub use laws::alike_files_have_equal_answers;
 pub use load::{LoadCounts, LoadSize, soak};

@@ -24,7 +24,7 @@ no_marks_in_range = record { prio = omega arith; weight_low = omega arith; weigh
 env_in_range : (p : Packet) (moment : ℕ) (m : Marks) → p.len ≤ max_len → moment ≤ max_rank → AreMarksInRange m → IsEnvInRange (env_for p moment m)
 env_in_range p moment m l t h = record { len = l; now = t; prio = h.prio; weight_low = h.weight_low; weight_high = h.weight_high; slack = h.slack }
 
-root_stands : (t : Tree Node) → node_at t [] ≡ Some (root_of t)
+pub root_stands : (t : Tree Node) → node_at t [] ≡ Some (root_of t)
 root_stands (leaf n) = refl
 root_stands (inner n ts) = refl
 
@@ -34,7 +34,7 @@ child_marks_in_range (more t ts) zero h = h zero (root_of t) (root_stands t)
 child_marks_in_range (more t ts) (suc i) h = child_marks_in_range ts i (λ j. h (suc j))
 
 -- what stands in the part of a tree at an address stands in the tree
-abbrev IsPart : Tree Node → Address → Tree Node → Type 0
+abbrev pub IsPart : Tree Node → Address → Tree Node → Type 0
 IsPart root a t = (b : Address) → node_at root (a ++ b) ≡ node_at t b
 
 module _ (root : Tree Node) (ready : (a : Address) (n : Node) → node_at root a ≡ Some n → IsNodeReady n) (c : Class) (marks : AreMarksInRange c.marks) (p : Packet) (known : p.len ≤ max_len) (moment : ℕ) (now : moment ≤ max_rank) where

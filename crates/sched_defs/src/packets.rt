@@ -1,9 +1,10 @@
 //! The trait of packets that come one by one.
-ghost use Rattle.std.specs.Prelude.{◌≡◌, ◌≤◌, ◌+◌, ℕ, Option, [], ◌∷◌, is_some, if◌then◌else◌, IfOk, IfErr, IfSome, IfNone, OnOk, IsErrOf};
+ghost use Rattle.std.specs.Prelude.{◌≡◌, ◌≤◌, ◌+◌, ℕ, Option, List, [], ◌∷◌, length, is_some, if◌then◌else◌, IfOk, IfErr, IfSome, IfNone, OnOk, IsErrOf};
 ghost use Rattle.outside_core.specs.Faults.{Rose};
+ghost use Rattle.pcap_defs.specs.Record.{most_captured};
 ghost use Rattle.policy_defs.specs.Policy.{Policy};
 ghost use Rattle.sched_defs.specs.Numbered.{IsSendable};
-ghost use Rattle.sched_defs.specs.Packets.{most_packets, Left, Came, IsOver, IsHalt};
+ghost use Rattle.sched_defs.specs.Packets.{most_packets, Left, Came, Captured, StaysKnown, IsKnownAs, AreThere, IsOver, IsHalt};
 
 use packet_defs::Packet;
 
@@ -32,6 +33,12 @@ pub trait Packets {
     /// What is left to come, where told.
     ghost left: { Self → Self.Source → Option Left };
 
+    /// The captured bytes of the packet that came last.
+    ghost captured: { Self → List ℕ };
+
+    /// These are the captured bytes of the packets that are left to come, by their numbers.
+    ghost captures: { Self → Self.Source → Captured → Type 0 };
+
     /// What a call needs.
     ghost ready: { Self → Self.Source → Type 0 };
 
@@ -45,6 +52,9 @@ pub trait Packets {
         ensures number { IfOk result (λ o. IfSome o (λ p. p.number ≡ given self.old + 1)) }
         ensures sendable { IfOk result (λ o. IfSome o (λ p. IsSendable (policy self.old) p)) }
         ensures came { IfOk result (λ o. IfSome o (λ p. Came (left self.old source.old) (left self.new source.new) (p ∷ []))) }
+        ensures bytes { IfOk result (λ o. IfSome o (λ p. IsKnownAs (captures self.old source.old) p.number (captured self.new))) }
+        ensures short { IfOk result (λ o. IfSome o (λ p. length (captured self.new) ≤ most_captured)) }
+        ensures known { OnOk result (StaysKnown (captures self.old source.old) (captures self.new source.new)) }
         ensures none { IfOk result (λ o. IfNone o (Came (left self.old source.old) (left self.new source.new) [])) }
         ensures over { IfOk result (λ o. IfNone o (IsOver (left self.new source.new))) }
         ensures fault { IfErr result (λ halt. IsHalt (left self.old source.old) halt) }
@@ -55,4 +65,11 @@ pub trait Packets {
         ensures policy { policy self.new ≡ policy self.old }
         ensures later { faults source.old ≤ faults source.new }
         ensures cause { IsErrOf result Halt.Source → Rose (faults source.old) (faults source.new) };
+
+    /// The captured bytes of the packet that came last.
+    fn captured(&self) -> &[u8]
+        ensures { result.now ≡ captured self.now };
+
+    /// Where it is told what is left, the captured bytes are there.
+    ghost there: { (packets : Self) (source : Self.Source) → AreThere (left packets source) (captures packets source) };
 }

@@ -1,2 +1,4 @@
 pub mod RecordPackets
+pub mod CapturedBytes
 pub mod PacketsLeft
+pub mod OneLinkPackets

@@ -1,27 +1,35 @@
--- What a reader of a capture leaves, as packets that come.
-use Rattle.std.proofs.Common.{◌≡◌, ◌+◌, ℕ, Option, Some, None, List, [], ◌∷◌, ap, ◌∙◌}
+-- What is left of a capture, as packets that come.
+use Rattle.std.proofs.Common.{◌≡◌, ◌+◌, ℕ, Option, Some, None, List, [], ◌∷◌, refl, sym, ap, ◌∙◌, subst}
 use Rattle.std.specs.Prelude.{IfSome, option_map}
-use Rattle.std.proofs.lemmas.Option.{IfSome_then}
 use Rattle.pcap_defs.specs.Packet.{CapturedPacket}
 use Rattle.pcap_defs.specs.Contents.{Contents, FileContents, no_capture, holds}
-use Rattle.capture_core.specs.Captures.{fault_told, Opens, Comes, IsAt}
+use Rattle.capture_core.specs.Captures.{fault_told, Opens, Comes, IsAt, nothing_left}
 use Rattle.capture_core.specs.declared.unread.Unread.{Unread}
 use Rattle.capture_core.specs.declared.unread.Unread.TheVariants.{Fault, Source, Memory}
 use Rattle.packet_defs.specs.declared.packet.Packet.{Packet}
 use Rattle.policy_rules.specs.Resolved.{Resolved}
-use Rattle.sched_defs.specs.Packets.{Came, IsHalt}
+use Rattle.sched_defs.specs.declared.packets.Halt.{Halt}
+use Rattle.sched_defs.specs.declared.packets.Halt.TheVariants as halt
+use Rattle.sched_defs.specs.Packets.{Captured, Came, IsHalt, IsKnownAs, IsOver, StaysKnown}
 use Rattle.sched_packets.specs.Packets.{packet_of, packets_from}
 use Rattle.sched_packets.specs.Halts.{halt_of}
-use Rattle.sched_packets.specs.Arrivals.{left_in, nothing_left, Begins, Refuses}
+use Rattle.sched_packets.specs.NextPacket.{packet_told, IsNext, HaltsAt}
+use Rattle.sched_packets.specs.Arrivals.{left_in, Begins, Refuses, AreCaptured, AreCapturedIn}
+use Rattle.sched_packets.proofs.CapturedBytes.{bytes_of_next, bytes_of_others}
 
--- behind the beginning all packets are left
-begins : (policy : Resolved) (file : FileContents) (left : Option Contents) (given : ℕ) → given ≡ 0 → Opens file left → Begins policy file (option_map (left_in policy given) left)
+-- ---- behind the beginning
+-- all packets are left
+pub begins : (policy : Resolved) (file : FileContents) (left : Option Contents) (given : ℕ) → given ≡ 0 → Opens file left → Begins policy file (option_map (left_in policy given) left)
 begins policy (no_capture fault) left given none opened = absurd opened
 begins policy (holds contents) left given none opened = ap (option_map (left_in policy given)) opened ∙ ap (λ n. Some (left_in policy n contents)) none
 
-pub begins-at : (policy : Resolved) (contents : List ℕ → FileContents) (file : Option (List ℕ)) (left : Option Contents) (given : ℕ) → given ≡ 0
-    → IfSome file (λ f. Opens (contents f) left) → IfSome file (λ f. Begins policy (contents f) (option_map (left_in policy given) left))
-begins-at policy contents file left given none opened = IfSome_then file opened (λ f o. begins policy (contents f) left given none o)
+-- with their captured bytes
+captured_behind : (contents : Contents) (left : Option Contents) (given : ℕ) → given ≡ 0 → left ≡ Some contents → (bytes : Captured) → AreCaptured (Some contents) 0 bytes → AreCaptured left given bytes
+captured_behind contents left given none opened bytes are = rw (none, opened) are
+
+pub captured_at_start : (file : FileContents) (left : Option Contents) (given : ℕ) → given ≡ 0 → Opens file left → StaysKnown (AreCapturedIn file) (AreCaptured left given)
+captured_at_start (no_capture fault) left given none opened bytes are = absurd opened
+captured_at_start (holds contents) left given none opened bytes are = captured_behind contents left given none opened bytes are
 
 pub refuses : (unread : Unread) (contents : List ℕ → FileContents) (file : Option (List ℕ)) → IfSome (fault_told unread) (λ f. IfSome file (λ bytes. contents bytes ≡ no_capture f))
     → IfSome file (λ bytes. Refuses (halt_of unread) (contents bytes))
@@ -31,23 +39,55 @@ refuses Source contents (Some bytes) h = tt
 refuses Memory contents None h = tt
 refuses Memory contents (Some bytes) h = tt
 
--- the next one
-comes : (policy : Resolved) (n : ℕ) (old new : Option Contents) (p : CapturedPacket) → Comes old new p
-    → Came (option_map (left_in policy n) old) (option_map (left_in policy (n + 1)) new) (packet_of policy (n + 1) p ∷ [])
-comes policy n None new p came = tt
-comes policy n (Some old) None p came = absurd came
-comes policy n (Some old) (Some new) p came = (ap (packets_from policy (n + 1)) came.0, came.1)
+-- ---- a halt
+pub halts_told : (unread : Unread) (old : Option Contents) → IfSome (fault_told unread) (λ f. IsAt (Some f) old) → HaltsAt old (halt_of unread)
+halts_told (Fault c p) old h = h
+halts_told Source old h = tt
+halts_told Memory old h = tt
 
-pub comes-at : (policy : Resolved) (n next : ℕ) (old new : Option Contents) (p : CapturedPacket) (q : Packet) → next ≡ n + 1 → q ≡ packet_of policy (n + 1) p → Comes old new p
-    → Came (option_map (left_in policy n) old) (option_map (left_in policy next) new) (q ∷ [])
-comes-at policy n next old new p q given is came = rw (given, is) (comes policy n old new p came)
+pub halts : (policy : Resolved) (n : ℕ) (old : Option Contents) (h : Halt) → HaltsAt old h → IsHalt (option_map (left_in policy n) old) h
+halts policy n None (halt.Fault c p) at = tt
+halts policy n (Some old) (halt.Fault c p) at = (ap (packets_from policy (n + 1)) at.0, at.1)
+halts policy n old halt.Source at = tt
+halts policy n old halt.Memory at = tt
 
-pub ends : (policy : Resolved) (n : ℕ) (old : Option Contents) → IsAt None old → Came (option_map (left_in policy n) old) (Some nothing_left) []
-ends policy n None at = tt
-ends policy n (Some old) at = (ap (packets_from policy (n + 1)) at.0, at.1)
+-- ---- the next packet
+module _ (policy : Resolved) (n : ℕ) where
+  comes : (old new : Option Contents) (p : CapturedPacket) → Comes old new p
+      → Came (option_map (left_in policy n) old) (option_map (left_in policy (n + 1)) new) (packet_of policy (n + 1) p ∷ [])
+  comes None new p came = tt
+  comes (Some old) None p came = absurd came
+  comes (Some old) (Some new) p came = (ap (packets_from policy (n + 1)) came.0, came.1)
 
-pub halts : (policy : Resolved) (n : ℕ) (unread : Unread) (old : Option Contents) → IfSome (fault_told unread) (λ f. IsAt (Some f) old) → IsHalt (option_map (left_in policy n) old) (halt_of unread)
-halts policy n (Fault c p) None h = tt
-halts policy n (Fault c p) (Some old) h = (ap (packets_from policy (n + 1)) h.0, h.1)
-halts policy n Source old h = tt
-halts policy n Memory old h = tt
+  number : (old new : Option Contents) (link : ℕ) (p : Packet) (captured : List ℕ) → IsNext policy n old new link p captured → p.number ≡ n + 1
+  number old new link p captured is = ap (λ (q : Packet). q.number) is.packet
+
+  came_next : (next : ℕ) (old new : Option Contents) (link : ℕ) (p : Packet) (captured : List ℕ) → next ≡ n + 1 → IsNext policy n old new link p captured
+      → Came (option_map (left_in policy n) old) (option_map (left_in policy next) new) (p ∷ [])
+  came_next next old new link p captured one is =
+      let P : Packet → Type 0 = λ q. Came (option_map (left_in policy n) old) (option_map (left_in policy next) new) (q ∷ []) in
+      subst P (sym is.packet) (rw (one) (comes old new (packet_told link p captured) is.comes))
+
+  -- what the next packet tells of what is left to come, and of the captured bytes
+  pub record Gives (next : ℕ) (old new : Option Contents) (p : Packet) (captured : List ℕ) : Type 0 where
+    pub came : Came (option_map (left_in policy n) old) (option_map (left_in policy next) new) (p ∷ [])
+    pub bytes : IsKnownAs (AreCaptured old n) p.number captured
+    pub known : StaysKnown (AreCaptured old n) (AreCaptured new next)
+
+  pub gives : (next : ℕ) (old new : Option Contents) (link : ℕ) (p : Packet) (captured : List ℕ) → next ≡ n + 1 → IsNext policy n old new link p captured → Gives next old new p captured
+  gives next old new link p captured one is = record {
+    came = came_next next old new link p captured one is;
+    bytes = λ all are. rw (number old new link p captured is) (bytes_of_next n old new (packet_told link p captured) is.comes all are);
+    known = λ all are. bytes_of_others n next old new (packet_told link p captured) one is.comes all are;
+  }
+
+  -- ---- the end
+  pub ends : (next : ℕ) (old new : Option Contents) → IsAt None old → new ≡ Some nothing_left → Came (option_map (left_in policy n) old) (option_map (left_in policy next) new) []
+  ends next None new at over = tt
+  ends next (Some old) new at over = rw (over) (ap (packets_from policy (n + 1)) at.0, at.1)
+
+  pub is_over : (new : Option Contents) → new ≡ Some nothing_left → IsOver (option_map (left_in policy n) new)
+  is_over new over = rw (over) (refl, refl)
+
+pub none_known : (known : Captured → Type 0) (n : ℕ) (new : Option Contents) → new ≡ Some nothing_left → StaysKnown known (AreCaptured new n)
+none_known known n new over bytes are = rw (over) tt

@@ -1,40 +1,40 @@
 -- What the packets of a capture that is read stand for, whatever the capture's format.
-use Rattle.std.specs.Prelude.{◌≡◌, ◌≤◌, ℕ, ◌+◌, Bool, if◌then◌else◌, Option, Some, None, option_map, List, [], IsTrue, ⊤}
+use Rattle.std.specs.Prelude.{◌≡◌, ◌≤◌, ℕ, ◌+◌, Bool, if◌then◌else◌, Option, Some, None, List, [], ◌∷◌, IsTrue, ⊤}
+use Rattle.pcap_defs.specs.Packet.{CapturedPacket}
 use Rattle.pcap_defs.specs.Contents.{Contents, FileContents, no_capture, holds}
-use Rattle.policy_defs.specs.Policy.{Policy}
+use Rattle.capture_core.specs.Captures.{nothing_left}
 use Rattle.policy_rules.specs.Resolved.{Resolved}
-use Rattle.sched_defs.specs.Packets.{Left, most_packets}
+use Rattle.sched_defs.specs.Packets.{Left, Captured, most_packets}
 use Rattle.sched_defs.specs.declared.packets.Halt.{Halt}
 use Rattle.sched_defs.specs.declared.packets.Halt.TheVariants as halt
 use Rattle.sched_packets.specs.Packets.{packets_from}
 use Rattle.sched_packets.specs.declared.arrivals.Arrivals.{Arrivals}
 
 -- the policy that gives each packet its class
-abbrev pub policy_of : {R S : Type 0} → Arrivals R S → Policy
-policy_of arrivals = arrivals.policy.now.policy
+abbrev pub resolved_of : {R S : Type 0} → Arrivals R S → Resolved
+resolved_of arrivals = arrivals.policy.now
 
 -- how many packets came, where a reader has handed out so many
 abbrev pub given_by : {R S : Type 0} → (R → ℕ) → Arrivals R S → ℕ
 given_by given arrivals = given arrivals.reader
 
--- what these contents behind so many packets give
-abbrev pub left_in : Resolved → ℕ → Contents → Left
-left_in policy n contents = record { packets = packets_from policy (n + 1) contents.packets; fault = contents.fault }
+-- the captured bytes of the packet that came last
+abbrev pub captured_by : {R S : Type 0} → Arrivals R S → List ℕ
+captured_by arrivals = arrivals.bytes.items
 
-abbrev pub nothing_left : Left
-nothing_left = record { packets = []; fault = None }
-
--- what is left to come, where the reader tells what it leaves, or the end was met
-abbrev pub left_of : {R S : Type 0} → (R → Option (List ℕ) → Option Contents) → (R → ℕ) → Arrivals R S → Option (List ℕ) → Option Left
-left_of left given arrivals told =
-    if arrivals.over then Some nothing_left
-    else option_map (left_in arrivals.policy.now (given arrivals.reader)) (left arrivals.reader told)
+-- what is left of the capture, where the reader tells what it leaves, or the end was met
+abbrev pub contents_of : {R S : Type 0} → (R → Option (List ℕ) → Option Contents) → Arrivals R S → Option (List ℕ) → Option Contents
+contents_of left arrivals told = if arrivals.over then Some nothing_left else left arrivals.reader told
 
 -- the reader can go on, no more packets came than may come, and the file is still begun
 pub record IsReady {R S : Type 0} (ready : R → Type 0) (given : R → ℕ) (arrivals : Arrivals R S) (begun : Bool) : Type 0 where
   pub started : ready arrivals.reader
   pub few : given arrivals.reader ≤ most_packets
   pub still : IsTrue begun
+
+-- what these contents behind so many packets give
+abbrev pub left_in : Resolved → ℕ → Contents → Left
+left_in policy n contents = record { packets = packets_from policy (n + 1) contents.packets; fault = contents.fault }
 
 -- the file is a capture, and the packets of all that it holds are left, with the fault behind them
 abbrev pub Begins : Resolved → FileContents → Option Left → Type 0
@@ -45,3 +45,19 @@ Begins policy (holds contents) left = left ≡ Some (left_in policy 0 contents)
 abbrev pub Refuses : Halt → FileContents → Type 0
 Refuses (halt.Fault c p) file = file ≡ no_capture (record { code = c; place = p })
 Refuses _ file = ⊤
+
+-- ---- captured bytes, by the numbers of their packets
+-- those of packets in a row, of which the first has this number
+abbrev pub AreCapturedFrom : ℕ → List CapturedPacket → Captured → Type 0
+AreCapturedFrom first [] bytes = ⊤
+AreCapturedFrom first (p ∷ packets) bytes = (bytes first ≡ p.captured) × AreCapturedFrom (first + 1) packets bytes
+
+-- it is told what is left behind so many packets, and these are its captured bytes
+abbrev pub AreCaptured : Option Contents → ℕ → Captured → Type 0
+AreCaptured None given bytes = ⊥
+AreCaptured (Some contents) given bytes = AreCapturedFrom (given + 1) contents.packets bytes
+
+-- these are the captured bytes of all that the file holds
+abbrev pub AreCapturedIn : FileContents → Captured → Type 0
+AreCapturedIn (no_capture fault) bytes = ⊥
+AreCapturedIn (holds contents) bytes = AreCapturedFrom 1 contents.packets bytes

@@ -1,4 +1,7 @@
 pub mod Packets
 pub mod Halts
+pub mod NextPacket
 pub mod Arrivals
+pub mod CapturedBytes
 pub mod AnyArrivals
+pub mod OneLink

@@ -1,11 +1,14 @@
 //! The packets of a capture, whatever its format.
-ghost use Rattle.std.specs.Prelude.{◌≡◌, IfOk, IfErr, IfSome, IsErrOf, IsTrue};
+ghost use Rattle.std.specs.Prelude.{◌≡◌, ◌+◌, Some, is_some, if◌then◌else◌, IfOk, IfErr, IfSome, IfNone, OnOk, IsErrOf, IsTrue};
 ghost use Rattle.outside_core.specs.Faults.{Rose};
 ghost use Rattle.outside_core.specs.Kept.{KeepsShelf};
+ghost use Rattle.capture_core.specs.Captures.{Opens, IsAt, nothing_left};
 ghost use Rattle.pcapng_defs.specs.NgContents.{in_file};
 ghost use Rattle.sched_packets.specs.Arrivals.{Begins, Refuses};
+ghost use Rattle.sched_packets.specs.NextPacket.{IsNext, HaltsAt};
 
 use crate::arrivals::Arrivals;
+use crate::linked::LinkedPacket;
 use outside_core::Shelf;
 use packet_core::Packet;
 use pcap_core::{CaptureFault, Reader};
@@ -24,7 +27,7 @@ pub enum AnyArrivals<'a, S> {
 }
 
 impl<'a, S: Shelf> AnyArrivals<'a, S> {
-    ghost use Rattle.sched_packets.specs.AnyArrivals.{policy_of, given_by, left_of, IsReady};
+    ghost use Rattle.sched_packets.specs.AnyArrivals.{resolved_of, given_by, captured_by, contents_of, left_of, IsReady};
 
     /// Begins the file of this name, and reads its beginning. A file that begins as pcapng does is begun again, and read so.
     pub fn open(
@@ -35,9 +38,11 @@ impl<'a, S: Shelf> AnyArrivals<'a, S> {
     ) -> Result<AnyArrivals<'a, S>, Halt>
         requires lent { IsTrue (S.lends shelf.old name.now) }
 
+        ensures opens { IfOk result (λ a. IfSome (S.content shelf.old name.now) (λ file.
+            Opens (in_file file) (contents_of a (S.left shelf.new)))) }
         ensures begins { IfOk result (λ a. IfSome (S.content shelf.old name.now) (λ file.
             Begins policy.now (in_file file) (left_of a (S.left shelf.new)))) }
-        ensures policy { IfOk result (λ a. policy_of a ≡ policy.now.policy) }
+        ensures policy { IfOk result (λ a. resolved_of a ≡ policy.now) }
         ensures none_given { IfOk result (λ a. given_by a ≡ 0) }
         ensures ready { IfOk result (λ a. IsReady a (S.begun shelf.new)) }
 
@@ -56,12 +61,35 @@ impl<'a, S: Shelf> AnyArrivals<'a, S> {
             Err(halt) => Err(halt),
         }
     }
+
+    /// The next packet, if one is left, with its link type. It may be asked for again where none is, and not after an error.
+    pub fn next_linked(&mut self, source: &mut S) -> Result<Option<LinkedPacket>, Halt>
+        requires ready { IsReady self.old (S.begun source.old) }
+
+        ensures next { IfOk result (λ o. IfSome o (λ l. IsNext (resolved_of self.old) (given_by self.old)
+            (contents_of self.old (S.left source.old)) (contents_of self.new (S.left source.new))
+            l.link l.packet (captured_by self.new))) }
+        ensures ended { IfOk result (λ o. IfNone o (IsAt None (contents_of self.old (S.left source.old)))) }
+        ensures over { IfOk result (λ o. IfNone o (contents_of self.new (S.left source.new) ≡ Some nothing_left)) }
+        ensures fault { IfErr result (HaltsAt (contents_of self.old (S.left source.old))) }
+
+        ensures given { IfOk result (λ o. given_by self.new ≡ given_by self.old + (if is_some o then 1 else 0)) }
+        ensures ready { OnOk result (IsReady self.new (S.begun source.new)) }
+        ensures policy { resolved_of self.new ≡ resolved_of self.old }
+        ensures kept { KeepsShelf S.lends S.content S.faults source.old source.new }
+        ensures cause { IsErrOf result Halt.Source → Rose (S.faults source.old) (S.faults source.new) }
+    {
+        match self {
+            AnyArrivals::Classic(arrivals) => arrivals.next_linked(source),
+            AnyArrivals::Blocks(arrivals) => arrivals.next_linked(source),
+        }
+    }
 }
 
 impl<'a, S: Shelf> Packets for AnyArrivals<'a, S> {
     type Source = S;
 
-    ghost use Rattle.sched_packets.specs.AnyArrivals.{policy_of, given_by, left_of, IsReady};
+    ghost use Rattle.sched_packets.specs.AnyArrivals.{policy_of, given_by, captured_by, left_of, captures_of, there, IsReady};
 
     ghost policy = { policy_of };
 
@@ -69,14 +97,28 @@ impl<'a, S: Shelf> Packets for AnyArrivals<'a, S> {
 
     ghost left = { λ a shelf. left_of a (S.left shelf) };
 
+    ghost captured = { captured_by };
+
+    ghost captures = { λ a shelf. captures_of a (S.left shelf) };
+
     ghost ready = { λ a shelf. IsReady a (S.begun shelf) };
 
     ghost faults = { S.faults };
 
     fn next(&mut self, source: &mut S) -> Result<Option<Packet>, Halt> {
-        match self {
-            AnyArrivals::Classic(arrivals) => arrivals.next(source),
-            AnyArrivals::Blocks(arrivals) => arrivals.next(source),
+        match self.next_linked(source) {
+            Ok(Some(linked)) => Ok(Some(linked.packet)),
+            Ok(None) => Ok(None),
+            Err(halt) => Err(halt),
         }
     }
+
+    fn captured(&self) -> &[u8] {
+        match self {
+            AnyArrivals::Classic(arrivals) => arrivals.captured(),
+            AnyArrivals::Blocks(arrivals) => arrivals.captured(),
+        }
+    }
+
+    ghost there = { λ a shelf. there a (S.left shelf) };
 }

@@ -1,15 +1,17 @@
 //! The packets of a capture, one by one.
-ghost use Rattle.std.specs.Prelude.{◌≡◌, IfOk, IfErr, IfSome, IsErrOf, IsTrue, ◌≤◌};
+ghost use Rattle.std.specs.Prelude.{◌≡◌, ◌+◌, Some, is_some, if◌then◌else◌, IfOk, IfErr, IfSome, IfNone, OnOk, IsErrOf, IsTrue};
 ghost use Rattle.outside_core.specs.Faults.{Rose};
 ghost use Rattle.outside_core.specs.Kept.{KeepsShelf};
+ghost use Rattle.capture_core.specs.Captures.{Opens, IsAt, nothing_left};
+ghost use Rattle.sched_packets.specs.NextPacket.{IsNext, HaltsAt};
 
 use crate::halts::{halt_of, halt_unbegun};
+use crate::linked::LinkedPacket;
 use crate::packets::packet_in;
 use capture_core::CaptureReader;
 use outside_core::Shelf;
-use packet_core::Packet;
 use policy_core::Policy;
-use sched_defs::{Halt, Packets};
+use sched_defs::Halt;
 use std::alloc::Global;
 use std::marker::PhantomData;
 
@@ -25,7 +27,7 @@ pub struct Arrivals<'a, R, S> {
 }
 
 impl<'a, R: CaptureReader + Drop, S: Shelf> Arrivals<'a, R, S> {
-    ghost use Rattle.sched_packets.specs.Arrivals.{policy_of, given_by, left_of, IsReady, Begins, Refuses};
+    ghost use Rattle.sched_packets.specs.Arrivals.{resolved_of, given_by, captured_by, contents_of, IsReady, Refuses};
 
     /// Reads the beginning of the begun file.
     pub fn start(
@@ -35,9 +37,9 @@ impl<'a, R: CaptureReader + Drop, S: Shelf> Arrivals<'a, R, S> {
     ) -> Result<Arrivals<'a, R, S>, Halt>
         requires begun { IsTrue (S.begun shelf.old) }
 
-        ensures begins { IfOk result (λ a. IfSome (S.left shelf.old) (λ file.
-            Begins policy.now (R.contents file) (left_of R.left R.given a (S.left shelf.new)))) }
-        ensures policy { IfOk result (λ a. policy_of a ≡ policy.now.policy) }
+        ensures opens { IfOk result (λ a. IfSome (S.left shelf.old) (λ file.
+            Opens (R.contents file) (contents_of R.left a (S.left shelf.new)))) }
+        ensures policy { IfOk result (λ a. resolved_of a ≡ policy.now) }
         ensures none_given { IfOk result (λ a. given_by R.given a ≡ 0) }
         ensures ready { IfOk result (λ a. IsReady R.ready R.given a (S.begun shelf.new)) }
 
@@ -68,9 +70,9 @@ impl<'a, R: CaptureReader + Drop, S: Shelf> Arrivals<'a, R, S> {
     ) -> Result<Arrivals<'a, R, S>, Halt>
         requires lent { IsTrue (S.lends shelf.old name.now) }
 
-        ensures begins { IfOk result (λ a. IfSome (S.content shelf.old name.now) (λ file.
-            Begins policy.now (R.contents file) (left_of R.left R.given a (S.left shelf.new)))) }
-        ensures policy { IfOk result (λ a. policy_of a ≡ policy.now.policy) }
+        ensures opens { IfOk result (λ a. IfSome (S.content shelf.old name.now) (λ file.
+            Opens (R.contents file) (contents_of R.left a (S.left shelf.new)))) }
+        ensures policy { IfOk result (λ a. resolved_of a ≡ policy.now) }
         ensures none_given { IfOk result (λ a. given_by R.given a ≡ 0) }
         ensures ready { IfOk result (λ a. IsReady R.ready R.given a (S.begun shelf.new)) }
 
@@ -83,34 +85,44 @@ impl<'a, R: CaptureReader + Drop, S: Shelf> Arrivals<'a, R, S> {
             Err(error) => Err(halt_unbegun(error)),
         }
     }
-}
 
-impl<'a, R: CaptureReader + Drop, S: Shelf> Packets for Arrivals<'a, R, S> {
-    type Source = S;
+    /// The next packet, if one is left, with its link type. It may be asked for again where none is, and not after an error.
+    pub fn next_linked(&mut self, source: &mut S) -> Result<Option<LinkedPacket>, Halt>
+        requires ready { IsReady R.ready R.given self.old (S.begun source.old) }
 
-    ghost use Rattle.sched_packets.specs.Arrivals.{policy_of, given_by, left_of, IsReady};
+        ensures next { IfOk result (λ o. IfSome o (λ l. IsNext (resolved_of self.old) (given_by R.given self.old)
+            (contents_of R.left self.old (S.left source.old)) (contents_of R.left self.new (S.left source.new))
+            l.link l.packet (captured_by self.new))) }
+        ensures ended { IfOk result (λ o. IfNone o (IsAt None (contents_of R.left self.old (S.left source.old)))) }
+        ensures over { IfOk result (λ o. IfNone o (contents_of R.left self.new (S.left source.new) ≡ Some nothing_left)) }
+        ensures fault { IfErr result (HaltsAt (contents_of R.left self.old (S.left source.old))) }
 
-    ghost policy = { policy_of };
-
-    ghost given = { λ a. given_by R.given a };
-
-    ghost left = { λ a shelf. left_of R.left R.given a (S.left shelf) };
-
-    ghost ready = { λ a shelf. IsReady R.ready R.given a (S.begun shelf) };
-
-    ghost faults = { S.faults };
-
-    fn next(&mut self, source: &mut S) -> Result<Option<Packet>, Halt> {
+        ensures given { IfOk result (λ o. given_by R.given self.new ≡ given_by R.given self.old + (if is_some o then 1 else 0)) }
+        ensures ready { OnOk result (IsReady R.ready R.given self.new (S.begun source.new)) }
+        ensures policy { resolved_of self.new ≡ resolved_of self.old }
+        ensures kept { KeepsShelf S.lends S.content S.faults source.old source.new }
+        ensures cause { IsErrOf result Halt.Source → Rose (S.faults source.old) (S.faults source.new) }
+    {
         if self.over {
             return Ok(None);
         }
         match self.reader.next(source, &mut self.bytes) {
-            Ok(Some(read)) => Ok(Some(packet_in(self.policy, &read, &self.bytes))),
+            Ok(Some(read)) => Ok(Some(LinkedPacket {
+                packet: packet_in(self.policy, &read, &self.bytes),
+                link: read.link,
+            })),
             Ok(None) => {
                 self.over = true;
                 Ok(None)
             }
             Err(unread) => Err(halt_of(unread)),
         }
+    }
+
+    /// The captured bytes of the packet that came last.
+    pub fn captured(&self) -> &[u8]
+        ensures { result.now ≡ captured_by self.now }
+    {
+        &self.bytes
     }
 }

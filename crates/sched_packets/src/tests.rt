@@ -1,5 +1,7 @@
-//! Tests of packets of two classes, in captures of both formats, and of captures with faults.
-use crate::{AnyArrivals, Packets};
+//! Tests of packets of two classes, in captures of both formats, of captures with faults, and of packets of one link type.
+ghost use Rattle.std.specs.Prelude.{◌≡◌};
+
+use crate::{AnyArrivals, OneLink, Packets};
 use outside_core::MemShelf;
 use policy_core::{Policy, resolve};
 use policy_text::parse;
@@ -67,15 +69,16 @@ fn shelf_of(alloc: Global, pieces: &[&[u8]], fail: u64) -> Result<MemShelf, Allo
     Ok(MemShelf::new(files, 64, vec![in alloc; fail]?))
 }
 
-/// The packets of a capture in a text: each one's number, class, length, moment and destination port, then how it ends.
-fn told(alloc: Global, policy: &Policy, shelf: &mut MemShelf) -> Result<String, Fail> {
-    let mut arrivals = match AnyArrivals::open(alloc, policy, shelf, "c") {
-        Ok(arrivals) => arrivals,
-        Err(halt) => return Ok(format!(in alloc; "{halt:?}")?),
-    };
-    let mut text = String::new(alloc);
+/// The packets that come in a text: each one's number, class, length, moment and destination port, then how they end.
+fn tell<P: Packets>(
+    text: &mut String,
+    packets: &mut P,
+    source: &mut P::Source,
+) -> Result<(), AllocError>
+    requires { P.ready packets.old source.old }
+{
     for _ in 0..5 {
-        match arrivals.next(shelf) {
+        match packets.next(source) {
             Ok(Some(p)) => write!(
                 text,
                 "{} {} {} {} {}, ",
@@ -87,6 +90,32 @@ fn told(alloc: Global, policy: &Policy, shelf: &mut MemShelf) -> Result<String, 
                 break;
             }
         }
+    }
+    Ok(())
+}
+
+/// Those of a capture, or why there are none.
+fn told(alloc: Global, policy: &Policy, shelf: &mut MemShelf) -> Result<String, Fail> {
+    let mut text = String::new(alloc);
+    match AnyArrivals::open(alloc, policy, shelf, "c") {
+        Ok(mut arrivals) => tell(&mut text, &mut arrivals, shelf)?,
+        Err(halt) => write!(text, "{halt:?}")?,
+    }
+    Ok(text)
+}
+
+/// Those with the link type of the first, behind it.
+fn told_of_one_link(alloc: Global, policy: &Policy, shelf: &mut MemShelf) -> Result<String, Fail> {
+    let mut text = String::new(alloc);
+    let arrivals = AnyArrivals::open(alloc, policy, shelf, "c")
+        .ok()
+        .ok_or("open")?;
+    match OneLink::start(arrivals, shelf) {
+        Ok(mut packets) => {
+            write!(text, "link {}: ", packets.link())?;
+            tell(&mut text, &mut packets, shelf)?;
+        }
+        Err(halt) => write!(text, "{halt:?}")?,
     }
     Ok(text)
 }
@@ -172,6 +201,79 @@ fn packets_have_their_own_link_types(rt: HostRuntime) -> Result<(), Fail> {
     for (pieces, fail, want) in table {
         let mut shelf = shelf_of(alloc, pieces, fail)?;
         let text = told(alloc, &policy, &mut shelf)?;
+        assert_eq!(rt; text.as_str(), want);
+    }
+    Ok(())
+}
+
+#[test]
+fn packets_of_the_first_link_type(rt: HostRuntime) -> Result<(), Fail> {
+    let alloc = rt.alloc();
+    let policy = policy(alloc)?;
+    let table: [(&[&[u8]], &str); 10] = [
+        (
+            &[HEADER, TAGGED, CLIPPED],
+            "link 1: 1 0 46 10000000005 53, 2 0 1500 10000000006 53, none, none, none, ",
+        ),
+        (
+            &[
+                SECTION,
+                ETHERNET,
+                OTHER_INTERFACE,
+                FIRST_BLOCK,
+                BLOCK_END,
+                FIRST_BLOCK,
+                BLOCK_END,
+                SECOND_BLOCK,
+                BLOCK_END,
+            ],
+            "link 1: 1 0 1500 1000000000 53, 2 0 1500 1000000000 53, Fault(20, 3)",
+        ),
+        (
+            &[
+                SECTION,
+                ETHERNET,
+                OTHER_INTERFACE,
+                SECOND_BLOCK,
+                BLOCK_END,
+                FIRST_BLOCK,
+                BLOCK_END,
+            ],
+            "link 147: 1 1 42 2000000000 0, Fault(20, 2)",
+        ),
+        (
+            &[SECTION, ETHERNET, OTHER_INTERFACE, SECOND_BLOCK, BLOCK_END],
+            "link 147: 1 1 42 2000000000 0, none, none, none, none, ",
+        ),
+        (&[HEADER], "link 0: none, none, none, none, none, "),
+        (
+            &[SECTION, ETHERNET],
+            "link 0: none, none, none, none, none, ",
+        ),
+        (&[HEADER, CUT], "Fault(6, 1)"),
+        (
+            &[SECTION, ETHERNET, SECOND_BLOCK, BLOCK_END],
+            "Fault(15, 3)",
+        ),
+        (
+            &[OTHER_LINK, CLIPPED, CUT],
+            "link 147: 1 1 1500 10000000006 0, Fault(6, 2)",
+        ),
+        (
+            &[
+                SECTION,
+                ETHERNET,
+                FIRST_BLOCK,
+                BLOCK_END,
+                SECOND_BLOCK,
+                BLOCK_END,
+            ],
+            "link 1: 1 0 1500 1000000000 53, Fault(15, 4)",
+        ),
+    ];
+    for (pieces, want) in table {
+        let mut shelf = shelf_of(alloc, pieces, 0)?;
+        let text = told_of_one_link(alloc, &policy, &mut shelf)?;
         assert_eq!(rt; text.as_str(), want);
     }
     Ok(())

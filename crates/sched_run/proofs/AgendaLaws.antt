@@ -1,5 +1,5 @@
 -- What is made of an agenda, and what of it is still to come.
-use Rattle.std.proofs.Common.{◌≡◌, ◌≤◌, ◌^◌, ℕ, ◌+◌, Option, None, Some, List, [], ◌++◌, refl, sym, ap, ◌∙◌, subst, arith, append_assoc, append-nil}
+use Rattle.std.proofs.Common.{◌≡◌, ◌≤◌, ◌^◌, ℕ, ◌+◌, Bool, false, Option, None, Some, List, [], ◌++◌, refl, sym, ap, ◌∙◌, subst, arith, append_assoc, append-nil}
 use Rattle.std.specs.Prelude.{IfSome}
 use Rattle.tree_defs.specs.SourceTree.{size}
 use Rattle.policy_defs.specs.Policy.{Policy}
@@ -13,15 +13,14 @@ use Rattle.sched_defs.specs.Packets.{Left}
 use Rattle.sched_defs.specs.declared.ending.Ending.{Ending}
 use Rattle.sched_defs.proofs.Runs.{after-append, none_lost}
 use Rattle.sched_core.specs.declared.scheduler.Scheduler.{Ghosts}
-use Rattle.sched_run.specs.declared.recorder.Recorder as recorder
-use Rattle.sched_run.specs.Recording.{AreJoined}
+use Rattle.sched_run.specs.Recording.{AreJoined, Recordings}
 use Rattle.sched_core.specs.Standing.{StandForOne}
 use Rattle.tap_core.specs.Watching.{Sight}
 use Rattle.sched_run.specs.declared.tally.Tally.{Tally}
 use Rattle.sched_run.specs.Stages.{Stage, stage, event_of, arrivals_in, FromEach, IsFresh, CanBegin, IsReady, HasRoom, Makes}
 use Rattle.sched_run.specs.Turns.{AreFirst, StopsAmid}
-use Rattle.sched_run.specs.Courses.{Agenda, IsCourse, Courses}
-use Rattle.sched_run.proofs.MadeEvents.{Stands, can_make, stands_after, makes_none, makes_both, stops_here, stops_later}
+use Rattle.sched_run.specs.Courses.{Agenda, IsCourse, Courses, CoursesFirst, CoursesAmid}
+use Rattle.sched_run.proofs.MadeEvents.{Stands, can_make, stands_after, makes_none, makes_both, makes_then_last, stops_here, stops_none, stops_later, stops_at_last, stops_then_last}
 use Rattle.sched_run.proofs.PacketsInTurn.{room_after}
 use Rattle.sched_run.proofs.EventCounts.{AreOf, outcomes_of, outcomes_both}
 
@@ -33,7 +32,7 @@ pub record IsBehind (policy : Policy) (whole rest : Agenda) (events : List Event
 
 -- A part of what was to come was made, and the rest is still to come. Of so many departures that may find nothing so many
 -- are spare.
-pub record HasRun {C U W : Type 0} (S : Ghosts C U) (R : recorder.Ghosts W) (policy : Policy) (whole rest : Agenda) (all spare : ℕ) (before now : Option Left) (old new : Stage C U W) : Type 0 where
+pub record HasRun {C U W : Type 0} (S : Ghosts C U) (R : Recordings W) (policy : Policy) (whole rest : Agenda) (all spare : ℕ) (before now : Option Left) (old new : Stage C U W) : Type 0 where
   pub events : List Event
   pub made : Makes S R policy events old new
   pub few : FromEach S policy old (λ s. empty_in (outcomes policy events s) + spare ≤ all)
@@ -42,7 +41,7 @@ pub record HasRun {C U W : Type 0} (S : Ghosts C U) (R : recorder.Ghosts W) (pol
 behind-append : (es fs : List Event) (c : Course) → behind es (behind fs c) ≡ behind (es ++ fs) c
 behind-append es fs c = ap (λ (events : List Event). record { events = events; ending = c.ending }) (sym (append_assoc es fs c.events))
 
-module _ {C U W : Type 0} (S : Ghosts C U) (R : recorder.Ghosts W) (laws : AreJoined R.records R.cuts) (policy : Policy) where
+module _ {C U W : Type 0} (S : Ghosts C U) (R : Recordings W) (laws : AreJoined R.records R.cuts) (policy : Policy) where
   pub run_none : (whole : Agenda) (all : ℕ) (a : Option Left) (c : C) (u : U) (w : W) (written : Option (List ℕ)) (given : ℕ) (tally : Tally) (sight : Sight) → HasRun S R policy whole whole all all a a (stage c u w written given tally sight) (stage c u w written given tally sight)
   run_none whole all a c u w written given tally sight = record {
     events = [];
@@ -92,7 +91,7 @@ module _ {C U W : Type 0} (S : Ghosts C U) (R : recorder.Ghosts W) (laws : AreJo
           let w = told s sound stood below in
           ((rest w.left (after policy run.events s) (event_of tally)).events, sym (ap (λ (z : Course). z.events) w.joined))
 
-module _ {C U W : Type 0} (S : Ghosts C U) (R : recorder.Ghosts W) (laws : AreJoined R.records R.cuts) (policy : Policy) (accepted : IsAccepted policy) (whole : Agenda) (all : ℕ) where
+module _ {C U W : Type 0} (S : Ghosts C U) (R : Recordings W) (laws : AreJoined R.records R.cuts) (policy : Policy) (accepted : IsAccepted policy) (whole : Agenda) (all : ℕ) where
   module _ (next : Agenda) (spare : ℕ) (a b : Option Left) (old mid : Stage C U W) (given : mid.given + old.tally.came ≡ old.given + mid.tally.came) (run : HasRun S R policy whole next all spare a b old mid) where
     mid_given : mid.given ≡ old.given + arrivals_in run.events
     mid_given = omega (arith, given, run.made.came)
@@ -152,27 +151,72 @@ module _ {C U W : Type 0} (S : Ghosts C U) (R : recorder.Ghosts W) (laws : AreJo
             subst (λ (o : Option Left). IfSome o (λ l. FromEach S policy mid (λ s. IsCourse more.events e (next l s (event_of mid.tally))))) w.is more.told s' at.sound at.stood at.below in
             subst (IsCourse (run.events ++ more.events) e) (sym w.joined) (record { are = ap (λ (x : List Event). run.events ++ x) last.are; ends = last.ends })
 
+    -- the first events of the rest are the first of all behind those that were made
+    first_behind : (a : Option Left) (events : List Event) → IfSome a (λ l. FromEach S policy old (λ s. IsBehind policy whole next run.events l b s (event_of old.tally) (event_of mid.tally)))
+        → IfSome b (λ l. FromEach S policy mid (λ s. AreFirst events (next l s (event_of mid.tally)).events))
+        → IfSome a (λ l. FromEach S policy old (λ s. AreFirst (run.events ++ events) (whole l s (event_of old.tally)).events))
+    first_behind None events told rest = tt
+    first_behind (Some l) events told rest = λ s sound stood below.
+        let w = told s sound stood below in
+        let at = mid_at s sound stood below in
+        let s' : SourceState = after policy run.events s in
+        let first : AreFirst events (next w.left s' (event_of mid.tally)).events =
+        subst (λ (o : Option Left). IfSome o (λ l. FromEach S policy mid (λ s. AreFirst events (next l s (event_of mid.tally)).events))) w.is rest s' at.sound at.stood at.below in (
+          first.0,
+          append_assoc run.events events first.0 ∙ ap (λ (x : List Event). run.events ++ x) first.1 ∙ sym (ap (λ (z : Course). z.events) w.joined),
+        )
+
     -- the rest stopped
     pub run_stops : (c : C) (u : U) (written : Option (List ℕ)) → StopsAmid S R policy (λ l s. (next l s (event_of mid.tally)).events) b mid c u written
         → StopsAmid S R policy (λ l s. (whole l s (event_of old.tally)).events) a old c u written
     run_stops c u written amid = record {
       events = run.events ++ amid.events;
       stop = stops_later S R laws policy accepted run.events amid.events old mid c u written mid_given run.made amid.stop;
-      first = by_left a run.told;
+      first = first_behind a amid.events run.told amid.first;
     }
-      where
-        by_left : (a : Option Left) → IfSome a (λ l. FromEach S policy old (λ s. IsBehind policy whole next run.events l b s (event_of old.tally) (event_of mid.tally)))
-            → IfSome a (λ l. FromEach S policy old (λ s. AreFirst (run.events ++ amid.events) (whole l s (event_of old.tally)).events))
-        by_left None told = tt
-        by_left (Some l) told = λ s sound stood below.
-            let w = told s sound stood below in
-            let at = mid_at s sound stood below in
-            let s' : SourceState = after policy run.events s in
-            let first : AreFirst amid.events (next w.left s' (event_of mid.tally)).events =
-            subst (λ (o : Option Left). IfSome o (λ l. FromEach S policy mid (λ s. AreFirst amid.events (next l s (event_of mid.tally)).events))) w.is amid.first s' at.sound at.stood at.below in (
-              first.0,
-              append_assoc run.events amid.events first.0 ∙ ap (λ (x : List Event). run.events ++ x) first.1 ∙ sym (ap (λ (z : Course). z.events) w.joined),
-            )
+
+    -- the rest stopped at its last event
+    pub run_breaks : (over : W → Bool) (c : C) (u : U) (written : Option (List ℕ)) → CoursesAmid S R over policy next b mid c u written → CoursesAmid S R over policy whole a old c u written
+    run_breaks over c u written more = record {
+      events = run.events ++ more.events;
+      stop = stops_then_last S R laws policy accepted over run.events more.events old mid c u written mid_given run.made more.stop;
+      first = first_behind a more.events run.told more.first;
+    }
+
+    -- the run stopped between two events
+    pub run_halts_going : (over : W → Bool) → over mid.recorder ≡ false → CoursesAmid S R over policy whole a old mid.scheduler mid.under mid.written
+    unfolding run_halts
+    run_halts_going over going =
+        let halted : StopsAmid S R policy (λ l s. (whole l s (event_of old.tally)).events) a old mid.scheduler mid.under mid.written =
+        run_halts S R laws policy whole next all spare a b old mid.scheduler mid.under mid.recorder mid.written mid.given mid.tally mid.sight run in
+        record {
+          events = run.events;
+          stop = record {
+            before = run.events;
+            last = [];
+            are = append-nil run.events;
+            few = omega arith;
+            amid = mid;
+            made = run.made;
+            given = mid_given;
+            going = going;
+            stop = stops_none S R laws policy mid.scheduler mid.under mid.recorder mid.written mid.given mid.tally mid.sight;
+          };
+          first = halted.first;
+        }
+
+    -- nothing more can be recorded in the rest
+    pub run_first : (over : W → Bool) (new : Stage C U W) → CoursesFirst S R over policy next b mid new → CoursesFirst S R over policy whole a old new
+    run_first over new more = record {
+      events = run.events ++ more.events;
+      made = makes_then_last S R laws policy accepted over run.events more.events old mid new mid_given run.made more.made;
+      first = first_behind a more.events run.told more.first;
+    }
+
+  -- a run that stopped at its last event stopped
+  pub stops_amid : (over : W → Bool) (before : Option Left) (old : Stage C U W) (c : C) (u : U) (written : Option (List ℕ)) → CoursesAmid S R over policy whole before old c u written
+      → StopsAmid S R policy (λ l s. (whole l s (event_of old.tally)).events) before old c u written
+  stops_amid over before old c u written to = record { events = to.events; stop = stops_at_last S R laws policy accepted over to.events old c u written to.stop; first = to.first }
 
   -- ---- what the rest needs
   module _ (rest : Agenda) (spare : ℕ) (a b : Option Left) (old mid : Stage C U W) (given : mid.given + old.tally.came ≡ old.given + mid.tally.came) (few : mid.given ≤ 4294967295)

@@ -8,7 +8,6 @@ use Rattle.sched_defs.specs.Script.{Step, Course, course, behind, stopped_or, st
 use Rattle.sched_defs.specs.Packets.{Left}
 use Rattle.sched_defs.specs.declared.ending.Ending.{Ending}
 use Rattle.sched_core.specs.declared.scheduler.Scheduler.{Ghosts}
-use Rattle.sched_run.specs.declared.recorder.Recorder as recorder
 use Rattle.events_core.specs.declared.step.Step as line
 use Rattle.events_core.specs.declared.step.Step.TheVariants as line_step
 use Rattle.events_core.specs.Steps.{count_of, counts_of}
@@ -18,6 +17,7 @@ use Rattle.sched_run.specs.Turns.{IsTurn, Turns, AreFirst, StopsAmid}
 use Rattle.sched_run.specs.Courses.{script_agenda, IsCourse, Courses}
 use Rattle.sched_run.proofs.MadeEvents.{length-events}
 use Rattle.sched_run.proofs.AgendaLaws.{IsBehind, HasRun}
+use Rattle.sched_run.specs.Recording.{Recordings}
 
 -- ---- the course of a step and others
 module _ (policy : Policy) (step : Step) (steps : List Step) (l : Left) (s : SourceState) (event : ℕ) where
@@ -67,7 +67,7 @@ asked_is (line_step.Depart n) = refl
 asked_is line_step.Rest = refl
 asked_is line_step.Drain = refl
 
-module _ {C U W : Type 0} (S : Ghosts C U) (R : recorder.Ghosts W) (policy : Policy) (step : line.Step) (rest : List line.Step) (a : Option Left) (old : Stage C U W) where
+module _ {C U W : Type 0} (S : Ghosts C U) (R : Recordings W) (policy : Policy) (step : line.Step) (rest : List line.Step) (a : Option Left) (old : Stage C U W) where
   -- the events of a step and the number of the next one
   numbered : (c : Option Left) (ending : Option Ending) (new : Stage C U W) (turns : Turns S R policy (step_of step) ending a c old new) → event_of new.tally ≡ event_of old.tally + length turns.events
   numbered c ending new turns = omega (arith, turns.made.came, turns.made.asked, length-events turns.events)

@@ -8,8 +8,7 @@ use Rattle.sched_defs.specs.Events.{Event, Arrive, Depart, Outcome, step, after,
 use Rattle.sched_defs.proofs.Runs.{after-append, outcomes-append, departures_count}
 use Rattle.sched_core.specs.declared.scheduler.Arrival.{Arrival}
 use Rattle.sched_core.specs.declared.scheduler.Scheduler.{Ghosts}
-use Rattle.sched_run.specs.declared.recorder.Recorder as recorder
-use Rattle.sched_run.specs.Recording.{AreJoined}
+use Rattle.sched_run.specs.Recording.{AreJoined, Recordings}
 use Rattle.sched_core.specs.Arrivals.{arrival_of, pushes_of}
 use Rattle.sched_core.specs.Origins.{Origin, images_of}
 use Rattle.sched_core.specs.Spills.{raised, arrival_spills, spills_in}
@@ -115,7 +114,7 @@ module _ {C U : Type 0} (S : Ghosts C U) (policy : Policy) where
   }
 
 -- ---- with what is recorded of them
-module _ {C U W : Type 0} (S : Ghosts C U) (R : recorder.Ghosts W) (laws : AreJoined R.records R.cuts) (policy : Policy) where
+module _ {C U W : Type 0} (S : Ghosts C U) (R : Recordings W) (laws : AreJoined R.records R.cuts) (policy : Policy) where
   -- the outcomes of events, and then of some more
   all_outcomes : (es fs : List Event) (s : SourceState) → outcomes policy es s ++ outcomes policy fs (after policy es s) ≡ outcomes policy (es ++ fs) s
   all_outcomes es fs s = sym (outcomes-append policy es fs s)

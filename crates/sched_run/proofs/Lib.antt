@@ -1,5 +1,6 @@
 pub mod FrameLaws
 pub mod JoinedEvents
+pub mod HeardLaws
 pub mod ShownLaws
 pub mod LineLaws
 pub mod MadeEvents

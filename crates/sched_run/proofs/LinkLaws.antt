@@ -1,5 +1,5 @@
 -- The departures and arrivals of a link, turn by turn.
-use Rattle.std.proofs.Common.{◌≡◌, ◌≤◌, ◌<◌, ◌*◌, ℕ, zero, suc, ◌+◌, ◌-◌, max, true, false, Option, None, Some, List, [], ◌∷◌, ◌++◌, refl, sym, ap, ◌∙◌, subst, arith, append_assoc, append-nil}
+use Rattle.std.proofs.Common.{◌≡◌, ◌≤◌, ◌<◌, ◌*◌, ℕ, zero, suc, ◌+◌, ◌-◌, max, Bool, true, false, Option, None, Some, List, [], ◌∷◌, ◌++◌, refl, sym, ap, ◌∙◌, subst, arith, append_assoc, append-nil}
 use Rattle.std.specs.Prelude.{IfSome, option_map}
 use Rattle.link_defs.specs.Link.{IsRate, send_time}
 use Rattle.link_defs.proofs.LinkLaws.{send_time-least}
@@ -23,18 +23,17 @@ use Rattle.sched_defs.proofs.Links.{sending, turn_leads, turn_empty}
 use Rattle.sched_defs.proofs.Runs.{after-append}
 use Rattle.sched_core.specs.Departures.{departed_packet, next_departed}
 use Rattle.sched_core.specs.declared.scheduler.Scheduler.{Ghosts}
-use Rattle.sched_run.specs.declared.recorder.Recorder as recorder
-use Rattle.sched_run.specs.Recording.{AreJoined}
+use Rattle.sched_run.specs.Recording.{AreJoined, Recordings}
 use Rattle.sched_core.specs.Standing.{StandForOne, ForEachState}
 use Rattle.tap_core.specs.Watching.{Sight}
 use Rattle.sched_run.specs.declared.tally.Tally.{Tally}
 use Rattle.sched_run.specs.Stages.{Stage, stage, event_of, arrivals_in, FromEach, Makes, Stops}
-use Rattle.sched_run.specs.Turns.{AreFirst, StopsAmid}
-use Rattle.sched_run.specs.Links.{IsSent, Sends, SendsAmid}
-use Rattle.sched_run.specs.Courses.{link_agenda, IsCourse, Courses}
-use Rattle.sched_run.proofs.MadeEvents.{Stands, stands_after, makes_none, makes_both, stops_later}
+use Rattle.sched_run.specs.Turns.{AreFirst}
+use Rattle.sched_run.specs.Links.{IsSent, Sends, SendsAmid, SendsFirst}
+use Rattle.sched_run.specs.Courses.{link_agenda, IsCourse, Courses, CoursesFirst, CoursesAmid}
+use Rattle.sched_run.proofs.MadeEvents.{Stands, stands_after, makes_none, makes_both}
 use Rattle.sched_run.proofs.EventCounts.{AreOf, outcomes_of}
-use Rattle.sched_run.proofs.AgendaLaws.{IsBehind, HasRun, run_none}
+use Rattle.sched_run.proofs.AgendaLaws.{IsBehind, HasRun, run_none, regiven}
 
 -- ---- departures in a row
 -- events, and then what is sent
@@ -122,12 +121,12 @@ module _ (policy : Policy) (rate : ℕ) (until : Option ℕ) where
       part_stops = ((send_until policy rate until (held - (done + 1)) (departed policy mid) (now + send_time one.0.packet.len rate)).events, sym (ap (λ (x : Sent). x.events) unfolded))
 
 -- a part of what is to be sent was made
-pub record SendsPart {C U W : Type 0} (S : Ghosts C U) (R : recorder.Ghosts W) (policy : Policy) (rate : ℕ) (until : Option ℕ) (held done first now : ℕ) (old new : Stage C U W) : Type 0 where
+pub record SendsPart {C U W : Type 0} (S : Ghosts C U) (R : Recordings W) (policy : Policy) (rate : ℕ) (until : Option ℕ) (held done first now : ℕ) (old new : Stage C U W) : Type 0 where
   pub events : List Event
   pub made : Makes S R policy events old new
   pub told : FromEach S policy old (λ s. IsPart policy rate until held done first now events s)
 
-module _ {C U W : Type 0} (S : Ghosts C U) (R : recorder.Ghosts W) (laws : AreJoined R.records R.cuts) (policy : Policy) (accepted : IsAccepted policy) (rate : ℕ) (until : Option ℕ) (held first : ℕ) (old : Stage C U W) (holds : ForEachState S.stands policy old.scheduler old.under (λ s. held ≡ size s.tree)) where
+module _ {C U W : Type 0} (S : Ghosts C U) (R : Recordings W) (laws : AreJoined R.records R.cuts) (policy : Policy) (accepted : IsAccepted policy) (rate : ℕ) (until : Option ℕ) (held first : ℕ) (old : Stage C U W) (holds : ForEachState S.stands policy old.scheduler old.under (λ s. held ≡ size s.tree)) where
   pub sends_none : SendsPart S R policy rate until held 0 first first old old
   sends_none = record {
     events = [];
@@ -185,14 +184,47 @@ module _ {C U W : Type 0} (S : Ghosts C U) (R : recorder.Ghosts W) (laws : AreJo
             part_goes policy rate until held done first now part.events s (part.told s sound stood low) at.sound below due o now' (value (after policy part.events s) at.sound at.stood) time;
       }
 
-      pub sends_stops : (c : C) (u : U) (written : Option (List ℕ)) → Stops S R policy (Depart (Some now) ∷ []) mid c u written → SendsAmid S R policy (λ s. send_until policy rate until (size s.tree) s first) old c u written
-      sends_stops c u written stop = record {
+      are_first : FromEach S policy old (λ s. AreFirst (part.events ++ Depart (Some now) ∷ []) (send_until policy rate until (size s.tree) s first).events)
+      are_first s sound stood low =
+          let at = part_at s sound stood low in
+          let some = part_stops policy rate until held done first now part.events s (part.told s sound stood low) at.sound below due in
+          subst (λ (n : ℕ). AreFirst (part.events ++ Depart (Some now) ∷ []) (send_until policy rate until n s first).events) (holds s sound stood) some
+
+      pub sends_stops : (over : W → Bool) (c : C) (u : U) (written : Option (List ℕ)) → over mid.recorder ≡ false → Stops S R policy (Depart (Some now) ∷ []) mid c u written
+          → SendsAmid S R over policy (λ s. send_until policy rate until (size s.tree) s first) old c u written
+      sends_stops over c u written going stop = record {
         events = part.events ++ Depart (Some now) ∷ [];
-        stop = stops_later S R laws policy accepted part.events (Depart (Some now) ∷ []) old mid c u written part_given part.made stop;
-        first = λ s sound stood low.
-            let at = part_at s sound stood low in
-            let some = part_stops policy rate until held done first now part.events s (part.told s sound stood low) at.sound below due in
-            subst (λ (n : ℕ). AreFirst (part.events ++ Depart (Some now) ∷ []) (send_until policy rate until n s first).events) (holds s sound stood) some;
+        stop = record {
+          before = part.events;
+          last = Depart (Some now) ∷ [];
+          are = refl;
+          few = omega arith;
+          amid = mid;
+          made = part.made;
+          given = part_given;
+          going = going;
+          stop = stop;
+        };
+        first = are_first;
+      }
+
+      -- one more was made, behind which nothing can be recorded
+      pub sends_first : (over : W → Bool) (new : Stage C U W) → over mid.recorder ≡ false → Makes S R policy (Depart (Some now) ∷ []) mid new → over new.recorder ≡ true
+          → SendsFirst S R over policy (λ s. send_until policy rate until (size s.tree) s first) old new
+      sends_first over new going made is_over = record {
+        events = part.events ++ Depart (Some now) ∷ [];
+        made = record {
+          before = part.events;
+          last = Depart (Some now);
+          are = refl;
+          amid = mid;
+          made = part.made;
+          given = part_given;
+          going = going;
+          made_last = made;
+          is_over = is_over;
+        };
+        first = are_first;
       }
 
 -- the greatest length takes less than 2^62 nanoseconds
@@ -203,19 +235,39 @@ sends_soon len rate is few =
     omega (arith, least, few)
 
 -- how many packets came then isn't told by what was sent
-pub same_sends : {C U W : Type 0} (S : Ghosts C U) (R : recorder.Ghosts W) (policy : Policy) (sent : SourceState → Sent) (free : ℕ) (old : Stage C U W) (c : C) (u : U) (w : W) (written : Option (List ℕ)) (given given' : ℕ) (tally : Tally) (sight : Sight) → given ≡ given'
+pub same_sends : {C U W : Type 0} (S : Ghosts C U) (R : Recordings W) (policy : Policy) (sent : SourceState → Sent) (free : ℕ) (old : Stage C U W) (c : C) (u : U) (w : W) (written : Option (List ℕ)) (given given' : ℕ) (tally : Tally) (sight : Sight) → given ≡ given'
     → Sends S R policy sent free old (stage c u w written given tally sight) → Sends S R policy sent free old (stage c u w written given' tally sight)
 same_sends S R policy sent free old c u w written given given' tally sight e sends = subst (λ (n : ℕ). Sends S R policy sent free old (stage c u w written n tally sight)) e sends
 
+pub same_first : {C U W : Type 0} (S : Ghosts C U) (R : Recordings W) (laws : AreJoined R.records R.cuts) (over : W → Bool) (policy : Policy) (sent : SourceState → Sent) (old : Stage C U W) (c : C) (u : U) (w : W) (written : Option (List ℕ)) (given given' : ℕ) (tally : Tally) (sight : Sight)
+    → SendsFirst S R over policy sent old (stage c u w written given tally sight) → SendsFirst S R over policy sent old (stage c u w written given' tally sight)
+same_first S R laws over policy sent old c u w written given given' tally sight sends =
+    let to = sends.made in
+    record {
+      events = sends.events;
+      made = record {
+        before = to.before;
+        last = to.last;
+        are = to.are;
+        amid = to.amid;
+        made = to.made;
+        given = to.given;
+        going = to.going;
+        made_last = regiven S R laws policy (to.last ∷ []) to.amid c u w written given given' tally sight to.made_last;
+        is_over = to.is_over;
+      };
+      first = sends.first;
+    }
+
 -- ---- the turns of a link
 -- at first the link is free, and all is still to come
-pub link_begins : {C U W : Type 0} (S : Ghosts C U) (R : recorder.Ghosts W) (laws : AreJoined R.records R.cuts) (policy : Policy) (rate free : ℕ) → free ≡ 0 → (a : Option Left) (c : C) (u : U) (w : W) (written : Option (List ℕ)) (given : ℕ) (tally : Tally) (sight : Sight)
+pub link_begins : {C U W : Type 0} (S : Ghosts C U) (R : Recordings W) (laws : AreJoined R.records R.cuts) (policy : Policy) (rate free : ℕ) → free ≡ 0 → (a : Option Left) (c : C) (u : U) (w : W) (written : Option (List ℕ)) (given : ℕ) (tally : Tally) (sight : Sight)
     → HasRun S R policy (link_agenda policy rate 0) (link_agenda policy rate free) 0 0 a a (stage c u w written given tally sight) (stage c u w written given tally sight)
 link_begins S R laws policy rate free e a c u w written given tally sight =
     subst (λ (n : ℕ). HasRun S R policy (link_agenda policy rate 0) (link_agenda policy rate n) 0 0 a a (stage c u w written given tally sight) (stage c u w written given tally sight)) (sym e)
     (run_none S R laws policy (link_agenda policy rate 0) 0 a c u w written given tally sight)
 
-module _ {C U W : Type 0} (S : Ghosts C U) (R : recorder.Ghosts W) (policy : Policy) (rate free : ℕ) where
+module _ {C U W : Type 0} (S : Ghosts C U) (R : Recordings W) (policy : Policy) (rate free : ℕ) where
   -- a packet came, and its turn was made
   pub link_goes : (p : Packet) (free' : ℕ) (a b : Option Left) (old new : Stage C U W) → Came a b (p ∷ []) → Sends S R policy (λ s. link_turn policy rate p s free) free' old new
       → HasRun S R policy (link_agenda policy rate free) (link_agenda policy rate free') 0 0 a b old new
@@ -245,21 +297,28 @@ module _ {C U W : Type 0} (S : Ghosts C U) (R : recorder.Ghosts W) (policy : Pol
                 ∙ ap (λ (n : ℕ). behind sends.events (link_course policy rate m.packets m.fault (after policy sends.events s) n)) (sym is.is_free);
           }
 
+  -- the first events of its turn are the first of all
+  pub first_in_turn : (p : Packet) (a b : Option Left) (events : List Event) (old : Stage C U W) → Came a b (p ∷ []) → FromEach S policy old (λ s. AreFirst events (link_turn policy rate p s free).events)
+      → IfSome a (λ l. FromEach S policy old (λ s. AreFirst events (link_agenda policy rate free l s (event_of old.tally)).events))
+  first_in_turn p None b events old came first = tt
+  first_in_turn p (Some l) None events old came first = absurd came
+  first_in_turn p (Some l) (Some m) events old came first = λ s sound stood below.
+      let some = first s sound stood below in
+      let rest : Course = link_course policy rate m.packets m.fault (link_turn policy rate p s free).state (link_turn policy rate p s free).free in (
+        some.0 ++ rest.events,
+        sym (append_assoc events some.0 rest.events) ∙ ap (λ (es : List Event). es ++ rest.events) some.1
+            ∙ sym (ap (λ (ps : List Packet). (link_course policy rate ps l.fault s free).events) came.0 ∙ ap (λ (f : Option FaultAt). (link_course policy rate (p ∷ m.packets) f s free).events) came.1),
+      )
+
   -- its turn stopped
-  pub link_stops : (p : Packet) (a b : Option Left) (old : Stage C U W) (c : C) (u : U) (written : Option (List ℕ)) → Came a b (p ∷ []) → SendsAmid S R policy (λ s. link_turn policy rate p s free) old c u written
-      → StopsAmid S R policy (λ l s. (link_agenda policy rate free l s (event_of old.tally)).events) a old c u written
-  link_stops p a b old c u written came amid = record { events = amid.events; stop = amid.stop; first = by_left a b came }
-    where
-      by_left : (a b : Option Left) → Came a b (p ∷ []) → IfSome a (λ l. FromEach S policy old (λ s. AreFirst amid.events (link_agenda policy rate free l s (event_of old.tally)).events))
-      by_left None b came = tt
-      by_left (Some l) None came = absurd came
-      by_left (Some l) (Some m) came = λ s sound stood below.
-          let first = amid.first s sound stood below in
-          let rest : Course = link_course policy rate m.packets m.fault (link_turn policy rate p s free).state (link_turn policy rate p s free).free in (
-            first.0 ++ rest.events,
-            sym (append_assoc amid.events first.0 rest.events) ∙ ap (λ (es : List Event). es ++ rest.events) first.1
-                ∙ sym (ap (λ (ps : List Packet). (link_course policy rate ps l.fault s free).events) came.0 ∙ ap (λ (f : Option FaultAt). (link_course policy rate (p ∷ m.packets) f s free).events) came.1),
-          )
+  pub link_stops : (over : W → Bool) (p : Packet) (a b : Option Left) (old : Stage C U W) (c : C) (u : U) (written : Option (List ℕ)) → Came a b (p ∷ []) → SendsAmid S R over policy (λ s. link_turn policy rate p s free) old c u written
+      → CoursesAmid S R over policy (link_agenda policy rate free) a old c u written
+  link_stops over p a b old c u written came amid = record { events = amid.events; stop = amid.stop; first = first_in_turn p a b amid.events old came amid.first }
+
+  -- nothing more can be recorded in its turn
+  pub link_first : (over : W → Bool) (p : Packet) (a b : Option Left) (old new : Stage C U W) → Came a b (p ∷ []) → SendsFirst S R over policy (λ s. link_turn policy rate p s free) old new
+      → CoursesFirst S R over policy (link_agenda policy rate free) a old new
+  link_first over p a b old new came sends = record { events = sends.events; made = sends.made; first = first_in_turn p a b sends.events old came sends.first }
 
   -- no packet is left, and no fault
   whole_here : (l : Left) (s : SourceState) → l.packets ≡ [] → l.fault ≡ None → link_course policy rate l.packets l.fault s free ≡ record { events = (send_all policy rate s free).events; ending = Whole 0 }
@@ -281,30 +340,47 @@ module _ {C U W : Type 0} (S : Ghosts C U) (R : recorder.Ghosts W) (policy : Pol
           let e = whole_here l s none.0 none.1 in
           record { are = (sends.told s sound stood below).are ∙ sym (ap (λ (x : Course). x.events) e); ends = sym (ap (λ (x : Course). x.ending) e) }
 
-  pub link_drain_stops : (a b : Option Left) (old : Stage C U W) (c : C) (u : U) (written : Option (List ℕ)) → Came a b [] → IsOver b → SendsAmid S R policy (λ s. send_until policy rate None (size s.tree) s free) old c u written
-      → StopsAmid S R policy (λ l s. (link_agenda policy rate free l s (event_of old.tally)).events) a old c u written
-  link_drain_stops a b old c u written came over amid = record { events = amid.events; stop = amid.stop; first = by_left a (over_before a b came over) }
-    where
-      by_left : (a : Option Left) → IfSome a (λ l. (l.packets ≡ []) × (l.fault ≡ None)) → IfSome a (λ l. FromEach S policy old (λ s. AreFirst amid.events (link_agenda policy rate free l s (event_of old.tally)).events))
-      by_left None none = tt
-      by_left (Some l) none = λ s sound stood below.
-          let first = amid.first s sound stood below in
-          (first.0, first.1 ∙ sym (ap (λ (x : Course). x.events) (whole_here l s none.0 none.1)))
+  -- the first of what was to be sent then are the first of all
+  first_of_all : (a : Option Left) (events : List Event) (old : Stage C U W) → IfSome a (λ l. (l.packets ≡ []) × (l.fault ≡ None)) → FromEach S policy old (λ s. AreFirst events (send_until policy rate None (size s.tree) s free).events)
+      → IfSome a (λ l. FromEach S policy old (λ s. AreFirst events (link_agenda policy rate free l s (event_of old.tally)).events))
+  first_of_all None events old none first = tt
+  first_of_all (Some l) events old none first = λ s sound stood below.
+      let some = first s sound stood below in
+      (some.0, some.1 ∙ sym (ap (λ (x : Course). x.events) (whole_here l s none.0 none.1)))
+
+  pub link_drain_stops : (over : W → Bool) (a b : Option Left) (old : Stage C U W) (c : C) (u : U) (written : Option (List ℕ)) → Came a b [] → IsOver b
+      → SendsAmid S R over policy (λ s. send_until policy rate None (size s.tree) s free) old c u written → CoursesAmid S R over policy (link_agenda policy rate free) a old c u written
+  link_drain_stops over a b old c u written came none amid = record { events = amid.events; stop = amid.stop; first = first_of_all a amid.events old (over_before a b came none) amid.first }
+
+  -- nothing more can be recorded then
+  pub link_drain_first : (over : W → Bool) (a b : Option Left) (old new : Stage C U W) → Came a b [] → IsOver b → SendsFirst S R over policy (λ s. send_until policy rate None (size s.tree) s free) old new
+      → CoursesFirst S R over policy (link_agenda policy rate free) a old new
+  link_drain_first over a b old new came none sends = record { events = sends.events; made = sends.made; first = first_of_all a sends.events old (over_before a b came none) sends.first }
 
 -- ---- one turn
-module _ {C U W : Type 0} (S : Ghosts C U) (R : recorder.Ghosts W) (laws : AreJoined R.records R.cuts) (policy : Policy) (accepted : IsAccepted policy) (rate free : ℕ) (p : Packet) (moment : ℕ) (old : Stage C U W) (moments : FromEach S policy old (λ s. moment ≡ max s.now p.moment)) where
+module _ {C U W : Type 0} (S : Ghosts C U) (R : Recordings W) (laws : AreJoined R.records R.cuts) (policy : Policy) (accepted : IsAccepted policy) (rate free : ℕ) (p : Packet) (moment : ℕ) (old : Stage C U W) (moments : FromEach S policy old (λ s. moment ≡ max s.now p.moment)) where
   -- what is due is the first part of a turn
   is_turn : (s : SourceState) → moment ≡ max s.now p.moment → (link_turn policy rate p s free).events ≡ (send_until policy rate (Some moment) (size s.tree) s free).events ++ Arrive p ∷ []
   is_turn s e = ap (λ (n : ℕ). (send_until policy rate (Some n) (size s.tree) s free).events ++ Arrive p ∷ []) (sym e)
 
-  pub turn_halts : (c : C) (u : U) (written : Option (List ℕ)) → SendsAmid S R policy (λ s. send_until policy rate (Some moment) (size s.tree) s free) old c u written
-      → SendsAmid S R policy (λ s. link_turn policy rate p s free) old c u written
-  turn_halts c u written amid = record {
+  pub turn_halts : (over : W → Bool) (c : C) (u : U) (written : Option (List ℕ)) → SendsAmid S R over policy (λ s. send_until policy rate (Some moment) (size s.tree) s free) old c u written
+      → SendsAmid S R over policy (λ s. link_turn policy rate p s free) old c u written
+  turn_halts over c u written amid = record {
     events = amid.events;
     stop = amid.stop;
     first = λ s sound stood below.
         let first = amid.first s sound stood below in
         (first.0 ++ Arrive p ∷ [], sym (append_assoc amid.events first.0 (Arrive p ∷ [])) ∙ ap (λ (es : List Event). es ++ Arrive p ∷ []) first.1 ∙ sym (is_turn s (moments s sound stood below)));
+  }
+
+  -- nothing more can be recorded among what is due
+  pub turn_first : (over : W → Bool) (new : Stage C U W) → SendsFirst S R over policy (λ s. send_until policy rate (Some moment) (size s.tree) s free) old new → SendsFirst S R over policy (λ s. link_turn policy rate p s free) old new
+  turn_first over new sends = record {
+    events = sends.events;
+    made = sends.made;
+    first = λ s sound stood below.
+        let first = sends.first s sound stood below in
+        (first.0 ++ Arrive p ∷ [], sym (append_assoc sends.events first.0 (Arrive p ∷ [])) ∙ ap (λ (es : List Event). es ++ Arrive p ∷ []) first.1 ∙ sym (is_turn s (moments s sound stood below)));
   }
 
   module _ (mid : Stage C U W) (free' : ℕ) (given : mid.given ≡ old.given) (came : mid.tally.came ≡ old.tally.came) (sends : Sends S R policy (λ s. send_until policy rate (Some moment) (size s.tree) s free) free' old mid) where
@@ -348,9 +424,19 @@ module _ {C U W : Type 0} (S : Ghosts C U) (R : recorder.Ghosts W) (laws : AreJo
           };
     }
 
-    pub turn_stops : (c : C) (u : U) (written : Option (List ℕ)) → Stops S R policy (Arrive p ∷ []) mid c u written → SendsAmid S R policy (λ s. link_turn policy rate p s free) old c u written
-    turn_stops c u written stop = record {
+    pub turn_stops : (over : W → Bool) (c : C) (u : U) (written : Option (List ℕ)) → over mid.recorder ≡ false → Stops S R policy (Arrive p ∷ []) mid c u written → SendsAmid S R over policy (λ s. link_turn policy rate p s free) old c u written
+    turn_stops over c u written going stop = record {
       events = sends.events ++ Arrive p ∷ [];
-      stop = stops_later S R laws policy accepted sends.events (Arrive p ∷ []) old mid c u written same_given sends.made stop;
+      stop = record {
+        before = sends.events;
+        last = Arrive p ∷ [];
+        are = refl;
+        few = omega arith;
+        amid = mid;
+        made = sends.made;
+        given = same_given;
+        going = going;
+        stop = stop;
+      };
       first = λ s sound stood below. ([], append-nil (sends.events ++ Arrive p ∷ []) ∙ ap (λ (es : List Event). es ++ Arrive p ∷ []) (sends.told s sound stood below).are ∙ sym (is_turn s (moments s sound stood below)));
     }

@@ -14,10 +14,9 @@ use Rattle.sched_core.specs.declared.scheduler.Scheduler.{Ghosts}
 use Rattle.sched_core.specs.Standing.{StandForOne}
 use Rattle.tap_core.specs.Watching.{Sight}
 use Rattle.sched_run.specs.declared.drawing.Drawing.{Drawing}
-use Rattle.sched_run.specs.declared.recorder.Recorder as recorder
 use Rattle.sched_run.specs.declared.tally.Tally.{Tally}
 use Rattle.sched_run.specs.declared.tally.Totals.{Totals}
-use Rattle.sched_run.specs.Recording.{AreJoined}
+use Rattle.sched_run.specs.Recording.{AreJoined, Recordings}
 use Rattle.sched_run.specs.Load.{departs, packet_of, load_event, load_next, load_events, load_run, first_drawing, MakesLoad}
 use Rattle.sched_run.specs.Drawings.{HasLoadClasses}
 use Rattle.sched_run.specs.Played.{StopsIn}
@@ -125,7 +124,7 @@ pub record HasLoadRoom (pushes departures : ℕ) (tally : Tally) : Type 0 where
   pub events : tally.came + tally.asked ≤ 1000000
   pub dropped : tally.dropped ≤ tally.came
 
-module _ {C U W : Type 0} (S : Ghosts C U) (R : recorder.Ghosts W) (laws : AreJoined R.records R.cuts) (policy : Policy) (accepted : IsAccepted policy) where
+module _ {C U W : Type 0} (S : Ghosts C U) (R : Recordings W) (laws : AreJoined R.records R.cuts) (policy : Policy) (accepted : IsAccepted policy) where
   pub load_room : (n : ℕ) (d : Drawing) (old new : Stage C U W) → n ≤ 1000000 → IsFresh old.tally → S.pushes old.scheduler < 2 ^ 60 → S.departures old.scheduler < 2 ^ 60 → Makes S R policy (load_events n d) old new →
       StandForOne S.stands policy old.scheduler old.under (CanBegin old.given) → HasLoadRoom (S.pushes new.scheduler) (S.departures new.scheduler) new.tally
   load_room n d old new few fresh pushes departures made one =
@@ -179,7 +178,7 @@ module _ {C U W : Type 0} (S : Ghosts C U) (R : recorder.Ghosts W) (laws : AreJo
       }
 
 -- ---- a load and its drain
-module _ {C U W : Type 0} (S : Ghosts C U) (R : recorder.Ghosts W) (laws : AreJoined R.records R.cuts) (policy : Policy) (accepted : IsAccepted policy) (seed count : ℕ) (old : Stage C U W) (fresh : IsFresh old.tally) where
+module _ {C U W : Type 0} (S : Ghosts C U) (R : Recordings W) (laws : AreJoined R.records R.cuts) (policy : Policy) (accepted : IsAccepted policy) (seed count : ℕ) (old : Stage C U W) (fresh : IsFresh old.tally) where
   abbrev drawings : List Event
   drawings = load_events count (first_drawing seed)
 

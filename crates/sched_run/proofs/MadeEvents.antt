@@ -1,5 +1,5 @@
 -- Events that are made in a row.
-use Rattle.std.proofs.Common.{◌≡◌, ℕ, zero, suc, ◌+◌, ◌-◌, ◌<◌, Option, None, List, [], ◌∷◌, ◌++◌, length, replicate, refl, sym, ap, ◌∙◌, subst, arith, append_assoc}
+use Rattle.std.proofs.Common.{◌≡◌, ℕ, zero, suc, ◌+◌, ◌-◌, ◌<◌, Bool, Option, None, List, [], ◌∷◌, ◌++◌, length, replicate, refl, sym, ap, ◌∙◌, subst, arith, append_assoc}
 use Rattle.std.specs.List.{AllByRecursion}
 use Rattle.std.specs.Prelude.{sum_by}
 use Rattle.std.proofs.lemmas.Grind.{replicate_next}
@@ -16,14 +16,13 @@ use Rattle.sched_defs.specs.Numbered.{AreNumberedFrom, IsSendable, IsHeldBelow}
 use Rattle.sched_defs.proofs.Courses.{held_none, held_arrived, held_departed}
 use Rattle.sched_defs.proofs.Runs.{sound_after}
 use Rattle.sched_core.specs.declared.scheduler.Scheduler.{Ghosts}
-use Rattle.sched_run.specs.declared.recorder.Recorder as recorder
-use Rattle.sched_run.specs.Recording.{AreJoined}
+use Rattle.sched_run.specs.Recording.{AreJoined, Recordings}
 use Rattle.sched_run.specs.Played.{Plays, StopsIn}
 use Rattle.tap_core.specs.Watching.{Sight}
 use Rattle.tap_core.proofs.WatchLaws.{shows_none}
 use Rattle.sched_run.proofs.JoinedEvents.{made_none, made_all, plays_both, stops_first, stops_second}
 use Rattle.sched_run.proofs.ShownLaws.{shown_both}
-use Rattle.sched_run.specs.Stages.{Stage, stage, event_of, packets_in, arrivals_in, departures_in, AreNext, FromEach, Makes, Stops}
+use Rattle.sched_run.specs.Stages.{Stage, stage, event_of, packets_in, arrivals_in, departures_in, AreNext, FromEach, Makes, MakesLast, Stops, StopsLast}
 use Rattle.sched_run.proofs.EventCounts.{arrivals_in-append, departures_in-append, arrivals_in-departures, outcomes_both}
 
 -- ---- packets and their numbers
@@ -82,7 +81,7 @@ pub record Stands {C U : Type 0} (S : Ghosts C U) (policy : Policy) (c : C) (u :
   pub stood : S.stands c u s
   pub below : IsHeldBelow (given + 1) s.held
 
-module _ {C U W : Type 0} (S : Ghosts C U) (R : recorder.Ghosts W) (laws : AreJoined R.records R.cuts) (policy : Policy) (accepted : IsAccepted policy) where
+module _ {C U W : Type 0} (S : Ghosts C U) (R : Recordings W) (laws : AreJoined R.records R.cuts) (policy : Policy) (accepted : IsAccepted policy) where
   pub stands_after : (es : List Event) (old new : Stage C U W) (given : ℕ) (s : SourceState) → Makes S R policy es old new → given ≡ old.given + arrivals_in es →
       Stands S policy old.scheduler old.under old.given s → Stands S policy new.scheduler new.under given (after policy es s)
   stands_after es old new given s made e at = record {
@@ -112,6 +111,25 @@ module _ {C U W : Type 0} (S : Ghosts C U) (R : recorder.Ghosts W) (laws : AreJo
         shown_both policy es fs s old.sight mid.sight new.sight (first.shown s sound stood below) (second.shown (after policy es s) at.sound at.stood at.below);
   }
 
+  -- all events up to the last
+  pub makes_to_last : (over : W → Bool) (es : List Event) (old new : Stage C U W) → MakesLast S R over policy es old new → Makes S R policy es old new
+  makes_to_last over es old new to =
+      subst (λ (l : List Event). Makes S R policy l old new) to.are (makes_both to.before (to.last ∷ []) old to.amid new to.given to.made to.made_last)
+
+  -- events, and then some up to a last one
+  pub makes_then_last : (over : W → Bool) (es fs : List Event) (old mid new : Stage C U W) → mid.given ≡ old.given + arrivals_in es → Makes S R policy es old mid → MakesLast S R over policy fs mid new → MakesLast S R over policy (es ++ fs) old new
+  makes_then_last over es fs old mid new e first to = record {
+    before = es ++ to.before;
+    last = to.last;
+    are = append_assoc es to.before (to.last ∷ []) ∙ ap (λ (l : List Event). es ++ l) to.are;
+    amid = to.amid;
+    made = makes_both es to.before old mid to.amid e first to.made;
+    given = omega (arith, to.given, e, arrivals_in-append es to.before);
+    going = to.going;
+    made_last = to.made_last;
+    is_over = to.is_over;
+  }
+
   -- events, and then some that stop
   pub stops_later : (es fs : List Event) (old mid : Stage C U W) (c : C) (u : U) (written : Option (List ℕ)) → mid.given ≡ old.given + arrivals_in es → Makes S R policy es old mid → Stops S R policy fs mid c u written → Stops S R policy (es ++ fs) old c u written
   stops_later es fs old mid c u written e first second = record {
@@ -125,7 +143,27 @@ module _ {C U W : Type 0} (S : Ghosts C U) (R : recorder.Ghosts W) (laws : AreJo
         (subst (λ (n : ℕ). StopsIn S R policy n fs (after policy es s) mid.scheduler mid.under mid.recorder mid.written c u written) (sym number) (second.stopped (after policy es s) at.sound at.stood at.below));
   }
 
-module _ {C U W : Type 0} (S : Ghosts C U) (R : recorder.Ghosts W) (laws : AreJoined R.records R.cuts) (policy : Policy) where
+  -- all events up to the one at which they stopped
+  pub stops_at_last : (over : W → Bool) (es : List Event) (old : Stage C U W) (c : C) (u : U) (written : Option (List ℕ)) → StopsLast S R over policy es old c u written → Stops S R policy es old c u written
+  stops_at_last over es old c u written to =
+      subst (λ (l : List Event). Stops S R policy l old c u written) to.are (stops_later to.before to.last old to.amid c u written to.given to.made to.stop)
+
+  -- events, and then some that stop at their last
+  pub stops_then_last : (over : W → Bool) (es fs : List Event) (old mid : Stage C U W) (c : C) (u : U) (written : Option (List ℕ)) → mid.given ≡ old.given + arrivals_in es → Makes S R policy es old mid
+      → StopsLast S R over policy fs mid c u written → StopsLast S R over policy (es ++ fs) old c u written
+  stops_then_last over es fs old mid c u written e first to = record {
+    before = es ++ to.before;
+    last = to.last;
+    are = append_assoc es to.before to.last ∙ ap (λ (l : List Event). es ++ l) to.are;
+    few = to.few;
+    amid = to.amid;
+    made = makes_both es to.before old mid to.amid e first to.made;
+    given = omega (arith, to.given, e, arrivals_in-append es to.before);
+    going = to.going;
+    stop = to.stop;
+  }
+
+module _ {C U W : Type 0} (S : Ghosts C U) (R : Recordings W) (laws : AreJoined R.records R.cuts) (policy : Policy) where
   -- no event
   pub makes_none : (c : C) (u : U) (w : W) (written : Option (List ℕ)) (given given' : ℕ) (tally : _) (sight : Sight) → Makes S R policy [] (stage c u w written given tally sight) (stage c u w written given' tally sight)
   makes_none c u w written given given' tally sight = record {
@@ -163,7 +201,7 @@ packets_in-departures (suc n) = packets_in-departures n
 next_departures : (policy : Policy) (given n : ℕ) → AreNext policy given (packets_in (replicate n (Depart None)))
 next_departures policy given n = subst (AreNext policy given) (sym (packets_in-departures n)) (record { numbered = tt; sendable = tt })
 
-module _ {C U W : Type 0} (S : Ghosts C U) (R : recorder.Ghosts W) (laws : AreJoined R.records R.cuts) (policy : Policy) (accepted : IsAccepted policy) (n : ℕ) (old mid : Stage C U W) (given : mid.given ≡ old.given) (made : Makes S R policy (replicate n (Depart None)) old mid) where
+module _ {C U W : Type 0} (S : Ghosts C U) (R : Recordings W) (laws : AreJoined R.records R.cuts) (policy : Policy) (accepted : IsAccepted policy) (n : ℕ) (old mid : Stage C U W) (given : mid.given ≡ old.given) (made : Makes S R policy (replicate n (Depart None)) old mid) where
   same_given : mid.given ≡ old.given + arrivals_in (replicate n (Depart None))
   same_given = omega (arith, given, arrivals_in-departures n)
 

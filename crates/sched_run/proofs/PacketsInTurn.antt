@@ -7,8 +7,7 @@ use Rattle.policy_defs.specs.Accepted.{IsAccepted}
 use Rattle.sched_defs.specs.Events.{Event, Arrive, outcomes}
 use Rattle.sched_defs.specs.Numbered.{IsHeldBelow}
 use Rattle.sched_core.specs.declared.scheduler.Scheduler.{Ghosts}
-use Rattle.sched_run.specs.declared.recorder.Recorder as recorder
-use Rattle.sched_run.specs.Recording.{AreJoined}
+use Rattle.sched_run.specs.Recording.{AreJoined, Recordings}
 use Rattle.sched_core.specs.Standing.{StandForOne}
 use Rattle.sched_defs.specs.declared.ending.Ending.{Ending}
 use Rattle.sched_defs.specs.declared.ending.Ending.TheVariants.{Whole, BadCapture, PastLast}
@@ -69,7 +68,7 @@ until_both (BadCapture x y) event (Some l) (Some m) c ps qs came until =
     (came.0 ∙ ap (λ (z : List Packet). ps ++ z) until.0, came.1 ∙ until.1)
 
 -- ---- what the next call needs
-module _ {C U W : Type 0} (S : Ghosts C U) (R : recorder.Ghosts W) (laws : AreJoined R.records R.cuts) (policy : Policy) (accepted : IsAccepted policy) where
+module _ {C U W : Type 0} (S : Ghosts C U) (R : Recordings W) (laws : AreJoined R.records R.cuts) (policy : Policy) (accepted : IsAccepted policy) where
   pub one_after : (es : List Event) (old new : Stage C U W) → new.given + old.tally.came ≡ old.given + new.tally.came → Makes S R policy es old new →
       StandForOne S.stands policy old.scheduler old.under (λ s. IsHeldBelow (old.given + 1) s.held) → StandForOne S.stands policy new.scheduler new.under (λ s. IsHeldBelow (new.given + 1) s.held)
   one_after es old new given made one =
@@ -119,7 +118,7 @@ module _ {C U W : Type 0} (S : Ghosts C U) (R : recorder.Ghosts W) (laws : AreJo
         (stops_later S R laws policy accepted (map Arrive first.packets) (map Arrive second.packets) old mid c u written (omega (arith, given, first.made.came)) first.made second.stop);
   }
 
-module _ {C U W : Type 0} (S : Ghosts C U) (R : recorder.Ghosts W) (laws : AreJoined R.records R.cuts) (policy : Policy) where
+module _ {C U W : Type 0} (S : Ghosts C U) (R : Recordings W) (laws : AreJoined R.records R.cuts) (policy : Policy) where
   pub arrives_none : (a : Option Left) (c : C) (u : U) (w : W) (written : Option (List ℕ)) (given : ℕ) (tally : Tally) (sight : Sight) → Arrives S R policy 0 None a a (stage c u w written given tally sight) (stage c u w written given tally sight)
   arrives_none a c u w written given tally sight = record {
     packets = [];

@@ -21,14 +21,13 @@ use Rattle.sched_core.specs.Standing.{ForEachState}
 use Rattle.tap_core.specs.Watching.{Shows}
 use Rattle.sched_run.specs.Played.{told, HasMade, StopsIn}
 use Rattle.sched_run.specs.Shown.{shown_in}
-use Rattle.sched_run.specs.Recording.{AreJoined}
-use Rattle.sched_run.specs.Lines.{adds_lines, cuts_lines, lines_from-append}
-use Rattle.sched_run.specs.declared.recorder.Recorder as recorder
+use Rattle.sched_run.specs.Recording.{AreJoined, Recordings}
+use Rattle.sched_run.specs.Lines.{adds_lines, cuts_lines, lines_from-append, lines_are_joined}
 use Rattle.sched_run.proofs.JoinedEvents.{length-outcomes}
 use Rattle.sched_defs.specs.declared.ending.Ending.{Ending}
 use Rattle.sched_defs.specs.declared.ending.Ending.TheVariants.{Whole, BadCapture, PastLast}
 use Rattle.sched_run.specs.declared.tally.Totals.{Totals}
-use Rattle.sched_defs.specs.Packets.{Left}
+use Rattle.sched_defs.specs.Packets.{Left, Captured, AreThere}
 use Rattle.sched_run.specs.Stages.{Stage, event_of, FromEach, IsFresh, Makes}
 use Rattle.sched_run.specs.Turns.{StopsAmid}
 use Rattle.sched_run.specs.Courses.{Agenda, IsCourse, Courses, OnCourse, Runs, Breaks}
@@ -37,9 +36,35 @@ use Rattle.sched_run.proofs.TotalLaws.{IsTallied, tallied, held_then}
 
 -- ---- lines
 -- what such a recorder records of outcomes is a line for each
-pub record TellsLines (R : recorder.Ghosts Gathered) : Type 0 where
+pub record TellsLines (R : Recordings Gathered) : Type 0 where
   pub all : (policy : Policy) (event : ℕ) (os : List Outcome) (r r' : Gathered) (a b : Option (List ℕ)) → R.records r a policy event os r' b → adds_lines r a policy event os r' b
   pub part : (policy : Policy) (event : ℕ) (os : List Outcome) (r : Gathered) (a b : Option (List ℕ)) → R.cuts r a policy event os b → cuts_lines r a policy event os b
+
+-- lines, which tell nothing of captured bytes
+abbrev pub heard_lines : (Captured → Type 0) → Recordings Gathered
+heard_lines H = record {
+  records = λ w a policy event os v b. (bytes : Captured) → H bytes → adds_lines w a policy event os v b;
+  cuts = λ w a policy event os b. (bytes : Captured) → H bytes → cuts_lines w a policy event os b;
+}
+
+-- they are joined whatever is known of these
+pub lines_heard : (H : Captured → Type 0) → AreJoined {W = Gathered} (heard_lines H).records (heard_lines H).cuts
+lines_heard H = record {
+  none = λ policy event w a bytes h. lines_are_joined.none policy event w a;
+  both = λ policy event os ps w v x a b c first second bytes h. lines_are_joined.both policy event os ps w v x a b c (first bytes h) (second bytes h);
+  written = λ policy event os w v a b all bytes h. lines_are_joined.written policy event os w v a b (all bytes h);
+  longer = λ policy event os ps w a b cut bytes h. lines_are_joined.longer policy event os ps w a b (cut bytes h);
+  later = λ policy event os ps w v a b c first cut bytes h. lines_are_joined.later policy event os ps w v a b c (first bytes h) (cut bytes h);
+}
+
+tells_heard : (H : Captured → Type 0) (bytes : Captured) → H bytes → TellsLines (heard_lines H)
+tells_heard H bytes h = record { all = λ policy event os r r' a b is. is bytes h; part = λ policy event os r a b is. is bytes h }
+
+-- what holds wherever such bytes are there holds where it is told what is left
+where_told : {C U : Type 0} (stands : C → U → SourceState → Type 0) (policy : Policy) (c : C) (u : U) (given : ℕ) (before : Option Left) (agenda : Agenda) (P : SourceState → Course → Type 0) (H : Captured → Type 0)
+    → AreThere before H → ((bytes : Captured) → H bytes → OnCourse stands policy c u given before agenda P) → OnCourse stands policy c u given before agenda P
+where_told stands policy c u given None agenda P H there holds = tt
+where_told stands policy c u given (Some l) agenda P H there holds = holds there.0 there.1
 
 -- the text of events in a row
 told-append : (policy : Policy) (event : ℕ) (es fs : List Event) (s : SourceState) → told policy event (es ++ fs) s ≡ told policy event es s ++ told policy (event + length es) fs (after policy es s)
@@ -66,7 +91,7 @@ report_is policy events e run s t is counts =
     sym (last_is policy (outcomes policy events s) (size (after policy events s).tree) t e counts) ∙ ap (last_of policy events s) is.ends in
     ap (λ (l : List ℕ). told policy 1 events s ++ l) last ∙ ap (λ (es : List Event). told policy 1 es s ++ last_of policy es s run.ending) is.are
 
-module _ {C U : Type 0} (S : Ghosts C U) (R : recorder.Ghosts Gathered) (laws : AreJoined R.records R.cuts) (tells : TellsLines R) (policy : Policy) where
+module _ {C U : Type 0} (S : Ghosts C U) (R : Recordings Gathered) (laws : AreJoined R.records R.cuts) (tells : TellsLines R) (policy : Policy) where
   -- the last line is written behind the lines of the events
   pub runs_done : (events : List Event) (e : Ending) (run : Course) (old new : Stage C U Gathered) (s : SourceState) (t : Totals) (written : Option (List ℕ)) → event_of old.tally ≡ 1 → Makes S R policy events old new →
       IsSound policy s → S.stands old.scheduler old.under s → IsHeldBelow (old.given + 1) s.held → IsCourse events e run → IsTallied policy (outcomes policy events s) (size (after policy events s).tree) t →
@@ -123,8 +148,9 @@ module _ {C U : Type 0} (S : Ghosts C U) (R : recorder.Ghosts Gathered) (laws : 
             report = subst (λ (t : List ℕ). IsCut (text_of old.written old.recorder) t written) text (IsCut-longer (text_of old.written old.recorder) written (told policy 1 amid.events s) (more ++ last) lines);
           }
 
+module _ {C U W : Type 0} (S : Ghosts C U) (R : Recordings W) (policy : Policy) where
   -- the taps were shown what left and what was dropped
-  pub watched : (agenda : Agenda) (before : Option Left) (e : Ending) (old new : Stage C U Gathered) → event_of old.tally ≡ 1 → Courses S R policy agenda e before old new →
+  pub watched : (agenda : Agenda) (before : Option Left) (e : Ending) (old new : Stage C U W) → event_of old.tally ≡ 1 → Courses S R policy agenda e before old new →
       OnCourse S.stands policy old.scheduler old.under old.given before agenda (λ s run. Shows (shown_in policy (outcomes policy run.events s)) old.sight new.sight)
   watched agenda before e old new one courses = by_left before courses.told
     where
@@ -135,7 +161,7 @@ module _ {C U : Type 0} (S : Ghosts C U) (R : recorder.Ghosts Gathered) (laws : 
           let are : courses.events ≡ (agenda l s 1).events = (told s sound stood below).are ∙ ap (λ (n : ℕ). (agenda l s n).events) one in
           subst (λ (es : List Event). Shows (shown_in policy (outcomes policy es s)) old.sight new.sight) are (courses.made.shown s sound stood below)
 
-module _ {C U : Type 0} (S : Ghosts C U) (R : recorder.Ghosts Gathered) (laws : AreJoined R.records R.cuts) (tells : TellsLines R) (policy : Policy) (accepted : IsAccepted policy) (agenda : Agenda) (before : Option Left) (e : Ending) (old new : Stage C U Gathered) (first held version : ℕ) (t : Totals)
+module _ {C U : Type 0} (S : Ghosts C U) (R : Recordings Gathered) (laws : AreJoined R.records R.cuts) (tells : TellsLines R) (policy : Policy) (accepted : IsAccepted policy) (agenda : Agenda) (before : Option Left) (e : Ending) (old new : Stage C U Gathered) (first held version : ℕ) (t : Totals)
     (fresh : IsFresh old.tally) (courses : Courses S R policy agenda e before old new)
     (begun : ForEachState S.stands policy old.scheduler old.under (λ s. first ≡ size s.tree)) (still : ForEachState S.stands policy new.scheduler new.under (λ s. held ≡ size s.tree))
     (totals : AreTotals new.tally first held version t) (own : version ≡ policy.version) where
@@ -166,3 +192,26 @@ module _ {C U : Type 0} (S : Ghosts C U) (R : recorder.Ghosts Gathered) (laws : 
       by_left (Some l) told = λ s sound stood below.
           let is : IsCourse courses.events e (agenda l s 1) = subst (λ (n : ℕ). IsCourse courses.events e (agenda l s n)) one_first (told s sound stood below) in
           breaks_last S R laws tells policy courses.events e (agenda l s 1) old new s t written one_first courses.made sound stood below is (tallied_at s sound stood below) last
+
+-- ---- where such captured bytes are there
+module _ {C U : Type 0} (S : Ghosts C U) (H : Captured → Type 0) (policy : Policy) (agenda : Agenda) (before : Option Left) (there : AreThere before H) (old : Stage C U Gathered) where
+  pub amid_heard : (c : C) (u : U) (written : Option (List ℕ)) → event_of old.tally ≡ 1 → StopsAmid S (heard_lines H) policy (λ l s. (agenda l s (event_of old.tally)).events) before old c u written →
+      OnCourse S.stands policy old.scheduler old.under old.given before agenda (λ s run. Breaks S policy run s old.scheduler old.under c u (text_of old.written old.recorder) written)
+  amid_heard c u written one amid =
+      where_told S.stands policy old.scheduler old.under old.given before agenda (λ s run. Breaks S policy run s old.scheduler old.under c u (text_of old.written old.recorder) written) H there
+      (λ bytes h. breaks_amid S (heard_lines H) (lines_heard H) (tells_heard H bytes h) policy agenda before old c u written one amid)
+
+  module _ (accepted : IsAccepted policy) (e : Ending) (new : Stage C U Gathered) (first held version : ℕ) (t : Totals) (fresh : IsFresh old.tally) (courses : Courses S (heard_lines H) policy agenda e before old new)
+      (begun : ForEachState S.stands policy old.scheduler old.under (λ s. first ≡ size s.tree)) (still : ForEachState S.stands policy new.scheduler new.under (λ s. held ≡ size s.tree))
+      (totals : AreTotals new.tally first held version t) (own : version ≡ policy.version) (written : Option (List ℕ)) where
+    pub runs_heard : Appended (text_of new.written new.recorder) written (totals_line t e) →
+        OnCourse S.stands policy old.scheduler old.under old.given before agenda (λ s run. Runs S policy run s old.scheduler old.under new.scheduler new.under (text_of old.written old.recorder) written)
+    runs_heard last =
+        where_told S.stands policy old.scheduler old.under old.given before agenda (λ s run. Runs S policy run s old.scheduler old.under new.scheduler new.under (text_of old.written old.recorder) written) H there
+        (λ bytes h. runs_told S (heard_lines H) (lines_heard H) (tells_heard H bytes h) policy accepted agenda before e old new first held version t fresh courses begun still totals own written last)
+
+    pub breaks_heard : IsCut (text_of new.written new.recorder) (totals_line t e) written →
+        OnCourse S.stands policy old.scheduler old.under old.given before agenda (λ s run. Breaks S policy run s old.scheduler old.under new.scheduler new.under (text_of old.written old.recorder) written)
+    breaks_heard last =
+        where_told S.stands policy old.scheduler old.under old.given before agenda (λ s run. Breaks S policy run s old.scheduler old.under new.scheduler new.under (text_of old.written old.recorder) written) H there
+        (λ bytes h. breaks_told S (heard_lines H) (lines_heard H) (tells_heard H bytes h) policy accepted agenda before e old new first held version t fresh courses begun still totals own written last)

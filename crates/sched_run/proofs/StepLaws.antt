@@ -12,7 +12,6 @@ use Rattle.sched_defs.specs.SourceState.{SourceState}
 use Rattle.sched_defs.specs.Events.{Event, Arrive, Depart}
 use Rattle.sched_defs.specs.Script.{Step, Arrivals, Departures, Rest, Drain, step_events, left_by, stop_at, ends_at_fault}
 use Rattle.sched_core.specs.declared.scheduler.Scheduler.{Ghosts}
-use Rattle.sched_run.specs.declared.recorder.Recorder as recorder
 use Rattle.sched_core.specs.Standing.{ForEachState}
 use Rattle.sched_defs.specs.declared.ending.Ending.{Ending}
 use Rattle.sched_defs.specs.declared.ending.Ending.TheVariants.{Whole, BadCapture, PastLast}
@@ -21,6 +20,7 @@ use Rattle.sched_defs.specs.Packets.{Left, Came, IsOver}
 use Rattle.sched_run.specs.Stages.{Stage, event_of, FromEach, Makes, Stops}
 use Rattle.sched_run.specs.Turns.{CameUntil, CameOf, Arrives, WereFirst, ArrivalsStop, IsTurn, Turns, AreFirst, StopsAmid}
 use Rattle.sched_run.proofs.EventCounts.{empty_in-arrivals, empty_in-departures, empty_in-drain}
+use Rattle.sched_run.specs.Recording.{Recordings}
 
 pub if_ok_turned : {T E : Type 0} (r : Result T E) (P Q : T → Type 0) → ((t : T) → P t → Q t) → IfOk r P → IfOk r Q
 if_ok_turned (Ok t) P Q f h = f t h
@@ -60,7 +60,7 @@ rest_broken x y event events ps l after s all fault e = record {
   rest = tt;
 }
 
-module _ {C U W : Type 0} (S : Ghosts C U) (R : recorder.Ghosts W) (policy : Policy) where
+module _ {C U W : Type 0} (S : Ghosts C U) (R : Recordings W) (policy : Policy) where
   turns_rest : (m e : ℕ) (a c : Option Left) (old new : Stage C U W) → Arrives S R policy m (Some (PastLast e)) a c old new → Turns S R policy Rest None a c old new
   turns_rest m e a c old new all = record {
     events = map Arrive all.packets;
@@ -142,7 +142,7 @@ some_broken n event x y ps l after s all fault count =
       rest = tt;
     }
 
-module _ {C U W : Type 0} (S : Ghosts C U) (R : recorder.Ghosts W) (policy : Policy) where
+module _ {C U W : Type 0} (S : Ghosts C U) (R : Recordings W) (policy : Policy) where
   pub some_done : (n : ℕ) (e : Option Ending) (a c : Option Left) (old new : Stage C U W) → Arrives S R policy n e a c old new → Turns S R policy (Arrivals n) e a c old new
   some_done n e a c old new all = record {
     events = map Arrive all.packets;
@@ -170,7 +170,7 @@ module _ {C U W : Type 0} (S : Ghosts C U) (R : recorder.Ghosts W) (policy : Pol
           (map Arrive (take spare first.0), sym (map-append Arrive stop.packets (take spare first.0)) ∙ ap (map Arrive) (sym split))
 
 -- ---- departures
-module _ {C U W : Type 0} (S : Ghosts C U) (R : recorder.Ghosts W) (policy : Policy) where
+module _ {C U W : Type 0} (S : Ghosts C U) (R : Recordings W) (policy : Policy) where
   same_left : (step : Step) (events : List Event) (event : ℕ) (l : Left) (s : SourceState) → events ≡ step_events step l.packets s → None ≡ stop_at step l.packets l.fault event → left_by step l.packets ≡ l.packets → IsTurn step None event events l (Some l) s
   same_left step events event l s are ends left = record { are = are; ends = ends; rest = left_is l (left_by step l.packets) l.fault (sym left) refl }
 

@@ -11,9 +11,8 @@ use Rattle.sched_defs.specs.Report.{shown_drops}
 use Rattle.sched_defs.proofs.Runs.{none_lost}
 use Rattle.sched_core.specs.declared.scheduler.Scheduler.{Ghosts}
 use Rattle.sched_core.specs.Standing.{StandForOne, ForEachState}
-use Rattle.sched_run.specs.declared.recorder.Recorder as recorder
 use Rattle.sched_run.specs.declared.tally.Totals.{Totals}
-use Rattle.sched_run.specs.Recording.{AreJoined}
+use Rattle.sched_run.specs.Recording.{AreJoined, Recordings}
 use Rattle.sched_run.specs.Stages.{Stage, arrivals_in, IsFresh, CanBegin, Makes}
 use Rattle.sched_run.specs.Totals.{HasTotals, AreTotals}
 use Rattle.sched_run.proofs.MadeEvents.{can_make, stands_after}
@@ -27,7 +26,7 @@ pub record IsTallied (policy : Policy) (os : List Outcome) (held : ℕ) (t : Tot
   pub same_held : held ≡ t.held
   pub same_dropped : shown_drops policy (dropped_in os) ≡ t.dropped
 
-module _ {C U W : Type 0} (S : Ghosts C U) (R : recorder.Ghosts W) (laws : AreJoined R.records R.cuts) (policy : Policy) (accepted : IsAccepted policy) where
+module _ {C U W : Type 0} (S : Ghosts C U) (R : Recordings W) (laws : AreJoined R.records R.cuts) (policy : Policy) (accepted : IsAccepted policy) where
   pub tallied : (events : List Event) (old new : Stage C U W) (first held version : ℕ) (t : Totals) (s : SourceState) → IsFresh old.tally → Makes S R policy events old new →
       IsSound policy s → S.stands old.scheduler old.under s → IsHeldBelow (old.given + 1) s.held → first ≡ size s.tree → held ≡ size (after policy events s).tree → AreTotals new.tally first held version t → version ≡ policy.version →
       IsTallied policy (outcomes policy events s) (size (after policy events s).tree) t

@@ -1,5 +1,5 @@
 -- What a run leaves.
-use Rattle.std.specs.Prelude.{◌≡◌, ℕ, ◌+◌, Option, List, map, IfSome}
+use Rattle.std.specs.Prelude.{◌≡◌, ℕ, ◌+◌, Bool, Option, Some, None, List, map, IfSome}
 use Rattle.outside_core.specs.Written.{Appended}
 use Rattle.report_defs.specs.Text.{IsCut}
 use Rattle.policy_defs.specs.Policy.{Policy}
@@ -9,7 +9,6 @@ use Rattle.sched_defs.specs.Script.{Course, course}
 use Rattle.sched_defs.specs.Numbered.{IsHeldBelow}
 use Rattle.sched_defs.specs.Report.{course_report}
 use Rattle.sched_core.specs.declared.scheduler.Scheduler.{Ghosts}
-use Rattle.sched_run.specs.declared.recorder.Recorder as recorder
 use Rattle.sched_core.specs.Standing.{ForEachState}
 use Rattle.sched_run.specs.Played.{HasMade, HasMadeSome}
 use Rattle.events_core.specs.declared.step.Step as line
@@ -19,7 +18,9 @@ use Rattle.sched_defs.specs.Link.{link_course}
 use Rattle.sched_defs.specs.Pace.{paced_course}
 use Rattle.sched_run.specs.declared.pace.Pace.{Pace}
 use Rattle.sched_run.specs.Steps.{step_of, pace_of}
-use Rattle.sched_run.specs.Stages.{Stage, event_of, FromEach, Makes}
+use Rattle.sched_run.specs.Stages.{Stage, event_of, FromEach, Makes, MakesLast, StopsLast}
+use Rattle.sched_run.specs.Turns.{AreFirst}
+use Rattle.sched_run.specs.Recording.{Recordings}
 
 -- what is to come over what is left, from a state, where the next event has this number
 abbrev pub Agenda : Type 0
@@ -43,10 +44,27 @@ pub record IsCourse (events : List Event) (ending : Ending) (run : Course) : Typ
   pub ends : ending ≡ run.ending
 
 -- all events that were to come over what was left were made
-pub record Courses {C U W : Type 0} (S : Ghosts C U) (R : recorder.Ghosts W) (policy : Policy) (agenda : Agenda) (ending : Ending) (before : Option Left) (old new : Stage C U W) : Type 0 where
+pub record Courses {C U W : Type 0} (S : Ghosts C U) (R : Recordings W) (policy : Policy) (agenda : Agenda) (ending : Ending) (before : Option Left) (old new : Stage C U W) : Type 0 where
   pub events : List Event
   pub made : Makes S R policy events old new
   pub told : IfSome before (λ l. FromEach S policy old (λ s. IsCourse events ending (agenda l s (event_of old.tally))))
+
+-- the first of the events that were to come were made, up to one behind which nothing more can be recorded
+pub record CoursesFirst {C U W : Type 0} (S : Ghosts C U) (R : Recordings W) (over : W → Bool) (policy : Policy) (agenda : Agenda) (before : Option Left) (old new : Stage C U W) : Type 0 where
+  pub events : List Event
+  pub made : MakesLast S R over policy events old new
+  pub first : IfSome before (λ l. FromEach S policy old (λ s. AreFirst events (agenda l s (event_of old.tally)).events))
+
+-- all of them were made, and the run ended so, or the first of them where nothing more can be recorded
+abbrev pub CoursesUnless : {C U W : Type 0} → Option Ending → Ghosts C U → Recordings W → (W → Bool) → Policy → Agenda → Option Left → Stage C U W → Stage C U W → Type 0
+CoursesUnless (Some ending) S R over policy agenda before old new = Courses S R policy agenda ending before old new
+CoursesUnless None S R over policy agenda before old new = CoursesFirst S R over policy agenda before old new
+
+-- the events that were to come stopped at one of them, or between two: behind those before it more could be recorded
+pub record CoursesAmid {C U W : Type 0} (S : Ghosts C U) (R : Recordings W) (over : W → Bool) (policy : Policy) (agenda : Agenda) (before : Option Left) (old : Stage C U W) (c : C) (u : U) (written : Option (List ℕ)) : Type 0 where
+  pub events : List Event
+  pub stop : StopsLast S R over policy events old c u written
+  pub first : IfSome before (λ l. FromEach S policy old (λ s. AreFirst events (agenda l s (event_of old.tally)).events))
 
 -- P holds of each state for which they stand and in which no packet yet to come is held, with the course from there
 -- over what is left, where that is told

@@ -4,7 +4,7 @@ use Rattle.tree_defs.specs.Tree.{depth}
 use Rattle.policy_defs.specs.Policy.{Policy}
 use Rattle.policy_defs.specs.Accepted.{IsAccepted}
 use Rattle.sched_defs.specs.SourceState.{SourceState}
-use Rattle.sched_defs.specs.Packets.{most_packets}
+use Rattle.sched_defs.specs.Packets.{most_packets, StaysKnown}
 use Rattle.sched_defs.specs.declared.packets.Packets as packets
 use Rattle.sched_core.specs.declared.scheduler.Scheduler.{Ghosts}
 use Rattle.sched_core.specs.Standing.{StandForOne, ForEachState}
@@ -42,8 +42,9 @@ pub record KeepsPackets {P S : Type 0} (p : packets.Ghosts P S) (old new : P) (s
   pub policy : p.policy new ≡ p.policy old
   pub later : p.faults source ≤ p.faults source'
 
--- as many packets came as were counted, and more may come
-pub record IsFurther {P S : Type 0} (p : packets.Ghosts P S) (old new : P) (source : S) (before now : Tally) : Type 0 where
-  pub ready : p.ready new source
+-- as many packets came as were counted, more may come, and what is known of the captured bytes is known of theirs
+pub record IsFurther {P S : Type 0} (p : packets.Ghosts P S) (old new : P) (source source' : S) (before now : Tally) : Type 0 where
+  pub ready : p.ready new source'
+  pub known : StaysKnown (p.captures old source) (p.captures new source')
   pub given : p.given new + before.came ≡ p.given old + now.came
   pub few : p.given new ≤ most_packets

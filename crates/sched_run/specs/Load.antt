@@ -8,9 +8,9 @@ use Rattle.sched_defs.specs.SourceState.{SourceState}
 use Rattle.sched_defs.specs.Events.{Event, Arrive, Depart, Outcome, Departed, after, outcomes, pushed_in, popped_in, empty_in}
 use Rattle.sched_core.specs.declared.scheduler.Scheduler.{Ghosts}
 use Rattle.sched_run.specs.declared.drawing.Drawing.{Drawing}
-use Rattle.sched_run.specs.declared.recorder.Recorder as recorder
 use Rattle.sched_run.specs.declared.tally.Totals.{Totals}
 use Rattle.sched_run.specs.Played.{HasMade}
+use Rattle.sched_run.specs.Recording.{Recordings}
 
 -- the generator's state behind so many draws
 abbrev pub behind : ℕ → ℕ → ℕ
@@ -67,7 +67,7 @@ sum_of sum (o ∷ os) = sum_of (sum_with sum o) os
 
 -- ---- what is made
 -- all events of a load were made, recorded and counted
-pub record MakesLoad {C U W : Type 0} (S : Ghosts C U) (R : recorder.Ghosts W) (policy : Policy) (seed count : ℕ) (from : SourceState)
+pub record MakesLoad {C U W : Type 0} (S : Ghosts C U) (R : Recordings W) (policy : Policy) (seed count : ℕ) (from : SourceState)
     (c : C) (u : U) (w : W) (a : Option (List ℕ)) (c' : C) (u' : U) (w' : W) (a' : Option (List ℕ)) (t : Totals) : Type 0 where
   pub leaves : HasMade S policy (load_run policy seed count from) from c u c' u'
   pub recorded : R.records w a policy 1 (outcomes policy (load_run policy seed count from) from) w' a'

@@ -7,7 +7,7 @@ use Rattle.sched_defs.specs.Report.{outcome_line, lines_from}
 use Rattle.sched_core.specs.declared.scheduler.Scheduler.{Ghosts}
 use Rattle.sched_core.specs.Origins.{images_of}
 use Rattle.sched_core.specs.Spills.{raised, spills_in}
-use Rattle.sched_run.specs.declared.recorder.Recorder as recorder
+use Rattle.sched_run.specs.Recording.{Recordings}
 
 -- the lines of events from a state, where the first event has this number
 abbrev pub told : Policy → ℕ → List Event → SourceState → List ℕ
@@ -42,13 +42,13 @@ pub record HasMadeSome {C U : Type 0} (S : Ghosts C U) (policy : Policy) (events
   pub leaves : HasMade S policy made from c u c' u'
 
 -- all of the events were made, and their outcomes are recorded
-pub record Plays {C U W : Type 0} (S : Ghosts C U) (R : recorder.Ghosts W) (policy : Policy) (event : ℕ) (events : List Event) (from : SourceState)
+pub record Plays {C U W : Type 0} (S : Ghosts C U) (R : Recordings W) (policy : Policy) (event : ℕ) (events : List Event) (from : SourceState)
     (c : C) (u : U) (w : W) (a : Option (List ℕ)) (c' : C) (u' : U) (w' : W) (a' : Option (List ℕ)) : Type 0 where
   pub leaves : HasMade S policy events from c u c' u'
   pub recorded : R.records w a policy event (outcomes policy events from) w' a'
 
 -- the first of the events were made, and of what is told of all a first part is written
-pub record StopsIn {C U W : Type 0} (S : Ghosts C U) (R : recorder.Ghosts W) (policy : Policy) (event : ℕ) (events : List Event) (from : SourceState)
+pub record StopsIn {C U W : Type 0} (S : Ghosts C U) (R : Recordings W) (policy : Policy) (event : ℕ) (events : List Event) (from : SourceState)
     (c : C) (u : U) (w : W) (a : Option (List ℕ)) (c' : C) (u' : U) (written : Option (List ℕ)) : Type 0 where
   pub leaves : HasMadeSome S policy events from c u c' u'
   pub cut : R.cuts w a policy event (outcomes policy events from) written

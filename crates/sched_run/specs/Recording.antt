@@ -19,3 +19,8 @@ pub record AreJoined {W : Type 0} (records : Recording W) (cuts : Cutting W) : T
   pub written : (policy : Policy) (event : ℕ) (os : List Outcome) (w v : W) (a b : Option (List ℕ)) → records w a policy event os v b → cuts w a policy event os b
   pub longer : (policy : Policy) (event : ℕ) (os ps : List Outcome) (w : W) (a b : Option (List ℕ)) → cuts w a policy event os b → cuts w a policy event (os ++ ps) b
   pub later : (policy : Policy) (event : ℕ) (os ps : List Outcome) (w v : W) (a b c : Option (List ℕ)) → records w a policy event os v b → cuts v b policy (event + length os) ps c → cuts w a policy event (os ++ ps) c
+
+-- what is recorded, and what is cut
+pub record Recordings (W : Type 0) : Type 1 where
+  pub records : Recording W
+  pub cuts : Cutting W

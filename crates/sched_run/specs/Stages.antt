@@ -1,5 +1,5 @@
 -- Where a run stands, and what events in a row make of it.
-use Rattle.std.specs.Prelude.{◌≡◌, ◌<◌, ◌≤◌, ◌^◌, ℕ, ◌+◌, Option, List, [], ◌∷◌}
+use Rattle.std.specs.Prelude.{◌≡◌, ◌<◌, ◌≤◌, ◌^◌, ℕ, ◌+◌, Bool, true, false, Option, List, [], ◌∷◌, ◌++◌, length}
 use Rattle.std.specs.List.{AllByRecursion}
 use Rattle.tree_defs.specs.SourceTree.{size}
 use Rattle.packet_defs.specs.declared.packet.Packet.{Packet}
@@ -15,9 +15,9 @@ use Rattle.sched_core.specs.Standing.{ForEachState}
 use Rattle.sched_run.specs.Played.{Plays, StopsIn}
 use Rattle.sched_run.specs.Shown.{shown_in}
 use Rattle.tap_core.specs.Watching.{Sight, Shows}
-use Rattle.sched_run.specs.declared.recorder.Recorder as recorder
 use Rattle.sched_run.specs.declared.run.Run.{Run}
 use Rattle.sched_run.specs.declared.tally.Tally.{Tally}
+use Rattle.sched_run.specs.Recording.{Recordings}
 
 -- the scheduler with what is under it, the recorder with what is written so far, how many packets came, the tally, and the
 -- taps that watch
@@ -104,7 +104,7 @@ pub record AreNext (policy : Policy) (given : ℕ) (packets : List Packet) : Typ
   pub sendable : AllByRecursion (IsSendable policy) packets
 
 -- all of the events were made, their outcomes recorded and counted, and shown to the taps that watch
-pub record Makes {C U W : Type 0} (S : Ghosts C U) (R : recorder.Ghosts W) (policy : Policy) (events : List Event) (old new : Stage C U W) : Type 0 where
+pub record Makes {C U W : Type 0} (S : Ghosts C U) (R : Recordings W) (policy : Policy) (events : List Event) (old new : Stage C U W) : Type 0 where
   pub next : AreNext policy old.given (packets_in events)
   pub came : new.tally.came ≡ old.tally.came + arrivals_in events
   pub asked : new.tally.asked ≡ old.tally.asked + departures_in events
@@ -113,7 +113,31 @@ pub record Makes {C U W : Type 0} (S : Ghosts C U) (R : recorder.Ghosts W) (poli
       new.scheduler new.under new.recorder new.written)
   pub shown : FromEach S policy old (λ s. Shows (shown_in policy (outcomes policy events s)) old.sight new.sight)
 
+-- Events in a row were made up to one behind which nothing more can be recorded: behind those before it more could be.
+pub record MakesLast {C U W : Type 0} (S : Ghosts C U) (R : Recordings W) (over : W → Bool) (policy : Policy) (events : List Event) (old new : Stage C U W) : Type 0 where
+  pub before : List Event
+  pub last : Event
+  pub are : before ++ last ∷ [] ≡ events
+  pub amid : Stage C U W
+  pub made : Makes S R policy before old amid
+  pub given : amid.given ≡ old.given + arrivals_in before
+  pub going : over amid.recorder ≡ false
+  pub made_last : Makes S R policy (last ∷ []) amid new
+  pub is_over : over new.recorder ≡ true
+
 -- the first of the events were made, and of what is told of all a first part is written
-pub record Stops {C U W : Type 0} (S : Ghosts C U) (R : recorder.Ghosts W) (policy : Policy) (events : List Event) (old : Stage C U W) (c : C) (u : U) (written : Option (List ℕ)) : Type 0 where
+pub record Stops {C U W : Type 0} (S : Ghosts C U) (R : Recordings W) (policy : Policy) (events : List Event) (old : Stage C U W) (c : C) (u : U) (written : Option (List ℕ)) : Type 0 where
   pub next : AreNext policy old.given (packets_in events)
   pub stopped : FromEach S policy old (λ s. StopsIn S R policy (event_of old.tally) events s old.scheduler old.under old.recorder old.written c u written)
+
+-- Events in a row stopped at the last of them, if there is one: behind those before it more could be recorded.
+pub record StopsLast {C U W : Type 0} (S : Ghosts C U) (R : Recordings W) (over : W → Bool) (policy : Policy) (events : List Event) (old : Stage C U W) (c : C) (u : U) (written : Option (List ℕ)) : Type 0 where
+  pub before : List Event
+  pub last : List Event
+  pub are : before ++ last ≡ events
+  pub few : length last ≤ 1
+  pub amid : Stage C U W
+  pub made : Makes S R policy before old amid
+  pub given : amid.given ≡ old.given + arrivals_in before
+  pub going : over amid.recorder ≡ false
+  pub stop : Stops S R policy last amid c u written

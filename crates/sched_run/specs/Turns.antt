@@ -6,12 +6,12 @@ use Rattle.sched_defs.specs.SourceState.{SourceState}
 use Rattle.sched_defs.specs.Events.{Event, Arrive, outcomes, empty_in}
 use Rattle.sched_defs.specs.Script.{Step, step_events, left_by, stop_at}
 use Rattle.sched_core.specs.declared.scheduler.Scheduler.{Ghosts}
-use Rattle.sched_run.specs.declared.recorder.Recorder as recorder
 use Rattle.sched_defs.specs.declared.ending.Ending.{Ending}
 use Rattle.sched_defs.specs.declared.ending.Ending.TheVariants.{Whole, BadCapture, PastLast}
 use Rattle.sched_defs.specs.Packets.{Left, Came, IsOver}
 use Rattle.sched_run.specs.Steps.{asked_by}
 use Rattle.sched_run.specs.Stages.{Stage, event_of, FromEach, Makes, Stops}
+use Rattle.sched_run.specs.Recording.{Recordings}
 
 -- ---- arrivals
 -- these packets came, and then, where the run ends so, no more
@@ -32,7 +32,7 @@ CameOf None asked count = count ≡ asked
 CameOf (Some ending) asked count = count < asked
 
 -- up to so many packets came and arrived
-pub record Arrives {C U W : Type 0} (S : Ghosts C U) (R : recorder.Ghosts W) (policy : Policy) (asked : ℕ) (ending : Option Ending) (before after : Option Left) (old new : Stage C U W) : Type 0 where
+pub record Arrives {C U W : Type 0} (S : Ghosts C U) (R : Recordings W) (policy : Policy) (asked : ℕ) (ending : Option Ending) (before after : Option Left) (old new : Stage C U W) : Type 0 where
   pub packets : List Packet
   pub count : CameOf ending asked (length packets)
   pub came : CameUntil ending (event_of new.tally) before after packets
@@ -43,7 +43,7 @@ abbrev pub WereFirst : Option Left → List Packet → Type 0
 WereFirst before packets = IfSome before (λ l. (others : List Packet) × (packets ++ others ≡ l.packets))
 
 -- up to so many packets came, and their arrivals stopped
-pub record ArrivalsStop {C U W : Type 0} (S : Ghosts C U) (R : recorder.Ghosts W) (policy : Policy) (asked : ℕ) (before : Option Left) (old : Stage C U W) (c : C) (u : U) (written : Option (List ℕ)) : Type 0 where
+pub record ArrivalsStop {C U W : Type 0} (S : Ghosts C U) (R : Recordings W) (policy : Policy) (asked : ℕ) (before : Option Left) (old : Stage C U W) (c : C) (u : U) (written : Option (List ℕ)) : Type 0 where
   pub packets : List Packet
   pub count : length packets ≤ asked
   pub first : WereFirst before packets
@@ -57,7 +57,7 @@ pub record IsTurn (step : Step) (ending : Option Ending) (event : ℕ) (events :
   pub rest : IfNone ending (after ≡ Some (record { packets = left_by step before.packets; fault = before.fault }))
 
 -- all events of a step were made
-pub record Turns {C U W : Type 0} (S : Ghosts C U) (R : recorder.Ghosts W) (policy : Policy) (step : Step) (ending : Option Ending) (before after : Option Left) (old new : Stage C U W) : Type 0 where
+pub record Turns {C U W : Type 0} (S : Ghosts C U) (R : Recordings W) (policy : Policy) (step : Step) (ending : Option Ending) (before after : Option Left) (old new : Stage C U W) : Type 0 where
   pub events : List Event
   pub made : Makes S R policy events old new
   pub few : FromEach S policy old (λ s. empty_in (outcomes policy events s) ≤ asked_by step)
@@ -69,7 +69,7 @@ abbrev pub AreFirst : List Event → List Event → Type 0
 AreFirst events all = (others : List Event) × (events ++ others ≡ all)
 
 -- the first of the events that were to come over what was left were made
-pub record StopsAmid {C U W : Type 0} (S : Ghosts C U) (R : recorder.Ghosts W) (policy : Policy) (all : Left → SourceState → List Event) (before : Option Left) (old : Stage C U W) (c : C) (u : U) (written : Option (List ℕ)) : Type 0 where
+pub record StopsAmid {C U W : Type 0} (S : Ghosts C U) (R : Recordings W) (policy : Policy) (all : Left → SourceState → List Event) (before : Option Left) (old : Stage C U W) (c : C) (u : U) (written : Option (List ℕ)) : Type 0 where
   pub events : List Event
   pub stop : Stops S R policy events old c u written
   pub first : IfSome before (λ l. FromEach S policy old (λ s. AreFirst events (all l s)))

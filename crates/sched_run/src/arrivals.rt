@@ -12,25 +12,29 @@ use sched_defs::{Ending, Halt, Packets};
 use tap_core::{Tap, Watching};
 
 impl<'a, C: Scheduler + Drop, N: NodeNames, W: Recorder> Run<'a, C, N, W> {
-    ghost use Rattle.std.specs.Prelude.{◌≡◌, ◌≤◌, ◌<◌, ◌+◌, ◌^◌, ℕ, [], ◌∷◌, None, IfErr, IfOk, IfNone, OnOk, OnErr};
+    ghost use Rattle.std.specs.Prelude.{◌≡◌, ◌≤◌, ◌<◌, ◌+◌, ◌^◌, ℕ, [], ◌∷◌, None, length, IfErr, IfOk, IfNone, OnOk, OnErr};
+    ghost use Rattle.pcap_defs.specs.Record.{most_captured};
     ghost use Rattle.outside_core.specs.Kept.{KeepsSink, HasCause, HasSinkCause};
     ghost use Rattle.sched_defs.specs.Events.{Arrive, CanArrive};
     ghost use Rattle.sched_defs.specs.Packets.{most_packets};
     ghost use Rattle.sched_defs.specs.Numbered.{IsHeldBelow};
+    ghost use Rattle.sched_run.specs.Heard.{heard, heard_with};
     ghost use Rattle.sched_run.specs.Frames.{IsSet, Continues, Stand, KeepsPackets, IsFurther};
     ghost use Rattle.sched_defs.specs.Script.{Rest, step_events};
     ghost use Rattle.sched_run.specs.Stages.{stage_of, HasRoomFor, AreNext, Makes, Stops};
     ghost use Rattle.tap_core.specs.Watching.{sight_of, AreNoMore};
     ghost use Rattle.sched_run.specs.Turns.{Arrives, ArrivalsStop, Turns, StopsAmid, GoesOn};
 
-    /// Makes the arrival of a packet, with its line, counts it, and shows it to the taps that watch.
+    /// Makes the arrival of a packet with these captured bytes, with its line, counts it, and shows it to the taps that watch.
     pub(crate) fn admit<K: Sink, T: Tap>(
         &mut self,
         under: &mut C::Under,
         sink: &mut K,
         watch: &mut Watching<T>,
         packet: &Packet,
+        captured: &[u8],
     ) -> Result<(), Stop>
+        requires short { length captured.now ≤ most_captured }
         requires set { IsSet C.Scheduler W.Recorder N.policy self.old }
         requires stands { Stand C.Scheduler self.old under.old (λ s. CanArrive (C.policy self.old.scheduler) s packet.now) }
         requires few { C.pushes self.old.scheduler < 2 ^ 61 }
@@ -38,11 +42,11 @@ impl<'a, C: Scheduler + Drop, N: NodeNames, W: Recorder> Run<'a, C, N, W> {
         requires dropped { self.old.tally.dropped ≤ self.old.tally.came }
 
         ensures ok { OnOk result ((given : ℕ) → AreNext (C.policy self.old.scheduler) given (packet.now ∷ []) →
-            Makes C.Scheduler W.Recorder (C.policy self.old.scheduler) (Arrive packet.now ∷ [])
+            Makes C.Scheduler (heard_with W.Recorder packet.now captured.now) (C.policy self.old.scheduler) (Arrive packet.now ∷ [])
             (stage_of self.old under.old (K.written sink.old) given (sight_of T.kind_of T.state_of watch.old))
             (stage_of self.new under.new (K.written sink.new) (given + 1) (sight_of T.kind_of T.state_of watch.new))) }
         ensures err { OnErr result ((given : ℕ) → AreNext (C.policy self.old.scheduler) given (packet.now ∷ []) →
-            Stops C.Scheduler W.Recorder (C.policy self.old.scheduler) (Arrive packet.now ∷ [])
+            Stops C.Scheduler (heard_with W.Recorder packet.now captured.now) (C.policy self.old.scheduler) (Arrive packet.now ∷ [])
             (stage_of self.old under.old (K.written sink.old) given
             (sight_of T.kind_of T.state_of watch.old)) self.new.scheduler under.new (K.written sink.new)) }
         ensures came { OnOk result (self.new.tally.came ≡ self.old.tally.came + 1) }
@@ -52,10 +56,11 @@ impl<'a, C: Scheduler + Drop, N: NodeNames, W: Recorder> Run<'a, C, N, W> {
         ensures fewer { AreNoMore (sight_of T.kind_of T.state_of watch.old) (sight_of T.kind_of T.state_of watch.new) }
         ensures kept_sink { KeepsSink K.written K.faults sink.old sink.new }
         ensures cause { IfErr result (λ stop. HasSinkCause stop K.faults sink.old sink.new) }
+        ensures over { OnOk result (W.over self.new.recorder ≡ W.over self.old.recorder) }
         ensures live { OnOk result (W.live self.new.recorder) }
     {
         let event = self.tally.event();
-        let arrival = self.arrive_line(under, sink, event, packet)?;
+        let arrival = self.arrive_line(under, sink, event, packet, captured)?;
         self.tally.count(arrival);
         show_arrival(watch, packet, arrival);
         Ok(())
@@ -76,13 +81,16 @@ impl<'a, C: Scheduler + Drop, N: NodeNames, W: Recorder> Run<'a, C, N, W> {
         requires stands { Stand C.Scheduler self.old under.old (λ s. IsHeldBelow (P.given packets.old + 1) s.held) }
         requires counts { HasRoomFor C.Scheduler self.old (P.given packets.old) }
 
-        ensures ok { IfOk result (λ e. Arrives C.Scheduler W.Recorder (C.policy self.old.scheduler) 1 e
+        ensures ok { IfOk result (λ e.
+            Arrives C.Scheduler (heard W.Recorder (P.captures packets.old source.old)) (C.policy self.old.scheduler) 1 e
             (P.left packets.old source.old) (P.left packets.new source.new)
             (stage_of self.old under.old (K.written sink.old) (P.given packets.old)
             (sight_of T.kind_of T.state_of watch.old))
             (stage_of self.new under.new (K.written sink.new) (P.given packets.new)
             (sight_of T.kind_of T.state_of watch.new))) }
-        ensures err { OnErr result (ArrivalsStop C.Scheduler W.Recorder (C.policy self.old.scheduler) 1 (P.left packets.old source.old)
+        ensures err { OnErr result (
+            ArrivalsStop C.Scheduler (heard W.Recorder (P.captures packets.old source.old)) (C.policy self.old.scheduler) 1
+            (P.left packets.old source.old)
             (stage_of self.old under.old (K.written sink.old) (P.given packets.old)
             (sight_of T.kind_of T.state_of watch.old)) self.new.scheduler under.new (K.written sink.new)) }
         ensures kept { Continues C.Scheduler self.old self.new }
@@ -91,13 +99,13 @@ impl<'a, C: Scheduler + Drop, N: NodeNames, W: Recorder> Run<'a, C, N, W> {
         ensures kept_packets { KeepsPackets P.Packets packets.old packets.new source.old source.new }
         ensures cause { IfErr result (λ stop. HasCause stop P.faults source.old source.new K.faults sink.old sink.new) }
         ensures further { IfOk result (λ e. GoesOn e (
-            IsFurther P.Packets packets.old packets.new source.new self.old.tally self.new.tally)) }
+            IsFurther P.Packets packets.old packets.new source.old source.new self.old.tally self.new.tally)) }
         ensures came { self.new.tally.came ≤ most_packets }
         ensures live { OnOk result (W.live self.new.recorder) }
     {
         match packets.next(source) {
             Ok(Some(packet)) => {
-                self.admit(under, sink, watch, &packet)?;
+                self.admit(under, sink, watch, &packet, packets.captured())?;
                 Ok(None)
             }
             Ok(None) => Ok(Some(Ending::PastLast(self.tally.event()))),
@@ -124,13 +132,16 @@ impl<'a, C: Scheduler + Drop, N: NodeNames, W: Recorder> Run<'a, C, N, W> {
         requires stands { Stand C.Scheduler self.old under.old (λ s. IsHeldBelow (P.given packets.old + 1) s.held) }
         requires counts { HasRoomFor C.Scheduler self.old (P.given packets.old) }
 
-        ensures ok { IfOk result (λ e. Arrives C.Scheduler W.Recorder (C.policy self.old.scheduler) count e
+        ensures ok { IfOk result (λ e.
+            Arrives C.Scheduler (heard W.Recorder (P.captures packets.old source.old)) (C.policy self.old.scheduler) count e
             (P.left packets.old source.old) (P.left packets.new source.new)
             (stage_of self.old under.old (K.written sink.old) (P.given packets.old)
             (sight_of T.kind_of T.state_of watch.old))
             (stage_of self.new under.new (K.written sink.new) (P.given packets.new)
             (sight_of T.kind_of T.state_of watch.new))) }
-        ensures err { OnErr result (ArrivalsStop C.Scheduler W.Recorder (C.policy self.old.scheduler) count (P.left packets.old source.old)
+        ensures err { OnErr result (
+            ArrivalsStop C.Scheduler (heard W.Recorder (P.captures packets.old source.old)) (C.policy self.old.scheduler) count
+            (P.left packets.old source.old)
             (stage_of self.old under.old (K.written sink.old) (P.given packets.old)
             (sight_of T.kind_of T.state_of watch.old)) self.new.scheduler under.new (K.written sink.new)) }
         ensures kept { Continues C.Scheduler self.old self.new }
@@ -139,7 +150,7 @@ impl<'a, C: Scheduler + Drop, N: NodeNames, W: Recorder> Run<'a, C, N, W> {
         ensures kept_packets { KeepsPackets P.Packets packets.old packets.new source.old source.new }
         ensures cause { IfErr result (λ stop. HasCause stop P.faults source.old source.new K.faults sink.old sink.new) }
         ensures further { IfOk result (λ e. IfNone e (
-            IsFurther P.Packets packets.old packets.new source.new self.old.tally self.new.tally)) }
+            IsFurther P.Packets packets.old packets.new source.old source.new self.old.tally self.new.tally)) }
         ensures came { self.new.tally.came ≤ most_packets }
         ensures live { OnOk result (W.live self.new.recorder) }
     {
@@ -168,13 +179,16 @@ impl<'a, C: Scheduler + Drop, N: NodeNames, W: Recorder> Run<'a, C, N, W> {
         requires stands { Stand C.Scheduler self.old under.old (λ s. IsHeldBelow (P.given packets.old + 1) s.held) }
         requires counts { HasRoomFor C.Scheduler self.old (P.given packets.old) }
 
-        ensures ok { IfOk result (λ e. Turns C.Scheduler W.Recorder (C.policy self.old.scheduler) Rest e
+        ensures ok { IfOk result (λ e.
+            Turns C.Scheduler (heard W.Recorder (P.captures packets.old source.old)) (C.policy self.old.scheduler) Rest e
             (P.left packets.old source.old) (P.left packets.new source.new)
             (stage_of self.old under.old (K.written sink.old) (P.given packets.old)
             (sight_of T.kind_of T.state_of watch.old))
             (stage_of self.new under.new (K.written sink.new) (P.given packets.new)
             (sight_of T.kind_of T.state_of watch.new))) }
-        ensures err { OnErr result (StopsAmid C.Scheduler W.Recorder (C.policy self.old.scheduler) (λ l s. step_events Rest l.packets s)
+        ensures err { OnErr result (
+            StopsAmid C.Scheduler (heard W.Recorder (P.captures packets.old source.old)) (C.policy self.old.scheduler)
+            (λ l s. step_events Rest l.packets s)
             (P.left packets.old source.old)
             (stage_of self.old under.old (K.written sink.old) (P.given packets.old)
             (sight_of T.kind_of T.state_of watch.old)) self.new.scheduler under.new (K.written sink.new)) }
@@ -184,7 +198,7 @@ impl<'a, C: Scheduler + Drop, N: NodeNames, W: Recorder> Run<'a, C, N, W> {
         ensures kept_packets { KeepsPackets P.Packets packets.old packets.new source.old source.new }
         ensures cause { IfErr result (λ stop. HasCause stop P.faults source.old source.new K.faults sink.old sink.new) }
         ensures further { IfOk result (λ e. IfNone e (
-            IsFurther P.Packets packets.old packets.new source.new self.old.tally self.new.tally)) }
+            IsFurther P.Packets packets.old packets.new source.old source.new self.old.tally self.new.tally)) }
         ensures came { self.new.tally.came ≤ most_packets }
         ensures live { OnOk result (W.live self.new.recorder) }
     {

@@ -92,16 +92,17 @@ fn close<K: Sink>(
 }
 
 impl<'a, C: Scheduler + Drop, N: NodeNames, W: Recorder> Run<'a, C, N, W> {
-    ghost use Rattle.std.specs.Prelude.{◌≤◌, IfErr, IfOk, OnOk, OnErr};
+    ghost use Rattle.std.specs.Prelude.{◌≡◌, ◌≤◌, true, false, IfErr, IfOk, IfSome, IsNone, OnOk, OnErr};
     ghost use Rattle.outside_core.specs.Kept.{KeepsSink, HasCause};
     ghost use Rattle.events_core.specs.Script.{most_count};
     ghost use Rattle.events_core.specs.Steps.{counts_of};
     ghost use Rattle.sched_defs.specs.Packets.{most_packets};
+    ghost use Rattle.sched_run.specs.Heard.{heard};
     ghost use Rattle.sched_run.specs.Frames.{IsSet, Continues, Stand, KeepsPackets};
     ghost use Rattle.sched_run.specs.Stages.{stage_of, event_of, IsFresh, CanBegin, HasRoomFor};
     ghost use Rattle.sched_run.specs.Turns.{StopsAmid};
     ghost use Rattle.tap_core.specs.Watching.{sight_of, AreNoMore};
-    ghost use Rattle.sched_run.specs.Courses.{script_agenda, course_of, Courses};
+    ghost use Rattle.sched_run.specs.Courses.{script_agenda, course_of, Courses, CoursesUnless};
     ghost use Rattle.sched_run.specs.Steps.{IsBounded, CanEndSo};
 
     /// Makes the events of a script, each with its line, up to its end or to where no more packets come.
@@ -122,14 +123,17 @@ impl<'a, C: Scheduler + Drop, N: NodeNames, W: Recorder> Run<'a, C, N, W> {
         requires fresh { IsFresh self.old.tally }
         requires short { counts_of steps.now ≤ most_count }
 
-        ensures ok { IfOk result (λ e. Courses C.Scheduler W.Recorder (C.policy self.old.scheduler)
+        ensures ok { IfOk result (λ e.
+            Courses C.Scheduler (heard W.Recorder (P.captures packets.old source.old)) (C.policy self.old.scheduler)
             (script_agenda (C.policy self.old.scheduler) steps.now) e (P.left packets.old source.old)
             (stage_of self.old under.old (K.written sink.old) (P.given packets.old)
             (sight_of T.kind_of T.state_of watch.old))
             (stage_of self.new under.new (K.written sink.new) (P.given packets.new)
             (sight_of T.kind_of T.state_of watch.new))) }
-        ensures err { OnErr result (StopsAmid C.Scheduler W.Recorder (C.policy self.old.scheduler)
-            (λ l s. (script_agenda (C.policy self.old.scheduler) steps.now l s (event_of self.old.tally)).events) (P.left packets.old source.old)
+        ensures err { OnErr result (
+            StopsAmid C.Scheduler (heard W.Recorder (P.captures packets.old source.old)) (C.policy self.old.scheduler)
+            (λ l s. (script_agenda (C.policy self.old.scheduler) steps.now l s (event_of self.old.tally)).events)
+            (P.left packets.old source.old)
             (stage_of self.old under.old (K.written sink.old) (P.given packets.old)
             (sight_of T.kind_of T.state_of watch.old)) self.new.scheduler under.new (K.written sink.new)) }
         ensures kept { Continues C.Scheduler self.old self.new }
@@ -149,7 +153,8 @@ impl<'a, C: Scheduler + Drop, N: NodeNames, W: Recorder> Run<'a, C, N, W> {
         count_unsent(packets, source)
     }
 
-    /// Makes the events of a run, each with its line, up to its end or to where no more packets come.
+    /// Makes the events of a run, each with its line, up to its end or to where no more packets come. The answer
+    /// is how the run ends, if it isn't over before, since nothing more can be recorded.
     fn play_events<P: Packets, K: Sink, T: Tap>(
         &mut self,
         under: &mut C::Under,
@@ -158,8 +163,9 @@ impl<'a, C: Scheduler + Drop, N: NodeNames, W: Recorder> Run<'a, C, N, W> {
         packets: &mut P,
         source: &mut P::Source,
         pace: Pace<'_>,
-    ) -> Result<Ending, Stop>
+    ) -> Result<Option<Ending>, Stop>
         requires set { IsSet C.Scheduler W.Recorder N.policy self.old }
+        requires going { W.over self.old.recorder ≡ false }
         requires packets { P.policy packets.old ≡ C.policy self.old.scheduler }
         requires ready { P.ready packets.old source.old }
         requires stands { Stand C.Scheduler self.old under.old (CanBegin (P.given packets.old)) }
@@ -167,14 +173,18 @@ impl<'a, C: Scheduler + Drop, N: NodeNames, W: Recorder> Run<'a, C, N, W> {
         requires fresh { IsFresh self.old.tally }
         requires bounded { IsBounded pace }
 
-        ensures ok { IfOk result (λ e. Courses C.Scheduler W.Recorder (C.policy self.old.scheduler)
-            (course_of (C.policy self.old.scheduler) pace.entry) e (P.left packets.old source.old)
+        ensures ok { IfOk result (λ e.
+            CoursesUnless e C.Scheduler (heard W.Recorder (P.captures packets.old source.old)) W.over
+            (C.policy self.old.scheduler)
+            (course_of (C.policy self.old.scheduler) pace.entry) (P.left packets.old source.old)
             (stage_of self.old under.old (K.written sink.old) (P.given packets.old)
             (sight_of T.kind_of T.state_of watch.old))
             (stage_of self.new under.new (K.written sink.new) (P.given packets.new)
             (sight_of T.kind_of T.state_of watch.new))) }
-        ensures err { OnErr result (StopsAmid C.Scheduler W.Recorder (C.policy self.old.scheduler)
-            (λ l s. (course_of (C.policy self.old.scheduler) pace.entry l s (event_of self.old.tally)).events) (P.left packets.old source.old)
+        ensures err { OnErr result (
+            StopsAmid C.Scheduler (heard W.Recorder (P.captures packets.old source.old)) (C.policy self.old.scheduler)
+            (λ l s. (course_of (C.policy self.old.scheduler) pace.entry l s (event_of self.old.tally)).events)
+            (P.left packets.old source.old)
             (stage_of self.old under.old (K.written sink.old) (P.given packets.old)
             (sight_of T.kind_of T.state_of watch.old)) self.new.scheduler under.new (K.written sink.new)) }
         ensures kept { Continues C.Scheduler self.old self.new }
@@ -183,11 +193,15 @@ impl<'a, C: Scheduler + Drop, N: NodeNames, W: Recorder> Run<'a, C, N, W> {
         ensures kept_packets { KeepsPackets P.Packets packets.old packets.new source.old source.new }
         ensures cause { IfErr result (λ stop. HasCause stop P.faults source.old source.new K.faults sink.old sink.new) }
         ensures came { self.new.tally.came ≤ most_packets }
-        ensures ends { IfOk result (CanEndSo pace.entry) }
+        ensures ends { IfOk result (λ o. IfSome o (CanEndSo pace.entry)) }
+        ensures over { IfOk result (λ o. IsNone o → W.over self.new.recorder ≡ true) }
         ensures live { OnOk result (W.live self.new.recorder) }
     {
         match pace {
-            Pace::Script(steps) => self.play_steps(under, sink, watch, packets, source, steps),
+            Pace::Script(steps) => {
+                let ending = self.play_steps(under, sink, watch, packets, source, steps)?;
+                Ok(Some(ending))
+            }
             Pace::Link(rate) => self.play_link(under, sink, watch, packets, source, rate),
         }
     }
@@ -232,7 +246,8 @@ impl<'a, C: Scheduler + Drop, N: NodeNames> Run<'a, C, N, Report> {
             Runs C.Scheduler (C.policy self.old.scheduler) run s self.old.scheduler under.old self.new.scheduler under.new
             (text_of (K.written sink.old) self.old.recorder) (K.written sink.new))) }
         ensures ending { IfOk result (λ e. OnCourse C.stands (C.policy self.old.scheduler) self.old.scheduler under.old
-            (P.given packets.old) (P.left packets.old source.old) (course_of (C.policy self.old.scheduler) pace.entry) (λ s run. e ≡ run.ending)) }
+            (P.given packets.old) (P.left packets.old source.old) (course_of (C.policy self.old.scheduler) pace.entry)
+            (λ s run. e ≡ run.ending)) }
         ensures err { OnErr result (OnCourse C.stands (C.policy self.old.scheduler) self.old.scheduler under.old
             (P.given packets.old) (P.left packets.old source.old) (course_of (C.policy self.old.scheduler) pace.entry) (λ s run.
             Breaks C.Scheduler (C.policy self.old.scheduler) run s self.old.scheduler under.old self.new.scheduler under.new
@@ -253,7 +268,8 @@ impl<'a, C: Scheduler + Drop, N: NodeNames> Run<'a, C, N, Report> {
     {
         let first = self.scheduler.held();
         self.tally = Tally::new();
-        let ending = self.play_events(under, sink, watch, packets, source, pace)?;
+        let played = self.play_events(under, sink, watch, packets, source, pace)?;
+        let Some(ending) = played else { unreachable!() };
         let held = self.scheduler.held();
         let totals = self.tally.totals(first, held, self.version);
         close(&mut self.recorder, sink, ending, totals)?;

@@ -10,6 +10,7 @@ ghost use Rattle.sched_defs.specs.SourceState.{departed, leaver};
 ghost use Rattle.sched_defs.specs.Events.{Depart, outcomes};
 ghost use Rattle.sched_core.specs.Standing.{StandForOne, ForEachState};
 ghost use Rattle.sched_core.specs.Departures.{departed_packet, IsTaken};
+ghost use Rattle.sched_run.specs.Heard.{heard_anyway};
 ghost use Rattle.sched_run.specs.Played.{AsksOnce, line_of};
 
 use crate::recorder::Recorder;
@@ -61,10 +62,10 @@ pub(crate) fn depart_at<C: Scheduler, N: NodeNames, W: Recorder, K: Sink>(
     ensures room { trace.new.room ≡ trace.old.room }
 
     ensures recorded { OnOk result (ForEachState C.stands (C.policy scheduler.old) scheduler.old under.old (λ s.
-        W.records recorder.old (K.written sink.old) (C.policy scheduler.old) departure.event
+        (heard_anyway W.Recorder).records recorder.old (K.written sink.old) (C.policy scheduler.old) departure.event
         (outcomes (C.policy scheduler.old) (Depart departure.start ∷ []) s) recorder.new (K.written sink.new))) }
     ensures cut { OnErr result (ForEachState C.stands (C.policy scheduler.old) scheduler.old under.old (λ s.
-        W.cuts recorder.old (K.written sink.old) (C.policy scheduler.old) departure.event
+        (heard_anyway W.Recorder).cuts recorder.old (K.written sink.old) (C.policy scheduler.old) departure.event
         (outcomes (C.policy scheduler.old) (Depart departure.start ∷ []) s) (K.written sink.new))) }
     ensures kept { KeepsSink K.written K.faults sink.old sink.new }
     ensures cause { OnErr result (Rose (K.faults sink.old) (K.faults sink.new)) }
@@ -128,12 +129,14 @@ pub fn depart_line<C: Scheduler, N: NodeNames, K: Sink>(
 }
 
 impl<'a, C: Scheduler + Drop, N: NodeNames, W: Recorder> Run<'a, C, N, W> {
-    ghost use Rattle.std.specs.Prelude.{◌≡◌, ◌<◌, ◌+◌, ◌^◌, ℕ, [], ◌∷◌, IsTrue, IfErr, IfOk, OnOk, OnErr};
+    ghost use Rattle.std.specs.Prelude.{◌≡◌, ◌≤◌, ◌<◌, ◌+◌, ◌^◌, ℕ, [], ◌∷◌, length, IsTrue, IfErr, IfOk, OnOk, OnErr};
+    ghost use Rattle.pcap_defs.specs.Record.{most_captured};
     ghost use Rattle.outside_core.specs.Kept.{KeepsSink, HasSinkCause};
     ghost use Rattle.sched_defs.specs.Events.{Arrive, Depart, CanArrive};
     ghost use Rattle.sched_core.specs.Arrivals.{arrival_of};
     ghost use Rattle.sched_core.specs.Departures.{next_departed};
     ghost use Rattle.sched_run.specs.Frames.{IsSet, Continues, Stand, FromAll};
+    ghost use Rattle.sched_run.specs.Heard.{heard_anyway, heard_with};
     ghost use Rattle.sched_run.specs.Played.{Plays, StopsIn};
     ghost use Rattle.sched_run.specs.Stages.{stage_of, Makes, Stops};
     ghost use Rattle.tap_core.specs.Watching.{sight_of, AreNoMore};
@@ -145,16 +148,20 @@ impl<'a, C: Scheduler + Drop, N: NodeNames, W: Recorder> Run<'a, C, N, W> {
         sink: &mut K,
         event: u64,
         packet: &Packet,
+        captured: &[u8],
     ) -> Result<Arrival, Stop>
+        requires short { length captured.now ≤ most_captured }
         requires set { IsSet C.Scheduler W.Recorder N.policy self.old }
         requires stands { Stand C.Scheduler self.old under.old (λ s. CanArrive (C.policy self.old.scheduler) s packet.now) }
         requires few { C.pushes self.old.scheduler < 2 ^ 61 }
 
         ensures ok { OnOk result (FromAll C.Scheduler self.old under.old (λ s.
-            Plays C.Scheduler W.Recorder (C.policy self.old.scheduler) event (Arrive packet.now ∷ []) s self.old.scheduler under.old
+            Plays C.Scheduler (heard_with W.Recorder packet.now captured.now) (C.policy self.old.scheduler) event (Arrive packet.now ∷ [])
+            s self.old.scheduler under.old
             self.old.recorder (K.written sink.old) self.new.scheduler under.new self.new.recorder (K.written sink.new))) }
         ensures err { OnErr result (FromAll C.Scheduler self.old under.old (λ s.
-            StopsIn C.Scheduler W.Recorder (C.policy self.old.scheduler) event (Arrive packet.now ∷ []) s self.old.scheduler under.old
+            StopsIn C.Scheduler (heard_with W.Recorder packet.now captured.now) (C.policy self.old.scheduler) event (Arrive packet.now ∷ [])
+            s self.old.scheduler under.old
             self.old.recorder (K.written sink.old) self.new.scheduler under.new (K.written sink.new))) }
         ensures answer { IfOk result (λ a. FromAll C.Scheduler self.old under.old (λ s.
             a ≡ arrival_of (C.policy self.old.scheduler) packet.now s)) }
@@ -162,6 +169,7 @@ impl<'a, C: Scheduler + Drop, N: NodeNames, W: Recorder> Run<'a, C, N, W> {
         ensures kept_sink { KeepsSink K.written K.faults sink.old sink.new }
         ensures cause { IfErr result (λ stop. HasSinkCause stop K.faults sink.old sink.new) }
         ensures live { OnOk result (W.live self.new.recorder) }
+        ensures over { OnOk result (W.over self.new.recorder ≡ W.over self.old.recorder) }
         ensures tally { self.new.tally ≡ self.old.tally }
     {
         let arrival = self.scheduler.arrive(under, packet, &mut self.trace)?;
@@ -169,7 +177,7 @@ impl<'a, C: Scheduler + Drop, N: NodeNames, W: Recorder> Run<'a, C, N, W> {
             Arrival::Pushed(leaf) => {
                 let name = self.names.name(leaf);
                 self.recorder
-                    .arrived(sink, event, packet, name, self.trace.ranks())?;
+                    .arrived(sink, event, packet, captured, name, self.trace.ranks())?;
             }
             Arrival::Dropped(leaf) => {
                 let name = self.names.name(leaf);
@@ -193,10 +201,12 @@ impl<'a, C: Scheduler + Drop, N: NodeNames, W: Recorder> Run<'a, C, N, W> {
         requires few { C.departures self.old.scheduler < 2 ^ 61 }
         requires events { self.old.tally.came + self.old.tally.asked < 2 ^ 62 }
 
-        ensures ok { OnOk result ((given : ℕ) → Makes C.Scheduler W.Recorder (C.policy self.old.scheduler) (Depart start ∷ [])
+        ensures ok { OnOk result ((given : ℕ) →
+            Makes C.Scheduler (heard_anyway W.Recorder) (C.policy self.old.scheduler) (Depart start ∷ [])
             (stage_of self.old under.old (K.written sink.old) given (sight_of T.kind_of T.state_of watch.old))
             (stage_of self.new under.new (K.written sink.new) given (sight_of T.kind_of T.state_of watch.new))) }
-        ensures err { OnErr result ((given : ℕ) → Stops C.Scheduler W.Recorder (C.policy self.old.scheduler) (Depart start ∷ [])
+        ensures err { OnErr result ((given : ℕ) →
+            Stops C.Scheduler (heard_anyway W.Recorder) (C.policy self.old.scheduler) (Depart start ∷ [])
             (stage_of self.old under.old (K.written sink.old) given
             (sight_of T.kind_of T.state_of watch.old)) self.new.scheduler under.new (K.written sink.new)) }
         ensures value { IfOk result (λ d. FromAll C.Scheduler self.old under.old (λ s.

@@ -46,22 +46,25 @@ fn idle_at(link: &mut Link, held: u64, moment: u64)
 }
 
 impl<'a, C: Scheduler + Drop, N: NodeNames, W: Recorder> Run<'a, C, N, W> {
-    ghost use Rattle.std.specs.Prelude.{◌≡◌, ◌≤◌, ◌<◌, ◌+◌, ◌^◌, ℕ, IfErr, IfOk, OnOk, OnErr};
+    ghost use Rattle.std.specs.Prelude.{◌≡◌, ◌≤◌, ◌<◌, ◌+◌, ◌^◌, ℕ, false, not, if◌then◌else◌, is_some, length, IfErr, IfOk, IfSome, OnOk, OnErr};
+    ghost use Rattle.pcap_defs.specs.Record.{most_captured};
     ghost use Rattle.outside_core.specs.Kept.{KeepsSink, HasCause, HasSinkCause};
     ghost use Rattle.link_defs.specs.Link.{IsRate};
     ghost use Rattle.tree_defs.specs.SourceTree.{size};
     ghost use Rattle.sched_defs.specs.Link.{send_until, link_turn};
     ghost use Rattle.sched_defs.specs.Numbered.{IsSendable, IsHeldBelow};
     ghost use Rattle.sched_defs.specs.Packets.{most_packets};
+    ghost use Rattle.sched_run.specs.Heard.{heard_anyway, heard, heard_with};
     ghost use Rattle.sched_run.specs.Frames.{IsSet, Continues, Stand, KeepsPackets};
     ghost use Rattle.sched_run.specs.Stages.{stage_of, event_of, IsFresh, CanBegin, HasRoomFor};
     ghost use Rattle.sched_run.specs.Turns.{StopsAmid};
     ghost use Rattle.tap_core.specs.Watching.{sight_of, AreNoMore};
-    ghost use Rattle.sched_run.specs.Links.{Sends, SendsAmid, IsEarly, CanSend, HasRoomToSend};
+    ghost use Rattle.sched_run.specs.Links.{SendsUnless, SendsAmid, IsEarly, CanSend, HasRoomToSend};
     ghost use Rattle.sched_run.specs.Steps.{IsNoPastLast};
-    ghost use Rattle.sched_run.specs.Courses.{link_agenda, Courses};
+    ghost use Rattle.sched_run.specs.Courses.{link_agenda, CoursesUnless, CoursesAmid};
 
-    /// Sends what is held as long as the link is free before a moment, or all of it where there is none.
+    /// Sends what is held as long as the link is free before a moment, or all of it where there is none. The answer is whether
+    /// nothing more can be recorded, which ends the run.
     fn send_until<K: Sink, T: Tap>(
         &mut self,
         under: &mut C::Under,
@@ -70,21 +73,25 @@ impl<'a, C: Scheduler + Drop, N: NodeNames, W: Recorder> Run<'a, C, N, W> {
         link: &mut Link,
         rate: u64,
         until: Option<u64>,
-    ) -> Result<(), Stop>
+    ) -> Result<bool, Stop>
         requires set { IsSet C.Scheduler W.Recorder N.policy self.old }
+        requires going { W.over self.old.recorder ≡ false }
         requires stands { Stand C.Scheduler self.old under.old (CanSend self.old.tally) }
         requires counts { HasRoomToSend (C.departures self.old.scheduler) self.old.tally }
         requires rate { IsRate rate }
         requires early { IsEarly link.old self.old.tally }
 
-        ensures ok { OnOk result ((given : ℕ) → Sends C.Scheduler W.Recorder (C.policy self.old.scheduler)
+        ensures ok { IfOk result (λ over.
+            (given : ℕ) → SendsUnless over C.Scheduler (heard_anyway W.Recorder) W.over (C.policy self.old.scheduler)
             (λ s. send_until (C.policy self.old.scheduler) rate until (size s.tree) s link.old) link.new
             (stage_of self.old under.old (K.written sink.old) given (sight_of T.kind_of T.state_of watch.old))
             (stage_of self.new under.new (K.written sink.new) given (sight_of T.kind_of T.state_of watch.new))) }
-        ensures err { OnErr result ((given : ℕ) → SendsAmid C.Scheduler W.Recorder (C.policy self.old.scheduler)
+        ensures err { OnErr result ((given : ℕ) →
+            SendsAmid C.Scheduler (heard_anyway W.Recorder) W.over (C.policy self.old.scheduler)
             (λ s. send_until (C.policy self.old.scheduler) rate until (size s.tree) s link.old)
             (stage_of self.old under.old (K.written sink.old) given
             (sight_of T.kind_of T.state_of watch.old)) self.new.scheduler under.new (K.written sink.new)) }
+        ensures over { IfOk result (λ over. W.over self.new.recorder ≡ over) }
         ensures early { OnOk result (IsEarly link.new self.new.tally) }
         ensures came { self.new.tally.came ≡ self.old.tally.came }
         ensures dropped { self.new.tally.dropped ≡ self.old.tally.dropped }
@@ -98,16 +105,20 @@ impl<'a, C: Scheduler + Drop, N: NodeNames, W: Recorder> Run<'a, C, N, W> {
         let held = self.scheduler.held();
         for _sent in 0..held {
             if !is_due(link, until) {
-                return Ok(());
+                return Ok(false);
             }
             let start = Some(link.free());
             let departed = self.depart_next(under, sink, watch, start)?;
             take_time(link, departed, rate);
+            if self.recorder.over() {
+                return Ok(true);
+            }
         }
-        Ok(())
+        Ok(false)
     }
 
-    /// Sends what is due before a packet's moment, and makes the packet's arrival, each with its line.
+    /// Sends what is due before a packet's moment, and makes the packet's arrival, each with its line. The answer is
+    /// whether nothing more could be recorded before that.
     fn arrive_paced<K: Sink, T: Tap>(
         &mut self,
         under: &mut C::Under,
@@ -116,8 +127,11 @@ impl<'a, C: Scheduler + Drop, N: NodeNames, W: Recorder> Run<'a, C, N, W> {
         link: &mut Link,
         rate: u64,
         packet: &Packet,
-    ) -> Result<(), Stop>
+        captured: &[u8],
+    ) -> Result<bool, Stop>
+        requires short { length captured.now ≤ most_captured }
         requires set { IsSet C.Scheduler W.Recorder N.policy self.old }
+        requires going { W.over self.old.recorder ≡ false }
         requires stands { Stand C.Scheduler self.old under.old (λ s.
             IsHeldBelow packet.now.number s.held × CanSend self.old.tally s) }
         requires counts { HasRoomToSend (C.departures self.old.scheduler) self.old.tally }
@@ -127,18 +141,22 @@ impl<'a, C: Scheduler + Drop, N: NodeNames, W: Recorder> Run<'a, C, N, W> {
         requires rate { IsRate rate }
         requires early { IsEarly link.old self.old.tally }
 
-        ensures ok { OnOk result ((given : ℕ) → packet.now.number ≡ given + 1 →
-            Sends C.Scheduler W.Recorder (C.policy self.old.scheduler)
+        ensures ok { IfOk result (λ over. (given : ℕ) → packet.now.number ≡ given + 1 →
+            SendsUnless over C.Scheduler (heard_with W.Recorder packet.now captured.now) W.over
+            (C.policy self.old.scheduler)
             (λ s. link_turn (C.policy self.old.scheduler) rate packet.now s link.old) link.new
             (stage_of self.old under.old (K.written sink.old) given (sight_of T.kind_of T.state_of watch.old))
-            (stage_of self.new under.new (K.written sink.new) (given + 1) (sight_of T.kind_of T.state_of watch.new))) }
+            (stage_of self.new under.new (K.written sink.new) (if over then given else given + 1)
+            (sight_of T.kind_of T.state_of watch.new))) }
         ensures err { OnErr result ((given : ℕ) → packet.now.number ≡ given + 1 →
-            SendsAmid C.Scheduler W.Recorder (C.policy self.old.scheduler)
+            SendsAmid C.Scheduler (heard_with W.Recorder packet.now captured.now) W.over (C.policy self.old.scheduler)
             (λ s. link_turn (C.policy self.old.scheduler) rate packet.now s link.old)
             (stage_of self.old under.old (K.written sink.old) given
             (sight_of T.kind_of T.state_of watch.old)) self.new.scheduler under.new (K.written sink.new)) }
+        ensures over { IfOk result (λ over. W.over self.new.recorder ≡ over) }
         ensures early { OnOk result (IsEarly link.new self.new.tally) }
-        ensures came { OnOk result (self.new.tally.came ≡ self.old.tally.came + 1) }
+        ensures came { IfOk result (λ over.
+            self.new.tally.came ≡ (if over then self.old.tally.came else self.old.tally.came + 1)) }
         ensures came_stays { OnErr result (self.new.tally.came ≡ self.old.tally.came) }
         ensures kept { Continues C.Scheduler self.old self.new }
         ensures fewer { AreNoMore (sight_of T.kind_of T.state_of watch.old) (sight_of T.kind_of T.state_of watch.new) }
@@ -147,13 +165,18 @@ impl<'a, C: Scheduler + Drop, N: NodeNames, W: Recorder> Run<'a, C, N, W> {
         ensures live { OnOk result (W.live self.new.recorder) }
     {
         let moment = self.scheduler.now().max(packet.moment);
-        self.send_until(under, sink, watch, link, rate, Some(moment))?;
+        let over = self.send_until(under, sink, watch, link, rate, Some(moment))?;
+        if over {
+            return Ok(true);
+        }
         idle_at(link, self.scheduler.held(), moment);
-        self.admit(under, sink, watch, packet)
+        self.admit(under, sink, watch, packet, captured)?;
+        Ok(false)
     }
 
-    /// Makes the events that a link paces over the packets that come, each with its line.
-    pub(crate) fn play_link<P: Packets, K: Sink, T: Tap>(
+    /// Makes the events that a link paces over the packets that come, and records the outcome of each. The rate is in bytes a
+    /// second. The answer is how the run ends, if it isn't over before, since nothing more can be recorded.
+    pub fn play_link<P: Packets, K: Sink, T: Tap>(
         &mut self,
         under: &mut C::Under,
         sink: &mut K,
@@ -161,8 +184,9 @@ impl<'a, C: Scheduler + Drop, N: NodeNames, W: Recorder> Run<'a, C, N, W> {
         packets: &mut P,
         source: &mut P::Source,
         rate: u64,
-    ) -> Result<Ending, Stop>
+    ) -> Result<Option<Ending>, Stop>
         requires set { IsSet C.Scheduler W.Recorder N.policy self.old }
+        requires going { W.over self.old.recorder ≡ false }
         requires packets { P.policy packets.old ≡ C.policy self.old.scheduler }
         requires ready { P.ready packets.old source.old }
         requires stands { Stand C.Scheduler self.old under.old (CanBegin (P.given packets.old)) }
@@ -170,14 +194,18 @@ impl<'a, C: Scheduler + Drop, N: NodeNames, W: Recorder> Run<'a, C, N, W> {
         requires fresh { IsFresh self.old.tally }
         requires rate { IsRate rate }
 
-        ensures ok { IfOk result (λ e. Courses C.Scheduler W.Recorder (C.policy self.old.scheduler)
-            (link_agenda (C.policy self.old.scheduler) rate 0) e (P.left packets.old source.old)
+        ensures ok { IfOk result (λ e.
+            CoursesUnless e C.Scheduler (heard W.Recorder (P.captures packets.old source.old)) W.over
+            (C.policy self.old.scheduler)
+            (link_agenda (C.policy self.old.scheduler) rate 0) (P.left packets.old source.old)
             (stage_of self.old under.old (K.written sink.old) (P.given packets.old)
             (sight_of T.kind_of T.state_of watch.old))
             (stage_of self.new under.new (K.written sink.new) (P.given packets.new)
             (sight_of T.kind_of T.state_of watch.new))) }
-        ensures err { OnErr result (StopsAmid C.Scheduler W.Recorder (C.policy self.old.scheduler)
-            (λ l s. (link_agenda (C.policy self.old.scheduler) rate 0 l s (event_of self.old.tally)).events) (P.left packets.old source.old)
+        ensures err { OnErr result (
+            CoursesAmid C.Scheduler (heard W.Recorder (P.captures packets.old source.old)) W.over
+            (C.policy self.old.scheduler)
+            (link_agenda (C.policy self.old.scheduler) rate 0) (P.left packets.old source.old)
             (stage_of self.old under.old (K.written sink.old) (P.given packets.old)
             (sight_of T.kind_of T.state_of watch.old)) self.new.scheduler under.new (K.written sink.new)) }
         ensures kept { Continues C.Scheduler self.old self.new }
@@ -186,20 +214,30 @@ impl<'a, C: Scheduler + Drop, N: NodeNames, W: Recorder> Run<'a, C, N, W> {
         ensures kept_packets { KeepsPackets P.Packets packets.old packets.new source.old source.new }
         ensures cause { IfErr result (λ stop. HasCause stop P.faults source.old source.new K.faults sink.old sink.new) }
         ensures came { self.new.tally.came ≤ most_packets }
-        ensures ends { IfOk result IsNoPastLast }
+        ensures ends { IfOk result (λ o. IfSome o IsNoPastLast) }
+        ensures over { IfOk result (λ o. W.over self.new.recorder ≡ not (is_some o)) }
         ensures live { OnOk result (W.live self.new.recorder) }
     {
         let mut link = Link::new();
         loop {
             match packets.next(source) {
-                Ok(Some(packet)) => self.arrive_paced(
-                    under, sink, watch, &mut link, rate, &packet,
-                )?,
-                Ok(None) => {
-                    self.send_until(under, sink, watch, &mut link, rate, None)?;
-                    return Ok(Ending::Whole(0));
+                Ok(Some(packet)) => {
+                    let captured = packets.captured();
+                    let over = self.arrive_paced(
+                        under, sink, watch, &mut link, rate, &packet, captured,
+                    )?;
+                    if over {
+                        return Ok(None);
+                    }
                 }
-                Err(Halt::Fault(code, place)) => return Ok(Ending::BadCapture(code, place)),
+                Ok(None) => {
+                    let over = self.send_until(under, sink, watch, &mut link, rate, None)?;
+                    if over {
+                        return Ok(None);
+                    }
+                    return Ok(Some(Ending::Whole(0)));
+                }
+                Err(Halt::Fault(code, place)) => return Ok(Some(Ending::BadCapture(code, place))),
                 Err(Halt::Source) => return Err(Stop::Source),
                 Err(Halt::Memory) => return Err(Stop::Memory),
             }

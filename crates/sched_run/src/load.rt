@@ -18,6 +18,7 @@ impl<'a, C: Scheduler + Drop, N: NodeNames, W: Recorder> Run<'a, C, N, W> {
     ghost use Rattle.outside_core.specs.Kept.{KeepsSink, HasSinkCause};
     ghost use Rattle.sched_defs.specs.Numbered.{IsHeldBelow};
     ghost use Rattle.sched_core.specs.Standing.{ForEachState};
+    ghost use Rattle.sched_run.specs.Heard.{heard_without};
     ghost use Rattle.sched_run.specs.Frames.{IsSet, Continues, Stand};
     ghost use Rattle.sched_run.specs.Load.{first_drawing, load_event, load_events, load_next, load_run, MakesLoad};
     ghost use Rattle.sched_run.specs.Drawings.{HasLoadClasses, most_load};
@@ -44,12 +45,12 @@ impl<'a, C: Scheduler + Drop, N: NodeNames, W: Recorder> Run<'a, C, N, W> {
         requires dropped { self.old.tally.dropped ≤ self.old.tally.came }
 
         ensures ok { OnOk result ((given : ℕ) → drawing.old.number ≡ given + 1 →
-            Makes C.Scheduler W.Recorder (C.policy self.old.scheduler) (load_event drawing.old ∷ [])
+            Makes C.Scheduler (heard_without W.Recorder) (C.policy self.old.scheduler) (load_event drawing.old ∷ [])
             (stage_of self.old under.old (K.written sink.old) given (sight_of T.kind_of T.state_of watch.old))
             (stage_of self.new under.new (K.written sink.new) (given + arrivals_in (load_event drawing.old ∷ []))
             (sight_of T.kind_of T.state_of watch.new))) }
         ensures err { OnErr result ((given : ℕ) → drawing.old.number ≡ given + 1 →
-            Stops C.Scheduler W.Recorder (C.policy self.old.scheduler) (load_event drawing.old ∷ [])
+            Stops C.Scheduler (heard_without W.Recorder) (C.policy self.old.scheduler) (load_event drawing.old ∷ [])
             (stage_of self.old under.old (K.written sink.old) given
             (sight_of T.kind_of T.state_of watch.old)) self.new.scheduler under.new (K.written sink.new)) }
         ensures next { drawing.new ≡ load_next drawing.old }
@@ -60,7 +61,7 @@ impl<'a, C: Scheduler + Drop, N: NodeNames, W: Recorder> Run<'a, C, N, W> {
         ensures live { OnOk result (W.live self.new.recorder) }
     {
         match drawing.draw() {
-            Some(packet) => self.admit(under, sink, watch, &packet),
+            Some(packet) => self.admit(under, sink, watch, &packet, &[]),
             None => {
                 self.depart_next(under, sink, watch, None)?;
                 Ok(())
@@ -85,11 +86,13 @@ impl<'a, C: Scheduler + Drop, N: NodeNames, W: Recorder> Run<'a, C, N, W> {
         requires fresh { IsFresh self.old.tally }
         requires short { count ≤ most_load }
 
-        ensures ok { OnOk result (Makes C.Scheduler W.Recorder (C.policy self.old.scheduler) (load_events count (first_drawing seed))
+        ensures ok { OnOk result (
+            Makes C.Scheduler (heard_without W.Recorder) (C.policy self.old.scheduler) (load_events count (first_drawing seed))
             (stage_of self.old under.old (K.written sink.old) 0 (sight_of T.kind_of T.state_of watch.old))
             (stage_of self.new under.new (K.written sink.new) (arrivals_in (load_events count (first_drawing seed)))
             (sight_of T.kind_of T.state_of watch.new))) }
-        ensures err { OnErr result (Stops C.Scheduler W.Recorder (C.policy self.old.scheduler) (load_events count (first_drawing seed))
+        ensures err { OnErr result (
+            Stops C.Scheduler (heard_without W.Recorder) (C.policy self.old.scheduler) (load_events count (first_drawing seed))
             (stage_of self.old under.old (K.written sink.old) 0
             (sight_of T.kind_of T.state_of watch.old)) self.new.scheduler under.new (K.written sink.new)) }
         ensures kept { Continues C.Scheduler self.old self.new }
@@ -122,13 +125,14 @@ impl<'a, C: Scheduler + Drop, N: NodeNames, W: Recorder> Run<'a, C, N, W> {
         requires departures { C.departures self.old.scheduler < 2 ^ 60 }
         requires short { count ≤ most_load }
 
-        ensures ok { IfOk result (λ t. ForEachState C.stands (C.policy self.old.scheduler) self.old.scheduler under.old (λ s.
+        ensures ok { IfOk result (λ t.
+            ForEachState C.stands (C.policy self.old.scheduler) self.old.scheduler under.old (λ s.
             IsHeldBelow 1 s.held →
-            MakesLoad C.Scheduler W.Recorder (C.policy self.old.scheduler) seed count s
+            MakesLoad C.Scheduler (heard_without W.Recorder) (C.policy self.old.scheduler) seed count s
             self.old.scheduler under.old self.old.recorder (K.written sink.old)
             self.new.scheduler under.new self.new.recorder (K.written sink.new) t)) }
         ensures err { OnErr result (ForEachState C.stands (C.policy self.old.scheduler) self.old.scheduler under.old (λ s.
-            IsHeldBelow 1 s.held → StopsIn C.Scheduler W.Recorder (C.policy self.old.scheduler) 1
+            IsHeldBelow 1 s.held → StopsIn C.Scheduler (heard_without W.Recorder) (C.policy self.old.scheduler) 1
             (load_run (C.policy self.old.scheduler) seed count s) s
             self.old.scheduler under.old self.old.recorder (K.written sink.old) self.new.scheduler under.new (K.written sink.new))) }
         ensures kept { Continues C.Scheduler self.old self.new }

@@ -1,30 +1,36 @@
 //! The trait of what is told of the outcomes of a run.
-ghost use Rattle.std.specs.Prelude.{◌≡◌, ◌≤◌, ℕ, Option, List, [], ◌∷◌, length, OnOk, OnErr};
+ghost use Rattle.std.specs.Prelude.{◌≡◌, ◌≤◌, ℕ, Bool, Option, List, [], ◌∷◌, length, IfErr, OnOk, OnErr};
 ghost use Rattle.outside_core.specs.Faults.{Rose};
-ghost use Rattle.outside_core.specs.Kept.{KeepsSink};
+ghost use Rattle.outside_core.specs.Kept.{KeepsSink, HasSinkCause};
 ghost use Rattle.tree_defs.specs.Tree.{Address};
+ghost use Rattle.pcap_defs.specs.Record.{most_captured};
 ghost use Rattle.packet_defs.specs.declared.packet.Packet.{Packet};
 ghost use Rattle.policy_defs.specs.Policy.{Policy, name_at};
 ghost use Rattle.sched_defs.specs.Events as events;
 ghost use Rattle.sched_defs.specs.Events.{Outcome};
+ghost use Rattle.sched_defs.specs.Packets.{Captured};
 ghost use Rattle.sched_run.specs.Recording.{AreJoined};
 ghost use Rattle.sched_run.specs.Shown.{gone};
 
-use outside_core::Sink;
+use outside_core::{Sink, Stop};
 use packet_defs::{Departed, Packet};
 use report_core::WriteFault;
 
 /// Records the outcomes of a run one by one, each with the number of its event: as lines of a report, as records of a capture,
-/// or in a sum. No call takes memory.
+/// or in a sum. A recorder of records keeps the captured bytes of packets until they leave; no call but `arrived` takes memory.
 pub trait Recorder: Drop {
-    /// Outcomes in a row are recorded, the first of which has this number.
-    ghost records: { Self → Option (List ℕ) → Policy → ℕ → List Outcome → Self → Option (List ℕ) → Type 0 };
+    /// Where these are the captured bytes of packets by their numbers, outcomes in a row are recorded, the first of which has
+    /// this number.
+    ghost records: { Captured → Self → Option (List ℕ) → Policy → ℕ → List Outcome → Self → Option (List ℕ) → Type 0 };
 
     /// Of what was recorded and of outcomes that were to follow a first part is written.
-    ghost cuts: { Self → Option (List ℕ) → Policy → ℕ → List Outcome → Option (List ℕ) → Type 0 };
+    ghost cuts: { Captured → Self → Option (List ℕ) → Policy → ℕ → List Outcome → Option (List ℕ) → Type 0 };
 
     /// No call failed so far.
     ghost live: { Self → Type 0 };
+
+    /// Nothing more can be recorded, and the run has to end.
+    ghost over: { Self → Bool };
 
     /// Records a packet that arrived at a leaf of this name with these ranks from the root down.
     fn arrived<K: Sink>(
@@ -32,19 +38,26 @@ pub trait Recorder: Drop {
         sink: &mut K,
         event: u64,
         packet: &Packet,
+        captured: &[u8],
         leaf: &str,
         ranks: &[u64],
-    ) -> Result<(), WriteFault>
+    ) -> Result<(), Stop>
         requires live { live self.old }
+        requires short { length captured.now ≤ most_captured }
         requires leaf { length leaf.now ≤ 64 }
         requires few { length ranks.now ≤ 65 }
 
-        ensures ok { OnOk result ((policy : Policy) (a : Address) → leaf.now ≡ name_at policy a →
-            records self.old (K.written sink.old) policy event (events.Arrived packet.now a ranks.now ∷ []) self.new (K.written sink.new)) }
-        ensures cut { OnErr result ((policy : Policy) (a : Address) → leaf.now ≡ name_at policy a →
-            cuts self.old (K.written sink.old) policy event (events.Arrived packet.now a ranks.now ∷ []) (K.written sink.new)) }
+        ensures ok { OnOk result ((bytes : Captured) (policy : Policy) (a : Address) → bytes packet.now.number ≡ captured.now →
+            leaf.now ≡ name_at policy a →
+            records bytes self.old (K.written sink.old) policy event (events.Arrived packet.now a ranks.now ∷ [])
+            self.new (K.written sink.new)) }
+        ensures cut { OnErr result ((bytes : Captured) (policy : Policy) (a : Address) → bytes packet.now.number ≡ captured.now →
+            leaf.now ≡ name_at policy a →
+            cuts bytes self.old (K.written sink.old) policy event (events.Arrived packet.now a ranks.now ∷ [])
+            (K.written sink.new)) }
         ensures kept { KeepsSink K.written K.faults sink.old sink.new }
-        ensures cause { OnErr result (Rose (K.faults sink.old) (K.faults sink.new)) }
+        ensures cause { IfErr result (λ stop. HasSinkCause stop K.faults sink.old sink.new) }
+        ensures over { OnOk result (over self.new ≡ over self.old) }
         ensures live { OnOk result (live self.new) };
 
     /// Records a packet that was dropped at a leaf of this name.
@@ -58,12 +71,14 @@ pub trait Recorder: Drop {
         requires live { live self.old }
         requires leaf { length leaf.now ≤ 64 }
 
-        ensures ok { OnOk result ((policy : Policy) (a : Address) → leaf.now ≡ name_at policy a →
-            records self.old (K.written sink.old) policy event (events.Dropped packet.now a ∷ []) self.new (K.written sink.new)) }
-        ensures cut { OnErr result ((policy : Policy) (a : Address) → leaf.now ≡ name_at policy a →
-            cuts self.old (K.written sink.old) policy event (events.Dropped packet.now a ∷ []) (K.written sink.new)) }
+        ensures ok { OnOk result ((bytes : Captured) (policy : Policy) (a : Address) → leaf.now ≡ name_at policy a →
+            records bytes self.old (K.written sink.old) policy event (events.Dropped packet.now a ∷ [])
+            self.new (K.written sink.new)) }
+        ensures cut { OnErr result ((bytes : Captured) (policy : Policy) (a : Address) → leaf.now ≡ name_at policy a →
+            cuts bytes self.old (K.written sink.old) policy event (events.Dropped packet.now a ∷ []) (K.written sink.new)) }
         ensures kept { KeepsSink K.written K.faults sink.old sink.new }
         ensures cause { OnErr result (Rose (K.faults sink.old) (K.faults sink.new)) }
+        ensures over { OnOk result (over self.new ≡ over self.old) }
         ensures live { OnOk result (live self.new) };
 
     /// Records a packet that left from a leaf of this name, with the ranks taken from the root down, and with the moment at
@@ -81,12 +96,14 @@ pub trait Recorder: Drop {
         requires leaf { length leaf.now ≤ 64 }
         requires few { length ranks.now ≤ 65 }
 
-        ensures ok { OnOk result ((policy : Policy) (p : Packet) (a : Address) →
+        ensures ok { OnOk result ((bytes : Captured) (policy : Policy) (p : Packet) (a : Address) →
             departed.now ≡ gone policy p a → leaf.now ≡ name_at policy a →
-            records self.old (K.written sink.old) policy event (events.Departed p a ranks.now start ∷ []) self.new (K.written sink.new)) }
-        ensures cut { OnErr result ((policy : Policy) (p : Packet) (a : Address) →
+            records bytes self.old (K.written sink.old) policy event (events.Departed p a ranks.now start ∷ [])
+            self.new (K.written sink.new)) }
+        ensures cut { OnErr result ((bytes : Captured) (policy : Policy) (p : Packet) (a : Address) →
             departed.now ≡ gone policy p a → leaf.now ≡ name_at policy a →
-            cuts self.old (K.written sink.old) policy event (events.Departed p a ranks.now start ∷ []) (K.written sink.new)) }
+            cuts bytes self.old (K.written sink.old) policy event (events.Departed p a ranks.now start ∷ [])
+            (K.written sink.new)) }
         ensures kept { KeepsSink K.written K.faults sink.old sink.new }
         ensures cause { OnErr result (Rose (K.faults sink.old) (K.faults sink.new)) }
         ensures live { OnOk result (live self.new) };
@@ -95,14 +112,18 @@ pub trait Recorder: Drop {
     fn empty<K: Sink>(&mut self, sink: &mut K, event: u64) -> Result<(), WriteFault>
         requires live { live self.old }
 
-        ensures ok { OnOk result ((policy : Policy) →
-            records self.old (K.written sink.old) policy event (events.Empty ∷ []) self.new (K.written sink.new)) }
-        ensures cut { OnErr result ((policy : Policy) →
-            cuts self.old (K.written sink.old) policy event (events.Empty ∷ []) (K.written sink.new)) }
+        ensures ok { OnOk result ((bytes : Captured) (policy : Policy) →
+            records bytes self.old (K.written sink.old) policy event (events.Empty ∷ []) self.new (K.written sink.new)) }
+        ensures cut { OnErr result ((bytes : Captured) (policy : Policy) →
+            cuts bytes self.old (K.written sink.old) policy event (events.Empty ∷ []) (K.written sink.new)) }
         ensures kept { KeepsSink K.written K.faults sink.old sink.new }
         ensures cause { OnErr result (Rose (K.faults sink.old) (K.faults sink.new)) }
         ensures live { OnOk result (live self.new) };
 
+    /// Whether nothing more can be recorded, so that the run has to end.
+    fn over(&self) -> bool
+        ensures { result ≡ over self.now };
+
     /// Outcomes that are recorded in two calls are recorded as those of one.
-    ghost joined: { AreJoined records cuts };
+    ghost joined: { (bytes : Captured) → AreJoined (records bytes) (cuts bytes) };
 }

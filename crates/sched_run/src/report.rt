@@ -1,28 +1,32 @@
 //! A report records each outcome as a line.
-ghost use Rattle.std.specs.Prelude.{IsTrue};
+ghost use Rattle.std.specs.Prelude.{IsTrue, false};
 ghost use Rattle.sched_run.specs.Lines.{adds_lines, cuts_lines, lines_are_joined};
 
 use crate::recorder::Recorder;
-use outside_core::Sink;
+use outside_core::{Sink, Stop};
 use packet_defs::{Departed, Packet};
 use report_core::{Report, WriteFault};
 
 impl Recorder for Report {
-    ghost records = { adds_lines };
+    ghost records = { λ _. adds_lines };
 
-    ghost cuts = { cuts_lines };
+    ghost cuts = { λ _. cuts_lines };
 
     ghost live = { λ report. IsTrue report.live };
+
+    ghost over = { λ _. false };
 
     fn arrived<K: Sink>(
         &mut self,
         sink: &mut K,
         event: u64,
         packet: &Packet,
+        _captured: &[u8],
         leaf: &str,
         ranks: &[u64],
-    ) -> Result<(), WriteFault> {
-        self.arrived(sink, event, packet.number, leaf, ranks)
+    ) -> Result<(), Stop> {
+        self.arrived(sink, event, packet.number, leaf, ranks)?;
+        Ok(())
     }
 
     fn dropped<K: Sink>(
@@ -51,5 +55,9 @@ impl Recorder for Report {
         self.empty(sink, event)
     }
 
-    ghost joined = { lines_are_joined };
+    fn over(&self) -> bool {
+        false
+    }
+
+    ghost joined = { λ _. lines_are_joined };
 }

@@ -13,12 +13,13 @@ pub struct Run<'a, C: Drop, N, W: Drop> {
     pub(crate) version: u32,
     pub(crate) scheduler: C,
     pub(crate) trace: Taken,
-    pub(crate) recorder: W,
+    pub recorder: W,
     pub(crate) tally: Tally,
 }
 
 impl<'a, C: Drop, N, W: Drop> Run<'a, C, N, W> {
     ghost use Rattle.std.specs.Prelude.{◌≡◌, IfOk};
+    ghost use Rattle.sched_run.specs.Stages.{IsFresh};
 
     /// A run without an event so far, with room for paths of so many levels below the root. The version is that of the policy's
     /// language: in version 2 leaves can have limits, and the last line shows how many packets were dropped. The error is want
@@ -36,6 +37,7 @@ impl<'a, C: Drop, N, W: Drop> Run<'a, C, N, W> {
         ensures scheduler { IfOk result (λ run. run.scheduler ≡ scheduler) }
         ensures room { IfOk result (λ run. run.trace.room ≡ depth) }
         ensures recorder { IfOk result (λ run. run.recorder ≡ recorder) }
+        ensures fresh { IfOk result (λ run. IsFresh run.tally) }
     {
         Ok(Run {
             names,

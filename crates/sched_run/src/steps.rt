@@ -14,6 +14,7 @@ impl<'a, C: Scheduler + Drop, N: NodeNames, W: Recorder> Run<'a, C, N, W> {
     ghost use Rattle.std.specs.Prelude.{◌≡◌, ◌≤◌, ◌<◌, ◌+◌, ◌^◌, ℕ, replicate, None, IfErr, IfOk, IfNone, OnOk, OnErr};
     ghost use Rattle.outside_core.specs.Kept.{KeepsSink, HasCause, HasSinkCause};
     ghost use Rattle.sched_defs.specs.Packets.{most_packets};
+    ghost use Rattle.sched_run.specs.Heard.{heard_anyway, heard};
     ghost use Rattle.sched_run.specs.Frames.{IsSet, Continues, Stand, KeepsPackets, IsFurther};
     ghost use Rattle.events_core.specs.Script.{most_count};
     ghost use Rattle.sched_defs.specs.Events.{Depart};
@@ -36,10 +37,12 @@ impl<'a, C: Scheduler + Drop, N: NodeNames, W: Recorder> Run<'a, C, N, W> {
         requires few { C.departures self.old.scheduler + count < 2 ^ 61 }
         requires events { self.old.tally.came + self.old.tally.asked + count < 2 ^ 61 }
 
-        ensures ok { OnOk result ((given : ℕ) → Makes C.Scheduler W.Recorder (C.policy self.old.scheduler) (replicate count (Depart None))
+        ensures ok { OnOk result ((given : ℕ) →
+            Makes C.Scheduler (heard_anyway W.Recorder) (C.policy self.old.scheduler) (replicate count (Depart None))
             (stage_of self.old under.old (K.written sink.old) given (sight_of T.kind_of T.state_of watch.old))
             (stage_of self.new under.new (K.written sink.new) given (sight_of T.kind_of T.state_of watch.new))) }
-        ensures err { OnErr result ((given : ℕ) → Stops C.Scheduler W.Recorder (C.policy self.old.scheduler) (replicate count (Depart None))
+        ensures err { OnErr result ((given : ℕ) →
+            Stops C.Scheduler (heard_anyway W.Recorder) (C.policy self.old.scheduler) (replicate count (Depart None))
             (stage_of self.old under.old (K.written sink.old) given
             (sight_of T.kind_of T.state_of watch.old)) self.new.scheduler under.new (K.written sink.new)) }
         ensures came { self.new.tally.came ≡ self.old.tally.came }
@@ -72,13 +75,15 @@ impl<'a, C: Scheduler + Drop, N: NodeNames, W: Recorder> Run<'a, C, N, W> {
         requires counts { HasRoomFor C.Scheduler self.old (P.given packets.old) }
         requires short { asked_by (step_of step) ≤ most_count }
 
-        ensures ok { IfOk result (λ e. Turns C.Scheduler W.Recorder (C.policy self.old.scheduler) (step_of step) e
+        ensures ok { IfOk result (λ e.
+            Turns C.Scheduler (heard W.Recorder (P.captures packets.old source.old)) (C.policy self.old.scheduler) (step_of step) e
             (P.left packets.old source.old) (P.left packets.new source.new)
             (stage_of self.old under.old (K.written sink.old) (P.given packets.old)
             (sight_of T.kind_of T.state_of watch.old))
             (stage_of self.new under.new (K.written sink.new) (P.given packets.new)
             (sight_of T.kind_of T.state_of watch.new))) }
-        ensures err { OnErr result (StopsAmid C.Scheduler W.Recorder (C.policy self.old.scheduler)
+        ensures err { OnErr result (
+            StopsAmid C.Scheduler (heard W.Recorder (P.captures packets.old source.old)) (C.policy self.old.scheduler)
             (λ l s. step_events (step_of step) l.packets s) (P.left packets.old source.old)
             (stage_of self.old under.old (K.written sink.old) (P.given packets.old)
             (sight_of T.kind_of T.state_of watch.old)) self.new.scheduler under.new (K.written sink.new)) }
@@ -88,7 +93,7 @@ impl<'a, C: Scheduler + Drop, N: NodeNames, W: Recorder> Run<'a, C, N, W> {
         ensures kept_packets { KeepsPackets P.Packets packets.old packets.new source.old source.new }
         ensures cause { IfErr result (λ stop. HasCause stop P.faults source.old source.new K.faults sink.old sink.new) }
         ensures further { IfOk result (λ e. IfNone e (
-            IsFurther P.Packets packets.old packets.new source.new self.old.tally self.new.tally)) }
+            IsFurther P.Packets packets.old packets.new source.old source.new self.old.tally self.new.tally)) }
         ensures came { self.new.tally.came ≤ most_packets }
         ensures live { OnOk result (W.live self.new.recorder) }
     {

@@ -1,9 +1,9 @@
 //! A sum of the numbers of packets that left.
-ghost use Rattle.std.specs.Prelude.{◌≡◌, ⊤};
+ghost use Rattle.std.specs.Prelude.{◌≡◌, false};
 ghost use Rattle.sched_run.specs.Sums.{AddsUp, StaysUnwritten, sums_are_joined};
 
 use crate::recorder::Recorder;
-use outside_core::Sink;
+use outside_core::{Sink, Stop};
 use packet_defs::{Departed, Packet};
 use report_core::WriteFault;
 use std::marker::Model;
@@ -39,20 +39,23 @@ impl DepartureSum {
 }
 
 impl Recorder for DepartureSum {
-    ghost records = { AddsUp };
+    ghost records = { λ _. AddsUp };
 
-    ghost cuts = { StaysUnwritten };
+    ghost cuts = { λ _. StaysUnwritten };
 
     ghost live = { λ _. Unit {0} };
+
+    ghost over = { λ _. false };
 
     fn arrived<K: Sink>(
         &mut self,
         _sink: &mut K,
         _event: u64,
         _packet: &Packet,
+        _captured: &[u8],
         _leaf: &str,
         _ranks: &[u64],
-    ) -> Result<(), WriteFault> {
+    ) -> Result<(), Stop> {
         Ok(())
     }
 
@@ -84,5 +87,9 @@ impl Recorder for DepartureSum {
         Ok(())
     }
 
-    ghost joined = { sums_are_joined };
+    fn over(&self) -> bool {
+        false
+    }
+
+    ghost joined = { λ _. sums_are_joined };
 }

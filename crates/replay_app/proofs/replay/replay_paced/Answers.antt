@@ -1,3 +1,5 @@
+use Rattle.sched_capture.specs.Placements.{laid_by}
+use Rattle.replay_app.proofs.ForwardLaws.{forward_left}
 use Rattle.replay_app.proofs.replay.replay_paced.Goals as goal
 
 pub replay_script-requires-clause-lent : goal.replay_script-requires-clause-lent
@@ -20,3 +22,17 @@ returns-in-Link-clause-answer g c = rw c.in-Link.is (λ contents told. rw told.0
 
 pub returns-in-Link-clause-left : goal.returns-in-Link-clause-left
 returns-in-Link-clause-left g c = rw c.in-Link.is (λ contents told. rw told.0 at c.replay_capture.ensures.left)
+
+pub forward_capture-requires-clause-lent : goal.forward_capture-requires-clause-lent
+forward_capture-requires-clause-lent g c = (rw c.in-Forward.is at c.requires.lent).0
+
+pub forward_capture-requires-clause-rate : goal.forward_capture-requires-clause-rate
+forward_capture-requires-clause-rate g c = rw c.in-Forward.is at c.requires.rate
+
+pub returns-in-Forward-clause-answer : goal.returns-in-Forward-clause-answer
+returns-in-Forward-clause-answer g c = rw c.in-Forward.is (λ contents told. rw told.0 at c.forward_capture.ensures.answer)
+
+pub returns-in-Forward-clause-left : goal.returns-in-Forward-clause-left
+returns-in-Forward-clause-left g c =
+    rw c.in-Forward.is (λ contents told. forward_left c.args.policy.now (laid_by c.args.placement) c.in-Forward.rate g.F.Fabric _ _ (contents c.args.files.now.capture.now) c.forward_capture.result _
+    (rw told.0 at c.forward_capture.ensures.left))

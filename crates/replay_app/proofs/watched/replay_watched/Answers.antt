@@ -1,6 +1,7 @@
-use Rattle.std.proofs.Common.{◌≡◌, refl}
+use Rattle.std.proofs.Common.{◌≡◌, refl, inl, inr}
 use Rattle.tap_core.specs.Lists.{entries, named_entries}
 use Rattle.tap_core.specs.Watching.{Sight, sight_of}
+use Rattle.replay_app.specs.Words.{link, forward}
 use Rattle.replay_app.specs.Stages.{watching_in}
 use Rattle.replay_app.proofs.TapLaws.{script_left, link_left}
 use Rattle.replay_app.proofs.watched.replay_watched.Goals as goal
@@ -21,9 +22,15 @@ returns-in-Script-clause-left g c =
 
 pub returns-in-Link-clause-answer : goal.returns-in-Link-clause-answer
 returns-in-Link-clause-answer g c =
-    rw c.in-Link.is (rw (c.new-watch-in-Link.ensures.taps, c.new-in-Link.ensures.items) at (rw c.in-Link.is at c.replay_files.ensures.answer))
+    elim c.in-Link.is [
+      | inl e ↦ rw e.1 (rw (c.new-watch-in-Link.ensures.taps, c.new-in-Link.ensures.items) at (rw e.1 at c.replay_files.ensures.answer))
+      | inr e ↦ rw e.1 (rw (c.new-watch-in-Link.ensures.taps, c.new-in-Link.ensures.items) at (rw e.1 at c.replay_files.ensures.answer))
+    ]
 
 pub returns-in-Link-clause-left : goal.returns-in-Link-clause-left
 returns-in-Link-clause-left g c =
-    let left = rw (c.new-watch-in-Link.ensures.taps, c.new-in-Link.ensures.items) at (rw c.in-Link.is at c.replay_files.ensures.left) in
-    rw c.in-Link.is (λ contents told. link_left g.F.Fabric _ _ _ _ contents _ c.replay_files.result _ _ _ _ (left contents told))
+    let told = rw (c.new-watch-in-Link.ensures.taps, c.new-in-Link.ensures.items) at c.replay_files.ensures.left in
+    elim c.in-Link.is [
+      | inl e ↦ let left = rw e.1 at told in rw e.1 (λ contents known. link_left g.F.Fabric _ _ _ (link _) contents _ c.replay_files.result _ _ _ _ tt (left contents known))
+      | inr e ↦ let left = rw e.1 at told in rw e.1 (λ contents known. link_left g.F.Fabric _ _ _ (forward _) contents _ c.replay_files.result _ _ _ _ tt (left contents known))
+    ]

@@ -1,11 +1,11 @@
 use Rattle.std.proofs.Common.{[], refl, sym, ap, ◌∙◌, arith}
-use Rattle.std.proofs.lemmas.Option.{IfSome_then}
-use Rattle.std.proofs.lemmas.Result.{IfOk-weaker, on_err_weaker, err_from_is_err_and}
+use Rattle.std.proofs.lemmas.Result.{IfOk-weaker, err_from_is_err_and}
 use Rattle.report_core.proofs.WholeTexts.{nothing_written}
 use Rattle.sched_packets.specs.AnyArrivals.{left_of}
 use Rattle.sched_run.specs.Steps.{pace_of, IsNoPastLast, CanEndSo}
 use Rattle.sched_capture.specs.Answers.{paced_answer}
 use Rattle.sched_capture.proofs.FileRuns.{can_end, ending_of, text_of_file, part_of_file, watched_of_file, unwatched, sink_rose, source_rose}
+use Rattle.sched_capture.proofs.Refusals.{part_of_report}
 use Rattle.sched_embedded.specs.Embedded.{origin_of}
 use Rattle.sched_embedded.specs.Laid.{Laid}
 use Rattle.sched_run.proofs.JoinedEvents.{raised_nothing}
@@ -16,7 +16,8 @@ pub returns-in-Err-clause-ends : goal.returns-in-Err-clause-ends
 returns-in-Err-clause-ends g c = IfOk-weaker c.in-Err.answer IsNoPastLast (CanEndSo c.args.task.now.pace) (can_end c.args.task.now.pace) c.in-Err.ensures.at_capture
 
 pub returns-in-Err-clause-part : goal.returns-in-Err-clause-part
-returns-in-Err-clause-part g c = on_err_weaker c.in-Err.answer (λ all. IfSome_then (g.S.Shelf.content c.args.shelf.now c.args.task.now.capture.now) all (λ file each. each (pace_of c.args.task.now.pace))) c.in-Err.ensures.part
+returns-in-Err-clause-part g c =
+    part_of_report c.args.policy.now (pace_of c.args.task.now.pace) c.in-Err.answer (g.S.Shelf.content c.args.shelf.now c.args.task.now.capture.now) (g.K.Sink.written c.args.sink.now) (g.K.Sink.written c.begin.new.sink) c.in-Err.ensures.part
 
 pub returns-clause-fabric : goal.returns-clause-fabric
 returns-clause-fabric g c =

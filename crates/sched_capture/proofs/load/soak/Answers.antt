@@ -1,4 +1,4 @@
-use Rattle.std.proofs.Common.{refl, sym, ap, ◌∙◌, subst, ℕ, inr}
+use Rattle.std.proofs.Common.{[], refl, sym, ap, ◌∙◌, subst, ℕ, inr}
 use Rattle.std.proofs.lemmas.Result.{err_from_is_err_and}
 use Rattle.sched_defs.specs.SourceState.{start}
 use Rattle.sched_defs.specs.Events.{outcomes}
@@ -32,7 +32,7 @@ returns-clause-counts g c =
     let n = c.in-Ok.ensures in
     let runs = c.in_ok-run.ensures.scheduler in
     let made = made_from_start policy c.args.load.seed c.args.load.count c.in_ok-totals.ensures.ok (ap (λ s. policy_in s.own) runs ∙ n.policy) c.depth.ensures.accepted (subst (λ x. EmbeddedStands g.F.Fabric x c.new.new.fabric (start policy)) (sym runs) n.stands) in
-    let sum = c.sum.ensures ∙ c.recorder.ensures ∙ made.recorded.total
+    let sum = c.sum.ensures ∙ c.recorder.ensures ∙ (made.recorded (λ _. []) (λ _. refl)).total
     ∙ ap (λ (m : ℕ). sum_of m (outcomes policy (load_run policy c.args.load.seed c.args.load.count (start policy)) (start policy))) (c.in_ok-run.ensures.recorder ∙ c.new-2.ensures) in
     rw (made.pushed, made.popped, made.empty, sum) refl
 
@@ -42,7 +42,7 @@ returns-clause-unwritten g c =
     let n = c.in-Ok.ensures in
     let runs = c.in_ok-run.ensures.scheduler in
     let made = made_from_start policy c.args.load.seed c.args.load.count c.in_ok-totals.ensures.ok (ap (λ s. policy_in s.own) runs ∙ n.policy) c.depth.ensures.accepted (subst (λ x. EmbeddedStands g.F.Fabric x c.new.new.fabric (start policy)) (sym runs) n.stands) in
-    made.recorded.unwritten
+    (made.recorded (λ _. []) (λ _. refl)).unwritten
 
 pub returns-in_err-totals-clause-fabric_part : goal.returns-in_err-totals-clause-fabric_part
 returns-in_err-totals-clause-fabric_part g c =
@@ -67,4 +67,4 @@ returns-in_err-totals-clause-unwritten g c =
     let n = c.in-Ok.ensures in
     let runs = c.in_ok-run.ensures.scheduler in
     let some = stopped_from_start policy c.args.load.seed c.args.load.count c.in_err-totals.ensures.err (ap (λ s. policy_in s.own) runs ∙ n.policy) c.depth.ensures.accepted (subst (λ x. EmbeddedStands g.F.Fabric x c.new.new.fabric (start policy)) (sym runs) n.stands) in
-    some.cut
+    some.cut (λ _. []) (λ _. refl)

@@ -39,9 +39,9 @@ returns-in_err-departed-in-Some-clause-cut g c =
     let h : Left policy s c.in-Some.departed = left policy s c.in-Some.departed c.requires.accepted sound (c.in-Some.ensures.value s sound stood) in
     let named = named_leaf policy (g.N.NodeNames.policy c.args.names.now) h.leaver_is.digits c.in-Some.departed.leaf c.name-leaf.result.now c.requires.names h.leaf_is (ap (λ (z : Departed). z.leaf) h.told) c.name-leaf.ensures.name in
     let same = c.ranks.ensures.ranks ∙ ranks_left policy s c.in-Some.departed c.depart.new.trace h (c.in-Some.ensures.taken s sound stood) in
-    subst (λ (os : List Outcome). g.W.Recorder.cuts c.args.recorder.now (g.K.Sink.written c.args.sink.now) policy c.args.departure.event os (g.K.Sink.written c.departed.new.sink))
+    λ bytes any. subst (λ (os : List Outcome). g.W.Recorder.cuts bytes c.args.recorder.now (g.K.Sink.written c.args.sink.now) policy c.args.departure.event os (g.K.Sink.written c.departed.new.sink))
     (outcome_left policy s c.in-Some.departed c.ranks.result.now c.args.departure.start h same)
-    (c.in_err-departed-in-Some.ensures.cut policy h.leaver_is.packet h.leaver_is.digits (sym h.told) named))
+    (c.in_err-departed-in-Some.ensures.cut bytes policy h.leaver_is.packet h.leaver_is.digits (sym h.told) named))
 
 pub returns-in_ok-departed-in-Some-clause-recorded : goal.returns-in_ok-departed-in-Some-clause-recorded
 returns-in_ok-departed-in-Some-clause-recorded g c =
@@ -50,6 +50,6 @@ returns-in_ok-departed-in-Some-clause-recorded g c =
     let h : Left policy s c.in-Some.departed = left policy s c.in-Some.departed c.requires.accepted sound (c.in-Some.ensures.value s sound stood) in
     let named = named_leaf policy (g.N.NodeNames.policy c.args.names.now) h.leaver_is.digits c.in-Some.departed.leaf c.name-leaf.result.now c.requires.names h.leaf_is (ap (λ (z : Departed). z.leaf) h.told) c.name-leaf.ensures.name in
     let same = c.ranks.ensures.ranks ∙ ranks_left policy s c.in-Some.departed c.depart.new.trace h (c.in-Some.ensures.taken s sound stood) in
-    subst (λ (os : List Outcome). g.W.Recorder.records c.args.recorder.now (g.K.Sink.written c.args.sink.now) policy c.args.departure.event os c.departed.new.self (g.K.Sink.written c.departed.new.sink))
+    λ bytes any. subst (λ (os : List Outcome). g.W.Recorder.records bytes c.args.recorder.now (g.K.Sink.written c.args.sink.now) policy c.args.departure.event os c.departed.new.self (g.K.Sink.written c.departed.new.sink))
     (outcome_left policy s c.in-Some.departed c.ranks.result.now c.args.departure.start h same)
-    (c.in_ok-departed-in-Some.ensures.ok policy h.leaver_is.packet h.leaver_is.digits (sym h.told) named)
+    (c.in_ok-departed-in-Some.ensures.ok bytes policy h.leaver_is.packet h.leaver_is.digits (sym h.told) named)

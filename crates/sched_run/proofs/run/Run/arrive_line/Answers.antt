@@ -6,6 +6,8 @@ use Rattle.sched_defs.specs.SourceState.{class_of}
 use Rattle.sched_defs.specs.Events.{Arrive, Outcome}
 use Rattle.sched_run.proofs.JoinedEvents.{cut_none, made_arrival, made_all, made_some_none}
 use Rattle.sched_run.proofs.LineLaws.{arrives, arrival_few, named_leaf, answer_pushed, answer_dropped, outcome_pushed, outcome_dropped}
+use Rattle.sched_run.specs.Heard.{heard_with, IsCapturedAs}
+use Rattle.sched_run.proofs.HeardLaws.{heard-joined}
 use Rattle.sched_run.proofs.run.Run.arrive_line.Goals as goal
 
 pub returns-in_err-arrival-clause-err : goal.returns-in_err-arrival-clause-err
@@ -16,7 +18,7 @@ returns-in_err-arrival-clause-err g c =
     rw (p.1) (λ s sound stood. record {
       leaves = made_some_none S (S.policy c.args.self.now.scheduler) (Arrive c.args.packet.now ∷ []) s (c.in_err-arrival.ensures.err s sound stood)
           pushes c.in_err-arrival.ensures.departures c.in_err-arrival.ensures.origin c.in_err-arrival.ensures.spilled_stays;
-      cut = cut_none S g.W.Recorder g.met.W.Recorder.joined (S.policy c.args.self.now.scheduler) c.args.event (Arrive c.args.packet.now ∷ []) s c.args.self.now.recorder (g.K.Sink.written c.args.sink.now);
+      cut = cut_none S (heard_with g.W.Recorder c.args.packet.now c.args.captured.now) (heard-joined g.W.Recorder g.met.W.Recorder.joined (IsCapturedAs c.args.packet.now c.args.captured.now)) (S.policy c.args.self.now.scheduler) c.args.event (Arrive c.args.packet.now ∷ []) s c.args.self.now.recorder (g.K.Sink.written c.args.sink.now);
     })
 
 pub name-name-requires : goal.name-name-requires
@@ -77,9 +79,9 @@ returns-in_err-arrived-in-Pushed-clause-err g c =
     let a = answer_pushed policy c.args.packet.now s c.in-Pushed.leaf (rw c.in-Pushed.is at (e.answer s sound stood)) in
     record {
       leaves = made_all g.C.Scheduler policy (Arrive c.args.packet.now ∷ []) (made_arrival g.C.Scheduler policy c.in_ok-arrival.arrival (e.answer s sound stood) (e.ok s sound stood) e.pushes e.departures e.origin (e.spilled s sound stood));
-      cut = subst (λ (os : List Outcome). g.W.Recorder.cuts c.args.self.now.recorder (g.K.Sink.written c.args.sink.now) policy c.args.event os (g.K.Sink.written c.arrived.new.sink))
+      cut = λ bytes h. subst (λ (os : List Outcome). g.W.Recorder.cuts bytes c.args.self.now.recorder (g.K.Sink.written c.args.sink.now) policy c.args.event os (g.K.Sink.written c.arrived.new.sink))
           (outcome_pushed policy c.args.packet.now s c.ranks.result.now a.fullness (c.ranks.ensures.ranks ∙ ranks s sound stood))
-          (c.in_err-arrived-in-Pushed.ensures.cut policy (class_of policy c.args.packet.now).leaf named);
+          (c.in_err-arrived-in-Pushed.ensures.cut bytes policy (class_of policy c.args.packet.now).leaf h named);
     })
 
 pub returns-in_ok-arrived-in-Pushed-clause-ok : goal.returns-in_ok-arrived-in-Pushed-clause-ok
@@ -95,9 +97,9 @@ returns-in_ok-arrived-in-Pushed-clause-ok g c =
     let a = answer_pushed policy c.args.packet.now s c.in-Pushed.leaf (rw c.in-Pushed.is at (e.answer s sound stood)) in
     record {
       leaves = made_arrival g.C.Scheduler policy c.in_ok-arrival.arrival (e.answer s sound stood) (e.ok s sound stood) e.pushes e.departures e.origin (e.spilled s sound stood);
-      recorded = subst (λ (os : List Outcome). g.W.Recorder.records c.args.self.now.recorder (g.K.Sink.written c.args.sink.now) policy c.args.event os c.arrived.new.self (g.K.Sink.written c.arrived.new.sink))
+      recorded = λ bytes h. subst (λ (os : List Outcome). g.W.Recorder.records bytes c.args.self.now.recorder (g.K.Sink.written c.args.sink.now) policy c.args.event os c.arrived.new.self (g.K.Sink.written c.arrived.new.sink))
           (outcome_pushed policy c.args.packet.now s c.ranks.result.now a.fullness (c.ranks.ensures.ranks ∙ ranks s sound stood))
-          (c.in_ok-arrived-in-Pushed.ensures.ok policy (class_of policy c.args.packet.now).leaf named);
+          (c.in_ok-arrived-in-Pushed.ensures.ok bytes policy (class_of policy c.args.packet.now).leaf h named);
     }
 
 pub returns-in_err-dropped-in-Dropped-clause-err : goal.returns-in_err-dropped-in-Dropped-clause-err
@@ -113,9 +115,9 @@ returns-in_err-dropped-in-Dropped-clause-err g c =
     let a = answer_dropped policy c.args.packet.now s c.in-Dropped.leaf (rw c.in-Dropped.is at (e.answer s sound stood)) in
     record {
       leaves = made_all g.C.Scheduler policy (Arrive c.args.packet.now ∷ []) (made_arrival g.C.Scheduler policy c.in_ok-arrival.arrival (e.answer s sound stood) (e.ok s sound stood) e.pushes e.departures e.origin (e.spilled s sound stood));
-      cut = subst (λ (os : List Outcome). g.W.Recorder.cuts c.args.self.now.recorder (g.K.Sink.written c.args.sink.now) policy c.args.event os (g.K.Sink.written c.dropped.new.sink))
+      cut = λ bytes h. subst (λ (os : List Outcome). g.W.Recorder.cuts bytes c.args.self.now.recorder (g.K.Sink.written c.args.sink.now) policy c.args.event os (g.K.Sink.written c.dropped.new.sink))
           (outcome_dropped policy c.args.packet.now s a.fullness)
-          (c.in_err-dropped-in-Dropped.ensures.cut policy (class_of policy c.args.packet.now).leaf named);
+          (c.in_err-dropped-in-Dropped.ensures.cut bytes policy (class_of policy c.args.packet.now).leaf named);
     })
 
 pub returns-in_ok-dropped-in-Dropped-clause-ok : goal.returns-in_ok-dropped-in-Dropped-clause-ok
@@ -130,7 +132,7 @@ returns-in_ok-dropped-in-Dropped-clause-ok g c =
     let a = answer_dropped policy c.args.packet.now s c.in-Dropped.leaf (rw c.in-Dropped.is at (e.answer s sound stood)) in
     record {
       leaves = made_arrival g.C.Scheduler policy c.in_ok-arrival.arrival (e.answer s sound stood) (e.ok s sound stood) e.pushes e.departures e.origin (e.spilled s sound stood);
-      recorded = subst (λ (os : List Outcome). g.W.Recorder.records c.args.self.now.recorder (g.K.Sink.written c.args.sink.now) policy c.args.event os c.dropped.new.self (g.K.Sink.written c.dropped.new.sink))
+      recorded = λ bytes h. subst (λ (os : List Outcome). g.W.Recorder.records bytes c.args.self.now.recorder (g.K.Sink.written c.args.sink.now) policy c.args.event os c.dropped.new.self (g.K.Sink.written c.dropped.new.sink))
           (outcome_dropped policy c.args.packet.now s a.fullness)
-          (c.in_ok-dropped-in-Dropped.ensures.ok policy (class_of policy c.args.packet.now).leaf named);
+          (c.in_ok-dropped-in-Dropped.ensures.ok bytes policy (class_of policy c.args.packet.now).leaf named);
     }

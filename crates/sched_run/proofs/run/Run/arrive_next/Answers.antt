@@ -1,9 +1,12 @@
-use Rattle.std.proofs.Common.{[], ◌∷◌, refl, subst, arith}
+use Rattle.std.proofs.Common.{[], ◌∷◌, refl, subst, arith, ◌∙◌, sym}
 use Rattle.std.proofs.lemmas.Result.{err_from_is_err_and}
 use Rattle.policy_defs.specs.Policy.{Policy}
 use Rattle.sched_defs.specs.Numbered.{IsSendable}
 use Rattle.sched_run.proofs.MadeEvents.{can_arrive, makes_none, stops_none}
 use Rattle.sched_run.proofs.PacketsInTurn.{none_first, one_first}
+use Rattle.sched_run.specs.Heard.{heard, IsCapturedAs}
+use Rattle.sched_run.proofs.HeardLaws.{heard-joined, heard_gives, makes_so, stops_so}
+use Rattle.sched_defs.specs.Events.{Arrive}
 use Rattle.sched_run.proofs.run.Run.arrive_next.Goals as goal
 
 pub admit-requires-clause-stands : goal.admit-requires-clause-stands
@@ -18,11 +21,13 @@ returns-in_err-admit-in-Ok-Some-clause-err g c =
     let p = err_from_is_err_and c.from_residual.result c.from_residual.ensures.1 in
     let number = rw c.in-Ok-Some.field-0-is at c.in-Ok-Some.ensures.number in
     let sendable = subst (λ (q : Policy). IsSendable q c.in-Ok-Some.packet) c.requires.packets (rw c.in-Ok-Some.field-0-is at c.in-Ok-Some.ensures.sendable) in
+    let known = rw c.in-Ok-Some.field-0-is at c.in-Ok-Some.ensures.bytes in
     rw (p.1) (record {
       packets = c.in-Ok-Some.packet ∷ [];
       count = omega arith;
       first = one_first _ _ (c.in-Ok-Some.packet ∷ []) (rw c.in-Ok-Some.field-0-is at c.in-Ok-Some.ensures.came);
-      stop = c.in_err-admit-in-Ok-Some.ensures.err _ (record { numbered = (number, tt); sendable = (sendable, tt) });
+      stop = stops_so g.C.Scheduler (heard_gives g.W.Recorder (IsCapturedAs c.in-Ok-Some.packet c.captured.result.now) (g.P.Packets.captures c.args.packets.now c.args.source.now) (λ bytes are. known bytes are ∙ sym c.captured.ensures)) (g.C.Scheduler.policy c.args.self.now.scheduler)
+          (Arrive c.in-Ok-Some.packet ∷ []) _ _ _ _ (c.in_err-admit-in-Ok-Some.ensures.err _ (record { numbered = (number, tt); sendable = (sendable, tt) }));
     })
 
 pub returns-in_ok-admit-in-Ok-Some-clause-ok : goal.returns-in_ok-admit-in-Ok-Some-clause-ok
@@ -30,11 +35,13 @@ returns-in_ok-admit-in-Ok-Some-clause-ok g c =
     let number = rw c.in-Ok-Some.field-0-is at c.in-Ok-Some.ensures.number in
     let sendable = subst (λ (q : Policy). IsSendable q c.in-Ok-Some.packet) c.requires.packets (rw c.in-Ok-Some.field-0-is at c.in-Ok-Some.ensures.sendable) in
     let given = rw c.in-Ok-Some.field-0-is at c.in-Ok-Some.ensures.given in
+    let known = rw c.in-Ok-Some.field-0-is at c.in-Ok-Some.ensures.bytes in
     record {
       packets = c.in-Ok-Some.packet ∷ [];
       count = refl;
       came = rw c.in-Ok-Some.field-0-is at c.in-Ok-Some.ensures.came;
-      made = rw given (c.in_ok-admit-in-Ok-Some.ensures.ok _ (record { numbered = (number, tt); sendable = (sendable, tt) }));
+      made = makes_so g.C.Scheduler (heard_gives g.W.Recorder (IsCapturedAs c.in-Ok-Some.packet c.captured.result.now) (g.P.Packets.captures c.args.packets.now c.args.source.now) (λ bytes are. known bytes are ∙ sym c.captured.ensures)) (g.C.Scheduler.policy c.args.self.now.scheduler)
+          (Arrive c.in-Ok-Some.packet ∷ []) _ _ (rw given (c.in_ok-admit-in-Ok-Some.ensures.ok _ (record { numbered = (number, tt); sendable = (sendable, tt) })));
     }
 
 pub returns-in-Ok-None-clause-ok : goal.returns-in-Ok-None-clause-ok
@@ -42,7 +49,7 @@ returns-in-Ok-None-clause-ok g c = record {
   packets = [];
   count = omega arith;
   came = (c.event.ensures, rw c.in-Ok-None.field-0-is at c.in-Ok-None.ensures.none, rw c.in-Ok-None.field-0-is at c.in-Ok-None.ensures.over);
-  made = makes_none g.C.Scheduler g.W.Recorder g.met.W.Recorder.joined (g.C.Scheduler.policy c.args.self.now.scheduler) _ _ _ _ _ _ _ _;
+  made = makes_none g.C.Scheduler (heard g.W.Recorder (g.P.Packets.captures c.args.packets.now c.args.source.now)) (heard-joined g.W.Recorder g.met.W.Recorder.joined (g.P.Packets.captures c.args.packets.now c.args.source.now)) (g.C.Scheduler.policy c.args.self.now.scheduler) _ _ _ _ _ _ _ _;
 }
 
 pub returns-in-Err-Fault-clause-ok : goal.returns-in-Err-Fault-clause-ok
@@ -50,7 +57,7 @@ returns-in-Err-Fault-clause-ok g c = record {
   packets = [];
   count = omega arith;
   came = rw c.in-Err-Fault.field-0-is at c.in-Err-Fault.ensures.fault;
-  made = makes_none g.C.Scheduler g.W.Recorder g.met.W.Recorder.joined (g.C.Scheduler.policy c.args.self.now.scheduler) _ _ _ _ _ _ _ _;
+  made = makes_none g.C.Scheduler (heard g.W.Recorder (g.P.Packets.captures c.args.packets.now c.args.source.now)) (heard-joined g.W.Recorder g.met.W.Recorder.joined (g.P.Packets.captures c.args.packets.now c.args.source.now)) (g.C.Scheduler.policy c.args.self.now.scheduler) _ _ _ _ _ _ _ _;
 }
 
 pub returns-in-Err-Source-clause-err : goal.returns-in-Err-Source-clause-err
@@ -58,7 +65,7 @@ returns-in-Err-Source-clause-err g c = record {
   packets = [];
   count = omega arith;
   first = none_first (g.P.Packets.left c.args.packets.now c.args.source.now);
-  stop = stops_none g.C.Scheduler g.W.Recorder g.met.W.Recorder.joined (g.C.Scheduler.policy c.args.self.now.scheduler) _ _ _ _ _ _ _;
+  stop = stops_none g.C.Scheduler (heard g.W.Recorder (g.P.Packets.captures c.args.packets.now c.args.source.now)) (heard-joined g.W.Recorder g.met.W.Recorder.joined (g.P.Packets.captures c.args.packets.now c.args.source.now)) (g.C.Scheduler.policy c.args.self.now.scheduler) _ _ _ _ _ _ _;
 }
 
 pub returns-in-Err-Memory-clause-err : goal.returns-in-Err-Memory-clause-err
@@ -66,5 +73,5 @@ returns-in-Err-Memory-clause-err g c = record {
   packets = [];
   count = omega arith;
   first = none_first (g.P.Packets.left c.args.packets.now c.args.source.now);
-  stop = stops_none g.C.Scheduler g.W.Recorder g.met.W.Recorder.joined (g.C.Scheduler.policy c.args.self.now.scheduler) _ _ _ _ _ _ _;
+  stop = stops_none g.C.Scheduler (heard g.W.Recorder (g.P.Packets.captures c.args.packets.now c.args.source.now)) (heard-joined g.W.Recorder g.met.W.Recorder.joined (g.P.Packets.captures c.args.packets.now c.args.source.now)) (g.C.Scheduler.policy c.args.self.now.scheduler) _ _ _ _ _ _ _;
 }

@@ -1,51 +1,67 @@
 use Rattle.std.proofs.Common.{◌==◌, if◌then◌else◌, max, ℕ, refl, ap, ◌∙◌, arith}
-use Rattle.std.proofs.lemmas.Result.{err_from_is_err_and, on_ok_weaker, on_err_weaker}
-use Rattle.sched_run.proofs.LinkLaws.{turn_halts, turn_stands, turn_pushes, turn_goes, turn_stops}
+use Rattle.std.proofs.lemmas.Result.{err_from_is_err_and}
+use Rattle.sched_run.proofs.LinkLaws.{turn_halts, turn_first, turn_stands, turn_pushes, turn_goes, turn_stops}
 use Rattle.sched_run.proofs.MadeEvents.{held_more}
+use Rattle.sched_run.specs.Heard.{heard_with, IsCapturedAs, any_bytes}
+use Rattle.sched_run.proofs.HeardLaws.{heard-joined, heard_gives, sends_so, sends_amid_so, sends_first_so}
 use Rattle.sched_run.proofs.run.Run.arrive_paced.Goals as goal
 
-pub returns-in_err-send_until-clause-err : goal.returns-in_err-send_until-clause-err
-returns-in_err-send_until-clause-err g c =
+pub returns-in_err-over-clause-err : goal.returns-in_err-over-clause-err
+returns-in_err-over-clause-err g c =
     let p = err_from_is_err_and c.from_residual.result c.from_residual.ensures.1 in
     let S = g.C.Scheduler in
-    rw (p.1) (λ given number. turn_halts S g.W.Recorder g.met.W.Recorder.joined (S.policy c.args.self.now.scheduler) c.requires.set.accepted c.args.rate c.args.link.now c.args.packet.now c.max-moment.result _
-    (λ s sound stood below. c.max-moment.ensures ∙ ap (λ (n : ℕ). max n c.args.packet.now.moment) (c.now.ensures c.args.under.now s sound stood)) _ _ _ (c.in_err-send_until.ensures.err given))
+    rw (p.1) (λ given number. turn_halts S (heard_with g.W.Recorder c.args.packet.now c.args.captured.now) (heard-joined g.W.Recorder g.met.W.Recorder.joined (IsCapturedAs c.args.packet.now c.args.captured.now)) (S.policy c.args.self.now.scheduler) c.requires.set.accepted c.args.rate c.args.link.now c.args.packet.now c.max-moment.result _
+    (λ s sound stood below. c.max-moment.ensures ∙ ap (λ (n : ℕ). max n c.args.packet.now.moment) (c.now.ensures c.args.under.now s sound stood)) g.W.Recorder.over _ _ _
+    (sends_amid_so S (heard_gives g.W.Recorder any_bytes (IsCapturedAs c.args.packet.now c.args.captured.now) (λ bytes are. tt)) (S.policy c.args.self.now.scheduler) g.W.Recorder.over _ _ _ _ _ (c.in_err-over.ensures.err given)))
+
+pub returns-then-over-clause-ok : goal.returns-then-over-clause-ok
+returns-then-over-clause-ok g c =
+    let S = g.C.Scheduler in
+    let sends = rw c.if-over.true at c.in_ok-over.ensures.ok in
+    λ given number. turn_first S (heard_with g.W.Recorder c.args.packet.now c.args.captured.now) (heard-joined g.W.Recorder g.met.W.Recorder.joined (IsCapturedAs c.args.packet.now c.args.captured.now)) (S.policy c.args.self.now.scheduler) c.requires.set.accepted c.args.rate c.args.link.now c.args.packet.now c.max-moment.result _
+    (λ s sound stood below. c.max-moment.ensures ∙ ap (λ (n : ℕ). max n c.args.packet.now.moment) (c.now.ensures c.args.under.now s sound stood)) g.W.Recorder.over _
+    (sends_first_so S (heard_gives g.W.Recorder any_bytes (IsCapturedAs c.args.packet.now c.args.captured.now) (λ bytes are. tt)) (S.policy c.args.self.now.scheduler) g.W.Recorder.over _ _ _ (sends given))
 
 pub admit-requires-clause-stands : goal.admit-requires-clause-stands
 admit-requires-clause-stands g c =
     let S = g.C.Scheduler in
     let one = c.requires.stands in
-    let e = c.in_ok-send_until.ensures in
-    rw e.kept.policy (turn_stands S g.W.Recorder g.met.W.Recorder.joined (S.policy c.args.self.now.scheduler) c.requires.set.accepted c.args.rate c.args.link.now c.args.packet.now c.max-moment.result _
-    (λ s sound stood below. c.max-moment.ensures ∙ ap (λ (n : ℕ). max n c.args.packet.now.moment) (c.now.ensures c.args.under.now s sound stood)) _ _ refl e.came (e.ok one.has.1.number)
+    let e = c.in_ok-over.ensures in
+    let sends = rw c.if-over.false at e.ok in
+    rw e.kept.policy (turn_stands S (heard_with g.W.Recorder c.args.packet.now c.args.captured.now) (heard-joined g.W.Recorder g.met.W.Recorder.joined (IsCapturedAs c.args.packet.now c.args.captured.now)) (S.policy c.args.self.now.scheduler) c.requires.set.accepted c.args.rate c.args.link.now c.args.packet.now c.max-moment.result _
+    (λ s sound stood below. c.max-moment.ensures ∙ ap (λ (n : ℕ). max n c.args.packet.now.moment) (c.now.ensures c.args.under.now s sound stood)) _ _ refl e.came (sends_so S (heard_gives g.W.Recorder any_bytes (IsCapturedAs c.args.packet.now c.args.captured.now) (λ bytes are. tt)) (S.policy c.args.self.now.scheduler) _ _ _ _ (sends one.has.1.number))
     (record { state = one.state; sound = one.sound; stood = one.stood; has = (one.has.0, held_more _ _ one.has.1.below) }) c.requires.sendable)
 
 pub admit-requires-clause-few : goal.admit-requires-clause-few
 admit-requires-clause-few g c =
     let S = g.C.Scheduler in
     let one = c.requires.stands in
-    let e = c.in_ok-send_until.ensures in
-    let pushes = turn_pushes S g.W.Recorder g.met.W.Recorder.joined (S.policy c.args.self.now.scheduler) c.requires.set.accepted c.args.rate c.args.link.now c.args.packet.now c.max-moment.result _
-    (λ s sound stood below. c.max-moment.ensures ∙ ap (λ (n : ℕ). max n c.args.packet.now.moment) (c.now.ensures c.args.under.now s sound stood)) _ _ refl e.came (e.ok one.has.1.number)
+    let e = c.in_ok-over.ensures in
+    let sends = rw c.if-over.false at e.ok in
+    let pushes = turn_pushes S (heard_with g.W.Recorder c.args.packet.now c.args.captured.now) (heard-joined g.W.Recorder g.met.W.Recorder.joined (IsCapturedAs c.args.packet.now c.args.captured.now)) (S.policy c.args.self.now.scheduler) c.requires.set.accepted c.args.rate c.args.link.now c.args.packet.now c.max-moment.result _
+    (λ s sound stood below. c.max-moment.ensures ∙ ap (λ (n : ℕ). max n c.args.packet.now.moment) (c.now.ensures c.args.under.now s sound stood)) _ _ refl e.came (sends_so S (heard_gives g.W.Recorder any_bytes (IsCapturedAs c.args.packet.now c.args.captured.now) (λ bytes are. tt)) (S.policy c.args.self.now.scheduler) _ _ _ _ (sends one.has.1.number))
     (record { state = one.state; sound = one.sound; stood = one.stood; has = held_more _ _ one.has.1.below }) in
     omega (arith, pushes, c.requires.few)
 
 pub returns-clause-ok : goal.returns-clause-ok
 returns-clause-ok g c =
     let S = g.C.Scheduler in
-    let e = c.in_ok-send_until.ensures in
+    let e = c.in_ok-over.ensures in
+    let sends = rw c.if-over.false at e.ok in
     let held = rw e.kept.policy at (c.held.ensures c.send_until.new.under) in
-    let ok = rw e.kept.policy at c.admit.ensures.ok in
-    on_ok_weaker c.admit.result (λ all given number. turn_goes S g.W.Recorder g.met.W.Recorder.joined (S.policy c.args.self.now.scheduler) c.requires.set.accepted c.args.rate c.args.link.now c.args.packet.now c.max-moment.result _
-    (λ s sound stood below. c.max-moment.ensures ∙ ap (λ (n : ℕ). max n c.args.packet.now.moment) (c.now.ensures c.args.under.now s sound stood)) _ _ refl e.came (e.ok given) _ _
+    let arrives = rw e.kept.policy at c.in_ok-admit.ensures.ok in
+    λ given number. turn_goes S (heard_with g.W.Recorder c.args.packet.now c.args.captured.now) (heard-joined g.W.Recorder g.met.W.Recorder.joined (IsCapturedAs c.args.packet.now c.args.captured.now)) (S.policy c.args.self.now.scheduler) c.requires.set.accepted c.args.rate c.args.link.now c.args.packet.now c.max-moment.result _
+    (λ s sound stood below. c.max-moment.ensures ∙ ap (λ (n : ℕ). max n c.args.packet.now.moment) (c.now.ensures c.args.under.now s sound stood)) _ _ refl e.came (sends_so S (heard_gives g.W.Recorder any_bytes (IsCapturedAs c.args.packet.now c.args.captured.now) (λ bytes are. tt)) (S.policy c.args.self.now.scheduler) _ _ _ _ (sends given)) _ _
     (λ s sound stood below. c.idle_at.ensures ∙ ap (λ (n : ℕ). if n == 0 then max c.send_until.new.link c.max-moment.result else c.send_until.new.link) (held s sound stood))
-    (all given (record { numbered = (number, tt); sendable = (c.requires.sendable, tt) }))) ok
+    (arrives given (record { numbered = (number, tt); sendable = (c.requires.sendable, tt) }))
 
-pub returns-clause-err : goal.returns-clause-err
-returns-clause-err g c =
+pub returns-in_err-admit-clause-err : goal.returns-in_err-admit-clause-err
+returns-in_err-admit-clause-err g c =
+    let p = err_from_is_err_and c.from_residual-in_err-admit.result c.from_residual-in_err-admit.ensures.1 in
     let S = g.C.Scheduler in
-    let e = c.in_ok-send_until.ensures in
-    let err = rw e.kept.policy at c.admit.ensures.err in
-    on_err_weaker c.admit.result (λ all given number. turn_stops S g.W.Recorder g.met.W.Recorder.joined (S.policy c.args.self.now.scheduler) c.requires.set.accepted c.args.rate c.args.link.now c.args.packet.now c.max-moment.result _
-    (λ s sound stood below. c.max-moment.ensures ∙ ap (λ (n : ℕ). max n c.args.packet.now.moment) (c.now.ensures c.args.under.now s sound stood)) _ _ refl e.came (e.ok given) _ _ _
-    (all given (record { numbered = (number, tt); sendable = (c.requires.sendable, tt) }))) err
+    let e = c.in_ok-over.ensures in
+    let sends = rw c.if-over.false at e.ok in
+    let stop = rw e.kept.policy at c.in_err-admit.ensures.err in
+    rw (p.1) (λ given number. turn_stops S (heard_with g.W.Recorder c.args.packet.now c.args.captured.now) (heard-joined g.W.Recorder g.met.W.Recorder.joined (IsCapturedAs c.args.packet.now c.args.captured.now)) (S.policy c.args.self.now.scheduler) c.requires.set.accepted c.args.rate c.args.link.now c.args.packet.now c.max-moment.result _
+    (λ s sound stood below. c.max-moment.ensures ∙ ap (λ (n : ℕ). max n c.args.packet.now.moment) (c.now.ensures c.args.under.now s sound stood)) _ _ refl e.came (sends_so S (heard_gives g.W.Recorder any_bytes (IsCapturedAs c.args.packet.now c.args.captured.now) (λ bytes are. tt)) (S.policy c.args.self.now.scheduler) _ _ _ _ (sends given)) g.W.Recorder.over _ _ _ (e.over ∙ c.if-over.false)
+    (stop given (record { numbered = (number, tt); sendable = (c.requires.sendable, tt) })))

@@ -4,6 +4,7 @@ use Rattle.tap_core.specs.Watching.{sight_of, AreNoMore}
 use Rattle.sched_run.specs.Stages.{stage_of}
 use Rattle.sched_run.specs.Frames.{Continues, KeepsPackets, IsFurther}
 use Rattle.sched_run.specs.Turns.{Arrives}
+use Rattle.sched_run.specs.Heard.{heard}
 use Rattle.sched_run.proofs.run.Run.arrive_rest.Given as goal
 
 abbrev pub invariant-loop-ending : goal.invariant-loop-ending
@@ -13,10 +14,10 @@ invariant-loop-ending g l =
     let written = g.K.Sink.written in
     let sight = sight_of g.T.Tap.kind_of g.T.Tap.state_of in
     record {
-      arrives : (n : ℕ) × Arrives S g.W.Recorder (S.policy l.fn.self.scheduler) n None (P.left l.fn.packets l.fn.source) (P.left l.packets l.source)
+      arrives : (n : ℕ) × Arrives S (heard g.W.Recorder (P.captures l.fn.packets l.fn.source)) (S.policy l.fn.self.scheduler) n None (P.left l.fn.packets l.fn.source) (P.left l.packets l.source)
           (stage_of l.fn.self l.fn.under (written l.fn.sink) (P.given l.fn.packets) (sight l.fn.watch))
           (stage_of l.self l.under (written l.sink) (P.given l.packets) (sight l.watch));
-      further : IsFurther P l.fn.packets l.packets l.source l.fn.self.tally l.self.tally;
+      further : IsFurther P l.fn.packets l.packets l.fn.source l.source l.fn.self.tally l.self.tally;
       kept : Continues S l.fn.self l.self;
       fewer : AreNoMore (sight l.fn.watch) (sight l.watch);
       kept_sink : KeepsSink written g.K.Sink.faults l.fn.sink l.sink;

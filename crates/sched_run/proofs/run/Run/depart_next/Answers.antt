@@ -3,6 +3,8 @@ use Rattle.std.proofs.lemmas.Result.{err_from_is_err_and}
 use Rattle.sched_defs.specs.Events.{Depart}
 use Rattle.sched_run.proofs.JoinedEvents.{made_departure, made_all}
 use Rattle.sched_run.proofs.MadeEvents.{stops_here}
+use Rattle.sched_run.specs.Heard.{heard_anyway, any_bytes}
+use Rattle.sched_run.proofs.HeardLaws.{heard-joined}
 use Rattle.sched_run.proofs.run.Run.depart_next.Goals as goal
 
 pub returns-in_err-departed-clause-err : goal.returns-in_err-departed-clause-err
@@ -26,7 +28,7 @@ returns-in_err-show_departure-clause-err g c =
     let S = g.C.Scheduler in
     let policy = S.policy c.args.self.now.scheduler in
     let e = c.in_ok-departed.ensures in
-    rw (p.1) (λ given. stops_here S g.W.Recorder g.met.W.Recorder.joined policy (Depart c.args.start ∷ []) _ _ _ _ _ (record { numbered = tt; sendable = tt })
+    rw (p.1) (λ given. stops_here S (heard_anyway g.W.Recorder) (heard-joined g.W.Recorder g.met.W.Recorder.joined any_bytes) policy (Depart c.args.start ∷ []) _ _ _ _ _ (record { numbered = tt; sendable = tt })
     (λ s sound stood below. record {
       leaves = made_departure S policy c.args.start (e.state s sound stood) e.asked.pushes e.asked.departures e.asked.origin e.asked.spilled;
       recorded = rw c.event-event.ensures at (e.recorded s sound stood);

@@ -8,6 +8,8 @@ use Rattle.sched_run.proofs.FrameLaws.{continues_then}
 use Rattle.sched_run.proofs.LoadLaws.{is_drawn, load_room, load_arrivals, load_arrivals-more, load_goes, load_stops}
 use Rattle.sched_run.proofs.MadeEvents.{makes_none}
 use Rattle.sched_run.proofs.PacketsInTurn.{one_after}
+use Rattle.sched_run.specs.Heard.{heard_without, no_bytes}
+use Rattle.sched_run.proofs.HeardLaws.{heard-joined}
 use Rattle.sched_run.proofs.run.Run.play_drawings.Goals as goal
 
 pub loop-drawn-init : goal.loop-drawn-init
@@ -15,7 +17,7 @@ loop-drawn-init g c =
     let S = g.C.Scheduler in
     let is = c.new-drawing.ensures in
     record {
-      made = makes_none S g.W.Recorder g.met.W.Recorder.joined (S.policy c.args.self.now.scheduler) _ _ _ _ 0 0 _ _;
+      made = makes_none S (heard_without g.W.Recorder) (heard-joined g.W.Recorder g.met.W.Recorder.joined no_bytes) (S.policy c.args.self.now.scheduler) _ _ _ _ 0 0 _ _;
       drawing = is;
       number = ap (λ (d : Drawing). d.number) is;
       moment = omega (arith, ap (λ (d : Drawing). d.moment) is);
@@ -30,7 +32,7 @@ play_drawn-requires-clause-stands g c =
     let S = g.C.Scheduler in
     let i = c.loop-drawn.invariant in
     let one = c.requires.stands in
-    let at = one_after S g.W.Recorder g.met.W.Recorder.joined (S.policy c.args.self.now.scheduler) c.requires.set.accepted (load_events c.loop-drawn._drawn (first_drawing c.args.seed)) _ _ (omega (arith, i.made.came)) i.made
+    let at = one_after S (heard_without g.W.Recorder) (heard-joined g.W.Recorder g.met.W.Recorder.joined no_bytes) (S.policy c.args.self.now.scheduler) c.requires.set.accepted (load_events c.loop-drawn._drawn (first_drawing c.args.seed)) _ _ (omega (arith, i.made.came)) i.made
     (record { state = one.state; sound = one.sound; stood = one.stood; has = one.has.held }) in
     rw i.kept.policy (record { state = at.state; sound = at.sound; stood = at.stood; has = subst (λ (n : ℕ). IsHeldBelow n at.state.held) (sym i.number) at.has })
 
@@ -44,24 +46,24 @@ play_drawn-requires-clause-few g c =
 pub play_drawn-requires-clause-pushes : goal.play_drawn-requires-clause-pushes
 play_drawn-requires-clause-pushes g c =
     let S = g.C.Scheduler in
-    (load_room S g.W.Recorder g.met.W.Recorder.joined (S.policy c.args.self.now.scheduler) c.requires.set.accepted c.loop-drawn._drawn (first_drawing c.args.seed) _ _ (omega (arith, c.loop-drawn-test.true, c.requires.short)) c.requires.fresh c.requires.pushes c.requires.departures c.loop-drawn.invariant.made c.requires.stands).pushes_fit
+    (load_room S (heard_without g.W.Recorder) (heard-joined g.W.Recorder g.met.W.Recorder.joined no_bytes) (S.policy c.args.self.now.scheduler) c.requires.set.accepted c.loop-drawn._drawn (first_drawing c.args.seed) _ _ (omega (arith, c.loop-drawn-test.true, c.requires.short)) c.requires.fresh c.requires.pushes c.requires.departures c.loop-drawn.invariant.made c.requires.stands).pushes_fit
 
 pub play_drawn-requires-clause-departures : goal.play_drawn-requires-clause-departures
 play_drawn-requires-clause-departures g c =
     let S = g.C.Scheduler in
-    let room = load_room S g.W.Recorder g.met.W.Recorder.joined (S.policy c.args.self.now.scheduler) c.requires.set.accepted c.loop-drawn._drawn (first_drawing c.args.seed) _ _ (omega (arith, c.loop-drawn-test.true, c.requires.short)) c.requires.fresh c.requires.pushes c.requires.departures c.loop-drawn.invariant.made c.requires.stands in
+    let room = load_room S (heard_without g.W.Recorder) (heard-joined g.W.Recorder g.met.W.Recorder.joined no_bytes) (S.policy c.args.self.now.scheduler) c.requires.set.accepted c.loop-drawn._drawn (first_drawing c.args.seed) _ _ (omega (arith, c.loop-drawn-test.true, c.requires.short)) c.requires.fresh c.requires.pushes c.requires.departures c.loop-drawn.invariant.made c.requires.stands in
     omega (arith, room.departures_fit)
 
 pub play_drawn-requires-clause-events : goal.play_drawn-requires-clause-events
 play_drawn-requires-clause-events g c =
     let S = g.C.Scheduler in
-    let room = load_room S g.W.Recorder g.met.W.Recorder.joined (S.policy c.args.self.now.scheduler) c.requires.set.accepted c.loop-drawn._drawn (first_drawing c.args.seed) _ _ (omega (arith, c.loop-drawn-test.true, c.requires.short)) c.requires.fresh c.requires.pushes c.requires.departures c.loop-drawn.invariant.made c.requires.stands in
+    let room = load_room S (heard_without g.W.Recorder) (heard-joined g.W.Recorder g.met.W.Recorder.joined no_bytes) (S.policy c.args.self.now.scheduler) c.requires.set.accepted c.loop-drawn._drawn (first_drawing c.args.seed) _ _ (omega (arith, c.loop-drawn-test.true, c.requires.short)) c.requires.fresh c.requires.pushes c.requires.departures c.loop-drawn.invariant.made c.requires.stands in
     omega (arith, room.events)
 
 pub play_drawn-requires-clause-dropped : goal.play_drawn-requires-clause-dropped
 play_drawn-requires-clause-dropped g c =
     let S = g.C.Scheduler in
-    (load_room S g.W.Recorder g.met.W.Recorder.joined (S.policy c.args.self.now.scheduler) c.requires.set.accepted c.loop-drawn._drawn (first_drawing c.args.seed) _ _ (omega (arith, c.loop-drawn-test.true, c.requires.short)) c.requires.fresh c.requires.pushes c.requires.departures c.loop-drawn.invariant.made c.requires.stands).dropped
+    (load_room S (heard_without g.W.Recorder) (heard-joined g.W.Recorder g.met.W.Recorder.joined no_bytes) (S.policy c.args.self.now.scheduler) c.requires.set.accepted c.loop-drawn._drawn (first_drawing c.args.seed) _ _ (omega (arith, c.loop-drawn-test.true, c.requires.short)) c.requires.fresh c.requires.pushes c.requires.departures c.loop-drawn.invariant.made c.requires.stands).dropped
 
 pub returns-in_err-play_drawn-clause-err : goal.returns-in_err-play_drawn-clause-err
 returns-in_err-play_drawn-clause-err g c =
@@ -69,7 +71,7 @@ returns-in_err-play_drawn-clause-err g c =
     let S = g.C.Scheduler in
     let i = c.loop-drawn.invariant in
     let stop = rw i.kept.policy at c.in_err-play_drawn.ensures.err in
-    rw (p.1) (load_stops S g.W.Recorder g.met.W.Recorder.joined (S.policy c.args.self.now.scheduler) c.requires.set.accepted c.loop-drawn._drawn c.args.count (first_drawing c.args.seed) c.loop-drawn.drawing _ _ _ _ _ c.loop-drawn-test.true c.requires.classes (omega (arith, c.requires.short)) refl i.drawing (omega arith) i.made
+    rw (p.1) (load_stops S (heard_without g.W.Recorder) (heard-joined g.W.Recorder g.met.W.Recorder.joined no_bytes) (S.policy c.args.self.now.scheduler) c.requires.set.accepted c.loop-drawn._drawn c.args.count (first_drawing c.args.seed) c.loop-drawn.drawing _ _ _ _ _ c.loop-drawn-test.true c.requires.classes (omega (arith, c.requires.short)) refl i.drawing (omega arith) i.made
     (stop _ i.number))
 
 pub loop-drawn-preserved : goal.loop-drawn-preserved
@@ -82,7 +84,7 @@ loop-drawn-preserved g c =
     let one = is_drawn c.loop-drawn.drawing in
     let next : c.play_drawn.new.drawing ≡ load_next c.loop-drawn.drawing = e.next in
     record {
-      made = load_goes S g.W.Recorder g.met.W.Recorder.joined (S.policy c.args.self.now.scheduler) c.requires.set.accepted c.loop-drawn._drawn d c.loop-drawn.drawing _ _ _ _ _ _ _ _ _ _ i.drawing (omega arith) i.made (made _ i.number);
+      made = load_goes S (heard_without g.W.Recorder) (heard-joined g.W.Recorder g.met.W.Recorder.joined no_bytes) (S.policy c.args.self.now.scheduler) c.requires.set.accepted c.loop-drawn._drawn d c.loop-drawn.drawing _ _ _ _ _ _ _ _ _ _ i.drawing (omega arith) i.made (made _ i.number);
       drawing = rw (add-one c.loop-drawn._drawn) (next ∙ ap (λ (x : Drawing). load_next x) i.drawing);
       number = omega (arith, ap (λ (x : Drawing). x.number) next, one.number, i.number, load_arrivals-more c.loop-drawn._drawn d c.loop-drawn.drawing i.drawing);
       moment = omega (arith, ap (λ (x : Drawing). x.moment) next, one.moment, i.moment);

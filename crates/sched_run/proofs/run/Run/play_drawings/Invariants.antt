@@ -5,6 +5,7 @@ use Rattle.sched_run.specs.Frames.{Continues}
 use Rattle.sched_run.specs.Load.{load_events, first_drawing}
 use Rattle.sched_run.specs.Stages.{stage_of, arrivals_in, Makes}
 use Rattle.sched_run.proofs.LoadLaws.{load_after}
+use Rattle.sched_run.specs.Heard.{heard_without}
 use Rattle.sched_run.proofs.run.Run.play_drawings.Given as goal
 
 abbrev pub invariant-loop-drawn : goal.invariant-loop-drawn
@@ -13,7 +14,7 @@ invariant-loop-drawn g l =
     let written = g.K.Sink.written in
     let sight = sight_of g.T.Tap.kind_of g.T.Tap.state_of in
     record {
-      made : Makes S g.W.Recorder (S.policy l.fn.self.scheduler) (load_events l._drawn (first_drawing l.seed))
+      made : Makes S (heard_without g.W.Recorder) (S.policy l.fn.self.scheduler) (load_events l._drawn (first_drawing l.seed))
           (stage_of l.fn.self l.fn.under (written l.fn.sink) 0 (sight l.fn.watch))
           (stage_of l.self l.under (written l.sink) (arrivals_in (load_events l._drawn (first_drawing l.seed))) (sight l.watch));
       drawing : l.drawing ≡ load_after l._drawn (first_drawing l.seed);

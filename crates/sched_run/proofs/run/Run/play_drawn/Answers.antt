@@ -1,10 +1,12 @@
 use Rattle.std.proofs.Common.{◌≡◌, ◌+◌, ℕ, None, [], ◌∷◌, sym, subst, arith}
 use Rattle.std.specs.Prelude.{OnOk, OnErr}
 use Rattle.std.proofs.lemmas.Result.{err_from_is_err_and, on_ok_weaker, on_err_weaker}
-use Rattle.sched_defs.specs.Events.{Event, Depart}
+use Rattle.sched_defs.specs.Events.{Event, Depart, Arrive}
 use Rattle.tap_core.specs.Watching.{sight_of}
 use Rattle.sched_run.specs.Stages.{stage_of, packets_in, arrivals_in, AreNext, Makes, Stops}
 use Rattle.sched_run.proofs.LoadLaws.{event_next, drawn_can_arrive}
+use Rattle.sched_run.specs.Heard.{heard_without, any_bytes, no_bytes, IsCapturedAs}
+use Rattle.sched_run.proofs.HeardLaws.{heard_gives, makes_so, stops_so}
 use Rattle.sched_run.proofs.run.Run.play_drawn.Goals as goal
 
 pub admit-requires-clause-stands : goal.admit-requires-clause-stands
@@ -22,32 +24,32 @@ returns-in-Some-clause-ok g c =
     let policy = g.C.Scheduler.policy c.args.self.now.scheduler in
     let sight = sight_of g.T.Tap.kind_of g.T.Tap.state_of in
     let is = c.in-Some.ensures.event in
-    subst (λ (e : Event). OnOk c.admit.result ((given : ℕ) → c.args.drawing.now.number ≡ given + 1 → Makes g.C.Scheduler g.W.Recorder policy (e ∷ [])
+    subst (λ (e : Event). OnOk c.admit.result ((given : ℕ) → c.args.drawing.now.number ≡ given + 1 → Makes g.C.Scheduler (heard_without g.W.Recorder) policy (e ∷ [])
     (stage_of c.args.self.now c.args.under.now (g.K.Sink.written c.args.sink.now) given (sight c.args.watch.now))
     (stage_of c.admit.new.self c.admit.new.under (g.K.Sink.written c.admit.new.sink) (given + arrivals_in (e ∷ [])) (sight c.admit.new.watch)))) is
-    (on_ok_weaker c.admit.result (λ all given number. all given (subst (λ (e : Event). AreNext policy given (packets_in (e ∷ []))) (sym is)
-    (event_next policy c.args.drawing.now given c.requires.classes (omega (arith, c.requires.early)) number))) c.admit.ensures.ok)
+    (on_ok_weaker c.admit.result (λ all given number. makes_so g.C.Scheduler (heard_gives g.W.Recorder (IsCapturedAs c.in-Some.packet []) no_bytes (λ bytes none. none c.in-Some.packet.number)) policy (Arrive c.in-Some.packet ∷ []) _ _ (all given (subst (λ (e : Event). AreNext policy given (packets_in (e ∷ []))) (sym is)
+    (event_next policy c.args.drawing.now given c.requires.classes (omega (arith, c.requires.early)) number)))) c.admit.ensures.ok)
 
 pub returns-in-Some-clause-err : goal.returns-in-Some-clause-err
 returns-in-Some-clause-err g c =
     let policy = g.C.Scheduler.policy c.args.self.now.scheduler in
     let sight = sight_of g.T.Tap.kind_of g.T.Tap.state_of in
     let is = c.in-Some.ensures.event in
-    subst (λ (e : Event). OnErr c.admit.result ((given : ℕ) → c.args.drawing.now.number ≡ given + 1 → Stops g.C.Scheduler g.W.Recorder policy (e ∷ [])
+    subst (λ (e : Event). OnErr c.admit.result ((given : ℕ) → c.args.drawing.now.number ≡ given + 1 → Stops g.C.Scheduler (heard_without g.W.Recorder) policy (e ∷ [])
     (stage_of c.args.self.now c.args.under.now (g.K.Sink.written c.args.sink.now) given (sight c.args.watch.now))
     c.admit.new.self.scheduler c.admit.new.under (g.K.Sink.written c.admit.new.sink))) is
-    (on_err_weaker c.admit.result (λ all given number. all given (subst (λ (e : Event). AreNext policy given (packets_in (e ∷ []))) (sym is)
-    (event_next policy c.args.drawing.now given c.requires.classes (omega (arith, c.requires.early)) number))) c.admit.ensures.err)
+    (on_err_weaker c.admit.result (λ all given number. stops_so g.C.Scheduler (heard_gives g.W.Recorder (IsCapturedAs c.in-Some.packet []) no_bytes (λ bytes none. none c.in-Some.packet.number)) policy (Arrive c.in-Some.packet ∷ []) _ _ _ _ (all given (subst (λ (e : Event). AreNext policy given (packets_in (e ∷ []))) (sym is)
+    (event_next policy c.args.drawing.now given c.requires.classes (omega (arith, c.requires.early)) number)))) c.admit.ensures.err)
 
 pub returns-in_err-depart_next-in-None-clause-err : goal.returns-in_err-depart_next-in-None-clause-err
 returns-in_err-depart_next-in-None-clause-err g c =
     let p = err_from_is_err_and c.from_residual.result c.from_residual.ensures.1 in
     let policy = g.C.Scheduler.policy c.args.self.now.scheduler in
     let sight = sight_of g.T.Tap.kind_of g.T.Tap.state_of in
-    rw (p.1) (λ given number. subst (λ (e : Event). Stops g.C.Scheduler g.W.Recorder policy (e ∷ [])
+    rw (p.1) (λ given number. subst (λ (e : Event). Stops g.C.Scheduler (heard_without g.W.Recorder) policy (e ∷ [])
     (stage_of c.args.self.now c.args.under.now (g.K.Sink.written c.args.sink.now) given (sight c.args.watch.now))
     c.depart_next.new.self.scheduler c.depart_next.new.under (g.K.Sink.written c.depart_next.new.sink)) c.in-None.ensures.event
-    (c.in_err-depart_next-in-None.ensures.err given))
+    (stops_so g.C.Scheduler (heard_gives g.W.Recorder any_bytes no_bytes (λ bytes none. tt)) policy (Depart None ∷ []) _ _ _ _ (c.in_err-depart_next-in-None.ensures.err given)))
 
 pub returns-in_ok-depart_next-in-None-clause-ok : goal.returns-in_ok-depart_next-in-None-clause-ok
 returns-in_ok-depart_next-in-None-clause-ok g c =
@@ -55,10 +57,10 @@ returns-in_ok-depart_next-in-None-clause-ok g c =
     let sight = sight_of g.T.Tap.kind_of g.T.Tap.state_of in
     λ given number.
     let same : given ≡ given + 0 = omega arith in
-    subst (λ (e : Event). Makes g.C.Scheduler g.W.Recorder policy (e ∷ [])
+    subst (λ (e : Event). Makes g.C.Scheduler (heard_without g.W.Recorder) policy (e ∷ [])
     (stage_of c.args.self.now c.args.under.now (g.K.Sink.written c.args.sink.now) given (sight c.args.watch.now))
     (stage_of c.depart_next.new.self c.depart_next.new.under (g.K.Sink.written c.depart_next.new.sink) (given + arrivals_in (e ∷ [])) (sight c.depart_next.new.watch))) c.in-None.ensures.event
-    (subst (λ (n : ℕ). Makes g.C.Scheduler g.W.Recorder policy (Depart None ∷ [])
+    (subst (λ (n : ℕ). Makes g.C.Scheduler (heard_without g.W.Recorder) policy (Depart None ∷ [])
     (stage_of c.args.self.now c.args.under.now (g.K.Sink.written c.args.sink.now) given (sight c.args.watch.now))
     (stage_of c.depart_next.new.self c.depart_next.new.under (g.K.Sink.written c.depart_next.new.sink) n (sight c.depart_next.new.watch))) same
-    (c.in_ok-depart_next-in-None.ensures.ok given))
+    (makes_so g.C.Scheduler (heard_gives g.W.Recorder any_bytes no_bytes (λ bytes none. tt)) policy (Depart None ∷ []) _ _ (c.in_ok-depart_next-in-None.ensures.ok given)))

@@ -1,10 +1,12 @@
-use Rattle.std.proofs.Common.{◌≡◌, ◌+◌, ℕ, refl, sym, subst, arith}
+use Rattle.std.proofs.Common.{◌≡◌, ◌+◌, ℕ, refl, sym, subst, arith, ◌∙◌}
 use Rattle.std.proofs.lemmas.Result.{err_from_is_err_and}
 use Rattle.outside_core.proofs.KeptLaws.{sink-same, sink-then}
 use Rattle.sched_defs.specs.Numbered.{IsHeldBelow}
-use Rattle.sched_run.proofs.AgendaLaws.{run_halts, run_goes, run_ends, run_stops, run_ready, run_room}
+use Rattle.sched_run.proofs.AgendaLaws.{run_halts_going, run_goes, run_ends, run_breaks, run_first, run_ready, run_room}
 use Rattle.sched_run.proofs.FrameLaws.{continues_then, keeps_then}
-use Rattle.sched_run.proofs.LinkLaws.{same_sends, link_begins, link_goes, link_stops, link_drains, link_drain_stops}
+use Rattle.sched_run.proofs.LinkLaws.{same_sends, same_first, link_begins, link_goes, link_stops, link_first, link_drains, link_drain_stops, link_drain_first}
+use Rattle.sched_run.specs.Heard.{heard, any_bytes, IsCapturedAs}
+use Rattle.sched_run.proofs.HeardLaws.{heard-joined, heard_gives, sends_so, sends_first_so, sends_amid_so}
 use Rattle.sched_run.proofs.run.Run.play_link.Goals as goal
 
 pub loop-packet-init : goal.loop-packet-init
@@ -12,13 +14,14 @@ loop-packet-init g c =
     let S = g.C.Scheduler in
     let policy = S.policy c.args.self.now.scheduler in
     record {
-      run = link_begins S g.W.Recorder g.met.W.Recorder.joined policy c.args.rate c.new-link.result c.new-link.ensures _ _ _ _ _ _ _ _;
+      run = link_begins S (heard g.W.Recorder (g.P.Packets.captures c.args.packets.now c.args.source.now)) (heard-joined g.W.Recorder g.met.W.Recorder.joined (g.P.Packets.captures c.args.packets.now c.args.source.now)) policy c.args.rate c.new-link.result c.new-link.ensures _ _ _ _ _ _ _ _;
       early = omega (arith, c.new-link.ensures);
-      further = record { ready = c.requires.ready; given = refl; few = c.requires.counts.few };
+      further = record { ready = c.requires.ready; known = λ bytes are. are; given = refl; few = c.requires.counts.few };
       kept = record { policy = refl; origin = refl; names = refl; version = refl; room = refl };
       fewer = omega arith;
       kept_sink = sink-same _ _ _;
       kept_packets = record { policy = refl; later = omega arith };
+      going = c.requires.going;
       live = c.requires.set.live;
     }
 
@@ -27,7 +30,7 @@ arrive_paced-requires-clause-stands g c =
     let S = g.C.Scheduler in
     let i = c.loop-packet.invariant in
     let number = rw c.in-Ok-Some.field-0-is at c.in-Ok-Some.ensures.number in
-    let ready = run_ready S g.W.Recorder g.met.W.Recorder.joined (S.policy c.args.self.now.scheduler) c.requires.set.accepted _ _ _ _ _ _ _ _ i.further.given i.further.few c.requires.fresh (omega arith) c.requires.stands i.run in
+    let ready = run_ready S (heard g.W.Recorder (g.P.Packets.captures c.args.packets.now c.args.source.now)) (heard-joined g.W.Recorder g.met.W.Recorder.joined (g.P.Packets.captures c.args.packets.now c.args.source.now)) (S.policy c.args.self.now.scheduler) c.requires.set.accepted _ _ _ _ _ _ _ _ i.further.given i.further.few c.requires.fresh (omega arith) c.requires.stands i.run in
     rw i.kept.policy (record {
       state = ready.state;
       sound = ready.sound;
@@ -39,82 +42,86 @@ pub arrive_paced-requires-clause-counts : goal.arrive_paced-requires-clause-coun
 arrive_paced-requires-clause-counts g c =
     let S = g.C.Scheduler in
     let i = c.loop-packet.invariant in
-    let room = run_room S g.W.Recorder g.met.W.Recorder.joined (S.policy c.args.self.now.scheduler) c.requires.set.accepted _ _ _ _ _ _ _ _ i.further.given i.further.few c.requires.fresh (omega arith) c.requires.stands i.run c.requires.counts in
+    let room = run_room S (heard g.W.Recorder (g.P.Packets.captures c.args.packets.now c.args.source.now)) (heard-joined g.W.Recorder g.met.W.Recorder.joined (g.P.Packets.captures c.args.packets.now c.args.source.now)) (S.policy c.args.self.now.scheduler) c.requires.set.accepted _ _ _ _ _ _ _ _ i.further.given i.further.few c.requires.fresh (omega arith) c.requires.stands i.run c.requires.counts in
     record { departures_fit = room.departures_fit; few_asked = room.few_asked; few_came = omega (arith, room.came, room.few) }
 
 pub arrive_paced-requires-clause-few : goal.arrive_paced-requires-clause-few
 arrive_paced-requires-clause-few g c =
     let S = g.C.Scheduler in
     let i = c.loop-packet.invariant in
-    let room = run_room S g.W.Recorder g.met.W.Recorder.joined (S.policy c.args.self.now.scheduler) c.requires.set.accepted _ _ _ _ _ _ _ _ i.further.given i.further.few c.requires.fresh (omega arith) c.requires.stands i.run c.requires.counts in
+    let room = run_room S (heard g.W.Recorder (g.P.Packets.captures c.args.packets.now c.args.source.now)) (heard-joined g.W.Recorder g.met.W.Recorder.joined (g.P.Packets.captures c.args.packets.now c.args.source.now)) (S.policy c.args.self.now.scheduler) c.requires.set.accepted _ _ _ _ _ _ _ _ i.further.given i.further.few c.requires.fresh (omega arith) c.requires.stands i.run c.requires.counts in
     omega (arith, room.pushes_fit, room.came, room.few)
 
 pub arrive_paced-requires-clause-dropped : goal.arrive_paced-requires-clause-dropped
 arrive_paced-requires-clause-dropped g c =
     let S = g.C.Scheduler in
     let i = c.loop-packet.invariant in
-    (run_room S g.W.Recorder g.met.W.Recorder.joined (S.policy c.args.self.now.scheduler) c.requires.set.accepted _ _ _ _ _ _ _ _ i.further.given i.further.few c.requires.fresh (omega arith) c.requires.stands i.run c.requires.counts).dropped
+    (run_room S (heard g.W.Recorder (g.P.Packets.captures c.args.packets.now c.args.source.now)) (heard-joined g.W.Recorder g.met.W.Recorder.joined (g.P.Packets.captures c.args.packets.now c.args.source.now)) (S.policy c.args.self.now.scheduler) c.requires.set.accepted _ _ _ _ _ _ _ _ i.further.given i.further.few c.requires.fresh (omega arith) c.requires.stands i.run c.requires.counts).dropped
 
 pub loop-packet-preserved : goal.loop-packet-preserved
 loop-packet-preserved g c =
     let S = g.C.Scheduler in
     let policy = S.policy c.args.self.now.scheduler in
     let i = c.loop-packet.invariant in
-    let e = c.in_ok-arrive_paced-in-Ok-Some.ensures in
+    let e = c.in_ok-over-in-Ok-Some.ensures in
     let n = c.in-Ok-Some.ensures in
     let number = rw c.in-Ok-Some.field-0-is at n.number in
     let given : g.P.Packets.given c.next.new.self ≡ g.P.Packets.given c.loop-packet.packets + 1 = rw c.in-Ok-Some.field-0-is at n.given in
     let came = rw c.in-Ok-Some.field-0-is at n.came in
-    let sends = rw i.kept.policy at e.ok in
+    let known = rw c.in-Ok-Some.field-0-is at n.bytes in
+    let sends = rw (i.kept.policy, c.if-over.false) at e.ok in
+    let one_came = rw c.if-over.false at e.came in
     record {
-      run = run_goes S g.W.Recorder g.met.W.Recorder.joined policy c.requires.set.accepted _ _ _ _ _ _ _ _ i.further.given i.run _ _ _ _
-          (link_goes S g.W.Recorder policy c.args.rate c.loop-packet.link c.in-Ok-Some.packet c.arrive_paced.new.link _ _ _ _ came (same_sends S g.W.Recorder policy _ _ _ _ _ _ _ _ _ _ _ (sym given) (sends _ number)));
+      run = run_goes S (heard g.W.Recorder (g.P.Packets.captures c.args.packets.now c.args.source.now)) (heard-joined g.W.Recorder g.met.W.Recorder.joined (g.P.Packets.captures c.args.packets.now c.args.source.now)) policy c.requires.set.accepted _ _ _ _ _ _ _ _ i.further.given i.run _ _ _ _
+          (link_goes S (heard g.W.Recorder (g.P.Packets.captures c.args.packets.now c.args.source.now)) policy c.args.rate c.loop-packet.link c.in-Ok-Some.packet c.arrive_paced.new.link _ _ _ _ came (same_sends S (heard g.W.Recorder (g.P.Packets.captures c.args.packets.now c.args.source.now)) policy _ _ _ _ _ _ _ _ _ _ _ (sym given) (sends_so S (heard_gives g.W.Recorder (IsCapturedAs c.in-Ok-Some.packet c.captured-captured.result.now) (g.P.Packets.captures c.args.packets.now c.args.source.now) (λ bytes are. known bytes (i.further.known bytes are) ∙ sym c.captured-captured.ensures)) policy _ _ _ _ (sends _ number))));
       early = e.early;
-      further = record { ready = n.ready; given = omega (arith, i.further.given, given, e.came); few = n.few };
+      further = record { ready = n.ready; known = λ bytes are. n.known bytes (i.further.known bytes are); given = omega (arith, i.further.given, given, one_came); few = n.few };
       kept = continues_then S _ _ _ i.kept e.kept;
       fewer = omega (arith, i.fewer, e.fewer);
       kept_sink = sink-then _ _ _ _ _ i.kept_sink e.kept_sink;
       kept_packets = keeps_then g.P.Packets _ _ _ _ _ _ i.kept_packets (record { policy = n.policy; later = n.later });
+      going = e.over ∙ c.if-over.false;
       live = e.live;
     }
 
-pub returns-in_err-arrive_paced-in-Ok-Some-clause-err : goal.returns-in_err-arrive_paced-in-Ok-Some-clause-err
-returns-in_err-arrive_paced-in-Ok-Some-clause-err g c =
+pub returns-in_err-over-in-Ok-Some-clause-err : goal.returns-in_err-over-in-Ok-Some-clause-err
+returns-in_err-over-in-Ok-Some-clause-err g c =
     let p = err_from_is_err_and c.from_residual.result c.from_residual.ensures.1 in
     let S = g.C.Scheduler in
     let policy = S.policy c.args.self.now.scheduler in
     let i = c.loop-packet.invariant in
     let number = rw c.in-Ok-Some.field-0-is at c.in-Ok-Some.ensures.number in
     let came = rw c.in-Ok-Some.field-0-is at c.in-Ok-Some.ensures.came in
-    let amid = rw i.kept.policy at c.in_err-arrive_paced-in-Ok-Some.ensures.err in
-    rw (p.1) (run_stops S g.W.Recorder g.met.W.Recorder.joined policy c.requires.set.accepted _ _ _ _ _ _ _ _ i.further.given i.run _ _ _
-    (link_stops S g.W.Recorder policy c.args.rate c.loop-packet.link c.in-Ok-Some.packet _ _ _ _ _ _ came (amid _ number)))
+    let known = rw c.in-Ok-Some.field-0-is at c.in-Ok-Some.ensures.bytes in
+    let amid = rw i.kept.policy at c.in_err-over-in-Ok-Some.ensures.err in
+    rw (p.1) (run_breaks S (heard g.W.Recorder (g.P.Packets.captures c.args.packets.now c.args.source.now)) (heard-joined g.W.Recorder g.met.W.Recorder.joined (g.P.Packets.captures c.args.packets.now c.args.source.now)) policy c.requires.set.accepted _ _ _ _ _ _ _ _ i.further.given i.run g.W.Recorder.over _ _ _
+    (link_stops S (heard g.W.Recorder (g.P.Packets.captures c.args.packets.now c.args.source.now)) policy c.args.rate c.loop-packet.link g.W.Recorder.over c.in-Ok-Some.packet _ _ _ _ _ _ came (sends_amid_so S (heard_gives g.W.Recorder (IsCapturedAs c.in-Ok-Some.packet c.captured-captured.result.now) (g.P.Packets.captures c.args.packets.now c.args.source.now) (λ bytes are. known bytes (i.further.known bytes are) ∙ sym c.captured-captured.ensures)) policy g.W.Recorder.over _ _ _ _ _ (amid _ number))))
 
 pub send_until-requires-clause-stands : goal.send_until-requires-clause-stands
 send_until-requires-clause-stands g c =
     let S = g.C.Scheduler in
     let i = c.loop-packet.invariant in
-    let ready = run_ready S g.W.Recorder g.met.W.Recorder.joined (S.policy c.args.self.now.scheduler) c.requires.set.accepted _ _ _ _ _ _ _ _ i.further.given i.further.few c.requires.fresh (omega arith) c.requires.stands i.run in
+    let ready = run_ready S (heard g.W.Recorder (g.P.Packets.captures c.args.packets.now c.args.source.now)) (heard-joined g.W.Recorder g.met.W.Recorder.joined (g.P.Packets.captures c.args.packets.now c.args.source.now)) (S.policy c.args.self.now.scheduler) c.requires.set.accepted _ _ _ _ _ _ _ _ i.further.given i.further.few c.requires.fresh (omega arith) c.requires.stands i.run in
     rw i.kept.policy (record { state = ready.state; sound = ready.sound; stood = ready.stood; has = record { number = _; below = ready.has.held; few = ready.has.few } })
 
 pub send_until-requires-clause-counts : goal.send_until-requires-clause-counts
 send_until-requires-clause-counts g c =
     let S = g.C.Scheduler in
     let i = c.loop-packet.invariant in
-    let room = run_room S g.W.Recorder g.met.W.Recorder.joined (S.policy c.args.self.now.scheduler) c.requires.set.accepted _ _ _ _ _ _ _ _ i.further.given i.further.few c.requires.fresh (omega arith) c.requires.stands i.run c.requires.counts in
+    let room = run_room S (heard g.W.Recorder (g.P.Packets.captures c.args.packets.now c.args.source.now)) (heard-joined g.W.Recorder g.met.W.Recorder.joined (g.P.Packets.captures c.args.packets.now c.args.source.now)) (S.policy c.args.self.now.scheduler) c.requires.set.accepted _ _ _ _ _ _ _ _ i.further.given i.further.few c.requires.fresh (omega arith) c.requires.stands i.run c.requires.counts in
     record { departures_fit = room.departures_fit; few_asked = room.few_asked; few_came = omega (arith, room.came, room.few) }
 
-pub returns-in_err-send_until-in-Ok-None-clause-err : goal.returns-in_err-send_until-in-Ok-None-clause-err
-returns-in_err-send_until-in-Ok-None-clause-err g c =
-    let p = err_from_is_err_and c.from_residual-in_err-send_until-in-Ok-None.result c.from_residual-in_err-send_until-in-Ok-None.ensures.1 in
+pub returns-in_err-over-in-Ok-None-clause-err : goal.returns-in_err-over-in-Ok-None-clause-err
+returns-in_err-over-in-Ok-None-clause-err g c =
+    let p = err_from_is_err_and c.from_residual-in_err-over-in-Ok-None.result c.from_residual-in_err-over-in-Ok-None.ensures.1 in
     let S = g.C.Scheduler in
     let policy = S.policy c.args.self.now.scheduler in
     let i = c.loop-packet.invariant in
     let none = rw c.in-Ok-None.field-0-is at c.in-Ok-None.ensures.none in
     let over = rw c.in-Ok-None.field-0-is at c.in-Ok-None.ensures.over in
-    let amid = rw i.kept.policy at c.in_err-send_until-in-Ok-None.ensures.err in
-    rw (p.1) (run_stops S g.W.Recorder g.met.W.Recorder.joined policy c.requires.set.accepted _ _ _ _ _ _ _ _ i.further.given i.run _ _ _
-    (link_drain_stops S g.W.Recorder policy c.args.rate c.loop-packet.link _ _ _ _ _ _ none over (amid _)))
+    let amid = rw i.kept.policy at c.in_err-over-in-Ok-None.ensures.err in
+    rw (p.1) (run_breaks S (heard g.W.Recorder (g.P.Packets.captures c.args.packets.now c.args.source.now)) (heard-joined g.W.Recorder g.met.W.Recorder.joined (g.P.Packets.captures c.args.packets.now c.args.source.now)) policy c.requires.set.accepted _ _ _ _ _ _ _ _ i.further.given i.run g.W.Recorder.over _ _ _
+    (link_drain_stops S (heard g.W.Recorder (g.P.Packets.captures c.args.packets.now c.args.source.now)) policy c.args.rate c.loop-packet.link g.W.Recorder.over _ _ _ _ _ _ none over (sends_amid_so S (heard_gives g.W.Recorder any_bytes (g.P.Packets.captures c.args.packets.now c.args.source.now) (λ bytes are. tt)) policy g.W.Recorder.over _ _ _ _ _ (amid _))))
 
 pub returns-in-Ok-None-clause-ok : goal.returns-in-Ok-None-clause-ok
 returns-in-Ok-None-clause-ok g c =
@@ -124,14 +131,42 @@ returns-in-Ok-None-clause-ok g c =
     let none = rw c.in-Ok-None.field-0-is at c.in-Ok-None.ensures.none in
     let over = rw c.in-Ok-None.field-0-is at c.in-Ok-None.ensures.over in
     let given : g.P.Packets.given c.next.new.self ≡ g.P.Packets.given c.loop-packet.packets = (let e = rw c.in-Ok-None.field-0-is at c.in-Ok-None.ensures.given in omega (arith, e)) in
-    let sends = rw i.kept.policy at c.in_ok-send_until-in-Ok-None.ensures.ok in
-    run_ends S g.W.Recorder g.met.W.Recorder.joined policy c.requires.set.accepted _ _ _ _ _ _ _ _ i.further.given i.run _ _
-    (link_drains S g.W.Recorder policy c.args.rate c.loop-packet.link c.send_until.new.link _ _ _ _ none over (same_sends S g.W.Recorder policy _ _ _ _ _ _ _ _ _ _ _ (sym given) (sends _)))
+    let sends = rw (i.kept.policy, c.if-over-2.false) at c.in_ok-over-in-Ok-None.ensures.ok in
+    run_ends S (heard g.W.Recorder (g.P.Packets.captures c.args.packets.now c.args.source.now)) (heard-joined g.W.Recorder g.met.W.Recorder.joined (g.P.Packets.captures c.args.packets.now c.args.source.now)) policy c.requires.set.accepted _ _ _ _ _ _ _ _ i.further.given i.run _ _
+    (link_drains S (heard g.W.Recorder (g.P.Packets.captures c.args.packets.now c.args.source.now)) policy c.args.rate c.loop-packet.link c.send_until.new.link _ _ _ _ none over (same_sends S (heard g.W.Recorder (g.P.Packets.captures c.args.packets.now c.args.source.now)) policy _ _ _ _ _ _ _ _ _ _ _ (sym given) (sends_so S (heard_gives g.W.Recorder any_bytes (g.P.Packets.captures c.args.packets.now c.args.source.now) (λ bytes are. tt)) policy _ _ _ _ (sends _))))
 
 pub returns-in-Err-Source-clause-err : goal.returns-in-Err-Source-clause-err
 returns-in-Err-Source-clause-err g c =
-    run_halts g.C.Scheduler g.W.Recorder g.met.W.Recorder.joined (g.C.Scheduler.policy c.args.self.now.scheduler) _ _ _ _ _ _ _ _ _ c.loop-packet.self.recorder _ _ _ _ c.loop-packet.invariant.run
+    let i = c.loop-packet.invariant in
+    run_halts_going g.C.Scheduler (heard g.W.Recorder (g.P.Packets.captures c.args.packets.now c.args.source.now)) (heard-joined g.W.Recorder g.met.W.Recorder.joined (g.P.Packets.captures c.args.packets.now c.args.source.now)) (g.C.Scheduler.policy c.args.self.now.scheduler) c.requires.set.accepted _ _ _ _ _ _ _ _ i.further.given i.run g.W.Recorder.over i.going
 
 pub returns-in-Err-Memory-clause-err : goal.returns-in-Err-Memory-clause-err
 returns-in-Err-Memory-clause-err g c =
-    run_halts g.C.Scheduler g.W.Recorder g.met.W.Recorder.joined (g.C.Scheduler.policy c.args.self.now.scheduler) _ _ _ _ _ _ _ _ _ c.loop-packet.self.recorder _ _ _ _ c.loop-packet.invariant.run
+    let i = c.loop-packet.invariant in
+    run_halts_going g.C.Scheduler (heard g.W.Recorder (g.P.Packets.captures c.args.packets.now c.args.source.now)) (heard-joined g.W.Recorder g.met.W.Recorder.joined (g.P.Packets.captures c.args.packets.now c.args.source.now)) (g.C.Scheduler.policy c.args.self.now.scheduler) c.requires.set.accepted _ _ _ _ _ _ _ _ i.further.given i.run g.W.Recorder.over i.going
+
+-- nothing more can be recorded in the turn of a packet
+pub returns-then-over-clause-ok : goal.returns-then-over-clause-ok
+returns-then-over-clause-ok g c =
+    let S = g.C.Scheduler in
+    let policy = S.policy c.args.self.now.scheduler in
+    let i = c.loop-packet.invariant in
+    let e = c.in_ok-over-in-Ok-Some.ensures in
+    let number = rw c.in-Ok-Some.field-0-is at c.in-Ok-Some.ensures.number in
+    let came = rw c.in-Ok-Some.field-0-is at c.in-Ok-Some.ensures.came in
+    let known = rw c.in-Ok-Some.field-0-is at c.in-Ok-Some.ensures.bytes in
+    let sends = rw (i.kept.policy, c.if-over.true) at e.ok in
+    run_first S (heard g.W.Recorder (g.P.Packets.captures c.args.packets.now c.args.source.now)) (heard-joined g.W.Recorder g.met.W.Recorder.joined (g.P.Packets.captures c.args.packets.now c.args.source.now)) policy c.requires.set.accepted _ _ _ _ _ _ _ _ i.further.given i.run g.W.Recorder.over _
+    (link_first S (heard g.W.Recorder (g.P.Packets.captures c.args.packets.now c.args.source.now)) policy c.args.rate c.loop-packet.link g.W.Recorder.over c.in-Ok-Some.packet _ _ _ _ came (same_first S (heard g.W.Recorder (g.P.Packets.captures c.args.packets.now c.args.source.now)) (heard-joined g.W.Recorder g.met.W.Recorder.joined (g.P.Packets.captures c.args.packets.now c.args.source.now)) g.W.Recorder.over policy _ _ _ _ _ _ _ _ _ _ (sends_first_so S (heard_gives g.W.Recorder (IsCapturedAs c.in-Ok-Some.packet c.captured-captured.result.now) (g.P.Packets.captures c.args.packets.now c.args.source.now) (λ bytes are. known bytes (i.further.known bytes are) ∙ sym c.captured-captured.ensures)) policy g.W.Recorder.over _ _ _ (sends _ number))))
+
+-- nothing more can be recorded behind the last packet
+pub returns-then-over-2-clause-ok : goal.returns-then-over-2-clause-ok
+returns-then-over-2-clause-ok g c =
+    let S = g.C.Scheduler in
+    let policy = S.policy c.args.self.now.scheduler in
+    let i = c.loop-packet.invariant in
+    let none = rw c.in-Ok-None.field-0-is at c.in-Ok-None.ensures.none in
+    let over = rw c.in-Ok-None.field-0-is at c.in-Ok-None.ensures.over in
+    let sends = rw (i.kept.policy, c.if-over-2.true) at c.in_ok-over-in-Ok-None.ensures.ok in
+    run_first S (heard g.W.Recorder (g.P.Packets.captures c.args.packets.now c.args.source.now)) (heard-joined g.W.Recorder g.met.W.Recorder.joined (g.P.Packets.captures c.args.packets.now c.args.source.now)) policy c.requires.set.accepted _ _ _ _ _ _ _ _ i.further.given i.run g.W.Recorder.over _
+    (link_drain_first S (heard g.W.Recorder (g.P.Packets.captures c.args.packets.now c.args.source.now)) policy c.args.rate c.loop-packet.link g.W.Recorder.over _ _ _ _ none over (same_first S (heard g.W.Recorder (g.P.Packets.captures c.args.packets.now c.args.source.now)) (heard-joined g.W.Recorder g.met.W.Recorder.joined (g.P.Packets.captures c.args.packets.now c.args.source.now)) g.W.Recorder.over policy _ _ _ _ _ _ _ _ _ _ (sends_first_so S (heard_gives g.W.Recorder any_bytes (g.P.Packets.captures c.args.packets.now c.args.source.now) (λ bytes are. tt)) policy g.W.Recorder.over _ _ _ (sends _))))

@@ -1,4 +1,4 @@
-use Rattle.std.proofs.Common.{◌-◌}
+use Rattle.std.proofs.Common.{◌≡◌, ◌-◌, false}
 use Rattle.outside_core.specs.Kept.{KeepsSink}
 use Rattle.sched_run.specs.Courses.{link_agenda}
 use Rattle.sched_run.specs.Frames.{Continues, KeepsPackets, IsFurther}
@@ -6,6 +6,7 @@ use Rattle.sched_run.specs.Links.{IsEarly}
 use Rattle.tap_core.specs.Watching.{sight_of, AreNoMore}
 use Rattle.sched_run.specs.Stages.{stage_of}
 use Rattle.sched_run.proofs.AgendaLaws.{HasRun}
+use Rattle.sched_run.specs.Heard.{heard}
 use Rattle.sched_run.proofs.run.Run.play_link.Given as goal
 
 abbrev pub invariant-loop-packet : goal.invariant-loop-packet
@@ -15,16 +16,17 @@ invariant-loop-packet g l =
     let written = g.K.Sink.written in
     let sight = sight_of g.T.Tap.kind_of g.T.Tap.state_of in
     record {
-      run : HasRun S g.W.Recorder (S.policy l.fn.self.scheduler) (link_agenda (S.policy l.fn.self.scheduler) l.rate 0) (link_agenda (S.policy l.fn.self.scheduler) l.rate l.link) 0 0
+      run : HasRun S (heard g.W.Recorder (P.captures l.fn.packets l.fn.source)) (S.policy l.fn.self.scheduler) (link_agenda (S.policy l.fn.self.scheduler) l.rate 0) (link_agenda (S.policy l.fn.self.scheduler) l.rate l.link) 0 0
           (P.left l.fn.packets l.fn.source) (P.left l.packets l.source)
           (stage_of l.fn.self l.fn.under (written l.fn.sink) (P.given l.fn.packets) (sight l.fn.watch))
           (stage_of l.self l.under (written l.sink) (P.given l.packets) (sight l.watch));
       early : IsEarly l.link l.self.tally;
-      further : IsFurther P l.fn.packets l.packets l.source l.fn.self.tally l.self.tally;
+      further : IsFurther P l.fn.packets l.packets l.fn.source l.source l.fn.self.tally l.self.tally;
       kept : Continues S l.fn.self l.self;
       fewer : AreNoMore (sight l.fn.watch) (sight l.watch);
       kept_sink : KeepsSink written g.K.Sink.faults l.fn.sink l.sink;
       kept_packets : KeepsPackets P l.fn.packets l.packets l.fn.source l.source;
+      going : g.W.Recorder.over l.self.recorder ≡ false;
       live : g.W.Recorder.live l.self.recorder;
     }
 

@@ -10,12 +10,14 @@ use Rattle.sched_run.specs.Courses.{script_agenda}
 use Rattle.sched_run.specs.Stages.{event_of}
 use Rattle.sched_run.proofs.AgendaLaws.{run_none, run_over, run_halts, run_goes, run_ends, run_stops, run_ready, run_room}
 use Rattle.sched_run.proofs.CourseLaws.{step_goes, step_ends, step_stops, no_step}
+use Rattle.sched_run.specs.Heard.{heard}
+use Rattle.sched_run.proofs.HeardLaws.{heard-joined, heard_gives, turns_so, amid_so}
 use Rattle.sched_run.proofs.run.Run.play_steps.Goals as goal
 
 pub loop-step-init : goal.loop-step-init
 loop-step-init g c = record {
-  run = run_none g.C.Scheduler g.W.Recorder g.met.W.Recorder.joined (g.C.Scheduler.policy c.args.self.now.scheduler) (script_agenda (g.C.Scheduler.policy c.args.self.now.scheduler) c.args.steps.now) (counts_of c.args.steps.now) _ _ _ _ _ _ _ _;
-  further = record { ready = c.requires.ready; given = refl; few = c.requires.counts.few };
+  run = run_none g.C.Scheduler (heard g.W.Recorder (g.P.Packets.captures c.args.packets.now c.args.source.now)) (heard-joined g.W.Recorder g.met.W.Recorder.joined (g.P.Packets.captures c.args.packets.now c.args.source.now)) (g.C.Scheduler.policy c.args.self.now.scheduler) (script_agenda (g.C.Scheduler.policy c.args.self.now.scheduler) c.args.steps.now) (counts_of c.args.steps.now) _ _ _ _ _ _ _ _;
+  further = record { ready = c.requires.ready; known = λ bytes are. are; given = refl; few = c.requires.counts.few };
   kept = record { policy = refl; origin = refl; names = refl; version = refl; room = refl };
   fewer = omega arith;
   kept_sink = sink-same _ _ _;
@@ -27,13 +29,13 @@ pub play_step-requires-clause-stands : goal.play_step-requires-clause-stands
 play_step-requires-clause-stands g c =
     let S = g.C.Scheduler in
     let i = c.loop-step.invariant in
-    rw i.kept.policy (run_ready S g.W.Recorder g.met.W.Recorder.joined (S.policy c.args.self.now.scheduler) c.requires.set.accepted _ _ _ _ _ _ _ _ i.further.given i.further.few c.requires.fresh c.requires.short c.requires.stands i.run)
+    rw i.kept.policy (run_ready S (heard g.W.Recorder (g.P.Packets.captures c.args.packets.now c.args.source.now)) (heard-joined g.W.Recorder g.met.W.Recorder.joined (g.P.Packets.captures c.args.packets.now c.args.source.now)) (S.policy c.args.self.now.scheduler) c.requires.set.accepted _ _ _ _ _ _ _ _ i.further.given i.further.few c.requires.fresh c.requires.short c.requires.stands i.run)
 
 pub play_step-requires-clause-counts : goal.play_step-requires-clause-counts
 play_step-requires-clause-counts g c =
     let S = g.C.Scheduler in
     let i = c.loop-step.invariant in
-    run_room S g.W.Recorder g.met.W.Recorder.joined (S.policy c.args.self.now.scheduler) c.requires.set.accepted _ _ _ _ _ _ _ _ i.further.given i.further.few c.requires.fresh c.requires.short c.requires.stands i.run c.requires.counts
+    run_room S (heard g.W.Recorder (g.P.Packets.captures c.args.packets.now c.args.source.now)) (heard-joined g.W.Recorder g.met.W.Recorder.joined (g.P.Packets.captures c.args.packets.now c.args.source.now)) (S.policy c.args.self.now.scheduler) c.requires.set.accepted _ _ _ _ _ _ _ _ i.further.given i.further.few c.requires.fresh c.requires.short c.requires.stands i.run c.requires.counts
 
 pub returns-in_err-ending-clause-err : goal.returns-in_err-ending-clause-err
 returns-in_err-ending-clause-err g c =
@@ -42,10 +44,10 @@ returns-in_err-ending-clause-err g c =
     let i = c.loop-step.invariant in
     let below : c.loop-step.step-index < length c.args.steps.now = omega arith in
     let run = rw (drop-cons c.args.steps.now c.loop-step.step-index (Arrive 0) below) at i.run in
-    let stop = rw i.kept.policy at c.in_err-ending.ensures.err in
+    let stop = amid_so g.C.Scheduler (heard_gives g.W.Recorder (g.P.Packets.captures c.loop-step.packets c.loop-step.source) (g.P.Packets.captures c.args.packets.now c.args.source.now) i.further.known) (g.C.Scheduler.policy c.args.self.now.scheduler) _ _ _ _ _ _ (rw i.kept.policy at c.in_err-ending.ensures.err) in
     let rest = drop (suc c.loop-step.step-index) c.args.steps.now in
-    rw (p.1) (run_stops S g.W.Recorder g.met.W.Recorder.joined (S.policy c.args.self.now.scheduler) c.requires.set.accepted _ _ _ _ _ _ _ _ i.further.given run _ _ _
-    (step_stops S g.W.Recorder (S.policy c.args.self.now.scheduler) _ rest _ _ _ _ _ stop))
+    rw (p.1) (run_stops S (heard g.W.Recorder (g.P.Packets.captures c.args.packets.now c.args.source.now)) (heard-joined g.W.Recorder g.met.W.Recorder.joined (g.P.Packets.captures c.args.packets.now c.args.source.now)) (S.policy c.args.self.now.scheduler) c.requires.set.accepted _ _ _ _ _ _ _ _ i.further.given run _ _ _
+    (step_stops S (heard g.W.Recorder (g.P.Packets.captures c.args.packets.now c.args.source.now)) (S.policy c.args.self.now.scheduler) _ rest _ _ _ _ _ stop))
 
 pub returns-in-Some-clause-ok : goal.returns-in-Some-clause-ok
 returns-in-Some-clause-ok g c =
@@ -53,10 +55,10 @@ returns-in-Some-clause-ok g c =
     let i = c.loop-step.invariant in
     let below : c.loop-step.step-index < length c.args.steps.now = omega arith in
     let run = rw (drop-cons c.args.steps.now c.loop-step.step-index (Arrive 0) below) at i.run in
-    let turns = rw (i.kept.policy, c.in-Some.is) at c.in_ok-ending.ensures.ok in
+    let turns = turns_so g.C.Scheduler (heard_gives g.W.Recorder (g.P.Packets.captures c.loop-step.packets c.loop-step.source) (g.P.Packets.captures c.args.packets.now c.args.source.now) i.further.known) (g.C.Scheduler.policy c.args.self.now.scheduler) _ _ _ _ _ _ (rw (i.kept.policy, c.in-Some.is) at c.in_ok-ending.ensures.ok) in
     let rest = drop (suc c.loop-step.step-index) c.args.steps.now in
-    run_ends S g.W.Recorder g.met.W.Recorder.joined (S.policy c.args.self.now.scheduler) c.requires.set.accepted _ _ _ _ _ _ _ _ i.further.given run _ _
-    (step_ends S g.W.Recorder (S.policy c.args.self.now.scheduler) _ rest _ _ _ _ _ turns)
+    run_ends S (heard g.W.Recorder (g.P.Packets.captures c.args.packets.now c.args.source.now)) (heard-joined g.W.Recorder g.met.W.Recorder.joined (g.P.Packets.captures c.args.packets.now c.args.source.now)) (S.policy c.args.self.now.scheduler) c.requires.set.accepted _ _ _ _ _ _ _ _ i.further.given run _ _
+    (step_ends S (heard g.W.Recorder (g.P.Packets.captures c.args.packets.now c.args.source.now)) (S.policy c.args.self.now.scheduler) _ rest _ _ _ _ _ turns)
 
 pub loop-step-preserved : goal.loop-step-preserved
 loop-step-preserved g c =
@@ -65,13 +67,13 @@ loop-step-preserved g c =
     let below : c.loop-step.step-index < length c.args.steps.now = omega arith in
     let run = rw (drop-cons c.args.steps.now c.loop-step.step-index (Arrive 0) below) at i.run in
     let e = c.in_ok-ending.ensures in
-    let turns = rw (i.kept.policy, c.in_default.is) at e.ok in
+    let turns = turns_so g.C.Scheduler (heard_gives g.W.Recorder (g.P.Packets.captures c.loop-step.packets c.loop-step.source) (g.P.Packets.captures c.args.packets.now c.args.source.now) i.further.known) (g.C.Scheduler.policy c.args.self.now.scheduler) _ _ _ _ _ _ (rw (i.kept.policy, c.in_default.is) at e.ok) in
     let further = rw c.in_default.is at e.further in
     let rest = drop (suc c.loop-step.step-index) c.args.steps.now in
     record {
-      run = rw (add-one c.loop-step.step-index) (run_goes S g.W.Recorder g.met.W.Recorder.joined (S.policy c.args.self.now.scheduler) c.requires.set.accepted _ _ _ _ _ _ _ _ i.further.given run _ _ _ _
-          (step_goes S g.W.Recorder (S.policy c.args.self.now.scheduler) _ rest _ _ _ _ turns));
-      further = record { ready = further.ready; given = omega (arith, i.further.given, further.given); few = further.few };
+      run = rw (add-one c.loop-step.step-index) (run_goes S (heard g.W.Recorder (g.P.Packets.captures c.args.packets.now c.args.source.now)) (heard-joined g.W.Recorder g.met.W.Recorder.joined (g.P.Packets.captures c.args.packets.now c.args.source.now)) (S.policy c.args.self.now.scheduler) c.requires.set.accepted _ _ _ _ _ _ _ _ i.further.given run _ _ _ _
+          (step_goes S (heard g.W.Recorder (g.P.Packets.captures c.args.packets.now c.args.source.now)) (S.policy c.args.self.now.scheduler) _ rest _ _ _ _ turns));
+      further = record { ready = further.ready; known = λ bytes are. further.known bytes (i.further.known bytes are); given = omega (arith, i.further.given, further.given); few = further.few };
       kept = continues_then S _ _ _ i.kept e.kept;
       fewer = omega (arith, i.fewer, e.fewer);
       kept_sink = sink-then _ _ _ _ _ i.kept_sink e.kept_sink;
@@ -85,10 +87,10 @@ returns-clause-ok g c =
     let i = c.loop-step.invariant in
     let all : length c.args.steps.now ≤ c.loop-step.step-index = omega arith in
     let run = rw (drop_of_length-le c.args.steps.now all) at i.run in
-    if_ok_turned c.count_unsent.result _ _ (λ e ends. run_over S g.W.Recorder g.met.W.Recorder.joined (S.policy c.args.self.now.scheduler) _ _ _ _ _ _ e _ _ _ _ _ _ _ _ _ run (no_step (S.policy c.args.self.now.scheduler) e (event_of c.loop-step.self.tally) _ ends)) c.count_unsent.ensures.told
+    if_ok_turned c.count_unsent.result _ _ (λ e ends. run_over S (heard g.W.Recorder (g.P.Packets.captures c.args.packets.now c.args.source.now)) (heard-joined g.W.Recorder g.met.W.Recorder.joined (g.P.Packets.captures c.args.packets.now c.args.source.now)) (S.policy c.args.self.now.scheduler) _ _ _ _ _ _ e _ _ _ _ _ _ _ _ _ run (no_step (S.policy c.args.self.now.scheduler) e (event_of c.loop-step.self.tally) _ ends)) c.count_unsent.ensures.told
 
 pub returns-clause-err : goal.returns-clause-err
 returns-clause-err g c =
     let S = g.C.Scheduler in
     let i = c.loop-step.invariant in
-    on_err_given c.count_unsent.result _ (run_halts S g.W.Recorder g.met.W.Recorder.joined (S.policy c.args.self.now.scheduler) _ _ _ _ _ _ _ _ _ c.loop-step.self.recorder _ _ _ _ i.run)
+    on_err_given c.count_unsent.result _ (run_halts S (heard g.W.Recorder (g.P.Packets.captures c.args.packets.now c.args.source.now)) (heard-joined g.W.Recorder g.met.W.Recorder.joined (g.P.Packets.captures c.args.packets.now c.args.source.now)) (S.policy c.args.self.now.scheduler) _ _ _ _ _ _ _ _ _ c.loop-step.self.recorder _ _ _ _ i.run)

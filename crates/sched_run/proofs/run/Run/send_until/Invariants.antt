@@ -1,10 +1,11 @@
-use Rattle.std.proofs.Common.{◌≡◌, ◌+◌, ℕ}
+use Rattle.std.proofs.Common.{◌≡◌, ◌+◌, ℕ, false}
 use Rattle.outside_core.specs.Kept.{KeepsSink}
 use Rattle.sched_run.specs.Frames.{Continues}
 use Rattle.sched_run.specs.Links.{IsEarly}
 use Rattle.tap_core.specs.Watching.{sight_of, AreNoMore}
 use Rattle.sched_run.specs.Stages.{stage_of}
 use Rattle.sched_run.proofs.LinkLaws.{SendsPart}
+use Rattle.sched_run.specs.Heard.{heard_anyway}
 use Rattle.sched_run.proofs.run.Run.send_until.Given as goal
 
 abbrev pub invariant-loop-sent : goal.invariant-loop-sent
@@ -13,7 +14,7 @@ invariant-loop-sent g l =
     let written = g.K.Sink.written in
     let sight = sight_of g.T.Tap.kind_of g.T.Tap.state_of in
     record {
-      sends : (given : ℕ) → SendsPart S g.W.Recorder (S.policy l.fn.self.scheduler) l.rate l.until l.held l._sent l.fn.link l.link
+      sends : (given : ℕ) → SendsPart S (heard_anyway g.W.Recorder) (S.policy l.fn.self.scheduler) l.rate l.until l.held l._sent l.fn.link l.link
           (stage_of l.fn.self l.fn.under (written l.fn.sink) given (sight l.fn.watch)) (stage_of l.self l.under (written l.sink) given (sight l.watch));
       came : l.self.tally.came ≡ l.fn.self.tally.came;
       dropped : l.self.tally.dropped ≡ l.fn.self.tally.dropped;
@@ -22,5 +23,6 @@ invariant-loop-sent g l =
       kept : Continues S l.fn.self l.self;
       fewer : AreNoMore (sight l.fn.watch) (sight l.watch);
       kept_sink : KeepsSink written g.K.Sink.faults l.fn.sink l.sink;
+      going : g.W.Recorder.over l.self.recorder ≡ false;
       live : g.W.Recorder.live l.self.recorder;
     }

@@ -1,0 +1,119 @@
+-- What a run over the packets of one link type answers, of the file that they come from.
+use Rattle.std.proofs.Common.{◌≡◌, ◌≤◌, ℕ, Option, None, Some, Result, Ok, Err, List, [], refl, sym, ap, ◌∙◌, subst, inr}
+use Rattle.std.specs.Prelude.{IfSome, IfErr, OnOk, OnErr}
+use Rattle.std.proofs.lemmas.Option.{IfSome_then}
+use Rattle.std.proofs.lemmas.Result.{on_ok_weaker, on_err_weaker}
+use Rattle.outside_core.specs.Written.{Appended, AppendedPrefix}
+use Rattle.outside_core.specs.Kept.{HasCause}
+use Rattle.outside_core.specs.declared.stop.Stop.{Stop}
+use Rattle.outside_core.specs.declared.stop.Stop.TheVariants.{Source, Sink, Memory}
+use Rattle.outside_core.proofs.FaultLaws.{rose_after}
+use Rattle.outside_core.proofs.WrittenLaws.{appended_in_turn, appended_nothing, prefix_in_turn, prefix_of_longer, prefix_of_nothing}
+use Rattle.fabric_core.specs.declared.fabric.Fabric.{Ghosts}
+use Rattle.policy_defs.specs.Policy.{Policy}
+use Rattle.pcapout_core.specs.Bytes.{header_bytes}
+use Rattle.sched_defs.specs.SourceState.{start}
+use Rattle.sched_defs.specs.Events.{outcomes}
+use Rattle.sched_embedded.specs.Fabrics.{HoldsAfter, LeavesPart}
+use Rattle.sched_embedded.specs.Laid.{Laid}
+use Rattle.sched_run.proofs.StepLaws.{on_err_given}
+use Rattle.pcap_defs.specs.Contents.{FaultAt, FileContents, no_capture, holds}
+use Rattle.pcapng_defs.specs.NgContents.{in_file}
+use Rattle.policy_rules.specs.Resolved.{Resolved}
+use Rattle.sched_defs.specs.declared.ending.Ending.{Ending}
+use Rattle.sched_defs.specs.Packets.{Left, Captured, captured_from, StaysKnown}
+use Rattle.sched_packets.specs.Arrivals.{Begins, AreCapturedIn, left_in}
+use Rattle.sched_packets.specs.CapturedBytes.{captured_from-are}
+use Rattle.sched_packets.specs.OneLink.{one_link_in, link_in}
+use Rattle.sched_capture.specs.Answers.{IsRefusal}
+use Rattle.sched_capture.specs.Forwards.{ForwardAnswer, forward_of, forward_over, forward_answer, forward_refusal, forward_events, forward_through, sent_bytes, refusal_ending}
+use Rattle.sched_capture.specs.declared.departures.ForwardEnding.{ForwardEnding}
+
+-- ---- the header, and then the records
+module _ (policy : Policy) (rate link : ℕ) (left : Option Left) (known : Captured → Type 0) (r : Result ForwardEnding Stop) where
+  -- what is written of the answer
+  abbrev IsPartOfAnswer : Option (List ℕ) → Option (List ℕ) → Type 0
+  IsPartOfAnswer a b = OnErr r (IfSome left (λ l. (captured : Captured) → known captured → AppendedPrefix a b (forward_of policy rate link captured l).text))
+
+  each_left : (o : Option Left) (P : Left → Type 0) → ((l : Left) → P l) → IfSome o P
+  each_left None P each = tt
+  each_left (Some l) P each = each l
+
+  pub cut_header : (a b : Option (List ℕ)) → AppendedPrefix a b (header_bytes link) → IsPartOfAnswer a b
+  cut_header a b part = on_err_given r _ (each_left left (λ l. (captured : Captured) → known captured → AppendedPrefix a b (forward_of policy rate link captured l).text)
+      (λ l captured h. prefix_of_longer a b (header_bytes link) (sent_bytes captured (outcomes policy (forward_events policy rate l) (start policy))) part))
+
+  pub no_records : (a b : Option (List ℕ)) → Appended a b (header_bytes link) → IsPartOfAnswer a b
+  no_records a b header = on_err_given r _ (each_left left (λ l. (captured : Captured) → known captured → AppendedPrefix a b (forward_of policy rate link captured l).text)
+      (λ l captured h. prefix_in_turn a b b (header_bytes link) (sent_bytes captured (outcomes policy (forward_events policy rate l) (start policy))) header (prefix_of_nothing b b _ (appended_nothing b))))
+
+  pub cut_records : (a b c : Option (List ℕ)) → Appended a b (header_bytes link)
+      → OnErr r (IfSome left (λ l. (captured : Captured) → known captured → AppendedPrefix b c (sent_bytes captured (outcomes policy (forward_events policy rate l) (start policy))))) → IsPartOfAnswer a c
+  cut_records a b c header records = on_err_weaker r (λ all. IfSome_then left all
+      (λ l each captured h. prefix_in_turn a b c (header_bytes link) (sent_bytes captured (outcomes policy (forward_events policy rate l) (start policy))) header (each captured h))) records
+
+  pub all_records : (a b c : Option (List ℕ)) → Appended a b (header_bytes link)
+      → OnOk r (IfSome left (λ l. (captured : Captured) → known captured → Appended b c (sent_bytes captured (outcomes policy (forward_events policy rate l) (start policy)))))
+      → OnOk r (IfSome left (λ l. (captured : Captured) → known captured → Appended a c (forward_of policy rate link captured l).text))
+  all_records a b c header records = on_ok_weaker r (λ all. IfSome_then left all
+      (λ l each captured h. appended_in_turn a b c (header_bytes link) (sent_bytes captured (outcomes policy (forward_events policy rate l) (start policy))) header (each captured h))) records
+
+  -- nothing was made yet in the fabric
+  pub none_made : {F : Type 0} (fabrics : Ghosts F) (laid : Laid) (old new : F) → HoldsAfter fabrics (record { policy = policy; laid = laid; events = [] }) old new
+      → OnErr r (IfSome left (λ l. LeavesPart fabrics (Some (forward_through policy laid rate l)) old new))
+  none_made fabrics laid old new left_so = on_err_given r _ (each_left left (λ l. LeavesPart fabrics (Some (forward_through policy laid rate l)) old new)
+      (λ l. inr (record { made = []; unmade = forward_events policy rate l; whole = refl; holds = left_so })))
+
+-- a cause behind a call that wrote
+pub cause_behind : {S K : Type 0} (source_faults : S → ℕ) (s s' : S) (sink_faults : K → ℕ) (k k' k'' : K) (r : Result ForwardEnding Stop) → sink_faults k ≤ sink_faults k'
+    → IfErr r (λ stop. HasCause stop source_faults s s' sink_faults k' k'') → IfErr r (λ stop. HasCause stop source_faults s s' sink_faults k k'')
+cause_behind source_faults s s' sink_faults k k' k'' (Ok e) later cause = tt
+cause_behind source_faults s s' sink_faults k k' k'' (Err Source) later cause = cause
+cause_behind source_faults s s' sink_faults k k' k'' (Err Sink) later cause = rose_after (sink_faults k) (sink_faults k') (sink_faults k'') later cause
+cause_behind source_faults s s' sink_faults k k' k'' (Err Memory) later cause = tt
+
+-- ---- the run begins
+module _ (policy : Resolved) (rate : ℕ) (told : Option (List ℕ)) (left : Option Left) (known : Captured → Type 0) (link : ℕ) where
+  -- what is begun is what is in the file
+  pub record IsBegun : Type 0 where
+    pub begins : IfSome told (λ file. Begins policy (one_link_in (in_file file)) left)
+    pub captures : IfSome told (λ file. StaysKnown (AreCapturedIn (one_link_in (in_file file))) known)
+    pub one : IfSome told (λ file. link ≡ link_in (in_file file))
+
+  -- what is said of the run over what is left is said of the answer
+  abbrev Says : (Left → Type 0) → (ForwardAnswer → Type 0) → Type 0
+  Says Q P = (l : Left) (captured : Captured) → known captured → Q l → P (forward_of policy.policy rate link captured l)
+
+  over_contents : (file : FileContents) (Q : Left → Type 0) (P : ForwardAnswer → Type 0) → Says Q P → Begins policy file left → StaysKnown (AreCapturedIn file) known → IfSome left Q → P (forward_over policy rate link file)
+  over_contents (no_capture fault) Q P says begins stays each = absurd begins
+  over_contents (holds contents) Q P says begins stays each =
+      says (left_in policy 0 contents) (captured_from 1 contents.packets) (stays (captured_from 1 contents.packets) (captured_from-are 1 contents.packets)) (rw begins at each)
+
+  pub in_told : (Q : Left → Type 0) (P : ForwardAnswer → Type 0) → Says Q P → IsBegun → IfSome left Q → IfSome told (λ file. P (forward_answer policy rate file))
+  in_told Q P says begun each = by_told told begun.begins begun.captures begun.one
+    where
+      by_told : (t : Option (List ℕ)) → IfSome t (λ file. Begins policy (one_link_in (in_file file)) left) → IfSome t (λ file. StaysKnown (AreCapturedIn (one_link_in (in_file file))) known)
+          → IfSome t (λ file. link ≡ link_in (in_file file)) → IfSome t (λ file. P (forward_answer policy rate file))
+      by_told None begins captures same = tt
+      by_told (Some file) begins captures same = subst (λ (n : ℕ). P (forward_over policy rate n (one_link_in (in_file file)))) same (over_contents (one_link_in (in_file file)) Q P says begins captures each)
+
+-- ---- the file is refused
+refused : (policy : Resolved) (rate : ℕ) (file : List ℕ) (fault : FaultAt) → one_link_in (in_file file) ≡ no_capture fault → forward_answer policy rate file ≡ forward_refusal fault
+refused policy rate file fault is = ap (forward_over policy rate (link_in (in_file file))) is
+
+module _ (policy : Resolved) (rate : ℕ) (told : Option (List ℕ)) (e : Ending) (old new : Option (List ℕ)) where
+  pub refused_ending : (end : ForwardEnding) → end ≡ refusal_ending e → IfSome told (λ file. IsRefusal (one_link_in (in_file file)) e old new) → IfSome told (λ file. end ≡ (forward_answer policy rate file).ending)
+  refused_ending end is refusal = by_told told refusal
+    where
+      by_told : (t : Option (List ℕ)) → IfSome t (λ file. IsRefusal (one_link_in (in_file file)) e old new) → IfSome t (λ file. end ≡ (forward_answer policy rate file).ending)
+      by_told None r = tt
+      by_told (Some file) r = is ∙ ap refusal_ending r.ends ∙ ap (λ (a : ForwardAnswer). a.ending) (sym (refused policy rate file r.fault r.is))
+
+  -- what is said of the answer to a refusal with its text
+  pub refused_so : (P : ForwardAnswer → Type 0) → ((fault : FaultAt) → Appended old new (forward_refusal fault).text → P (forward_refusal fault)) → IfSome told (λ file. IsRefusal (one_link_in (in_file file)) e old new)
+      → IfSome told (λ file. P (forward_answer policy rate file))
+  refused_so P each refusal = by_told told refusal
+    where
+      by_told : (t : Option (List ℕ)) → IfSome t (λ file. IsRefusal (one_link_in (in_file file)) e old new) → IfSome t (λ file. P (forward_answer policy rate file))
+      by_told None r = tt
+      by_told (Some file) r = subst P (sym (refused policy rate file r.fault r.is)) (each r.fault r.text)

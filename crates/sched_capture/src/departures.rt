@@ -1,0 +1,330 @@
+//! Runs of a link whose departures are written as a capture.
+ghost use Rattle.std.specs.Prelude.{◌≡◌, ◌≤◌, ℕ, Some, ◌<◌, ◌^◌, ◌++◌, [], option_map, IfOk, IfErr, IfSome, IsTrue, OnOk, OnErr, IsErrOf};
+ghost use Rattle.outside_core.specs.Faults.{Rose};
+ghost use Rattle.outside_core.specs.Kept.{KeepsSink, HasCause, HasSinkCause};
+ghost use Rattle.outside_core.specs.Written.{Appended, AppendedPrefix};
+ghost use Rattle.report_core.specs.Gathered.{text_of};
+ghost use Rattle.tree_defs.specs.Tree.{SameShape};
+ghost use Rattle.tree_defs.specs.Topology.{topology_of, complete};
+ghost use Rattle.target_defs.specs.Target.{IsInRange};
+ghost use Rattle.link_defs.specs.Link.{IsRate};
+ghost use Rattle.embed_defs.specs.Images.{image_map};
+ghost use Rattle.embed_defs.specs.Embedding.{IsEmbedding};
+ghost use Rattle.sched_defs.specs.SourceState.{start};
+ghost use Rattle.sched_defs.specs.Events.{outcomes};
+ghost use Rattle.sched_defs.specs.Packets.{Captured, StaysKnown};
+ghost use Rattle.pcapout_core.specs.Bytes.{header_bytes};
+ghost use Rattle.pcapng_defs.specs.NgContents.{in_file};
+ghost use Rattle.sched_packets.specs.Arrivals.{Begins, AreCapturedIn};
+ghost use Rattle.sched_packets.specs.AnyArrivals as any;
+ghost use Rattle.sched_packets.specs.OneLink.{resolved_of, policy_of, link_of, given_by, left_of, captures_of, IsReady};
+ghost use Rattle.sched_packets.specs.OneLink.{EachFileOf, one_link_in, link_in};
+ghost use Rattle.sched_run.specs.Frames.{IsSet, Continues};
+ghost use Rattle.sched_run.specs.Stages.{IsFresh};
+ghost use Rattle.sched_run.specs.Played.{HasMade, HasMadeSome};
+ghost use Rattle.sched_forward.specs.Forwarding.{HoldsNothing};
+ghost use Rattle.sched_embedded.specs.Fabrics.{Leaves, LeavesPart, run_of};
+ghost use Rattle.sched_capture.specs.Answers.{IsRefusal, IsRefusalPart};
+ghost use Rattle.sched_capture.specs.Forwards.{forward_ending, refusal_ending, sent_bytes, forward_events, forward_of, forward_through, forward_answer};
+ghost use Rattle.sched_capture.specs.Placements.{laid_by};
+
+use crate::capture::{begin, refuse};
+use crate::fabric::Placement;
+use fabric_core::Fabric;
+use outside_core::{Shelf, Sink, SinkError, Stop};
+use pcapout_core::put_head;
+use policy_core::Policy;
+use sched_core::Scheduler;
+use sched_defs::{Ending, Halt};
+use sched_embedded::Embedded;
+use sched_forward::Forwarding;
+use sched_packets::{AnyArrivals, OTHER_LINK, OneLink};
+use sched_run::{Recorder, Run};
+use std::alloc::Global;
+use tap_core::{Named, OrderTap, Watching};
+
+/// How a run ends whose departures are written as a capture.
+#[derive(Clone, Copy, Debug)]
+pub enum ForwardEnding {
+    /// All packets came, and all that weren't dropped left.
+    Whole,
+    /// The capture has a fault of this code at this place.
+    BadCapture(u32, u64),
+    /// The packet of this number has another link type than the first.
+    OtherLink(u64),
+    /// A departure would start at 2^32 seconds or later, which no record can tell.
+    Late,
+}
+
+/// How a run ends, if it isn't over before.
+fn ending_of(ending: Option<Ending>) -> ForwardEnding
+    ensures { result ≡ forward_ending ending }
+{
+    match ending {
+        None => ForwardEnding::Late,
+        Some(Ending::BadCapture(OTHER_LINK, packet)) => ForwardEnding::OtherLink(packet),
+        Some(Ending::BadCapture(code, place)) => ForwardEnding::BadCapture(code, place),
+        Some(_) => ForwardEnding::Whole,
+    }
+}
+
+/// How a refusal ends, which is at the capture's fault.
+fn refusal_of(ending: Ending) -> ForwardEnding
+    ensures { result ≡ refusal_ending ending }
+{
+    match ending {
+        Ending::BadCapture(code, place) => ForwardEnding::BadCapture(code, place),
+        _ => ForwardEnding::Whole,
+    }
+}
+
+/// Reads the first packet of a capture whose beginning was read, if there is one. Where no run goes on from there, the error is
+/// the run's answer, as in `begin`.
+fn begin_packets<'a, S: Shelf, K: Sink>(
+    alloc: Global,
+    arrivals: AnyArrivals<'a, S>,
+    shelf: &mut S,
+    sink: &mut K,
+) -> Result<OneLink<'a, S>, Result<Ending, Stop>>
+    requires none_given { any.given_by arrivals ≡ 0 }
+    requires ready { any.IsReady arrivals (S.begun shelf.old) }
+
+    ensures begins { IfOk result (λ o. EachFileOf (any.contents_of arrivals.entry (S.left shelf.old)) (λ file.
+        Begins (any.resolved_of arrivals.entry) (one_link_in file) (left_of o (S.left shelf.new)))) }
+    ensures captures { IfOk result (λ o. EachFileOf (any.contents_of arrivals.entry (S.left shelf.old)) (λ file.
+        StaysKnown (AreCapturedIn (one_link_in file)) (captures_of o (S.left shelf.new)))) }
+    ensures link { IfOk result (λ o. EachFileOf (any.contents_of arrivals.entry (S.left shelf.old)) (λ file.
+        link_of o ≡ link_in file)) }
+    ensures policy { IfOk result (λ o. resolved_of o ≡ any.resolved_of arrivals.entry) }
+    ensures none_given { IfOk result (λ o. given_by o ≡ 0) }
+    ensures ready { IfOk result (λ o. IsReady o (S.begun shelf.new)) }
+    ensures unwritten { OnOk result (sink.new ≡ sink.old) }
+
+    ensures refused { IfErr result (λ answer. IfOk answer (λ e. EachFileOf (any.contents_of arrivals.entry (S.left shelf.old)) (λ file.
+        IsRefusal (one_link_in file) e (K.written sink.old) (K.written sink.new)))) }
+    ensures part { IfErr result (λ answer. OnErr answer (EachFileOf (any.contents_of arrivals.entry (S.left shelf.old)) (λ file.
+        IsRefusalPart (one_link_in file) (K.written sink.old) (K.written sink.new)))) }
+    ensures kept { KeepsSink K.written K.faults sink.old sink.new }
+    ensures later { S.faults shelf.old ≤ S.faults shelf.new }
+    ensures cause { IfErr result (λ answer. IfErr answer (λ stop.
+        HasCause stop S.faults shelf.old shelf.new K.faults sink.old sink.new)) }
+{
+    match OneLink::start(arrivals, shelf) {
+        Ok(packets) => Ok(packets),
+        Err(Halt::Fault(code, place)) => Err(refuse(alloc, sink, code, place)),
+        Err(Halt::Source) => Err(Err(Stop::Source)),
+        Err(Halt::Memory) => Err(Err(Stop::Memory)),
+    }
+}
+
+/// Begins the capture of this name, and reads its first packet. Where no run goes on from there, the error is the run's answer,
+/// as in `begin`.
+fn begin_one_link<'a, S: Shelf, K: Sink>(
+    alloc: Global,
+    policy: &'a Policy,
+    capture: &str,
+    shelf: &mut S,
+    sink: &mut K,
+) -> Result<OneLink<'a, S>, Result<Ending, Stop>>
+    requires lent { IsTrue (S.lends shelf.old capture.now) }
+
+    ensures begins { IfOk result (λ o. IfSome (S.content shelf.old capture.now) (λ file.
+        Begins policy.now (one_link_in (in_file file)) (left_of o (S.left shelf.new)))) }
+    ensures captures { IfOk result (λ o. IfSome (S.content shelf.old capture.now) (λ file.
+        StaysKnown (AreCapturedIn (one_link_in (in_file file))) (captures_of o (S.left shelf.new)))) }
+    ensures link { IfOk result (λ o. IfSome (S.content shelf.old capture.now) (λ file. link_of o ≡ link_in (in_file file))) }
+    ensures policy { IfOk result (λ o. resolved_of o ≡ policy.now) }
+    ensures none_given { IfOk result (λ o. given_by o ≡ 0) }
+    ensures ready { IfOk result (λ o. IsReady o (S.begun shelf.new)) }
+    ensures unwritten { OnOk result (sink.new ≡ sink.old) }
+
+    ensures refused { IfErr result (λ answer. IfOk answer (λ e. IfSome (S.content shelf.old capture.now) (λ file.
+        IsRefusal (one_link_in (in_file file)) e (K.written sink.old) (K.written sink.new)))) }
+    ensures part { IfErr result (λ answer. OnErr answer (IfSome (S.content shelf.old capture.now) (λ file.
+        IsRefusalPart (one_link_in (in_file file)) (K.written sink.old) (K.written sink.new)))) }
+    ensures kept { KeepsSink K.written K.faults sink.old sink.new }
+    ensures later { S.faults shelf.old ≤ S.faults shelf.new }
+    ensures cause { IfErr result (λ answer. IfErr answer (λ stop.
+        HasCause stop S.faults shelf.old shelf.new K.faults sink.old sink.new)) }
+{
+    match begin(alloc, policy, capture, shelf, sink) {
+        Ok(arrivals) => begin_packets(alloc, arrivals, shelf, sink),
+        Err(answer) => Err(answer),
+    }
+}
+
+/// Runs a link over packets of one link type by any scheduler of this policy that stands for the start, and writes a record for
+/// each departure.
+fn forward_over<C: Scheduler + Drop, S: Shelf, K: Sink>(
+    policy: &Policy,
+    run: &mut Run<'_, C, Policy, Forwarding>,
+    under: &mut C::Under,
+    rate: u64,
+    packets: &mut OneLink<'_, S>,
+    shelf: &mut S,
+    sink: &mut K,
+    watch: &mut Watching<OrderTap>,
+) -> Result<ForwardEnding, Stop>
+    requires set { IsSet C.Scheduler ⟦<Forwarding as Recorder>⟧ (λ p. p.policy) run.old }
+    requires nothing { HoldsNothing run.old.recorder }
+    requires none_gathered { run.old.recorder.gathered.unwritten ≡ [] }
+    requires fresh { IsFresh run.old.tally }
+    requires policy { C.policy run.old.scheduler ≡ policy.now.policy }
+    requires packets { policy_of packets.old ≡ policy.now.policy }
+    requires none_given { given_by packets.old ≡ 0 }
+    requires ready { IsReady packets.old (S.begun shelf.old) }
+    requires rate { IsRate rate }
+    requires stands { C.stands run.old.scheduler under.old (start policy.now.policy) }
+    requires no_pushes { C.pushes run.old.scheduler ≡ 0 }
+    requires no_departures { C.departures run.old.scheduler ≡ 0 }
+
+    ensures ending { IfOk result (λ e. IfSome (left_of packets.old (S.left shelf.old)) (λ l. (link : ℕ) (captured : Captured) →
+        e ≡ (forward_of policy.now.policy rate link captured l).ending)) }
+    ensures text { OnOk result (IfSome (left_of packets.old (S.left shelf.old)) (λ l. (captured : Captured) →
+        captures_of packets.old (S.left shelf.old) captured → Appended (K.written sink.old) (K.written sink.new)
+        (sent_bytes captured (outcomes policy.now.policy (forward_events policy.now.policy rate l) (start policy.now.policy))))) }
+    ensures part { OnErr result (IfSome (left_of packets.old (S.left shelf.old)) (λ l. (captured : Captured) →
+        captures_of packets.old (S.left shelf.old) captured → AppendedPrefix (K.written sink.old) (K.written sink.new)
+        (sent_bytes captured (outcomes policy.now.policy (forward_events policy.now.policy rate l) (start policy.now.policy))))) }
+    ensures state { OnOk result (IfSome (left_of packets.old (S.left shelf.old)) (λ l.
+        HasMade C.Scheduler policy.now.policy (forward_events policy.now.policy rate l) (start policy.now.policy)
+        run.old.scheduler under.old run.new.scheduler under.new)) }
+    ensures amid { OnErr result (IfSome (left_of packets.old (S.left shelf.old)) (λ l.
+        HasMadeSome C.Scheduler policy.now.policy (forward_events policy.now.policy rate l) (start policy.now.policy)
+        run.old.scheduler under.old run.new.scheduler under.new)) }
+    ensures kept_run { Continues C.Scheduler run.old run.new }
+    ensures kept { KeepsSink K.written K.faults sink.old sink.new }
+    ensures later { S.faults shelf.old ≤ S.faults shelf.new }
+    ensures cause { IfErr result (λ stop. HasCause stop S.faults shelf.old shelf.new K.faults sink.old sink.new) }
+{
+    let ending = run.play_link(under, sink, watch, packets, shelf, rate)?;
+    run.recorder.finish(sink)?;
+    Ok(ending_of(ending))
+}
+
+/// Writes the header of a capture with this link type.
+fn write_header<K: Sink>(sink: &mut K, link: u16) -> Result<(), Stop>
+    ensures bytes { OnOk result (Appended (K.written sink.old) (K.written sink.new) (header_bytes link)) }
+    ensures part { OnErr result (AppendedPrefix (K.written sink.old) (K.written sink.new) (header_bytes link)) }
+    ensures kept { KeepsSink K.written K.faults sink.old sink.new }
+    ensures cause { IfErr result (λ stop. HasSinkCause stop K.faults sink.old sink.new) }
+{
+    match put_head(sink, link) {
+        Ok(()) => Ok(()),
+        Err(SinkError::Failed) => Err(Stop::Sink),
+    }
+}
+
+/// Runs a link over packets of one link type, through a fabric into which the policy's tree is laid, and writes the header and a
+/// record for each departure.
+fn forward_packets<S: Shelf, K: Sink, F: Fabric>(
+    alloc: Global,
+    policy: &Policy,
+    placement: Placement,
+    rate: u64,
+    packets: OneLink<'_, S>,
+    shelf: &mut S,
+    sink: &mut K,
+    fabric: &mut F,
+) -> Result<ForwardEnding, Stop>
+    requires rate { IsRate rate }
+    requires range { IsInRange placement.target.arities placement.target.above }
+    requires map_shape { SameShape (topology_of policy.now.policy.tree) placement.map }
+    requires embedding { IsEmbedding (topology_of policy.now.policy.tree) (complete placement.target.arities) (image_map placement.map) }
+    requires pushes { F.pushed fabric.old < 2 ^ 61 }
+    requires pops { F.popped fabric.old < 2 ^ 61 }
+    requires packets { policy_of packets ≡ policy.now.policy }
+    requires none_given { given_by packets ≡ 0 }
+    requires ready { IsReady packets (S.begun shelf.old) }
+
+    ensures ending { IfOk result (λ e. IfSome (left_of packets.entry (S.left shelf.old)) (λ l. (link : ℕ) (captured : Captured) →
+        e ≡ (forward_of policy.now.policy rate link captured l).ending)) }
+    ensures text { OnOk result (IfSome (left_of packets.entry (S.left shelf.old)) (λ l. (captured : Captured) →
+        captures_of packets.entry (S.left shelf.old) captured → Appended (K.written sink.old) (K.written sink.new)
+        (forward_of policy.now.policy rate (link_of packets.entry) captured l).text)) }
+    ensures part { OnErr result (IfSome (left_of packets.entry (S.left shelf.old)) (λ l. (captured : Captured) →
+        captures_of packets.entry (S.left shelf.old) captured → AppendedPrefix (K.written sink.old) (K.written sink.new)
+        (forward_of policy.now.policy rate (link_of packets.entry) captured l).text)) }
+    ensures fabric { OnOk result (IfSome (left_of packets.entry (S.left shelf.old)) (λ l.
+        Leaves F.Fabric (Some (forward_through policy.now.policy (laid_by placement) rate l)) fabric.old fabric.new)) }
+    ensures fabric_part { OnErr result (IfSome (left_of packets.entry (S.left shelf.old)) (λ l.
+        LeavesPart F.Fabric (Some (forward_through policy.now.policy (laid_by placement) rate l)) fabric.old fabric.new)) }
+    ensures kept { KeepsSink K.written K.faults sink.old sink.new }
+    ensures later { S.faults shelf.old ≤ S.faults shelf.new }
+    ensures cause { IfErr result (λ stop. HasCause stop S.faults shelf.old shelf.new K.faults sink.old sink.new) }
+{
+    write_header(sink, packets.link())?;
+    let mut packets = packets;
+    let Placement { target, map } = placement;
+    let Ok(scheduler) = Embedded::new(alloc, policy, map, &target, fabric) else {
+        return Err(Stop::Memory);
+    };
+    let mut run = Run::new(
+        alloc,
+        policy,
+        policy.depth(),
+        policy.version(),
+        scheduler,
+        Forwarding::new(alloc)?,
+    )?;
+    let mut watch: Watching<OrderTap> = Watching::new(alloc, Named::none(), Vec::new(alloc));
+    forward_over(
+        policy,
+        &mut run,
+        fabric,
+        rate,
+        &mut packets,
+        shelf,
+        sink,
+        &mut watch,
+    )
+}
+
+/// Runs a link over a capture, through a fabric into which the policy's tree is laid by a map, and writes the departures as a
+/// capture: the header when the capture's first record was read or it has none, and then a record for each departure, with the
+/// moment at which it starts. The rate is in bytes a second. The fabric takes the target's shape behind the header. The answer is
+/// how the run ended. It is an error where the capture can't be read, the records can't be written, or there is no memory; what
+/// is written is then cut short.
+pub fn forward<S: Shelf, K: Sink, F: Fabric>(
+    alloc: Global,
+    policy: &Policy,
+    placement: Placement,
+    capture: &str,
+    rate: u64,
+    shelf: &mut S,
+    sink: &mut K,
+    fabric: &mut F,
+) -> Result<ForwardEnding, Stop>
+    requires lent { IsTrue (S.lends shelf.old capture.now) }
+    requires rate { IsRate rate }
+    requires range { IsInRange placement.target.arities placement.target.above }
+    requires map_shape { SameShape (topology_of policy.now.policy.tree) placement.map }
+    requires embedding { IsEmbedding (topology_of policy.now.policy.tree) (complete placement.target.arities) (image_map placement.map) }
+    requires pushes { F.pushed fabric.old < 2 ^ 61 }
+    requires pops { F.popped fabric.old < 2 ^ 61 }
+
+    ensures ending { IfOk result (λ e. IfSome (S.content shelf.old capture.now) (λ file.
+        e ≡ (forward_answer policy.now rate file).ending)) }
+    ensures text { OnOk result (IfSome (S.content shelf.old capture.now) (λ file.
+        Appended (K.written sink.old) (K.written sink.new) (forward_answer policy.now rate file).text)) }
+    ensures part { OnErr result (IfSome (S.content shelf.old capture.now) (λ file.
+        AppendedPrefix (K.written sink.old) (K.written sink.new) (forward_answer policy.now rate file).text)) }
+    ensures fabric { OnOk result (IfSome (S.content shelf.old capture.now) (λ file.
+        Leaves F.Fabric (run_of policy.now.policy (laid_by placement) (forward_answer policy.now rate file).events)
+        fabric.old fabric.new)) }
+    ensures fabric_part { OnErr result (IfSome (S.content shelf.old capture.now) (λ file.
+        LeavesPart F.Fabric (run_of policy.now.policy (laid_by placement) (forward_answer policy.now rate file).events)
+        fabric.old fabric.new)) }
+    ensures sink_cause { IsErrOf result Stop.Sink → Rose (K.faults sink.old) (K.faults sink.new) }
+    ensures source_cause { IsErrOf result Stop.Source → Rose (S.faults shelf.old) (S.faults shelf.new) }
+    ensures kept { KeepsSink K.written K.faults sink.old sink.new }
+    ensures later { S.faults shelf.old ≤ S.faults shelf.new }
+{
+    match begin_one_link(alloc, policy, capture, shelf, sink) {
+        Ok(packets) => forward_packets(
+            alloc, policy, placement, rate, packets, shelf, sink, fabric,
+        ),
+        Err(Ok(ending)) => Ok(refusal_of(ending)),
+        Err(Err(stop)) => Err(stop),
+    }
+}

@@ -1,0 +1,21 @@
+use Rattle.std.proofs.Common.{List, subst, append-nil, ℕ, []}
+use Rattle.std.specs.Prelude.{None}
+use Rattle.std.proofs.lemmas.Result.{on_ok_weaker, on_err_weaker}
+use Rattle.report_core.specs.Gathered.{Tells, CutsOff}
+use Rattle.sched_defs.specs.Events.{Depart}
+use Rattle.sched_run.specs.Played.{line_of}
+use Rattle.sched_run.proofs.lines.depart_line.Goals as goal
+
+pub returns-clause-text : goal.returns-clause-text
+returns-clause-text g c =
+    let policy = g.C.Scheduler.policy c.args.scheduler.now in
+    on_ok_weaker c.depart_at.result (λ told s sound stood. subst
+    (λ (l : List ℕ). Tells g.K.Sink.written c.args.sink.now c.args.report.now c.depart_at.new.sink c.depart_at.new.recorder l)
+    (append-nil (line_of policy c.args.event (Depart None) s)) (told s sound stood (λ n. []) tt)) c.depart_at.ensures.recorded
+
+pub returns-clause-cut : goal.returns-clause-cut
+returns-clause-cut g c =
+    let policy = g.C.Scheduler.policy c.args.scheduler.now in
+    on_err_weaker c.depart_at.result (λ cut s sound stood. subst
+    (λ (l : List ℕ). CutsOff g.K.Sink.written c.args.sink.now c.args.report.now c.depart_at.new.sink l)
+    (append-nil (line_of policy c.args.event (Depart None) s)) (cut s sound stood (λ n. []) tt)) c.depart_at.ensures.cut

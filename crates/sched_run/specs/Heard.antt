@@ -1,0 +1,35 @@
+-- What a recorder makes of outcomes, where it is known of the captured bytes of packets what they are.
+use Rattle.std.specs.Prelude.{◌≡◌, ℕ, List, [], ⊤}
+use Rattle.packet_defs.specs.declared.packet.Packet.{Packet}
+use Rattle.sched_defs.specs.Packets.{Captured}
+use Rattle.sched_run.specs.declared.recorder.Recorder as recorder
+use Rattle.sched_run.specs.Recording.{Recordings}
+
+-- what is recorded whatever the captured bytes are of which H holds
+abbrev pub heard : {W : Type 0} → recorder.Ghosts W → (Captured → Type 0) → Recordings W
+heard R H = record {
+  records = λ w a policy event os v b. (captured : Captured) → H captured → R.records captured w a policy event os v b;
+  cuts = λ w a policy event os b. (captured : Captured) → H captured → R.cuts captured w a policy event os b;
+}
+
+-- the captured bytes may be any
+abbrev pub any_bytes : Captured → Type 0
+any_bytes captured = ⊤
+
+-- these are the captured bytes of a packet
+abbrev pub IsCapturedAs : Packet → List ℕ → Captured → Type 0
+IsCapturedAs p bytes captured = captured p.number ≡ bytes
+
+-- what is recorded whatever the captured bytes are, and where a packet has these
+abbrev pub heard_anyway : {W : Type 0} → recorder.Ghosts W → Recordings W
+heard_anyway R = heard R any_bytes
+
+abbrev pub heard_with : {W : Type 0} → recorder.Ghosts W → Packet → List ℕ → Recordings W
+heard_with R p bytes = heard R (IsCapturedAs p bytes)
+
+-- no packet has any
+abbrev pub no_bytes : Captured → Type 0
+no_bytes captured = (n : ℕ) → captured n ≡ []
+
+abbrev pub heard_without : {W : Type 0} → recorder.Ghosts W → Recordings W
+heard_without R = heard R no_bytes
