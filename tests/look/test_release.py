@@ -109,7 +109,7 @@ class Archive(unittest.TestCase):
         self.assertEqual(run(top / "zovatsemo", "check", "some policy"), (0, "check some policy\n", ""))
         help_lines = run(top / "zovatsemo", "--help")[1].splitlines()
         its_own = [line for line in run(self.clone / "zovatsemo", "--help")[1].split("\n\n")[0].splitlines()
-                   if not line.startswith(("zovatsemo --unproved", "zovatsemo --help"))]
+                   if not line.startswith(("zovatsemo --block", "zovatsemo --unproved", "zovatsemo --help"))]
         self.assertEqual(help_lines, its_own)
         self.assertGreater(len(help_lines), 6)
         explained = run(runs.TOP / "tools/explain", "policy", 7)

@@ -15,6 +15,7 @@ import tempfile
 
 TOP = pathlib.Path(__file__).resolve().parent.parent.parent
 PROGRAM = "crates/replay_main/out/replay_main"
+SECOND_PROGRAM = "crates/block_app/out/block_app"
 MARK, INDENT = "$ ", "    "
 ASK_STATUS = "echo $?"
 TIMEOUT = 900  # seconds for a section
@@ -113,9 +114,9 @@ def sections(text):
 # running ------------------------------------------------------------------
 
 class Copy:
-    """A copy of the checkout with the built program, which is gone in the end.
+    """A copy of the checkout with the built programs, which is gone in the end.
 
-    The program is copied last, so the launcher finds no source that is newer, and runs it.
+    The programs are copied last, so the launcher finds no source that is newer, and runs them.
     """
 
     def __init__(self, program, checkout=TOP):
@@ -126,9 +127,10 @@ class Copy:
         self.top, self.told = self.room / "checkout", self.room / "told"
         self.told.mkdir()
         shutil.copytree(self.checkout, self.top, symlinks=True, ignore=LEFT_OUT)
-        placed = self.top / PROGRAM
-        placed.parent.mkdir(parents=True)
-        shutil.copy(self.program, placed)
+        for source, place in ((self.program, PROGRAM), (self.checkout / SECOND_PROGRAM, SECOND_PROGRAM)):
+            if source.is_file():
+                (self.top / place).parent.mkdir(parents=True)
+                shutil.copy(source, self.top / place)
         return self
 
     def __exit__(self, *_):
@@ -160,7 +162,7 @@ class Copy:
                 path = pathlib.Path(folder, name)
                 kept = self.checkout / path.relative_to(self.top)
                 is_picture = kept.parent == self.checkout / "docs/pictures"
-                if kept.is_file() and not is_picture and path.relative_to(self.top) != pathlib.Path(PROGRAM):
+                if kept.is_file() and not is_picture and str(path.relative_to(self.top)) not in (PROGRAM, SECOND_PROGRAM):
                     if path.read_bytes() != kept.read_bytes():
                         yield str(path.relative_to(self.top))
 

@@ -20,7 +20,8 @@ def named():
 
 def exported(crate):
     """The names that a crate's root makes public."""
-    text = (TOP / "crates" / crate / "src/lib.rt").read_text()
+    source = TOP / "crates" / crate / "src"
+    text = next(path for path in (source / "lib.rt", source / "main.rt") if path.exists()).read_text()
     uses = [re.sub(r"\s", "", found) for found in re.findall(r"^pub use ([^;]+);", text, re.MULTILINE)]
     return {name for use in uses for name in re.findall(r"\w+", use[use.rindex("::"):])}
 

@@ -1,0 +1,40 @@
+//! The words of the commands.
+ghost use Rattle.std.specs.Prelude.{◌≡◌};
+ghost use Rattle.block_app.specs.Words.{block_form_in, task_form};
+ghost use Rattle.replay_app.specs.Words.{texts};
+
+/// The names of the files of the question whether a policy is calm.
+#[derive(Clone, Copy, Debug)]
+pub struct CalmFiles<'a> {
+    pub policy: &'a str,
+    pub target: &'a str,
+}
+
+/// What the words ask for.
+#[derive(Clone, Copy, Debug)]
+pub enum Task<'a> {
+    /// Whether a policy is calm, laid into a target.
+    Calm(CalmFiles<'a>),
+    /// What the program over plain queues does.
+    Shared,
+    /// Nothing: they are in no form.
+    NoForm,
+}
+
+/// What the words ask for.
+pub fn task_of(words: &[String]) -> Task<'_>
+    ensures form { block_form_in words.now ≡ task_form (texts words.now) result }
+{
+    match words {
+        [command, ..] if matches!(command.as_str(), "via" | "forward") => Task::NoForm,
+        [command, names @ ..] if command.as_str() == "calm" => match names {
+            [policy, target] => Task::Calm(CalmFiles {
+                policy: policy.as_str(),
+                target: target.as_str(),
+            }),
+            _ => Task::NoForm,
+        },
+        [_, ..] => Task::Shared,
+        [] => Task::NoForm,
+    }
+}
