@@ -21,11 +21,11 @@ def conformance():
 runner = conformance()
 
 
-def program(name, given):
-    """The path of the program; without one the script of this name ends with status 3."""
-    path = runner.program_for("", given)
+def program(name, given, suite=""):
+    """The path of the program of a suite; without one the script of this name ends with status 3."""
+    path = runner.program_for(suite, given)
     if path is None:
-        print("%s: no program; looked for %s" % (name, ", ".join(runner.programs("", given))))
+        print("%s: no program; looked for %s" % (name, ", ".join(runner.programs(suite, given))))
         sys.exit(3)
     return path
 
