@@ -10,23 +10,25 @@ use Rattle.rank_defs.specs.declared.transaction.Transaction.{Transaction}
 use Rattle.rank_defs.specs.States.{State, SameState, Memory, memory_for, same_flow}
 use Rattle.rank_core.specs.Scope.{memory, run_of}
 use Rattle.rank_core.specs.declared.eaches.Eaches.{Eaches}
-use Rattle.rank_core.specs.declared.eaches.Eaches.TheVariants.{Children, Flows}
+use Rattle.rank_core.specs.declared.eaches.Eaches.TheVariants.{Children, Flows, Bare}
 use Rattle.rank_core.specs.declared.node.NodeState.{NodeState}
 
 -- the numbers of a vector
 abbrev pub items_of : Vec ℕ Global → List ℕ
 items_of v = v.items
 
--- the numbers kept for a child or a flow
+-- the numbers kept for a child or a flow. A bare leaf keeps none for every flow
 abbrev pub kept : Eaches → Who → Option (List ℕ)
 kept (Children values) (Child i) = option_map items_of (slice_get values.items i)
 kept (Flows values) (Flow f) = option_map items_of (get same_flow values f)
+kept Bare (Flow f) = Some []
 kept values who = None
 
 -- of an inner node, how many children it has; none of a leaf
 abbrev pub children : Eaches → Option ℕ
 children (Children values) = Some (length values.items)
 children (Flows values) = None
+children Bare = None
 
 -- the children of a node, as `children`
 abbrev pub children_of : NodeState → Option ℕ

@@ -19,6 +19,8 @@ use std::alloc::{AllocError, Global};
 pub(crate) enum Eaches {
     Children(Vec<Vec<u64>>),
     Flows(IndexMap<FlowKey, Vec<u64>>),
+    /// At a leaf whose flows have no variables. Each of them has room, and no flow is looked up.
+    Bare,
 }
 
 /// First values for so many children.
@@ -34,12 +36,16 @@ pub(crate) fn of_children(alloc: Global, first: &[u64], count: u32) -> Result<Ea
     Ok(Eaches::Children(values))
 }
 
-/// A leaf with no flow yet.
-pub(crate) fn of_flows(alloc: Global) -> Eaches
+/// First values for all flows of a leaf.
+pub(crate) fn of_flows(alloc: Global, first: &[u64]) -> Eaches
     ensures children { children result ≡ None }
-    ensures firsts { (who : Who) → kept result who ≡ None }
+    ensures firsts { (who : Who) → kept_or first.now (kept result who) ≡ first.now }
 {
-    Eaches::Flows(IndexMap::new(alloc))
+    if first.is_empty() {
+        Eaches::Bare
+    } else {
+        Eaches::Flows(IndexMap::new(alloc))
+    }
 }
 
 /// Makes room for a child or a flow. New numbers are the first ones.
@@ -53,7 +59,7 @@ pub(crate) fn reserve(eaches: &mut Eaches, who: &Who, first: &[u64]) -> Result<(
     ensures children { children eaches.new ≡ children eaches.old }
 {
     match eaches {
-        Eaches::Children(_) => Ok(()),
+        Eaches::Children(_) | Eaches::Bare => Ok(()),
         Eaches::Flows(flows) => match who {
             Who::Flow(flow) => add_flow(flows, *flow, first),
             Who::Child(_) => unreachable!(),
@@ -114,6 +120,7 @@ pub(crate) fn run_for(
             Who::Flow(flow) => run_for_flow(flows, *flow, transaction, assigns, env, rank, keeps),
             Who::Child(_) => unreachable!(),
         },
+        Eaches::Bare => run(transaction, assigns, env, rank, keeps, &mut []),
     }
 }
 

@@ -2,7 +2,7 @@
 
 ghost use Rattle.std.specs.Prelude.{◌≡◌, ◌<◌, ◌≤◌, ℕ, length};
 ghost use Rattle.rank_defs.specs.Formulas.{formula_of, group, computes, compares};
-ghost use Rattle.rank_defs.specs.Values.{num, truth, value_of, apply, FitsWide};
+ghost use Rattle.rank_defs.specs.Values.{num, truth, value_of, apply, quotient, FitsWide};
 ghost use Rattle.rank_defs.specs.States.{variable_in};
 ghost use Rattle.rank_defs.specs.Steps.{clamped as clamped_to};
 ghost use Rattle.rank_defs.specs.Shapes.{AreDeclared};
@@ -49,10 +49,21 @@ fn computed(op: Op, x: i128, y: i128) -> i128
         Op::Add => x + y,
         Op::Sub => x - y,
         Op::Mul => x * y,
-        Op::Div => x / y,
+        Op::Div => divided(x, y),
         Op::Min => x.min(y),
         Op::Max => x.max(y),
         _ => unreachable!(),
+    }
+}
+
+/// A division of 128 bits calls a library, so one of 64 is used where they hold both numbers.
+fn divided(x: i128, y: i128) -> i128
+    requires { FitsWide (quotient x y) }
+    ensures { quotient x y ≡ num result }
+{
+    match (u64::try_from(x), u64::try_from(y)) {
+        (Ok(a), Ok(b)) => i128::from(a / b),
+        _ => x / y,
     }
 }
 
@@ -68,6 +79,25 @@ fn compared(op: Op, x: i128, y: i128) -> bool
         Op::MoreEq => x >= y,
         Op::More => x > y,
         _ => unreachable!(),
+    }
+}
+
+/// As `number`, whose call is spared where the expression has no parts.
+#[inline(always)]
+#[cycle(value)]
+pub(crate) fn operand(e: &Expr, transaction: &Transaction, scope: &Scope<'_>) -> i128
+    requires counts { sort_of (formula_of e.now) ≡ counts }
+    requires safe { IsSafe (declared (program_of transaction.now)) (formula_of e.now) }
+    requires variables { AreDeclared (program_of transaction.now) (formula_of e.now) }
+    requires inside { AreInside (declared (program_of transaction.now)) (variable_in scope.now.env.now (memory_of scope.now)) }
+    requires keeps { length scope.now.keeps.now ≡ length transaction.now.keeps }
+    requires eaches { length scope.now.eaches.now ≡ length transaction.now.eaches }
+    ensures { value_of (variable_in scope.now.env.now (memory_of scope.now)) (formula_of e.now) ≡ num result }
+{
+    match e {
+        Expr::Number(n) => i128::from(*n),
+        Expr::Var(var) => i128::from(variable(*var, scope)),
+        _ => number(e, transaction, scope),
     }
 }
 
@@ -87,8 +117,8 @@ pub(crate) fn number(e: &Expr, transaction: &Transaction, scope: &Scope<'_>) -> 
         Expr::Var(var) => i128::from(variable(*var, scope)),
         Expr::Two(op, a, b) => computed(
             *op,
-            number(a, transaction, scope),
-            number(b, transaction, scope),
+            operand(a, transaction, scope),
+            operand(b, transaction, scope),
         ),
         Expr::Not(_) => unreachable!(),
         Expr::If(test, a, b) => {
@@ -117,8 +147,8 @@ fn truth(e: &Expr, transaction: &Transaction, scope: &Scope<'_>) -> bool
             Op::Or => truth(a, transaction, scope) || truth(b, transaction, scope),
             _ => compared(
                 *op,
-                number(a, transaction, scope),
-                number(b, transaction, scope),
+                operand(a, transaction, scope),
+                operand(b, transaction, scope),
             ),
         },
         Expr::Not(a) => !truth(a, transaction, scope),

@@ -63,7 +63,7 @@ impl NodeState {
     {
         let firsts = first_values(alloc, transaction.eaches.as_slice())?;
         let keeps = first_values(alloc, transaction.keeps.as_slice())?;
-        let eaches = of_flows(alloc);
+        let eaches = of_flows(alloc, firsts.as_slice());
         Ok(NodeState {
             firsts,
             keeps,
@@ -85,7 +85,37 @@ impl NodeState {
     }
 }
 
+/// A step with no assignments changes nothing. Most pops are such, and they pay for no call of `run_lines`.
+#[inline]
 fn run_at(
+    state: &mut NodeState,
+    who: &Who,
+    transaction: &Transaction,
+    assigns: &[Assign],
+    env: &Env,
+    rank: u64,
+) -> u64
+    requires shaped { IsShaped (program_of transaction.now) }
+    requires checked { AreCheckedIn transaction.now assigns.now }
+    requires fits { AreShapedIn transaction.now assigns.now }
+    requires in_range { IsStateInRange (program_of transaction.now) (state_of state.old) }
+    requires room { HasRoom state.old who.now }
+    requires told { IsEnvInRange env.now }
+    requires rank { rank ≤ max_rank }
+    ensures rank { result ≡ (step_of transaction.now assigns.now who.now env.entry.now rank state.old).rank }
+    ensures after { HasState state.new
+        (put_back who.now (step_of transaction.now assigns.now who.now env.entry.now rank state.old) (state_of state.old)) }
+    ensures room { (w : Who) → HasRoom state.new w ↔ HasRoom state.old w }
+    ensures children { children_of state.new ≡ children_of state.old }
+{
+    if assigns.is_empty() {
+        return rank;
+    }
+    run_lines(state, who, transaction, assigns, env, rank)
+}
+
+#[inline(never)]
+fn run_lines(
     state: &mut NodeState,
     who: &Who,
     transaction: &Transaction,

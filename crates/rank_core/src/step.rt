@@ -7,7 +7,7 @@ ghost use Rattle.rank_defs.specs.Programs.{program_of, assignment_of};
 ghost use Rattle.rank_defs.specs.Checks.{IsCheckedAssignment};
 ghost use Rattle.rank_core.specs.Scope.{memory, run_of, AreCheckedIn, AreShapedIn};
 
-use crate::evaluate::{Scope, clamped, number};
+use crate::evaluate::{Scope, clamped, operand};
 use rank_defs::{Aim, Assign, Env, MAX_RANK, Span, Transaction};
 
 /// The range of a rank.
@@ -63,7 +63,7 @@ fn perform(
         keeps,
         eaches,
     };
-    let value = number(&assign.value, transaction, &scope);
+    let value = operand(&assign.value, transaction, &scope);
     match assign.aim {
         Aim::Rank => return clamped(value, RANKS),
         Aim::Keep(k) => keeps[k as usize] = clamped(

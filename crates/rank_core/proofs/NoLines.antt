@@ -1,0 +1,19 @@
+-- A step with no assignments changes nothing.
+use Rattle.std.proofs.Common.{arith, ◌≡◌, ◌∷◌, ℕ, List, [], length, true, false, cond, refl, sym, ap}
+use Rattle.rank_defs.specs.declared.environment.Env.{Env}
+use Rattle.rank_defs.specs.declared.environment.Who.{Who}
+use Rattle.rank_defs.specs.declared.transaction.Assign.{Assign}
+use Rattle.rank_defs.specs.declared.transaction.Transaction.{Transaction}
+use Rattle.rank_defs.specs.States.{State, SameState, memory_for, put_back, same_who}
+use Rattle.rank_defs.proofs.OtherStates.{same_who-is}
+use Rattle.rank_core.specs.declared.node.NodeState.{NodeState}
+use Rattle.rank_core.specs.Node.{state_of, step_of, HasState}
+
+-- what a child or flow had is put back
+put_back-unchanged : (who : Who) (r : ℕ) (s : State) → SameState s (put_back who (memory_for who r s) s)
+put_back-unchanged who r s =
+    record { keeps = refl; eaches = λ w. (elim (same_who w who) as (λ b. same_who w who ≡ b → s.eaches w ≡ cond b (s.eaches who) (s.eaches w)) [ true ↦ λ e. ap s.eaches (same_who-is w who e) | false ↦ λ e. refl ]) refl }
+
+pub no_lines : (t : Transaction) (assigns : List Assign) (who : Who) (env : Env) (r : ℕ) (n : NodeState) → length assigns ≡ 0 → HasState n (put_back who (step_of t assigns who env r n) (state_of n))
+no_lines t [] who env r n none = put_back-unchanged who r (state_of n)
+no_lines t (a ∷ rest) who env r n none = absurd (omega (arith, none))
