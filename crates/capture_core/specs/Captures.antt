@@ -27,6 +27,10 @@ Comes None new packet = ⊤
 Comes (Some old) None packet = ⊥
 Comes (Some old) (Some new) packet = (old.packets ≡ packet ∷ new.packets) × (old.fault ≡ new.fault)
 
+-- of what was left one packet came, where that is told
+abbrev pub IsOneLess : Option Contents → Option Contents → Type 0
+IsOneLess old new = (packet : CapturedPacket) × Comes old new packet
+
 -- no packet is left, and this fault or none, where that is told
 abbrev pub IsAt : Option FaultAt → Option Contents → Type 0
 IsAt fault left = IfSome left (λ contents. (contents.packets ≡ []) × (contents.fault ≡ fault))

@@ -1,10 +1,10 @@
 //! The trait of readers of captures.
-ghost use Rattle.std.specs.Prelude.{◌≡◌, ◌≤◌, ◌<◌, ◌+◌, ◌^◌, ◌↔◌, ℕ, Bool, List, Option, Some, None, length, is_some, if◌then◌else◌, IfOk, IfErr, OnOk, IfSome, IfNone, IsErrOf, IsOk, IsTrue};
+ghost use Rattle.std.specs.Prelude.{◌≡◌, ◌≤◌, ◌<◌, ◌+◌, ◌^◌, ◌↔◌, ℕ, Bool, true, false, List, Option, Some, None, length, is_some, if◌then◌else◌, IfOk, IfErr, OnOk, IfSome, IfNone, IsErrOf, IsOk, IsTrue};
 ghost use Rattle.outside_core.specs.Faults.{Rose};
 ghost use Rattle.outside_core.specs.Kept.{KeepsShelf};
 ghost use Rattle.pcap_defs.specs.Record.{most_captured, most_records};
 ghost use Rattle.pcap_defs.specs.Contents.{Contents, FileContents, no_capture};
-ghost use Rattle.capture_core.specs.Captures.{packet_of, fault_told, Opens, Comes, IsAt, LeavesNone};
+ghost use Rattle.capture_core.specs.Captures.{packet_of, fault_told, Opens, Comes, IsOneLess, IsAt, LeavesNone};
 
 use crate::frame::LinkedFrame;
 use crate::unread::Unread;
@@ -78,6 +78,28 @@ pub trait CaptureReader {
         ensures short { IfOk result (λ o. IfSome o (λ f. f.frame.captured ≤ most_captured)) }
         ensures moment { IfOk result (λ o. IfSome o (λ f. f.frame.moment < 2 ^ 62)) }
         ensures given { IfOk result (λ o. given self.new ≡ given self.old + (if is_some o then 1 else 0)) }
+        ensures ready { OnOk result (ready self.new) }
+        ensures live { IsTrue (is_live self.new) ↔ IsOk result }
+
+        ensures begun { IsTrue (S.begun shelf.new) }
+        ensures kept { KeepsShelf S.lends S.content S.faults shelf.old shelf.new }
+        ensures cause { IsErrOf result Unread.Source → Rose (S.faults shelf.old) (S.faults shelf.new) };
+
+    /// Passes over the next packet, and answers whether there was one. What `scratch` held is lost.
+    fn pass<S: Shelf>(&mut self, shelf: &mut S, scratch: &mut Vec<u8>) -> Result<bool, Unread>
+        requires ready { ready self.old }
+        requires begun { IsTrue (S.begun shelf.old) }
+
+        ensures comes { IfOk result (λ some. some ≡ true → IsOneLess (left self.old (S.left shelf.old))
+            (left self.new (S.left shelf.new))) }
+        ensures ended { IfOk result (λ some. some ≡ false → IsAt None (left self.old (S.left shelf.old))) }
+        ensures over { IfOk result (λ some. some ≡ false → LeavesNone (left self.old (S.left shelf.old))
+            (left self.new (S.left shelf.new))) }
+        ensures fault { IfErr result (λ e. IfSome (fault_told e) (λ fault.
+            IsAt (Some fault) (left self.old (S.left shelf.old)))) }
+
+        ensures given { IfOk result (λ some. given self.new ≡ given self.old + (if some then 1 else 0)) }
+        ensures few { IfOk result (λ some. some ≡ true → given self.new ≤ most_records) }
         ensures ready { OnOk result (ready self.new) }
         ensures live { IsTrue (is_live self.new) ↔ IsOk result }
 

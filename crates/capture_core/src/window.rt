@@ -37,6 +37,13 @@ impl Window {
         }
     }
 
+    /// The bytes that it holds.
+    pub fn front(&self) -> &[u8]
+        ensures { result.now ≡ held self.now }
+    {
+        &self.buffer[self.at..self.end]
+    }
+
     fn is_empty(&self) -> bool
         ensures { result ≡ (length (held self.now) == 0) }
     {
@@ -175,7 +182,7 @@ impl Window {
     }
 
     /// Passes over held bytes, at most so many, and answers how many these were.
-    fn advance(&mut self, most: usize) -> usize
+    pub fn advance(&mut self, most: usize) -> usize
         ensures count { result ≡ min (length (held self.old)) most }
         ensures passed { held self.new ≡ drop result (held self.old) }
     {

@@ -11,7 +11,7 @@ use Rattle.pcap_defs.specs.Packet.{packet_with}
 use Rattle.pcap_defs.specs.Contents.{FaultAt, no_capture, fault_at, in_capture}
 use Rattle.pcap_defs.proofs.ReadingLaws.{capture_of-header, capture_of-fault, records_left-nothing, records_left-fault, records_left-record}
 use Rattle.capture_core.specs.Rest.{IsWhole, LeavesNothing}
-use Rattle.capture_core.specs.Captures.{packet_of, fault_told, Opens, Comes, IsAt, LeavesNone}
+use Rattle.capture_core.specs.Captures.{packet_of, fault_told, Opens, Comes, IsOneLess, IsAt, LeavesNone}
 use Rattle.capture_core.specs.declared.frame.LinkedFrame.{LinkedFrame}
 use Rattle.pcap_core.specs.Faults.{fault_in, unread_as}
 use Rattle.pcap_core.specs.Frames.{IsFrameOf}
@@ -73,6 +73,15 @@ pub comes-at : (before after : Option Head) (n next : ℕ) (old new : Option (Li
     → Comes (option_map (contents_in (head_read before) n) old) (option_map (contents_in (head_read after) next) new) (packet_of f bytes)
 comes-at None after n next old new r f bytes same given few is linked t = rw (same, given) (comes (head_read None) n old new r f bytes few is (rw same at linked) t)
 comes-at (Some head) after n next old new r f bytes same given few is linked t = rw (same, given) (comes head n old new r f bytes few is (rw same at linked) t)
+
+-- and so one packet came where its captured bytes aren't told
+pub one-less : (before after : Option Head) (n next : ℕ) (old new : Option (List ℕ)) (r : Record) → after ≡ before → next ≡ n + 1 → n < most_records
+    → TakesRecord (option_map_or (λ (h : Head). h.big) before false) r old new
+    → IsOneLess (option_map (contents_in (head_read before) n) old) (option_map (contents_in (head_read after) next) new)
+one-less before after n next old new r same given few t =
+    let nano = option_map_or (λ (h : Head). h.nano) before false in
+    let f : LinkedFrame = record { frame = record { number = next; moment = moment nano r; captured = 0; len = r.original }; link = (head_read after).link } in
+    (packet_of f r.captured, comes-at before after n next old new r f r.captured same given few (record { moment_is = refl; original = refl; captured = refl }) refl t)
 
 -- there is none where nothing is left
 pub ends : (head : Head) (n : ℕ) (old : Option (List ℕ)) → IsWhole old → IsAt None (option_map (contents_in head n) old)

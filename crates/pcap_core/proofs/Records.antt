@@ -1,18 +1,21 @@
 -- What the pieces taken from what is left say of it.
-use Rattle.std.proofs.Common.{true, false, Ok, Err, ◌≡◌, ◌<◌, ◌≤◌, ◌+◌, ℕ, Bool, Option, Some, None, List, [], ◌++◌, length, IfSome, refl, sym, ap, ◌∙◌, subst, arith, append_assoc, length-append}
-use Rattle.std.proofs.lemmas.List.{drop_at}
+use Rattle.std.proofs.Common.{true, false, Ok, Err, ◌≡◌, ◌<◌, ◌≤◌, ◌+◌, ℕ, Bool, Option, Some, None, List, [], ◌++◌, length, take, IfSome, refl, sym, ap, ◌∙◌, subst, arith, append_assoc, length-append}
+use Rattle.std.proofs.Math.ListN.{replicate}
+use Rattle.std.proofs.lemmas.List.{drop_at, length-take, take-append-drop, length-replicate}
 use Rattle.pcap_defs.specs.declared.head.Head.{Head}
 use Rattle.pcap_defs.specs.Number.{long_at}
 use Rattle.pcap_defs.specs.Fault.{Fault, header_cut, bad_magic, pcap_ng, version, record_cut, data_cut, record_long, too_many}
 use Rattle.pcap_defs.specs.Header.{IsHeader, IsHeaderFault}
-use Rattle.pcap_defs.specs.Record.{Record, IsSpelling, IsRecordFault, captured_len, moment_at, most_captured, most_records, record_len}
+use Rattle.pcap_defs.specs.Record.{Record, IsSpelling, IsRecordFault, captured_len, most_captured, most_records, record_len}
 use Rattle.pcap_defs.specs.Reading.{front_of, found, broken}
 use Rattle.pcap_defs.specs.Reading.{head_of as head_in_file}
 use Rattle.pcap_defs.proofs.Numbers.{number_at-append}
 use Rattle.pcap_defs.proofs.Headers.{head_of-header, head_of-fault}
 use Rattle.pcap_defs.proofs.FrontTests.{front_of-spelled, front_of-fault}
 use Rattle.capture_core.specs.Rest.{rest_of, TakesFront, IsWhole, LeavesNothing, IsShort}
-use Rattle.pcap_core.specs.Rest.{TakesHeader, TakesRecord}
+use Rattle.capture_core.specs.Passed.{Passes, IsAll}
+use Rattle.pcap_core.specs.declared.preface.Preface.{Preface}
+use Rattle.pcap_core.specs.Rest.{TakesHeader, TakesPreface, TakesRecord}
 use Rattle.pcap_core.specs.Frames.{IsFrameOf, IsFrontFault}
 
 -- nothing taken leaves nothing to take
@@ -75,34 +78,49 @@ front-broken big n front None mid fault taken short h = tt
 front-broken big n front (Some left) None fault taken short h = absurd taken
 front-broken big n front (Some left) (Some rest) fault taken short h = front-fault big n front rest left fault taken short h
 
+-- fewer bytes are left than so many, where fewer were taken, and where fewer were passed over
+pub short-taken : (most : ℕ) (mid : Option (List ℕ)) (captured : List ℕ) → IsShort mid captured most → length captured < most → IfSome mid (λ rest. length rest < most)
+short-taken most None captured short cut = tt
+short-taken most (Some rest) captured short cut = omega (arith, ap length (short cut), cut)
+
+pub short-passed : (most n : ℕ) (mid : Option (List ℕ)) → IsAll n mid → n < most → IfSome mid (λ rest. length rest < most)
+short-passed most n None all cut = tt
+short-passed most n (Some rest) all cut = omega (arith, all, cut)
+
 -- captured bytes that end too soon
-pub data-broken : (big : Bool) (n k most : ℕ) (front bytes captured : List ℕ) (old mid : Option (List ℕ)) → TakesFront old mid front → IsShort mid captured most → bytes ≡ front
-    → n < most_records → k ≡ n + 1 → length bytes ≡ record_len → most ≡ captured_len big bytes → most ≤ most_captured → length captured < most
-    → IfSome old (λ left. IsRecordFault big n left (data_cut k))
-data-broken big n k most front bytes captured None mid taken short same few number size said long cut = tt
-data-broken big n k most front bytes captured (Some left) None taken short same few number size said long cut = absurd taken
-data-broken big n k most front bytes captured (Some left) (Some rest) taken short same few number size said long cut =
-    let front_size : length front ≡ record_len = ap length (sym same) ∙ size in
-    let front_said : most ≡ captured_len big front = said ∙ ap (captured_len big) same in
-    let counted : captured_len big left ≡ captured_len big front = ap (captured_len big) taken ∙ number_at-append big 4 8 front rest (omega (arith, front_size)) in
+pub data-broken : (head : Head) (n k : ℕ) (p : Preface) (old mid : Option (List ℕ)) → TakesPreface head p old mid → IfSome mid (λ rest. length rest < p.captured)
+    → n < most_records → k ≡ n + 1 → p.captured ≤ most_captured → IfSome old (λ left. IsRecordFault head.big n left (data_cut k))
+data-broken head n k p None mid taken cut few number short = tt
+data-broken head n k p (Some left) None (front, says, taken) cut few number short = absurd taken
+data-broken head n k p (Some left) (Some rest) (front, says, taken) cut few number short =
+    let counted : captured_len head.big left ≡ captured_len head.big front = ap (captured_len head.big) taken ∙ number_at-append head.big 4 8 front rest (omega (arith, says.whole)) in
     let len : length left ≡ length front + length rest = ap length taken ∙ length-append front rest in
-    let all : rest ≡ captured = short cut in
-    (few, number, omega (arith, len, front_size), omega (arith, counted, front_said, long), omega (arith, counted, len, front_size, front_said, ap length all, cut))
+    (few, number, omega (arith, len, says.whole), omega (arith, counted, says.counted, short), omega (arith, counted, len, says.whole, says.counted, cut))
 
 -- a record in two pieces, and what is told of it
-pub frame-taken : (big nano : Bool) (number moment most len : ℕ) (front bytes captured : List ℕ) (old mid new : Option (List ℕ)) → TakesFront old mid front → TakesFront mid new captured → bytes ≡ front
-    → length bytes ≡ record_len → most ≡ captured_len big bytes → most ≤ most_captured → most ≡ length captured
-    → moment ≡ moment_at nano (long_at big 0 bytes) (long_at big 4 bytes) → len ≡ long_at big 12 bytes
-    → (r : Record) × IsFrameOf nano r (record { number = number; moment = moment; captured = most; len = len }) captured × TakesRecord big r old new
-frame-taken big nano number moment most len front bytes captured old mid new first second same size said long counted moment_is len_is = (
-  record { seconds = long_at big 0 front; fraction = long_at big 4 front; original = long_at big 12 front; captured = captured },
-  record {
-    moment_is = ap (λ xs. moment_at nano (long_at big 0 xs) (long_at big 4 xs)) (sym same) ∙ sym moment_is;
-    original = ap (long_at big 12) (sym same) ∙ sym len_is;
-    captured = refl;
-  },
-  record-taken big front captured old mid new first second (ap length (sym same) ∙ size) (ap (captured_len big) (sym same) ∙ sym said ∙ counted) (omega (arith, counted, long)),
+pub frame-taken : (head : Head) (number : ℕ) (p : Preface) (captured : List ℕ) (old mid new : Option (List ℕ)) → TakesPreface head p old mid → TakesFront mid new captured
+    → p.captured ≤ most_captured → p.captured ≡ length captured
+    → (r : Record) × IsFrameOf head.nano r (record { number = number; moment = p.moment; captured = p.captured; len = p.len }) captured × TakesRecord head.big r old new
+frame-taken head number p captured old mid new (front, says, first) second short counted = (
+  record { seconds = long_at head.big 0 front; fraction = long_at head.big 4 front; original = long_at head.big 12 front; captured = captured },
+  record { moment_is = sym says.moment_is; original = sym says.original; captured = refl },
+  record-taken head.big front captured old mid new first second says.whole (sym says.counted ∙ counted) (omega (arith, counted, short)),
 )
+
+-- bytes that were passed over were at the front of what was left
+passed-taken : (n : ℕ) (mid new : Option (List ℕ)) → Passes n mid new → (bytes : List ℕ) × (n ≡ length bytes) × TakesFront mid new bytes
+passed-taken n None new passed = (replicate n 0, sym (length-replicate n 0), tt)
+passed-taken n (Some mid) None passed = absurd passed
+passed-taken n (Some mid) (Some new) passed =
+    (take n mid, omega (arith, length-take n mid, passed.0), sym (take-append-drop n mid) ∙ ap (λ xs. take n mid ++ xs) (sym passed.1))
+
+-- a record whose captured bytes were passed over
+pub record-passed : (head : Head) (n : ℕ) (p : Preface) (old mid new : Option (List ℕ)) → TakesPreface head p old mid → Passes n mid new → n ≡ p.captured → p.captured ≤ most_captured
+    → (r : Record) × TakesRecord head.big r old new
+record-passed head n p old mid new taken passed all short =
+    let (captured, counted, second) = passed-taken n mid new passed in
+    let (r, is, spelled) = frame-taken head 0 p captured old mid new taken second short (sym all ∙ counted) in
+    (r, spelled)
 
 -- a file that begins with an accepted header has no fault of the header
 header-clean : (head : Head) (header rest file : List ℕ) → file ≡ header ++ rest → IsHeader head header → (fault : Fault) → IsHeaderFault file fault → false ≡ true

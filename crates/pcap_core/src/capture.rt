@@ -67,4 +67,11 @@ impl CaptureReader for Reader {
             Err(fault) => Err(unread(fault)),
         }
     }
+
+    fn pass<S: Shelf>(&mut self, shelf: &mut S, scratch: &mut Vec<u8>) -> Result<bool, Unread> {
+        match Reader::pass(self, shelf, scratch) {
+            Ok(some) => Ok(some),
+            Err(fault) => Err(unread(fault)),
+        }
+    }
 }

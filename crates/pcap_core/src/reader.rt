@@ -1,5 +1,5 @@
 //! Reading a capture record by record.
-ghost use Rattle.std.specs.Prelude.{◌≡◌, ◌≤◌, ◌<◌, ◌+◌, ◌^◌, ◌↔◌, ℕ, List, Option, Some, None, [], length, vec_len, IfOk, IfErr, OnOk, OnErr, IfSome, IfNone, OnSome, IsErrOf, IsErr, IsTrue, IsFalse};
+ghost use Rattle.std.specs.Prelude.{◌≡◌, ◌≤◌, ◌<◌, ◌+◌, ◌^◌, ◌↔◌, ℕ, true, false, List, Option, Some, None, [], length, vec_len, IfOk, IfErr, OnOk, OnErr, IfSome, IfNone, OnSome, IsErrOf, IsErr, IsTrue, IsFalse};
 ghost use Rattle.outside_core.specs.Faults.{Rose};
 ghost use Rattle.outside_core.specs.Kept.{KeepsShelf};
 ghost use Rattle.pcap_defs.specs.Fault.{Fault};
@@ -9,11 +9,11 @@ ghost use Rattle.pcap_core.specs.Faults.{fault_in};
 ghost use Rattle.pcap_core.specs.Frames.{IsFrameOf};
 ghost use Rattle.capture_core.specs.Held.{held};
 ghost use Rattle.capture_core.specs.Rest.{rest_of, IsWhole, LeavesNothing, Serves};
-ghost use Rattle.pcap_core.specs.Rest.{TakesHeader, TakesRecord};
+ghost use Rattle.pcap_core.specs.Rest.{TakesHeader, TakesPreface, TakesRecord};
 
 use crate::fault::CaptureFault;
 use crate::header::{HEADER_LEN, head_in};
-use crate::preface::{RECORD_LEN, preface_in};
+use crate::preface::{Preface, RECORD_LEN, preface_in};
 use capture_core::{Frame, Window};
 use outside_core::Shelf;
 use pcap_defs::Head;
@@ -37,6 +37,44 @@ fn read_head<S: Shelf>(
     let mut bytes = Vec::new(alloc);
     window.take_anew(shelf, &mut bytes, HEADER_LEN)?;
     head_in(&bytes)
+}
+
+/// Reads what the next record, behind so many, says of its captured bytes. They are looked at where they lie, if all are held.
+fn read_preface<S: Shelf>(
+    head: Head,
+    count: u32,
+    window: &mut Window,
+    shelf: &mut S,
+    scratch: &mut Vec<u8>,
+) -> Result<Option<Preface>, CaptureFault>
+    requires begun { IsTrue (S.begun shelf.old) }
+    ensures told { IfOk result (λ o. IfSome o (λ preface.
+        TakesPreface head preface (rest_of (held window.old) (S.left shelf.old))
+        (rest_of (held window.new) (S.left shelf.new)))) }
+    ensures few { IfOk result (λ o. IfSome o (λ preface. count < most_records)) }
+    ensures moment { IfOk result (λ o. IfSome o (λ preface. preface.moment < 2 ^ 62)) }
+    ensures short { IfOk result (λ o. IfSome o (λ preface. preface.captured ≤ most_captured)) }
+    ensures ended { IfOk result (λ o.
+        IfNone o (IsWhole (rest_of (held window.old) (S.left shelf.old)))) }
+    ensures over { IfOk result (λ o. IfNone o (LeavesNothing (rest_of (held window.old) (S.left shelf.old))
+        (rest_of (held window.new) (S.left shelf.new)))) }
+    ensures fault { IfErr result (λ e. IfSome (fault_in e) (λ fault.
+        IfSome (rest_of (held window.old) (S.left shelf.old)) (λ left.
+        IsRecordFault head.big count left fault))) }
+    ensures shelf { Serves S.lends S.content S.begun S.faults shelf.old shelf.new }
+    ensures cause { IsErrOf result CaptureFault.ReadFault → Rose (S.faults shelf.old) (S.faults shelf.new) }
+{
+    let front = window.front();
+    if front.len() >= RECORD_LEN {
+        let preface = preface_in(head, count, &front[..RECORD_LEN])?;
+        window.advance(RECORD_LEN);
+        return Ok(Some(preface));
+    }
+    window.take_anew(shelf, scratch, RECORD_LEN)?;
+    if scratch.is_empty() {
+        return Ok(None);
+    }
+    Ok(Some(preface_in(head, count, scratch)?))
 }
 
 /// Reads the next record, behind so many.
@@ -67,11 +105,9 @@ fn read_record<S: Shelf>(
     ensures shelf { Serves S.lends S.content S.begun S.faults shelf.old shelf.new }
     ensures cause { IsErrOf result CaptureFault.ReadFault → Rose (S.faults shelf.old) (S.faults shelf.new) }
 {
-    window.take_anew(shelf, into, RECORD_LEN)?;
-    if into.is_empty() {
+    let Some(preface) = read_preface(head, count, window, shelf, into)? else {
         return Ok(None);
-    }
-    let preface = preface_in(head, count, into)?;
+    };
     window.take_anew(shelf, into, preface.captured as usize)?;
     let number = u64::from(count) + 1;
     if into.len() < preface.captured as usize {
@@ -85,6 +121,41 @@ fn read_record<S: Shelf>(
     }))
 }
 
+/// Passes over the next record, behind so many, and answers whether there was one.
+fn pass_record<S: Shelf>(
+    head: Head,
+    count: u32,
+    window: &mut Window,
+    shelf: &mut S,
+    scratch: &mut Vec<u8>,
+) -> Result<bool, CaptureFault>
+    requires begun { IsTrue (S.begun shelf.old) }
+    ensures found { IfOk result (λ some. some ≡ true → (r : Record)
+        × TakesRecord head.big r (rest_of (held window.old) (S.left shelf.old))
+        (rest_of (held window.new) (S.left shelf.new))) }
+    ensures few { IfOk result (λ some. some ≡ true → count < most_records) }
+    ensures ended { IfOk result (λ some. some ≡ false →
+        IsWhole (rest_of (held window.old) (S.left shelf.old))) }
+    ensures over { IfOk result (λ some. some ≡ false →
+        LeavesNothing (rest_of (held window.old) (S.left shelf.old))
+        (rest_of (held window.new) (S.left shelf.new))) }
+    ensures fault { IfErr result (λ e. IfSome (fault_in e) (λ fault.
+        IfSome (rest_of (held window.old) (S.left shelf.old)) (λ left.
+        IsRecordFault head.big count left fault))) }
+    ensures shelf { Serves S.lends S.content S.begun S.faults shelf.old shelf.new }
+    ensures cause { IsErrOf result CaptureFault.ReadFault → Rose (S.faults shelf.old) (S.faults shelf.new) }
+{
+    let Some(preface) = read_preface(head, count, window, shelf, scratch)? else {
+        return Ok(false);
+    };
+    let captured = preface.captured as usize;
+    let passed = window.pass(shelf, captured)?;
+    if passed < captured {
+        return Err(CaptureFault::DataCut(u64::from(count) + 1));
+    }
+    Ok(true)
+}
+
 /// Reads a capture record by record. It holds at most 65,536 bytes that aren't used up.
 #[derive(Drop)]
 pub struct Reader {
@@ -96,7 +167,7 @@ pub struct Reader {
 }
 
 impl Reader {
-    ghost use Rattle.std.specs.Prelude.{◌≡◌, ◌≤◌, ◌<◌, ◌+◌, ◌^◌, ◌↔◌, ℕ, List, Option, Some, None, [], length, vec_len, IfOk, IfErr, OnOk, OnErr, IfSome, IfNone, OnSome, IsErrOf, IsErr, IsOk, IsSome, IsTrue, IsFalse, MatchResult, is_some, if◌then◌else◌};
+    ghost use Rattle.std.specs.Prelude.{◌≡◌, ◌≤◌, ◌<◌, ◌+◌, ◌^◌, ◌↔◌, ℕ, true, false, List, Option, Some, None, [], length, vec_len, IfOk, IfErr, OnOk, OnErr, IfSome, IfNone, OnSome, IsErrOf, IsErr, IsOk, IsSome, IsTrue, IsFalse, MatchResult, is_some, if◌then◌else◌};
     ghost use Rattle.outside_core.specs.Faults.{Rose};
     ghost use Rattle.outside_core.specs.Kept.{KeepsShelf};
     ghost use Rattle.pcap_defs.specs.Fault.{Fault};
@@ -227,6 +298,61 @@ impl Reader {
                 Ok(Some(frame))
             }
             Ok(None) => Ok(None),
+            Err(fault) => {
+                self.live = false;
+                Err(fault)
+            }
+        }
+    }
+
+    /// Passes over the next record, and answers whether there was one. What `scratch` held is lost.
+    pub fn pass<S: Shelf>(
+        &mut self,
+        shelf: &mut S,
+        scratch: &mut Vec<u8>,
+    ) -> Result<bool, CaptureFault>
+        requires started { IsSome (head_of self.old) }
+        requires live { IsTrue (is_live self.old) }
+        requires begun { IsTrue (S.begun shelf.old) }
+
+        // What was left is the spelling of a record, and what is left now.
+        ensures found { IfOk result (λ some. some ≡ true → (r : Record)
+            × TakesRecord (is_big self.old) r (rest_left self.old (S.left shelf.old))
+            (rest_left self.new (S.left shelf.new))) }
+        ensures few { IfOk result (λ some. some ≡ true → records_given self.new ≤ most_records) }
+
+        // There is no record exactly where nothing is left, and then nothing is left for a later call.
+        ensures ended { IfOk result (λ some. some ≡ false → IsWhole (rest_left self.old (S.left shelf.old))) }
+        ensures over { IfOk result (λ some. some ≡ false → LeavesNothing
+            (rest_left self.old (S.left shelf.old)) (rest_left self.new (S.left shelf.new))) }
+        ensures ends { IfSome (rest_left self.old (S.left shelf.old)) (λ left.
+            left ≡ [] → MatchResult result (λ some. some ≡ false) (λ e. fault_in e ≡ None)) }
+
+        // A fault of the file is answered exactly where what is left has it.
+        ensures fault { IfErr result (λ e. IfSome (fault_in e) (λ fault.
+            IfSome (rest_left self.old (S.left shelf.old)) (λ left.
+            IsRecordFault (is_big self.old) (records_given self.old) left fault))) }
+        ensures refused { IfSome (rest_left self.old (S.left shelf.old)) (λ left.
+            (fault : Fault) → IsRecordFault (is_big self.old) (records_given self.old) left fault → IsErr result) }
+        ensures live { IsTrue (is_live self.new) ↔ IsOk result }
+
+        ensures head { head_of self.new ≡ head_of self.old }
+        ensures given { IfOk result (λ some.
+            records_given self.new ≡ records_given self.old + (if some then 1 else 0)) }
+        ensures bounded { length (bytes_held self.new) ≤ most_held }
+        ensures begun { IsTrue (S.begun shelf.new) }
+        ensures kept { KeepsShelf S.lends S.content S.faults shelf.old shelf.new }
+        ensures cause { IsErrOf result CaptureFault.ReadFault → Rose (S.faults shelf.old) (S.faults shelf.new) }
+    {
+        let Some(head) = self.head else {
+            unreachable!()
+        };
+        match pass_record(head, self.records, &mut self.window, shelf, scratch) {
+            Ok(true) => {
+                self.records += 1;
+                Ok(true)
+            }
+            Ok(false) => Ok(false),
             Err(fault) => {
                 self.live = false;
                 Err(fault)

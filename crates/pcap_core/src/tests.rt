@@ -122,6 +122,61 @@ fn captures_are_read_the_same_however_reads_are_cut(rt: HostRuntime) -> Result<(
     Ok(())
 }
 
+/// How many records of a capture a reader passes over, and how it ends. At the end the reader is asked once more.
+fn passed(alloc: Global, shelf: &mut MemShelf) -> Result<String, Fail> {
+    let mut reader = Reader::new(alloc);
+    let mut scratch = Vec::new(alloc);
+    shelf.begin("c").ok().ok_or("begin")?;
+    reader.start(shelf).ok().ok_or("start")?;
+    for count in 0..4 {
+        match reader.pass(shelf, &mut scratch) {
+            Ok(true) => {}
+            Ok(false) => {
+                let stays = matches!(reader.pass(shelf, &mut scratch), Ok(false));
+                let ends = if stays { "end" } else { "more" };
+                return Ok(format!(in alloc; "{count}, {ends}")?);
+            }
+            Err(fault) => {
+                let (code, place) = (fault.code(), fault.place());
+                return Ok(format!(in alloc; "{count}, fault {code} {place}")?);
+            }
+        }
+    }
+    Ok(String::from_str(alloc, "more")?)
+}
+
+/// Reads of forty bytes end where the first record's captured bytes begin.
+#[test]
+fn records_are_passed_over_as_they_are_read(rt: HostRuntime) -> Result<(), Fail> {
+    let alloc = rt.alloc();
+    let table: [(&[&[u8]], &str); 7] = [
+        (&[PLAIN], "0, end"),
+        (&[PLAIN, FIRST, SECOND], "2, end"),
+        (&[PLAIN, FIRST, SECOND, CUT], "2, fault 6 3"),
+        (&[EXACT, TAGGED, FRAGMENT, UNTAGGED], "3, end"),
+        (&[PLAIN, LONG], "0, fault 7 1"),
+        (&[PLAIN, FIRST, b"\x01"], "1, fault 5 2"),
+        (&[PLAIN, FIRST, LONG], "1, fault 7 2"),
+    ];
+    for most in [1, 2, 7, 40, 65_536] {
+        for (pieces, want) in table {
+            let mut shelf = shelf_of(alloc, pieces, most, 0)?;
+            let text = passed(alloc, &mut shelf)?;
+            assert_eq!(rt; text.as_str(), want, "reads of {most} bytes");
+        }
+    }
+    for (fail, want) in [
+        (6, "0, fault 0 0"),
+        (8, "0, fault 0 0"),
+        (9, "1, fault 0 0"),
+    ] {
+        let mut shelf = shelf_of(alloc, &[PLAIN, FIRST, SECOND], 7, fail)?;
+        let text = passed(alloc, &mut shelf)?;
+        assert_eq!(rt; text.as_str(), want, "call {fail} fails");
+    }
+    Ok(())
+}
+
 /// The header takes four reads of seven bytes, behind the call that begins the file.
 #[test]
 fn a_failed_read_is_no_fault_of_the_file(rt: HostRuntime) -> Result<(), Fail> {

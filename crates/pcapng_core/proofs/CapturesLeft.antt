@@ -1,12 +1,12 @@
 -- What a reader's answers say of what it leaves to come, in the words that are those of every capture.
-use Rattle.std.proofs.Common.{◌≡◌, ◌≢◌, ℕ, Option, Some, None, List, [], ◌∷◌, refl, sym, ap, ◌∙◌, subst}
-use Rattle.std.specs.Prelude.{IfSome, IfNone, option_map}
+use Rattle.std.proofs.Common.{◌≡◌, ◌≢◌, ℕ, true, false, Option, Some, None, List, [], ◌∷◌, refl, sym, ap, ◌∙◌, subst}
+use Rattle.std.specs.Prelude.{IfSome, IfNone, is_some, option_map}
 use Rattle.std.proofs.lemmas.Option.{IfSome_then}
 use Rattle.pcap_defs.specs.Packet.{CapturedPacket}
 use Rattle.pcap_defs.specs.Contents.{FaultAt, no_capture}
 use Rattle.capture_core.specs.Rest.{LeavesNothing}
 use Rattle.capture_core.specs.declared.frame.LinkedFrame.{LinkedFrame}
-use Rattle.capture_core.specs.Captures.{packet_of, fault_told, Opens, Comes, IsAt, LeavesNone}
+use Rattle.capture_core.specs.Captures.{packet_of, fault_told, Opens, Comes, IsOneLess, IsAt, LeavesNone}
 use Rattle.pcapng_defs.specs.Fault.{BlockFault}
 use Rattle.pcapng_defs.specs.Block.{Carried, at_start}
 use Rattle.pcapng_defs.specs.NgCapture.{Reading, front_of, broken, reading_of, ng_capture_of, at_front, behind}
@@ -88,3 +88,18 @@ pub leaves-at : (c after : Carried) (given : Option LinkedFrame) (old new : Opti
     → IfNone given (LeavesNone (option_map (contents_in c) old) (option_map (contents_in after) new))
 leaves-at c after None old new none some = leaves c after old new none some
 leaves-at c after (Some f) old new none some = tt
+
+-- the same of the answer whether one came
+pub one-less-at : (c after : Carried) (given : Option LinkedFrame) (bytes : List ℕ) (old new : Option (List ℕ)) → IfSome given (λ f. GoesOn c (packet_of f bytes ∷ []) after old new)
+    → is_some given ≡ true → IsOneLess (option_map (contents_in c) old) (option_map (contents_in after) new)
+one-less-at c after None bytes old new goes some = absurd (cc)
+one-less-at c after (Some f) bytes old new goes some = (packet_of f bytes, comes c after (packet_of f bytes) old new goes)
+
+pub ends-none : (c : Carried) (given : Option LinkedFrame) (old : Option (List ℕ)) → IfNone given (IfSome old (IsOver c None)) → is_some given ≡ false → IsAt None (option_map (contents_in c) old)
+ends-none c None old over none = ends c old over
+ends-none c (Some f) old over none = absurd (cc)
+
+pub leaves-none : (c after : Carried) (given : Option LinkedFrame) (old new : Option (List ℕ)) → IfNone given (LeavesNothing old new) → IfNone given (after.blocks ≢ 0)
+    → is_some given ≡ false → LeavesNone (option_map (contents_in c) old) (option_map (contents_in after) new)
+leaves-none c after None old new nothing came none = leaves c after old new nothing came
+leaves-none c after (Some f) old new nothing came none = absurd (cc)

@@ -62,4 +62,11 @@ impl CaptureReader for NgReader {
             Err(fault) => Err(unread(fault)),
         }
     }
+
+    fn pass<S: Shelf>(&mut self, shelf: &mut S, scratch: &mut Vec<u8>) -> Result<bool, Unread> {
+        match NgReader::next(self, shelf, scratch) {
+            Ok(given) => Ok(given.is_some()),
+            Err(fault) => Err(unread(fault)),
+        }
+    }
 }
