@@ -1,5 +1,5 @@
 -- A step with no assignments changes nothing.
-use Rattle.std.proofs.Common.{arith, ◌≡◌, ◌∷◌, ℕ, List, [], length, true, false, cond, refl, sym, ap}
+use Rattle.std.proofs.Common.{arith, ◌≡◌, ◌∷◌, ℕ, List, [], length, true, false, cond, refl, ap}
 use Rattle.rank_defs.specs.declared.environment.Env.{Env}
 use Rattle.rank_defs.specs.declared.environment.Who.{Who}
 use Rattle.rank_defs.specs.declared.transaction.Assign.{Assign}
