@@ -1,4 +1,3 @@
-mod Lines
-mod Cuts
 pub mod TextLaws
 pub mod WholeTexts
+pub mod Ranks

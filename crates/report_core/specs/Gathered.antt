@@ -23,11 +23,3 @@ CutsOff written sink report sink' bytes = IsCut (text_of (written sink) report) 
 -- how many bytes it holds at most between two calls
 abbrev pub limit : ℕ
 limit = 65536
-
--- how many bytes a line has at most, each number taken at 39 digits
-abbrev pub longest : ℕ
-longest = 4096
-
--- what its memory has room for: the limit, and the line that is put behind it
-abbrev pub room : ℕ
-room = 69632

@@ -1,6 +1,7 @@
 //! The lines of a report, gathered in pieces and written to a sink.
 #![tactic(auto)]
 
+mod backward;
 mod buffer;
 mod fault;
 mod line;

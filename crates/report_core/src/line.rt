@@ -1,121 +1,166 @@
 //! The lines of a report as bytes.
-ghost use Rattle.std.specs.Prelude.{◌≡◌, ◌+◌, ◌≤◌, [], ◌∷◌, ◌++◌, length, decimal, codes};
-ghost use Rattle.std.specs.List.{join_with_byte};
+ghost use Rattle.std.specs.Prelude.{◌≡◌, ◌+◌, ◌≤◌, ◌∷◌, ◌++◌, length, drop, decimal, codes, MatchOption};
 ghost use Rattle.text_core.specs.Tokens.{most_name};
 ghost use Rattle.report_defs.specs.Report.{arrival_line, departure_line, drop_line, empty_line, end_line, fault_line, ranks_text};
 ghost use Rattle.report_core.specs.Faults.{word_of};
-ghost use Rattle.report_core.specs.Gathered.{limit, longest, room};
 
-use crate::buffer::Buffer;
+use crate::backward::{byte_before, bytes_before, number_before, ranks_before, wide_before};
 use crate::fault::FaultKind;
 
-impl Buffer {
-    /// What the lines of an arrival and of a departure share, with the letter before it.
-    fn put_visit(&mut self, letter: &[u8], event: u64, packet: u64, leaf: &str, ranks: &[u64])
-        requires letter { length letter.now ≡ 1 }
-        requires leaf { length leaf.now ≤ most_name }
-        requires few { length ranks.now ≤ 65 }
-        requires room { length self.old ≤ limit }
-        ensures text { self.new ≡ self.old ++
-            join_with_byte 32 (letter.now ∷ decimal event ∷ decimal packet ∷ leaf.now ∷ ranks_text ranks.now ∷ []) }
-        ensures short { length self.new ≤ length self.old + 2747 }
-    {
-        self.put_bytes(letter);
-        self.put_bytes(b" ");
-        self.put_number(event as u128);
-        self.put_bytes(b" ");
-        self.put_number(packet as u128);
-        self.put_bytes(b" ");
-        self.put_bytes(leaf.as_bytes());
-        self.put_bytes(b" ");
-        self.put_ranks(ranks);
+/// Room for the longest line.
+const LINE: usize = 2_048;
+
+/// Room in which a line is written, from its end to its beginning.
+#[derive(Drop)]
+pub struct Line {
+    bytes: [u8; LINE],
+}
+
+/// The letter of an outcome, its event, its packet and its leaf, in front of what stands from `end` on.
+fn place_before(
+    line: &mut [u8],
+    end: usize,
+    letter: u8,
+    event: u64,
+    packet: u64,
+    leaf: &str,
+) -> usize
+    requires leaf { length leaf.now ≤ most_name }
+    requires room { 108 ≤ end }
+    requires within { end ≤ length line.old }
+    ensures text { drop result line.new ≡
+        letter ∷ 32 ∷ decimal event ++ 32 ∷ decimal packet ++ 32 ∷ leaf.now ++ drop end line.old }
+    ensures short { result ≤ end }
+    ensures within { result ≤ length line.new }
+{
+    let leaf_at = bytes_before(line, end, leaf.as_bytes());
+    let packet_end = byte_before(line, leaf_at, b' ');
+    let packet_at = number_before(line, packet_end, packet);
+    let event_end = byte_before(line, packet_at, b' ');
+    let event_at = number_before(line, event_end, event);
+    let letter_end = byte_before(line, event_at, b' ');
+    byte_before(line, letter_end, letter)
+}
+
+/// What the lines of an arrival and of a departure share, in front of what stands from `end` on.
+fn visit_before(
+    line: &mut [u8],
+    end: usize,
+    letter: u8,
+    event: u64,
+    packet: u64,
+    leaf: &str,
+    ranks: &[u64],
+) -> usize
+    requires leaf { length leaf.now ≤ most_name }
+    requires few { length ranks.now ≤ 65 }
+    requires room { 1474 ≤ end }
+    requires within { end ≤ length line.old }
+    ensures text { drop result line.new ≡
+        letter ∷ 32 ∷ decimal event ++ 32 ∷ decimal packet ++ 32 ∷ leaf.now ++ 32 ∷ ranks_text ranks.now ++ drop end line.old }
+    ensures short { result ≤ end }
+    ensures within { result ≤ length line.new }
+{
+    let ranks_at = ranks_before(line, end, ranks);
+    let leaf_end = byte_before(line, ranks_at, b' ');
+    place_before(line, leaf_end, letter, event, packet, leaf)
+}
+
+/// The moment at which a departure starts, where one is shown.
+fn start_before(line: &mut [u8], end: usize, start: Option<u128>) -> usize
+    requires room { 40 ≤ end }
+    requires within { end ≤ length line.old }
+    ensures text { MatchOption start (drop result line.new ≡ drop end line.old) (λ at. drop result line.new ≡ 32 ∷ decimal at ++ drop end line.old) }
+    ensures short { end ≤ result + 40 }
+    ensures within { result ≤ length line.new }
+{
+    let Some(start) = start else {
+        return end;
+    };
+    let at = wide_before(line, end, start);
+    byte_before(line, at, b' ')
+}
+
+/// A number of the last line, with its word before it.
+fn count_before(line: &mut [u8], end: usize, word: &[u8], count: u64) -> usize
+    requires word { length word.now ≤ 9 }
+    requires room { 29 ≤ end }
+    requires within { end ≤ length line.old }
+    ensures text { drop result line.new ≡ word.now ++ decimal count ++ drop end line.old }
+    ensures short { end ≤ result + 29 }
+    ensures within { result ≤ length line.new }
+{
+    let at = number_before(line, end, count);
+    bytes_before(line, at, word)
+}
+
+/// The count of the packets that were dropped, where it is shown.
+fn dropped_before(line: &mut [u8], end: usize, dropped: Option<u64>) -> usize
+    requires room { 29 ≤ end }
+    requires within { end ≤ length line.old }
+    ensures text { MatchOption dropped (drop result line.new ≡ drop end line.old)
+        (λ count. drop result line.new ≡ codes " dropped " ++ decimal count ++ drop end line.old) }
+    ensures short { end ≤ result + 29 }
+    ensures within { result ≤ length line.new }
+{
+    let Some(dropped) = dropped else {
+        return end;
+    };
+    count_before(line, end, b" dropped ", dropped)
+}
+
+impl Line {
+    pub fn new() -> Line {
+        Line { bytes: [0; LINE] }
     }
 
-    pub fn put_arrival(&mut self, event: u64, packet: u64, leaf: &str, ranks: &[u64])
+    pub fn arrival(&mut self, event: u64, packet: u64, leaf: &str, ranks: &[u64]) -> &[u8]
         requires leaf { length leaf.now ≤ most_name }
         requires few { length ranks.now ≤ 65 }
-        requires room { length self.old ≤ limit }
-        ensures text { self.new ≡ self.old ++ arrival_line event packet leaf.now ranks.now }
-        ensures short { length self.new ≤ length self.old + longest }
+        ensures text { result.now ≡ arrival_line event packet leaf.now ranks.now }
     {
-        self.put_visit(b"a", event, packet, leaf, ranks);
-        self.put_bytes(b"\n");
+        let end = byte_before(&mut self.bytes, LINE, b'\n');
+        let at = visit_before(&mut self.bytes, end, b'a', event, packet, leaf, ranks);
+        &self.bytes[at..]
     }
 
-    pub fn put_departure(
+    pub fn departure(
         &mut self,
         event: u64,
         packet: u64,
         leaf: &str,
         ranks: &[u64],
         start: Option<u128>,
-    )
+    ) -> &[u8]
         requires leaf { length leaf.now ≤ most_name }
         requires few { length ranks.now ≤ 65 }
-        requires room { length self.old ≤ limit }
-        ensures text { self.new ≡ self.old ++ departure_line event packet leaf.now ranks.now start }
-        ensures short { length self.new ≤ length self.old + longest }
+        ensures text { result.now ≡ departure_line event packet leaf.now ranks.now start }
     {
-        self.put_visit(b"d", event, packet, leaf, ranks);
-        if let Some(start) = start {
-            self.put_bytes(b" ");
-            self.put_number(start);
-        }
-        self.put_bytes(b"\n");
+        let end = byte_before(&mut self.bytes, LINE, b'\n');
+        let visit_end = start_before(&mut self.bytes, end, start);
+        let at = visit_before(&mut self.bytes, visit_end, b'd', event, packet, leaf, ranks);
+        &self.bytes[at..]
     }
 
-    pub fn put_drop(&mut self, event: u64, packet: u64, leaf: &str)
+    pub fn drop(&mut self, event: u64, packet: u64, leaf: &str) -> &[u8]
         requires leaf { length leaf.now ≤ most_name }
-        requires room { length self.old ≤ limit }
-        ensures text { self.new ≡ self.old ++ drop_line event packet leaf.now }
-        ensures short { length self.new ≤ length self.old + longest }
+        ensures text { result.now ≡ drop_line event packet leaf.now }
     {
-        self.put_bytes(b"x ");
-        self.put_number(event as u128);
-        self.put_bytes(b" ");
-        self.put_number(packet as u128);
-        self.put_bytes(b" ");
-        self.put_bytes(leaf.as_bytes());
-        self.put_bytes(b"\n");
+        let end = byte_before(&mut self.bytes, LINE, b'\n');
+        let at = place_before(&mut self.bytes, end, b'x', event, packet, leaf);
+        &self.bytes[at..]
     }
 
-    pub fn put_empty(&mut self, event: u64)
-        requires room { length self.old ≤ limit }
-        ensures text { self.new ≡ self.old ++ empty_line event }
-        ensures short { length self.new ≤ length self.old + longest }
+    pub fn empty(&mut self, event: u64) -> &[u8]
+        ensures text { result.now ≡ empty_line event }
     {
-        self.put_bytes(b"e ");
-        self.put_number(event as u128);
-        self.put_bytes(b"\n");
+        let end = byte_before(&mut self.bytes, LINE, b'\n');
+        let event_at = number_before(&mut self.bytes, end, event);
+        let at = bytes_before(&mut self.bytes, event_at, b"e ");
+        &self.bytes[at..]
     }
 
-    /// A number of the last line, with its word before it.
-    fn put_count(&mut self, word: &[u8], count: u64)
-        requires word { length word.now ≤ 9 }
-        requires room { length self.old + 48 ≤ room }
-        ensures text { self.new ≡ self.old ++ word.now ++ decimal count }
-        ensures short { length self.new ≤ length self.old + 48 }
-    {
-        self.put_bytes(word);
-        self.put_number(count as u128);
-    }
-
-    /// The counts of the last line that stand on each.
-    fn put_counts(&mut self, pushed: u64, popped: u64, empty: u64, held: u64, unsent: u64)
-        requires room { length self.old ≤ limit }
-        ensures text { self.new ≡ self.old ++ codes "end pushed " ++ decimal pushed ++ codes " popped " ++ decimal popped ++
-            codes " empty " ++ decimal empty ++ codes " held " ++ decimal held ++ codes " unsent " ++ decimal unsent }
-        ensures short { length self.new ≤ length self.old + 243 }
-    {
-        self.put_bytes(b"end");
-        self.put_count(b" pushed ", pushed);
-        self.put_count(b" popped ", popped);
-        self.put_count(b" empty ", empty);
-        self.put_count(b" held ", held);
-        self.put_count(b" unsent ", unsent);
-    }
-
-    pub fn put_end(
+    pub fn end(
         &mut self,
         pushed: u64,
         popped: u64,
@@ -123,29 +168,30 @@ impl Buffer {
         held: u64,
         unsent: u64,
         dropped: Option<u64>,
-    )
-        requires room { length self.old ≤ limit }
-        ensures text { self.new ≡ self.old ++ end_line pushed popped empty held unsent dropped }
-        ensures short { length self.new ≤ length self.old + longest }
+    ) -> &[u8]
+        ensures text { result.now ≡ end_line pushed popped empty held unsent dropped }
     {
-        self.put_counts(pushed, popped, empty, held, unsent);
-        if let Some(dropped) = dropped {
-            self.put_count(b" dropped ", dropped);
-        }
-        self.put_bytes(b"\n");
+        let end = byte_before(&mut self.bytes, LINE, b'\n');
+        let dropped_at = dropped_before(&mut self.bytes, end, dropped);
+        let unsent_at = count_before(&mut self.bytes, dropped_at, b" unsent ", unsent);
+        let held_at = count_before(&mut self.bytes, unsent_at, b" held ", held);
+        let empty_at = count_before(&mut self.bytes, held_at, b" empty ", empty);
+        let popped_at = count_before(&mut self.bytes, empty_at, b" popped ", popped);
+        let pushed_at = count_before(&mut self.bytes, popped_at, b" pushed ", pushed);
+        let at = bytes_before(&mut self.bytes, pushed_at, b"end");
+        &self.bytes[at..]
     }
 
-    pub fn put_fault(&mut self, kind: FaultKind, code: u32, place: u64)
-        requires room { length self.old ≤ limit }
-        ensures text { self.new ≡ self.old ++ fault_line (word_of kind) code place }
-        ensures short { length self.new ≤ length self.old + longest }
+    pub fn fault(&mut self, kind: FaultKind, code: u32, place: u64) -> &[u8]
+        ensures text { result.now ≡ fault_line (word_of kind) code place }
     {
-        self.put_bytes(b"fault ");
-        self.put_bytes(kind.word().as_bytes());
-        self.put_bytes(b" ");
-        self.put_number(code as u128);
-        self.put_bytes(b" ");
-        self.put_number(place as u128);
-        self.put_bytes(b"\n");
+        let end = byte_before(&mut self.bytes, LINE, b'\n');
+        let place_at = number_before(&mut self.bytes, end, place);
+        let code_end = byte_before(&mut self.bytes, place_at, b' ');
+        let code_at = number_before(&mut self.bytes, code_end, code as u64);
+        let word_end = byte_before(&mut self.bytes, code_at, b' ');
+        let word_at = bytes_before(&mut self.bytes, word_end, kind.word().as_bytes());
+        let at = bytes_before(&mut self.bytes, word_at, b"fault ");
+        &self.bytes[at..]
     }
 }

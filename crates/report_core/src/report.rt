@@ -10,6 +10,7 @@ ghost use Rattle.report_core.specs.Gathered.{limit, text_of, Tells, CutsOff};
 
 use crate::buffer::Buffer;
 use crate::fault::{FaultKind, WriteFault};
+use crate::line::Line;
 use outside_core::Sink;
 use std::alloc::{AllocError, Global};
 use std::marker::Model;
@@ -19,6 +20,7 @@ use std::marker::Model;
 #[derive(Drop)]
 pub struct Report {
     buffer: Buffer,
+    line: Line,
     live: bool,
 }
 
@@ -40,6 +42,7 @@ impl Report {
     {
         Ok(Report {
             buffer: Buffer::new(alloc)?,
+            line: Line::new(),
             live: true,
         })
     }
@@ -80,9 +83,8 @@ impl Report {
         ensures live { self.new.live ≡ is_ok result }
         ensures bounded { length self.new.unwritten ≤ limit }
     {
-        let before = self.buffer.len();
-        self.buffer.put_arrival(event, packet, leaf, ranks);
-        let sent = self.buffer.settle(sink, before);
+        let line = self.line.arrival(event, packet, leaf, ranks);
+        let sent = self.buffer.put_or_send(sink, line);
         self.noted(sent)
     }
 
@@ -108,9 +110,8 @@ impl Report {
         ensures live { self.new.live ≡ is_ok result }
         ensures bounded { length self.new.unwritten ≤ limit }
     {
-        let before = self.buffer.len();
-        self.buffer.put_departure(event, packet, leaf, ranks, start);
-        let sent = self.buffer.settle(sink, before);
+        let line = self.line.departure(event, packet, leaf, ranks, start);
+        let sent = self.buffer.put_or_send(sink, line);
         self.noted(sent)
     }
 
@@ -125,9 +126,8 @@ impl Report {
         ensures live { self.new.live ≡ is_ok result }
         ensures bounded { length self.new.unwritten ≤ limit }
     {
-        let before = self.buffer.len();
-        self.buffer.put_empty(event);
-        let sent = self.buffer.settle(sink, before);
+        let line = self.line.empty(event);
+        let sent = self.buffer.put_or_send(sink, line);
         self.noted(sent)
     }
 
@@ -149,9 +149,8 @@ impl Report {
         ensures live { self.new.live ≡ is_ok result }
         ensures bounded { length self.new.unwritten ≤ limit }
     {
-        let before = self.buffer.len();
-        self.buffer.put_drop(event, packet, leaf);
-        let sent = self.buffer.settle(sink, before);
+        let line = self.line.drop(event, packet, leaf);
+        let sent = self.buffer.put_or_send(sink, line);
         self.noted(sent)
     }
 
@@ -176,10 +175,8 @@ impl Report {
         ensures live { self.new.live ≡ is_ok result }
         ensures bounded { length self.new.unwritten ≤ limit }
     {
-        let before = self.buffer.len();
-        self.buffer
-            .put_end(pushed, popped, empty, held, unsent, dropped);
-        let sent = self.buffer.settle(sink, before);
+        let line = self.line.end(pushed, popped, empty, held, unsent, dropped);
+        let sent = self.buffer.put_or_send(sink, line);
         self.noted(sent)
     }
 
@@ -200,9 +197,8 @@ impl Report {
         ensures live { self.new.live ≡ is_ok result }
         ensures bounded { length self.new.unwritten ≤ limit }
     {
-        let before = self.buffer.len();
-        self.buffer.put_fault(kind, code, place);
-        let sent = self.buffer.settle(sink, before);
+        let line = self.line.fault(kind, code, place);
+        let sent = self.buffer.put_or_send(sink, line);
         self.noted(sent)
     }
 

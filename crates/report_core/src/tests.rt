@@ -17,6 +17,7 @@ fn a_line_of_each_form(rt: HostRuntime) -> Result<(), Fail> {
         Some(1_000_001_500),
     )?;
     report.departed(&mut sink, 15, 4, "web", &[1, 375_000, 0], None)?;
+    report.departed(&mut sink, 16, 5, "tty", &[0], Some(u128::MAX))?;
     report.arrived(&mut sink, 1, 1, "root", &[0])?;
     report.empty(&mut sink, 5)?;
     report.piece(&mut sink, b"tap order 5 8\n")?;
@@ -34,6 +35,7 @@ fn a_line_of_each_form(rt: HostRuntime) -> Result<(), Fail> {
     let text = "a 3 2 web 1/375000/1500000\n\
         d 4 2 web 1/375000/1500000 1000001500\n\
         d 15 4 web 1/375000/0\n\
+        d 16 5 tty 0 340282366920938463463374607431768211455\n\
         a 1 1 root 0\n\
         e 5\n\
         tap order 5 8\n\
