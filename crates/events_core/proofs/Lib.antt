@@ -1,2 +1,3 @@
 pub mod ScriptLaws
 pub mod ScriptAnswers
+pub mod UsualLaws

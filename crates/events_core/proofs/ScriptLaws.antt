@@ -1,10 +1,11 @@
 -- A text is one script, or has one first fault.
-use Rattle.std.proofs.Common.{◌≡◌, ℕ, zero, suc, ◌+◌, ◌<◌, ◌≤◌, List, [], ◌∷◌, ◌++◌, length, get_or, take, drop, map, Some, Ok, Err, Result, ◌⊎◌, inl, inr, sym, refl, ap, ◌∙◌, subst, arith, append_assoc}
+use Rattle.std.proofs.Common.{◌≡◌, ℕ, suc, ◌+◌, ◌<◌, ◌≤◌, List, [], ◌∷◌, ◌++◌, length, drop, map, Some, Ok, Err, Result, ◌⊎◌, inl, inr, sym, refl, ap, ◌∙◌, subst, arith, append_assoc, length-append, length-drop}
 use Rattle.std.specs.Prelude.{MatchResult}
-use Rattle.std.proofs.Math.Seq.{take-suc, drop-cons}
-use Rattle.std.proofs.lemmas.List.{append-nil, map-append, length-map, take-append-drop, take_all}
+use Rattle.std.proofs.lemmas.List.{append-nil, map-append, length-map}
 use Rattle.text_core.specs.declared.line.Line.{Line}
-use Rattle.text_core.specs.Lines.{line_text, statements_of}
+use Rattle.text_core.specs.Lines.{line_text, statements_of, Follow}
+use Rattle.text_core.proofs.LineLaws.{Follow-Hold, Hold-whole}
+use Rattle.text_core.proofs.LineLemmas.{Follow-join}
 use Rattle.text_core.proofs.SaysLaws.{Says-one}
 use Rattle.events_core.specs.declared.step.Step.{Step}
 use Rattle.events_core.specs.declared.fault.ScriptFault.{ScriptFault}
@@ -130,50 +131,76 @@ IsFirstFault-line text a = a.at_fault
 
 -- ---- line by line
 
-front_size : (i : ℕ) (ls : List Line) → i ≤ length ls → length (take i ls) ≡ i
-front_size zero ls le = refl
-front_size (suc i) [] le = absurd (omega arith)
-front_size (suc i) (l ∷ ls) le = ap suc (front_size i ls (omega arith))
+-- what was read of a text up to a place: so many lines, their steps and what these count
+pub record IsRead (text : List ℕ) (at : ℕ) (steps : List Step) (counted number : ℕ) : Type 0 where
+  pub lines : List Line
+  pub follow : Follow text 0 lines at
+  pub carry : Carry (map (line_text text) lines) steps
+  pub count : counted ≡ counts_of steps
+  pub few : counted ≤ most_count
+  pub size : number ≡ length lines
 
-pub step_more : (text : List ℕ) (ls : List Line) (i : ℕ) (d : Line) (ss s : List Step) → i < length ls → Carry (map (line_text text) (take i ls)) ss → Carries (line_text text (get_or ls i d)) s → Carry (map (line_text text) (take (i + 1) ls)) (ss ++ s)
-step_more text ls i d ss s inside carry c =
-    let one : suc i ≡ i + 1 = omega arith in
-    let lines : map (line_text text) (take i ls) ++ line_text text (get_or ls i d) ∷ [] ≡ map (line_text text) (take (i + 1) ls) =
-    sym (map-append (line_text text) (take i ls) (get_or ls i d ∷ [])) ∙ ap (map (line_text text)) (sym (take-suc ls i d inside)) ∙ ap (λ n. map (line_text text) (take n ls)) one in
-    subst (λ l. Carry l (ss ++ s)) lines (Carry-push (map (line_text text) (take i ls)) ss (line_text text (get_or ls i d)) s carry c)
+pub none_read : (text : List ℕ) (steps : List Step) → steps ≡ [] → IsRead text 0 steps 0 0
+none_read text steps none = record { lines = []; follow = refl; carry = subst (Carry []) (sym none) over; count = ap counts_of (sym none); few = omega arith; size = refl }
 
-pub fault_here : (text : List ℕ) (ls : List Line) (i : ℕ) (d : Line) (ss : List Step) (f : ScriptFault) → length text ≤ most_bytes → map (line_text text) ls ≡ statements_of text → i < length ls → Carry (map (line_text text) (take i ls)) ss → counts_of ss ≤ most_count → IsAtFault (counts_of ss) (line_text text (get_or ls i d)) (i + 1) f → IsFirstFault text f
-fault_here text ls i d ss f short texts inside carry few wrong =
-    let front = map (line_text text) (take i ls) in
-    let l = line_text text (get_or ls i d) in
-    let behind = map (line_text text) (drop (suc i) ls) in
-    let whole : map (line_text text) ls ≡ front ++ l ∷ behind =
-    ap (map (line_text text)) (sym (take-append-drop i ls)) ∙ map-append (line_text text) (take i ls) (drop i ls) ∙ ap (λ r. front ++ map (line_text text) r) (drop-cons ls i d inside) in
-    let size : length front ≡ i = length-map (take i ls) (line_text text) ∙ front_size i ls (omega arith) in
+-- a line takes a byte or more, unless it is the last
+pub few_lines : (text : List ℕ) (at : ℕ) (steps : List Step) (counted number : ℕ) → IsRead text at steps counted number → at < length text → number ≤ at
+few_lines text at steps counted number read inside =
+    let count = (Follow-Hold text 0 read.lines at read.follow).count in
+    let left = length-drop at text in
+    let size = read.size in
+    omega arith
+
+-- one line more
+pub line_more : (text : List ℕ) (at to : ℕ) (l : Line) (steps more whole : List Step) (counted number sum : ℕ) → IsRead text at steps counted number → Follow text at (l ∷ []) to → Carries (line_text text l) more → counted + counts_of more ≤ most_count → whole ≡ steps ++ more → sum ≡ counted + counts_of more → IsRead text to whole sum (number + 1)
+line_more text at to l steps more whole counted number sum read follow carries few steps_are sum_is =
+    let lines : map (line_text text) read.lines ++ line_text text l ∷ [] ≡ map (line_text text) (read.lines ++ l ∷ []) = sym (map-append (line_text text) read.lines (l ∷ [])) in
+    let carry : Carry (map (line_text text) (read.lines ++ l ∷ [])) (steps ++ more) = subst (λ ls. Carry ls (steps ++ more)) lines (Carry-push (map (line_text text) read.lines) steps (line_text text l) more read.carry carries) in
+    let counts = counts-append steps more in
+    let count = read.count in
+    let both = ap counts_of steps_are in
+    let size = read.size in
+    let longer : length (read.lines ++ l ∷ []) ≡ length read.lines + 1 = length-append read.lines (l ∷ []) in
+    record {
+      lines = read.lines ++ l ∷ [];
+      follow = Follow-join text 0 read.lines at (l ∷ []) to read.follow follow;
+      carry = subst (Carry (map (line_text text) (read.lines ++ l ∷ []))) (sym steps_are) carry;
+      count = omega arith;
+      few = omega arith;
+      size = omega arith;
+    }
+
+-- a fault of the next line is the text's first
+pub fault_here : (text : List ℕ) (at to : ℕ) (l : Line) (steps : List Step) (counted number : ℕ) (f : ScriptFault) → length text ≤ most_bytes → IsRead text at steps counted number → Follow text at (l ∷ []) to → IsAtFault counted (line_text text l) (number + 1) f → IsFirstFault text f
+fault_here text at to l steps counted number f short read follow wrong =
+    let front = map (line_text text) read.lines in
+    let size : number ≡ length front = read.size ∙ sym (length-map read.lines (line_text text)) in
+    let count = read.count in
+    let few = read.few in
     record {
       short = short;
       before = front;
-      line = l;
-      after = behind;
-      split = sym texts ∙ whole;
-      steps = ss;
-      carry = carry;
-      few = few;
-      at_fault = subst (λ n. IsAtFault (counts_of ss) l (n + 1) f) (sym size) wrong;
+      line = line_text text l;
+      after = statements_of (drop to text);
+      split = (Follow-Hold text 0 read.lines at read.follow).texts ∙ ap (λ ls. front ++ ls) (Follow-Hold text at (l ∷ []) to follow).texts;
+      steps = steps;
+      carry = read.carry;
+      few = omega arith;
+      at_fault = subst (λ n. IsAtFault (counts_of steps) (line_text text l) (n + 1) f) size (subst (λ n. IsAtFault n (line_text text l) (number + 1) f) count wrong);
     }
 
-pub all_lines : (text : List ℕ) (ls : List Line) (i : ℕ) (ss : List Step) → length text ≤ most_bytes → map (line_text text) ls ≡ statements_of text → length ls ≤ i → Carry (map (line_text text) (take i ls)) ss → counts_of ss ≤ most_count → IsScript text ss
-all_lines text ls i ss short texts end carry few =
-    let lines : map (line_text text) (take i ls) ≡ statements_of text = ap (map (line_text text)) (take_all i ls end) ∙ texts in
-    record { short = short; lines = subst (λ l. Carry l ss) lines carry; few = few }
+-- what was read to the end is the script
+pub all_lines : (text : List ℕ) (at : ℕ) (steps : List Step) (counted number : ℕ) → length text ≤ most_bytes → IsRead text at steps counted number → length text ≤ at → IsScript text steps
+all_lines text at steps counted number short read end =
+    let whole = Hold-whole text read.lines at (Follow-Hold text 0 read.lines at read.follow) end in
+    let count = read.count in
+    let few = read.few in
+    record { short = short; lines = subst (λ ls. Carry ls steps) whole read.carry; few = omega arith }
 
--- a fault that is told, in terms of what was read so far
-pub fault_found : (text : List ℕ) (ls : List Line) (i : ℕ) (d : Line) (ss : List Step) (counted number : ℕ) (f : ScriptFault) → length text ≤ most_bytes → map (line_text text) ls ≡ statements_of text → i < length ls → Carry (map (line_text text) (take i ls)) ss → counted ≡ counts_of ss → counted ≤ most_count → number ≡ i + 1 → (f ≡ fault.NoMemory) ⊎ IsAtFault counted (line_text text (get_or ls i d)) number f → (f ≡ fault.NoMemory) ⊎ IsFirstFault text f
-fault_found text ls i d ss counted number f short texts inside carry count few place (inl e) = inl e
-fault_found text ls i d ss counted number f short texts inside carry count few place (inr x) =
-    let l = line_text text (get_or ls i d) in
-    let here : IsAtFault (counts_of ss) l (i + 1) f = subst (λ n. IsAtFault (counts_of ss) l n f) place (subst (λ n. IsAtFault n l number f) count x) in
-    inr (fault_here text ls i d ss f short texts inside carry (omega arith) here)
+-- a fault that is told, if it isn't want of memory
+pub fault_found : (text : List ℕ) (at to : ℕ) (l : Line) (steps : List Step) (counted number : ℕ) (f : ScriptFault) → length text ≤ most_bytes → IsRead text at steps counted number → Follow text at (l ∷ []) to → (f ≡ fault.NoMemory) ⊎ IsAtFault counted (line_text text l) (number + 1) f → (f ≡ fault.NoMemory) ⊎ IsFirstFault text f
+fault_found text at to l steps counted number f short read follow (inl e) = inl e
+fault_found text at to l steps counted number f short read follow (inr x) = inr (fault_here text at to l steps counted number f short read follow x)
 
 -- ---- what an answer tells
 

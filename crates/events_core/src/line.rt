@@ -1,5 +1,5 @@
 //! The step that a line of a script asks for.
-ghost use Rattle.std.specs.Prelude.{◌≡◌, List, IfOk, Some, None};
+ghost use Rattle.std.specs.Prelude.{◌≡◌, List, [], ◌∷◌, IfOk, IfSome, Some, None};
 ghost use Rattle.std.specs.Option.{option_to_list};
 ghost use Rattle.text_core.specs.Glyphs.{glyphs_of};
 ghost use Rattle.text_core.specs.Lines.{is_clean_text};
@@ -8,7 +8,7 @@ ghost use Rattle.events_core.specs.Script.{Carries};
 
 use crate::step::Step;
 use std::alloc::Global;
-use text_core::{Item, Refusal, items};
+use text_core::{Item, Refusal, decimal, items};
 
 /// The step of a line that says these items, if it has one.
 fn step_of(items: &[Item<'_>]) -> Result<Option<Step>, Refusal>
@@ -27,6 +27,17 @@ fn step_of(items: &[Item<'_>]) -> Result<Option<Step>, Refusal>
     }
 }
 
+/// The step of a line in a usual form: a word alone, or a letter, a space and digits.
+fn usual_step(statement: &[u8]) -> Option<Step>
+    ensures { IfSome result (λ s. Carries statement.now (s ∷ [])) }
+{
+    match statement {
+        [b'a', b' ', digits @ ..] => Some(Step::Arrive(decimal(digits)?)),
+        [b'd', b' ', digits @ ..] => Some(Step::Depart(decimal(digits)?)),
+        _ => Step::of(statement),
+    }
+}
+
 /// The step of a line, if it has one.
 pub(crate) fn read_line(
     alloc: Global,
@@ -37,6 +48,10 @@ pub(crate) fn read_line(
     ensures ok { IfOk result (λ s. Carries statement.now (option_to_list s)) }
     ensures none { result ≡ Err Refusal.NoForm → (s : List Step) → Carries statement.now s → ⊥ }
 {
+    // Most lines need no list of tokens.
+    if let Some(step) = usual_step(statement) {
+        return Ok(Some(step));
+    }
     if !clean {
         return Err(Refusal::NoForm);
     }

@@ -12,7 +12,7 @@ use crate::script::Script;
 use crate::step::Step;
 use list_core::List;
 use std::alloc::Global;
-use text_core::{Refusal, lines};
+use text_core::{Refusal, line_from};
 
 /// The most bytes of a script.
 pub const MOST_BYTES: usize = 1_048_576;
@@ -50,17 +50,19 @@ fn read_lines(alloc: Global, text: &[u8]) -> Result<Script, ScriptFault>
     requires { length text.now ≤ most_bytes }
     ensures { MatchResult result (IsScript text.now) (λ f. (f ≡ NoMemory) ⊎ IsFirstFault text.now f) }
 {
-    let lines = lines(alloc, text)?;
     let mut steps = List::from_vec(Vec::new(alloc));
     let mut counted = 0;
     let mut number = 0;
-    for line in lines.as_slice() {
+    let mut at = 0;
+    while at < text.len() {
+        let (line, next) = line_from(text, at);
         number += 1;
         let statement = &text[line.start..line.end];
         if let Some(step) = next_step(alloc, statement, line.clean, number, counted)? {
             counted += step.count();
             steps.push(step)?;
         }
+        at = next;
     }
     Ok(Script::of(steps))
 }

@@ -1,9 +1,10 @@
 -- The spans of the lines hold the statements of the text.
-use Rattle.std.proofs.Common.{◌≡◌, ℕ, zero, suc, ◌+◌, ◌-◌, ◌<◌, ◌≤◌, Bool, true, false, cond, List, [], ◌∷◌, length, take, drop, map, sym, refl, ap, ◌∙◌, arith, length-drop}
+use Rattle.std.proofs.Common.{◌≡◌, ℕ, zero, suc, ◌+◌, ◌-◌, ◌<◌, ◌≤◌, Bool, true, false, cond, List, [], ◌∷◌, ◌++◌, length, take, drop, map, sym, refl, ap, ◌∙◌, arith, length-drop}
 use Rattle.std.specs.List.{prefix_len, All, AllByRecursion}
+use Rattle.std.proofs.lemmas.List.{append-nil}
 use Rattle.std.proofs.lemmas.List.Sums.{prefix_len-le-length}
 use Rattle.text_core.specs.declared.line.Line.{Line}
-use Rattle.text_core.specs.Lines.{is_text, is_clean_text, no_comment, statement_length, statement_of, onto_first, lines_of, line_text, IsMarked, LiesIn, line_at, Follow}
+use Rattle.text_core.specs.Lines.{is_text, is_clean_text, no_comment, statement_length, statement_of, statements_of, onto_first, lines_of, line_text, IsMarked, LiesIn, line_at, Follow}
 
 abbrev nothing : List ℕ
 nothing = []
@@ -74,18 +75,18 @@ text_at text from l start end =
     ap (λ m. take m (drop l.start text)) count ∙ ap (λ m. take (statement_length (line_at text from)) (drop m text)) start
     ∙ sym (take-take (statement_length (line_at text from)) n (drop from text) (omega arith))
 
--- what the spans hold, line by line
-pub record Hold (text : List ℕ) (from : ℕ) (ls : List Line) : Type 0 where
-  pub texts : map (line_text text) ls ≡ map statement_of (lines_of (drop from text))
+-- what the spans of lines that go up to a place hold, line by line, and that the statements behind them are those of what is left
+pub record Hold (text : List ℕ) (from : ℕ) (ls : List Line) (to : ℕ) : Type 0 where
+  pub texts : statements_of (drop from text) ≡ map (line_text text) ls ++ statements_of (drop to text)
   pub clean : AllByRecursion (IsMarked text) ls
   pub within : AllByRecursion (LiesIn text) ls
-  pub count : length ls ≤ length (drop from text)
+  pub count : length ls + length (drop to text) ≤ length (drop from text)
 
-pub Follow-Hold : (text : List ℕ) (from : ℕ) (ls : List Line) (to : ℕ) → Follow text from ls to → length text ≤ to → Hold text from ls
-Follow-Hold text from [] to follow over =
-    let none : drop from text ≡ nothing = drop-over from text (omega arith) in
-    record { texts = ap (λ bs. map statement_of (lines_of bs)) (sym none); clean = tt; within = tt; count = omega arith }
-Follow-Hold text from (l ∷ ls) to follow over =
+pub Follow-Hold : (text : List ℕ) (from : ℕ) (ls : List Line) (to : ℕ) → Follow text from ls to → Hold text from ls to
+Follow-Hold text from [] to follow =
+    let size = ap (λ n. length (drop n text)) follow in
+    record { texts = ap (λ n. statements_of (drop n text)) (sym follow); clean = tt; within = tt; count = omega arith }
+Follow-Hold text from (l ∷ ls) to follow =
     let n = prefix_len is_text (drop from text) in
     let line = line_at text from in
     let inside = prefix_len-le-length is_text (drop from text) in
@@ -96,25 +97,35 @@ Follow-Hold text from (l ∷ ls) to follow over =
     let next = from + n + 1 in
     let behind_is : drop (n + 1) (drop from text) ≡ drop next text = let sum : from + (n + 1) ≡ from + n + 1 = omega arith in drop-drop from (n + 1) text ∙ ap (λ m. drop m text) sum in
     let whole : lines_of (drop from text) ≡ line ∷ lines_of (drop next text) = lines_of-step (drop from text) (omega arith) ∙ ap (λ r. line ∷ lines_of r) behind_is in
-    let later = Follow-Hold text next ls to follow.4 over in
+    let later = Follow-Hold text next ls to follow.4 in
     let size = length-take-le n (drop from text) inside in
     let statement = statement_length-within line in
     let fewer = later.count in
     let behind_left = length-drop next text in
     record {
-      texts = ap (λ x. x ∷ map (line_text text) ls) (text_at text from l start end) ∙ ap (λ r. statement_of line ∷ r) later.texts ∙ sym (ap (map statement_of) whole);
+      texts = ap (map statement_of) whole ∙ ap (λ x. x ∷ statements_of (drop next text)) (sym (text_at text from l start end)) ∙ ap (λ r. line_text text l ∷ r) later.texts;
       clean = (follow.3 ∙ ap is_clean_text (sym (text_at text from l start end)), later.clean);
       within = ((omega arith, omega arith), later.within);
       count = omega arith;
     }
+
+-- lines that go to the end are all
+pub Hold-whole : (text : List ℕ) (ls : List Line) (to : ℕ) → Hold text 0 ls to → length text ≤ to → map (line_text text) ls ≡ statements_of text
+Hold-whole text ls to hold over =
+    let none : map (line_text text) ls ++ statements_of (drop to text) ≡ map (line_text text) ls ++ [] = ap (λ bs. map (line_text text) ls ++ statements_of bs) (drop-over to text over) in
+    sym (hold.texts ∙ none ∙ append-nil (map (line_text text) ls))
+
+-- as many lines as bytes at most
+pub Hold-count : (text : List ℕ) (ls : List Line) (to : ℕ) → Hold text 0 ls to → length ls ≤ length text
+Hold-count text ls to hold = let count = hold.count in omega arith
 
 all-at : (P : Line → Type 0) (ls : List Line) → AllByRecursion P ls → All P ls
 all-at P [] holds k d inside = absurd (omega arith)
 all-at P (l ∷ ls) holds zero d inside = holds.0
 all-at P (l ∷ ls) holds (suc k) d inside = all-at P ls holds.1 k d (omega arith)
 
-pub Hold-All : (text : List ℕ) (ls : List Line) → Hold text 0 ls → All (LiesIn text) ls
-Hold-All text ls hold = all-at (LiesIn text) ls hold.within
+pub Hold-All : (text : List ℕ) (from : ℕ) (ls : List Line) (to : ℕ) → Hold text from ls to → All (LiesIn text) ls
+Hold-All text from ls to hold = all-at (LiesIn text) ls hold.within
 
-pub Hold-clean : (text : List ℕ) (ls : List Line) → Hold text 0 ls → All (IsMarked text) ls
-Hold-clean text ls hold = all-at (IsMarked text) ls hold.clean
+pub Hold-clean : (text : List ℕ) (from : ℕ) (ls : List Line) (to : ℕ) → Hold text from ls to → All (IsMarked text) ls
+Hold-clean text from ls to hold = all-at (IsMarked text) ls hold.clean

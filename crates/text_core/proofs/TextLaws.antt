@@ -124,7 +124,7 @@ number_token first others rest digit start all end =
     let len_here = rw digit at len in
     rw (start, digit) (ap (number_at (first ∷ (others ++ rest))) len_here ∙ found)
 
-digits_token : (ds rest : List ℕ) → is_numeral ds ≡ true → IsBoundary rest → (skipped (ds ++ rest) ≡ ds ++ rest) × (token_at (ds ++ rest) ≡ Some (begun k.Number (length ds)))
+pub digits_token : (ds rest : List ℕ) → is_numeral ds ≡ true → IsBoundary rest → (skipped (ds ++ rest) ≡ ds ++ rest) × (token_at (ds ++ rest) ≡ Some (begun k.Number (length ds)))
 digits_token [] rest all end = absurd cc
 digits_token (d ∷ ds) rest all end =
     let digit = both_left (is_digit d) (all_ascii_digits ds) all in

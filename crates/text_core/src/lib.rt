@@ -15,7 +15,7 @@ pub use item::{Item, items};
 pub use law::{
     bytes_say_one_list, longest_token_is_taken, printed_number_reads_back, tokens_say_the_line,
 };
-pub use line::{Line, lines};
+pub use line::{Line, line_from, lines};
 pub use mark::Mark;
 pub use number::{MAX, decimal, put_decimal};
 pub use refusal::Refusal;

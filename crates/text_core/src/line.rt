@@ -1,7 +1,7 @@
 //! Where a line ends, and which of its bytes are the statement's.
-ghost use Rattle.std.specs.Prelude.{◌≡◌, ◌<◌, ◌≤◌, length, map, IfOk, IsTrue};
+ghost use Rattle.std.specs.Prelude.{◌≡◌, ◌<◌, ◌≤◌, [], ◌∷◌, length, map, IfOk, IsTrue};
 ghost use Rattle.std.specs.List.{prefix_len, list_all, All};
-ghost use Rattle.text_core.specs.Lines.{is_text, is_clean, no_comment, ends_with_return, statement_length, AreLines, line_text, statements_of, IsMarked, LiesIn};
+ghost use Rattle.text_core.specs.Lines.{is_text, is_clean, no_comment, ends_with_return, statement_length, AreLines, line_text, statements_of, IsMarked, LiesIn, Follow};
 
 use list_core::List;
 use std::alloc::{AllocError, Global};
@@ -61,6 +61,25 @@ fn statement_length(line: &[u8]) -> usize
     }
 }
 
+/// The line that begins at a place of a text, and the place from which the next one would.
+pub fn line_from(text: &[u8], at: usize) -> (Line, usize)
+    requires { at < length text.now }
+    ensures line { Follow text.now at (result.0 ∷ []) result.1 }
+    ensures clean { IsMarked text.now result.0 }
+    ensures within { LiesIn text.now result.0 }
+    ensures later { at < result.1 }
+{
+    let length = line_length(&text[at..]);
+    let line = &text[at..at + length];
+    let end = statement_length(line);
+    let found = Line {
+        start: at,
+        end: at + end,
+        clean: is_clean(&line[..end]),
+    };
+    (found, at + length + 1)
+}
+
 /// The lines of a text.
 pub fn lines(alloc: Global, text: &[u8]) -> Result<List<Line>, AllocError>
     ensures spans { IfOk result (λ ls. AreLines text.now ls) }
@@ -72,15 +91,9 @@ pub fn lines(alloc: Global, text: &[u8]) -> Result<List<Line>, AllocError>
     let mut found = List::from_vec(Vec::new(alloc));
     let mut at = 0;
     while at < text.len() {
-        let length = line_length(&text[at..]);
-        let line = &text[at..at + length];
-        let end = statement_length(line);
-        found.push(Line {
-            start: at,
-            end: at + end,
-            clean: is_clean(&line[..end]),
-        })?;
-        at += length + 1;
+        let (line, next) = line_from(text, at);
+        found.push(line)?;
+        at = next;
     }
     Ok(found)
 }

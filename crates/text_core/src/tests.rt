@@ -18,6 +18,8 @@ fn lines_of_texts(rt: HostRuntime) -> Result<(), Fail> {
         assert_eq!(rt; *line, Line { start, end, clean });
     }
     assert!(rt; lines(rt.alloc(), b"")?.is_empty());
+    let (line, next) = line_from(text, 24);
+    assert_eq!(rt; (line.start, line.end, next), (24, 28, 31));
     Ok(())
 }
 
