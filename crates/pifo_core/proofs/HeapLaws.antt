@@ -1,20 +1,22 @@
--- A queue in a heap: after a pair arrives, and after the first to leave has left.
-use Rattle.std.proofs.Common.{◌≡◌, ◌<◌, ◌≤◌, ◌+◌, inl, inr, ℕ, false, List, [], ◌∷◌, length, suc, Some, refl, sym, ap, ◌∙◌, arith}
+-- A queue in a run and a heap: after a pair arrives, and after the first to leave has left.
+use Rattle.std.proofs.Common.{◌≡◌, ◌<◌, ◌≤◌, ◌+◌, inl, inr, ℕ, true, false, List, [], ◌∷◌, ◌++◌, map, length, suc, Some, refl, sym, ap, ◌∙◌, arith, get_or, zero, subst}
 use Rattle.std.specs.List.{AllByRecursion, IsDistinct}
 use Rattle.std.specs.List.Sorted.{IsPermutation}
 use Rattle.std.specs.Ordering.{is_lt}
 use Rattle.std.specs.BinaryHeap.{IsHeap, IsUpperBound}
 use Rattle.std.specs.declared.cmp.Reverse.{Reverse}
 use Rattle.std.proofs.lemmas.Bool.Decides.{nat_tests}
-use Rattle.std.proofs.lemmas.List.Sorted.{IsPermutation-map, All-permutation}
+use Rattle.std.proofs.lemmas.List.{append-nil, map-append, length-append}
+use Rattle.std.proofs.lemmas.List.Sorted.{IsPermutation-refl, IsPermutation-sym, IsPermutation-trans, IsPermutation-middle, IsPermutation-append_right, IsPermutation-map, All-permutation}
 use Rattle.std.proofs.lemmas.List.Elements.{All-from_recursion, recursion_from_All}
 use Rattle.std.proofs.lemmas.Map.Keys.{IsDistinct-IsPermutation}
 use Rattle.std.proofs.Math.Nat.{eq-or-lt_of_le}
 use Rattle.pifo_defs.specs.Queue.{put, take_least}
 use Rattle.pifo_core.specs.declared.held.Held.{Held}
-use Rattle.pifo_core.specs.Held.{queue_of, Leaves, ArrivedBefore}
-use Rattle.pifo_core.specs.Heaped.{held_of, heap_order, arrived_together, IsHeaped}
-use Rattle.pifo_core.proofs.HeldLaws.{taking, queue_of-empty, queue_of-insert, queue_of-first, length-queue_of}
+use Rattle.pifo_core.specs.declared.held.Brief.{Brief}
+use Rattle.pifo_core.specs.Held.{wide, queue_of, Leaves, InLeavingOrder, ArrivedBefore}
+use Rattle.pifo_core.specs.Heaped.{held_of, held_of_both, leaving_order, heap_order, arrived_together, TopIsFirst, leads, IsHeaped}
+use Rattle.pifo_core.proofs.HeldLaws.{taking, All-weaker, All-append, All-front, All-back, leave_before, InLeavingOrder-insert, queue_of-empty, queue_of-insert, queue_of-first, length-queue_of}
 use Rattle.pifo_core.proofs.Exchanges.{queue_of-IsPermutation}
 
 flips : (x y : Held) → arrived_together x y ≡ arrived_together y x
@@ -31,25 +33,101 @@ later : (n : ℕ) (xs : List Held) → ArrivedBefore n xs → ArrivedBefore (n +
 later n [] h = tt
 later n (y ∷ xs) h = (omega (arith, h.0), later n xs h.1)
 
-module _ (x : Reverse Held) (items new : List (Reverse Held)) (apart : IsDistinct arrived_together (held_of items)) (earlier : ArrivedBefore x.0.arrival (held_of items)) (p : IsPermutation (x ∷ items) new) where
-  joined : IsPermutation (x.0 ∷ held_of items) (held_of new)
-  joined = IsPermutation-map (λ (r : Reverse Held). r.0) (x ∷ items) new p
+-- an entry that arrives now, wherever it is kept
+module _ (x : Held) (front back new : List Held) (apart : IsDistinct arrived_together (front ++ back)) (earlier : ArrivedBefore x.arrival (front ++ back)) (p : IsPermutation (front ++ x ∷ back) new) where
+  between : IsPermutation (x ∷ (front ++ back)) (front ++ x ∷ back)
+  between = IsPermutation-sym (front ++ x ∷ back) (x ∷ (front ++ back)) (IsPermutation-middle front x back)
 
-  distinct : IsDistinct arrived_together (x.0 ∷ held_of items)
+  distinct : IsDistinct arrived_together (front ++ x ∷ back)
   unfolding IsDistinct
-  distinct = (apart_from x.0 (held_of items) earlier, apart)
+  distinct = IsDistinct-IsPermutation arrived_together flips (x ∷ (front ++ back)) (front ++ x ∷ back) between (apart_from x (front ++ back) earlier, apart)
 
-  pub queue_of-pushed : queue_of (held_of new) ≡ put (queue_of (held_of items)) x.0.rank x.0.value
-  queue_of-pushed = queue_of-IsPermutation (x.0 ∷ held_of items) (held_of new) joined distinct ∙ queue_of-insert x.0 [] (held_of items) earlier
+  pub queue_of-arrived : queue_of new ≡ put (queue_of (front ++ back)) x.rank x.value
+  queue_of-arrived = queue_of-IsPermutation (front ++ x ∷ back) new p distinct ∙ queue_of-insert x front back earlier
 
-  pub apart-pushed : IsDistinct arrived_together (held_of new)
-  apart-pushed = IsDistinct-IsPermutation arrived_together flips (x.0 ∷ held_of items) (held_of new) joined distinct
+  pub apart-arrived : IsDistinct arrived_together new
+  apart-arrived = IsDistinct-IsPermutation arrived_together flips (front ++ x ∷ back) new p distinct
 
-  pub earlier-pushed : ArrivedBefore (x.0.arrival + 1) (held_of new)
-  earlier-pushed = moved (λ (e : Held). e.arrival < x.0.arrival + 1) (x.0 ∷ held_of items) (held_of new) joined (omega arith, later x.0.arrival (held_of items) earlier)
+  pub earlier-arrived : ArrivedBefore (x.arrival + 1) new
+  earlier-arrived =
+      moved (λ (e : Held). e.arrival < x.arrival + 1) (x ∷ (front ++ back)) new
+      (IsPermutation-trans (x ∷ (front ++ back)) (front ++ x ∷ back) new between p) (omega arith, later x.arrival (front ++ back) earlier)
+
+behind_all : (run : List Brief) (b : Brief) (rest : List Held) → map wide (run ++ b ∷ []) ++ rest ≡ map wide run ++ wide b ∷ rest
+behind_all [] b rest = refl
+behind_all (e ∷ run) b rest = ap (λ l. wide e ∷ l) (behind_all run b rest)
+
+behind : (run : List Brief) (b : Brief) → map wide (run ++ b ∷ []) ≡ map wide run ++ wide b ∷ []
+behind run b = map-append wide run (b ∷ [])
+
+-- no rank of the run is above that of its last entry
+pub ranks_below_last : (run : List Brief) (n : ℕ) (d b : Brief) (r : ℕ) → n + 1 ≡ length run → InLeavingOrder (map wide run) → b ≡ get_or run n d → b.rank ≤ r → AllByRecursion (λ (e : Held). e.rank ≤ r) (map wide run)
+ranks_below_last [] n d b r long ordered at le = tt
+ranks_below_last (e ∷ []) n d b r long ordered at le =
+    let first : n ≡ 0 = omega (arith, long) in
+    let same : e.rank ≡ b.rank = sym (ap (λ z. z.rank) (rw first at at)) in
+    (omega (arith, same, le), tt)
+ranks_below_last (e ∷ f ∷ run) zero d b r long ordered at le = absurd (omega (arith, long))
+ranks_below_last (e ∷ f ∷ run) (suc n) d b r long ordered at le =
+    let rest : AllByRecursion (λ (z : Held). z.rank ≤ r) (map wide (f ∷ run)) = ranks_below_last (f ∷ run) n d b r (omega (arith, long)) ordered.1 at le in
+    (omega (arith, ordered.0.0, rest.0), rest)
+
+pub rank_below_at : (run : List Brief) (n : ℕ) (d b : Brief) (r : ℕ) → n < length run → b ≡ get_or run n d → AllByRecursion (λ (e : Held). e.rank ≤ r) (map wide run) → b.rank ≤ r
+rank_below_at [] n d b r inside at all = absurd (omega (arith, inside))
+rank_below_at (e ∷ run) zero d b r inside at all = omega (arith, ap (λ z. z.rank) at, all.0)
+rank_below_at (e ∷ run) (suc n) d b r inside at all = rank_below_at run n d b r (omega (arith, inside)) at all.1
+
+pub ranks_below_none : (run : List Brief) (r : ℕ) → length run ≡ 0 → AllByRecursion (λ (e : Held). e.rank ≤ r) (map wide run)
+ranks_below_none [] r none = tt
+ranks_below_none (e ∷ run) r none = absurd (omega (arith, none))
+
+-- an entry that arrives now, last in the run
+module _ (b : Brief) (run : List Brief) (items : List (Reverse Held)) (kept : IsHeaped run items b.arrival) (before : AllByRecursion (λ (e : Held). e.rank ≤ b.rank) (map wide run)) where
+  joined_behind : IsPermutation (map wide run ++ wide b ∷ held_of items) (held_of_both (run ++ b ∷ []) items)
+  joined_behind = rw (behind_all run b (held_of items)) (IsPermutation-refl _)
+
+  queue_of-behind : queue_of (held_of_both (run ++ b ∷ []) items) ≡ put (queue_of (held_of_both run items)) b.rank b.value
+  queue_of-behind = queue_of-arrived (wide b) (map wide run) (held_of items) (held_of_both (run ++ b ∷ []) items) kept.apart kept.earlier joined_behind
+
+  IsHeaped-behind : IsHeaped (run ++ b ∷ []) items (b.arrival + 1)
+  IsHeaped-behind =
+      let first : AllByRecursion (λ (e : Held). e.arrival < b.arrival) (map wide run) = All-front _ (map wide run) (held_of items) kept.earlier in
+      record {
+        in_order = rw (behind run b) (InLeavingOrder-insert (wide b) (map wide run) [] (rw append-nil kept.in_order) (leave_before (wide b) (map wide run) first before) tt);
+        in_heap = kept.in_heap;
+        apart = apart-arrived (wide b) (map wide run) (held_of items) (held_of_both (run ++ b ∷ []) items) kept.apart kept.earlier joined_behind;
+        earlier = earlier-arrived (wide b) (map wide run) (held_of items) (held_of_both (run ++ b ∷ []) items) kept.apart kept.earlier joined_behind;
+      }
+
+module _ (x : Held) (b : Brief) (same : wide b ≡ x) (run : List Brief) (items : List (Reverse Held)) (kept : IsHeaped run items x.arrival) (before : AllByRecursion (λ (e : Held). e.rank ≤ x.rank) (map wide run)) where
+  pub queue_of-followed : queue_of (held_of_both (run ++ b ∷ []) items) ≡ put (queue_of (held_of_both run items)) x.rank x.value
+  queue_of-followed =
+      subst (λ (z : Held). IsHeaped run items z.arrival → AllByRecursion (λ (e : Held). e.rank ≤ z.rank) (map wide run) → queue_of (held_of_both (run ++ b ∷ []) items) ≡ put (queue_of (held_of_both run items)) z.rank z.value)
+      same (queue_of-behind b run items) kept before
+
+  pub IsHeaped-followed : IsHeaped (run ++ b ∷ []) items (x.arrival + 1)
+  IsHeaped-followed =
+      subst (λ (z : Held). IsHeaped run items z.arrival → AllByRecursion (λ (e : Held). e.rank ≤ z.rank) (map wide run) → IsHeaped (run ++ b ∷ []) items (z.arrival + 1))
+      same (IsHeaped-behind b run items) kept before
+
+-- an entry that arrives now, in the heap
+module _ (x : Reverse Held) (run : List Brief) (items new : List (Reverse Held)) (kept : IsHeaped run items x.0.arrival) (p : IsPermutation (x ∷ items) new) where
+  joined : IsPermutation (map wide run ++ x.0 ∷ held_of items) (held_of_both run new)
+  joined = IsPermutation-append_right (map wide run) (x.0 ∷ held_of items) (held_of new) (IsPermutation-map (λ (r : Reverse Held). r.0) (x ∷ items) new p)
+
+  pub queue_of-pushed : queue_of (held_of_both run new) ≡ put (queue_of (held_of_both run items)) x.0.rank x.0.value
+  queue_of-pushed = queue_of-arrived x.0 (map wide run) (held_of items) (held_of_both run new) kept.apart kept.earlier joined
+
+  pub IsHeaped-pushed : IsHeap heap_order new → IsHeaped run new (x.0.arrival + 1)
+  IsHeaped-pushed ordered = record {
+    in_order = kept.in_order;
+    in_heap = ordered;
+    apart = apart-arrived x.0 (map wide run) (held_of items) (held_of_both run new) kept.apart kept.earlier joined;
+    earlier = earlier-arrived x.0 (map wide run) (held_of items) (held_of_both run new) kept.apart kept.earlier joined;
+  }
 
 -- none of a heap leaves before the one on top
-leaves : (x y : Held) → is_lt (heap_order (record { 0 = x }) (record { 0 = y })) ≡ false → arrived_together x y ≡ false → Leaves x y
+leaves : (x y : Held) → is_lt (leaving_order y x) ≡ false → arrived_together x y ≡ false → Leaves x y
 leaves x y upper other =
     let low : x.rank ≤ y.rank = grind (arith, nat_tests, upper) in
     elim (eq-or-lt_of_le low) [
@@ -57,51 +135,111 @@ leaves x y upper other =
       | inr less ↦ inl less
     ]
 
+leaves_first : (x y : Held) → is_lt (leaving_order x y) ≡ true → arrived_together x y ≡ false → Leaves x y
+leaves_first x y lower other =
+    let low : x.rank ≤ y.rank = grind (arith, nat_tests, lower) in
+    elim (eq-or-lt_of_le low) [
+      | inl same ↦ inr (same, grind (arith, nat_tests, lower, other, same))
+      | inr less ↦ inl less
+    ]
+
+Leaves-trans : (x y z : Held) → Leaves x y → Leaves y z → Leaves x z
+Leaves-trans x y z (inl h) (inl k) = inl (omega (arith, h, k))
+Leaves-trans x y z (inl h) (inr k) = inl (omega (arith, h, k.0))
+Leaves-trans x y z (inr h) (inl k) = inl (omega (arith, h.0, k))
+Leaves-trans x y z (inr h) (inr k) = inr (h.0 ∙ k.0, omega (arith, h.1, k.1))
+
+-- what leaves before the top leaves before what the top doesn't leave behind
+leaves_too : (x top z : Held) → Leaves x top → is_lt (leaving_order z top) ≡ false → Leaves x z
+leaves_too x top z (inl h) upper = inl (grind (arith, nat_tests, h, upper))
+leaves_too x top z (inr h) upper =
+    let low : top.rank ≤ z.rank = grind (arith, nat_tests, upper) in
+    elim (eq-or-lt_of_le low) [
+      | inl same ↦ inr (h.0 ∙ same, grind (arith, nat_tests, upper, h.1, same))
+      | inr less ↦ inl (omega (arith, h.0, less))
+    ]
+
+leave_too : (x : Held) (top : Reverse Held) (items : List (Reverse Held)) → Leaves x top.0 → IsUpperBound heap_order top items → AllByRecursion (Leaves x) (held_of items)
+leave_too x top [] h upper = tt
+leave_too x top (z ∷ items) h upper = (leaves_too x top.0 z.0 h upper.0, leave_too x top items h upper.1)
+
 all_leave : (x : Reverse Held) (items : List (Reverse Held)) → IsUpperBound heap_order x items → AllByRecursion (λ y. arrived_together x.0 y ≡ false) (held_of items) → AllByRecursion (Leaves x.0) (held_of items)
 all_leave x [] upper apart = tt
 all_leave x (y ∷ items) upper apart = (leaves x.0 y.0 upper.0 apart.0, all_leave x items upper.1 apart.1)
 
-module _ (x : Reverse Held) (items new : List (Reverse Held)) (apart : IsDistinct arrived_together (held_of items)) (p : IsPermutation items (x ∷ new)) where
-  parted : IsPermutation (held_of items) (x.0 ∷ held_of new)
-  parted = IsPermutation-map (λ (r : Reverse Held). r.0) items (x ∷ new) p
+-- where the first of the run leads, it leaves before all of the heap
+heap_behind : (b : Brief) (run : List Brief) (items : List (Reverse Held)) → leads (b ∷ run) items ≡ true → TopIsFirst items → AllByRecursion (λ y. arrived_together (wide b) y ≡ false) (held_of items) → AllByRecursion (Leaves (wide b)) (held_of items)
+heap_behind b run [] first top apart = tt
+heap_behind b run (t ∷ items) first top apart = leave_too (wide b) t (t ∷ items) (leaves_first (wide b) t.0 first apart.0) top
 
-  distinct_after : IsDistinct arrived_together (x.0 ∷ held_of new)
-  distinct_after = IsDistinct-IsPermutation arrived_together flips (held_of items) (x.0 ∷ held_of new) parted apart
-
-  pub queue_of-popped : IsUpperBound heap_order x new → take_least (queue_of (held_of items)) ≡ Some (taking x.0 (queue_of (held_of new)))
+module _ (b : Brief) (run : List Brief) (items : List (Reverse Held)) (n : ℕ) (kept : IsHeaped (b ∷ run) items n) where
+  pub queue_of-led : leads (b ∷ run) items ≡ true → TopIsFirst items → take_least (queue_of (held_of_both (b ∷ run) items)) ≡ Some (taking (wide b) (queue_of (held_of_both run items)))
   unfolding IsDistinct
-  queue_of-popped upper =
-      ap take_least (sym (queue_of-IsPermutation (held_of items) (x.0 ∷ held_of new) parted apart))
-      ∙ queue_of-first x.0 (held_of new) (all_leave x new upper distinct_after.0)
+  queue_of-led first top =
+      let others : AllByRecursion (λ y. arrived_together (wide b) y ≡ false) (held_of items) = All-back _ (map wide run) (held_of items) kept.apart.0 in
+      queue_of-first (wide b) (held_of_both run items) (All-append (Leaves (wide b)) (map wide run) (held_of items) kept.in_order.0 (heap_behind b run items first top others))
 
-  pub apart-popped : IsDistinct arrived_together (held_of new)
+  pub IsHeaped-led : IsHeaped run items n
   unfolding IsDistinct
-  apart-popped = distinct_after.1
+  IsHeaped-led = record { in_order = kept.in_order.1; in_heap = kept.in_heap; apart = kept.apart.1; earlier = kept.earlier.1 }
 
-  pub earlier-popped : (n : ℕ) → ArrivedBefore n (held_of items) → ArrivedBefore n (held_of new)
-  earlier-popped n h =
-      let all : ArrivedBefore n (x.0 ∷ held_of new) = moved (λ (e : Held). e.arrival < n) (held_of items) (x.0 ∷ held_of new) parted h in
-      all.1
+-- where the first of the run doesn't lead, the top leaves before all of the run
+run_behind : (run : List Brief) (t : Reverse Held) (items : List (Reverse Held)) → leads run (t ∷ items) ≡ false → InLeavingOrder (map wide run) → AllByRecursion (λ y. arrived_together t.0 y ≡ false) (map wide run) → AllByRecursion (Leaves t.0) (map wide run)
+run_behind [] t items behind_top ordered apart = tt
+run_behind (b ∷ run) t items behind_top ordered apart =
+    let first : Leaves t.0 (wide b) = leaves t.0 (wide b) behind_top apart.0 in
+    (first, All-weaker (Leaves (wide b)) (Leaves t.0) (λ z h. Leaves-trans t.0 (wide b) z first h) (map wide run) ordered.0)
 
-pub IsHeaped-empty : (items : List (Reverse Held)) → items ≡ [] → IsHeap heap_order items → IsHeaped items 0
+run_behind_top : (run : List Brief) (x : Reverse Held) (items : List (Reverse Held)) → leads run items ≡ false → 0 < length items → x ≡ get_or items 0 x → InLeavingOrder (map wide run) → AllByRecursion (λ y. arrived_together x.0 y ≡ false) (map wide run) → AllByRecursion (Leaves x.0) (map wide run)
+run_behind_top run x [] behind_top some top ordered apart = absurd (omega (arith, some))
+run_behind_top run x (t ∷ items) behind_top some top ordered apart = run_behind run x items (rw top behind_top) ordered apart
+
+module _ (x : Reverse Held) (run : List Brief) (items new : List (Reverse Held)) (n : ℕ) (kept : IsHeaped run items n) (p : IsPermutation items (x ∷ new)) where
+  parted : IsPermutation (held_of_both run items) (x.0 ∷ held_of_both run new)
+  parted =
+      IsPermutation-trans (held_of_both run items) (map wide run ++ x.0 ∷ held_of new) (x.0 ∷ held_of_both run new)
+      (IsPermutation-append_right (map wide run) (held_of items) (x.0 ∷ held_of new) (IsPermutation-map (λ (r : Reverse Held). r.0) items (x ∷ new) p))
+      (IsPermutation-middle (map wide run) x.0 (held_of new))
+
+  distinct_after : IsDistinct arrived_together (x.0 ∷ held_of_both run new)
+  distinct_after = IsDistinct-IsPermutation arrived_together flips (held_of_both run items) (x.0 ∷ held_of_both run new) parted kept.apart
+
+  pub queue_of-popped : leads run items ≡ false → 0 < length items → x ≡ get_or items 0 x → IsUpperBound heap_order x new → take_least (queue_of (held_of_both run items)) ≡ Some (taking x.0 (queue_of (held_of_both run new)))
+  unfolding IsDistinct
+  queue_of-popped behind_top some top upper =
+      let all : AllByRecursion (Leaves x.0) (held_of_both run new) =
+      All-append (Leaves x.0) (map wide run) (held_of new)
+      (run_behind_top run x items behind_top some top kept.in_order (All-front _ (map wide run) (held_of new) distinct_after.0))
+      (all_leave x new upper (All-back _ (map wide run) (held_of new) distinct_after.0)) in
+      ap take_least (sym (queue_of-IsPermutation (held_of_both run items) (x.0 ∷ held_of_both run new) parted kept.apart))
+      ∙ queue_of-first x.0 (held_of_both run new) all
+
+  pub IsHeaped-popped : IsHeap heap_order new → IsHeaped run new n
+  unfolding IsDistinct
+  IsHeaped-popped ordered =
+      let all : ArrivedBefore n (x.0 ∷ held_of_both run new) = moved (λ (e : Held). e.arrival < n) (held_of_both run items) (x.0 ∷ held_of_both run new) parted kept.earlier in
+      record { in_order = kept.in_order; in_heap = ordered; apart = distinct_after.1; earlier = all.1 }
+
+pub IsHeaped-empty : (run : List Brief) (items : List (Reverse Held)) → run ≡ [] → items ≡ [] → IsHeap heap_order items → IsHeaped run items 0
 unfolding IsDistinct
-IsHeaped-empty [] none ordered = record { in_heap = ordered; apart = tt; earlier = tt }
-IsHeaped-empty (x ∷ items) none ordered = cc
+IsHeaped-empty [] [] no_run none ordered = record { in_order = tt; in_heap = ordered; apart = tt; earlier = tt }
+IsHeaped-empty [] (x ∷ items) no_run none ordered = cc
+IsHeaped-empty (b ∷ run) items no_run none ordered = cc
 
-pub queue_of_heap-none : (items : List (Reverse Held)) → length items ≡ 0 → queue_of (held_of items) ≡ []
-queue_of_heap-none [] none = queue_of-empty
-queue_of_heap-none (x ∷ items) none = absurd (omega (arith, none))
+-- where the run doesn't lead and the heap is empty, there is no pair
+pub queue_of-neither : (run : List Brief) (items : List (Reverse Held)) → leads run items ≡ false → length items ≡ 0 → queue_of (held_of_both run items) ≡ []
+queue_of-neither [] [] behind_top none = queue_of-empty
+queue_of-neither (b ∷ run) [] behind_top none = cc
+queue_of-neither run (x ∷ items) behind_top none = absurd (omega (arith, none))
 
 length-held_of : (items : List (Reverse Held)) → length (held_of items) ≡ length items
 length-held_of [] = refl
 length-held_of (x ∷ items) = ap suc (length-held_of items)
 
-pub length-queue_of_heap : (items : List (Reverse Held)) → length (queue_of (held_of items)) ≡ length items
-length-queue_of_heap items = length-queue_of (held_of items) ∙ length-held_of items
+length-wide : (run : List Brief) → length (map wide run) ≡ length run
+length-wide [] = refl
+length-wide (b ∷ run) = ap suc (length-wide run)
 
-pub IsHeaped-pushed : (x : Reverse Held) (items new : List (Reverse Held)) → IsHeaped items x.0.arrival → IsPermutation (x ∷ items) new → IsHeap heap_order new → IsHeaped new (x.0.arrival + 1)
-IsHeaped-pushed x items new kept p ordered =
-    record { in_heap = ordered; apart = apart-pushed x items new kept.apart kept.earlier p; earlier = earlier-pushed x items new kept.apart kept.earlier p }
-
-pub IsHeaped-popped : (x : Reverse Held) (items new : List (Reverse Held)) (n : ℕ) → IsHeaped items n → IsPermutation items (x ∷ new) → IsHeap heap_order new → IsHeaped new n
-IsHeaped-popped x items new n kept p ordered = record { in_heap = ordered; apart = apart-popped x items new kept.apart p; earlier = earlier-popped x items new kept.apart p n kept.earlier }
+pub length-queue_of_both : (run : List Brief) (items : List (Reverse Held)) → length (queue_of (held_of_both run items)) ≡ length run + length items
+length-queue_of_both run items =
+    length-queue_of (held_of_both run items) ∙ length-append (map wide run) (held_of items) ∙ omega (arith, length-wide run, length-held_of items)

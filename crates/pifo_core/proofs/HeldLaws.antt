@@ -11,19 +11,19 @@ use Rattle.pifo_core.specs.declared.held.Held.{Held}
 use Rattle.pifo_core.specs.Held.{placed, in_arrival_order, pair, queue_of, Leaves, InLeavingOrder, ArrivedBefore}
 use Rattle.pifo_core.specs.Sorted.{IsKept}
 
-All-weaker : {X : Type 0} (P Q : X → Type 0) → ((x : X) → P x → Q x) → (xs : List X) → AllByRecursion P xs → AllByRecursion Q xs
+pub All-weaker : {X : Type 0} (P Q : X → Type 0) → ((x : X) → P x → Q x) → (xs : List X) → AllByRecursion P xs → AllByRecursion Q xs
 All-weaker P Q f [] h = tt
 All-weaker P Q f (x ∷ xs) h = (f x h.0, All-weaker P Q f xs h.1)
 
-All-append : {X : Type 0} (P : X → Type 0) (xs ys : List X) → AllByRecursion P xs → AllByRecursion P ys → AllByRecursion P (xs ++ ys)
+pub All-append : {X : Type 0} (P : X → Type 0) (xs ys : List X) → AllByRecursion P xs → AllByRecursion P ys → AllByRecursion P (xs ++ ys)
 All-append P [] ys h k = k
 All-append P (x ∷ xs) ys h k = (h.0, All-append P xs ys h.1 k)
 
-All-front : {X : Type 0} (P : X → Type 0) (xs ys : List X) → AllByRecursion P (xs ++ ys) → AllByRecursion P xs
+pub All-front : {X : Type 0} (P : X → Type 0) (xs ys : List X) → AllByRecursion P (xs ++ ys) → AllByRecursion P xs
 All-front P [] ys h = tt
 All-front P (x ∷ xs) ys h = (h.0, All-front P xs ys h.1)
 
-All-back : {X : Type 0} (P : X → Type 0) (xs ys : List X) → AllByRecursion P (xs ++ ys) → AllByRecursion P ys
+pub All-back : {X : Type 0} (P : X → Type 0) (xs ys : List X) → AllByRecursion P (xs ++ ys) → AllByRecursion P ys
 All-back P [] ys h = h
 All-back P (x ∷ xs) ys h = All-back P xs ys h.1
 
@@ -137,7 +137,7 @@ InLeavingOrder-insert x [] back ordered first last = (last, ordered)
 InLeavingOrder-insert x (e ∷ front) back ordered first last =
     (All-append (Leaves e) front (x ∷ back) (All-front _ front back ordered.0) (first.0, All-back _ front back ordered.0), InLeavingOrder-insert x front back ordered.1 first.1 last)
 
-leave_before : (x : Held) (xs : List Held) → AllByRecursion (λ (e : Held). e.arrival < x.arrival) xs → AllByRecursion (λ (e : Held). e.rank ≤ x.rank) xs → AllByRecursion (λ e. Leaves e x) xs
+pub leave_before : (x : Held) (xs : List Held) → AllByRecursion (λ (e : Held). e.arrival < x.arrival) xs → AllByRecursion (λ (e : Held). e.rank ≤ x.rank) xs → AllByRecursion (λ e. Leaves e x) xs
 leave_before x [] h k = tt
 leave_before x (e ∷ xs) h k = (elim (eq-or-lt_of_le k.0) [ inl same ↦ inr (same, h.0) | inr less ↦ inl less ], leave_before x xs h.1 k.1)
 

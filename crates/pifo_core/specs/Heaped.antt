@@ -1,12 +1,13 @@
--- What a queue kept in a binary heap keeps.
-use Rattle.std.specs.Prelude.{ℕ, List, map, Bool, nat_eq}
-use Rattle.std.specs.List.{IsDistinct}
-use Rattle.std.specs.BinaryHeap.{IsHeap}
+-- What a queue kept in a run and a binary heap keeps.
+use Rattle.std.specs.Prelude.{◌≤◌, ℕ, List, [], ◌∷◌, ◌++◌, map, Bool, false, true, nat_eq}
+use Rattle.std.specs.List.{AllByRecursion, IsDistinct}
+use Rattle.std.specs.BinaryHeap.{IsHeap, IsUpperBound}
 use Rattle.std.specs.declared.cmp.Ordering.{Ordering}
-use Rattle.std.specs.Ordering.{nat_cmp, ordering_then}
+use Rattle.std.specs.Ordering.{nat_cmp, ordering_then, is_lt}
 use Rattle.std.specs.declared.cmp.Reverse.{Reverse}
 use Rattle.pifo_core.specs.declared.held.Held.{Held}
-use Rattle.pifo_core.specs.Held.{ArrivedBefore}
+use Rattle.pifo_core.specs.declared.held.Brief.{Brief}
+use Rattle.pifo_core.specs.Held.{wide, IsSmall, InLeavingOrder, ArrivedBefore}
 
 abbrev pub held_of : List (Reverse Held) → List Held
 held_of items = map (λ r. r.0) items
@@ -22,7 +23,27 @@ heap_order x y = leaving_order y.0 x.0
 abbrev pub arrived_together : Held → Held → Bool
 arrived_together x y = nat_eq x.arrival y.arrival
 
-pub record IsHeaped (items : List (Reverse Held)) (pushed : ℕ) : Type 0 where
+-- no entry of the heap leaves before the one on top
+abbrev pub TopIsFirst : List (Reverse Held) → Type 0
+TopIsFirst [] = Unit {0}
+TopIsFirst (top ∷ items) = IsUpperBound heap_order top (top ∷ items)
+
+-- the entries of the run, and then those of the heap
+abbrev pub held_of_both : List Brief → List (Reverse Held) → List Held
+held_of_both run items = map wide run ++ held_of items
+
+-- whether the first of the run leaves before the top of the heap
+abbrev pub leads : List Brief → List (Reverse Held) → Bool
+leads [] items = false
+leads (first ∷ run) [] = true
+leads (first ∷ run) (top ∷ items) = is_lt (leaving_order (wide first) top.0)
+
+-- an entry that fits into a brief one, of no lower rank than any of the run
+abbrev pub MayFollow : List Brief → Held → Type 0
+MayFollow run x = IsSmall x × AllByRecursion (λ e. e.rank ≤ x.rank) (map wide run)
+
+pub record IsHeaped (run : List Brief) (items : List (Reverse Held)) (pushed : ℕ) : Type 0 where
+  pub in_order : InLeavingOrder (map wide run)
   pub in_heap : IsHeap heap_order items
-  pub apart : IsDistinct arrived_together (held_of items)
-  pub earlier : ArrivedBefore pushed (held_of items)
+  pub apart : IsDistinct arrived_together (held_of_both run items)
+  pub earlier : ArrivedBefore pushed (held_of_both run items)

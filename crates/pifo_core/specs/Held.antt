@@ -1,8 +1,17 @@
 -- The pairs that stand in a queue, read from what it holds.
-use Rattle.std.specs.Prelude.{◌≡◌, ◌<◌, ◌⊎◌, ℕ, List, [], ◌∷◌, map, if◌then◌else◌, nat_lt}
+use Rattle.std.specs.Prelude.{◌≡◌, ◌<◌, ◌^◌, ◌⊎◌, ℕ, List, [], ◌∷◌, map, if◌then◌else◌, nat_lt}
 use Rattle.std.specs.List.{AllByRecursion}
 use Rattle.pifo_defs.specs.Queue.{Queue}
 use Rattle.pifo_core.specs.declared.held.Held.{Held}
+use Rattle.pifo_core.specs.declared.held.Brief.{Brief}
+
+-- an entry in brief, at its full width
+abbrev pub wide : Brief → Held
+wide b = record { rank = b.rank; arrival = b.arrival; value = b.value }
+
+-- its sequence number and its value fit into 32 bits
+abbrev pub IsSmall : Held → Type 0
+IsSmall x = (x.arrival < 2 ^ 32) × (x.value < 2 ^ 32)
 
 -- an entry among others in the order of their arrival
 abbrev pub placed : Held → List Held → List Held

@@ -1,16 +1,23 @@
-//! A queue kept in a binary heap.
-ghost use Rattle.std.specs.Prelude.{◌≡◌, []};
+//! A queue kept in a binary heap, but for what came in order of rank.
+ghost use Rattle.std.specs.Prelude.{◌≡◌, ◌↔◌, [], map, IfSome, IsSome};
+ghost use Rattle.std.specs.BinaryHeap.{heap_items, IsHeap};
+ghost use Rattle.pifo_core.specs.Held.{wide, InLeavingOrder};
+ghost use Rattle.pifo_core.specs.Heaped.{MayFollow, leads, heap_order, TopIsFirst};
 
-use crate::held::Held;
+use crate::held::{Brief, Held};
 use crate::pifo::Pifo;
 use std::alloc::{AllocError, Global};
 use std::cmp::Reverse;
-use std::collections::BinaryHeap;
+use std::collections::{BinaryHeap, VecDeque};
 use std::marker::Model;
 
-/// A queue whose pairs are kept in a binary heap, with the one that leaves first on top.
+/// A queue whose pairs are kept in the order of leaving where they came in it, and otherwise in a binary heap, with the one that
+/// leaves first on top.
 #[derive(Drop)]
 pub struct HeapPifo {
+    /// In the order of leaving. A pair of numbers that fit comes last here, unless its rank is below another's.
+    run: VecDeque<Brief>,
+    /// The other pairs.
     heap: BinaryHeap<Reverse<Held>>,
     pushed: u64,
     /// For how many pushes there is room. A push into a `BinaryHeap` promises of its capacity only that it doesn't fall.
@@ -20,15 +27,16 @@ pub struct HeapPifo {
 impl Model for HeapPifo {
     ghost use Rattle.std.specs.Prelude.{◌+◌, ◌≤◌};
     ghost use Rattle.std.specs.BinaryHeap.{heap_items, heap_len, heap_capacity};
+    ghost use Rattle.std.specs.VecDeque.{deque_len, deque_capacity};
     ghost use Rattle.pifo_core.specs.Held.{queue_of};
-    ghost use Rattle.pifo_core.specs.Heaped.{IsHeaped, held_of};
+    ghost use Rattle.pifo_core.specs.Heaped.{IsHeaped, held_of_both};
     ghost use Rattle.pifo_core.specs.Sorted.{Contents};
 
     ghost Value = { Contents };
 
-    ghost view = { λ h. record { entries = queue_of (held_of (heap_items h.heap)); pushes = h.pushed; spare = h.spare } };
+    ghost view = { λ h. record { entries = queue_of (held_of_both h.run.items (heap_items h.heap)); pushes = h.pushed; spare = h.spare } };
 
-    ghost invariant = { λ h. IsHeaped (heap_items h.heap) h.pushed × (heap_len h.heap + h.spare ≤ heap_capacity h.heap) };
+    ghost invariant = { λ h. IsHeaped h.run.items (heap_items h.heap) h.pushed × (deque_len h.run + h.spare ≤ deque_capacity h.run) × (heap_len h.heap + h.spare ≤ heap_capacity h.heap) };
 }
 
 impl HeapPifo {
@@ -38,6 +46,7 @@ impl HeapPifo {
         ensures pushes { result.pushes ≡ 0 }
     {
         HeapPifo {
+            run: VecDeque::new(alloc),
             heap: BinaryHeap::new(alloc),
             pushed: 0,
             spare: 0,
@@ -53,33 +62,68 @@ impl Pifo for HeapPifo {
     ghost spare = { λ h. h.spare };
 
     fn reserve(&mut self, more: usize) -> Result<(), AllocError> {
+        self.run.reserve(more)?;
         self.heap.reserve(more)?;
         self.spare = self.spare.max(more);
         Ok(())
     }
 
     fn push(&mut self, rank: u64, value: u64) {
-        let arrival = self.pushed;
-        // There is a spare place, so this can't fail.
-        let _ = self.heap.push(Reverse(Held {
+        let held = Held {
             rank,
-            arrival,
+            arrival: self.pushed,
             value,
-        }));
+        };
+        match brief_behind(&self.run, &held) {
+            // There is a spare place in each part, so neither push can fail.
+            Some(brief) => {
+                let _ = self.run.push_back(brief);
+            }
+            None => {
+                let _ = self.heap.push(Reverse(held));
+            }
+        }
         self.pushed += 1;
         self.spare -= 1;
     }
 
     fn pop(&mut self) -> Option<(u64, u64)> {
+        if run_leads(&self.run, &self.heap) {
+            let first = self.run.pop_front()?;
+            return Some((first.rank, u64::from(first.value)));
+        }
         let Reverse(first) = self.heap.pop()?;
         Some((first.rank, first.value))
     }
 
     fn len(&self) -> usize {
-        self.heap.len()
+        self.run.len() + self.heap.len()
     }
 
     fn pushed(&self) -> u64 {
         self.pushed
+    }
+}
+
+/// The entry in brief, where it may stand last in the run.
+fn brief_behind(run: &VecDeque<Brief>, held: &Held) -> Option<Brief>
+    requires { InLeavingOrder (map wide run.now.items) }
+    ensures same { IfSome result (λ b. wide b ≡ held.now) }
+    ensures follows { IsSome result ↔ MayFollow run.now.items held.now }
+{
+    match run.back() {
+        Some(last) if held.rank < last.rank => None,
+        _ => Brief::of(held),
+    }
+}
+
+/// Whether the pair that leaves is the first of the run.
+fn run_leads(run: &VecDeque<Brief>, heap: &BinaryHeap<Reverse<Held>>) -> bool
+    ensures leads { result ≡ leads run.now.items (heap_items heap.now) }
+    ensures top { IsHeap heap_order (heap_items heap.now) → TopIsFirst (heap_items heap.now) }
+{
+    match (run.front(), heap.peek()) {
+        (Some(first), Some(Reverse(top))) => first.wide() < *top,
+        (front, _) => front.is_some(),
     }
 }

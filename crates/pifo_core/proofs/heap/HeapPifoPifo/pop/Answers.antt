@@ -1,23 +1,45 @@
-use Rattle.std.proofs.Common.{◌≡◌, [], rules, ap, sym, ◌∙◌, arith, length, heap_items, heap_len}
+use Rattle.std.proofs.Common.{◌≡◌, [], ◌∷◌, true, false, rules, ap, sym, ◌∙◌, arith, length, heap_items, heap_len, Some}
 use Rattle.pifo_defs.specs.Queue.{take_least}
 use Rattle.pifo_core.specs.Held.{queue_of}
-use Rattle.pifo_core.specs.Heaped.{held_of}
-use Rattle.pifo_core.proofs.HeapLaws.{queue_of_heap-none, queue_of-popped, IsHeaped-popped}
+use Rattle.pifo_core.specs.Heaped.{held_of_both, leads, TopIsFirst}
+use Rattle.pifo_core.proofs.HeapLaws.{queue_of-led, IsHeaped-led, queue_of-neither, queue_of-popped, IsHeaped-popped}
 use Rattle.pifo_core.proofs.heap.HeapPifoPifo.pop.Goals as goal
 
-pub returns-in_err-first-clause-taken : goal.returns-in_err-first-clause-taken
-returns-in_err-first-clause-taken c =
+pub invariant_of-self-then-run_leads : goal.invariant_of-self-then-run_leads
+invariant_of-self-then-run_leads c =
+    let items : c.self.inside.run.items ≡ c.in_ok-first.first ∷ c.pop_front.new.self.items = c.in_ok-first.ensures.items in (
+      IsHeaped-led c.in_ok-first.first c.pop_front.new.self.items (heap_items c.self.inside.heap) c.self.inside.pushed (rw items at c.self.invariant.0),
+      omega (arith, c.in_ok-first.ensures.len, c.in_ok-first.ensures.capacity, c.self.invariant),
+      omega (arith, c.self.invariant),
+    )
+
+pub returns-then-run_leads-clause-taken : goal.returns-then-run_leads-clause-taken
+returns-then-run_leads-clause-taken c =
+    let items : c.self.inside.run.items ≡ c.in_ok-first.first ∷ c.pop_front.new.self.items = c.in_ok-first.ensures.items in
+    let first : leads c.self.inside.run.items (heap_items c.self.inside.heap) ≡ true = sym c.if-run_leads.ensures.leads in
+    let top : TopIsFirst (heap_items c.self.inside.heap) = c.run_leads.ensures.top c.self.invariant.0.in_heap in
+    ap (λ v. take_least v.entries) (sym c.self.view_is)
+    ∙ ap (λ l. take_least (queue_of (held_of_both l (heap_items c.self.inside.heap)))) items
+    ∙ queue_of-led c.in_ok-first.first c.pop_front.new.self.items (heap_items c.self.inside.heap) c.self.inside.pushed (rw items at c.self.invariant.0) (rw items at first) top
+    ∙ ap (λ v. Some (record { rank = c.in_ok-first.first.rank; value = v; rest = queue_of (held_of_both c.pop_front.new.self.items (heap_items c.self.inside.heap)) })) (sym c.from.ensures)
+
+pub returns-in_err-first-2-clause-taken : goal.returns-in_err-first-2-clause-taken
+returns-in_err-first-2-clause-taken c =
     let whole : heap_len c.self.inside.heap ≡ length (heap_items c.self.inside.heap) = search rules in
-    let empty : queue_of (held_of (heap_items c.self.inside.heap)) ≡ [] = queue_of_heap-none (heap_items c.self.inside.heap) (sym whole ∙ c.in_err-first.ensures.none) in
-    rw c.from_residual.ensures (ap (λ v. v.entries) (sym c.self.view_is) ∙ empty, ap (λ l. queue_of (held_of l)) c.in_err-first.ensures.unchanged.0 ∙ empty)
+    let behind : leads c.self.inside.run.items (heap_items c.self.inside.heap) ≡ false = sym c.if-run_leads.ensures.leads in
+    let empty : queue_of (held_of_both c.self.inside.run.items (heap_items c.self.inside.heap)) ≡ [] = queue_of-neither c.self.inside.run.items (heap_items c.self.inside.heap) behind (sym whole ∙ c.in_err-first-2.ensures.none) in
+    rw c.from_residual-in_err-first-2.ensures (ap (λ v. v.entries) (sym c.self.view_is) ∙ empty, ap (λ l. queue_of (held_of_both c.self.inside.run.items l)) c.in_err-first-2.ensures.unchanged.0 ∙ empty)
 
 pub invariant_of-self-2 : goal.invariant_of-self-2
 invariant_of-self-2 c = (
-  IsHeaped-popped c.in_ok-first.field-0 (heap_items c.self.inside.heap) (heap_items c.pop.new.self) c.self.inside.pushed c.self.invariant.0 c.in_ok-first.ensures.permutation (c.in_ok-first.ensures.heap_order c.self.invariant.0.in_heap).0,
-  omega (arith, c.in_ok-first.ensures.len, c.in_ok-first.ensures.capacity, c.self.invariant.1),
+  IsHeaped-popped c.in_ok-first-2.field-0 c.self.inside.run.items (heap_items c.self.inside.heap) (heap_items c.pop.new.self) c.self.inside.pushed c.self.invariant.0 c.in_ok-first-2.ensures.permutation (c.in_ok-first-2.ensures.heap_order c.self.invariant.0.in_heap).0,
+  omega (arith, c.self.invariant),
+  omega (arith, c.in_ok-first-2.ensures.len, c.in_ok-first-2.ensures.capacity, c.self.invariant),
 )
 
 pub returns-clause-taken : goal.returns-clause-taken
 returns-clause-taken c =
+    let whole : heap_len c.self.inside.heap ≡ length (heap_items c.self.inside.heap) = search rules in
+    let behind : leads c.self.inside.run.items (heap_items c.self.inside.heap) ≡ false = sym c.if-run_leads.ensures.leads in
     ap (λ v. take_least v.entries) (sym c.self.view_is)
-    ∙ queue_of-popped c.in_ok-first.field-0 (heap_items c.self.inside.heap) (heap_items c.pop.new.self) c.self.invariant.0.apart c.in_ok-first.ensures.permutation (c.in_ok-first.ensures.below_top c.self.invariant.0.in_heap)
+    ∙ queue_of-popped c.in_ok-first-2.field-0 c.self.inside.run.items (heap_items c.self.inside.heap) (heap_items c.pop.new.self) c.self.inside.pushed c.self.invariant.0 c.in_ok-first-2.ensures.permutation behind (omega (arith, whole, c.in_ok-first-2.ensures.len)) c.in_ok-first-2.ensures.top (c.in_ok-first-2.ensures.below_top c.self.invariant.0.in_heap)

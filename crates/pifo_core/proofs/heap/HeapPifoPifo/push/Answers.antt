@@ -1,38 +1,65 @@
-use Rattle.std.proofs.Common.{◌≡◌, ◌≤◌, rules, ap, ◌∙◌, ◌+◌, ◌∷◌, arith, IsOk, heap_items, heap_len}
-use Rattle.std.specs.BinaryHeap.{KeepsHeap}
+use Rattle.std.proofs.Common.{◌≡◌, ◌≤◌, rules, refl, ap, ◌∙◌, ◌+◌, ◌∷◌, ◌++◌, [], arith, IsOk, heap_items, heap_len, deque_len}
+use Rattle.std.specs.BinaryHeap.{KeepsHeap, heap_capacity}
+use Rattle.std.specs.VecDeque.{deque_capacity}
 use Rattle.std.specs.List.Sorted.{IsPermutation}
 use Rattle.std.specs.declared.cmp.Reverse.{Reverse}
 use Rattle.pifo_defs.specs.Queue.{put}
 use Rattle.pifo_core.specs.declared.held.Held.{Held}
-use Rattle.pifo_core.specs.Heaped.{heap_order}
-use Rattle.pifo_core.proofs.HeapLaws.{queue_of-pushed, IsHeaped-pushed}
+use Rattle.pifo_core.specs.Held.{queue_of}
+use Rattle.pifo_core.specs.Heaped.{heap_order, held_of_both, IsHeaped}
+use Rattle.pifo_core.proofs.HeapLaws.{queue_of-followed, IsHeaped-followed, queue_of-pushed, IsHeaped-pushed}
 use Rattle.pifo_core.proofs.heap.HeapPifoPifo.push.Goals as goal
+use Rattle.pifo_core.proofs.heap.HeapPifoPifo.push.Goals.{in-Some, in-None}
 
-entry : goal.After-self-2-1 → Reverse Held
-entry c = record { 0 = record { rank = c.args.rank; arrival = c.self.inside.pushed; value = c.args.value } }
+entry : goal.After-self-2-1 → Held
+entry c = record { rank = c.args.rank; arrival = c.self.inside.pushed; value = c.args.value }
 
 record Pushed (c : goal.After-self-2-1) : Type 0 where
-  fits : IsOk c.push.result
-  moved : IsPermutation (entry c ∷ heap_items c.self.inside.heap) (heap_items c.push.new.self)
+  kept : IsHeaped c.match-brief_behind.self-inside.run.items (heap_items c.match-brief_behind.self-inside.heap) (c.self.inside.pushed + 1)
+  put_last : queue_of (held_of_both c.match-brief_behind.self-inside.run.items (heap_items c.match-brief_behind.self-inside.heap)) ≡ put (queue_of (held_of_both c.self.inside.run.items (heap_items c.self.inside.heap))) c.args.rank c.args.value
+  in_run : deque_len c.match-brief_behind.self-inside.run + c.self.inside.spare ≤ deque_capacity c.match-brief_behind.self-inside.run + 1
+  in_heap : heap_len c.match-brief_behind.self-inside.heap + c.self.inside.spare ≤ heap_capacity c.match-brief_behind.self-inside.heap + 1
+  pushes : c.match-brief_behind.self-inside.pushed ≡ c.self.inside.pushed
+  spare : c.match-brief_behind.self-inside.spare ≡ c.self.inside.spare
 
 pushed : (c : goal.After-self-2-1) → Pushed c
 unfolding entry
 pushed c =
     let room : 1 ≤ c.self.inside.spare = rw (← c.self.view_is) at c.requires.room in
-    let fits : IsOk c.push.result = c.push.ensures.succeeds (omega (arith, room, c.self.invariant.1)) in
-    record { fits = fits; moved = search (rules, fits, c.push.ensures.permutation) }
+    elim c.match-brief_behind.branch [
+      | in-Some w ↦
+          let fits : IsOk w.push_back.result = w.push_back.ensures.succeeds (omega (arith, room, c.self.invariant.1)) in
+          let items : w.push_back.new.self.items ≡ c.self.inside.run.items ++ w.in-Some.brief ∷ [] = search (rules, fits, w.push_back.ensures.items) in
+          let longer : deque_len w.push_back.new.self ≡ deque_len c.self.inside.run + 1 = search (rules, fits, w.push_back.ensures.len) in
+          record {
+            kept = rw (w.self-inside-is, items) (IsHeaped-followed (entry c) w.in-Some.brief w.in-Some.ensures.same c.self.inside.run.items (heap_items c.self.inside.heap) c.self.invariant.0 (w.in-Some.ensures.follows.0 refl).1);
+            put_last = rw (w.self-inside-is, items) (queue_of-followed (entry c) w.in-Some.brief w.in-Some.ensures.same c.self.inside.run.items (heap_items c.self.inside.heap) c.self.invariant.0 (w.in-Some.ensures.follows.0 refl).1);
+            in_run = rw w.self-inside-is (omega (arith, longer, c.self.invariant.1, w.push_back.ensures.capacity));
+            in_heap = rw w.self-inside-is (omega (arith, c.self.invariant));
+            pushes = rw w.self-inside-is;
+            spare = rw w.self-inside-is;
+          }
+      | in-None w ↦
+          let top : Reverse Held = record { 0 = entry c } in
+          let fits : IsOk w.push.result = w.push.ensures.succeeds (omega (arith, room, c.self.invariant)) in
+          let moved : IsPermutation (top ∷ heap_items c.self.inside.heap) (heap_items w.push.new.self) = search (rules, fits, w.push.ensures.permutation) in
+          let ordered : KeepsHeap heap_order (heap_items c.self.inside.heap) (heap_items w.push.new.self) = search (rules, fits, w.push.ensures.heap_order) in
+          let longer : heap_len w.push.new.self ≡ heap_len c.self.inside.heap + 1 = search (rules, fits, w.push.ensures.len) in
+          record {
+            kept = rw w.self-inside-is (IsHeaped-pushed top c.self.inside.run.items (heap_items c.self.inside.heap) (heap_items w.push.new.self) c.self.invariant.0 moved (ordered c.self.invariant.0.in_heap));
+            put_last = rw w.self-inside-is (queue_of-pushed top c.self.inside.run.items (heap_items c.self.inside.heap) (heap_items w.push.new.self) c.self.invariant.0 moved);
+            in_run = rw w.self-inside-is (omega (arith, c.self.invariant));
+            in_heap = rw w.self-inside-is (omega (arith, longer, c.self.invariant, w.push.ensures.capacity));
+            pushes = rw w.self-inside-is;
+            spare = rw w.self-inside-is;
+          }
+    ]
 
 pub invariant_of-self : goal.invariant_of-self
-unfolding entry
 invariant_of-self c =
-    let fits : IsOk c.push.result = (pushed c).fits in
     let room : 1 ≤ c.self.inside.spare = rw (← c.self.view_is) at c.requires.room in
-    let ordered : KeepsHeap heap_order (heap_items c.self.inside.heap) (heap_items c.push.new.self) = search (rules, fits, c.push.ensures.heap_order) in
-    let longer : heap_len c.push.new.self ≡ heap_len c.self.inside.heap + 1 = search (rules, fits, c.push.ensures.len) in
-    (IsHeaped-pushed (entry c) (heap_items c.self.inside.heap) (heap_items c.push.new.self) c.self.invariant.0 (pushed c).moved (ordered c.self.invariant.0.in_heap), omega (arith, room, longer, c.self.invariant.1, c.push.ensures.capacity))
+    let p : Pushed c = pushed c in
+    (rw p.pushes p.kept, omega (arith, p.in_run, p.spare, room), omega (arith, p.in_heap, p.spare, room))
 
 pub returns-clause-entries : goal.returns-clause-entries
-unfolding entry
-returns-clause-entries c =
-    queue_of-pushed (entry c) (heap_items c.self.inside.heap) (heap_items c.push.new.self) c.self.invariant.0.apart c.self.invariant.0.earlier (pushed c).moved
-    ∙ ap (λ v. put v.entries c.args.rank c.args.value) c.self.view_is
+returns-clause-entries c = (pushed c).put_last ∙ ap (λ v. put v.entries c.args.rank c.args.value) c.self.view_is
