@@ -3,6 +3,5 @@ pub mod Origins
 pub mod Spills
 pub mod Arrivals
 pub mod Departures
-pub mod Held
 pub mod Own
 pub mod Direct

@@ -3,7 +3,6 @@
 #![tactic(auto)]
 
 mod direct;
-mod held;
 mod own;
 mod scheduler;
 

@@ -1,0 +1,11 @@
+//! The packets that a scheduler holds, by their numbers. Begin with src/held.rt and specs/Slots.antt.
+#![tactic(auto)]
+
+mod held;
+mod slot;
+mod window;
+
+pub use held::Held;
+
+#[cfg(test)]
+mod tests;
