@@ -21,6 +21,10 @@ Came None after packets = ⊤
 Came (Some before) None packets = ⊥
 Came (Some before) (Some after) packets = (before.packets ≡ packets ++ after.packets) × (before.fault ≡ after.fault)
 
+-- of what was left one packet came, whichever it was
+abbrev pub OneCame : Option Left → Option Left → Type 0
+OneCame before after = (p : Packet) × Came before after (p ∷ [])
+
 -- the captured bytes of packets, by their numbers
 abbrev pub Captured : Type 0
 Captured = ℕ → List ℕ

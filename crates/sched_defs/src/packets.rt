@@ -1,10 +1,10 @@
 //! The trait of packets that come one by one.
-ghost use Rattle.std.specs.Prelude.{◌≡◌, ◌≤◌, ◌+◌, ℕ, Option, List, [], ◌∷◌, length, is_some, if◌then◌else◌, IfOk, IfErr, IfSome, IfNone, OnOk, IsErrOf};
+ghost use Rattle.std.specs.Prelude.{◌≡◌, ◌≤◌, ◌+◌, ℕ, true, false, Option, List, [], ◌∷◌, length, is_some, if◌then◌else◌, IfOk, IfErr, IfSome, IfNone, OnOk, IsErrOf};
 ghost use Rattle.outside_core.specs.Faults.{Rose};
 ghost use Rattle.pcap_defs.specs.Record.{most_captured};
 ghost use Rattle.policy_defs.specs.Policy.{Policy};
 ghost use Rattle.sched_defs.specs.Numbered.{IsSendable};
-ghost use Rattle.sched_defs.specs.Packets.{most_packets, Left, Came, Captured, StaysKnown, IsKnownAs, AreThere, IsOver, IsHalt};
+ghost use Rattle.sched_defs.specs.Packets.{most_packets, Left, Came, OneCame, Captured, StaysKnown, IsKnownAs, AreThere, IsOver, IsHalt};
 
 use packet_defs::Packet;
 
@@ -33,7 +33,7 @@ pub trait Packets {
     /// What is left to come, where told.
     ghost left: { Self → Self.Source → Option Left };
 
-    /// The captured bytes of the packet that came last.
+    /// The captured bytes of the packet that came last, if it wasn't passed over.
     ghost captured: { Self → List ℕ };
 
     /// These are the captured bytes of the packets that are left to come, by their numbers.
@@ -66,7 +66,24 @@ pub trait Packets {
         ensures later { faults source.old ≤ faults source.new }
         ensures cause { IsErrOf result Halt.Source → Rose (faults source.old) (faults source.new) };
 
-    /// The captured bytes of the packet that came last.
+    /// Passes over the next packet, and answers whether one was left. It may be called again where none is, and not after an
+    /// error.
+    fn pass(&mut self, source: &mut Self::Source) -> Result<bool, Halt>
+        requires ready { ready self.old source.old }
+
+        ensures came { IfOk result (λ some. some ≡ true → OneCame (left self.old source.old) (left self.new source.new)) }
+        ensures none { IfOk result (λ some. some ≡ false → Came (left self.old source.old) (left self.new source.new) []) }
+        ensures over { IfOk result (λ some. some ≡ false → IsOver (left self.new source.new)) }
+        ensures fault { IfErr result (λ halt. IsHalt (left self.old source.old) halt) }
+
+        ensures given { IfOk result (λ some. given self.new ≡ given self.old + (if some then 1 else 0)) }
+        ensures few { OnOk result (given self.new ≤ most_packets) }
+        ensures ready { OnOk result (ready self.new source.new) }
+        ensures policy { policy self.new ≡ policy self.old }
+        ensures later { faults source.old ≤ faults source.new }
+        ensures cause { IsErrOf result Halt.Source → Rose (faults source.old) (faults source.new) };
+
+    /// The captured bytes of the packet that came last, if it wasn't passed over.
     fn captured(&self) -> &[u8]
         ensures { result.now ≡ captured self.now };
 

@@ -1,16 +1,16 @@
 -- What is left of a capture, as packets that come.
-use Rattle.std.proofs.Common.{◌≡◌, ◌+◌, ℕ, Option, Some, None, List, [], ◌∷◌, refl, sym, ap, ◌∙◌, subst}
-use Rattle.std.specs.Prelude.{IfSome, option_map}
+use Rattle.std.proofs.Common.{◌≡◌, ◌+◌, ℕ, Bool, true, false, true≢false, if◌then◌else◌, Option, Some, None, Ok, Err, List, [], ◌∷◌, refl, sym, ap, ◌∙◌, subst}
+use Rattle.std.specs.Prelude.{Result, IfOk, IfSome, option_map}
 use Rattle.pcap_defs.specs.Packet.{CapturedPacket}
 use Rattle.pcap_defs.specs.Contents.{Contents, FileContents, no_capture, holds}
-use Rattle.capture_core.specs.Captures.{fault_told, Opens, Comes, IsAt, nothing_left}
+use Rattle.capture_core.specs.Captures.{fault_told, Opens, Comes, IsOneLess, IsAt, nothing_left}
 use Rattle.capture_core.specs.declared.unread.Unread.{Unread}
 use Rattle.capture_core.specs.declared.unread.Unread.TheVariants.{Fault, Source, Memory}
 use Rattle.packet_defs.specs.declared.packet.Packet.{Packet}
 use Rattle.policy_rules.specs.Resolved.{Resolved}
 use Rattle.sched_defs.specs.declared.packets.Halt.{Halt}
 use Rattle.sched_defs.specs.declared.packets.Halt.TheVariants as halt
-use Rattle.sched_defs.specs.Packets.{Captured, Came, IsHalt, IsKnownAs, IsOver, StaysKnown}
+use Rattle.sched_defs.specs.Packets.{Captured, Came, OneCame, IsHalt, IsKnownAs, IsOver, StaysKnown}
 use Rattle.sched_packets.specs.Packets.{packet_of, packets_from}
 use Rattle.sched_packets.specs.Halts.{halt_of}
 use Rattle.sched_packets.specs.NextPacket.{packet_told, IsNext, HaltsAt}
@@ -67,6 +67,13 @@ module _ (policy : Resolved) (n : ℕ) where
   came_next next old new link p captured one is =
       let P : Packet → Type 0 = λ q. Came (option_map (left_in policy n) old) (option_map (left_in policy next) new) (q ∷ []) in
       subst P (sym is.packet) (rw (one) (comes old new (packet_told link p captured) is.comes))
+
+  -- one that is passed over came
+  pub one_came : (next : ℕ) (old new : Option Contents) (passed : Result Bool Halt) → IfOk passed (λ some. next ≡ n + (if some then 1 else 0)) → IfOk passed (λ some. some ≡ true → IsOneLess old new)
+      → IfOk passed (λ some. some ≡ true → OneCame (option_map (left_in policy n) old) (option_map (left_in policy next) new))
+  one_came next old new (Ok true) given less = λ is. (packet_of policy (n + 1) (less is).0, rw (given) (comes old new (less is).0 (less is).1))
+  one_came next old new (Ok false) given less = λ is. absurd (true≢false (sym is))
+  one_came next old new (Err halt) given less = tt
 
   -- what the next packet tells of what is left to come, and of the captured bytes
   pub record Gives (next : ℕ) (old new : Option Contents) (p : Packet) (captured : List ℕ) : Type 0 where

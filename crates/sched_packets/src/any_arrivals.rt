@@ -113,6 +113,13 @@ impl<'a, S: Shelf> Packets for AnyArrivals<'a, S> {
         }
     }
 
+    fn pass(&mut self, source: &mut S) -> Result<bool, Halt> {
+        match self {
+            AnyArrivals::Classic(arrivals) => arrivals.pass(source),
+            AnyArrivals::Blocks(arrivals) => arrivals.pass(source),
+        }
+    }
+
     fn captured(&self) -> &[u8] {
         match self {
             AnyArrivals::Classic(arrivals) => arrivals.captured(),

@@ -1,8 +1,8 @@
 //! The packets of a capture, one by one.
-ghost use Rattle.std.specs.Prelude.{◌≡◌, ◌+◌, Some, is_some, if◌then◌else◌, IfOk, IfErr, IfSome, IfNone, OnOk, IsErrOf, IsTrue};
+ghost use Rattle.std.specs.Prelude.{◌≡◌, ◌+◌, Some, true, false, is_some, if◌then◌else◌, IfOk, IfErr, IfSome, IfNone, OnOk, IsErrOf, IsTrue};
 ghost use Rattle.outside_core.specs.Faults.{Rose};
 ghost use Rattle.outside_core.specs.Kept.{KeepsShelf};
-ghost use Rattle.capture_core.specs.Captures.{Opens, IsAt, nothing_left};
+ghost use Rattle.capture_core.specs.Captures.{Opens, IsOneLess, IsAt, nothing_left};
 ghost use Rattle.sched_packets.specs.NextPacket.{IsNext, HaltsAt};
 
 use crate::halts::{halt_of, halt_unbegun};
@@ -119,7 +119,38 @@ impl<'a, R: CaptureReader + Drop, S: Shelf> Arrivals<'a, R, S> {
         }
     }
 
-    /// The captured bytes of the packet that came last.
+    /// Passes over the next packet, and answers whether one was left. It may be called again where none is, and not after an
+    /// error.
+    pub fn pass(&mut self, source: &mut S) -> Result<bool, Halt>
+        requires ready { IsReady R.ready R.given self.old (S.begun source.old) }
+
+        ensures comes { IfOk result (λ some. some ≡ true → IsOneLess
+            (contents_of R.left self.old (S.left source.old)) (contents_of R.left self.new (S.left source.new))) }
+        ensures ended { IfOk result (λ some. some ≡ false → IsAt None (contents_of R.left self.old (S.left source.old))) }
+        ensures over { IfOk result (λ some. some ≡ false →
+            contents_of R.left self.new (S.left source.new) ≡ Some nothing_left) }
+        ensures fault { IfErr result (HaltsAt (contents_of R.left self.old (S.left source.old))) }
+
+        ensures given { IfOk result (λ some. given_by R.given self.new ≡ given_by R.given self.old + (if some then 1 else 0)) }
+        ensures ready { OnOk result (IsReady R.ready R.given self.new (S.begun source.new)) }
+        ensures policy { resolved_of self.new ≡ resolved_of self.old }
+        ensures kept { KeepsShelf S.lends S.content S.faults source.old source.new }
+        ensures cause { IsErrOf result Halt.Source → Rose (S.faults source.old) (S.faults source.new) }
+    {
+        if self.over {
+            return Ok(false);
+        }
+        match self.reader.pass(source, &mut self.bytes) {
+            Ok(true) => Ok(true),
+            Ok(false) => {
+                self.over = true;
+                Ok(false)
+            }
+            Err(unread) => Err(halt_of(unread)),
+        }
+    }
+
+    /// The captured bytes of the packet that came last, if it wasn't passed over.
     pub fn captured(&self) -> &[u8]
         ensures { result.now ≡ captured_by self.now }
     {

@@ -102,6 +102,14 @@ impl<'a, S: Shelf> Packets for OneLink<'a, S> {
         }
     }
 
+    fn pass(&mut self, source: &mut S) -> Result<bool, Halt> {
+        match self.next(source) {
+            Ok(Some(_)) => Ok(true),
+            Ok(None) => Ok(false),
+            Err(halt) => Err(halt),
+        }
+    }
+
     fn captured(&self) -> &[u8] {
         self.arrivals.captured()
     }

@@ -94,6 +94,23 @@ fn tell<P: Packets>(
     Ok(())
 }
 
+/// What comes of passing over two packets, and then the packets that are left.
+fn tell_behind_two<P: Packets>(
+    text: &mut String,
+    packets: &mut P,
+    source: &mut P::Source,
+) -> Result<(), AllocError>
+    requires { P.ready packets.old source.old }
+{
+    for _ in 0..2 {
+        match packets.pass(source) {
+            Ok(some) => write!(text, "{some}, ")?,
+            Err(halt) => return write!(text, "{halt:?}"),
+        }
+    }
+    tell(text, packets, source)
+}
+
 /// Those of a capture, or why there are none.
 fn told(alloc: Global, policy: &Policy, shelf: &mut MemShelf) -> Result<String, Fail> {
     let mut text = String::new(alloc);
@@ -275,6 +292,71 @@ fn packets_of_the_first_link_type(rt: HostRuntime) -> Result<(), Fail> {
         let mut shelf = shelf_of(alloc, pieces, 0)?;
         let text = told_of_one_link(alloc, &policy, &mut shelf)?;
         assert_eq!(rt; text.as_str(), want);
+    }
+    Ok(())
+}
+
+#[test]
+fn packets_are_passed_over(rt: HostRuntime) -> Result<(), Fail> {
+    let alloc = rt.alloc();
+    let policy = policy(alloc)?;
+    let table: [(&[&[u8]], u64, &str, &str); 5] = [
+        (
+            &[HEADER, TAGGED, FRAGMENT, CLIPPED],
+            0,
+            "true, true, 3 0 1500 10000000006 53, none, none, none, none, ",
+            "true, true, 3 0 1500 10000000006 53, none, none, none, none, ",
+        ),
+        (
+            &[HEADER],
+            0,
+            "false, false, none, none, none, none, none, ",
+            "false, false, none, none, none, none, none, ",
+        ),
+        (
+            &[HEADER, TAGGED, CUT],
+            0,
+            "true, Fault(6, 2)",
+            "true, Fault(6, 2)",
+        ),
+        (
+            &[HEADER, TAGGED, CLIPPED],
+            4,
+            "true, Source",
+            "true, Source",
+        ),
+        (
+            &[
+                SECTION,
+                ETHERNET,
+                OTHER_INTERFACE,
+                FIRST_BLOCK,
+                BLOCK_END,
+                SECOND_BLOCK,
+                BLOCK_END,
+            ],
+            0,
+            "true, true, none, none, none, none, none, ",
+            "true, Fault(20, 2)",
+        ),
+    ];
+    for (pieces, fail, want, want_of_one_link) in table {
+        let mut shelf = shelf_of(alloc, pieces, fail)?;
+        let mut text = String::new(alloc);
+        let mut packets = AnyArrivals::open(alloc, &policy, &mut shelf, "c")
+            .ok()
+            .ok_or("open")?;
+        tell_behind_two(&mut text, &mut packets, &mut shelf)?;
+        assert_eq!(rt; text.as_str(), want);
+
+        let mut shelf = shelf_of(alloc, pieces, fail)?;
+        let mut text = String::new(alloc);
+        let arrivals = AnyArrivals::open(alloc, &policy, &mut shelf, "c")
+            .ok()
+            .ok_or("open")?;
+        let mut packets = OneLink::start(arrivals, &mut shelf).ok().ok_or("start")?;
+        tell_behind_two(&mut text, &mut packets, &mut shelf)?;
+        assert_eq!(rt; text.as_str(), want_of_one_link);
     }
     Ok(())
 }

@@ -30,9 +30,9 @@ fn count_unsent<P: Packets>(packets: &mut P, source: &mut P::Source) -> Result<E
 {
     let mut unsent = 0;
     loop {
-        match packets.next(source) {
-            Ok(Some(_)) => unsent += 1,
-            Ok(None) => return Ok(Ending::Whole(unsent)),
+        match packets.pass(source) {
+            Ok(true) => unsent += 1,
+            Ok(false) => return Ok(Ending::Whole(unsent)),
             Err(Halt::Fault(code, place)) => return Ok(Ending::BadCapture(code, place)),
             Err(Halt::Source) => return Err(Stop::Source),
             Err(Halt::Memory) => return Err(Stop::Memory),

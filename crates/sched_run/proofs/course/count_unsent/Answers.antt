@@ -5,12 +5,12 @@ use Rattle.sched_run.proofs.course.count_unsent.Goals as goal
 pub loop-unsent-preserved : goal.loop-unsent-preserved
 loop-unsent-preserved g c =
     let i = c.loop-unsent.invariant in
-    let e = c.in-Ok-Some.ensures in
+    let e = c.in-Ok-true.ensures in
     let ps = i.came.0 in
-    let p = c.in-Ok-Some.field-0-0 in
+    let one = e.came c.in-Ok-true.field-0-test in
     record {
-      came = (ps ++ p ∷ [], omega (arith, length-append ps (p ∷ []), i.came.1), came_both _ _ _ ps (p ∷ []) i.came.2 (rw c.in-Ok-Some.field-0-is at e.came));
-      few = omega (arith, i.few, rw c.in-Ok-Some.field-0-is at e.given);
+      came = (ps ++ one.0 ∷ [], omega (arith, length-append ps (one.0 ∷ []), i.came.1), came_both _ _ _ ps (one.0 ∷ []) i.came.2 one.1);
+      few = omega (arith, i.few, rw c.in-Ok-true.field-0-test at e.given);
       ready = e.ready;
       kept = record { policy = e.policy ∙ i.kept.policy; later = omega (arith, i.kept.later, e.later) };
     }
