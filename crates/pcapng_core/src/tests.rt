@@ -3,6 +3,7 @@ ghost use Rattle.std.specs.Prelude.{◌≤◌, length};
 
 use crate::NgReader;
 use crate::moment::moment_in;
+use capture_core::{CaptureReader, Unread};
 use outside_core::{MemShelf, Shelf};
 use pcapng_defs::Unit;
 use std::alloc::{AllocError, Global};
@@ -114,6 +115,53 @@ fn is_told(alloc: Global, pieces: &[&[u8]], want: &str) -> Result<bool, Fail> {
         }
     }
     Ok(true)
+}
+
+/// By the trait of readers, how many packets of a capture are passed over, and how it ends. At the end it is asked once more.
+fn passed(alloc: Global, shelf: &mut MemShelf) -> Result<String, Fail> {
+    let mut reader = NgReader::new(alloc);
+    let mut scratch = Vec::new(alloc);
+    shelf.begin("c").ok().ok_or("begin")?;
+    reader.start(shelf).ok().ok_or("start")?;
+    for count in 0..4 {
+        match reader.pass(shelf, &mut scratch) {
+            Ok(true) => {}
+            Ok(false) => {
+                let stays = matches!(reader.pass(shelf, &mut scratch), Ok(false));
+                let ends = if stays { "end" } else { "more" };
+                return Ok(format!(in alloc; "{count}, {ends}")?);
+            }
+            Err(Unread::Fault(code, place)) => {
+                return Ok(format!(in alloc; "{count}, fault {code} {place}")?);
+            }
+            Err(_) => return Ok(format!(in alloc; "{count}, failed")?),
+        }
+    }
+    Ok(String::from_str(alloc, "more")?)
+}
+
+#[test]
+fn packets_are_passed_over_as_they_are_read(rt: HostRuntime) -> Result<(), Fail> {
+    let alloc = rt.alloc();
+    let table: [(&[&[u8]], &str); 3] = [
+        (
+            &[SECTION, INTERFACE, FIRST, SECTION, NANO, SIMPLE],
+            "2, end",
+        ),
+        (
+            &[SECTION, INTERFACE, FIRST, b"\x06\0\0\0\x24\0\0\0\0\0\0\0"],
+            "1, fault 11 4",
+        ),
+        (&[SECTION, INTERFACE, SIMPLE_LONG], "0, fault 16 3"),
+    ];
+    for most in [7, 65_536] {
+        for (pieces, want) in table {
+            let mut shelf = shelf_of(alloc, pieces, most, 0)?;
+            let text = passed(alloc, &mut shelf)?;
+            assert_eq!(rt; text.as_str(), want, "reads of {most} bytes");
+        }
+    }
+    Ok(())
 }
 
 #[test]
