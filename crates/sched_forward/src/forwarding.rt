@@ -89,6 +89,7 @@ impl Forwarding {
         ensures cut { OnErr result (CutsOff K.written sink.old self.old.gathered sink.new []) }
         ensures kept { KeepsSink K.written K.faults sink.old sink.new }
         ensures cause { OnErr result (Rose (K.faults sink.old) (K.faults sink.new)) }
+        ensures late { self.new.late ≡ self.old.late }
     {
         self.gathered.finish(sink)
     }
