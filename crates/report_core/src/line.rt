@@ -70,7 +70,8 @@ fn visit_before(
 fn start_before(line: &mut [u8], end: usize, start: Option<u128>) -> usize
     requires room { 40 ≤ end }
     requires within { end ≤ length line.old }
-    ensures text { MatchOption start (drop result line.new ≡ drop end line.old) (λ at. drop result line.new ≡ 32 ∷ decimal at ++ drop end line.old) }
+    ensures text { MatchOption start (drop result line.new ≡ drop end line.old)
+        (λ at. drop result line.new ≡ 32 ∷ decimal at ++ drop end line.old) }
     ensures short { end ≤ result + 40 }
     ensures within { result ≤ length line.new }
 {
@@ -142,7 +143,7 @@ impl Line {
         &self.bytes[at..]
     }
 
-    pub fn drop(&mut self, event: u64, packet: u64, leaf: &str) -> &[u8]
+    pub fn dropped(&mut self, event: u64, packet: u64, leaf: &str) -> &[u8]
         requires leaf { length leaf.now ≤ most_name }
         ensures text { result.now ≡ drop_line event packet leaf.now }
     {

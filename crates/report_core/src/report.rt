@@ -149,7 +149,7 @@ impl Report {
         ensures live { self.new.live ≡ is_ok result }
         ensures bounded { length self.new.unwritten ≤ limit }
     {
-        let line = self.line.drop(event, packet, leaf);
+        let line = self.line.dropped(event, packet, leaf);
         let sent = self.buffer.put_or_send(sink, line);
         self.noted(sent)
     }

@@ -62,7 +62,8 @@ impl Window {
     /// One slot more.
     pub(crate) fn push(&mut self, slot: Slot) -> Result<(), AllocError>
         requires room { end_of self.old + 1 < 2 ^ 64 }
-        ensures ok { OnOk result ((n : ℕ) → packet_at self.new n ≡ (if n == end_of self.old then packet_in n slot else packet_at self.old n)) }
+        ensures ok { OnOk result
+            ((n : ℕ) → packet_at self.new n ≡ (if n == end_of self.old then packet_in n slot else packet_at self.old n)) }
         ensures end { end_of self.new ≡ end_of self.old + (if is_ok result then 1 else 0) }
         ensures err { OnErr result ((n : ℕ) → packet_at self.new n ≡ packet_at self.old n) }
     {
