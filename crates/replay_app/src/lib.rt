@@ -5,11 +5,7 @@ mod check;
 mod command;
 mod direct;
 mod forward;
-#[cfg(test)]
-mod forward_tests;
 mod host;
-#[cfg(test)]
-mod hostile_tests;
 mod laws;
 mod load;
 mod maps;
@@ -21,16 +17,10 @@ mod scripts;
 mod soak;
 mod status;
 mod stop;
-#[cfg(test)]
-mod tap_tests;
 mod targets;
 mod task;
-#[cfg(test)]
-mod tests;
 mod topologies;
 mod via;
-#[cfg(test)]
-mod via_tests;
 mod watched;
 mod words;
 mod writing;

@@ -6,13 +6,9 @@ mod capture;
 mod course;
 mod departures;
 mod fabric;
-#[cfg(test)]
-mod fabric_tests;
 mod laws;
 mod load;
 mod task;
-#[cfg(test)]
-mod tests;
 
 pub use capture::{begin, direct};
 pub use course::run_over;

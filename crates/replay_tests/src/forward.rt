@@ -1,8 +1,8 @@
 //! Tests of runs whose departures are written as a capture, over files in memory.
-use crate::run;
-use crate::tests::{CAPTURE, FULL, POLICY, files, words};
+use crate::runs::{CAPTURE, FULL, POLICY, files, words};
 use fabric_core::{Fabric, FlatFabric};
 use outside_core::{MemShelf, MemSink};
+use replay_app::run;
 use std::alloc::Global;
 use std::test::Fail;
 use tap_core::Tap;

@@ -1,7 +1,7 @@
 //! Tests of whole runs over files in memory, with faults among them.
-use crate::run;
 use fabric_core::FlatFabric;
 use outside_core::{MemShelf, MemSink, PlainShelf, PlainSink};
+use replay_app::run;
 use std::alloc::Global;
 use std::test::Fail;
 use tap_core::Tap;

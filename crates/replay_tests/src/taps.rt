@@ -1,9 +1,9 @@
 //! Tests of taps that watch runs over files in memory.
-use crate::run;
-use crate::tests::{CAPTURE, FULL, POLICY, files, words};
+use crate::runs::{CAPTURE, FULL, POLICY, files, words};
 use fabric_core::FlatFabric;
 use outside_core::{PlainShelf, PlainSink};
 use packet_defs::Departed;
+use replay_app::run;
 use std::alloc::AllocError;
 use std::test::Fail;
 use tap_core::{BytesTap, Dropped, DropsTap, FirstTap, OrderTap, Seen, Tap, TapKind};

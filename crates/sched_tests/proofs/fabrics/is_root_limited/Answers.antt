@@ -1,7 +1,7 @@
 use Rattle.std.proofs.Common.{sym, ◌∙◌}
 use Rattle.sched_run.proofs.PacketsInTurn.{none_is}
-use Rattle.sched_capture.proofs.Exchanges.{has_a_node, unlimited_root}
-use Rattle.sched_capture.proofs.fabric_tests.is_root_limited.Goals as goal
+use Rattle.sched_tests.proofs.Exchanges.{has_a_node, unlimited_root}
+use Rattle.sched_tests.proofs.fabrics.is_root_limited.Goals as goal
 
 pub limit-requires : goal.limit-requires
 limit-requires c = record { there = has_a_node c.args.policy.now.policy.tree }

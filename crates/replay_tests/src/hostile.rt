@@ -1,10 +1,10 @@
 //! Tests of an office's day over shelves and sinks of which each call fails in turn, and of reads and writes in pieces.
 ghost use Rattle.std.specs.Prelude.{◌≤◌};
 
-use crate::run;
-use crate::tests::{POLICY, files, files_for, words};
+use crate::runs::{POLICY, files, files_for, words};
 use fabric_core::FlatFabric;
 use outside_core::{MemShelf, MemSink};
+use replay_app::run;
 use std::alloc::Global;
 use std::test::Fail;
 use tap_core::{BytesTap, FirstTap, OrderTap, Tap};

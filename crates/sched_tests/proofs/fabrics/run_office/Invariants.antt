@@ -2,7 +2,7 @@ use Rattle.std.proofs.Common.{◌≡◌, ◌≤◌, ◌+◌}
 use Rattle.tree_defs.specs.Tree.{depth}
 use Rattle.sched_defs.specs.Numbered.{IsHeldBelow}
 use Rattle.sched_core.specs.Standing.{StandForOne}
-use Rattle.sched_capture.proofs.fabric_tests.run_office.Given as goal
+use Rattle.sched_tests.proofs.fabrics.run_office.Given as goal
 
 abbrev pub invariant-loop-comes : goal.invariant-loop-comes
 invariant-loop-comes g l =

@@ -1,7 +1,7 @@
 use Rattle.std.proofs.Common.{ap, ◌∙◌, sym}
 use Rattle.rank_defs.specs.Programs.{Program}
-use Rattle.sched_capture.proofs.Exchanges.{has_a_node, of_root}
-use Rattle.sched_capture.proofs.fabric_tests.is_plain_leaf.Goals as goal
+use Rattle.sched_tests.proofs.Exchanges.{has_a_node, of_root}
+use Rattle.sched_tests.proofs.fabrics.is_plain_leaf.Goals as goal
 
 pub checked-requires : goal.checked-requires
 checked-requires c = record { there = has_a_node c.args.policy.now.policy.tree }

@@ -5,8 +5,8 @@ use Rattle.policy_defs.specs.Policy.{Policy}
 use Rattle.policy_defs.specs.Accepted.{IsAccepted}
 use Rattle.sched_defs.specs.Numbered.{IsSendable}
 use Rattle.embed_core.specs.Range.{levels_of}
-use Rattle.sched_capture.proofs.Exchanges.{IsPlain, AreAlike, both_come, never_full, plain_leaf, same_images, stands_exchanged}
-use Rattle.sched_capture.proofs.fabric_tests.exchange.Goals as goal
+use Rattle.sched_tests.proofs.Exchanges.{IsPlain, AreAlike, both_come, never_full, plain_leaf, same_images, stands_exchanged}
+use Rattle.sched_tests.proofs.fabrics.exchange.Goals as goal
 
 abbrev no_flow : FlowKey
 no_flow = record { version = 0; source = 0; target = 0; proto = 0; sport = 0; dport = 0 }

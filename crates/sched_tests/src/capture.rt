@@ -1,9 +1,9 @@
 //! Tests of runs through the policy's own tree.
-use crate::{Ending, Stop, Task, direct};
 use events_core::parse_events;
 use outside_core::{MemShelf, MemSink};
 use policy_core::resolve;
 use policy_text::parse;
+use sched_capture::{Ending, Stop, Task, direct};
 use sched_run::Pace;
 use std::alloc::{AllocError, Global};
 use std::test::Fail;

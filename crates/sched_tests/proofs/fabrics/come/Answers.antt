@@ -1,6 +1,6 @@
 use Rattle.sched_defs.specs.Numbered.{IsSendable}
-use Rattle.sched_capture.proofs.EventTurns.{sendable, may_come, came}
-use Rattle.sched_capture.proofs.fabric_tests.come.Goals as goal
+use Rattle.sched_tests.proofs.EventTurns.{sendable, may_come, came}
+use Rattle.sched_tests.proofs.fabrics.come.Goals as goal
 
 pub arrive-requires-clause-stands : goal.arrive-requires-clause-stands
 arrive-requires-clause-stands g c =

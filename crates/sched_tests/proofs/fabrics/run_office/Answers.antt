@@ -1,6 +1,6 @@
 use Rattle.std.proofs.Common.{arith}
-use Rattle.sched_capture.proofs.EventTurns.{at_first}
-use Rattle.sched_capture.proofs.fabric_tests.run_office.Goals as goal
+use Rattle.sched_tests.proofs.EventTurns.{at_first}
+use Rattle.sched_tests.proofs.fabrics.run_office.Goals as goal
 
 pub loop-comes-init : goal.loop-comes-init
 loop-comes-init g c =

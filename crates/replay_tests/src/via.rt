@@ -1,5 +1,5 @@
 //! Tests of runs along given maps, over files in memory.
-use crate::tests::{CAPTURE, answer_to, file};
+use crate::runs::{CAPTURE, answer_to, file};
 use std::test::Fail;
 
 /// Two leaves below a root, the first of which takes packets of four bytes.

@@ -1,0 +1,2 @@
+pub mod EventTurns
+pub mod Exchanges
