@@ -14,7 +14,7 @@ use packet_defs::Packet;
 use std::alloc::{AllocError, Global};
 
 /// The packets that are held, by their numbers: most in slots in the order of their numbers, and in a map those that need more
-/// room, that came behind a later one, or that stayed until most slots behind them were empty.
+/// room, that came behind a later one, or that stayed until two thirds of the slots behind them were empty.
 #[derive(Drop)]
 pub struct Held {
     window: Window,

@@ -12,6 +12,9 @@ use std::collections::VecDeque;
 /// How many slots may be empty whatever the number of packets.
 const SPARE: u64 = 4096;
 
+/// For how many slots there is room at least where room is made.
+const LEAST: usize = 1024;
+
 /// The slots for the numbers from `first` on, one a number, of which so many are filled.
 #[derive(Drop)]
 pub struct Window {
@@ -50,13 +53,13 @@ impl Window {
         self.filled
     }
 
-    /// Whether most slots before that of a number would be empty.
+    /// Whether two thirds of the slots before that of a number would be empty, or more. A stray takes the room of three slots.
     pub(crate) fn is_sparse(&self, number: u64) -> bool
         ensures { IsTrue result → 0 < deque_len self.now.slots }
     {
         !self.slots.is_empty()
             && number.saturating_sub(self.first)
-                >= self.filled.saturating_mul(2).saturating_add(SPARE)
+                >= self.filled.saturating_mul(3).saturating_add(SPARE)
     }
 
     /// One slot more.
@@ -74,6 +77,19 @@ impl Window {
         Ok(())
     }
 
+    /// Room for a slot more. Where there is none, a quarter of the slots is added and not as many again: in their turn the first
+    /// slots are let go of and others come behind, so that all of the room is touched.
+    fn make_room(&mut self) -> Result<(), AllocError>
+        ensures packets { (n : ℕ) → packet_at self.new n ≡ packet_at self.old n }
+        ensures end { end_of self.new ≡ end_of self.old }
+    {
+        let len = self.slots.len();
+        if len == self.slots.capacity() {
+            self.slots.reserve_exact((len / 4).saturating_add(LEAST))?;
+        }
+        Ok(())
+    }
+
     /// Empty slots up to a number. Where there is no slot the next is that of the number.
     pub(crate) fn stretch(&mut self, number: u64) -> Result<(), AllocError>
         requires behind { end_of self.old ≤ number }
@@ -86,6 +102,7 @@ impl Window {
             self.first = number;
             return Ok(());
         }
+        self.make_room()?;
         while self.end() < number {
             self.push(Slot::Empty)?;
         }
