@@ -62,9 +62,14 @@ impl Pifo for HeapPifo {
     ghost spare = { λ h. h.spare };
 
     fn reserve(&mut self, more: usize) -> Result<(), AllocError> {
+        if more <= self.spare {
+            return Ok(());
+        }
         self.run.reserve(more)?;
         self.heap.reserve(more)?;
-        self.spare = self.spare.max(more);
+        let in_run = self.run.capacity() - self.run.len();
+        let in_heap = self.heap.capacity() - self.heap.len();
+        self.spare = in_run.min(in_heap);
         Ok(())
     }
 
@@ -77,7 +82,7 @@ impl Pifo for HeapPifo {
         match brief_behind(&self.run, &held) {
             // There is a spare place in each part, so neither push can fail.
             Some(brief) => {
-                let _ = self.run.push_back(brief);
+                self.run.push_back_reserved(brief);
             }
             None => {
                 let _ = self.heap.push(Reverse(held));

@@ -1,4 +1,4 @@
-use Rattle.std.proofs.Common.{◌≡◌, ◌≤◌, rules, refl, ap, ◌∙◌, ◌+◌, ◌∷◌, ◌++◌, [], arith, IsOk, heap_items, heap_len, deque_len}
+use Rattle.std.proofs.Common.{◌≡◌, ◌≤◌, rules, refl, ap, ◌∙◌, ◌+◌, ◌∷◌, arith, IsOk, heap_items, heap_len, deque_len}
 use Rattle.std.specs.BinaryHeap.{KeepsHeap, heap_capacity}
 use Rattle.std.specs.VecDeque.{deque_capacity}
 use Rattle.std.specs.List.Sorted.{IsPermutation}
@@ -28,13 +28,12 @@ pushed c =
     let room : 1 ≤ c.self.inside.spare = rw (← c.self.view_is) at c.requires.room in
     elim c.match-brief_behind.branch [
       | in-Some w ↦
-          let fits : IsOk w.push_back.result = w.push_back.ensures.succeeds (omega (arith, room, c.self.invariant.1)) in
-          let items : w.push_back.new.self.items ≡ c.self.inside.run.items ++ w.in-Some.brief ∷ [] = search (rules, fits, w.push_back.ensures.items) in
-          let longer : deque_len w.push_back.new.self ≡ deque_len c.self.inside.run + 1 = search (rules, fits, w.push_back.ensures.len) in
+          let items = w.push_back_reserved.ensures.items in
+          let longer = w.push_back_reserved.ensures.len in
           record {
             kept = rw (w.self-inside-is, items) (IsHeaped-followed (entry c) w.in-Some.brief w.in-Some.ensures.same c.self.inside.run.items (heap_items c.self.inside.heap) c.self.invariant.0 (w.in-Some.ensures.follows.0 refl).1);
             put_last = rw (w.self-inside-is, items) (queue_of-followed (entry c) w.in-Some.brief w.in-Some.ensures.same c.self.inside.run.items (heap_items c.self.inside.heap) c.self.invariant.0 (w.in-Some.ensures.follows.0 refl).1);
-            in_run = rw w.self-inside-is (omega (arith, longer, c.self.invariant.1, w.push_back.ensures.capacity));
+            in_run = rw w.self-inside-is (omega (arith, longer, c.self.invariant.1, w.push_back_reserved.ensures.capacity));
             in_heap = rw w.self-inside-is (omega (arith, c.self.invariant));
             pushes = rw w.self-inside-is;
             spare = rw w.self-inside-is;
