@@ -76,9 +76,8 @@ impl Taken {
         ensures ranks { self.new.ranks ≡ self.old.ranks ++ rank ∷ [] }
         ensures room { self.new.room ≡ self.old.room }
     {
-        let (Ok(()), Ok(())) = (self.digits.push(digit), self.ranks.push(rank)) else {
-            unreachable!()
-        };
+        self.digits.push_reserved(digit);
+        self.ranks.push_reserved(rank);
     }
 
     /// Puts the rank that was taken at the leaf last.
@@ -88,8 +87,6 @@ impl Taken {
         ensures ranks { self.new.ranks ≡ self.old.ranks ++ rank ∷ [] }
         ensures room { self.new.room ≡ self.old.room }
     {
-        let Ok(()) = self.ranks.push(rank) else {
-            unreachable!()
-        };
+        self.ranks.push_reserved(rank);
     }
 }
