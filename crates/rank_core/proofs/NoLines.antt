@@ -1,10 +1,10 @@
--- A step with no assignments changes nothing.
-use Rattle.std.proofs.Common.{arith, ◌≡◌, ◌∷◌, ℕ, List, [], length, true, false, cond, refl, ap}
+-- Steps that change no variable.
+use Rattle.std.proofs.Common.{arith, ◌≡◌, ◌∷◌, ℕ, List, [], length, true, false, cond, refl, ap, sym, subst}
 use Rattle.rank_defs.specs.declared.environment.Env.{Env}
 use Rattle.rank_defs.specs.declared.environment.Who.{Who}
 use Rattle.rank_defs.specs.declared.transaction.Assign.{Assign}
 use Rattle.rank_defs.specs.declared.transaction.Transaction.{Transaction}
-use Rattle.rank_defs.specs.States.{State, SameState, memory_for, put_back, same_who}
+use Rattle.rank_defs.specs.States.{State, SameState, Memory, memory_for, put_back, same_who}
 use Rattle.rank_defs.proofs.OtherStates.{same_who-is}
 use Rattle.rank_core.specs.declared.node.NodeState.{NodeState}
 use Rattle.rank_core.specs.Node.{state_of, step_of, HasState}
@@ -17,3 +17,7 @@ put_back-unchanged who r s =
 pub no_lines : (t : Transaction) (assigns : List Assign) (who : Who) (env : Env) (r : ℕ) (n : NodeState) → length assigns ≡ 0 → HasState n (put_back who (step_of t assigns who env r n) (state_of n))
 no_lines t [] who env r n none = put_back-unchanged who r (state_of n)
 no_lines t (a ∷ rest) who env r n none = absurd (omega (arith, none))
+
+-- a step after which all is as it began but the rank
+pub rank_alone : (t : Transaction) (assigns : List Assign) (who : Who) (env : Env) (r told : ℕ) (n : NodeState) → step_of t assigns who env r n ≡ memory_for who told (state_of n) → HasState n (put_back who (step_of t assigns who env r n) (state_of n))
+rank_alone t assigns who env r told n e = subst (λ (m : Memory). SameState (state_of n) (put_back who m (state_of n))) (sym e) (put_back-unchanged who told (state_of n))

@@ -1,16 +1,16 @@
 //! The variables of a node, and its steps.
 
-ghost use Rattle.std.specs.Prelude.{◌≡◌, ◌≢◌, ◌<◌, ◌≤◌, ◌↔◌, ℕ, Some, None, IfOk, OnOk, OnErr};
-ghost use Rattle.rank_defs.specs.States.{SameState, first_state, firsts, put_back};
+ghost use Rattle.std.specs.Prelude.{◌≡◌, ◌≢◌, ◌<◌, ◌≤◌, ◌↔◌, ℕ, Some, None, IfSome, IfOk, OnOk, OnErr};
+ghost use Rattle.rank_defs.specs.States.{SameState, Memory, first_state, firsts, put_back, variable_in};
 ghost use Rattle.rank_defs.specs.Steps.{push_rank, after_push, after_pop};
 ghost use Rattle.rank_defs.specs.Shapes.{IsEnvInRange, IsStateInRange, IsShaped};
 ghost use Rattle.rank_defs.specs.Programs.{program_of, max_rank};
 ghost use Rattle.rank_defs.specs.Checks.{IsChecked};
 ghost use Rattle.rank_core.specs.Node.{state_of, children_of, BelongsTo, HasRoom, HasState, step_of};
-ghost use Rattle.rank_core.specs.Scope.{AreCheckedIn, AreShapedIn};
+ghost use Rattle.rank_core.specs.Scope.{AreCheckedIn, AreShapedIn, run_of};
 
 use crate::eaches::{Eaches, of_children, of_flows, reserve, run_for};
-use rank_defs::{Assign, Env, Span, Transaction, Who};
+use rank_defs::{Aim, Assign, Env, Expr, Span, Transaction, Var, Who};
 use std::alloc::{AllocError, Global};
 
 /// The variables of a node: its own, and those of each child or flow.
@@ -85,7 +85,40 @@ impl NodeState {
     }
 }
 
-/// A step with no assignments changes nothing. Most pops are such, and they pay for no call of `run_lines`.
+/// What the step is told under a name, where it is told something.
+#[inline]
+fn told_by(var: Var, env: &Env) -> Option<u64>
+    requires told { IsEnvInRange env.now }
+    ensures value { IfSome result (λ r. (m : Memory) → variable_in env.entry.now m var ≡ r) }
+    ensures range { IfSome result (λ r. r ≤ max_rank) }
+{
+    match var {
+        Var::Len => Some(u64::from(env.len)),
+        Var::Now => Some(env.now),
+        Var::Prio => Some(u64::from(env.prio)),
+        Var::Weight => Some(u64::from(env.weight)),
+        Var::Slack => Some(env.slack),
+        _ => None,
+    }
+}
+
+/// The rank, where a step gives one that it is told, and does nothing else.
+#[inline]
+fn told_rank(assigns: &[Assign], env: &Env) -> Option<u64>
+    requires told { IsEnvInRange env.now }
+    ensures rank { IfSome result (λ r. (t : Transaction) (m : Memory) → run_of t env.entry.now assigns.now m ≡ record m { rank = r }) }
+{
+    let [assign] = assigns else {
+        return None;
+    };
+    match (assign.aim, &assign.value) {
+        (Aim::Rank, Expr::Var(var)) => told_by(*var, env),
+        _ => None,
+    }
+}
+
+/// A step with no assignments changes nothing, and one that gives a rank that it is told changes no variable. Most are such, and
+/// they pay for no call of `run_lines`.
 #[inline]
 fn run_at(
     state: &mut NodeState,
@@ -110,6 +143,9 @@ fn run_at(
 {
     if assigns.is_empty() {
         return rank;
+    }
+    if let Some(told) = told_rank(assigns, env) {
+        return told;
     }
     run_lines(state, who, transaction, assigns, env, rank)
 }
