@@ -27,7 +27,8 @@ fn push_at(states: &mut [NodeState], passage: &Passage, node: u32, digits: &[u32
     run_push(transaction, &mut states[node as usize], &who, &env)
 }
 
-/// The pop step of a node from which the packet was taken with a rank.
+/// The pop step of a node from which the packet was taken with a rank. Where it has no lines, as most have none, nothing is
+/// looked up for it.
 fn pop_at(states: &mut [NodeState], passage: &Passage, node: u32, digits: &[u32], rank: u64)
     requires ready { IsReady passage.now }
     requires way { IsOnTheWay passage.now node digits.now }
@@ -39,9 +40,13 @@ fn pop_at(states: &mut [NodeState], passage: &Passage, node: u32, digits: &[u32]
     ensures room { KeepsRoom passage.now states.old states.new }
 {
     let transaction = passage.policy.checked(node).transaction();
+    let state = &mut states[node as usize];
+    if transaction.pop.is_empty() {
+        return;
+    }
     let who = passage.who(digits);
     let env = passage.env(node, digits);
-    run_pop(transaction, &mut states[node as usize], &who, rank, &env);
+    run_pop(transaction, state, &who, rank, &env);
 }
 
 /// The push steps from a node down to the leaf. `trace` gets the digits and the ranks, last.
