@@ -2,5 +2,6 @@ pub mod AssignmentLoop
 pub mod FlowMaps
 pub mod Lists
 pub mod NoLines
+pub mod RankKept
 pub mod Table
 pub mod Samples

@@ -10,7 +10,7 @@ use Rattle.rank_core.specs.declared.node.NodeState.{NodeState}
 use Rattle.rank_core.specs.Node.{state_of, step_of, HasState}
 
 -- what a child or flow had is put back
-put_back-unchanged : (who : Who) (r : ℕ) (s : State) → SameState s (put_back who (memory_for who r s) s)
+pub put_back-unchanged : (who : Who) (r : ℕ) (s : State) → SameState s (put_back who (memory_for who r s) s)
 put_back-unchanged who r s =
     record { keeps = refl; eaches = λ w. (elim (same_who w who) as (λ b. same_who w who ≡ b → s.eaches w ≡ cond b (s.eaches who) (s.eaches w)) [ true ↦ λ e. ap s.eaches (same_who-is w who e) | false ↦ λ e. refl ]) refl }
 

@@ -1,26 +1,21 @@
 -- The variables of a node, and for whom it has room.
-use Rattle.std.specs.Prelude.{◌<◌, ℕ, List, length, [], slice_get, Vec, Option, Some, None, IsSome, option_map}
-use Rattle.std.specs.declared.alloc.Global.{Global}
-use Rattle.indexmap.specs.IndexMap.{get}
+use Rattle.std.specs.Prelude.{◌<◌, ℕ, List, length, [], slice_get, Option, Some, None, IsSome, option_map}
 use Rattle.rank_defs.specs.declared.environment.Env.{Env}
 use Rattle.rank_defs.specs.declared.environment.Who.{Who}
 use Rattle.rank_defs.specs.declared.environment.Who.TheVariants.{Child, Flow}
 use Rattle.rank_defs.specs.declared.transaction.Assign.{Assign}
 use Rattle.rank_defs.specs.declared.transaction.Transaction.{Transaction}
-use Rattle.rank_defs.specs.States.{State, SameState, Memory, memory_for, same_flow}
+use Rattle.rank_defs.specs.States.{State, SameState, Memory, memory_for}
 use Rattle.rank_core.specs.Scope.{memory, run_of}
+use Rattle.rank_core.specs.Flows.{items_of, numbers_of}
 use Rattle.rank_core.specs.declared.eaches.Eaches.{Eaches}
 use Rattle.rank_core.specs.declared.eaches.Eaches.TheVariants.{Children, Flows, Bare}
 use Rattle.rank_core.specs.declared.node.NodeState.{NodeState}
 
--- the numbers of a vector
-abbrev pub items_of : Vec ℕ Global → List ℕ
-items_of v = v.items
-
 -- the numbers kept for a child or a flow. A bare leaf keeps none for every flow
 abbrev pub kept : Eaches → Who → Option (List ℕ)
 kept (Children values) (Child i) = option_map items_of (slice_get values.items i)
-kept (Flows values) (Flow f) = option_map items_of (get same_flow values f)
+kept (Flows table) (Flow f) = numbers_of table f
 kept Bare (Flow f) = Some []
 kept values who = None
 

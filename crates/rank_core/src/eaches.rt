@@ -1,24 +1,22 @@
 //! The variables of each child or flow.
 
 ghost use Rattle.std.specs.Prelude.{◌≡◌, ◌≢◌, ◌<◌, ℕ, length, slice_get, IfOk, OnOk, OnErr, IsSome, Some, None};
-ghost use Rattle.indexmap.specs.IndexMap.{get};
-ghost use Rattle.rank_defs.specs.States.{same_flow};
 ghost use Rattle.rank_defs.specs.Steps.{run};
 ghost use Rattle.rank_defs.specs.Shapes.{IsEnvInRange, IsMemoryInRange, IsShaped};
 ghost use Rattle.rank_defs.specs.Programs.{program_of};
 ghost use Rattle.rank_core.specs.Node.{kept, kept_or, children, BelongsTo, memory_at};
 ghost use Rattle.rank_core.specs.Scope.{run_of, AreCheckedIn, AreShapedIn};
 
+use crate::flows::FlowTable;
 use crate::step::run;
-use indexmap::IndexMap;
-use rank_defs::{Assign, Env, FlowKey, Transaction, Who};
+use rank_defs::{Assign, Env, Transaction, Who};
 use std::alloc::{AllocError, Global};
 
 /// The numbers of all children of an inner node, or of the flows that have room at a leaf.
 #[derive(Drop)]
 pub(crate) enum Eaches {
     Children(Vec<Vec<u64>>),
-    Flows(IndexMap<FlowKey, Vec<u64>>),
+    Flows(FlowTable),
     /// At a leaf whose flows have no variables. Each of them has room, and no flow is looked up.
     Bare,
 }
@@ -44,7 +42,7 @@ pub(crate) fn of_flows(alloc: Global, first: &[u64]) -> Eaches
     if first.is_empty() {
         Eaches::Bare
     } else {
-        Eaches::Flows(IndexMap::new(alloc))
+        Eaches::Flows(FlowTable::new(alloc))
     }
 }
 
@@ -61,30 +59,10 @@ pub(crate) fn reserve(eaches: &mut Eaches, who: &Who, first: &[u64]) -> Result<(
     match eaches {
         Eaches::Children(_) | Eaches::Bare => Ok(()),
         Eaches::Flows(flows) => match who {
-            Who::Flow(flow) => add_flow(flows, *flow, first),
+            Who::Flow(flow) => flows.reserve(flow, first),
             Who::Child(_) => unreachable!(),
         },
     }
-}
-
-#[tactic(auto, using(crate::proofs::FlowMaps::get_same))]
-fn add_flow(
-    flows: &mut IndexMap<FlowKey, Vec<u64>>,
-    flow: FlowKey,
-    first: &[u64],
-) -> Result<(), AllocError>
-    ensures room { OnOk result (IsSome (get same_flow flows.new flow)) }
-    ensures same { (f : FlowKey) →
-        kept_or first.now (kept (Eaches.Flows flows.new) (Who.Flow f)) ≡ kept_or first.now (kept (Eaches.Flows flows.old) (Who.Flow f)) }
-    ensures stays { IsSome (get same_flow flows.old flow) → IsSome (get same_flow flows.new flow) }
-    ensures others { (f : FlowKey) → f ≢ flow → get same_flow flows.new f ≡ get same_flow flows.old f }
-    ensures err { OnErr result ((f : FlowKey) → get same_flow flows.new f ≡ get same_flow flows.old f) }
-{
-    if !flows.contains_key(&flow) {
-        let values = Vec::from_slice(*flows.allocator(), first)?;
-        flows.insert(flow, values)?;
-    }
-    Ok(())
 }
 
 /// Runs assignments on the variables of a node and on those of one child or flow that has room.
@@ -117,7 +95,7 @@ pub(crate) fn run_for(
             Who::Flow(_) => unreachable!(),
         },
         Eaches::Flows(flows) => match who {
-            Who::Flow(flow) => run_for_flow(flows, *flow, transaction, assigns, env, rank, keeps),
+            Who::Flow(flow) => flows.run_for(flow, transaction, assigns, env, rank, keeps),
             Who::Child(_) => unreachable!(),
         },
         Eaches::Bare => run(transaction, assigns, env, rank, keeps, &mut []),
@@ -148,39 +126,4 @@ fn run_for_child(
 {
     let values = values[child as usize].as_mut_slice();
     run(transaction, assigns, env, rank, keeps, values)
-}
-
-#[tactic(auto, using(crate::proofs::FlowMaps::get_same))]
-fn run_for_flow(
-    flows: &mut IndexMap<FlowKey, Vec<u64>>,
-    flow: FlowKey,
-    transaction: &Transaction,
-    assigns: &[Assign],
-    env: &Env,
-    rank: u64,
-    keeps: &mut [u64],
-) -> u64
-    requires shaped { IsShaped (program_of transaction.now) }
-    requires told { IsEnvInRange env.now }
-    requires checked { AreCheckedIn transaction.now assigns.now }
-    requires fits { AreShapedIn transaction.now assigns.now }
-    requires room { IsSome (get same_flow flows.old flow) }
-    requires range { IsMemoryInRange (program_of transaction.now)
-        (memory_at rank keeps.old (Eaches.Flows flows.old) (Who.Flow flow)) }
-    ensures ran { memory_at result keeps.new (Eaches.Flows flows.new) (Who.Flow flow) ≡
-        run_of transaction.now env.entry.now assigns.now (memory_at rank keeps.old (Eaches.Flows flows.old) (Who.Flow flow)) }
-    ensures room { IsSome (get same_flow flows.new flow) }
-    ensures others { (f : FlowKey) → f ≢ flow → get same_flow flows.new f ≡ get same_flow flows.old f }
-{
-    match flows.get_mut(&flow) {
-        Some(values) => run(
-            transaction,
-            assigns,
-            env,
-            rank,
-            keeps,
-            values.as_mut_slice(),
-        ),
-        None => unreachable!(),
-    }
 }

@@ -1,6 +1,6 @@
 //! The value of an expression.
 
-ghost use Rattle.std.specs.Prelude.{◌≡◌, ◌<◌, ◌≤◌, ℕ, length};
+ghost use Rattle.std.specs.Prelude.{◌≡◌, ◌<◌, ◌≤◌, ◌*ℤ◌, ℕ, pos, length, IfSome};
 ghost use Rattle.rank_defs.specs.Formulas.{formula_of, group, computes, compares};
 ghost use Rattle.rank_defs.specs.Values.{num, truth, value_of, apply, quotient, FitsWide};
 ghost use Rattle.rank_defs.specs.States.{variable_in};
@@ -23,6 +23,7 @@ pub(crate) struct Scope<'a> {
     pub eaches: &'a [u64],
 }
 
+#[inline(always)]
 fn variable(var: Var, scope: &Scope<'_>) -> u64
     requires keep { (k : ℕ) → var ≡ Var.Keep k → k < length scope.now.keeps.now }
     requires each { (k : ℕ) → var ≡ Var.Each k → k < length scope.now.eaches.now }
@@ -153,6 +154,95 @@ fn truth(e: &Expr, transaction: &Transaction, scope: &Scope<'_>) -> bool
         },
         Expr::Not(a) => !truth(a, transaction, scope),
         _ => unreachable!(),
+    }
+}
+
+/// The value of a number, of a variable, or of an operation on two of them, where 64 bits hold it. Most lines of transactions are
+/// such, and they pay for no call. `len * N / weight`, a packet's part of its class, counts as one at the right.
+#[inline(always)]
+pub(crate) fn narrow(e: &Expr, transaction: &Transaction, scope: &Scope<'_>) -> Option<u64>
+    requires variables { AreDeclared (program_of transaction.now) (formula_of e.now) }
+    requires keeps { length scope.now.keeps.now ≡ length transaction.now.keeps }
+    requires eaches { length scope.now.eaches.now ≡ length transaction.now.eaches }
+    ensures { IfSome result (λ v. value_of (variable_in scope.now.env.now (memory_of scope.now)) (formula_of e.now) ≡ num (pos v)) }
+{
+    match e {
+        Expr::Two(op, a, b) => narrowed(
+            *op,
+            leaf(a, transaction, scope)?,
+            part(b, transaction, scope)?,
+        ),
+        _ => leaf(e, transaction, scope),
+    }
+}
+
+#[inline(always)]
+fn leaf(e: &Expr, transaction: &Transaction, scope: &Scope<'_>) -> Option<u64>
+    requires variables { AreDeclared (program_of transaction.now) (formula_of e.now) }
+    requires keeps { length scope.now.keeps.now ≡ length transaction.now.keeps }
+    requires eaches { length scope.now.eaches.now ≡ length transaction.now.eaches }
+    ensures { IfSome result (λ v. value_of (variable_in scope.now.env.now (memory_of scope.now)) (formula_of e.now) ≡ num (pos v)) }
+{
+    match e {
+        Expr::Number(n) => Some(*n),
+        Expr::Var(var) => Some(variable(*var, scope)),
+        _ => None,
+    }
+}
+
+#[inline(always)]
+fn part(e: &Expr, transaction: &Transaction, scope: &Scope<'_>) -> Option<u64>
+    requires variables { AreDeclared (program_of transaction.now) (formula_of e.now) }
+    requires keeps { length scope.now.keeps.now ≡ length transaction.now.keeps }
+    requires eaches { length scope.now.eaches.now ≡ length transaction.now.eaches }
+    ensures { IfSome result (λ v. value_of (variable_in scope.now.env.now (memory_of scope.now)) (formula_of e.now) ≡ num (pos v)) }
+{
+    match e {
+        Expr::Two(..) => share(e, scope),
+        _ => leaf(e, transaction, scope),
+    }
+}
+
+/// The value of `len * N / weight`.
+#[inline(always)]
+fn share(e: &Expr, scope: &Scope<'_>) -> Option<u64>
+    ensures { IfSome result (λ v. value_of (variable_in scope.now.env.now (memory_of scope.now)) (formula_of e.now) ≡ num (pos v)) }
+{
+    let Expr::Two(Op::Div, product, weight) = e else {
+        return None;
+    };
+    let Expr::Two(Op::Mul, len, scale) = &**product else {
+        return None;
+    };
+    match (&**len, &**scale, &**weight) {
+        (Expr::Var(Var::Len), Expr::Number(scale), Expr::Var(Var::Weight)) => {
+            weighted(scope.env.len, *scale, scope.env.weight)
+        }
+        _ => None,
+    }
+}
+
+#[inline(always)]
+fn weighted(len: u32, scale: u64, weight: u32) -> Option<u64>
+    ensures { IfSome result (λ v. quotient (pos len *ℤ pos scale) (pos weight) ≡ num (pos v)) }
+{
+    let scale = u32::try_from(scale).ok()?;
+    let scaled = u64::from(len) * u64::from(scale);
+    scaled.checked_div(u64::from(weight))
+}
+
+#[inline(always)]
+fn narrowed(op: Op, x: u64, y: u64) -> Option<u64>
+    ensures { IfSome result (λ v. apply op (num (pos x)) (num (pos y)) ≡ num (pos v)) }
+{
+    match op {
+        Op::Add => x.checked_add(y),
+        Op::Sub => x.checked_sub(y),
+        Op::Mul => x.checked_mul(y),
+        Op::Div => x.checked_div(y),
+        Op::Min => Some(x.min(y)),
+        Op::Max => Some(x.max(y)),
+        _ => None,
     }
 }
 

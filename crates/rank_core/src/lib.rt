@@ -4,6 +4,7 @@
 mod builtins;
 mod eaches;
 mod evaluate;
+mod flows;
 mod node;
 mod step;
 #[cfg(test)]

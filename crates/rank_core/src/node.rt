@@ -1,10 +1,11 @@
 //! The variables of a node, and its steps.
 
-ghost use Rattle.std.specs.Prelude.{◌≡◌, ◌≢◌, ◌<◌, ◌≤◌, ◌↔◌, ℕ, Some, None, IfSome, IfOk, OnOk, OnErr};
+ghost use Rattle.std.specs.Prelude.{◌≡◌, ◌≢◌, ◌<◌, ◌≤◌, ◌↔◌, ℕ, pos, length, slice_set, Some, None, IfSome, IfOk, OnOk, OnErr};
 ghost use Rattle.rank_defs.specs.States.{SameState, Memory, first_state, firsts, put_back, variable_in};
-ghost use Rattle.rank_defs.specs.Steps.{push_rank, after_push, after_pop};
+ghost use Rattle.rank_defs.specs.Values.{num};
+ghost use Rattle.rank_defs.specs.Steps.{clamped, write, push_rank, after_push, after_pop};
 ghost use Rattle.rank_defs.specs.Shapes.{IsEnvInRange, IsStateInRange, IsShaped};
-ghost use Rattle.rank_defs.specs.Programs.{program_of, max_rank};
+ghost use Rattle.rank_defs.specs.Programs.{program_of, target, max_rank};
 ghost use Rattle.rank_defs.specs.Checks.{IsChecked};
 ghost use Rattle.rank_core.specs.Node.{state_of, children_of, BelongsTo, HasRoom, HasState, step_of};
 ghost use Rattle.rank_core.specs.Scope.{AreCheckedIn, AreShapedIn, run_of};
@@ -117,8 +118,38 @@ fn told_rank(assigns: &[Assign], env: &Env) -> Option<u64>
     }
 }
 
-/// A step with no assignments changes nothing, and one that gives a rank that it is told changes no variable. Most are such, and
-/// they pay for no call of `run_lines`.
+/// The variable of the node to which a step writes the rank, where it does nothing else.
+#[inline]
+fn kept_in(assigns: &[Assign]) -> Option<u32>
+    ensures step { IfSome result (λ k. (t : Transaction) (env : Env) (m : Memory) →
+        run_of t env assigns.now m ≡ write (Aim.Keep k) (clamped (target (program_of t) (Aim.Keep k)) (num (pos m.rank))) m) }
+    ensures there { IfSome result (λ k. (t : Transaction) → AreShapedIn t assigns.now → k < length t.keeps) }
+{
+    let [assign] = assigns else {
+        return None;
+    };
+    match (assign.aim, &assign.value) {
+        (Aim::Keep(k), Expr::Var(Var::Rank)) => Some(k),
+        _ => None,
+    }
+}
+
+#[inline]
+fn keep_rank(state: &mut NodeState, transaction: &Transaction, k: u32, rank: u64)
+    requires shaped { IsShaped (program_of transaction.now) }
+    requires there { k < length transaction.now.keeps }
+    requires each { length state.old.keeps.items ≡ length transaction.now.keeps }
+    ensures keeps { state.new.keeps.items ≡
+        slice_set state.old.keeps.items k (clamped (target (program_of transaction.now) (Aim.Keep k)) (num (pos rank))) }
+    ensures firsts { state.new.firsts ≡ state.old.firsts }
+    ensures eaches { state.new.eaches ≡ state.old.eaches }
+{
+    let span = &transaction.keeps.as_slice()[k as usize];
+    state.keeps[k as usize] = rank.clamp(span.low, span.high);
+}
+
+/// A step with no assignments changes nothing, one that gives a rank that it is told changes no variable, and one that keeps the
+/// rank looks up no child or flow. Most are such, and they pay for no call of `run_lines`.
 #[inline]
 fn run_at(
     state: &mut NodeState,
@@ -146,6 +177,10 @@ fn run_at(
     }
     if let Some(told) = told_rank(assigns, env) {
         return told;
+    }
+    if let Some(k) = kept_in(assigns) {
+        keep_rank(state, transaction, k, rank);
+        return rank;
     }
     run_lines(state, who, transaction, assigns, env, rank)
 }

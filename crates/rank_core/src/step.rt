@@ -1,13 +1,16 @@
 //! Assignments, one after another.
 
-ghost use Rattle.std.specs.Prelude.{◌≡◌};
-ghost use Rattle.rank_defs.specs.Steps.{assigned, run};
+ghost use Rattle.std.specs.Prelude.{◌≡◌, ◌≤◌};
+ghost use Rattle.rank_defs.specs.Formulas.{formula_of};
+ghost use Rattle.rank_defs.specs.Values.{value_of};
+ghost use Rattle.rank_defs.specs.States.{variable_in};
+ghost use Rattle.rank_defs.specs.Steps.{assigned, run, clamped as clamped_to};
 ghost use Rattle.rank_defs.specs.Shapes.{IsEnvInRange, IsMemoryInRange, IsShaped, IsShapedAssignment};
 ghost use Rattle.rank_defs.specs.Programs.{program_of, assignment_of};
 ghost use Rattle.rank_defs.specs.Checks.{IsCheckedAssignment};
 ghost use Rattle.rank_core.specs.Scope.{memory, run_of, AreCheckedIn, AreShapedIn};
 
-use crate::evaluate::{Scope, clamped, operand};
+use crate::evaluate::{Scope, clamped, narrow, number};
 use rank_defs::{Aim, Assign, Env, MAX_RANK, Span, Transaction};
 
 /// The range of a rank.
@@ -57,23 +60,76 @@ fn perform(
     ensures { memory result keeps.new eaches.new ≡
         assigned (program_of transaction.now) env.entry.now (memory rank keeps.old eaches.old) (assignment_of assign.now) }
 {
+    match assign.aim {
+        Aim::Rank => written(assign, &RANKS, transaction, env, rank, keeps, eaches),
+        Aim::Keep(k) => {
+            let span = &transaction.keeps.as_slice()[k as usize];
+            keeps[k as usize] = written(assign, span, transaction, env, rank, keeps, eaches);
+            rank
+        }
+        Aim::Each(k) => {
+            let span = &transaction.eaches.as_slice()[k as usize];
+            eaches[k as usize] = written(assign, span, transaction, env, rank, keeps, eaches);
+            rank
+        }
+    }
+}
+
+/// The value of an assignment, brought into a range.
+#[inline(always)]
+fn written(
+    assign: &Assign,
+    span: &Span,
+    transaction: &Transaction,
+    env: &Env,
+    rank: u64,
+    keeps: &[u64],
+    eaches: &[u64],
+) -> u64
+    requires told { IsEnvInRange env.now }
+    requires checked { IsCheckedAssignment (program_of transaction.now) (assignment_of assign.now) }
+    requires fits { IsShapedAssignment (program_of transaction.now) (assignment_of assign.now) }
+    requires range { IsMemoryInRange (program_of transaction.now) (memory rank keeps.now eaches.now) }
+    requires span { span.now.low ≤ span.now.high }
+    ensures { result ≡ clamped_to span.now
+        (value_of (variable_in env.entry.now (memory rank keeps.now eaches.now)) (formula_of assign.now.value)) }
+{
     let scope = Scope {
         env,
         rank,
         keeps,
         eaches,
     };
-    let value = operand(&assign.value, transaction, &scope);
-    match assign.aim {
-        Aim::Rank => return clamped(value, RANKS),
-        Aim::Keep(k) => keeps[k as usize] = clamped(
-            value,
-            transaction.keeps.as_slice()[k as usize],
-        ),
-        Aim::Each(k) => eaches[k as usize] = clamped(
-            value,
-            transaction.eaches.as_slice()[k as usize],
-        ),
+    match narrow(&assign.value, transaction, &scope) {
+        Some(value) => value.clamp(span.low, span.high),
+        None => written_wide(assign, span, transaction, env, rank, keeps, eaches),
     }
-    rank
+}
+
+/// As `written`, for all expressions.
+#[inline(never)]
+fn written_wide(
+    assign: &Assign,
+    span: &Span,
+    transaction: &Transaction,
+    env: &Env,
+    rank: u64,
+    keeps: &[u64],
+    eaches: &[u64],
+) -> u64
+    requires told { IsEnvInRange env.now }
+    requires checked { IsCheckedAssignment (program_of transaction.now) (assignment_of assign.now) }
+    requires fits { IsShapedAssignment (program_of transaction.now) (assignment_of assign.now) }
+    requires range { IsMemoryInRange (program_of transaction.now) (memory rank keeps.now eaches.now) }
+    requires span { span.now.low ≤ span.now.high }
+    ensures { result ≡ clamped_to span.now
+        (value_of (variable_in env.entry.now (memory rank keeps.now eaches.now)) (formula_of assign.now.value)) }
+{
+    let scope = Scope {
+        env,
+        rank,
+        keeps,
+        eaches,
+    };
+    clamped(number(&assign.value, transaction, &scope), *span)
 }

@@ -1,18 +1,6 @@
 use Rattle.std.proofs.Common.{arith, ◌≡◌, ◌<◌, length}
-use Rattle.rank_defs.specs.Programs.{program_of}
-use Rattle.rank_defs.proofs.Spans.{length-within, variables-inside}
-use Rattle.rank_core.specs.Scope.{memory}
+use Rattle.rank_defs.proofs.Spans.{length-within}
 use Rattle.rank_core.proofs.step.perform.Goals as goal
-
-pub operand-value-requires-clause-inside : goal.operand-value-requires-clause-inside
-operand-value-requires-clause-inside c =
-    variables-inside (program_of c.args.transaction.now) c.args.env.now (memory c.args.rank c.args.keeps.now c.args.eaches.now) c.requires.told c.requires.range
-
-pub operand-value-requires-clause-keeps : goal.operand-value-requires-clause-keeps
-operand-value-requires-clause-keeps c = length-within c.args.transaction.now.keeps c.args.keeps.now c.requires.range.keeps
-
-pub operand-value-requires-clause-eaches : goal.operand-value-requires-clause-eaches
-operand-value-requires-clause-eaches c = length-within c.args.transaction.now.eaches c.args.eaches.now c.requires.range.eaches
 
 pub bounds-keeps-k : goal.bounds-keeps-k
 bounds-keeps-k c =

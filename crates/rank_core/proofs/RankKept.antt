@@ -1,0 +1,18 @@
+-- A step that writes a variable of the node, and no other.
+use Rattle.std.proofs.Common.{◌≡◌, ℕ, List, sym, subst}
+use Rattle.std.specs.Prelude.{slice_set}
+use Rattle.rank_defs.specs.declared.environment.Env.{Env}
+use Rattle.rank_defs.specs.declared.environment.Who.{Who}
+use Rattle.rank_defs.specs.declared.transaction.Aim.TheVariants.{Keep}
+use Rattle.rank_defs.specs.declared.transaction.Assign.{Assign}
+use Rattle.rank_defs.specs.declared.transaction.Transaction.{Transaction}
+use Rattle.rank_defs.specs.States.{SameState, Memory, memory_for, put_back}
+use Rattle.rank_defs.specs.Steps.{write}
+use Rattle.rank_core.specs.declared.node.NodeState.{NodeState}
+use Rattle.rank_core.specs.Node.{state_of, step_of, HasState}
+use Rattle.rank_core.proofs.NoLines.{put_back-unchanged}
+
+-- nothing else is put back, so all others keep theirs
+pub keep_alone : (t : Transaction) (assigns : List Assign) (who : Who) (env : Env) (r k v : ℕ) (n m : NodeState) → step_of t assigns who env r n ≡ write (Keep k) v (memory_for who r (state_of n)) → m.keeps.items ≡ slice_set n.keeps.items k v → m.firsts ≡ n.firsts → m.eaches ≡ n.eaches → HasState m (put_back who (step_of t assigns who env r n) (state_of n))
+keep_alone t assigns who env r k v n m e keeps firsts eaches =
+    subst (λ (w : Memory). SameState (state_of m) (put_back who w (state_of n))) (sym e) (record { keeps = keeps; eaches = λ w. rw (firsts, eaches) ((put_back-unchanged who r (state_of n)).eaches w) })
