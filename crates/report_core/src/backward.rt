@@ -31,7 +31,22 @@ pub fn bytes_before(line: &mut [u8], end: usize, bytes: &[u8]) -> usize
 }
 
 /// The same for the digits of a number.
+#[inline(always)]
 pub fn number_before(line: &mut [u8], end: usize, value: u64) -> usize
+    requires room { 20 ≤ end }
+    requires within { end ≤ length line.old }
+    ensures text { drop result line.new ≡ decimal value ++ drop end line.old }
+    ensures short { end ≤ result + 20 }
+    ensures within { result ≤ length line.new }
+{
+    if value < 10 {
+        return byte_before(line, end, b'0' + value as u8);
+    }
+    long_before(line, end, value)
+}
+
+#[inline(never)]
+fn long_before(line: &mut [u8], end: usize, value: u64) -> usize
     requires room { 20 ≤ end }
     requires within { end ≤ length line.old }
     ensures text { drop result line.new ≡ decimal value ++ drop end line.old }

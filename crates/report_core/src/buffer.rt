@@ -18,17 +18,18 @@ pub const LIMIT: usize = 65_536;
 #[derive(Drop)]
 pub struct Buffer {
     bytes: Vec<u8>,
+    held: usize,
 }
 
 impl Model for Buffer {
-    ghost use Rattle.std.specs.Prelude.{ℕ, List, ◌≤◌, vec_capacity};
+    ghost use Rattle.std.specs.Prelude.{ℕ, List, ◌≡◌, ◌≤◌, length, take};
     ghost use Rattle.report_core.specs.Gathered.{limit};
 
     ghost Value = { List ℕ };
 
-    ghost view = { λ b. b.bytes.items };
+    ghost view = { λ b. take b.held b.bytes.items };
 
-    ghost invariant = { λ b. limit ≤ vec_capacity b.bytes };
+    ghost invariant = { λ b. (b.held ≤ limit) × (length b.bytes.items ≡ limit) };
 }
 
 /// Writes all the bytes.
@@ -47,15 +48,19 @@ impl Buffer {
         ensures { IfOk result (λ b. b ≡ []) }
     {
         Ok(Buffer {
-            bytes: Vec::with_capacity(alloc, LIMIT)?,
+            bytes: vec![in alloc; 0; LIMIT]?,
+            held: 0,
         })
     }
 
+    #[inline(always)]
     pub fn put_bytes(&mut self, bytes: &[u8])
         requires room { length self.old + length bytes.now ≤ limit }
         ensures { self.new ≡ self.old ++ bytes.now }
     {
-        let _ = self.bytes.extend_from_slice(bytes);
+        let end = self.held + bytes.len();
+        self.bytes[self.held..end].copy_from_slice(bytes);
+        self.held = end;
     }
 
     /// Writes all that is held.
@@ -66,24 +71,36 @@ impl Buffer {
         ensures cause { OnErr result (Rose (K.faults sink.old) (K.faults sink.new)) }
         ensures empty { self.new ≡ [] }
     {
-        let sent = send(sink, &self.bytes);
-        self.bytes.clear();
+        let sent = send(sink, &self.bytes[..self.held]);
+        self.held = 0;
         sent
     }
 
     /// Takes bytes of any number, and writes through what doesn't fit.
+    #[inline(always)]
     pub fn put_or_send<K: Sink>(&mut self, sink: &mut K, bytes: &[u8]) -> Result<(), WriteFault>
-        requires room { length self.old ≤ limit }
         ensures ok { OnOk result (Appended (appended (K.written sink.old) self.old) (appended (K.written sink.new) self.new) bytes.now) }
         ensures cut { OnErr result (IsCut (appended (K.written sink.old) self.old) bytes.now (K.written sink.new)) }
         ensures kept { KeepsSink K.written K.faults sink.old sink.new }
         ensures cause { OnErr result (Rose (K.faults sink.old) (K.faults sink.new)) }
         ensures bounded { length self.new ≤ limit }
     {
-        if bytes.len() <= LIMIT - self.bytes.len() {
+        if bytes.len() <= LIMIT - self.held {
             self.put_bytes(bytes);
             return Ok(());
         }
+        self.flush_and_put(sink, bytes)
+    }
+
+    /// Takes bytes of any number once all that is held is written.
+    #[cold]
+    fn flush_and_put<K: Sink>(&mut self, sink: &mut K, bytes: &[u8]) -> Result<(), WriteFault>
+        ensures ok { OnOk result (Appended (appended (K.written sink.old) self.old) (appended (K.written sink.new) self.new) bytes.now) }
+        ensures cut { OnErr result (IsCut (appended (K.written sink.old) self.old) bytes.now (K.written sink.new)) }
+        ensures kept { KeepsSink K.written K.faults sink.old sink.new }
+        ensures cause { OnErr result (Rose (K.faults sink.old) (K.faults sink.new)) }
+        ensures bounded { length self.new ≤ limit }
+    {
         self.flush(sink)?;
         if bytes.len() > LIMIT {
             return send(sink, bytes);

@@ -6,6 +6,7 @@ mod buffer;
 mod fault;
 mod line;
 mod report;
+mod tens;
 #[cfg(test)]
 mod tests;
 mod whole;

@@ -6,64 +6,48 @@ ghost use Rattle.report_core.specs.Faults.{word_of};
 
 use crate::backward::{byte_before, bytes_before, number_before, ranks_before, wide_before};
 use crate::fault::FaultKind;
+use crate::tens::Tens;
 
 /// Room for the longest line.
 const LINE: usize = 2_048;
 
-/// Room in which a line is written, from its end to its beginning.
+/// Room in which a line is written, from its end to its beginning, and the digits of numbers of the lines before.
 #[derive(Drop)]
 pub struct Line {
     bytes: [u8; LINE],
+    events: Tens,
+    arrivals: Tens,
+    departures: Tens,
 }
 
-/// The letter of an outcome, its event, its packet and its leaf, in front of what stands from `end` on.
-fn place_before(
-    line: &mut [u8],
-    end: usize,
-    letter: u8,
-    event: u64,
-    packet: u64,
-    leaf: &str,
-) -> usize
-    requires leaf { length leaf.now ≤ most_name }
-    requires room { 108 ≤ end }
-    requires within { end ≤ length line.old }
-    ensures text { drop result line.new ≡
-        letter ∷ 32 ∷ decimal event ++ 32 ∷ decimal packet ++ 32 ∷ leaf.now ++ drop end line.old }
-    ensures short { result ≤ end }
-    ensures within { result ≤ length line.new }
-{
-    let leaf_at = bytes_before(line, end, leaf.as_bytes());
-    let packet_end = byte_before(line, leaf_at, b' ');
-    let packet_at = number_before(line, packet_end, packet);
-    let event_end = byte_before(line, packet_at, b' ');
-    let event_at = number_before(line, event_end, event);
-    let letter_end = byte_before(line, event_at, b' ');
-    byte_before(line, letter_end, letter)
-}
-
-/// What the lines of an arrival and of a departure share, in front of what stands from `end` on.
-fn visit_before(
-    line: &mut [u8],
-    end: usize,
-    letter: u8,
-    event: u64,
-    packet: u64,
-    leaf: &str,
-    ranks: &[u64],
-) -> usize
+/// A leaf and ranks, with a space before each, in front of what stands from `end` on.
+fn leaf_before(line: &mut [u8], end: usize, leaf: &str, ranks: &[u64]) -> usize
     requires leaf { length leaf.now ≤ most_name }
     requires few { length ranks.now ≤ 65 }
-    requires room { 1474 ≤ end }
+    requires room { 1431 ≤ end }
     requires within { end ≤ length line.old }
-    ensures text { drop result line.new ≡
-        letter ∷ 32 ∷ decimal event ++ 32 ∷ decimal packet ++ 32 ∷ leaf.now ++ 32 ∷ ranks_text ranks.now ++ drop end line.old }
-    ensures short { result ≤ end }
+    ensures text { drop result line.new ≡ 32 ∷ leaf.now ++ 32 ∷ ranks_text ranks.now ++ drop end line.old }
+    ensures short { end ≤ result + 1431 }
     ensures within { result ≤ length line.new }
 {
     let ranks_at = ranks_before(line, end, ranks);
     let leaf_end = byte_before(line, ranks_at, b' ');
-    place_before(line, leaf_end, letter, event, packet, leaf)
+    let leaf_at = bytes_before(line, leaf_end, leaf.as_bytes());
+    byte_before(line, leaf_at, b' ')
+}
+
+/// The letter of an outcome and its event, with a space behind each.
+#[inline(always)]
+fn event_before(line: &mut [u8], end: usize, letter: u8, events: &mut Tens, event: u64) -> usize
+    requires room { 24 ≤ end }
+    requires within { end ≤ length line.old }
+    ensures text { drop result line.new ≡ letter ∷ 32 ∷ decimal event ++ 32 ∷ drop end line.old }
+    ensures within { result ≤ length line.new }
+{
+    let event_end = byte_before(line, end, b' ');
+    let event_at = events.number_before(line, event_end, event);
+    let letter_end = byte_before(line, event_at, b' ');
+    byte_before(line, letter_end, letter)
 }
 
 /// The moment at which a departure starts, where one is shown.
@@ -112,7 +96,20 @@ fn dropped_before(line: &mut [u8], end: usize, dropped: Option<u64>) -> usize
 
 impl Line {
     pub fn new() -> Line {
-        Line { bytes: [0; LINE] }
+        Line {
+            bytes: [0; LINE],
+            events: Tens::new(),
+            arrivals: Tens::new(),
+            departures: Tens::new(),
+        }
+    }
+
+    /// What stands from `at` on.
+    fn from(&self, at: usize) -> &[u8]
+        requires within { at ≤ length self.now.bytes }
+        ensures text { result.now ≡ drop at self.now.bytes }
+    {
+        &self.bytes[at..]
     }
 
     pub fn arrival(&mut self, event: u64, packet: u64, leaf: &str, ranks: &[u64]) -> &[u8]
@@ -121,8 +118,12 @@ impl Line {
         ensures text { result.now ≡ arrival_line event packet leaf.now ranks.now }
     {
         let end = byte_before(&mut self.bytes, LINE, b'\n');
-        let at = visit_before(&mut self.bytes, end, b'a', event, packet, leaf, ranks);
-        &self.bytes[at..]
+        let leaf_at = leaf_before(&mut self.bytes, end, leaf, ranks);
+        let packet_at = self
+            .arrivals
+            .number_before(&mut self.bytes, leaf_at, packet);
+        let at = event_before(&mut self.bytes, packet_at, b'a', &mut self.events, event);
+        self.from(at)
     }
 
     pub fn departure(
@@ -139,8 +140,12 @@ impl Line {
     {
         let end = byte_before(&mut self.bytes, LINE, b'\n');
         let visit_end = start_before(&mut self.bytes, end, start);
-        let at = visit_before(&mut self.bytes, visit_end, b'd', event, packet, leaf, ranks);
-        &self.bytes[at..]
+        let leaf_at = leaf_before(&mut self.bytes, visit_end, leaf, ranks);
+        let packet_at = self
+            .departures
+            .number_before(&mut self.bytes, leaf_at, packet);
+        let at = event_before(&mut self.bytes, packet_at, b'd', &mut self.events, event);
+        self.from(at)
     }
 
     pub fn dropped(&mut self, event: u64, packet: u64, leaf: &str) -> &[u8]
@@ -148,17 +153,22 @@ impl Line {
         ensures text { result.now ≡ drop_line event packet leaf.now }
     {
         let end = byte_before(&mut self.bytes, LINE, b'\n');
-        let at = place_before(&mut self.bytes, end, b'x', event, packet, leaf);
-        &self.bytes[at..]
+        let leaf_at = bytes_before(&mut self.bytes, end, leaf.as_bytes());
+        let packet_end = byte_before(&mut self.bytes, leaf_at, b' ');
+        let packet_at = self
+            .arrivals
+            .number_before(&mut self.bytes, packet_end, packet);
+        let at = event_before(&mut self.bytes, packet_at, b'x', &mut self.events, event);
+        self.from(at)
     }
 
     pub fn empty(&mut self, event: u64) -> &[u8]
         ensures text { result.now ≡ empty_line event }
     {
         let end = byte_before(&mut self.bytes, LINE, b'\n');
-        let event_at = number_before(&mut self.bytes, end, event);
+        let event_at = self.events.number_before(&mut self.bytes, end, event);
         let at = bytes_before(&mut self.bytes, event_at, b"e ");
-        &self.bytes[at..]
+        self.from(at)
     }
 
     pub fn end(
@@ -180,7 +190,7 @@ impl Line {
         let popped_at = count_before(&mut self.bytes, empty_at, b" popped ", popped);
         let pushed_at = count_before(&mut self.bytes, popped_at, b" pushed ", pushed);
         let at = bytes_before(&mut self.bytes, pushed_at, b"end");
-        &self.bytes[at..]
+        self.from(at)
     }
 
     pub fn fault(&mut self, kind: FaultKind, code: u32, place: u64) -> &[u8]
@@ -193,6 +203,6 @@ impl Line {
         let word_end = byte_before(&mut self.bytes, code_at, b' ');
         let word_at = bytes_before(&mut self.bytes, word_end, kind.word().as_bytes());
         let at = bytes_before(&mut self.bytes, word_at, b"fault ");
-        &self.bytes[at..]
+        self.from(at)
     }
 }

@@ -1,12 +1,7 @@
-use Rattle.std.proofs.Common.{◌≤◌, length, decimal, arith, rules}
-use Rattle.std.proofs.lemmas.Fmt.{length-decimal-le}
+use Rattle.std.proofs.Common.{◌++◌, drop, sym, ap, ◌∙◌}
+use Rattle.std.proofs.lemmas.Fmt.{decimal_digit}
 use Rattle.report_core.proofs.backward.number_before.Goals as goal
 
-pub write_digits-requires : goal.write_digits-requires
-write_digits-requires c = search (rules, length-decimal-le 20)
-
-pub returns-clause-short : goal.returns-clause-short
-returns-clause-short c =
-    let fits = c.ranges.value.fits in
-    let few : length (decimal c.args.value) ≤ 20 = length-decimal-le 20 c.args.value (omega arith) (omega arith) (omega arith) in
-    omega (arith, c.write_digits.ensures.start)
+pub returns-then-value-lt10-clause-text : goal.returns-then-value-lt10-clause-text
+returns-then-value-lt10-clause-text c =
+    c.byte_before.ensures.text ∙ ap (λ s. s ++ drop c.args.end c.args.line.now) (sym (decimal_digit c.args.value c.if-value-lt10.true))
