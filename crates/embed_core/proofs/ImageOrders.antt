@@ -1,7 +1,7 @@
 -- Children in the order of their images, and a search among them.
-use Rattle.std.proofs.Common.{◌≡◌, ℕ, ◌+◌, ◌<◌, ◌≤◌, true, false, eqb, ltb, List, [], ◌∷◌, ◌++◌, length, get_or, map, refl, sym, ap, ◌∙◌, subst, arith, inl, inr, eq-eqb, Ordering, Less, Equal, Greater, Bor}
-use Rattle.std.proofs.lemmas.Bool.{true≢false, cases_order, cases_lt, le-ltb, ne_eqb, eqb-true}
-use Rattle.std.proofs.lemmas.List.{get_or_default, get_or-map, map-append, length-map}
+use Rattle.std.proofs.Common.{◌≡◌, ℕ, zero, suc, ◌+◌, ◌<◌, ◌≤◌, true, false, eqb, ltb, List, [], ◌∷◌, ◌++◌, length, get_or, take, drop, map, refl, sym, ap, ◌∙◌, subst, arith, inl, inr, eq-eqb, Ordering, Less, Equal, Greater, Bor}
+use Rattle.std.proofs.lemmas.Bool.{true≢false, cases_order, cases_lt, le-ltb, lt-ltb, ne_eqb, eqb-true}
+use Rattle.std.proofs.lemmas.List.{get_or_default, get_or-map, map-append, length-map, drop_all, drop_more}
 use Rattle.std.proofs.lemmas.Cmp.{nat_list_cmp_total, nat_cmp_total, upto, then_total, on_total}
 use Rattle.std.proofs.lemmas.List.Elements.{All-push, Contains-append_left, Contains-push}
 use Rattle.std.proofs.lemmas.List.Sorted.{sorted_far, ranks_by, All-permutation, Contains-permutation, IsPermutation-map}
@@ -20,6 +20,53 @@ behind-head a b c x l = let n : eqb b a ≡ false = ne_eqb b a (λ e. omega arit
 
 behind-tail : (a : ℕ) (c x : Address) → is_behind (a ∷ c) (a ∷ x) ≡ is_behind c x
 behind-tail a c x = let n : eqb a a ≡ true = eq-eqb a a refl in let m : ltb a a ≡ false = le-ltb a a (omega arith) in rw (m, n) refl
+
+behind-front : (a b : ℕ) (c x : Address) → a < b → is_behind (a ∷ c) (b ∷ x) ≡ false
+behind-front a b c x l = let m : ltb a b ≡ true = lt-ltb a b l in rw m refl
+
+-- digits that are the same decide nothing
+pub behind-drop : (d : ℕ) (a b : Address) → take d a ≡ take d b → is_behind a b ≡ is_behind (drop d a) (drop d b)
+behind-drop zero a b e = refl
+behind-drop (suc d) [] [] e = refl
+behind-drop (suc d) [] (y ∷ b) e = cc
+behind-drop (suc d) (x ∷ a) [] e = cc
+behind-drop (suc d) (x ∷ a) (y ∷ b) e =
+    let p : x ≡ y = cc in
+    let q : take d a ≡ take d b = cc in
+    subst (λ (z : ℕ). is_behind (x ∷ a) (z ∷ b) ≡ is_behind (drop d a) (drop d b)) p (behind-tail x a b ∙ behind-drop d a b q)
+
+-- a digit that is the same decides nothing
+pub behind-more : (i : ℕ) (a b : Address) → i < length a → length a ≤ length b → get_or a i 0 ≡ get_or b i 0 → is_behind a b ≡ is_behind (drop i a) (drop i b) → is_behind a b ≡ is_behind (drop (i + 1) a) (drop (i + 1) b)
+behind-more i a b l n e h =
+    let p : drop i a ≡ get_or a i 0 ∷ drop (i + 1) a = drop_more a i 0 l in
+    let q : drop i b ≡ get_or b i 0 ∷ drop (i + 1) b = drop_more b i 0 (omega arith) in
+    h ∙ ap (λ (z : Address). is_behind z (drop i b)) p ∙ ap (is_behind (get_or a i 0 ∷ drop (i + 1) a)) q
+    ∙ ap (λ (z : ℕ). is_behind (get_or a i 0 ∷ drop (i + 1) a) (z ∷ drop (i + 1) b)) (sym e) ∙ behind-tail (get_or a i 0) (drop (i + 1) a) (drop (i + 1) b)
+
+-- the first digit that is another one decides
+pub behind-other : (i : ℕ) (a b : Address) → i < length a → length a ≤ length b → (get_or a i 0 ≡ get_or b i 0 → ⊥) → is_behind a b ≡ is_behind (drop i a) (drop i b) → ltb (get_or b i 0) (get_or a i 0) ≡ is_behind a b
+behind-other i a b l n e h =
+    let p : drop i a ≡ get_or a i 0 ∷ drop (i + 1) a = drop_more a i 0 l in
+    let q : drop i b ≡ get_or b i 0 ∷ drop (i + 1) b = drop_more b i 0 (omega arith) in
+    first (get_or a i 0) (get_or b i 0) (drop (i + 1) a) (drop (i + 1) b) e
+    ∙ ap (λ (z : Address). is_behind z (get_or b i 0 ∷ drop (i + 1) b)) (sym p) ∙ ap (is_behind (drop i a)) (sym q) ∙ sym h
+  where
+    first : (x y : ℕ) (c d : Address) → (x ≡ y → ⊥) → ltb y x ≡ is_behind (x ∷ c) (y ∷ d)
+    first x y c d n = elim (cases_order x y) [
+      | inl s ↦ absurd (n s)
+      | inr s ↦ elim s [
+        | inl l ↦ le-ltb y x (omega arith) ∙ sym (behind-front x y c d l)
+        | inr l ↦ lt-ltb y x l ∙ sym (behind-head y x c d l)
+      ]
+    ]
+
+-- and where there is none, nothing is behind
+pub behind-none : (i : ℕ) (a b : Address) → length a ≤ i → is_behind a b ≡ is_behind (drop i a) (drop i b) → is_behind a b ≡ false
+behind-none i a b l h = h ∙ ap (λ (z : Address). is_behind z (drop i b)) (drop_all i a l) ∙ nothing (drop i b)
+  where
+    nothing : (d : Address) → is_behind [] d ≡ false
+    nothing [] = refl
+    nothing (e ∷ d) = refl
 
 -- what lies between a prefix of an address and that address begins with the prefix too
 pub prefix-between : (c x d : Address) → IsPrefixOf c d → is_behind c x ≡ false → is_behind x d ≡ false → IsPrefixOf c x

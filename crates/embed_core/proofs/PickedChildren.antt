@@ -1,6 +1,6 @@
 -- The child on whose side a leaf lies is found by its image.
-use Rattle.std.proofs.Common.{◌≡◌, ℕ, zero, suc, ◌+◌, ◌<◌, ◌≤◌, List, [], ◌∷◌, ◌++◌, length, get_or, Option, None, refl, sym, ap, ◌∙◌, subst, arith, append_assoc, append-nil, length-append}
-use Rattle.std.proofs.lemmas.List.{get_or_default}
+use Rattle.std.proofs.Common.{◌≡◌, ℕ, zero, suc, ◌+◌, ◌<◌, ◌≤◌, List, [], ◌∷◌, ◌++◌, length, get_or, take, Option, None, refl, sym, ap, ◌∙◌, subst, arith, append_assoc, append-nil, length-append}
+use Rattle.std.proofs.lemmas.List.{get_or_default, take_at}
 use Rattle.std.specs.Prelude.{option_map, unwrap_or}
 use Rattle.tree_defs.specs.Tree.{Tree, leaf, inner, Trees, none, more, trees_of, root_of, Address, LeadsToLeaf, LeadsBelow, nodes, nodes_below, depth, depth_below, subtree_in}
 use Rattle.tree_defs.specs.Topology.{after, IsPrefixOf}
@@ -12,7 +12,7 @@ use Rattle.embed_defs.specs.Placed.{IsApartFrom}
 use Rattle.embed_defs.proofs.Addresses.{one_prefix}
 use Rattle.embed_lift_defs.specs.Lift.{picked_ranks, picked_ranks_below}
 use Rattle.embed_lift_defs.specs.GoodMaps.{IsDeep, IsNested, AreNested}
-use Rattle.embed_core.specs.ImageOrder.{child_image, AreApart, IsOnSide}
+use Rattle.embed_core.specs.ImageOrder.{child_image, AreApart, IsOnSide, EachChild, GoesBeside}
 use Rattle.embed_core.specs.Picks.{LeadsToImage, IsLeafImage, PicksOnto}
 use Rattle.embed_core.proofs.MapSteps.{child-at}
 use Rattle.embed_core.proofs.LiftSteps.{IsDeeper, leads-index, leads-child, deep-child}
@@ -41,6 +41,14 @@ mutual
   image-begins_in e none i b w l = absurd l
   image-begins_in e (more t ts) zero b w l = prefix-trans e (root_of t) (image_map t b) w.0 (image-begins t b w.2 l)
   image-begins_in e (more t ts) (suc i) b w l = image-begins_in e ts i b w.3 l
+
+take-prefix : (e f : Address) → IsPrefixOf e f → take (length e) f ≡ e
+take-prefix e f p = ap (take (length e)) (after-is e f p.0 p.1) ∙ take_at e p.0 (length e) refl
+
+nested-begins : (e : Address) (ks : List (Tree Address)) (i : ℕ) (k : Tree Address) → AreNested e (trees_of ks) → i < length ks → k ≡ get_or ks i k → IsPrefixOf e (root_of k)
+nested-begins e [] i k w l f = absurd (omega arith)
+nested-begins e (j ∷ ks) zero k w l f = subst (λ (z : Tree Address). IsPrefixOf e (root_of z)) (sym f) w.0
+nested-begins e (j ∷ ks) (suc i) k w l f = nested-begins e ks i k w.3 (omega arith) f
 
 apart-at : (e : Address) (ks : List (Tree Address)) (i : ℕ) (k : Tree Address) → IsApartFrom e (trees_of ks) → i < length ks → k ≡ get_or ks i k → (after e (root_of k) ≡ None) × (after (root_of k) e ≡ None)
 apart-at e [] i k h l f = absurd (omega arith)
@@ -170,6 +178,20 @@ apart e (u ∷ ks) m p w i j l n x =
 -- the child at an index, and its image
 pub side-begins : (ks : List (Tree Address)) (image : Address) (i : ℕ) (k : Tree Address) → k ≡ get_or ks i k → IsOnSide ks image i → IsPrefixOf (root_of k) image
 side-begins ks image i k e s = subst (λ (z : Tree Address). IsPrefixOf (root_of z) image) (sym (e ∙ get_or_default ks i k (leaf []) s.below)) s.begins
+
+-- down to the depth of their parent's image those of the children have the digits of a leaf's image below it
+pub beside : (e : Address) (ks : List (Tree Address)) (m : Tree Address) (image : Address) (n : ℕ) → branch e (trees_of ks) ≡ m → n ≡ length (root_of m) → IsNested m → IsDeep (length image) m
+    → IsLeafImage m image → EachChild ks (λ c. GoesBeside n c image)
+beside e [] m image n p q w d h = λ i l. absurd (omega arith)
+beside e (u ∷ ks) m image n p q w d h = λ i l.
+    let v : Tree Address = get_or (u ∷ ks) i (leaf []) in
+    let g : v ≡ get_or (u ∷ ks) i v = same_get (u ∷ ks) i (leaf []) l in
+    let r : root_of m ≡ e = ap root_of (sym p) in
+    let b : take n (root_of v) ≡ e = ap (λ (z : ℕ). take z (root_of v)) (q ∙ ap length r) ∙ take-prefix e (root_of v) (nested-begins e (u ∷ ks) i v (subst IsNested (sym p) w) l g) in
+    let c : IsPrefixOf (root_of m) image = subst (IsPrefixOf (root_of m)) h.1.image_is (image-begins m h.0 w h.1.leaf) in
+    let f : take n image ≡ e = ap (λ (z : ℕ). take z image) q ∙ take-prefix (root_of m) image c ∙ r in
+    let s : IsDeeper (length image) e v = deep-child (length image) e (u ∷ ks) i v (subst (IsDeep (length image)) (sym p) d) l g in
+    record { same = b ∙ sym f; short = s.short }
 
 -- the root's image is no longer than a leaf's
 pub root-short : (m : Tree Address) (image : Address) → IsNested m → IsLeafImage m image → length (root_of m) ≤ length image

@@ -1,5 +1,5 @@
 -- The children of a node in the order of their images: digit by digit, and a prefix first.
-use Rattle.std.specs.Prelude.{◌≡◌, refl, ℕ, ◌<◌, ◌≤◌, Bool, true, false, List, [], ◌∷◌, length, slice_index, slice_index_or}
+use Rattle.std.specs.Prelude.{◌≡◌, refl, ℕ, ◌<◌, ◌≤◌, Bool, true, false, List, [], ◌∷◌, length, take, slice_index, slice_index_or}
 use Rattle.std.specs.List.{Contains}
 use Rattle.std.specs.Cmp.Lexicographic.{slice_cmp}
 use Rattle.std.specs.Ordering.{nat_cmp, is_gt}
@@ -28,6 +28,15 @@ AreApart children = (i j : ℕ) → i < length children → j < length children 
 pub record IsOnSide (children : List (Tree Address)) (digits : Address) (i : ℕ) : Type 0 where
   pub below : i < length children
   pub begins : IsPrefixOf (child_image children i) digits
+
+-- what holds of each child's image
+abbrev pub EachChild : List (Tree Address) → (Address → Type 0) → Type 0
+EachChild children P = (i : ℕ) → i < length children → P (child_image children i)
+
+-- down to a depth an image has the digits of an address, which is no shorter
+pub record GoesBeside (depth : ℕ) (image digits : Address) : Type 0 where
+  pub same : take depth image ≡ take depth digits
+  pub short : length image ≤ length digits
 
 pub prefix-first : is_behind (0 ∷ 1 ∷ []) (0 ∷ []) ≡ true
 prefix-first = refl

@@ -3,3 +3,4 @@ pub mod Blocks
 pub mod ImageOrder
 pub mod Shrinking
 pub mod Picks
+pub mod Lanes

@@ -204,7 +204,7 @@ impl Map {
         if self.children.is_empty() {
             taken.last(rank);
         } else {
-            let index = child_to(&self.children, &self.order, digits);
+            let index = child_to(&self.children, &self.order, self.depth(), digits);
             taken.step(index, rank);
             self.children[index as usize].pick_onto(digits, ranks, taken);
         }

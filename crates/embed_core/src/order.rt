@@ -1,6 +1,6 @@
 //! The children of a node in the order of their images, and the search among them.
 ghost use Rattle.std.specs.Prelude.{◌≡◌, ℕ, ◌≤◌, length, IfOk};
-ghost use Rattle.embed_core.specs.ImageOrder.{IsImageOrder, AreApart, IsOnSide, is_behind};
+ghost use Rattle.embed_core.specs.ImageOrder.{IsImageOrder, AreApart, IsOnSide, EachChild, GoesBeside, is_behind};
 ghost use Rattle.tree_defs.specs.Tree.{root_of, most_nodes};
 
 use crate::map::Map;
@@ -23,18 +23,19 @@ pub fn image_order(alloc: Global, children: &[Map]) -> Result<Vec<u32>, AllocErr
     Ok(order)
 }
 
-/// The index of the child whose image begins these digits.
-pub fn child_to(children: &[Map], order: &[u32], digits: &[u32]) -> u32
+/// The index of the child whose image begins these digits. Down to this depth the digits of all the images are the same.
+pub fn child_to(children: &[Map], order: &[u32], depth: usize, digits: &[u32]) -> u32
     requires order { IsImageOrder children.now order.now }
     requires apart { AreApart children.now }
     requires some { (i : ℕ) × IsOnSide children.now digits.now i }
+    requires above { EachChild children.now (λ image. GoesBeside depth image digits.now) }
     ensures side { IsOnSide children.now digits.now result }
 {
     let mut low = 0;
     let mut high = order.len();
     while high - low > 1 {
         let middle = low + (high - low) / 2;
-        if root_is_behind(&children[order[middle] as usize], digits) {
+        if root_is_behind(&children[order[middle] as usize], depth, digits) {
             high = middle;
         } else {
             low = middle;
@@ -43,9 +44,16 @@ pub fn child_to(children: &[Map], order: &[u32], digits: &[u32]) -> u32
     order[low]
 }
 
-/// Whether the root's image is behind an address in the order of their digits.
-fn root_is_behind(child: &Map, digits: &[u32]) -> bool
+/// Whether the root's image is behind an address in the order of their digits. Down to this depth the digits are the same.
+fn root_is_behind(child: &Map, depth: usize, digits: &[u32]) -> bool
+    requires above { GoesBeside depth (root_of child.now) digits.now }
     ensures behind { result ≡ is_behind (root_of child.now) digits.now }
 {
-    child.root().cmp(digits).is_gt()
+    let image = child.root();
+    for place in depth..image.len() {
+        if image[place] != digits[place] {
+            return image[place] > digits[place];
+        }
+    }
+    false
 }

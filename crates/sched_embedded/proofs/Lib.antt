@@ -2,3 +2,4 @@ pub mod MapShapes
 pub mod LowRanks
 pub mod LiftMoves
 pub mod DepartedPackets
+pub mod ClassLanes

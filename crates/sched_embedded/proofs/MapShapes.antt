@@ -1,5 +1,5 @@
 -- A tree and its map have the same leaves, and the leaves of an embedding are those of the target.
-use Rattle.std.proofs.Common.{◌≡◌, ℕ, List, [], ◌∷◌, length, None, Some, refl, sym, ap, ◌∙◌, subst, arith}
+use Rattle.std.proofs.Common.{◌≡◌, ℕ, suc, List, [], ◌∷◌, length, None, Some, refl, sym, ap, ◌∙◌, subst, arith}
 use Rattle.std.specs.Prelude.{option_map}
 use Rattle.tree_defs.specs.Tree.{Tree, leaf, inner, Trees, none, more, Address, LeadsToLeaf, SameShape, depth, root_of}
 use Rattle.tree_defs.specs.Topology.{Topology, topology_of, topologies_of, complete, IsWithin}
@@ -49,6 +49,12 @@ leaf_address [] [] w n = tt
 leaf_address [] (x ∷ a) w n = absurd w
 leaf_address (d ∷ arities) [] w n = absurd (omega (arith, n))
 leaf_address (d ∷ arities) (x ∷ a) w n = (w.0, leaf_address arities a w.1 (omega (arith, n)))
+
+pub leaf_long : (arities : List ℕ) (a : Address) → IsLeafAddress arities a → length a ≡ length arities
+leaf_long [] [] h = refl
+leaf_long [] (x ∷ a) h = absurd h
+leaf_long (d ∷ arities) [] h = absurd h
+leaf_long (d ∷ arities) (x ∷ a) h = ap suc (leaf_long arities a h.1)
 
 -- the images of an embedding lay a topology into the target
 pub embedding-laid : (t : Topology) (images : Tree Address) (arities : List ℕ) → SameShape t images → IsEmbedding t (complete arities) (image_map images) → IsLaid images arities

@@ -1,5 +1,5 @@
 -- A tree laid into a complete tree of queues.
-use Rattle.std.specs.Prelude.{◌≡◌, ◌+◌, ℕ, List, length, Some}
+use Rattle.std.specs.Prelude.{◌≡◌, ◌+◌, ℕ, List, [], length, slice_get, unwrap_or, Some}
 use Rattle.tree_defs.specs.Tree.{Tree, Address, LeadsToLeaf, SameShape}
 use Rattle.tree_defs.specs.SourceTree.{SourceTree, push, pop, IsWellFormed}
 use Rattle.tree_core.specs.Paths.{Way}
@@ -7,6 +7,9 @@ use Rattle.fabric_defs.specs.Family.{Family, IsLeafAddress}
 use Rattle.embed_defs.specs.Images.{image_map}
 use Rattle.embed_lift_defs.specs.Lift.{IsLift}
 use Rattle.embed_lift_defs.specs.GoodMaps.{IsGoodMap}
+use Rattle.embed_core.specs.declared.lane.Lane.{Lane}
+use Rattle.embed_core.specs.Lanes.{IsLaneTo}
+use Rattle.policy_defs.specs.Policy.{Policy, class_at, no_marks}
 
 -- the image of each node, and the arities of the complete tree from the root down
 pub record Laid : Type 0 where
@@ -17,6 +20,21 @@ pub record Laid : Type 0 where
 pub record IsLaid (images : Tree Address) (arities : List ℕ) : Type 0 where
   pub good : IsGoodMap (length arities) images
   pub leaves : (a : Address) → LeadsToLeaf images a → IsLeafAddress arities (image_map images a)
+
+-- a lane to a leaf
+pub record IsLane (l : Laid) (lane : Lane) : Type 0 where
+  pub address : Address
+  pub leaf : LeadsToLeaf l.images address
+  pub leads : IsLaneTo l.images address lane
+
+-- the leaf of each of a policy's classes
+abbrev pub leaf_of : Policy → ℕ → Address
+leaf_of policy n = (unwrap_or (class_at policy n) (record { marks = no_marks; leaf = [] })).leaf
+
+-- a lane to the leaf of each class
+pub record HasLanes (images : Tree Address) (policy : Policy) (lanes : List Lane) : Type 0 where
+  pub whole : length lanes ≡ length policy.classes
+  pub each : (n : ℕ) (lane : Lane) → slice_get lanes n ≡ Some lane → IsLaneTo images (leaf_of policy n) lane
 
 -- there is room for the digits and for the ranks on the way to a leaf
 pub record HasRoomForOne (images : Tree Address) (arities : List ℕ) (digits ranks : ℕ) : Type 0 where

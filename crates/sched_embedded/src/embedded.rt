@@ -6,12 +6,14 @@ ghost use Rattle.fabric_defs.specs.Family.{SameQueues};
 ghost use Rattle.target_defs.specs.Target.{IsInRange};
 ghost use Rattle.embed_defs.specs.Images.{image_map};
 ghost use Rattle.embed_defs.specs.Embedding.{IsEmbedding};
+ghost use Rattle.embed_lift_defs.specs.GoodMaps.{IsGoodMap};
+ghost use Rattle.sched_embedded.specs.Laid.{HasLanes};
 ghost use Rattle.sched_defs.specs.SourceState.{start};
 ghost use Rattle.sched_core.specs.Own.{policy_in};
-ghost use Rattle.sched_embedded.specs.Codes.{one_way_to_be_the_same};
+ghost use Rattle.sched_embedded.specs.Codes.{one_way_to_be_the_same, one_way_to_have_lanes};
 
 use crate::embedding::Embedding;
-use embed_core::Map;
+use embed_core::{Lane, Map};
 use fabric_core::Fabric;
 use packet_defs::{Departed, Packet};
 use policy_core::Policy;
@@ -26,10 +28,12 @@ use tree_core::Taken;
 pub struct Embedded<'a, F> {
     own: Own<'a>,
     embedding: Embedding,
+    lanes: Vec<Lane>,
     pushes_before: u64,
     pops_before: u64,
     fabric: PhantomData<F>,
     ghost few: { (pushes_before < 2 ^ 61) × (pops_before < 2 ^ 61) },
+    ghost lanes_lead: { HasLanes embedding.images (policy_in own) lanes.items } by { one_way_to_have_lanes embedding.images (policy_in own) lanes.items },
     ghost shape: { topology_of (policy_in own).tree ≡ topology_of embedding.images } by { one_way_to_be_the_same (topology_of (policy_in own).tree) (topology_of embedding.images) },
 }
 
@@ -63,16 +67,36 @@ impl<'a, F: Fabric> Embedded<'a, F> {
         ensures spilled { F.spilled fabric.new ≡ F.spilled fabric.old }
     {
         let own = Own::new(alloc, policy)?;
+        let lanes = class_lanes(alloc, policy, &map, target.arities.len())?;
         let embedding = Embedding::new(alloc, map, target)?;
         fabric.configure(embedding.arities())?;
         Ok(Embedded {
             own,
             embedding,
+            lanes,
             pushes_before: fabric.pushes(),
             pops_before: fabric.pops(),
             fabric: PhantomData,
         })
     }
+}
+
+/// The lane to the leaf of each class.
+fn class_lanes(
+    alloc: Global,
+    policy: &Policy,
+    map: &Map,
+    height: usize,
+) -> Result<Vec<Lane>, AllocError>
+    requires good { IsGoodMap height map.now }
+    requires shape { SameShape (topology_of policy.now.policy.tree) map.now }
+    ensures lanes { IfOk result (λ v. HasLanes map.now policy.now.policy v.items) }
+{
+    let mut lanes = Vec::new(alloc);
+    for class in policy.classes() {
+        lanes.push(Lane::to(alloc, map, policy.address(class.leaf), height)?)?;
+    }
+    Ok(lanes)
 }
 
 impl<'a, F: Fabric> Scheduler for Embedded<'a, F> {
@@ -102,20 +126,20 @@ impl<'a, F: Fabric> Scheduler for Embedded<'a, F> {
         if self.own.is_full(packet) {
             return Ok(Arrival::Dropped(self.own.turn_away(packet)));
         }
-        under.reserve(self.embedding.image(self.own.address(packet)))?;
+        let class = packet.class as usize;
+        under.reserve(self.embedding.image(&self.lanes[class]))?;
         let leaf = self.own.admit(packet, trace)?;
-        self.embedding.push(under, trace, packet.number);
+        self.embedding
+            .push(under, &self.lanes[class], trace, packet.number);
         Ok(Arrival::Pushed(leaf))
     }
 
     fn depart(&mut self, under: &mut F, trace: &mut Taken) -> Option<Departed> {
-        match self.embedding.pop(under, trace) {
-            None => {
-                self.own.find_none();
-                None
-            }
-            Some(number) => Some(self.own.release(number, trace.digits(), trace.ranks())),
-        }
+        let Some(number) = self.embedding.pop(under, trace) else {
+            self.own.find_none();
+            return None;
+        };
+        Some(self.own.release(number, trace.digits(), trace.ranks()))
     }
 
     fn held(&self) -> u64 {

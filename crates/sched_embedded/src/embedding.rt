@@ -5,10 +5,11 @@ ghost use Rattle.tree_defs.specs.SourceTree.{push, pop};
 ghost use Rattle.fabric_defs.specs.Family.{IsLeafAddress, HasRoomAlong, AreRanks, SameQueues};
 ghost use Rattle.embed_defs.specs.Images.{image_map};
 ghost use Rattle.embed_lift_defs.specs.Spilling.{push_spills};
+ghost use Rattle.embed_core.specs.Lanes.{IsLaneTo};
 ghost use Rattle.sched_core.specs.Spills.{raised};
-ghost use Rattle.sched_embedded.specs.Laid.{IsLaid, IsLiftOfOne, ForEachLifted, EachLiftBecomes, EachLiftPops, push_on};
+ghost use Rattle.sched_embedded.specs.Laid.{IsLaid, IsLane, IsLiftOfOne, ForEachLifted, EachLiftBecomes, EachLiftPops, push_on};
 
-use embed_core::{Map, lift, pick};
+use embed_core::{Lane, Map, pick};
 use fabric_core::Fabric;
 use list_core::List;
 use std::alloc::{AllocError, Global};
@@ -64,20 +65,20 @@ impl Embedding {
         self.arities.as_slice()
     }
 
-    /// The image of a leaf.
-    pub fn image(&self, leaf: &[u32]) -> &[u32]
-        requires leaf { LeadsToLeaf self.now.images leaf.now }
-        ensures image { result.now ≡ image_map self.now.images leaf.now }
-        ensures leaf_image { IsLeafAddress self.now.arities result.now }
+    /// The image of the leaf to which a lane leads.
+    pub fn image<'a>(&self, lane: &'a Lane) -> &'a [u32]
+        requires lane { IsLane self.now lane.now }
+        ensures image { result.now ≡ lane.now.image.items }
+        ensures leaf { IsLeafAddress self.now.arities result.now }
     {
-        let Some(image) = self.map.image(leaf) else {
-            unreachable!()
-        };
-        image
+        // What holds of the map is known only where it is read.
+        let _ = &self.map;
+        lane.image()
     }
 
     /// Pushes a packet's number along the image of a way to a leaf, with the lifted ranks. Takes no memory.
-    pub fn push<F: Fabric>(&mut self, fabric: &mut F, way: &Taken, number: u64)
+    pub fn push<F: Fabric>(&mut self, fabric: &mut F, lane: &Lane, way: &Taken, number: u64)
+        requires lane { IsLaneTo self.old.images way.now.digits lane.now }
         requires arities { F.shape fabric.old ≡ self.old.arities }
         requires leaf { LeadsToLeaf self.old.images way.now.digits }
         requires one_more { length way.now.ranks ≡ length way.now.digits + 1 }
@@ -93,8 +94,8 @@ impl Embedding {
         ensures spilled { ForEachLifted self.old (F.queues fabric.old) (λ t.
             F.spilled fabric.new ≡ raised (F.spilled fabric.old) (push_spills self.old.images t way.now.digits way.now.ranks)) }
     {
-        lift(&self.map, way, &mut self.digits, &mut self.ranks);
-        fabric.push(&self.digits, &self.ranks, number);
+        lane.lift(way.ranks(), &mut self.ranks);
+        fabric.push(lane.image(), &self.ranks, number);
     }
 
     /// Pops the fabric, and sets `trace` to the digits and ranks with which the packet leaves the tree that is laid into it.

@@ -1,7 +1,7 @@
 use Rattle.std.proofs.Common.{rules, ◌≡◌, ℕ, ◌+◌, ◌<◌, [], ◌∷◌, ◌++◌, length, get_or, sym, ap, ◌∙◌, subst, arith, length-append}
 use Rattle.embed_core.specs.ImageOrder.{AreApart, IsOnSide}
 use Rattle.embed_core.proofs.MapSteps.{some_child}
-use Rattle.embed_core.proofs.PickedChildren.{IsFound, found, root-short, some_side, apart, side-begins}
+use Rattle.embed_core.proofs.PickedChildren.{IsFound, found, root-short, some_side, apart, beside, side-begins}
 use Rattle.embed_core.proofs.map.Map.+pick_onto.Goals as goal
 
 pub bounds-ranks-depth : goal.bounds-ranks-depth
@@ -18,6 +18,10 @@ pub child_to-index-requires-clause-some : goal.child_to-index-requires-clause-so
 child_to-index-requires-clause-some t c =
     let l : 0 < length c.self.inside.children.items = some_child c.self.inside.children.items c.self.inside.children.len c.self.inside.children.ok.0 c.if-is_empty.ensures in
     rw c.deref.ensures.value (some_side c.self.inside.image.items c.self.inside.children.items c.args.self.now c.args.digits.now c.self.view_is l c.requires.nested c.requires.leaf)
+
+pub child_to-index-requires-clause-above : goal.child_to-index-requires-clause-above
+child_to-index-requires-clause-above t c =
+    rw c.deref.ensures.value (beside c.self.inside.image.items c.self.inside.children.items c.args.self.now c.args.digits.now c.depth-else-is_empty.result c.self.view_is c.depth-else-is_empty.ensures.depth c.requires.nested c.requires.deep c.requires.leaf)
 
 pub pick_onto-requires : goal.pick_onto-requires
 pick_onto-requires t c =

@@ -1,11 +1,14 @@
-use Rattle.std.proofs.Common.{length, sym, ap, ◌∙◌, subst, arith}
+use Rattle.std.proofs.Common.{ℕ, length, sym, ap, ◌∙◌, subst, arith}
 use Rattle.tree_defs.specs.Tree.{Tree, Address}
 use Rattle.tree_defs.specs.Topology.{topology_of}
 use Rattle.tree_defs.specs.SourceTree.{empty_tree}
 use Rattle.embed_defs.specs.Images.{image_map}
+use Rattle.embed_lift_defs.specs.GoodMaps.{IsGoodMap}
 use Rattle.embed_lift_defs.specs.Lift.{IsLift}
 use Rattle.embed_lift_defs.proofs.EmbeddedMaps.{embeddings_are_good_maps as good_map}
 use Rattle.policy_defs.specs.Policy.{Policy}
+use Rattle.sched_core.specs.Own.{policy_in}
+use Rattle.sched_embedded.specs.Laid.{HasLanes}
 use Rattle.sched_embedded.proofs.MapShapes.{topology-same, embedding-laid, empty-lifted}
 use Rattle.sched_embedded.proofs.embedded.Embedded.new.Goals as goal
 
@@ -16,6 +19,8 @@ new-requires-2 g c =
 pub invariant_of-result : goal.invariant_of-result
 invariant_of-result g c = record {
   few = (omega (arith, c.requires.pushes, c.pushes.ensures, c.in_ok-configure.ensures.pushed), omega (arith, c.requires.pops, c.pops.ensures, c.in_ok-configure.ensures.popped));
+  lanes_lead = subst (λ (m : Tree Address). HasLanes m (policy_in c.in_ok-own.own) c.in_ok-lanes.lanes.items) (sym c.in_ok-embedding.ensures.images)
+      (subst (λ (p : Policy). HasLanes c.args.map p c.in_ok-lanes.lanes.items) (sym c.in_ok-own.ensures.policy) c.in_ok-lanes.ensures.lanes);
   shape = ap (λ (p : Policy). topology_of p.tree) c.in_ok-own.ensures.policy ∙ topology-same (topology_of c.args.policy.now.policy.tree) c.args.map c.requires.map_shape
       ∙ ap (λ (m : Tree Address). topology_of m) (sym c.in_ok-embedding.ensures.images);
 }
@@ -30,3 +35,8 @@ returns-clause-stands g c = record {
   pushes = omega (arith, c.pushes.ensures, c.in_ok-own.ensures.pushes);
   pops = omega (arith, c.pops.ensures, c.in_ok-own.ensures.departures);
 }
+
+pub class_lanes-requires-clause-good : goal.class_lanes-requires-clause-good
+class_lanes-requires-clause-good g c =
+    subst (λ (h : ℕ). IsGoodMap h c.args.map) (sym c.len.ensures)
+    (good_map c.args.target.now.arities (topology_of c.args.policy.now.policy.tree) c.args.map c.requires.map_shape c.requires.embedding)

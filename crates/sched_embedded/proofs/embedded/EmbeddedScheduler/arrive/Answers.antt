@@ -1,10 +1,13 @@
-use Rattle.std.proofs.Common.{◌≡◌, ◌+◌, false, ℕ, Option, List, length, sym, ap, ◌∙◌, subst, arith}
+use Rattle.std.proofs.Common.{◌≡◌, ◌+◌, false, ℕ, Option, Some, List, length, sym, ap, ◌∙◌, subst, arith}
+use Rattle.std.proofs.lemmas.Option.{slice_get_read}
+use Rattle.std.specs.Prelude.{slice_get}
 use Rattle.tree_defs.specs.Tree.{Tree, Address, LeadsToLeaf}
 use Rattle.tree_defs.specs.SourceTree.{SourceTree, push}
 use Rattle.fabric_defs.specs.Family.{AreRanks}
 use Rattle.embed_defs.specs.Images.{image_map}
 use Rattle.embed_lift_defs.specs.Lift.{IsLift}
 use Rattle.embed_lift_defs.specs.Spilling.{push_spills}
+use Rattle.embed_core.specs.Lanes.{IsLaneTo}
 use Rattle.policy_defs.specs.Policy.{Policy}
 use Rattle.sched_defs.specs.SourceState.{class_of, arrival_ranks, is_full}
 use Rattle.sched_defs.proofs.Leaving.{arrives_at_a_leaf}
@@ -22,7 +25,18 @@ image-requires g c =
     let r = c.requires.stands in
     let leads : LeadsToLeaf images (class_of policy c.args.packet.now).leaf
     = same_leaves r.state.tree images (class_of policy c.args.packet.now).leaf (sound-shape policy r.state images r.sound c.args.self.now.shape) (arrives_at_a_leaf policy c.args.packet.now r.state c.requires.accepted r.sound r.has).leaf_address in
-    record { leaf = subst (λ (a : Address). LeadsToLeaf images a) (sym c.address.ensures.address) leads }
+    let there : slice_get c.args.self.now.lanes.items c.args.packet.now.class ≡ Some c.index.result.now
+    = slice_get_read c.args.self.now.lanes.items (length policy.classes) c.args.packet.now.class c.index.result.now (sym c.args.self.now.lanes_lead.whole) r.has.known.class c.index.ensures in
+    record { lane = record { address = (class_of policy c.args.packet.now).leaf; leaf = leads; leads = c.args.self.now.lanes_lead.each c.args.packet.now.class c.index.result.now there } }
+
+pub push-requires-clause-lane : goal.push-requires-clause-lane
+push-requires-clause-lane g c =
+    let policy : Policy = policy_in c.args.self.now.own in
+    let r = c.requires.stands in
+    let there : slice_get c.args.self.now.lanes.items c.args.packet.now.class ≡ Some c.index-2.result.now
+    = slice_get_read c.args.self.now.lanes.items (length policy.classes) c.args.packet.now.class c.index-2.result.now (sym c.args.self.now.lanes_lead.whole) r.has.known.class c.index-2.ensures in
+    subst (λ (a : Address). IsLaneTo c.args.self.now.embedding.images a c.index-2.result.now) (sym c.in_ok-leaf.ensures.digits)
+    (c.args.self.now.lanes_lead.each c.args.packet.now.class c.index-2.result.now there)
 
 pub push-requires-clause-leaf : goal.push-requires-clause-leaf
 push-requires-clause-leaf g c =

@@ -36,42 +36,42 @@ release-requires-clause-stands g c =
       has = next policy r.state r.sound l c.in-Some.number c.pop.new.trace after p c.digits.result.now c.ranks.result.now c.digits.ensures.digits c.ranks.ensures.ranks;
     }
 
-pub returns-in-None-clause-state : goal.returns-in-None-clause-state
-returns-in-None-clause-state g c = λ s sound stood.
+pub returns-in_default-clause-state : goal.returns-in_default-clause-state
+returns-in_default-clause-state g c = λ s sound stood.
     let policy : Policy = policy_in c.args.self.now.own in
     let l : Laid = c.args.self.now.embedding in
     let after : Family = g.F.Fabric.queues c.pop.new.fabric in
-    let nothing : pop s.tree ≡ None = c.in-None.ensures.none s.tree (sound-holds policy s l (g.F.Fabric.queues c.args.under.now) sound c.args.self.now.shape stood.lifted) in
+    let nothing : pop s.tree ≡ None = c.in_default.ensures.none s.tree (sound-holds policy s l (g.F.Fabric.queues c.args.under.now) sound c.args.self.now.shape stood.lifted) in
     rw nothing record {
       own = c.find_none.ensures.state s stood.own;
       shape = c.pop.ensures.shape ∙ stood.shape ∙ ap (λ (z : Laid). z.arities) (sym c.pop.ensures.embedding);
       lifted = subst (λ (z : Laid). IsLift s.tree (image_map z.images) after) (sym c.pop.ensures.embedding)
-          (lift-same s.tree (image_map l.images) (g.F.Fabric.queues c.args.under.now) after c.in-None.ensures.stay stood.lifted);
+          (lift-same s.tree (image_map l.images) (g.F.Fabric.queues c.args.under.now) after c.in_default.ensures.stay stood.lifted);
       pushes = omega (arith, c.pop.ensures.pushed, stood.pushes, c.find_none.ensures.pushes);
       pops = omega (arith, c.pop.ensures.popped, stood.pops, c.find_none.ensures.departures);
     }
 
-pub returns-in-None-clause-value : goal.returns-in-None-clause-value
-returns-in-None-clause-value g c = λ s sound stood.
+pub returns-in_default-clause-value : goal.returns-in_default-clause-value
+returns-in_default-clause-value g c = λ s sound stood.
     let nothing : pop s.tree ≡ None
-    = c.in-None.ensures.none s.tree (sound-holds (policy_in c.args.self.now.own) s c.args.self.now.embedding (g.F.Fabric.queues c.args.under.now) sound c.args.self.now.shape stood.lifted) in
+    = c.in_default.ensures.none s.tree (sound-holds (policy_in c.args.self.now.own) s c.args.self.now.embedding (g.F.Fabric.queues c.args.under.now) sound c.args.self.now.shape stood.lifted) in
     rw nothing refl
 
-pub returns-in-None-clause-none : goal.returns-in-None-clause-none
-returns-in-None-clause-none g c = λ s sound stood.
+pub returns-in_default-clause-none : goal.returns-in_default-clause-none
+returns-in_default-clause-none g c = λ s sound stood.
     let policy : Policy = policy_in c.args.self.now.own in
     let nothing : pop s.tree ≡ None
-    = c.in-None.ensures.none s.tree (sound-holds policy s c.args.self.now.embedding (g.F.Fabric.queues c.args.under.now) sound c.args.self.now.shape stood.lifted) in
+    = c.in_default.ensures.none s.tree (sound-holds policy s c.args.self.now.embedding (g.F.Fabric.queues c.args.under.now) sound c.args.self.now.shape stood.lifted) in
     (λ none. (pop_size policy s sound).0 nothing, λ empty. refl)
 
-pub returns-in-None-clause-taken : goal.returns-in-None-clause-taken
-returns-in-None-clause-taken g c = λ s sound stood.
+pub returns-in_default-clause-taken : goal.returns-in_default-clause-taken
+returns-in_default-clause-taken g c = λ s sound stood.
     let nothing : pop s.tree ≡ None
-    = c.in-None.ensures.none s.tree (sound-holds (policy_in c.args.self.now.own) s c.args.self.now.embedding (g.F.Fabric.queues c.args.under.now) sound c.args.self.now.shape stood.lifted) in
+    = c.in_default.ensures.none s.tree (sound-holds (policy_in c.args.self.now.own) s c.args.self.now.embedding (g.F.Fabric.queues c.args.under.now) sound c.args.self.now.shape stood.lifted) in
     rw nothing tt
 
-pub returns-in-Some-clause-state : goal.returns-in-Some-clause-state
-returns-in-Some-clause-state g c = λ s sound stood.
+pub returns-clause-state : goal.returns-clause-state
+returns-clause-state g c = λ s sound stood.
     let policy : Policy = policy_in c.args.self.now.own in
     let l : Laid = c.args.self.now.embedding in
     let after : Family = g.F.Fabric.queues c.pop.new.fabric in
@@ -87,8 +87,8 @@ returns-in-Some-clause-state g c = λ s sound stood.
       pops = omega (arith, c.pop.ensures.popped, stood.pops, c.release.ensures.departures);
     }
 
-pub returns-in-Some-clause-value : goal.returns-in-Some-clause-value
-returns-in-Some-clause-value g c = λ s sound stood.
+pub returns-clause-value : goal.returns-clause-value
+returns-clause-value g c = λ s sound stood.
     let policy : Policy = policy_in c.args.self.now.own in
     let l : Laid = c.args.self.now.embedding in
     let after : Family = g.F.Fabric.queues c.pop.new.fabric in
@@ -97,8 +97,8 @@ returns-in-Some-clause-value g c = λ s sound stood.
     sym (c.release.ensures.value s sound stood.own
     (next policy s sound l c.in-Some.number c.pop.new.trace after p c.digits.result.now c.ranks.result.now c.digits.ensures.digits c.ranks.ensures.ranks))
 
-pub returns-in-Some-clause-none : goal.returns-in-Some-clause-none
-returns-in-Some-clause-none g c = λ s sound stood.
+pub returns-clause-none : goal.returns-clause-none
+returns-clause-none g c = λ s sound stood.
     let policy : Policy = policy_in c.args.self.now.own in
     let l : Laid = c.args.self.now.embedding in
     let after : Family = g.F.Fabric.queues c.pop.new.fabric in
@@ -106,8 +106,8 @@ returns-in-Some-clause-none g c = λ s sound stood.
     = c.in-Some.ensures.taken s.tree (sound-holds policy s l (g.F.Fabric.queues c.args.under.now) sound c.args.self.now.shape stood.lifted) in
     (λ none. cc, λ empty. absurd (not-empty policy s sound l c.in-Some.number c.pop.new.trace after p empty))
 
-pub returns-in-Some-clause-taken : goal.returns-in-Some-clause-taken
-returns-in-Some-clause-taken g c = λ s sound stood.
+pub returns-clause-taken : goal.returns-clause-taken
+returns-clause-taken g c = λ s sound stood.
     let policy : Policy = policy_in c.args.self.now.own in
     let l : Laid = c.args.self.now.embedding in
     let after : Family = g.F.Fabric.queues c.pop.new.fabric in

@@ -1,9 +1,9 @@
-use Rattle.std.proofs.Common.{sym, subst}
-use Rattle.tree_defs.specs.Tree.{LeadsToLeaf}
-use Rattle.sched_embedded.specs.Laid.{Laid}
-use Rattle.sched_embedded.proofs.MapShapes.{leaf-image}
+use Rattle.std.proofs.Common.{sym, ◌∙◌, subst}
+use Rattle.fabric_defs.specs.Family.{IsLeafAddress}
+use Rattle.sched_embedded.specs.Laid.{Laid, IsLaid}
 use Rattle.sched_embedded.proofs.embedding.Embedding.image.Goals as goal
 
-pub unreachable-requires : goal.unreachable-requires
-unreachable-requires c =
-    leaf-image c.self.inside.map c.args.leaf.now (subst (λ (l : Laid). LeadsToLeaf l.images c.args.leaf.now) (sym c.self.view_is) c.requires.leaf) c.in_default.ensures.image
+pub returns-clause-leaf : goal.returns-clause-leaf
+returns-clause-leaf c =
+    let laid : IsLaid c.args.self.now.images c.args.self.now.arities = subst (λ (l : Laid). IsLaid l.images l.arities) c.self.view_is c.self.invariant.laid in
+    subst (IsLeafAddress c.args.self.now.arities) (sym (c.image.ensures.image ∙ c.requires.lane.leads.image)) (laid.leaves c.requires.lane.address c.requires.lane.leaf)

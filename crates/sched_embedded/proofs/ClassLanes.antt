@@ -1,0 +1,43 @@
+-- Lanes to the leaves of classes, one by one.
+use Rattle.std.proofs.Common.{◌≡◌, ℕ, zero, suc, ◌<◌, List, [], ◌∷◌, ◌++◌, length, get_or, map, Some, sym, ap, ◌∙◌, subst, arith}
+use Rattle.std.proofs.lemmas.List.{get_or-map, length-map}
+use Rattle.std.proofs.lemmas.Option.{unwrap_or-slice_get}
+use Rattle.std.specs.Prelude.{slice_get, unwrap_or}
+use Rattle.std.specs.List.{AllByRecursion}
+use Rattle.tree_defs.specs.Tree.{Tree, Address, LeadsToLeaf, SameShape}
+use Rattle.tree_defs.specs.Topology.{topology_of}
+use Rattle.policy_defs.specs.Policy.{Policy, Node, Class, no_marks}
+use Rattle.policy_defs.specs.Accepted.{IsAccepted, IsClassReady}
+use Rattle.embed_core.specs.declared.lane.Lane.{Lane}
+use Rattle.sched_embedded.specs.Laid.{leaf_of}
+use Rattle.sched_embedded.proofs.MapShapes.{same_leaves, topology-same}
+
+-- what holds of each lane holds with one more
+pub one_more : (P : ℕ → Lane → Type 0) (lanes : List Lane) (lane : Lane) → ((n : ℕ) (x : Lane) → slice_get lanes n ≡ Some x → P n x) → P (length lanes) lane
+    → (n : ℕ) (x : Lane) → slice_get (lanes ++ lane ∷ []) n ≡ Some x → P n x
+one_more P [] lane each here zero x e = let q : lane ≡ x = cc in subst (P 0) q here
+one_more P [] lane each here (suc n) x e = cc
+one_more P (y ∷ lanes) lane each here zero x e = each 0 x e
+one_more P (y ∷ lanes) lane each here (suc n) x e = one_more (λ m. P (suc m)) lanes lane (λ m. each (suc m)) here n x e
+
+ready-at : (tree : Tree Node) (d : Class) (classes : List Class) (n : ℕ) → AllByRecursion (IsClassReady tree) classes → n < length classes → IsClassReady tree (unwrap_or (slice_get classes n) d)
+ready-at tree d [] n all l = absurd (omega arith)
+ready-at tree d (c ∷ classes) zero all l = all.0
+ready-at tree d (c ∷ classes) (suc n) all l = ready-at tree d classes n all.1 (omega arith)
+
+module _ {C : Type 0} (f : C → Class) (policy : Policy) (told : List C) (n : ℕ) (class : C) (are : map f told ≡ policy.classes) (within : n < length told) (is : class ≡ get_or told n class) where
+  -- the leaf of a class is that which is told of it
+  pub leaf-told : leaf_of policy n ≡ (f class).leaf
+  leaf-told =
+      let d : Class = record { marks = no_marks; leaf = [] } in
+      ap (λ (c : Class). c.leaf) (
+      unwrap_or-slice_get policy.classes n d ∙ ap (λ (z : List Class). get_or z n d) (sym are)
+      ∙ get_or-map f told n class d within ∙ ap f (sym is))
+
+  -- and it is a leaf of each map of the policy's tree
+  pub leaf-leads : (images : Tree Address) → IsAccepted policy → SameShape (topology_of policy.tree) images → LeadsToLeaf images (f class).leaf
+  leaf-leads images accepted same =
+      let d : Class = record { marks = no_marks; leaf = [] } in
+      let l : n < length policy.classes = subst (λ (k : ℕ). n < k) (sym (length-map told f) ∙ ap length are) within in
+      subst (LeadsToLeaf images) leaf-told
+      (same_leaves policy.tree images (leaf_of policy n) (topology-same (topology_of policy.tree) images same) (ready-at policy.tree d policy.classes n accepted.classes l).leaf_address)
