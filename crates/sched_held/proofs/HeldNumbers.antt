@@ -1,5 +1,6 @@
 -- What is held in slots and beside them.
-use Rattle.std.proofs.Common.{◌≡◌, ◌≢◌, ℕ, true, ◌||◌, if◌then◌else◌, ◌==◌, Option, None, Some, is_some, sym, refl, ap, ap₂, ◌∙◌, true≢false}
+use Rattle.std.specs.Prelude.{Result, Ok, Err, IfOk, OnErr}
+use Rattle.std.proofs.Common.{◌≡◌, ◌≢◌, ℕ, Bool, ◌&&◌, true, false, ◌||◌, if◌then◌else◌, ◌==◌, Option, None, Some, is_some, sym, refl, ap, ap₂, ◌∙◌, true≢false}
 use Rattle.packet_defs.specs.declared.packet.Packet.{Packet}
 use Rattle.sched_held.specs.Held.{or_stray}
 use Rattle.sched_held.proofs.SlotLaws.{if_same, if_other, split}
@@ -7,6 +8,10 @@ use Rattle.sched_held.proofs.SlotLaws.{if_same, if_other, split}
 pub is_some-or_stray : (p s : Option Packet) → is_some (or_stray p s) ≡ (is_some p || is_some s)
 is_some-or_stray (Some p) s = refl
 is_some-or_stray None s = refl
+
+pub neither : (p s : Option Packet) → or_stray p s ≡ None → (p ≡ None) × (s ≡ None)
+neither (Some p) s e = absurd (true≢false (ap is_some e))
+neither None s e = (refl, e)
 
 -- ---- a number m is emptied
 pub taken-some : (n m : ℕ) (at new : Option Packet) → new ≡ (if n == m then None else at) → is_some new ≡ true → (n ≢ m) × (is_some at ≡ true)
@@ -49,3 +54,9 @@ pub take-both : (n k : ℕ) (at new stray after : Option Packet) → new ≡ (if
 take-both n k at new stray after e f = split n k
     (λ (same : n ≡ k). ap₂ or_stray (e ∙ if_same n k None at same) (f ∙ if_same k n None stray (sym same)) ∙ sym (if_same n k None (or_stray at stray) same))
     (λ (other : n ≢ k). ap₂ or_stray (e ∙ if_other n k None at other) (f ∙ if_other k n None stray (λ (r : k ≡ n). other (sym r))) ∙ sym (if_other n k None (or_stray at stray) other))
+
+-- ---- a packet comes to the window, or not
+pub came-other : {E : Type 0} (r : Result Bool E) (old new : ℕ → Option Packet) (k n : ℕ) (p : Packet) → IfOk r (λ stands. (m : ℕ) → new m ≡ (if stands && (m == k) then Some p else old m)) → OnErr r ((m : ℕ) → new m ≡ old m) → n ≢ k → new n ≡ old n
+came-other (Ok true) old new k n p ok err other = ok n ∙ if_other n k (Some p) (old n) other
+came-other (Ok false) old new k n p ok err other = ok n
+came-other (Err e) old new k n p ok err other = err n

@@ -1,3 +1,4 @@
 pub mod SlotLaws
-pub mod WindowLaws
+pub mod ChunkLaws
+pub mod NumberLaws
 pub mod HeldNumbers

@@ -1,13 +1,10 @@
 -- What stands in slots, as they come and go.
-use Rattle.std.proofs.Common.{◌≡◌, ◌≢◌, ℕ, zero, suc, ◌+◌, ◌<◌, ◌≤◌, ◌==◌, nat_eq, Bool, true, false, ◌||◌, if◌then◌else◌, Option, None, Some, is_some, IfSome, List, [], ◌∷◌, ◌++◌, length, set, get_or, refl, sym, ap, ap₂, ◌∙◌, true≢false, arith, eq-eqb, ne_eqb, eqb-true}
-use Rattle.std.specs.List.{list_any, AllByRecursion, IsDistinct}
-use Rattle.std.proofs.lemmas.Bool.{eqb-false}
-use Rattle.std.proofs.lemmas.List.Folds.{list_any-append}
-use Rattle.std.proofs.lemmas.Map.Keys.{IsDistinct-cons}
+use Rattle.std.proofs.Common.{◌≡◌, ◌≢◌, nat_le, subst, ℕ, zero, suc, ◌+◌, ◌<◌, ◌≤◌, ◌%◌, ◌==◌, nat_eq, Bool, true, false, ◌&&◌, if◌then◌else◌, Option, None, Some, is_some, IfSome, List, [], ◌∷◌, ◌++◌, length, take, add-one, set, get_or, refl, sym, ap, ◌∙◌, true≢false, arith, eq-eqb, ne_eqb, eqb-true}
+use Rattle.std.specs.Prelude.{⊤}
+use Rattle.std.proofs.lemmas.Bool.{eqb-false, leb-true, le-leb, and_parts, and_from}
 use Rattle.packet_defs.specs.declared.packet.Packet.{Packet}
 use Rattle.sched_held.specs.declared.slot.Slot.{Slot}
-use Rattle.sched_held.specs.declared.slot.Slot.TheVariants.{Empty, Filled}
-use Rattle.sched_held.specs.Slots.{packet_in, is_filled, packet_among, numbers_among}
+use Rattle.sched_held.specs.Slots.{packet_in, stands_at, packet_among, filled_among, are_ordered, place_behind}
 
 -- ---- a test of two numbers
 pub if_same : {X : Type 0} (n m : ℕ) (a b : X) → n ≡ m → (if n == m then a else b) ≡ a
@@ -23,146 +20,239 @@ split {P = P} n m same other = by (nat_eq n m) refl
     by true e = same (eqb-true n m e)
     by false e = other (eqb-false n m e)
 
--- ---- the packets
-pub among-before : (first : ℕ) (xs : List Slot) (n : ℕ) → n < first → packet_among first xs n ≡ None
-among-before first [] n h = refl
-among-before first (x ∷ xs) n h = if_other n first (packet_in n x) (packet_among (first + 1) xs n) (omega arith) ∙ among-before (first + 1) xs n (omega arith)
+pub by_bool : {P : Type 0} (t : Bool) → (t ≡ true → P) → (t ≡ false → P) → P
+by_bool true one other = one refl
+by_bool false one other = other refl
 
-pub among-nil : (first : ℕ) (xs : List Slot) (n : ℕ) → length xs ≡ 0 → packet_among first xs n ≡ None
-among-nil first [] n h = refl
-among-nil first (x ∷ xs) n h = absurd (omega arith)
+-- ---- whether a packet stands at a place
+pub place-there : (place : ℕ) (s : Slot) → stands_at place s ≡ true → s.place ≡ place
+place-there place s h = eqb-true s.place place (and_parts (s.place == place) s.filled h).0
 
-pub among-behind : (first : ℕ) (xs : List Slot) (n : ℕ) → first + length xs ≤ n → packet_among first xs n ≡ None
-among-behind first [] n h = refl
-among-behind first (x ∷ xs) n h = if_other n first (packet_in n x) (packet_among (first + 1) xs n) (omega arith) ∙ among-behind (first + 1) xs n (omega arith)
+pub filled-there : (place : ℕ) (s : Slot) → stands_at place s ≡ true → s.filled ≡ true
+filled-there place s h = (and_parts (s.place == place) s.filled h).1
 
-among-push_same : (first : ℕ) (xs : List Slot) (s : Slot) (n : ℕ) → n ≡ first + length xs → packet_among first (xs ++ s ∷ []) n ≡ packet_in n s
-among-push_same first [] s n e = if_same n first (packet_in n s) None (omega arith)
-among-push_same first (x ∷ xs) s n e = if_other n first (packet_in n x) (packet_among (first + 1) (xs ++ s ∷ []) n) (omega arith) ∙ among-push_same (first + 1) xs s n (omega arith)
+pub elsewhere : (place : ℕ) (s : Slot) → s.place ≢ place → stands_at place s ≡ false
+elsewhere place s ne = ap (λ (t : Bool). t && s.filled) (ne_eqb s.place place ne)
 
-among-push_other : (first : ℕ) (xs : List Slot) (s : Slot) (n : ℕ) → n ≢ first + length xs → packet_among first (xs ++ s ∷ []) n ≡ packet_among first xs n
-among-push_other first [] s n e = if_other n first (packet_in n s) None (omega arith)
-among-push_other first (x ∷ xs) s n e = ap (λ (t : Option Packet). if n == first then packet_in n x else t) (among-push_other (first + 1) xs s n (omega arith))
+and_false : (a : Bool) → (a && false) ≡ false
+and_false true = refl
+and_false false = refl
 
-pub among-push : (first : ℕ) (xs : List Slot) (s : Slot) (n : ℕ) → packet_among first (xs ++ s ∷ []) n ≡ (if n == first + length xs then packet_in n s else packet_among first xs n)
-among-push first xs s n = split n (first + length xs)
-    (λ e. among-push_same first xs s n e ∙ sym (if_same n (first + length xs) (packet_in n s) (packet_among first xs n) e))
-    (λ e. among-push_other first xs s n e ∙ sym (if_other n (first + length xs) (packet_in n s) (packet_among first xs n) e))
+pub unfilled : (place : ℕ) (s : Slot) → s.filled ≡ false → stands_at place s ≡ false
+unfilled place s e = ap (λ (t : Bool). (s.place == place) && t) e ∙ and_false (s.place == place)
 
-among-set_same : (first : ℕ) (xs : List Slot) (k : ℕ) (s : Slot) (n : ℕ) → k < length xs → n ≡ first + k → packet_among first (set xs k s) n ≡ packet_in n s
-among-set_same first [] k s n h e = absurd (omega arith)
-among-set_same first (x ∷ xs) zero s n h e = if_same n first (packet_in n s) (packet_among (first + 1) xs n) (omega arith)
-among-set_same first (x ∷ xs) (suc k) s n h e = if_other n first (packet_in n x) (packet_among (first + 1) (set xs k s) n) (omega arith) ∙ among-set_same (first + 1) xs k s n (omega arith) (omega arith)
+pub filled-here : (place : ℕ) (s : Slot) → s.filled ≡ true → stands_at place s ≡ (place == s.place)
+filled-here place s e = split place s.place
+    (λ same. ap (λ (t : Bool). t && s.filled) (eq-eqb s.place place (sym same)) ∙ e ∙ sym (eq-eqb place s.place same))
+    (λ other. elsewhere place s (λ r. other (sym r)) ∙ sym (ne_eqb place s.place other))
 
-among-set_other : (first : ℕ) (xs : List Slot) (k : ℕ) (s : Slot) (n : ℕ) → k < length xs → n ≢ first + k → packet_among first (set xs k s) n ≡ packet_among first xs n
-among-set_other first [] k s n h e = absurd (omega arith)
-among-set_other first (x ∷ xs) zero s n h e = if_other n first (packet_in n s) (packet_among (first + 1) xs n) (omega arith) ∙ sym (if_other n first (packet_in n x) (packet_among (first + 1) xs n) (omega arith))
-among-set_other first (x ∷ xs) (suc k) s n h e = ap (λ (t : Option Packet). if n == first then packet_in n x else t) (among-set_other (first + 1) xs k s n (omega arith) (omega arith))
+-- the first of the slots tells
+pub first-stands : (s : Slot) (xs : List Slot) (n : ℕ) → stands_at (n % 64) s ≡ true → packet_among (s ∷ xs) n ≡ Some (packet_in n s)
+first-stands s xs n h = ap (λ (t : Bool). if t then Some (packet_in n s) else packet_among xs n) h
 
--- a slot that is emptied
-pub among-emptied : (first : ℕ) (xs : List Slot) (k m n : ℕ) → k < length xs → m ≡ first + k → packet_among first (set xs k Empty) n ≡ (if n == m then None else packet_among first xs n)
-among-emptied first xs k m n h e = split n m
-    (λ same. among-set_same first xs k Empty n h (omega arith) ∙ sym (if_same n m None (packet_among first xs n) same))
-    (λ other. among-set_other first xs k Empty n h (omega arith) ∙ sym (if_other n m None (packet_among first xs n) other))
+pub first-passed : (s : Slot) (xs : List Slot) (n : ℕ) → stands_at (n % 64) s ≡ false → packet_among (s ∷ xs) n ≡ packet_among xs n
+first-passed s xs n h = ap (λ (t : Bool). if t then Some (packet_in n s) else packet_among xs n) h
 
--- one that was empty
-pub among-same : (first : ℕ) (xs : List Slot) (m n : ℕ) → packet_among first xs m ≡ None → packet_among first xs n ≡ (if n == m then None else packet_among first xs n)
-among-same first xs m n h = split n m
-    (λ same. ap (packet_among first xs) same ∙ h ∙ sym (if_same n m None (packet_among first xs n) same))
-    (λ other. sym (if_other n m None (packet_among first xs n) other))
+-- one, or none
+abbrev one_if : Bool → ℕ
+one_if t = if t then 1 else 0
 
-pub among-at : (first : ℕ) (xs : List Slot) (k : ℕ) (d : Slot) (n : ℕ) → k < length xs → n ≡ first + k → packet_among first xs n ≡ packet_in n (get_or xs k d)
-among-at first [] k d n h e = absurd (omega arith)
-among-at first (x ∷ xs) zero d n h e = if_same n first (packet_in n x) (packet_among (first + 1) xs n) (omega arith)
-among-at first (x ∷ xs) (suc k) d n h e = if_other n first (packet_in n x) (packet_among (first + 1) xs n) (omega arith) ∙ among-at (first + 1) xs k d n (omega arith) (omega arith)
+-- ---- the order
+abbrev pub AreOrdered : ℕ → List Slot → Type 0
+AreOrdered least [] = ⊤
+AreOrdered least (x ∷ xs) = (least ≤ x.place) × AreOrdered (x.place + 1) xs
 
-pub among-rest : (first : ℕ) (x : Slot) (xs : List Slot) (n : ℕ) → packet_among (first + 1) xs n ≡ (if n == first then None else packet_among first (x ∷ xs) n)
-among-rest first x xs n = split n first
-    (λ same. among-before (first + 1) xs n (omega arith) ∙ sym (if_same n first None (packet_among first (x ∷ xs) n) same))
-    (λ other. sym (if_other n first (packet_in n x) (packet_among (first + 1) xs n) other) ∙ sym (if_other n first None (packet_among first (x ∷ xs) n) other))
+pub ordered-in : (least : ℕ) (xs : List Slot) → are_ordered least xs ≡ true → AreOrdered least xs
+ordered-in least [] h = tt
+ordered-in least (x ∷ xs) h =
+    let both = and_parts (nat_le least x.place) (are_ordered (x.place + 1) xs) h in
+    (leb-true least x.place both.0, ordered-in (x.place + 1) xs both.1)
 
--- ---- how many they are
-long-if : (b : Bool) (n : ℕ) (l : List ℕ) → length (if b then n ∷ l else l) ≡ (if b then 1 else 0) + length l
-long-if true n l = omega arith
-long-if false n l = omega arith
+pub ordered-out : (least : ℕ) (xs : List Slot) → AreOrdered least xs → are_ordered least xs ≡ true
+ordered-out least [] o = refl
+ordered-out least (x ∷ xs) o = and_from (nat_le least x.place) (are_ordered (x.place + 1) xs) (le-leb least x.place o.0) (ordered-out (x.place + 1) xs o.1)
 
-at_most_one : (b : Bool) → (if b then 1 else 0) ≤ 1
+pub ordered-from : (a b : ℕ) (xs : List Slot) → a ≤ b → AreOrdered b xs → AreOrdered a xs
+ordered-from a b [] h o = tt
+ordered-from a b (x ∷ xs) h o = (omega (arith, o.0), o.1)
+
+pub among-before : (least : ℕ) (xs : List Slot) (n : ℕ) → AreOrdered least xs → n % 64 < least → packet_among xs n ≡ None
+among-before least [] n o h = refl
+among-before least (x ∷ xs) n o h = first-passed x xs n (elsewhere (n % 64) x (omega (arith, o.0))) ∙ among-before (x.place + 1) xs n o.1 (omega (arith, o.0))
+
+pub behind-grows : (least : ℕ) (xs : List Slot) → AreOrdered least xs → least ≤ place_behind least xs
+behind-grows least [] o = omega arith
+behind-grows least (x ∷ xs) o = omega (arith, o.0, behind-grows (x.place + 1) xs o.1)
+
+pub behind-last : (least : ℕ) (xs : List Slot) (k : ℕ) (d : Slot) → length xs ≡ k + 1 → place_behind least xs ≡ (get_or xs k d).place + 1
+behind-last least [] k d e = absurd (omega arith)
+behind-last least (x ∷ []) zero d e = refl
+behind-last least (x ∷ []) (suc k) d e = absurd (omega arith)
+behind-last least (x ∷ y ∷ xs) zero d e = absurd (omega arith)
+behind-last least (x ∷ y ∷ xs) (suc k) d e = behind-last (x.place + 1) (y ∷ xs) k d (omega arith)
+
+pub among-behind : (least : ℕ) (xs : List Slot) (n : ℕ) → AreOrdered least xs → place_behind least xs ≤ n % 64 → packet_among xs n ≡ None
+among-behind least [] n o h = refl
+among-behind least (x ∷ xs) n o h = first-passed x xs n (elsewhere (n % 64) x (omega (arith, behind-grows (x.place + 1) xs o.1))) ∙ among-behind (x.place + 1) xs n o.1 h
+
+-- ---- one slot more
+pub ordered-push : (least : ℕ) (xs : List Slot) (s : Slot) → AreOrdered least xs → place_behind least xs ≤ s.place → AreOrdered least (xs ++ s ∷ [])
+ordered-push least [] s o h = (h, tt)
+ordered-push least (x ∷ xs) s o h = (o.0, ordered-push (x.place + 1) xs s o.1 h)
+
+pub filled-push : (xs : List Slot) (s : Slot) → s.filled ≡ true → filled_among (xs ++ s ∷ []) ≡ filled_among xs + 1
+filled-push [] s e = omega (arith, ap one_if e)
+filled-push (x ∷ xs) s e = omega (arith, filled-push xs s e)
+
+push-same : (xs : List Slot) (s : Slot) (n : ℕ) → packet_among xs n ≡ None → stands_at (n % 64) s ≡ true → packet_among (xs ++ s ∷ []) n ≡ Some (packet_in n s)
+push-same [] s n h e = first-stands s [] n e
+push-same (x ∷ xs) s n h e = by_bool (stands_at (n % 64) x)
+    (λ at. absurd (true≢false (ap is_some (sym (first-stands x xs n at) ∙ h))))
+    (λ at. first-passed x (xs ++ s ∷ []) n at ∙ push-same xs s n (sym (first-passed x xs n at) ∙ h) e)
+
+push-other : (xs : List Slot) (s : Slot) (n : ℕ) → stands_at (n % 64) s ≡ false → packet_among (xs ++ s ∷ []) n ≡ packet_among xs n
+push-other [] s n e = first-passed s [] n e
+push-other (x ∷ xs) s n e = ap (λ (t : Option Packet). if stands_at (n % 64) x then Some (packet_in n x) else t) (push-other xs s n e)
+
+pub among-push : (least : ℕ) (xs : List Slot) (s : Slot) (n : ℕ) → AreOrdered least xs → place_behind least xs ≤ s.place → s.filled ≡ true
+    → packet_among (xs ++ s ∷ []) n ≡ (if n % 64 == s.place then Some (packet_in n s) else packet_among xs n)
+among-push least xs s n o h e = split (n % 64) s.place
+    (λ same. push-same xs s n (among-behind least xs n o (omega arith)) (filled-here (n % 64) s e ∙ eq-eqb (n % 64) s.place same) ∙ sym (if_same (n % 64) s.place (Some (packet_in n s)) (packet_among xs n) same))
+    (λ other. push-other xs s n (elsewhere (n % 64) s (λ r. other (sym r))) ∙ sym (if_other (n % 64) s.place (Some (packet_in n s)) (packet_among xs n) other))
+
+-- ---- where a packet stands
+pub at-least : (least : ℕ) (xs : List Slot) (k : ℕ) (d : Slot) → AreOrdered least xs → k < length xs → least + k ≤ (get_or xs k d).place
+at-least least [] k d o h = absurd (omega arith)
+at-least least (x ∷ xs) zero d o h = omega (arith, o.0)
+at-least least (x ∷ xs) (suc k) d o h = omega (arith, o.0, at-least (x.place + 1) xs k d o.1 (omega arith))
+
+pub among-at : (least : ℕ) (xs : List Slot) (k : ℕ) (d : Slot) (n : ℕ) → AreOrdered least xs → k < length xs → stands_at (n % 64) (get_or xs k d) ≡ true
+    → packet_among xs n ≡ Some (packet_in n (get_or xs k d))
+among-at least [] k d n o h e = absurd (omega arith)
+among-at least (x ∷ xs) zero d n o h e = first-stands x xs n e
+among-at least (x ∷ xs) (suc k) d n o h e =
+    let far = at-least (x.place + 1) xs k d o.1 (omega arith) in
+    let there = place-there (n % 64) (get_or xs k d) e in
+    first-passed x xs n (elsewhere (n % 64) x (omega (arith, far, there))) ∙ among-at (x.place + 1) xs k d n o.1 (omega arith) e
+
+pub among-nowhere : (xs : List Slot) (n : ℕ) → ((k : ℕ) (d : Slot) → k < length xs → stands_at (n % 64) (get_or xs k d) ≡ false) → packet_among xs n ≡ None
+among-nowhere [] n h = refl
+among-nowhere (x ∷ xs) n h = first-passed x xs n (h 0 x (omega arith)) ∙ among-nowhere xs n (λ k d l. h (suc k) d (omega arith))
+
+-- numbers of one place
+pub none-place : (xs : List Slot) (m n : ℕ) → n % 64 ≡ m % 64 → packet_among xs m ≡ None → packet_among xs n ≡ None
+none-place [] m n e h = refl
+none-place (x ∷ xs) m n e h = by_bool (stands_at (m % 64) x)
+    (λ at. absurd (true≢false (ap is_some (sym (first-stands x xs m at) ∙ h))))
+    (λ at. first-passed x xs n (ap (λ (place : ℕ). stands_at place x) e ∙ at) ∙ none-place xs m n e (sym (first-passed x xs m at) ∙ h))
+
+pub some-filled : (xs : List Slot) (k : ℕ) (d : Slot) → k < length xs → (get_or xs k d).filled ≡ true → 1 ≤ filled_among xs
+some-filled [] k d h e = absurd (omega arith)
+some-filled (x ∷ xs) zero d h e = omega (arith, ap one_if e)
+some-filled (x ∷ xs) (suc k) d h e = omega (arith, some-filled xs k d (omega arith) e)
+
+pub take-whole : (k : ℕ) (xs : List Slot) → length xs ≤ k → take k xs ≡ xs
+take-whole zero [] h = refl
+take-whole zero (x ∷ xs) h = absurd (omega arith)
+take-whole (suc k) [] h = refl
+take-whole (suc k) (x ∷ xs) h = ap (λ (l : List Slot). x ∷ l) (take-whole k xs (omega arith))
+
+-- ---- a slot that is emptied
+pub ordered-set : (least : ℕ) (xs : List Slot) (k : ℕ) (d s : Slot) → AreOrdered least xs → k < length xs → s.place ≡ (get_or xs k d).place → AreOrdered least (set xs k s)
+ordered-set least [] k d s o h e = absurd (omega arith)
+ordered-set least (x ∷ xs) zero d s o h e = (omega (arith, o.0, e), ordered-from (s.place + 1) (x.place + 1) xs (omega (arith, e)) o.1)
+ordered-set least (x ∷ xs) (suc k) d s o h e = (o.0, ordered-set (x.place + 1) xs k d s o.1 (omega arith) e)
+
+pub filled-emptied : (xs : List Slot) (k : ℕ) (d s : Slot) → k < length xs → s.filled ≡ false → (get_or xs k d).filled ≡ true → filled_among (set xs k s) + 1 ≡ filled_among xs
+filled-emptied [] k d s h e f = absurd (omega arith)
+filled-emptied (x ∷ xs) zero d s h e f =
+    omega (arith, ap one_if e, ap one_if f)
+filled-emptied (x ∷ xs) (suc k) d s h e f = omega (arith, filled-emptied xs k d s (omega arith) e f)
+
+pub among-emptied : (least : ℕ) (xs : List Slot) (k : ℕ) (d s : Slot) (m n : ℕ) → AreOrdered least xs → k < length xs → s.filled ≡ false → stands_at (m % 64) (get_or xs k d) ≡ true
+    → packet_among (set xs k s) n ≡ (if n % 64 == m % 64 then None else packet_among xs n)
+among-emptied least [] k d s m n o h e at = absurd (omega arith)
+among-emptied least (x ∷ xs) zero d s m n o h e at =
+    let there = place-there (m % 64) x at in
+    first-passed s xs n (unfilled (n % 64) s e) ∙ split (n % 64) (m % 64)
+    (λ same. among-before (x.place + 1) xs n o.1 (omega (arith, there, same)) ∙ sym (if_same (n % 64) (m % 64) None (packet_among (x ∷ xs) n) same))
+    (λ other. sym (first-passed x xs n (elsewhere (n % 64) x (λ r. other (sym r ∙ there)))) ∙ sym (if_other (n % 64) (m % 64) None (packet_among (x ∷ xs) n) other))
+among-emptied least (x ∷ xs) (suc k) d s m n o h e at =
+    let far = at-least (x.place + 1) xs k d o.1 (omega arith) in
+    let there = place-there (m % 64) (get_or xs k d) at in
+    let rest = among-emptied (x.place + 1) xs k d s m n o.1 (omega arith) e at in
+    split (n % 64) (m % 64)
+    (λ same. first-passed x (set xs k s) n (elsewhere (n % 64) x (omega (arith, far, there, same))) ∙ rest ∙ if_same (n % 64) (m % 64) None (packet_among xs n) same ∙ sym (if_same (n % 64) (m % 64) None (packet_among (x ∷ xs) n) same))
+    (λ other. ap (λ (t : Option Packet). if stands_at (n % 64) x then Some (packet_in n x) else t) (rest ∙ if_other (n % 64) (m % 64) None (packet_among xs n) other) ∙ sym (if_other (n % 64) (m % 64) None (packet_among (x ∷ xs) n) other))
+
+-- ---- the filled slots alone
+abbrev pub filled_of : List Slot → List Slot
+filled_of [] = []
+filled_of (x ∷ xs) = if x.filled then x ∷ filled_of xs else filled_of xs
+
+pub kept-filled : (x : Slot) (xs : List Slot) → x.filled ≡ true → filled_of (x ∷ xs) ≡ x ∷ filled_of xs
+kept-filled x xs e = ap (λ (t : Bool). if t then x ∷ filled_of xs else filled_of xs) e
+
+pub kept-empty : (x : Slot) (xs : List Slot) → x.filled ≡ false → filled_of (x ∷ xs) ≡ filled_of xs
+kept-empty x xs e = ap (λ (t : Bool). if t then x ∷ filled_of xs else filled_of xs) e
+
+pub kept-next_filled : (xs : List Slot) (k : ℕ) (d : Slot) → k < length xs → (get_or xs k d).filled ≡ true → filled_of (take (suc k) xs) ≡ filled_of (take k xs) ++ get_or xs k d ∷ []
+kept-next_filled [] k d h e = absurd (omega arith)
+kept-next_filled (x ∷ xs) zero d h e = kept-filled x [] e
+kept-next_filled (x ∷ xs) (suc k) d h e = let rest = kept-next_filled xs k d (omega arith) e in by_bool x.filled
+    (λ f. kept-filled x (take (suc k) xs) f ∙ ap (λ (l : List Slot). x ∷ l) rest ∙ sym (ap (λ (l : List Slot). l ++ get_or xs k d ∷ []) (kept-filled x (take k xs) f)))
+    (λ f. kept-empty x (take (suc k) xs) f ∙ rest ∙ sym (ap (λ (l : List Slot). l ++ get_or xs k d ∷ []) (kept-empty x (take k xs) f)))
+
+pub kept-next_empty : (xs : List Slot) (k : ℕ) (d : Slot) → k < length xs → (get_or xs k d).filled ≡ false → filled_of (take (suc k) xs) ≡ filled_of (take k xs)
+kept-next_empty [] k d h e = absurd (omega arith)
+kept-next_empty (x ∷ xs) zero d h e = kept-empty x [] e
+kept-next_empty (x ∷ xs) (suc k) d h e = let rest = kept-next_empty xs k d (omega arith) e in by_bool x.filled
+    (λ f. kept-filled x (take (suc k) xs) f ∙ ap (λ (l : List Slot). x ∷ l) rest ∙ sym (kept-filled x (take k xs) f))
+    (λ f. kept-empty x (take (suc k) xs) f ∙ rest ∙ sym (kept-empty x (take k xs) f))
+
+pub kept-push : (xs kept new : List Slot) (k : ℕ) (d : Slot) → k < length xs → (get_or xs k d).filled ≡ true → kept ≡ filled_of (take k xs) → new ≡ kept ++ get_or xs k d ∷ [] → new ≡ filled_of (take (k + 1) xs)
+kept-push xs kept new k d h f e g =
+    g ∙ ap (λ (l : List Slot). l ++ get_or xs k d ∷ []) e ∙ sym (kept-next_filled xs k d h f) ∙ sym (ap (λ (z : ℕ). filled_of (take z xs)) (add-one k))
+
+pub kept-skip : (xs kept : List Slot) (k : ℕ) (d : Slot) → k < length xs → (get_or xs k d).filled ≡ false → kept ≡ filled_of (take k xs) → kept ≡ filled_of (take (k + 1) xs)
+kept-skip xs kept k d h f e = e ∙ sym (kept-next_empty xs k d h f) ∙ sym (ap (λ (z : ℕ). filled_of (take z xs)) (add-one k))
+
+pub among-kept : (xs : List Slot) (n : ℕ) → packet_among (filled_of xs) n ≡ packet_among xs n
+among-kept [] n = refl
+among-kept (x ∷ xs) n = by_bool x.filled
+    (λ f. ap (λ (l : List Slot). packet_among l n) (kept-filled x xs f) ∙ ap (λ (t : Option Packet). if stands_at (n % 64) x then Some (packet_in n x) else t) (among-kept xs n))
+    (λ e. ap (λ (l : List Slot). packet_among l n) (kept-empty x xs e) ∙ among-kept xs n ∙ sym (first-passed x xs n (unfilled (n % 64) x e)))
+
+pub ordered-kept : (least : ℕ) (xs : List Slot) → AreOrdered least xs → AreOrdered least (filled_of xs)
+ordered-kept least [] o = tt
+ordered-kept least (x ∷ xs) o = by_bool x.filled
+    (λ f. subst (AreOrdered least) (sym (kept-filled x xs f)) (o.0, ordered-kept (x.place + 1) xs o.1))
+    (λ e. subst (AreOrdered least) (sym (kept-empty x xs e)) (ordered-from least (x.place + 1) (filled_of xs) (omega (arith, o.0)) (ordered-kept (x.place + 1) xs o.1)))
+
+pub count-kept : (xs : List Slot) → filled_among (filled_of xs) ≡ filled_among xs
+count-kept [] = refl
+count-kept (x ∷ xs) = by_bool x.filled
+    (λ f. ap filled_among (kept-filled x xs f) ∙ ap (λ (k : ℕ). one_if x.filled + k) (count-kept xs))
+    (λ e. ap filled_among (kept-empty x xs e) ∙ count-kept xs ∙ omega (arith, ap one_if e))
+
+-- ---- how many are filled
+at_most_one : (b : Bool) → one_if b ≤ 1
 at_most_one true = omega arith
 at_most_one false = omega arith
 
-pub long-cons : (first : ℕ) (x : Slot) (xs : List Slot) → length (numbers_among first (x ∷ xs)) ≡ (if is_filled x then 1 else 0) + length (numbers_among (first + 1) xs)
-long-cons first x xs = long-if (is_filled x) first (numbers_among (first + 1) xs)
+pub filled-le : (xs : List Slot) → filled_among xs ≤ length xs
+filled-le [] = omega arith
+filled-le (x ∷ xs) = omega (arith, at_most_one x.filled, filled-le xs)
 
-pub long-le : (first : ℕ) (xs : List Slot) → length (numbers_among first xs) ≤ length xs
-long-le first [] = omega arith
-long-le first (x ∷ xs) = let e = long-cons first x xs in let h = at_most_one (is_filled x) in let rest = long-le (first + 1) xs in omega arith
+pub among-none : (xs : List Slot) (n : ℕ) → filled_among xs ≡ 0 → packet_among xs n ≡ None
+among-none [] n e = refl
+among-none (x ∷ xs) n e = by_bool x.filled
+    (λ f. absurd (omega (arith, ap one_if f)))
+    (λ h. first-passed x xs n (unfilled (n % 64) x h) ∙ among-none xs n (omega (arith, ap one_if h)))
 
-pub long-push : (first : ℕ) (xs : List Slot) (s : Slot) → length (numbers_among first (xs ++ s ∷ [])) ≡ length (numbers_among first xs) + (if is_filled s then 1 else 0)
-long-push first [] s = let e = long-cons first s [] in omega arith
-long-push first (x ∷ xs) s = let e = long-cons first x (xs ++ s ∷ []) in let f = long-cons first x xs in let rest = long-push (first + 1) xs s in omega arith
-
-pub long-emptied : (first : ℕ) (xs : List Slot) (k : ℕ) (d : Slot) → k < length xs → length (numbers_among first (set xs k Empty)) + (if is_filled (get_or xs k d) then 1 else 0) ≡ length (numbers_among first xs)
-long-emptied first [] k d h = absurd (omega arith)
-long-emptied first (x ∷ xs) zero d h = let e = long-cons first x xs in omega arith
-long-emptied first (x ∷ xs) (suc k) d h = let e = long-cons first x (set xs k Empty) in let f = long-cons first x xs in let rest = long-emptied (first + 1) xs k d (omega arith) in omega arith
-
-pub push-long : (first : ℕ) (xs : List Slot) (s : Slot) (b : Bool) → b ≡ is_filled s → length (numbers_among first (xs ++ s ∷ [])) ≡ length (numbers_among first xs) + (if b then 1 else 0)
-push-long first xs s b e = long-push first xs s ∙ ap (λ (t : Bool). length (numbers_among first xs) + (if t then 1 else 0)) (sym e)
-
-some-filled : (n : ℕ) (s : Slot) → is_some (packet_in n s) ≡ is_filled s
-some-filled n Empty = refl
-some-filled n (Filled version proto sport dport source target class len moment) = refl
-
-pub one-less : (first : ℕ) (xs : List Slot) (k : ℕ) (s : Slot) (n : ℕ) (p : Packet) → k < length xs → s ≡ get_or xs k s → Some p ≡ packet_in n s → length (numbers_among first (set xs k Empty)) + 1 ≡ length (numbers_among first xs)
-one-less first xs k s n p h at e =
-    let full : true ≡ is_filled (get_or xs k s) = ap is_some e ∙ some-filled n s ∙ ap is_filled at in
-    ap (λ (t : Bool). length (numbers_among first (set xs k Empty)) + (if t then 1 else 0)) full ∙ long-emptied first xs k s h
-
--- ---- which they are
-pub numbered : (n : ℕ) (s : Slot) → IfSome (packet_in n s) (λ p. p.number ≡ n)
-numbered n Empty = tt
-numbered n (Filled version proto sport dport source target class len moment) = refl
-
-pub empty-none : (n : ℕ) (s : Slot) → is_filled s ≡ false → packet_in n s ≡ None
-empty-none n Empty h = refl
-empty-none n (Filled version proto sport dport source target class len moment) h = absurd (true≢false h)
-
-either-filled : (b t : Bool) (p : Packet) (o : Option Packet) → t ≡ is_some o → (b || t) ≡ is_some (if b then Some p else o)
-either-filled true t p o e = refl
-either-filled false t p o e = e
-
-either-empty : (b t : Bool) (o : Option Packet) → t ≡ is_some o → (b ≡ true → o ≡ None) → t ≡ is_some (if b then None else o)
-either-empty true t o e h = e ∙ ap is_some (h refl)
-either-empty false t o e h = e
-
-pub any-among : (first : ℕ) (xs : List Slot) (n : ℕ) → list_any (nat_eq n) (numbers_among first xs) ≡ is_some (packet_among first xs n)
-any-among first [] n = refl
-any-among first (Empty ∷ xs) n = either-empty (nat_eq n first) (list_any (nat_eq n) (numbers_among (first + 1) xs)) (packet_among (first + 1) xs n) (any-among (first + 1) xs n)
-    (λ (e : nat_eq n first ≡ true). let same : n ≡ first = eqb-true n first e in among-before (first + 1) xs n (omega arith))
-any-among first (Filled version proto sport dport source target class len moment ∷ xs) n =
-    either-filled (nat_eq n first) (list_any (nat_eq n) (numbers_among (first + 1) xs)) _ (packet_among (first + 1) xs n) (any-among (first + 1) xs n)
-
--- ---- each once
-or_false : (a b : Bool) → (a || b) ≡ false → (a ≡ false) × (b ≡ false)
-or_false true b h = absurd (true≢false h)
-or_false false b h = (refl, h)
-
-none-pass : (test : ℕ → Bool) (ys : List ℕ) → list_any test ys ≡ false → AllByRecursion (λ y. test y ≡ false) ys
-none-pass test [] h = tt
-none-pass test (y ∷ ys) h = let both = or_false (test y) (list_any test ys) h in (both.0, none-pass test ys both.1)
-
-later : (first : ℕ) (x : Slot) (xs : List Slot) (n : ℕ) → is_some (packet_among (first + 1) xs n) ≡ true → is_some (packet_among first (x ∷ xs) n) ≡ true
-later first x xs n s = split n first
-    (λ (same : n ≡ first). absurd (true≢false (sym s ∙ ap is_some (among-before (first + 1) xs n (omega arith)))))
-    (λ (other : n ≢ first). ap is_some (if_other n first (packet_in n x) (packet_among (first + 1) xs n) other) ∙ s)
-
-pub distinct-before : (first : ℕ) (xs : List Slot) (ks : List ℕ) → IsDistinct nat_eq ks → ((n : ℕ) → is_some (packet_among first xs n) ≡ true → list_any (nat_eq n) ks ≡ false) → IsDistinct nat_eq (numbers_among first xs ++ ks)
-distinct-before first [] ks d h = d
-distinct-before first (Empty ∷ xs) ks d h = distinct-before (first + 1) xs ks d (λ n s. h n (later first Empty xs n s))
-distinct-before first (Filled version proto sport dport source target class len moment ∷ xs) ks d h =
-    let x = Filled version proto sport dport source target class len moment in
-    let here : list_any (nat_eq first) (numbers_among (first + 1) xs) ≡ false = any-among (first + 1) xs first ∙ ap is_some (among-before (first + 1) xs first (omega arith)) in
-    let there : list_any (nat_eq first) ks ≡ false = h first (ap is_some (if_same first first (packet_in first x) (packet_among (first + 1) xs first) refl)) in
-    IsDistinct-cons nat_eq first (numbers_among (first + 1) xs ++ ks)
-    (none-pass (nat_eq first) (numbers_among (first + 1) xs ++ ks) (list_any-append (nat_eq first) (numbers_among (first + 1) xs) ks ∙ ap₂ ◌||◌ here there))
-    (distinct-before (first + 1) xs ks d (λ n s. h n (later first x xs n s)))
+-- ---- a packet that is found has the number
+pub named : (xs : List Slot) (n : ℕ) → IfSome (packet_among xs n) (λ p. p.number ≡ n)
+named [] n = tt
+named (x ∷ xs) n = by_bool (stands_at (n % 64) x)
+    (λ e. subst (λ (o : Option Packet). IfSome o (λ p. p.number ≡ n)) (sym (first-stands x xs n e)) refl)
+    (λ e. subst (λ (o : Option Packet). IfSome o (λ p. p.number ≡ n)) (sym (first-passed x xs n e)) (named xs n))

@@ -1,3 +1,4 @@
 pub mod Slots
+pub mod Chunks
 pub mod Windows
 pub mod Held

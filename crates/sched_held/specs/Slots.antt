@@ -1,34 +1,42 @@
 -- What stands in slots.
-use Rattle.std.specs.Prelude.{ℕ, ◌+◌, ◌<◌, ◌^◌, ◌==◌, Bool, true, false, if◌then◌else◌, Option, None, Some, List, [], ◌∷◌}
+use Rattle.std.specs.Prelude.{ℕ, ◌+◌, ◌<◌, ◌%◌, ◌^◌, ◌==◌, nat_le, Bool, true, ◌&&◌, if◌then◌else◌, Option, None, Some, List, [], ◌∷◌}
 use Rattle.packet_defs.specs.declared.packet.Packet.{Packet}
 use Rattle.sched_held.specs.declared.slot.Slot.{Slot}
-use Rattle.sched_held.specs.declared.slot.Slot.TheVariants.{Empty, Filled}
 
 -- neither address of its flow has more than 32 bits
 abbrev pub IsBrief : Packet → Type 0
 IsBrief p = (p.flow.source < 2 ^ 32) × (p.flow.target < 2 ^ 32)
 
--- the packet that stands in the slot of a number
-abbrev pub packet_in : ℕ → Slot → Option Packet
-packet_in n Empty = None
-packet_in n (Filled version proto sport dport source target class len moment) = Some (record {
+-- the packet in a slot, under its number
+abbrev pub packet_in : ℕ → Slot → Packet
+packet_in n slot = record {
   number = n;
-  class = class;
-  len = len;
-  moment = moment;
-  flow = record { version = version; source = source; target = target; proto = proto; sport = sport; dport = dport };
-})
+  class = slot.class;
+  len = slot.len;
+  moment = slot.moment;
+  flow = record { version = slot.version; source = slot.source; target = slot.target; proto = slot.proto; sport = slot.sport; dport = slot.dport };
+}
 
-abbrev pub is_filled : Slot → Bool
-is_filled Empty = false
-is_filled (Filled version proto sport dport source target class len moment) = true
+-- a packet stands in the slot, and the place is its number's
+abbrev pub stands_at : ℕ → Slot → Bool
+stands_at place slot = (slot.place == place) && slot.filled
 
--- the packet that stands under a number in slots for the numbers from the first on
-abbrev pub packet_among : ℕ → List Slot → ℕ → Option Packet
-packet_among first [] n = None
-packet_among first (slot ∷ slots) n = if n == first then packet_in n slot else packet_among (first + 1) slots n
+-- the packet that stands under a number in slots of one chunk
+abbrev pub packet_among : List Slot → ℕ → Option Packet
+packet_among [] n = None
+packet_among (slot ∷ slots) n = if stands_at (n % 64) slot then Some (packet_in n slot) else packet_among slots n
 
--- the numbers of the packets that stand there
-abbrev pub numbers_among : ℕ → List Slot → List ℕ
-numbers_among first [] = []
-numbers_among first (slot ∷ slots) = if is_filled slot then first ∷ numbers_among (first + 1) slots else numbers_among (first + 1) slots
+-- how many packets stand there
+abbrev pub filled_among : List Slot → ℕ
+filled_among [] = 0
+filled_among (slot ∷ slots) = (if slot.filled then 1 else 0) + filled_among slots
+
+-- the places of the slots grow, and none is before the least
+abbrev pub are_ordered : ℕ → List Slot → Bool
+are_ordered least [] = true
+are_ordered least (slot ∷ slots) = nat_le least slot.place && are_ordered (slot.place + 1) slots
+
+-- the place behind those of all slots, from the least on
+abbrev pub place_behind : ℕ → List Slot → ℕ
+place_behind least [] = least
+place_behind least (slot ∷ slots) = place_behind (slot.place + 1) slots

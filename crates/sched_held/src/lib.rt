@@ -1,6 +1,7 @@
 //! The packets that a scheduler holds, by their numbers. Begin with src/held.rt and specs/Slots.antt.
 #![tactic(auto)]
 
+mod chunk;
 mod held;
 mod slot;
 mod window;

@@ -1,26 +1,28 @@
 //! The room that most packets take.
-ghost use Rattle.std.specs.Prelude.{◌≡◌, ◌↔◌, Some, IsSome, IfSome};
-ghost use Rattle.sched_held.specs.Slots.{packet_in, IsBrief, is_filled};
+ghost use Rattle.std.specs.Prelude.{◌≡◌, ◌↔◌, ◌%◌, Some, IsSome, IfSome, true};
+ghost use Rattle.sched_held.specs.Slots.{packet_in, IsBrief, stands_at};
 
 use packet_defs::Packet;
 use rank_defs::FlowKey;
 
-/// Where a packet may stand, or none. Its number is told by the place of the slot. The fields of few bytes come first, so that
-/// a slot takes 32.
+/// How many numbers share a chunk. The place of a number there is what is left when it is divided by the width.
+pub(crate) const WIDTH: u64 = 64;
+
+/// Where a packet may stand, with the place of its number. The rest of the number is told by the chunk. The fields of few bytes
+/// come first, so that a slot takes 32.
 #[derive(Clone, Copy)]
-pub enum Slot {
-    Empty,
-    Filled {
-        version: u8,
-        proto: u8,
-        sport: u16,
-        dport: u16,
-        source: u32,
-        target: u32,
-        class: u32,
-        len: u32,
-        moment: u64,
-    },
+pub struct Slot {
+    pub(crate) filled: bool,
+    pub(crate) place: u8,
+    version: u8,
+    proto: u8,
+    sport: u16,
+    dport: u16,
+    source: u32,
+    target: u32,
+    class: u32,
+    len: u32,
+    moment: u64,
 }
 
 const _: () = prove!(size_of::<Slot>() == 32);
@@ -28,7 +30,9 @@ const _: () = prove!(size_of::<Slot>() == 32);
 impl Slot {
     /// A slot with a packet whose addresses have at most 32 bits.
     pub(crate) fn of(packet: &Packet) -> Option<Slot>
-        ensures packet { IfSome result (λ slot. packet_in packet.now.number slot ≡ Some packet.now) }
+        ensures packet { IfSome result (λ slot. packet_in packet.now.number slot ≡ packet.now) }
+        ensures place { IfSome result (λ slot. slot.place ≡ packet.now.number % 64) }
+        ensures filled { IfSome result (λ slot. slot.filled ≡ true) }
         ensures brief { IsSome result ↔ IsBrief packet.now }
     {
         let flow = packet.flow;
@@ -36,7 +40,9 @@ impl Slot {
         else {
             return None;
         };
-        Some(Slot::Filled {
+        Some(Slot {
+            filled: true,
+            place: (packet.number % WIDTH) as u8,
             version: flow.version,
             proto: flow.proto,
             sport: flow.sport,
@@ -49,45 +55,30 @@ impl Slot {
         })
     }
 
-    /// The packet in the slot of a number.
-    pub(crate) fn packet(self, number: u64) -> Option<Packet>
-        ensures { result ≡ packet_in number self }
+    /// The packet in a slot, under its number.
+    pub(crate) fn packet(&self, number: u64) -> Packet
+        ensures { result ≡ packet_in number self.now }
     {
-        match self {
-            Slot::Empty => None,
-            Slot::Filled {
-                version,
-                proto,
-                sport,
-                dport,
-                source,
-                target,
-                class,
-                len,
-                moment,
-            } => Some(Packet {
-                number,
-                class,
-                len,
-                moment,
-                flow: FlowKey {
-                    version,
-                    source: u128::from(source),
-                    target: u128::from(target),
-                    proto,
-                    sport,
-                    dport,
-                },
-            }),
+        Packet {
+            number,
+            class: self.class,
+            len: self.len,
+            moment: self.moment,
+            flow: FlowKey {
+                version: self.version,
+                source: u128::from(self.source),
+                target: u128::from(self.target),
+                proto: self.proto,
+                sport: self.sport,
+                dport: self.dport,
+            },
         }
     }
 
-    pub(crate) fn is_filled(self) -> bool
-        ensures { result ≡ is_filled self }
+    /// Whether a packet stands here whose number has a place.
+    pub(crate) fn is_at(&self, place: u8) -> bool
+        ensures { result ≡ stands_at place self.now }
     {
-        match self {
-            Slot::Empty => false,
-            Slot::Filled { .. } => true,
-        }
+        self.place == place && self.filled
     }
 }

@@ -1,28 +1,35 @@
 //! Slots for packets whose numbers follow each other.
-ghost use Rattle.std.specs.Prelude.{◌≡◌, ◌==◌, ◌≤◌, ◌<◌, ◌+◌, ◌-◌, ◌^◌, ℕ, None, length, IsTrue, IfSome, if◌then◌else◌, is_ok, OnOk, OnErr};
+ghost use Rattle.std.specs.Prelude.{◌≡◌, ◌==◌, ◌&&◌, ◌≤◌, ◌<◌, ◌+◌, ◌/◌, ◌^◌, ℕ, None, Some, length, if◌then◌else◌, IfSome, IfNone, IsSome, IfOk, OnOk, OnErr};
+ghost use Rattle.std.proofs.Props.{props};
 ghost use Rattle.std.specs.VecDeque.{deque_len};
 ghost use Rattle.sched_defs.specs.SourceState.{without};
-ghost use Rattle.sched_held.specs.Slots.{packet_in, numbers_among};
+ghost use Rattle.sched_held.specs.Chunks.{packet_within, numbers_below};
 
-use crate::slot::Slot;
+use crate::chunk::Chunk;
+use crate::slot::{Slot, WIDTH};
 use packet_defs::Packet;
 use std::alloc::{AllocError, Global};
 use std::collections::VecDeque;
 
-/// How many slots may be empty whatever the number of packets.
+/// How many numbers may have no packet whatever the number of packets.
 const SPARE: u64 = 4096;
 
-/// For how many slots there is room at least where room is made.
-const LEAST: usize = 1024;
+/// How many chunks at the end keep their empty slots. Of the packets that don't stay, most have left by the time that so many
+/// others came.
+const OPEN: usize = 4;
 
-/// The slots for the numbers from `first` on, one a number, of which so many are filled.
+/// The chunks for the numbers from 64 `first` on, in which so many packets stand. Their numbers are below the end.
 #[derive(Drop)]
 pub struct Window {
     first: u64,
-    slots: VecDeque<Slot>,
+    chunks: VecDeque<Chunk>,
+    end: u64,
     filled: u64,
-    ghost ends: { first + deque_len slots < 2 ^ 64 },
-    ghost counted: { filled ≡ length (numbers_among first slots.items) },
+    alloc: Global,
+    ghost low: { first + deque_len chunks ≤ 2 ^ 57 },
+    ghost ends: { end ≤ 2 ^ 63 },
+    ghost behind: { (n : ℕ) → end ≤ n → packet_within first chunks.items n ≡ None } by { Prim.hlevel props },
+    ghost counted: { filled ≡ length (numbers_below (packet_within first chunks.items) end) },
 }
 
 impl Window {
@@ -33,123 +40,157 @@ impl Window {
     {
         Window {
             first: 0,
-            slots: VecDeque::new(alloc),
+            chunks: VecDeque::new(alloc),
+            end: 0,
             filled: 0,
+            alloc,
         }
     }
 
-    /// The number behind that of the last slot.
+    /// The number behind the last one so far.
     pub(crate) fn end(&self) -> u64
         ensures { result ≡ end_of self.now }
     {
-        self.first + self.slots.len() as u64
+        self.end
     }
 
-    /// How many packets stand in slots.
+    /// How many packets stand here.
     pub(crate) fn filled(&self) -> u64
         ensures numbers { result ≡ length (numbers_of self.now) }
-        ensures small { result < 2 ^ 63 }
+        ensures small { result ≤ 2 ^ 63 }
     {
         self.filled
     }
 
-    /// Whether two thirds of the slots before that of a number would be empty, or more. A stray takes the room of three slots.
-    pub(crate) fn is_sparse(&self, number: u64) -> bool
-        ensures { IsTrue result → 0 < deque_len self.now.slots }
+    /// Which chunk is that of a number.
+    fn place(&self, number: u64) -> Option<usize>
+        ensures within { IfSome result (λ i. i < deque_len self.now.chunks) }
+        ensures chunk { IfSome result (λ i. number / 64 ≡ self.now.first + i) }
+        ensures none { IfNone result (packet_at self.now number ≡ None) }
     {
-        !self.slots.is_empty()
-            && number.saturating_sub(self.first)
-                >= self.filled.saturating_mul(3).saturating_add(SPARE)
-    }
-
-    /// One slot more.
-    pub(crate) fn push(&mut self, slot: Slot) -> Result<(), AllocError>
-        requires room { end_of self.old + 1 < 2 ^ 64 }
-        ensures ok { OnOk result
-            ((n : ℕ) → packet_at self.new n ≡ (if n == end_of self.old then packet_in n slot else packet_at self.old n)) }
-        ensures end { end_of self.new ≡ end_of self.old + (if is_ok result then 1 else 0) }
-        ensures err { OnErr result ((n : ℕ) → packet_at self.new n ≡ packet_at self.old n) }
-    {
-        self.slots.push_back(slot)?;
-        if slot.is_filled() {
-            self.filled += 1;
-        }
-        Ok(())
-    }
-
-    /// Room for a slot more. Where there is none, a quarter of the slots is added and not as many again: in their turn the first
-    /// slots are let go of and others come behind, so that all of the room is touched.
-    fn make_room(&mut self) -> Result<(), AllocError>
-        ensures packets { (n : ℕ) → packet_at self.new n ≡ packet_at self.old n }
-        ensures end { end_of self.new ≡ end_of self.old }
-    {
-        let len = self.slots.len();
-        if len == self.slots.capacity() {
-            self.slots.reserve_exact((len / 4).saturating_add(LEAST))?;
-        }
-        Ok(())
-    }
-
-    /// Empty slots up to a number. Where there is no slot the next is that of the number.
-    pub(crate) fn stretch(&mut self, number: u64) -> Result<(), AllocError>
-        requires behind { end_of self.old ≤ number }
-        ensures end { OnOk result (end_of self.new ≡ number) }
-        ensures near { end_of self.old ≤ end_of self.new }
-        ensures far { end_of self.new ≤ number }
-        ensures packets { (n : ℕ) → packet_at self.new n ≡ packet_at self.old n }
-    {
-        if self.slots.is_empty() {
-            self.first = number;
-            return Ok(());
-        }
-        self.make_room()?;
-        while self.end() < number {
-            self.push(Slot::Empty)?;
-        }
-        Ok(())
-    }
-
-    /// The packet in the first slot.
-    pub(crate) fn front(&self) -> Option<Packet>
-        ensures packet { result ≡ packet_at self.now self.now.first }
-        ensures number { IfSome result (λ p. p.number ≡ self.now.first) }
-    {
-        if self.slots.is_empty() {
+        let chunk = number / WIDTH;
+        if chunk < self.first {
             return None;
         }
-        self.slots[0].packet(self.first)
+        let i = (chunk - self.first) as usize;
+        if i < self.chunks.len() { Some(i) } else { None }
     }
 
-    /// Lets go of the first slot.
-    pub(crate) fn pop(&mut self)
-        requires some { 0 < deque_len self.old.slots }
-        ensures packets { (n : ℕ) → packet_at self.new n ≡ without (packet_at self.old) self.old.first n }
-        ensures end { end_of self.new ≡ end_of self.old }
-        ensures fewer { deque_len self.new.slots < deque_len self.old.slots }
+    /// The packet of a number.
+    fn packet(&self, number: u64) -> Option<Packet>
+        ensures { result ≡ packet_at self.now number }
     {
-        if let Some(slot) = self.slots.pop_front() {
-            self.first += 1;
-            if slot.is_filled() {
-                self.filled -= 1;
-            }
+        let i = self.place(number)?;
+        self.chunks[i].packet(number)
+    }
+
+    /// The first packet.
+    fn front(&self) -> Option<Packet>
+        ensures { IfSome result (λ p. packet_at self.now p.number ≡ Some p) }
+    {
+        let chunk = self.chunks.front()?;
+        self.packet((self.first * WIDTH).saturating_add(u64::from(chunk.first())))
+    }
+
+    /// The first packet, if two thirds of the numbers up to one have no packet here, or more. A stray takes the room of three
+    /// slots.
+    pub(crate) fn outlier(&self, number: u64) -> Option<Packet>
+        ensures { IfSome result (λ p. packet_at self.now p.number ≡ Some p) }
+    {
+        let span = number.saturating_sub(self.first * WIDTH);
+        if self.filled == 0 || span < self.filled.saturating_mul(3).saturating_add(SPARE) {
+            return None;
+        }
+        self.front()
+    }
+
+    /// A packet more, if its addresses are short, and whether it stands here now.
+    pub(crate) fn push(&mut self, packet: &Packet) -> Result<bool, AllocError>
+        requires below { packet.now.number < end_of self.old }
+        requires free { packet_at self.old packet.now.number ≡ None }
+        ensures ok { IfOk result (λ stands. (n : ℕ) → packet_at self.new n
+            ≡ (if stands && (n == packet.now.number) then Some packet.now else packet_at self.old n)) }
+        ensures err { OnErr result ((n : ℕ) → packet_at self.new n ≡ packet_at self.old n) }
+        ensures end { end_of self.new ≡ end_of self.old }
+    {
+        let Some(slot) = Slot::of(packet) else {
+            return Ok(false);
+        };
+        let Some(i) = self.place(packet.number) else {
+            return Ok(false);
+        };
+        let stands = self.chunks[i].push(slot)?;
+        if stands {
+            self.filled += 1;
+        }
+        Ok(stands)
+    }
+
+    /// Lets go of the empty slots of the chunk that is no more one of those at the end where a chunk comes.
+    fn settle(&mut self) -> Result<(), AllocError>
+        ensures packets { (n : ℕ) → packet_at self.new n ≡ packet_at self.old n }
+        ensures end { end_of self.new ≡ end_of self.old }
+        ensures first { self.new.first ≡ self.old.first }
+        ensures len { deque_len self.new.chunks ≡ deque_len self.old.chunks }
+    {
+        let len = self.chunks.len();
+        if len < OPEN {
+            return Ok(());
+        }
+        self.chunks[len - OPEN].shrink(self.alloc)
+    }
+
+    /// One chunk more.
+    fn add_chunk(&mut self) -> Result<(), AllocError>
+        requires low { self.old.first + deque_len self.old.chunks < 2 ^ 57 }
+        ensures packets { (n : ℕ) → packet_at self.new n ≡ packet_at self.old n }
+        ensures end { end_of self.new ≡ end_of self.old }
+        ensures first { self.new.first ≡ self.old.first }
+        ensures more { OnOk result (deque_len self.new.chunks ≡ deque_len self.old.chunks + 1) }
+    {
+        self.settle()?;
+        self.chunks.push_back(Chunk::new(self.alloc))?;
+        Ok(())
+    }
+
+    /// Begins anew with a chunk behind all others, where no packet stands here.
+    fn restart(&mut self, chunk: u64)
+        requires low { chunk < 2 ^ 57 }
+        ensures packets { (n : ℕ) → packet_at self.new n ≡ packet_at self.old n }
+        ensures end { end_of self.new ≡ end_of self.old }
+    {
+        if self.filled == 0 && self.first + self.chunks.len() as u64 <= chunk {
+            self.chunks.clear();
+            self.first = chunk;
         }
     }
 
-    /// Empties the slot of a number. If a packet stood there, lets go of the empty slots before all others.
+    /// Chunks up to that of a number, which is the last one then.
+    pub(crate) fn stretch(&mut self, number: u64) -> Result<(), AllocError>
+        requires behind { end_of self.old ≤ number }
+        requires low { number < 2 ^ 63 }
+        ensures end { OnOk result (end_of self.new ≡ number + 1) }
+        ensures near { end_of self.old ≤ end_of self.new }
+        ensures packets { (n : ℕ) → packet_at self.new n ≡ packet_at self.old n }
+    {
+        let last = number / WIDTH;
+        self.restart(last);
+        while self.first + self.chunks.len() as u64 <= last {
+            self.add_chunk()?;
+        }
+        self.end = number + 1;
+        Ok(())
+    }
+
+    /// Lets go of the packet of a number, and of the empty chunks before all others.
     pub(crate) fn clear(&mut self, number: u64) -> Option<Packet>
         ensures value { result ≡ packet_at self.old number }
         ensures packets { (n : ℕ) → packet_at self.new n ≡ without (packet_at self.old) number n }
         ensures end { end_of self.new ≡ end_of self.old }
+        ensures fewer { IsSome result → self.new.filled < self.old.filled }
     {
-        if number < self.first || self.end() <= number {
-            return None;
-        }
-        let i = (number - self.first) as usize;
-        let slot = self.slots[i];
-        let Some(packet) = slot.packet(number) else {
-            return None;
-        };
-        self.slots[i] = Slot::Empty;
+        let i = self.place(number)?;
+        let packet = self.chunks[i].take(number)?;
         self.filled -= 1;
         self.trim();
         Some(packet)
@@ -158,9 +199,11 @@ impl Window {
     fn trim(&mut self)
         ensures packets { (n : ℕ) → packet_at self.new n ≡ packet_at self.old n }
         ensures end { end_of self.new ≡ end_of self.old }
+        ensures filled { self.new.filled ≡ self.old.filled }
     {
-        while !self.slots.is_empty() && self.front().is_none() {
-            self.pop();
+        while self.chunks.len() > 1 && self.chunks[0].is_empty() {
+            self.chunks.pop_front();
+            self.first += 1;
         }
     }
 }

@@ -5,10 +5,10 @@ use Rattle.std.proofs.lemmas.Map.Entries.{length-keys_of}
 use Rattle.std.proofs.lemmas.Map.Made.{is_some-lookup}
 use Rattle.std.proofs.lemmas.Map.Views.{Contains-from_any, list_any-from_Contains, exact_unsigned_eq}
 use Rattle.indexmap.specs.IndexMap.{get, keys}
-use Rattle.sched_held.specs.Slots.{packet_among, numbers_among}
+use Rattle.sched_held.specs.Chunks.{packet_within, numbers_below}
 use Rattle.sched_held.specs.Windows.{packet_at, numbers_of}
 use Rattle.sched_held.specs.Held.{held_at, numbers_in}
-use Rattle.sched_held.proofs.SlotLaws.{any-among, distinct-before}
+use Rattle.sched_held.proofs.NumberLaws.{any-found, distinct-below}
 use Rattle.sched_held.proofs.HeldNumbers.{is_some-or_stray}
 use Rattle.sched_held.proofs.held.Held.len.Goals as goal
 
@@ -22,13 +22,13 @@ pub returns-clause-numbers : goal.returns-clause-numbers
 unfolding numbers_in numbers_of held_at packet_at
 returns-clause-numbers c =
     let h = c.args.self.now in
-    let first = h.window.first in
-    let slots = h.window.slots.items in
-    let numbers = numbers_among first slots ++ keys h.strays in
-    let found = λ (n : ℕ). list_any-append (nat_eq n) (numbers_among first slots) (keys h.strays)
-    ∙ ap₂ ◌||◌ (any-among first slots n) (sym (is_some-lookup (nat_eq n) h.strays.entries))
-    ∙ sym (is_some-or_stray (packet_among first slots n) (get nat_eq h.strays n)) in
+    let w = h.window in
+    let at = packet_within w.first w.chunks.items in
+    let numbers = numbers_below at w.end ++ keys h.strays in
+    let found = λ (n : ℕ). list_any-append (nat_eq n) (numbers_below at w.end) (keys h.strays)
+    ∙ ap₂ ◌||◌ (any-found at w.end n w.behind) (sym (is_some-lookup (nat_eq n) h.strays.entries))
+    ∙ sym (is_some-or_stray (at n) (get nat_eq h.strays n)) in
     record {
-      distinct = distinct-before first slots (keys h.strays) c.len.ensures.unique (λ n some. sym (is_some-lookup (nat_eq n) h.strays.entries) ∙ ap is_some (h.apart n some));
+      distinct = distinct-below at w.end (keys h.strays) c.len.ensures.unique (λ n some. sym (is_some-lookup (nat_eq n) h.strays.entries) ∙ ap is_some (h.apart n some));
       each = λ n. ((λ within. sym (found n) ∙ list_any-from_Contains nat_eq_equiv n numbers within), (λ some. Contains-from_any exact_unsigned_eq n numbers (found n ∙ some)));
     }

@@ -1,4 +1,4 @@
-use Rattle.std.proofs.Common.{ℕ, nat_eq, List, ap}
+use Rattle.std.proofs.Common.{ℕ, nat_eq, List, is_some, ap, ◌∙◌}
 use Rattle.std.specs.Map.{lookup}
 use Rattle.std.proofs.lemmas.Result.{err_from_is_err_and}
 use Rattle.indexmap.specs.IndexMap.{get}
@@ -20,3 +20,6 @@ returns-clause-ok c = λ n.
     let h = c.args.self.now in
     let p = c.args.packet.now in
     put-beside n p.number p (packet_at h.window n) (packet_at c.clear.new.self n) (get nat_eq h.strays n) (get nat_eq c.insert.new.self n) (c.clear.ensures.packets n) (c.in_ok-insert.ensures.updates.0 n)
+
+pub returns-clause-fewer : goal.returns-clause-fewer
+returns-clause-fewer c = λ some. c.clear.ensures.fewer (ap is_some c.clear.ensures.value ∙ some)

@@ -1,71 +1,108 @@
-use Rattle.std.proofs.Common.{◌≡◌, ◌<◌, ◌-◌, ℕ, None, length, sym, ap, ◌∙◌, arith}
-use Rattle.sched_held.specs.Slots.{packet_in}
+use Rattle.std.proofs.Common.{◌≡◌, ◌<◌, ◌==◌, if◌then◌else◌, ℕ, true, None, is_some, length, set, sym, ap, ◌∙◌, arith}
+use Rattle.sched_held.specs.Chunks.{packet_within}
 use Rattle.sched_held.specs.Windows.{packet_at}
-use Rattle.sched_held.proofs.SlotLaws.{among-before, among-behind, among-same, among-at, among-emptied, one-less}
+use Rattle.sched_held.proofs.SlotLaws.{split, if_same, if_other}
+use Rattle.sched_held.proofs.ChunkLaws.{taken, told}
+use Rattle.sched_held.proofs.NumberLaws.{below-same, below-without, found-below}
 use Rattle.sched_held.proofs.window.Window.clear.Goals as goal
-use Rattle.sched_held.proofs.window.Window.clear.Goals.{then-number-self-via-then-number-self, then-number-self-via-else-number-self+then-end-number}
-
-pub returns-then-number-self-clause-value : goal.returns-then-number-self-clause-value
-unfolding packet_at
-returns-then-number-self-clause-value c =
-    let w = c.args.self.now in
-    elim c.then-number-self.branch [ then-number-self-via-then-number-self b ↦ sym (among-before w.first w.slots.items c.args.number b.if-number-self.true) | then-number-self-via-else-number-self+then-end-number b ↦ sym (among-behind w.first w.slots.items c.args.number (omega (arith, b.end.ensures, b.if-end-number.true, w.slots.ok))) ]
-
-pub returns-then-number-self-clause-packets : goal.returns-then-number-self-clause-packets
-unfolding packet_at
-returns-then-number-self-clause-packets c = λ n.
-    let w = c.args.self.now in
-    among-same w.first w.slots.items c.args.number n
-    (elim c.then-number-self.branch [ then-number-self-via-then-number-self b ↦ among-before w.first w.slots.items c.args.number b.if-number-self.true | then-number-self-via-else-number-self+then-end-number b ↦ among-behind w.first w.slots.items c.args.number (omega (arith, b.end.ensures, b.if-end-number.true, w.slots.ok)) ])
-
-pub returns-in_default-clause-value : goal.returns-in_default-clause-value
-unfolding packet_at
-returns-in_default-clause-value c =
-    let w = c.args.self.now in
-    let slot = c.index-slot.result.now in
-    let i : ℕ = c.args.number - w.first in
-    let within : i < length w.slots.items = omega (arith, c.end.ensures, c.if-end-number.false, c.if-number-self.false, w.slots.ok) in
-    let none : packet_in c.args.number slot ≡ None = cc in
-    sym (among-at w.first w.slots.items i slot c.args.number within (omega (arith, c.if-number-self.false)) ∙ sym (ap (packet_in c.args.number) c.index-slot.ensures) ∙ none)
-
-pub returns-in_default-clause-packets : goal.returns-in_default-clause-packets
-unfolding packet_at
-returns-in_default-clause-packets c = λ n.
-    let w = c.args.self.now in
-    let slot = c.index-slot.result.now in
-    let i : ℕ = c.args.number - w.first in
-    let within : i < length w.slots.items = omega (arith, c.end.ensures, c.if-end-number.false, c.if-number-self.false, w.slots.ok) in
-    let none : packet_in c.args.number slot ≡ None = cc in
-    among-same w.first w.slots.items c.args.number n (among-at w.first w.slots.items i slot c.args.number within (omega (arith, c.if-number-self.false)) ∙ sym (ap (packet_in c.args.number) c.index-slot.ensures) ∙ none)
-
-pub overflow_sub-self : goal.overflow_sub-self
-overflow_sub-self c =
-    let w = c.args.self.now in
-    let i : ℕ = c.args.number - w.first in
-    let within : i < length w.slots.items = omega (arith, c.end.ensures, c.if-end-number.false, c.if-number-self.false, w.slots.ok) in
-    let less = one-less w.first w.slots.items i c.index-slot.result.now c.args.number c.in-Some.packet within c.index-slot.ensures c.in-Some.ensures in
-    omega (arith, w.counted, less)
 
 pub invariant_of-self : goal.invariant_of-self
 invariant_of-self c =
     let w = c.args.self.now in
-    let i : ℕ = c.args.number - w.first in
-    let within : i < length w.slots.items = omega (arith, c.end.ensures, c.if-end-number.false, c.if-number-self.false, w.slots.ok) in
-    let less = one-less w.first w.slots.items i c.index-slot.result.now c.args.number c.in-Some.packet within c.index-slot.ensures c.in-Some.ensures in
-    record { ends = w.ends; counted = omega (arith, w.counted, less) }
+    let m = c.args.number in
+    let i = c.in_ok-i.i in
+    let d = c.index_mut.result.now in
+    let new = c.take.new.self in
+    let within : i < length w.chunks.items = omega (arith, c.in_ok-i.ensures.within, w.chunks.ok) in
+    let none : packet_within w.first w.chunks.items m ≡ None = sym (c.in_err-packet.ensures.value ∙ told w.first w.chunks.items i d m within c.in_ok-i.ensures.chunk c.index_mut.ensures.value) in
+    let same : (n : ℕ) → packet_within w.first (set w.chunks.items i new) n ≡ packet_within w.first w.chunks.items n
+    = λ n. taken w.first w.chunks.items i d new m n within c.in_ok-i.ensures.chunk c.index_mut.ensures.value (c.in_err-packet.ensures.rest n)
+    ∙ split n m (λ one. if_same n m None (packet_within w.first w.chunks.items n) one ∙ sym (ap (packet_within w.first w.chunks.items) one ∙ none)) (λ other. if_other n m None (packet_within w.first w.chunks.items n) other) in
+    record {
+      low = w.low;
+      ends = w.ends;
+      behind = λ n far. same n ∙ w.behind n far;
+      counted = w.counted ∙ sym (ap length (below-same (packet_within w.first (set w.chunks.items i new)) (packet_within w.first w.chunks.items) w.end (λ n l. same n)));
+    }
+
+pub returns-in_err-packet-clause-value : goal.returns-in_err-packet-clause-value
+unfolding packet_at
+returns-in_err-packet-clause-value c =
+    let w = c.args.self.now in
+    let within : c.in_ok-i.i < length w.chunks.items = omega (arith, c.in_ok-i.ensures.within, w.chunks.ok) in
+    c.from_residual-in_err-packet.ensures ∙ c.in_err-packet.ensures.value ∙ told w.first w.chunks.items c.in_ok-i.i c.index_mut.result.now c.args.number within c.in_ok-i.ensures.chunk c.index_mut.ensures.value
+
+pub returns-in_err-packet-clause-packets : goal.returns-in_err-packet-clause-packets
+unfolding packet_at
+returns-in_err-packet-clause-packets c = λ n.
+    let w = c.args.self.now in
+    let within : c.in_ok-i.i < length w.chunks.items = omega (arith, c.in_ok-i.ensures.within, w.chunks.ok) in
+    taken w.first w.chunks.items c.in_ok-i.i c.index_mut.result.now c.take.new.self c.args.number n within c.in_ok-i.ensures.chunk c.index_mut.ensures.value (c.in_err-packet.ensures.rest n)
+
+pub overflow_sub-self : goal.overflow_sub-self
+overflow_sub-self c =
+    let w = c.args.self.now in
+    let m = c.args.number in
+    let i = c.in_ok-i.i in
+    let d = c.index_mut.result.now in
+    let new = c.take.new.self in
+    let within : i < length w.chunks.items = omega (arith, c.in_ok-i.ensures.within, w.chunks.ok) in
+    let some : is_some (packet_within w.first w.chunks.items m) ≡ true = sym (ap is_some (c.in_ok-packet.ensures.value ∙ told w.first w.chunks.items i d m within c.in_ok-i.ensures.chunk c.index_mut.ensures.value)) in
+    let near : m < w.end = found-below (packet_within w.first w.chunks.items) w.end m some w.behind in
+    omega (
+      arith,
+      w.counted,
+      below-without (packet_within w.first w.chunks.items) (packet_within w.first (set w.chunks.items i new)) m w.end near some
+          (λ n. taken w.first w.chunks.items i d new m n within c.in_ok-i.ensures.chunk c.index_mut.ensures.value (c.in_ok-packet.ensures.rest n)),
+    )
+
+pub invariant_of-self-2 : goal.invariant_of-self-2
+invariant_of-self-2 c =
+    let w = c.args.self.now in
+    let m = c.args.number in
+    let i = c.in_ok-i.i in
+    let d = c.index_mut.result.now in
+    let new = c.take.new.self in
+    let within : i < length w.chunks.items = omega (arith, c.in_ok-i.ensures.within, w.chunks.ok) in
+    let some : is_some (packet_within w.first w.chunks.items m) ≡ true = sym (ap is_some (c.in_ok-packet.ensures.value ∙ told w.first w.chunks.items i d m within c.in_ok-i.ensures.chunk c.index_mut.ensures.value)) in
+    let near : m < w.end = found-below (packet_within w.first w.chunks.items) w.end m some w.behind in
+    let gone : (n : ℕ) → packet_within w.first (set w.chunks.items i new) n ≡ (if n == m then None else packet_within w.first w.chunks.items n)
+    = λ n. taken w.first w.chunks.items i d new m n within c.in_ok-i.ensures.chunk c.index_mut.ensures.value (c.in_ok-packet.ensures.rest n) in
+    record {
+      low = w.low;
+      ends = w.ends;
+      behind = λ n far. gone n ∙ if_other n m None (packet_within w.first w.chunks.items n) (omega (arith, far, near)) ∙ w.behind n far;
+      counted = omega (arith, w.counted, below-without (packet_within w.first w.chunks.items) (packet_within w.first (set w.chunks.items i new)) m w.end near some gone);
+    }
 
 pub returns-clause-value : goal.returns-clause-value
 unfolding packet_at
 returns-clause-value c =
     let w = c.args.self.now in
-    let i : ℕ = c.args.number - w.first in
-    let within : i < length w.slots.items = omega (arith, c.end.ensures, c.if-end-number.false, c.if-number-self.false, w.slots.ok) in
-    c.in-Some.ensures ∙ ap (packet_in c.args.number) c.index-slot.ensures ∙ sym (among-at w.first w.slots.items i c.index-slot.result.now c.args.number within (omega (arith, c.if-number-self.false)))
+    let within : c.in_ok-i.i < length w.chunks.items = omega (arith, c.in_ok-i.ensures.within, w.chunks.ok) in
+    c.in_ok-packet.ensures.value ∙ told w.first w.chunks.items c.in_ok-i.i c.index_mut.result.now c.args.number within c.in_ok-i.ensures.chunk c.index_mut.ensures.value
 
 pub returns-clause-packets : goal.returns-clause-packets
 unfolding packet_at
 returns-clause-packets c = λ n.
     let w = c.args.self.now in
-    let i : ℕ = c.args.number - w.first in
-    let within : i < length w.slots.items = omega (arith, c.end.ensures, c.if-end-number.false, c.if-number-self.false, w.slots.ok) in
-    c.trim.ensures.packets n ∙ among-emptied w.first w.slots.items i c.args.number n within (omega (arith, c.if-number-self.false))
+    let within : c.in_ok-i.i < length w.chunks.items = omega (arith, c.in_ok-i.ensures.within, w.chunks.ok) in
+    c.trim.ensures.packets n ∙ taken w.first w.chunks.items c.in_ok-i.i c.index_mut.result.now c.take.new.self c.args.number n within c.in_ok-i.ensures.chunk c.index_mut.ensures.value (c.in_ok-packet.ensures.rest n)
+
+pub returns-clause-fewer : goal.returns-clause-fewer
+returns-clause-fewer c = λ _.
+    let w = c.args.self.now in
+    let m = c.args.number in
+    let i = c.in_ok-i.i in
+    let d = c.index_mut.result.now in
+    let new = c.take.new.self in
+    let within : i < length w.chunks.items = omega (arith, c.in_ok-i.ensures.within, w.chunks.ok) in
+    let some : is_some (packet_within w.first w.chunks.items m) ≡ true = sym (ap is_some (c.in_ok-packet.ensures.value ∙ told w.first w.chunks.items i d m within c.in_ok-i.ensures.chunk c.index_mut.ensures.value)) in
+    let near : m < w.end = found-below (packet_within w.first w.chunks.items) w.end m some w.behind in
+    omega (
+      arith,
+      c.trim.ensures.filled,
+      w.counted,
+      below-without (packet_within w.first w.chunks.items) (packet_within w.first (set w.chunks.items i new)) m w.end near some
+          (λ n. taken w.first w.chunks.items i d new m n within c.in_ok-i.ensures.chunk c.index_mut.ensures.value (c.in_ok-packet.ensures.rest n)),
+    )

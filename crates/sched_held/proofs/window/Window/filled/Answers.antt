@@ -1,6 +1,7 @@
 use Rattle.std.proofs.Common.{arith}
+use Rattle.sched_held.specs.Chunks.{packet_within}
 use Rattle.sched_held.specs.Windows.{numbers_of}
-use Rattle.sched_held.proofs.SlotLaws.{long-le}
+use Rattle.sched_held.proofs.NumberLaws.{below-length}
 use Rattle.sched_held.proofs.window.Window.filled.Goals as goal
 
 pub returns-clause-numbers : goal.returns-clause-numbers
@@ -10,4 +11,4 @@ returns-clause-numbers c = c.args.self.now.counted
 pub returns-clause-small : goal.returns-clause-small
 returns-clause-small c =
     let w = c.args.self.now in
-    omega (arith, w.counted, long-le w.first w.slots.items, w.slots.ok, w.slots.small)
+    omega (arith, w.counted, below-length (packet_within w.first w.chunks.items) w.end, w.ends)

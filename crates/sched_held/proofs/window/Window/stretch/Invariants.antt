@@ -1,13 +1,13 @@
-use Rattle.std.proofs.Common.{◌≡◌, ◌-◌, ◌≤◌, ℕ}
+use Rattle.std.proofs.Common.{◌≡◌, ◌+◌, ◌-◌, ℕ}
+use Rattle.std.specs.VecDeque.{deque_len}
 use Rattle.sched_held.specs.Windows.{packet_at, end_of}
 use Rattle.sched_held.proofs.window.Window.stretch.Given as goal
 
 abbrev pub invariant-loop-self : goal.invariant-loop-self
 invariant-loop-self l = record {
   packets : (n : ℕ) → packet_at l.self n ≡ packet_at l.fn.self n;
-  near : end_of l.fn.self ≤ end_of l.self;
-  far : end_of l.self ≤ l.number;
+  end : end_of l.self ≡ end_of l.fn.self;
 }
 
 abbrev pub decreases-loop-self : goal.decreases-loop-self
-decreases-loop-self l = l.number - end_of l.self
+decreases-loop-self l = l.last + 1 - (l.self.first + deque_len l.self.chunks)

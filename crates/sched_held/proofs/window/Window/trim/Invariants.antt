@@ -7,7 +7,8 @@ abbrev pub invariant-loop-self : goal.invariant-loop-self
 invariant-loop-self l = record {
   packets : (n : ℕ) → packet_at l.self n ≡ packet_at l.fn.self n;
   end : end_of l.self ≡ end_of l.fn.self;
+  filled : l.self.filled ≡ l.fn.self.filled;
 }
 
 abbrev pub decreases-loop-self : goal.decreases-loop-self
-decreases-loop-self l = deque_len l.self.slots
+decreases-loop-self l = deque_len l.self.chunks
