@@ -70,7 +70,7 @@ pub record AreFirst (tree : Tree Node) (states : List NodeState) (n : ℕ) : Typ
   pub count : length states ≡ n
   pub each : (k : ℕ) (x : NodeState) → slice_get states k ≡ Some x → IsFirstState tree k x
 
-last-cases : {X P : Type 0} (xs : List X) (k : ℕ) (y x : X) → slice_get (xs ++ y ∷ []) k ≡ Some x → (slice_get xs k ≡ Some x → P) → (k ≡ length xs → y ≡ x → P) → P
+pub last-cases : {X P : Type 0} (xs : List X) (k : ℕ) (y x : X) → slice_get (xs ++ y ∷ []) k ≡ Some x → (slice_get xs k ≡ Some x → P) → (k ≡ length xs → y ≡ x → P) → P
 last-cases [] zero y x e old new = new refl (some-is e)
 last-cases [] (suc k) y x e old new = (let f : None ≡ Some x = e in cc)
 last-cases (z ∷ xs) zero y x e old new = old e

@@ -1,7 +1,10 @@
 pub mod TreeParts
 pub mod StateUpdates
+pub mod Levels
 pub mod NodeSteps
-pub mod ChildWays
+pub mod WayVisits
+pub mod StepsMade
+pub mod WaypointsMade
 pub mod ClassLeaves
 pub mod ChildCounts
 pub mod RoomLaws

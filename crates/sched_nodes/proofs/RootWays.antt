@@ -1,56 +1,62 @@
 -- The way from the root.
-use Rattle.std.proofs.Common.{◌≡◌, ◌<◌, ◌≤◌, ℕ, List, [], ◌++◌, refl, sym, ap, ◌∙◌, subst, arith}
-use Rattle.tree_defs.specs.Tree.{Tree, leaf, inner, Address, LeadsToLeaf, nodes}
+use Rattle.std.proofs.Common.{◌≡◌, ◌≤◌, ℕ, List, [], Option, Some, sym, ap, ◌∙◌, subst, arith, get_or}
+use Rattle.std.specs.Prelude.{slice_get, unwrap_or, Vec}
+use Rattle.std.specs.declared.alloc.Global.{Global}
+use Rattle.std.proofs.lemmas.Option.{slice_get-get_or}
+use Rattle.tree_defs.specs.Tree.{Tree, LeadsToLeaf}
 use Rattle.rank_defs.specs.declared.environment.Who.{Who}
 use Rattle.rank_defs.specs.Programs.{max_rank}
 use Rattle.rank_core.specs.declared.node.NodeState.{NodeState}
 use Rattle.packet_defs.specs.declared.packet.Packet.{Packet}
-use Rattle.policy_defs.specs.Policy.{Node, Class}
+use Rattle.policy_defs.specs.Policy.{Policy, Node, Class, no_marks}
 use Rattle.policy_defs.specs.Accepted.{IsAccepted, IsClassReady, AreMarksInRange}
-use Rattle.policy_core.specs.Numbering.{address_at}
 use Rattle.sched_defs.specs.Visits.{visits_from}
 use Rattle.sched_defs.specs.SourceState.{class_of}
 use Rattle.sched_defs.specs.Sound.{IsKnown}
+use Rattle.sched_defs.proofs.Visits.{class_ready}
 use Rattle.sched_nodes.specs.declared.passage.Passage.{Passage}
+use Rattle.sched_nodes.specs.declared.waypoint.Waypoint.{Waypoint}
 use Rattle.sched_nodes.specs.Kept.{part_at, HasRoomAt}
-use Rattle.sched_nodes.specs.Ways.{IsReady, IsOnTheWay, tree_for, class_for, part}
+use Rattle.sched_nodes.specs.Waypoints.{AreWaypoints, AreWays}
+use Rattle.sched_nodes.specs.Ways.{IsReady, tree_for, class_for}
 use Rattle.sched_nodes.proofs.TreeParts.{root-part, part-known}
 
-root-address : {Q : Type 0} (t : Tree Q) → address_at t 0 ≡ []
-root-address (leaf q) = refl
-root-address (inner q ts) = refl
+-- ---- what is kept of a packet's class
+module _ (policy : Policy) (p : Packet) (known : IsKnown policy p) where
+  prepared : IsAccepted policy → IsClassReady policy.tree (class_of policy p)
+  prepared accepted = class_ready (IsClassReady policy.tree) (record { marks = no_marks; leaf = [] }) policy.classes p.class accepted.classes known.class
 
-has-root : {Q : Type 0} (t : Tree Q) → 0 < nodes t
-has-root (leaf q) = omega arith
-has-root (inner q ts) = omega arith
+  class-there : slice_get policy.classes p.class ≡ Some (class_of policy p)
+  class-there =
+      let no_class : Class = record { marks = no_marks; leaf = [] } in
+      let there : slice_get policy.classes p.class ≡ Some (get_or policy.classes p.class no_class) = slice_get-get_or policy.classes p.class no_class known.class in
+      there ∙ ap Some (sym (ap (λ (o : Option Class). unwrap_or o no_class) there))
 
-module _ (e : Passage) where
-  whole-part : part e 0 ≡ tree_for e
-  whole-part = ap (part_at (tree_for e)) (root-address (tree_for e)) ∙ part-known (tree_for e) [] (tree_for e) (root-part (tree_for e))
+  waypoints-there : (ways : List (Vec Waypoint Global)) (w : Vec Waypoint Global) → AreWays policy ways → w ≡ get_or ways p.class w → AreWaypoints policy.tree (class_of policy p) w.items
+  waypoints-there ways w h is = h.each p.class (class_of policy p) w class-there (slice_get-get_or ways p.class w (omega (arith, known.class, h.count)) ∙ ap Some (sym is))
 
-  pub from-root : (digits : List ℕ) → LeadsToLeaf (tree_for e) digits → IsOnTheWay e 0 digits
-  from-root digits l = record { there = has-root (tree_for e); leads = subst (λ (t : Tree Node). LeadsToLeaf t digits) (sym whole-part) l }
-
-  pub ready : IsClassReady (tree_for e) (class_of e.policy.now.policy e.packet.now) → class_for e ≡ class_of e.policy.now.policy e.packet.now → IsAccepted e.policy.now.policy → IsKnown e.policy.now.policy e.packet.now → e.moment ≤ max_rank → IsReady e
-  ready prepared is accepted known moment = record {
-    accepted = accepted;
-    marks = subst (λ (c : Class). AreMarksInRange c.marks) (sym is) prepared.marks;
-    len = known.len;
-    moment = moment;
-  }
+pub ready : (e : Passage) → class_for e ≡ class_of e.policy.now.policy e.packet.now → IsAccepted e.policy.now.policy → IsKnown e.policy.now.policy e.packet.now → e.moment ≤ max_rank
+    → (ways : List (Vec Waypoint Global)) (w : Vec Waypoint Global) → AreWays e.policy.now.policy ways → w ≡ get_or ways e.packet.now.class w → e.waypoints.now ≡ w.items → IsReady e
+ready e is accepted known moment ways w h at waypoints =
+    let prepared : IsClassReady (tree_for e) (class_of e.policy.now.policy e.packet.now) = prepared e.policy.now.policy e.packet.now known accepted in
+    record {
+      accepted = accepted;
+      leads = subst (λ (c : Class). LeadsToLeaf (tree_for e) c.leaf) (sym is) prepared.leaf_address;
+      waypoints = subst (λ (c : Class). AreWaypoints (tree_for e) c e.waypoints.now) (sym is)
+          (subst (λ (ss : List Waypoint). AreWaypoints (tree_for e) (class_of e.policy.now.policy e.packet.now) ss) (sym waypoints) (waypoints-there e.policy.now.policy e.packet.now known ways w h at));
+      marks = subst (λ (c : Class). AreMarksInRange c.marks) (sym is) prepared.marks;
+      len = known.len;
+      moment = moment;
+    }
 
 -- ---- in the terms of the tree
 module _ (tree : Tree Node) where
-  pub whole-way : (c d : Class) (digits : List ℕ) (p : Packet) (moment : ℕ) → c ≡ d → visits_from (part_at tree (address_at tree 0)) (address_at tree 0) digits c p moment ≡ visits_from tree [] digits d p moment
-  whole-way c d digits p moment is =
-      ap (λ (t : Tree Node). visits_from t (address_at tree 0) digits c p moment) (ap (part_at tree) (root-address tree) ∙ part-known tree [] tree (root-part tree))
-      ∙ ap (λ (a : Address). visits_from tree a digits c p moment) (root-address tree)
-      ∙ ap (λ (k : Class). visits_from tree [] digits k p moment) is
+  pub whole-way : (c d : Class) (p : Packet) (moment : ℕ) → c ≡ d → visits_from (part_at tree []) [] c.leaf c p moment ≡ visits_from tree [] d.leaf d p moment
+  whole-way c d p moment is =
+      ap (λ (t : Tree Node). visits_from t [] c.leaf c p moment) (part-known tree [] tree (root-part tree))
+      ∙ ap (λ (k : Class). visits_from tree [] k.leaf k p moment) is
 
-  pub room-from_root : (states start : List NodeState) (digits last : List ℕ) (who : Who) → start ≡ states → digits ≡ last → HasRoomAt tree states last who → HasRoomAt tree start (address_at tree 0 ++ digits) who
-  room-from_root states start digits last who same to room =
-      subst (λ (a : Address). HasRoomAt tree start a who) (sym (ap (λ (a : Address). a ++ digits) (root-address tree) ∙ to))
-      (subst (λ (l : List NodeState). HasRoomAt tree l last who) (sym same) room)
-
-pub begun : (before after xs : List ℕ) → before ≡ [] → after ≡ before ++ xs → after ≡ xs
-begun before after xs none all = all ∙ ap (λ (l : List ℕ). l ++ xs) none
+  pub room-at_leaf : (states start : List NodeState) (c d : Class) (who : Who) → start ≡ states → c ≡ d → HasRoomAt tree states d.leaf who → HasRoomAt tree start c.leaf who
+  room-at_leaf states start c d who same is room =
+      subst (λ (k : Class). HasRoomAt tree start k.leaf who) (sym is)
+      (subst (λ (l : List NodeState). HasRoomAt tree l d.leaf who) (sym same) room)

@@ -1,5 +1,5 @@
 -- Parts of a tree, and the child to which a way goes on.
-use Rattle.std.proofs.Common.{◌≡◌, ◌<◌, ◌≤◌, ◌+◌, ℕ, zero, suc, List, [], ◌∷◌, ◌++◌, length, Option, Some, refl, sym, ap, ◌∙◌, subst, arith, take, drop}
+use Rattle.std.proofs.Common.{◌≡◌, ◌<◌, ◌+◌, ℕ, zero, suc, List, [], ◌∷◌, ◌++◌, length, Option, Some, refl, sym, ap, ◌∙◌, subst, arith, take, drop}
 use Rattle.std.specs.Prelude.{unwrap_or, IsSomeAnd, ◌-◌}
 use Rattle.std.proofs.lemmas.List.{take_all}
 use Rattle.tree_defs.specs.Tree.{Tree, leaf, inner, Trees, none, more, Address, IsAddressOf, LeadsToLeaf, LeadsBelow, subtree, subtree_in, root_of, count_of}
@@ -9,7 +9,7 @@ use Rattle.packet_defs.specs.declared.packet.Packet.{Packet}
 use Rattle.policy_defs.specs.Policy.{Node, Class, node_at, node_below}
 use Rattle.sched_defs.specs.Visits.{Visit, visit, env_for, child_marks, visits_from, visits_below}
 use Rattle.sched_nodes.specs.Kept.{part_at, arity}
-use Rattle.sched_nodes.specs.Ways.{marks_on}
+use Rattle.sched_nodes.specs.Waypoints.{marks_on}
 
 pub some-is : {X : Type 0} {x y : X} → Some x ≡ Some y → x ≡ y
 some-is e = cc
@@ -57,15 +57,6 @@ later digits = take (length digits - 1) (drop 1 digits)
 
 pub later-cons : (i : ℕ) (digits : List ℕ) → later (i ∷ digits) ≡ digits
 later-cons i digits = take_all (length (i ∷ digits) - 1) digits (omega arith)
-
-pub later-is : (ranks : List ℕ) → later ranks ≡ drop 1 ranks
-later-is [] = refl
-later-is (r ∷ ranks) = later-cons r ranks
-
-pub later-ranks : (digits ranks : List ℕ) → 1 ≤ length digits → length ranks ≡ length digits + 1 → length (later ranks) ≡ length (later digits) + 1
-later-ranks [] ranks l e = absurd (omega arith)
-later-ranks (i ∷ digits) [] l e = absurd (omega (arith, e))
-later-ranks (i ∷ digits) (r ∷ ranks) l e = omega (arith, e, ap length (later-cons i digits), ap length (later-cons r ranks))
 
 -- the child of a node to which a way goes on
 pub record IsNext (t : Tree Node) (i : ℕ) (digits : List ℕ) : Type 0 where

@@ -1,4 +1,5 @@
 pub mod Kept
+pub mod Waypoints
 pub mod Ways
 pub mod Agreement
 pub mod Samples

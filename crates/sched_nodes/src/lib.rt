@@ -5,6 +5,7 @@ mod first;
 mod passage;
 mod stations;
 mod walk;
+mod waypoint;
 
 pub use stations::Stations;
 

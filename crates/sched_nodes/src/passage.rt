@@ -1,19 +1,23 @@
 //! A packet on its way through the nodes of a policy.
-ghost use Rattle.std.specs.Prelude.{◌≡◌};
-ghost use Rattle.rank_defs.specs.Shapes.{IsEnvInRange};
+ghost use Rattle.std.specs.Prelude.{◌≡◌, ◌≤◌};
+ghost use Rattle.rank_defs.specs.Programs.{max_rank};
+ghost use Rattle.rank_defs.specs.Shapes.{IsEnvInRange, max_len};
 ghost use Rattle.policy_defs.specs.Accepted.{AreMarksInRange};
 ghost use Rattle.policy_core.specs.Parts.{told};
-ghost use Rattle.sched_nodes.specs.Ways.{IsReady, IsOnTheWay, class_for, part, who_on, marks_on, stop};
+ghost use Rattle.sched_defs.specs.Visits.{env_for};
+ghost use Rattle.sched_nodes.specs.Ways.{who_on};
 
+use crate::waypoint::Waypoint;
 use packet_defs::Packet;
 use policy_core::{Class, Marks, Policy};
 use rank_core::{Env, Who};
 
-/// A packet on its way, with its class and the moment that the steps are told.
+/// A packet on its way, with its class, the nodes on the way of this class, and the moment that the steps are told.
 #[derive(Drop)]
 pub struct Passage<'a> {
     pub policy: &'a Policy,
     pub class: &'a Class,
+    pub waypoints: &'a [Waypoint<'a>],
     pub packet: &'a Packet,
     pub moment: u64,
 }
@@ -29,26 +33,14 @@ impl Passage<'_> {
         }
     }
 
-    fn marks(&self, node: u32, digits: &[u32]) -> Marks
-        requires ready { IsReady self.now }
-        requires way { IsOnTheWay self.now node digits.now }
-        ensures marks { told result ≡ marks_on (part self.now node) digits.now (class_for self.now) }
-        ensures range { AreMarksInRange (told result) }
-    {
-        match digits {
-            [] => self.class.marks,
-            [digit, ..] => self.policy.attrs(self.policy.child(node, *digit)),
-        }
-    }
-
-    /// What the step of a node is told, if the way goes on along these digits.
-    pub fn env(&self, node: u32, digits: &[u32]) -> Env
-        requires ready { IsReady self.now }
-        requires way { IsOnTheWay self.now node digits.now }
-        ensures env { result ≡ (stop self.now node digits.now).env }
+    /// What a step is told, with these marks.
+    pub fn env(&self, marks: &Marks) -> Env
+        requires len { self.now.packet.now.len ≤ max_len }
+        requires moment { self.now.moment ≤ max_rank }
+        requires marks { AreMarksInRange (told marks.now) }
+        ensures env { result ≡ env_for self.now.packet.now self.now.moment (told marks.now) }
         ensures range { IsEnvInRange result }
     {
-        let marks = self.marks(node, digits);
         Env {
             len: self.packet.len,
             now: self.moment,

@@ -7,22 +7,26 @@ ghost use Rattle.sched_defs.specs.Visits.{States, ranks_pushed, after_pushes, af
 ghost use Rattle.sched_defs.specs.SourceState.{first_states, class_of, way_in, way_out};
 ghost use Rattle.sched_defs.specs.Sound.{IsKnown};
 ghost use Rattle.sched_nodes.specs.Kept.{AreStations, AreStations-prop};
+ghost use Rattle.sched_nodes.specs.Waypoints.{AreWays, AreWays-prop};
 
 use crate::first::first_states;
 use crate::passage::Passage;
-use crate::walk::{pop_from, push_from};
+use crate::walk::{pop_along, push_along};
+use crate::waypoint::{Waypoint, all_waypoints};
 use packet_defs::Packet;
 use policy_core::Policy;
 use rank_core::{NodeState, Who};
 use std::alloc::{AllocError, Global};
 use tree_core::Taken;
 
-/// The variables of a policy's nodes and leaves, with room for flows at the leaves.
+/// The variables of a policy's nodes and leaves, with room for flows at the leaves, and the nodes on the way of each class.
 #[derive(Drop)]
 pub struct Stations<'a> {
     policy: &'a Policy,
     states: Vec<NodeState>,
+    ways: Vec<Vec<Waypoint<'a>>>,
     ghost kept: { AreStations policy.now.policy.tree states.items } by { AreStations-prop policy.now.policy.tree states.items },
+    ghost known: { AreWays policy.now.policy ways.items } by { AreWays-prop policy.now.policy ways.items },
 }
 
 impl<'a> Stations<'a> {
@@ -37,6 +41,7 @@ impl<'a> Stations<'a> {
         Ok(Stations {
             policy,
             states: first_states(alloc, policy)?,
+            ways: all_waypoints(alloc, policy)?,
         })
     }
 
@@ -73,16 +78,14 @@ impl<'a> Stations<'a> {
         ensures policy { policy_of self.new ≡ policy_of self.old }
         ensures spare { trace.new.room ≡ trace.old.room }
     {
-        let class = &self.policy.classes()[packet.class as usize];
-        let digits = self.policy.address(class.leaf);
         let passage = Passage {
             policy: self.policy,
-            class,
+            class: &self.policy.classes()[packet.class as usize],
+            waypoints: self.ways[packet.class as usize].as_slice(),
             packet,
             moment,
         };
-        trace.clear();
-        push_from(self.states.as_mut_slice(), &passage, 0, digits, trace);
+        push_along(self.states.as_mut_slice(), &passage, trace);
     }
 
     /// Runs the pop steps from the root to the leaf of a packet's class, with the ranks that were taken on these digits. `moment`
@@ -101,9 +104,10 @@ impl<'a> Stations<'a> {
         let passage = Passage {
             policy: self.policy,
             class: &self.policy.classes()[packet.class as usize],
+            waypoints: self.ways[packet.class as usize].as_slice(),
             packet,
             moment,
         };
-        pop_from(self.states.as_mut_slice(), &passage, 0, digits, ranks);
+        pop_along(self.states.as_mut_slice(), &passage, digits, ranks);
     }
 }

@@ -1,109 +1,103 @@
 //! The steps of the nodes on a packet's way.
-ghost use Rattle.std.specs.Prelude.{◌≡◌, ◌≤◌, ◌+◌, ◌++◌, ◌∷◌, [], length};
+ghost use Rattle.std.specs.Prelude.{◌≡◌, ◌≤◌, ◌<◌, ◌+◌, ◌∷◌, [], length};
+ghost use Rattle.tree_defs.specs.Tree.{depth, nodes};
 ghost use Rattle.rank_defs.specs.Programs.{max_rank};
 ghost use Rattle.sched_defs.specs.Visits.{rank_at, ranks_pushed, after_pushes, after_pops};
 ghost use Rattle.sched_nodes.specs.Kept.{AreStations};
-ghost use Rattle.sched_nodes.specs.Ways.{IsReady, IsOnTheWay, tree_for, stop, way, HasRoomOnWay, AreLowRanks, ForValues, ValuesBecome, KeepsRoom};
+ghost use Rattle.sched_nodes.specs.Ways.{IsReady, tree_for, class_for, stop, way, HasRoomAtLeaf, AreLowRanks, ForValues, ValuesBecome, KeepsRoom};
 
 use crate::passage::Passage;
-use rank_core::{NodeState, Who, run_pop, run_push};
+use rank_core::{NodeState, run_pop, run_push};
 use tree_core::Taken;
 
-/// The push step of a node. The answer is the packet's rank there.
-fn push_at(states: &mut [NodeState], passage: &Passage, node: u32, digits: &[u32]) -> u64
+/// The push step at a level of the way. The answer is the packet's rank there.
+fn push_at(states: &mut [NodeState], passage: &Passage, digits: &[u32], level: usize) -> u64
     requires ready { IsReady passage.now }
-    requires way { IsOnTheWay passage.now node digits.now }
+    requires digits { digits.now ≡ (class_for passage.now).leaf }
+    requires level { level ≤ length digits.now }
     requires kept { AreStations (tree_for passage.now) states.old }
-    requires room { HasRoomOnWay passage.now states.old node digits.now }
-    ensures rank { ForValues passage.now states.old (λ v. result ≡ rank_at v (stop passage.now node digits.now)) }
-    ensures values { ValuesBecome passage.now states.old states.new (after_pushes (stop passage.now node digits.now ∷ [])) }
+    requires room { HasRoomAtLeaf passage.now states.old }
+    ensures rank { ForValues passage.now states.old (λ v. result ≡ rank_at v (stop passage.now level)) }
+    ensures values { ValuesBecome passage.now states.old states.new (after_pushes (stop passage.now level ∷ [])) }
     ensures kept { AreStations (tree_for passage.now) states.new }
     ensures room { KeepsRoom passage.now states.old states.new }
     ensures limit { result ≤ max_rank }
 {
-    let transaction = passage.policy.checked(node).transaction();
-    let who = passage.who(digits);
-    let env = passage.env(node, digits);
-    run_push(transaction, &mut states[node as usize], &who, &env)
+    let waypoint = &passage.waypoints[level];
+    let who = passage.who(&digits[level..]);
+    let env = passage.env(&waypoint.marks);
+    run_push(
+        waypoint.checked.transaction(),
+        &mut states[waypoint.node as usize],
+        &who,
+        &env,
+    )
 }
 
-/// The pop step of a node from which the packet was taken with a rank. Where it has no lines, as most have none, nothing is
-/// looked up for it.
-fn pop_at(states: &mut [NodeState], passage: &Passage, node: u32, digits: &[u32], rank: u64)
+/// The pop step at a level of the way, where the packet was taken with a rank. Where the node has no lines, as most have none,
+/// nothing is looked up for it.
+fn pop_at(states: &mut [NodeState], passage: &Passage, digits: &[u32], level: usize, rank: u64)
     requires ready { IsReady passage.now }
-    requires way { IsOnTheWay passage.now node digits.now }
+    requires digits { digits.now ≡ (class_for passage.now).leaf }
+    requires level { level ≤ length digits.now }
     requires kept { AreStations (tree_for passage.now) states.old }
-    requires room { HasRoomOnWay passage.now states.old node digits.now }
+    requires room { HasRoomAtLeaf passage.now states.old }
     requires limit { rank ≤ max_rank }
-    ensures values { ValuesBecome passage.now states.old states.new (after_pops (stop passage.now node digits.now ∷ []) (rank ∷ [])) }
+    ensures values { ValuesBecome passage.now states.old states.new (after_pops (stop passage.now level ∷ []) (rank ∷ [])) }
     ensures kept { AreStations (tree_for passage.now) states.new }
     ensures room { KeepsRoom passage.now states.old states.new }
 {
-    let transaction = passage.policy.checked(node).transaction();
-    let state = &mut states[node as usize];
+    let waypoint = &passage.waypoints[level];
+    let transaction = waypoint.checked.transaction();
+    let state = &mut states[waypoint.node as usize];
     if transaction.pop.is_empty() {
         return;
     }
-    let who = passage.who(digits);
-    let env = passage.env(node, digits);
+    let who = passage.who(&digits[level..]);
+    let env = passage.env(&waypoint.marks);
     run_pop(transaction, state, &who, rank, &env);
 }
 
-/// The push steps from a node down to the leaf. `trace` gets the digits and the ranks, last.
-pub fn push_from(
-    states: &mut [NodeState],
-    passage: &Passage,
-    node: u32,
-    digits: &[u32],
-    trace: &mut Taken,
-)
+/// The push steps from the root down to the leaf. `trace` gets the digits and the ranks.
+pub fn push_along(states: &mut [NodeState], passage: &Passage, trace: &mut Taken)
     requires ready { IsReady passage.now }
-    requires way { IsOnTheWay passage.now node digits.now }
+    requires leaf { passage.now.class.now.leaf < nodes (tree_for passage.now) }
     requires kept { AreStations (tree_for passage.now) states.old }
-    requires room { HasRoomOnWay passage.now states.old node digits.now }
-    requires levels { length trace.old.digits + length digits.now ≤ trace.old.room }
-    requires even { length trace.old.ranks ≡ length trace.old.digits }
-    ensures digits { trace.new.digits ≡ trace.old.digits ++ digits.now }
-    ensures ranks { ForValues passage.now states.old (λ v.
-        trace.new.ranks ≡ trace.old.ranks ++ ranks_pushed v (way passage.now node digits.now)) }
-    ensures values { ValuesBecome passage.now states.old states.new (after_pushes (way passage.now node digits.now)) }
+    requires room { HasRoomAtLeaf passage.now states.old }
+    requires levels { depth (tree_for passage.now) ≤ trace.old.room }
+    ensures digits { trace.new.digits ≡ (class_for passage.now).leaf }
+    ensures ranks { ForValues passage.now states.old (λ v. trace.new.ranks ≡ ranks_pushed v (way passage.now 0)) }
+    ensures values { ValuesBecome passage.now states.old states.new (after_pushes (way passage.now 0)) }
     ensures kept { AreStations (tree_for passage.now) states.new }
     ensures room { KeepsRoom passage.now states.old states.new }
-    ensures limit { AreLowRanks trace.old.ranks → AreLowRanks trace.new.ranks }
+    ensures limit { AreLowRanks trace.new.ranks }
     ensures spare { trace.new.room ≡ trace.old.room }
 {
-    let rank = push_at(states, passage, node, digits);
-    match digits {
-        [] => trace.last(rank),
-        [digit, deeper @ ..] => {
-            trace.step(*digit, rank);
-            let child = passage.policy.child(node, *digit);
-            push_from(states, passage, child, deeper, trace);
-        }
+    let digits = passage.policy.address(passage.class.leaf);
+    trace.clear();
+    for level in 0..digits.len() {
+        let rank = push_at(states, passage, digits, level);
+        trace.step(digits[level], rank);
     }
+    let rank = push_at(states, passage, digits, digits.len());
+    trace.last(rank);
 }
 
-/// The pop steps from a node down to the leaf, with the ranks that were taken.
-pub fn pop_from(
-    states: &mut [NodeState],
-    passage: &Passage,
-    node: u32,
-    digits: &[u32],
-    ranks: &[u64],
-)
+/// The pop steps from the root down to the leaf, with the ranks that were taken on these digits.
+pub fn pop_along(states: &mut [NodeState], passage: &Passage, digits: &[u32], ranks: &[u64])
     requires ready { IsReady passage.now }
-    requires way { IsOnTheWay passage.now node digits.now }
+    requires digits { digits.now ≡ (class_for passage.now).leaf }
     requires kept { AreStations (tree_for passage.now) states.old }
-    requires room { HasRoomOnWay passage.now states.old node digits.now }
+    requires room { HasRoomAtLeaf passage.now states.old }
     requires even { length ranks.now ≡ length digits.now + 1 }
     requires limit { AreLowRanks ranks.now }
-    ensures values { ValuesBecome passage.now states.old states.new (after_pops (way passage.now node digits.now) ranks.now) }
+    ensures values { ValuesBecome passage.now states.old states.new (after_pops (way passage.now 0) ranks.now) }
     ensures kept { AreStations (tree_for passage.now) states.new }
     ensures room { KeepsRoom passage.now states.old states.new }
 {
-    pop_at(states, passage, node, digits, ranks[0]);
-    if let [digit, deeper @ ..] = digits {
-        let child = passage.policy.child(node, *digit);
-        pop_from(states, passage, child, deeper, &ranks[1..]);
+    for level in 0..digits.len() {
+        pop_at(states, passage, digits, level, ranks[level]);
     }
+    let leaf = digits.len();
+    pop_at(states, passage, digits, leaf, ranks[leaf]);
 }

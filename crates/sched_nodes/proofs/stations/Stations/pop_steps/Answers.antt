@@ -1,32 +1,54 @@
-use Rattle.std.proofs.Common.{◌≡◌, ◌∙◌, List, ap, sym, subst, arith}
-use Rattle.tree_defs.specs.Tree.{LeadsToLeaf}
+use Rattle.std.proofs.Common.{◌≡◌, ◌∙◌, List, ℕ, [], ap, sym, subst, arith}
 use Rattle.rank_core.specs.declared.node.NodeState.{NodeState}
 use Rattle.rank_core.proofs.Lists.{refilled}
+use Rattle.packet_defs.specs.declared.packet.Packet.{Packet}
+use Rattle.policy_defs.specs.Policy.{Policy, Class}
 use Rattle.policy_core.specs.Parts.{class_in}
-use Rattle.sched_defs.specs.Visits.{Visit, after_pops}
+use Rattle.sched_defs.specs.Visits.{Visit, visits_from, after_pops}
 use Rattle.sched_defs.specs.SourceState.{class_of, way_out}
 use Rattle.sched_nodes.specs.Kept.{HaveValues}
 use Rattle.sched_nodes.specs.Agreement.{policy_of}
-use Rattle.sched_nodes.proofs.ClassLeaves.{class-within, class-is, class-prepared}
-use Rattle.sched_nodes.proofs.RootWays.{from-root, whole-way, room-from_root}
+use Rattle.sched_nodes.proofs.ClassLeaves.{class-within, class-is}
+use Rattle.sched_nodes.proofs.RootWays.{ready, whole-way, room-at_leaf}
 use Rattle.sched_nodes.proofs.stations.Stations.pop_steps.Goals as goal
 
-pub pop_from-requires-clause-way : goal.pop_from-requires-clause-way
-pop_from-requires-clause-way c =
-    let leads : LeadsToLeaf (policy_of c.args.self.now).tree c.args.digits.now = subst (LeadsToLeaf (policy_of c.args.self.now).tree) (sym c.requires.leaf_address) (class-prepared (policy_of c.args.self.now) c.classes.result.now c.classes.ensures.classes c.args.packet.now c.requires.known.class c.classes.ensures.accepted).leaf_address in
-    from-root _ c.args.digits.now leads
+pub pop_along-requires-clause-ready : goal.pop_along-requires-clause-ready
+pop_along-requires-clause-ready c =
+    let policy : Policy = policy_of c.args.self.now in
+    let p : Packet = c.args.packet.now in
+    let is : class_in policy.tree c.index-classes-packet.result ≡ class_of policy p =
+    ap (class_in policy.tree) c.index-classes-packet.is
+    ∙ class-is policy c.classes.result.now c.classes.ensures.classes p c.requires.known.class c.index-classes-packet.result (class-within policy c.classes.result.now c.classes.ensures.classes p c.requires.known.class) in
+    ready _ is c.classes.ensures.accepted c.requires.known c.requires.moment c.args.self.now.ways.items c.index.result.now c.args.self.now.known c.index.ensures c.as_slice.ensures.value
 
-pub pop_from-requires-clause-room : goal.pop_from-requires-clause-room
-pop_from-requires-clause-room c =
-    room-from_root (policy_of c.args.self.now).tree c.args.self.now.states.items c.as_mut_slice.result.now c.args.digits.now _ _ c.as_mut_slice.ensures.value c.requires.leaf_address c.requires.room
+pub pop_along-requires-clause-room : goal.pop_along-requires-clause-room
+pop_along-requires-clause-room c =
+    let policy : Policy = policy_of c.args.self.now in
+    let p : Packet = c.args.packet.now in
+    let is : class_in policy.tree c.index-classes-packet.result ≡ class_of policy p =
+    ap (class_in policy.tree) c.index-classes-packet.is
+    ∙ class-is policy c.classes.result.now c.classes.ensures.classes p c.requires.known.class c.index-classes-packet.result (class-within policy c.classes.result.now c.classes.ensures.classes p c.requires.known.class) in
+    room-at_leaf policy.tree c.args.self.now.states.items c.as_mut_slice.result.now _ _ _ c.as_mut_slice.ensures.value is c.requires.room
+
+pub pop_along-requires-clause-digits : goal.pop_along-requires-clause-digits
+pop_along-requires-clause-digits c =
+    let policy : Policy = policy_of c.args.self.now in
+    let p : Packet = c.args.packet.now in
+    let is : class_in policy.tree c.index-classes-packet.result ≡ class_of policy p =
+    ap (class_in policy.tree) c.index-classes-packet.is
+    ∙ class-is policy c.classes.result.now c.classes.ensures.classes p c.requires.known.class c.index-classes-packet.result (class-within policy c.classes.result.now c.classes.ensures.classes p c.requires.known.class) in
+    c.requires.leaf_address ∙ ap (λ (k : Class). k.leaf) (sym is)
 
 pub returns-clause-states : goal.returns-clause-states
 returns-clause-states c =
-    let is : class_in (policy_of c.args.self.now).tree c.index-classes-packet.result ≡ class_of (policy_of c.args.self.now) c.args.packet.now =
-    ap (class_in (policy_of c.args.self.now).tree) c.index-classes-packet.is
-    ∙ class-is (policy_of c.args.self.now) c.classes.result.now c.classes.ensures.classes c.args.packet.now c.requires.known.class c.index-classes-packet.result (class-within (policy_of c.args.self.now) c.classes.result.now c.classes.ensures.classes c.args.packet.now c.requires.known.class) in
-    let whole : _ = refilled c.args.self.now.states c.pop_from.new.states (omega (arith, c.pop_from.ensures.kept.count, c.args.self.now.kept.count)) in
+    let policy : Policy = policy_of c.args.self.now in
+    let p : Packet = c.args.packet.now in
+    let is : class_in policy.tree c.index-classes-packet.result ≡ class_of policy p =
+    ap (class_in policy.tree) c.index-classes-packet.is
+    ∙ class-is policy c.classes.result.now c.classes.ensures.classes p c.requires.known.class c.index-classes-packet.result (class-within policy c.classes.result.now c.classes.ensures.classes p c.requires.known.class) in
+    let whole : _ = refilled c.args.self.now.states c.pop_along.new.states (omega (arith, c.pop_along.ensures.kept.count, c.args.self.now.kept.count)) in
     λ values h.
-    subst (λ (l : List NodeState). HaveValues (policy_of c.args.self.now).tree l (after_pops (way_out (policy_of c.args.self.now) c.args.packet.now c.args.digits.now c.args.moment) c.args.ranks.now values)) (sym whole)
-    (subst (λ (vs : List Visit). HaveValues (policy_of c.args.self.now).tree c.pop_from.new.states (after_pops vs c.args.ranks.now values)) (whole-way (policy_of c.args.self.now).tree _ _ c.args.digits.now c.args.packet.now c.args.moment is)
-    (c.pop_from.ensures.values values (subst (λ (l : List NodeState). HaveValues (policy_of c.args.self.now).tree l values) (sym c.as_mut_slice.ensures.value) h)))
+    subst (λ (l : List NodeState). HaveValues policy.tree l (after_pops (way_out policy p c.args.digits.now c.args.moment) c.args.ranks.now values)) (sym whole)
+    (subst (λ (vs : List Visit). HaveValues policy.tree c.pop_along.new.states (after_pops vs c.args.ranks.now values))
+    (whole-way policy.tree _ _ p c.args.moment is ∙ ap (λ (ds : List ℕ). visits_from policy.tree [] ds (class_of policy p) p c.args.moment) (sym c.requires.leaf_address))
+    (c.pop_along.ensures.values values (subst (λ (l : List NodeState). HaveValues policy.tree l values) (sym c.as_mut_slice.ensures.value) h)))

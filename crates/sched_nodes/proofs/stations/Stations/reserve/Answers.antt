@@ -15,13 +15,11 @@ reserve-requires c =
           (leaf-leads (policy_of c.args.self.now) c.classes.result.now c.classes.ensures.classes c.args.packet.now c.requires.class c.classes.ensures.accepted c.index-classes-packet.result);
     }
 
-pub invariant_of-self : goal.invariant_of-self
-invariant_of-self c =
+pub invariant_of-self-clause-kept : goal.invariant_of-self-clause-kept
+invariant_of-self-clause-kept c =
     let within : (get_or c.classes.result.now c.args.packet.now.class c.index-classes-packet.result).leaf < nodes (policy_of c.args.self.now).tree = all-at _ c.classes.result.now c.args.packet.now.class c.index-classes-packet.result c.classes.ensures.leaves (class-within (policy_of c.args.self.now) c.classes.result.now c.classes.ensures.classes c.args.packet.now c.requires.class) in
-    record {
-      kept = stations-reserved (policy_of c.args.self.now).tree c.args.self.now.states.items _ c.index_mut.result.now within (omega (arith, within, c.args.self.now.kept.count)) c.args.self.now.kept c.index_mut.ensures.value
-          c.reserve.new.self c.reserve.ensures.same c.reserve.ensures.kept c.reserve.ensures.children;
-    }
+    stations-reserved (policy_of c.args.self.now).tree c.args.self.now.states.items _ c.index_mut.result.now within (omega (arith, within, c.args.self.now.kept.count)) c.args.self.now.kept c.index_mut.ensures.value
+    c.reserve.new.self c.reserve.ensures.same c.reserve.ensures.kept c.reserve.ensures.children
 
 pub returns-clause-room : goal.returns-clause-room
 returns-clause-room c =
