@@ -1,1 +1,4 @@
 pub mod FirstClass
+pub mod WithinBounds
+pub mod Prepare
+pub mod FieldsThere

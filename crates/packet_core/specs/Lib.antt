@@ -1,1 +1,4 @@
 pub mod Conditions
+pub mod Numbers
+pub mod Classes
+pub mod Classifier

@@ -1,14 +1,15 @@
 //! Numbers in captured bytes, with the highest byte first.
-ghost use Rattle.std.specs.Prelude.{◌≡◌, ◌≤◌, ◌+◌, length};
+ghost use Rattle.std.specs.Prelude.{◌≡◌, ◌≤◌, ◌<◌, ◌+◌, ◌^◌, length};
 ghost use Rattle.packet_defs.specs.Bytes.{is_captured, number_at};
 
 use byteorder::{BigEndian, ByteOrder};
 
 /// Whether so many bytes are captured from a place on.
 pub fn is_captured(bytes: &[u8], len: usize, at: usize) -> bool
+    requires { at + len < 2 ^ 64 }
     ensures { result ≡ is_captured len at bytes.now }
 {
-    at <= bytes.len() && len <= bytes.len() - at
+    at + len <= bytes.len()
 }
 
 pub fn read_u8(bytes: &[u8], at: usize) -> u8

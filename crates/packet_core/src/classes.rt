@@ -21,7 +21,8 @@ fn value_of(field: FieldName, fields: &Fields, len: u32) -> Option<u32>
     }
 }
 
-fn has_version(version: u8, fields: &Fields) -> bool
+#[inline(always)]
+pub(crate) fn has_version(version: u8, fields: &Fields) -> bool
     ensures { result ≡ has_version version fields.now }
 {
     fields.version == Some(version)

@@ -1,5 +1,5 @@
 //! The header of an Ethernet II frame and its VLAN tags (IEEE 802.1Q).
-ghost use Rattle.std.specs.Prelude.{◌≡◌, ◌≤◌, ◌<◌, ◌+◌, ◌^◌};
+ghost use Rattle.std.specs.Prelude.{◌≡◌, ◌≤◌, ◌<◌, ◌+◌, ◌^◌, is_some};
 ghost use Rattle.packet_defs.specs.Ethernet.{is_tag_type, tag_at, type_place, ether_type, carried_fields, ethernet_fields};
 
 use crate::bytes::{is_captured, read_u16};
@@ -7,7 +7,7 @@ use crate::internet::{no_fields, read_ipv4, read_ipv6};
 use packet_defs::Fields;
 
 /// The place behind the two addresses.
-const TYPE_PLACE: usize = 12;
+pub const TYPE_PLACE: usize = 12;
 
 /// The bytes of a VLAN tag.
 const TAG_LEN: usize = 4;
@@ -17,12 +17,13 @@ const CUSTOMER_TAG: u16 = 0x8100;
 
 const SERVICE_TAG: u16 = 0x88A8;
 
-const IPV4: u16 = 0x0800;
+pub const IPV4: u16 = 0x0800;
 
-const IPV6: u16 = 0x86DD;
+pub const IPV6: u16 = 0x86DD;
 
 /// The VLAN id of the tag at a place, where it and the type behind it are captured.
-fn tag(bytes: &[u8], at: usize) -> Option<u16>
+pub fn tag(bytes: &[u8], at: usize) -> Option<u16>
+    requires { at < 2 ^ 32 }
     ensures { result ≡ tag_at at bytes.now }
 {
     if !is_captured(bytes, 6, at) {
@@ -34,12 +35,13 @@ fn tag(bytes: &[u8], at: usize) -> Option<u16>
     }
 }
 
-/// The place of the type, behind at most two tags.
-fn type_place(bytes: &[u8]) -> usize
+/// The place of the type, behind at most two tags, where it is known whether there is one.
+pub fn type_place(tagged: bool, bytes: &[u8]) -> usize
+    requires { tagged ≡ is_some (tag_at 12 bytes.now) }
     ensures value { result ≡ type_place bytes.now }
     ensures bound { result ≤ 20 }
 {
-    if tag(bytes, TYPE_PLACE).is_none() {
+    if !tagged {
         TYPE_PLACE
     } else if tag(bytes, TYPE_PLACE + TAG_LEN).is_none() {
         TYPE_PLACE + TAG_LEN
@@ -48,11 +50,24 @@ fn type_place(bytes: &[u8]) -> usize
     }
 }
 
+/// The type, where it is captured.
+pub fn type_at(bytes: &[u8], place: usize) -> Option<u16>
+    requires there { place ≡ type_place bytes.now }
+    requires bound { place ≤ 20 }
+    ensures { result ≡ ether_type bytes.now }
+{
+    if is_captured(bytes, 2, place) {
+        Some(read_u16(bytes, place))
+    } else {
+        None
+    }
+}
+
 /// The fields of what a frame carries behind its type.
 fn read_carried(bytes: &[u8]) -> Fields
     ensures { result ≡ carried_fields (ether_type bytes.now) (type_place bytes.now + 2) bytes.now }
 {
-    let place = type_place(bytes);
+    let place = type_place(tag(bytes, TYPE_PLACE).is_some(), bytes);
     if !is_captured(bytes, 2, place) {
         return no_fields();
     }

@@ -7,9 +7,9 @@ use crate::internet::{is_ipv4, no_fields, read_ipv4, read_ipv6};
 use packet_defs::Fields;
 
 /// The link types of Ethernet and of raw IP (pcap-linktype).
-const ETHERNET: u16 = 1;
+pub const ETHERNET: u16 = 1;
 
-const RAW: u16 = 101;
+pub const RAW: u16 = 101;
 
 /// The fields of a packet that begins with an IP header.
 fn read_raw(bytes: &[u8]) -> Fields

@@ -1,7 +1,7 @@
 //! The headers of the Internet Protocol, and the ports behind them.
 ghost use Rattle.std.specs.Prelude.{◌≡◌, ◌≤◌, ◌<◌, ◌+◌, ◌*◌, ◌^◌, length, IsTrue};
 ghost use Rattle.packet_defs.specs.Bytes.{number_at};
-ghost use Rattle.packet_defs.specs.Internet.{no_fields, version_at, has_ports, port_at, is_ipv4, behind_ipv4, is_first_fragment, has_ipv4_ports, ipv4_at, is_ipv6, traffic_class, has_ipv6_ports, ipv6_at};
+ghost use Rattle.packet_defs.specs.Internet.{no_fields, version_at, has_ports, port_at, is_ipv4, behind_ipv4, is_first_fragment, has_ipv4_ports, ipv4_fields, ipv4_at, is_ipv6, traffic_class, has_ipv6_ports, ipv6_fields, ipv6_at};
 
 use crate::bytes::{is_captured, read_u8, read_u16, read_u32, read_u128};
 use packet_defs::Fields;
@@ -34,6 +34,7 @@ pub fn no_fields() -> Fields
 
 /// Whether a header of this protocol begins at a place with two ports that are captured.
 fn has_ports(proto: u8, bytes: &[u8], at: usize) -> bool
+    requires { at + 4 < 2 ^ 64 }
     ensures { result ≡ has_ports proto at bytes.now }
 {
     (proto == TCP || proto == UDP) && is_captured(bytes, 4, at)
@@ -53,15 +54,15 @@ fn port(there: bool, bytes: &[u8], at: usize) -> Option<u16>
 
 /// Whether an IPv4 header begins at a place.
 pub fn is_ipv4(bytes: &[u8], at: usize) -> bool
+    requires { at < 2 ^ 32 }
     ensures { result ≡ is_ipv4 at bytes.now }
 {
-    is_captured(bytes, IPV4_LEN, at)
-        && read_u8(bytes, at) >> 4 == 4
-        && read_u8(bytes, at) & 0xF >= 5
+    is_captured(bytes, IPV4_LEN, at) && matches!(read_u8(bytes, at), 0x45..=0x4F)
 }
 
 /// Whether an IPv6 header begins at a place.
-fn is_ipv6(bytes: &[u8], at: usize) -> bool
+pub fn is_ipv6(bytes: &[u8], at: usize) -> bool
+    requires { at < 2 ^ 32 }
     ensures { result ≡ is_ipv6 at bytes.now }
 {
     is_captured(bytes, IPV6_LEN, at) && read_u8(bytes, at) >> 4 == 6
@@ -70,7 +71,8 @@ fn is_ipv6(bytes: &[u8], at: usize) -> bool
 /// The place behind an IPv4 header.
 fn behind_ipv4(bytes: &[u8], at: usize) -> usize
     requires { at + 1 ≤ length bytes.now }
-    ensures { result ≡ behind_ipv4 at bytes.now }
+    ensures value { result ≡ behind_ipv4 at bytes.now }
+    ensures bound { result ≤ at + 60 }
 {
     at + 4 * usize::from(read_u8(bytes, at) & 0xF)
 }
@@ -86,11 +88,21 @@ fn has_ipv4_ports(bytes: &[u8], at: usize) -> bool
 
 /// The fields where an IPv4 header is looked for at a place.
 pub fn read_ipv4(bytes: &[u8], at: usize) -> Fields
+    requires { at < 2 ^ 32 }
     ensures { result ≡ ipv4_at at bytes.now }
 {
     if !is_ipv4(bytes, at) {
         return no_fields();
     }
+    ipv4_fields(bytes, at)
+}
+
+/// The fields of an IPv4 header that begins at a place.
+#[inline(always)]
+pub fn ipv4_fields(bytes: &[u8], at: usize) -> Fields
+    requires { at + 20 ≤ length bytes.now }
+    ensures { result ≡ ipv4_fields at bytes.now }
+{
     let behind = behind_ipv4(bytes, at);
     let there = has_ipv4_ports(bytes, at);
     Fields {
@@ -107,11 +119,20 @@ pub fn read_ipv4(bytes: &[u8], at: usize) -> Fields
 
 /// The fields where an IPv6 header is looked for at a place.
 pub fn read_ipv6(bytes: &[u8], at: usize) -> Fields
+    requires { at < 2 ^ 32 }
     ensures { result ≡ ipv6_at at bytes.now }
 {
     if !is_ipv6(bytes, at) {
         return no_fields();
     }
+    ipv6_fields(bytes, at)
+}
+
+/// The fields of an IPv6 header that begins at a place.
+pub fn ipv6_fields(bytes: &[u8], at: usize) -> Fields
+    requires { at + 40 ≤ length bytes.now }
+    ensures { result ≡ ipv6_fields at bytes.now }
+{
     let proto = read_u8(bytes, at + 6);
     let traffic_class = (read_u16(bytes, at) >> 4 & 0xFF) as u8;
     let there = has_ports(proto, bytes, at + IPV6_LEN);

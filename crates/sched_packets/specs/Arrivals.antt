@@ -4,6 +4,7 @@ use Rattle.pcap_defs.specs.Packet.{CapturedPacket}
 use Rattle.pcap_defs.specs.Contents.{Contents, FileContents, no_capture, holds}
 use Rattle.capture_core.specs.Captures.{nothing_left}
 use Rattle.policy_rules.specs.Resolved.{Resolved}
+use Rattle.packet_core.specs.Classifier.{policy_of}
 use Rattle.sched_defs.specs.Packets.{Left, Captured, most_packets}
 use Rattle.sched_defs.specs.declared.packets.Halt.{Halt}
 use Rattle.sched_defs.specs.declared.packets.Halt.TheVariants as halt
@@ -12,7 +13,7 @@ use Rattle.sched_packets.specs.declared.arrivals.Arrivals.{Arrivals}
 
 -- the policy that gives each packet its class
 abbrev pub resolved_of : {R S : Type 0} → Arrivals R S → Resolved
-resolved_of arrivals = arrivals.policy.now
+resolved_of arrivals = policy_of arrivals.classifier
 
 -- how many packets came, where a reader has handed out so many
 abbrev pub given_by : {R S : Type 0} → (R → ℕ) → Arrivals R S → ℕ

@@ -6,10 +6,10 @@ ghost use Rattle.capture_core.specs.Captures.{Opens, IsOneLess, IsAt, nothing_le
 ghost use Rattle.sched_packets.specs.NextPacket.{IsNext, HaltsAt};
 
 use crate::halts::{halt_of, halt_unbegun};
-use crate::linked::LinkedPacket;
-use crate::packets::packet_in;
+use crate::packets::put_packet;
 use capture_core::CaptureReader;
 use outside_core::Shelf;
+use packet_core::{Classifier, Packet};
 use policy_core::Policy;
 use sched_defs::Halt;
 use std::alloc::Global;
@@ -19,7 +19,7 @@ use std::marker::PhantomData;
 /// of one packet are held at a time, 262,144 at most, and behind the end of the capture nothing more is read.
 #[derive(Drop)]
 pub struct Arrivals<'a, R, S> {
-    policy: &'a Policy,
+    classifier: Classifier<'a>,
     reader: R,
     bytes: Vec<u8>,
     over: bool,
@@ -50,13 +50,16 @@ impl<'a, R: CaptureReader + Drop, S: Shelf> Arrivals<'a, R, S> {
     {
         let mut reader = R::new(alloc);
         match reader.start(shelf) {
-            Ok(()) => Ok(Arrivals {
-                policy,
-                reader,
-                bytes: Vec::new(alloc),
-                over: false,
-                shelf: PhantomData,
-            }),
+            Ok(()) => match Classifier::new(alloc, policy) {
+                Ok(classifier) => Ok(Arrivals {
+                    classifier,
+                    reader,
+                    bytes: Vec::new(alloc),
+                    over: false,
+                    shelf: PhantomData,
+                }),
+                Err(_) => Err(Halt::Memory),
+            },
             Err(unread) => Err(halt_of(unread)),
         }
     }
@@ -86,13 +89,14 @@ impl<'a, R: CaptureReader + Drop, S: Shelf> Arrivals<'a, R, S> {
         }
     }
 
-    /// The next packet, if one is left, with its link type. It may be asked for again where none is, and not after an error.
-    pub fn next_linked(&mut self, source: &mut S) -> Result<Option<LinkedPacket>, Halt>
+    /// Puts the next packet, if one is left, in place of another, and answers its link type. It may be asked for again where
+    /// none is, and not after an error.
+    pub fn next_packet(&mut self, source: &mut S, packet: &mut Packet) -> Result<Option<u16>, Halt>
         requires ready { IsReady R.ready R.given self.old (S.begun source.old) }
 
-        ensures next { IfOk result (λ o. IfSome o (λ l. IsNext (resolved_of self.old) (given_by R.given self.old)
+        ensures next { IfOk result (λ o. IfSome o (λ link. IsNext (resolved_of self.old) (given_by R.given self.old)
             (contents_of R.left self.old (S.left source.old)) (contents_of R.left self.new (S.left source.new))
-            l.link l.packet (captured_by self.new))) }
+            link packet.new (captured_by self.new))) }
         ensures ended { IfOk result (λ o. IfNone o (IsAt None (contents_of R.left self.old (S.left source.old)))) }
         ensures over { IfOk result (λ o. IfNone o (contents_of R.left self.new (S.left source.new) ≡ Some nothing_left)) }
         ensures fault { IfErr result (HaltsAt (contents_of R.left self.old (S.left source.old))) }
@@ -107,10 +111,10 @@ impl<'a, R: CaptureReader + Drop, S: Shelf> Arrivals<'a, R, S> {
             return Ok(None);
         }
         match self.reader.next(source, &mut self.bytes) {
-            Ok(Some(read)) => Ok(Some(LinkedPacket {
-                packet: packet_in(self.policy, &read, &self.bytes),
-                link: read.link,
-            })),
+            Ok(Some(read)) => {
+                put_packet(&self.classifier, &read, &self.bytes, packet);
+                Ok(Some(read.link))
+            }
             Ok(None) => {
                 self.over = true;
                 Ok(None)

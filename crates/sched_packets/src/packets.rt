@@ -1,26 +1,63 @@
 //! The packet of a capture.
-ghost use Rattle.std.specs.Prelude.{◌≡◌};
+ghost use Rattle.std.specs.Prelude.{◌≡◌, ◌<◌, ◌^◌};
 ghost use Rattle.capture_core.specs.Captures;
+ghost use Rattle.packet_core.specs.Classifier.{policy_of};
 ghost use Rattle.sched_defs.specs.Sound.{IsKnown};
 ghost use Rattle.sched_packets.specs.Packets.{packet_of};
 
 use capture_core::LinkedFrame;
-use packet_core::{Packet, classify, flow, read_fields};
-use policy_core::Policy;
+use packet_core::{Classifier, Packet};
+use rank_defs::FlowKey;
 
-/// The packet with its class and its flow, of which these bytes were captured.
-pub(crate) fn packet_in(policy: &Policy, read: &LinkedFrame, bytes: &[u8]) -> Packet
-    ensures packet { result ≡ packet_of policy.now read.now.frame.number (Captures.packet_of read.now bytes.now) }
-    ensures known { IsKnown policy.now.policy result }
-    ensures number { result.number ≡ read.now.frame.number }
-    ensures moment { result.moment ≡ read.now.frame.moment }
+/// What stands for a packet before it is read.
+const UNREAD: Packet = Packet {
+    number: 0,
+    class: 0,
+    len: 0,
+    moment: 0,
+    flow: FlowKey {
+        version: 0,
+        source: 0,
+        target: 0,
+        proto: 0,
+        sport: 0,
+        dport: 0,
+    },
+};
+
+/// A packet before it is read.
+#[inline(always)]
+pub(crate) fn unread_packet() -> Packet {
+    UNREAD
+}
+
+/// Puts a number, an original length and a moment into a packet.
+#[inline(always)]
+fn put_frame(number: u64, len: u32, moment: u64, packet: &mut Packet)
+    ensures number { packet.new.number ≡ number }
+    ensures len { packet.new.len ≡ len }
+    ensures bound { packet.new.len < 2 ^ 32 }
+    ensures moment { packet.new.moment ≡ moment }
 {
-    let fields = read_fields(read.link, bytes);
-    Packet {
-        number: read.frame.number,
-        class: classify(policy, &fields, read.frame.len),
-        len: read.frame.len,
-        moment: read.frame.moment,
-        flow: flow(&fields),
-    }
+    packet.number = number;
+    packet.len = len;
+    packet.moment = moment;
+}
+
+/// Puts the packet with its class and its flow, of which these bytes were captured, in place of another.
+#[inline(always)]
+pub(crate) fn put_packet(
+    classifier: &Classifier,
+    read: &LinkedFrame,
+    bytes: &[u8],
+    packet: &mut Packet,
+)
+    ensures packet { packet.new ≡ packet_of (policy_of classifier.now) read.now.frame.number (Captures.packet_of read.now bytes.now) }
+    ensures known { IsKnown (policy_of classifier.now).policy packet.new }
+    ensures number { packet.new.number ≡ read.now.frame.number }
+    ensures moment { packet.new.moment ≡ read.now.frame.moment }
+{
+    let frame = &read.frame;
+    put_frame(frame.number, frame.len, frame.moment, packet);
+    classifier.sort(read.link, bytes, packet);
 }

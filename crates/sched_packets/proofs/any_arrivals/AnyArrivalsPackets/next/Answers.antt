@@ -3,18 +3,17 @@ use Rattle.sched_packets.proofs.PacketsLeft.{Gives, gives, ends, is_over, none_k
 use Rattle.sched_packets.proofs.any_arrivals.AnyArrivalsPackets.next.Given.{Over}
 use Rattle.sched_packets.proofs.any_arrivals.AnyArrivalsPackets.next.Goals as goal
 
-next_gives : (g : Over) (c : goal.After-result-1 g) → let a = c.args.self.now in let b = c.next_linked.new.self in
-    Gives (resolved_of a) (given_by a) (given_by b) (contents_of a (g.S.Shelf.left c.args.source.now)) (contents_of b (g.S.Shelf.left c.next_linked.new.source)) c.in-Ok-Some.linked.packet (captured_by b)
+next_gives : (g : Over) (c : goal.In-Ok-Some g) → let a = c.args.self.now in let b = c.next_packet.new.self in
+    Gives (resolved_of a) (given_by a) (given_by b) (contents_of a (g.S.Shelf.left c.args.source.now)) (contents_of b (g.S.Shelf.left c.next_packet.new.source)) c.next_packet.new.packet (captured_by b)
 next_gives g c =
     let a = c.args.self.now in
-    let b = c.next_linked.new.self in
+    let b = c.next_packet.new.self in
     let e = c.in-Ok-Some.ensures in
-    let l = c.in-Ok-Some.linked in
-    gives (resolved_of a) (given_by a) (given_by b) (contents_of a (g.S.Shelf.left c.args.source.now)) (contents_of b (g.S.Shelf.left c.next_linked.new.source))
-    l.link l.packet (captured_by b) (rw c.in-Ok-Some.field-0-is at e.given) (rw c.in-Ok-Some.field-0-is at e.next)
+    gives (resolved_of a) (given_by a) (given_by b) (contents_of a (g.S.Shelf.left c.args.source.now)) (contents_of b (g.S.Shelf.left c.next_packet.new.source))
+    _ c.next_packet.new.packet (captured_by b) (rw c.in-Ok-Some.field-0-is at e.given) (rw c.in-Ok-Some.field-0-is at e.next)
 
 pub returns-in-Ok-Some-clause-came : goal.returns-in-Ok-Some-clause-came
-returns-in-Ok-Some-clause-came g c = rw (c.next_linked.ensures.policy) (next_gives g c).came
+returns-in-Ok-Some-clause-came g c = rw (c.next_packet.ensures.policy) (next_gives g c).came
 
 pub returns-in-Ok-Some-clause-bytes : goal.returns-in-Ok-Some-clause-bytes
 returns-in-Ok-Some-clause-bytes g c = (next_gives g c).bytes
@@ -25,20 +24,20 @@ returns-in-Ok-Some-clause-known g c = (next_gives g c).known
 pub returns-in-Ok-None-clause-none : goal.returns-in-Ok-None-clause-none
 returns-in-Ok-None-clause-none g c =
     let a = c.args.self.now in
-    let b = c.next_linked.new.self in
+    let b = c.next_packet.new.self in
     let e = c.in-Ok-None.ensures in
-    rw (c.next_linked.ensures.policy) (ends (resolved_of a) (given_by a) (given_by b) (contents_of a (g.S.Shelf.left c.args.source.now)) (contents_of b (g.S.Shelf.left c.next_linked.new.source))
+    rw (c.next_packet.ensures.policy) (ends (resolved_of a) (given_by a) (given_by b) (contents_of a (g.S.Shelf.left c.args.source.now)) (contents_of b (g.S.Shelf.left c.next_packet.new.source))
     (rw c.in-Ok-None.field-0-is at e.ended) (rw c.in-Ok-None.field-0-is at e.over))
 
 pub returns-in-Ok-None-clause-over : goal.returns-in-Ok-None-clause-over
 returns-in-Ok-None-clause-over g c =
-    let b = c.next_linked.new.self in
-    is_over (resolved_of b) (given_by b) (contents_of b (g.S.Shelf.left c.next_linked.new.source)) (rw c.in-Ok-None.field-0-is at c.in-Ok-None.ensures.over)
+    let b = c.next_packet.new.self in
+    is_over (resolved_of b) (given_by b) (contents_of b (g.S.Shelf.left c.next_packet.new.source)) (rw c.in-Ok-None.field-0-is at c.in-Ok-None.ensures.over)
 
 pub returns-in-Ok-None-clause-known : goal.returns-in-Ok-None-clause-known
 returns-in-Ok-None-clause-known g c =
-    let b = c.next_linked.new.self in
-    none_known _ (given_by b) (contents_of b (g.S.Shelf.left c.next_linked.new.source)) (rw c.in-Ok-None.field-0-is at c.in-Ok-None.ensures.over)
+    let b = c.next_packet.new.self in
+    none_known _ (given_by b) (contents_of b (g.S.Shelf.left c.next_packet.new.source)) (rw c.in-Ok-None.field-0-is at c.in-Ok-None.ensures.over)
 
 pub returns-in-Err-clause-fault : goal.returns-in-Err-clause-fault
 returns-in-Err-clause-fault g c =

@@ -1,0 +1,7 @@
+-- What a classifier stands for.
+use Rattle.policy_rules.specs.Resolved.{Resolved}
+use Rattle.packet_core.specs.declared.classifier.Classifier.{Classifier}
+
+-- the policy whose classes it prepared
+abbrev pub policy_of : Classifier → Resolved
+policy_of classifier = classifier.policy.now
