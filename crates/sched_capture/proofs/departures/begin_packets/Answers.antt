@@ -1,4 +1,5 @@
 use Rattle.std.proofs.lemmas.Result.{on_err_weaker}
+use Rattle.outside_core.proofs.KeptLaws.{sink-same}
 use Rattle.sched_packets.specs.OneLink.{one_link_in}
 use Rattle.sched_capture.proofs.Refusals.{told_part, none_part}
 use Rattle.sched_capture.proofs.departures.begin_packets.Goals as goal
@@ -13,3 +14,6 @@ returns-in-Err-Source-clause-part g c = λ file opens. none_part (one_link_in fi
 
 pub returns-in-Err-Memory-clause-part : goal.returns-in-Err-Memory-clause-part
 returns-in-Err-Memory-clause-part g c = λ file opens. none_part (one_link_in file) (g.K.Sink.written c.args.sink.now)
+
+pub returns-in-Ok-clause-kept : goal.returns-in-Ok-clause-kept
+returns-in-Ok-clause-kept g c = sink-same g.K.Sink.written g.K.Sink.faults c.args.sink.now
