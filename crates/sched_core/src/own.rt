@@ -15,6 +15,7 @@ ghost use Rattle.sched_held.specs.Held.{held_at};
 
 use packet_defs::{Departed, Packet};
 use policy_core::Policy;
+use sched_defs::BLANK;
 use sched_held::Held;
 use sched_nodes::Stations;
 use std::alloc::{AllocError, Global};
@@ -140,9 +141,10 @@ impl<'a> Own<'a> {
         ensures policy { policy_in self.new ≡ policy_in self.old }
     {
         self.departures += 1;
-        let Some(packet) = self.held.take(number) else {
+        let mut packet = BLANK;
+        if !self.held.take(number, &mut packet) {
             unreachable!()
-        };
+        }
         self.stations.pop_steps(&packet, digits, ranks, self.moment);
         let leaf = self.leaf(&packet);
         self.filled[leaf as usize] -= 1;

@@ -11,4 +11,4 @@ pub use laws::{
     courses_can_be_made, events_join, events_keep_states_sound, held_packets_stand_in_leaves,
     links_send_all, packets_keep_to_their_leaves,
 };
-pub use packets::{Halt, Packets};
+pub use packets::{BLANK, Halt, Packets};

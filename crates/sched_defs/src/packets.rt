@@ -1,5 +1,5 @@
 //! The trait of packets that come one by one.
-ghost use Rattle.std.specs.Prelude.{◌≡◌, ◌≤◌, ◌+◌, ℕ, true, false, Option, List, [], ◌∷◌, length, is_some, if◌then◌else◌, IfOk, IfErr, IfSome, IfNone, OnOk, IsErrOf};
+ghost use Rattle.std.specs.Prelude.{◌≡◌, ◌≤◌, ◌+◌, ℕ, true, false, Option, List, [], ◌∷◌, length, if◌then◌else◌, IfOk, IfErr, OnOk, IsErrOf};
 ghost use Rattle.outside_core.specs.Faults.{Rose};
 ghost use Rattle.pcap_defs.specs.Record.{most_captured};
 ghost use Rattle.policy_defs.specs.Policy.{Policy};
@@ -7,6 +7,7 @@ ghost use Rattle.sched_defs.specs.Numbered.{IsSendable};
 ghost use Rattle.sched_defs.specs.Packets.{most_packets, Left, Came, OneCame, Captured, StaysKnown, IsKnownAs, AreThere, IsOver, IsHalt};
 
 use packet_defs::Packet;
+use rank_defs::FlowKey;
 
 /// Why no packet comes.
 #[derive(Clone, Copy, PartialEq, Eq, Debug)]
@@ -18,6 +19,22 @@ pub enum Halt {
     /// There is no memory.
     Memory,
 }
+
+/// What stands for a packet before one is put in its place.
+pub const BLANK: Packet = Packet {
+    number: 0,
+    class: 0,
+    len: 0,
+    moment: 0,
+    flow: FlowKey {
+        version: 0,
+        source: 0,
+        target: 0,
+        proto: 0,
+        sport: 0,
+        dport: 0,
+    },
+};
 
 /// Packets that come one by one, in the order of a capture.
 pub trait Packets {
@@ -45,21 +62,22 @@ pub trait Packets {
     /// How many faults of the source there were, in 64 bits; the last value stands.
     ghost faults: { Self.Source → ℕ };
 
-    /// The next packet, if one is left. It may be asked for again where none is, and not after an error.
-    fn next(&mut self, source: &mut Self::Source) -> Result<Option<Packet>, Halt>
+    /// Puts the next packet in place of another, and answers whether one was left. It may be asked for again where none is, and
+    /// not after an error.
+    fn next(&mut self, source: &mut Self::Source, packet: &mut Packet) -> Result<bool, Halt>
         requires ready { ready self.old source.old }
 
-        ensures number { IfOk result (λ o. IfSome o (λ p. p.number ≡ given self.old + 1)) }
-        ensures sendable { IfOk result (λ o. IfSome o (λ p. IsSendable (policy self.old) p)) }
-        ensures came { IfOk result (λ o. IfSome o (λ p. Came (left self.old source.old) (left self.new source.new) (p ∷ []))) }
-        ensures bytes { IfOk result (λ o. IfSome o (λ p. IsKnownAs (captures self.old source.old) p.number (captured self.new))) }
-        ensures short { IfOk result (λ o. IfSome o (λ p. length (captured self.new) ≤ most_captured)) }
+        ensures number { IfOk result (λ some. some ≡ true → packet.new.number ≡ given self.old + 1) }
+        ensures sendable { IfOk result (λ some. some ≡ true → IsSendable (policy self.old) packet.new) }
+        ensures came { IfOk result (λ some. some ≡ true → Came (left self.old source.old) (left self.new source.new) (packet.new ∷ [])) }
+        ensures bytes { IfOk result (λ some. some ≡ true → IsKnownAs (captures self.old source.old) packet.new.number (captured self.new)) }
+        ensures short { IfOk result (λ some. some ≡ true → length (captured self.new) ≤ most_captured) }
         ensures known { OnOk result (StaysKnown (captures self.old source.old) (captures self.new source.new)) }
-        ensures none { IfOk result (λ o. IfNone o (Came (left self.old source.old) (left self.new source.new) [])) }
-        ensures over { IfOk result (λ o. IfNone o (IsOver (left self.new source.new))) }
+        ensures none { IfOk result (λ some. some ≡ false → Came (left self.old source.old) (left self.new source.new) []) }
+        ensures over { IfOk result (λ some. some ≡ false → IsOver (left self.new source.new)) }
         ensures fault { IfErr result (λ halt. IsHalt (left self.old source.old) halt) }
 
-        ensures given { IfOk result (λ o. given self.new ≡ given self.old + (if is_some o then 1 else 0)) }
+        ensures given { IfOk result (λ some. given self.new ≡ given self.old + (if some then 1 else 0)) }
         ensures few { OnOk result (given self.new ≤ most_packets) }
         ensures ready { OnOk result (ready self.new source.new) }
         ensures policy { policy self.new ≡ policy self.old }

@@ -13,6 +13,11 @@ pub neither : (p s : Option Packet) → or_stray p s ≡ None → (p ≡ None) �
 neither (Some p) s e = absurd (true≢false (ap is_some e))
 neither None s e = (refl, e)
 
+-- ---- where one is found, the answer is that it was put in place of another
+pub was-given : (b : Bool) (p : Packet) (o : Option Packet) → o ≡ (if b then Some p else None) → is_some o ≡ true → b ≡ true
+was-given true p o e some = refl
+was-given false p o e some = absurd (true≢false (sym some ∙ ap is_some e))
+
 -- ---- a number m is emptied
 pub taken-some : (n m : ℕ) (at new : Option Packet) → new ≡ (if n == m then None else at) → is_some new ≡ true → (n ≢ m) × (is_some at ≡ true)
 taken-some n m at new e s = split n m

@@ -6,6 +6,7 @@ ghost use Rattle.sched_held.specs.Slots.{packet_in, stands_at, filled_among, are
 
 use crate::slot::{Slot, WIDTH};
 use packet_defs::Packet;
+use sched_defs::BLANK;
 use std::alloc::{AllocError, Global};
 
 /// Slots for numbers that are the same when they are divided by the width, in the order of the numbers. So many are filled.
@@ -95,7 +96,9 @@ impl Chunk {
         ensures { result ≡ packet_of self.now number }
     {
         let i = self.find(number)?;
-        Some(self.slots[i].packet(number))
+        let mut packet = BLANK;
+        self.slots[i].put_packet(number, &mut packet);
+        Some(packet)
     }
 
     /// The place of the first packet.
@@ -108,16 +111,18 @@ impl Chunk {
         0
     }
 
-    /// Empties the slot of a number.
-    pub(crate) fn take(&mut self, number: u64) -> Option<Packet>
-        ensures value { result ≡ packet_of self.old number }
+    /// Empties the slot of a number, if it is filled, and answers whether it was. Its packet is put in place of another.
+    pub(crate) fn take(&mut self, number: u64, packet: &mut Packet) -> bool
+        ensures value { packet_of self.old number ≡ (if result then Some packet.new else None) }
         ensures rest { (n : ℕ) → packet_of self.new n ≡ (if n % 64 == number % 64 then None else packet_of self.old n) }
     {
-        let i = self.find(number)?;
-        let packet = self.slots[i].packet(number);
+        let Some(i) = self.find(number) else {
+            return false;
+        };
+        self.slots[i].put_packet(number, packet);
         self.slots[i].filled = false;
         self.filled -= 1;
-        Some(packet)
+        true
     }
 
     /// Lets go of the empty slots where they are more than a quarter of all.

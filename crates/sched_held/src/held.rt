@@ -1,5 +1,5 @@
 //! The packets that are held.
-ghost use Rattle.std.specs.Prelude.{◌≡◌, ◌+◌, ◌≤◌, ◌<◌, ◌^◌, ℕ, None, Some, nat_eq, IsSome, length, OnOk, OnErr};
+ghost use Rattle.std.specs.Prelude.{◌≡◌, ◌+◌, ◌≤◌, ◌<◌, ◌^◌, ℕ, None, Some, nat_eq, IsSome, length, if◌then◌else◌, OnOk, OnErr};
 ghost use Rattle.std.proofs.Props.{props};
 ghost use Rattle.indexmap.specs.IndexMap.{get};
 ghost use Rattle.sched_defs.specs.SourceState.{with_packet, without};
@@ -9,6 +9,7 @@ ghost use Rattle.sched_held.specs.Windows.{packet_at, end_of};
 use crate::window::Window;
 use indexmap::IndexMap;
 use packet_defs::Packet;
+use sched_defs::BLANK;
 use std::alloc::{AllocError, Global};
 
 /// The last number for which there may be a slot: fewer packets stand in slots then than half of the numbers there are, and a
@@ -53,14 +54,21 @@ impl Held {
         self.put_stray(packet)
     }
 
-    /// Lets go of the packet with a number, if one is held. Takes no memory.
-    pub fn take(&mut self, number: u64) -> Option<Packet>
-        ensures value { result ≡ held_at self.old number }
+    /// Lets go of the packet with a number, if one is held, and answers whether one was. It is put in place of another. Takes no
+    /// memory.
+    pub fn take(&mut self, number: u64, packet: &mut Packet) -> bool
+        ensures value { held_at self.old number ≡ (if result then Some packet.new else None) }
         ensures rest { (n : ℕ) → held_at self.new n ≡ without (held_at self.old) number n }
     {
-        match self.window.clear(number) {
-            Some(packet) => Some(packet),
-            None => self.strays.swap_remove(&number),
+        if self.window.clear(number, packet) {
+            return true;
+        }
+        match self.strays.swap_remove(&number) {
+            Some(stray) => {
+                *packet = stray;
+                true
+            }
+            None => false,
         }
     }
 
@@ -82,7 +90,8 @@ impl Held {
             IsSome (packet_at self.old.window packet.now.number) → self.new.window.filled < self.old.window.filled) }
     {
         self.strays.insert(packet.number, *packet)?;
-        self.window.clear(packet.number);
+        let mut gone = BLANK;
+        self.window.clear(packet.number, &mut gone);
         Ok(())
     }
 

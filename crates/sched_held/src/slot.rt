@@ -1,9 +1,8 @@
 //! The room that most packets take.
-ghost use Rattle.std.specs.Prelude.{◌≡◌, ◌↔◌, ◌%◌, Some, IsSome, IfSome, true};
+ghost use Rattle.std.specs.Prelude.{◌≡◌, ◌↔◌, ◌%◌, IsSome, IfSome, true};
 ghost use Rattle.sched_held.specs.Slots.{packet_in, IsBrief, stands_at};
 
 use packet_defs::Packet;
-use rank_defs::FlowKey;
 
 /// How many numbers share a chunk. The place of a number there is what is left when it is divided by the width.
 pub(crate) const WIDTH: u64 = 64;
@@ -55,24 +54,21 @@ impl Slot {
         })
     }
 
-    /// The packet in a slot, under its number.
-    pub(crate) fn packet(&self, number: u64) -> Packet
-        ensures { result ≡ packet_in number self.now }
+    /// Puts the packet in a slot, under its number, in place of another.
+    #[inline(always)]
+    pub(crate) fn put_packet(&self, number: u64, packet: &mut Packet)
+        ensures { packet.new ≡ packet_in number self.now }
     {
-        Packet {
-            number,
-            class: self.class,
-            len: self.len,
-            moment: self.moment,
-            flow: FlowKey {
-                version: self.version,
-                source: u128::from(self.source),
-                target: u128::from(self.target),
-                proto: self.proto,
-                sport: self.sport,
-                dport: self.dport,
-            },
-        }
+        packet.number = number;
+        packet.class = self.class;
+        packet.len = self.len;
+        packet.moment = self.moment;
+        packet.flow.version = self.version;
+        packet.flow.source = u128::from(self.source);
+        packet.flow.target = u128::from(self.target);
+        packet.flow.proto = self.proto;
+        packet.flow.sport = self.sport;
+        packet.flow.dport = self.dport;
     }
 
     /// Whether a packet stands here whose number has a place.

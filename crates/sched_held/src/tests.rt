@@ -2,6 +2,7 @@
 use crate::Held;
 use packet_defs::Packet;
 use rank_defs::FlowKey;
+use sched_defs::BLANK;
 use std::alloc::{AllocError, Global};
 use std::process::Abort;
 use std::test::Fail;
@@ -40,11 +41,21 @@ fn put_all(held: &mut Held, numbers: &[u64], flow: FlowKey) -> Result<(), AllocE
     Ok(())
 }
 
+/// Takes the packet of a number, if one is held.
+fn take(held: &mut Held, number: u64) -> Option<Packet> {
+    let mut packet = BLANK;
+    if held.take(number, &mut packet) {
+        Some(packet)
+    } else {
+        None
+    }
+}
+
 /// Takes the packets of these numbers, each once.
 fn take_all<R: Abort>(rt: &R, held: &mut Held, numbers: &[u64], flow: FlowKey) {
     for number in numbers {
-        assert_eq!(rt; held.take(*number), Some(packet(*number, flow)));
-        assert_eq!(rt; held.take(*number), None);
+        assert_eq!(rt; take(held, *number), Some(packet(*number, flow)));
+        assert_eq!(rt; take(held, *number), None);
     }
 }
 
@@ -56,7 +67,7 @@ fn packets_are_held_until_they_are_taken(rt: HostRuntime) -> Result<(), Fail> {
     for flow in [FLOW, FAR] {
         put_all(&mut held, &numbers, flow)?;
         assert_eq!(rt; held.len(), 8);
-        assert_eq!(rt; held.take(8), None);
+        assert_eq!(rt; take(&mut held, 8), None);
         take_all(&rt, &mut held, &numbers, flow);
         assert_eq!(rt; held.len(), 0);
     }

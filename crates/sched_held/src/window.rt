@@ -1,5 +1,5 @@
 //! Slots for packets whose numbers follow each other.
-ghost use Rattle.std.specs.Prelude.{◌≡◌, ◌==◌, ◌&&◌, ◌≤◌, ◌<◌, ◌+◌, ◌/◌, ◌^◌, ℕ, None, Some, length, if◌then◌else◌, IfSome, IfNone, IsSome, IfOk, OnOk, OnErr};
+ghost use Rattle.std.specs.Prelude.{◌≡◌, ◌==◌, ◌&&◌, ◌≤◌, ◌<◌, ◌+◌, ◌/◌, ◌^◌, ℕ, None, Some, length, if◌then◌else◌, IfSome, IfNone, IsTrue, IfOk, OnOk, OnErr};
 ghost use Rattle.std.proofs.Props.{props};
 ghost use Rattle.std.specs.VecDeque.{deque_len};
 ghost use Rattle.sched_defs.specs.SourceState.{without};
@@ -182,18 +182,23 @@ impl Window {
         Ok(())
     }
 
-    /// Lets go of the packet of a number, and of the empty chunks before all others.
-    pub(crate) fn clear(&mut self, number: u64) -> Option<Packet>
-        ensures value { result ≡ packet_at self.old number }
+    /// Lets go of the packet of a number, if one stands here, and of the empty chunks before all others, and answers whether one
+    /// stood here. It is put in place of another.
+    pub(crate) fn clear(&mut self, number: u64, packet: &mut Packet) -> bool
+        ensures value { packet_at self.old number ≡ (if result then Some packet.new else None) }
         ensures packets { (n : ℕ) → packet_at self.new n ≡ without (packet_at self.old) number n }
         ensures end { end_of self.new ≡ end_of self.old }
-        ensures fewer { IsSome result → self.new.filled < self.old.filled }
+        ensures fewer { IsTrue result → self.new.filled < self.old.filled }
     {
-        let i = self.place(number)?;
-        let packet = self.chunks[i].take(number)?;
+        let Some(i) = self.place(number) else {
+            return false;
+        };
+        if !self.chunks[i].take(number, packet) {
+            return false;
+        }
         self.filled -= 1;
         self.trim();
-        Some(packet)
+        true
     }
 
     fn trim(&mut self)

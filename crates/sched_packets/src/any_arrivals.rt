@@ -8,8 +8,6 @@ ghost use Rattle.sched_packets.specs.Arrivals.{Begins, Refuses};
 ghost use Rattle.sched_packets.specs.NextPacket.{IsNext, HaltsAt};
 
 use crate::arrivals::Arrivals;
-use crate::linked::LinkedPacket;
-use crate::packets::unread_packet;
 use outside_core::Shelf;
 use packet_core::Packet;
 use pcap_core::{CaptureFault, Reader};
@@ -66,7 +64,7 @@ impl<'a, S: Shelf> AnyArrivals<'a, S> {
     /// Puts the next packet, if one is left, in place of another, and answers its link type. It may be asked for again where
     /// none is, and not after an error.
     #[inline(always)]
-    fn next_packet(&mut self, source: &mut S, packet: &mut Packet) -> Result<Option<u16>, Halt>
+    pub fn next_packet(&mut self, source: &mut S, packet: &mut Packet) -> Result<Option<u16>, Halt>
         requires ready { IsReady self.old (S.begun source.old) }
 
         ensures next { IfOk result (λ o. IfSome o (λ link. IsNext (resolved_of self.old) (given_by self.old)
@@ -85,31 +83,6 @@ impl<'a, S: Shelf> AnyArrivals<'a, S> {
         match self {
             AnyArrivals::Classic(arrivals) => arrivals.next_packet(source, packet),
             AnyArrivals::Blocks(arrivals) => arrivals.next_packet(source, packet),
-        }
-    }
-
-    /// The next packet, if one is left, with its link type. It may be asked for again where none is, and not after an error.
-    pub fn next_linked(&mut self, source: &mut S) -> Result<Option<LinkedPacket>, Halt>
-        requires ready { IsReady self.old (S.begun source.old) }
-
-        ensures next { IfOk result (λ o. IfSome o (λ l. IsNext (resolved_of self.old) (given_by self.old)
-            (contents_of self.old (S.left source.old)) (contents_of self.new (S.left source.new))
-            l.link l.packet (captured_by self.new))) }
-        ensures ended { IfOk result (λ o. IfNone o (IsAt None (contents_of self.old (S.left source.old)))) }
-        ensures over { IfOk result (λ o. IfNone o (contents_of self.new (S.left source.new) ≡ Some nothing_left)) }
-        ensures fault { IfErr result (HaltsAt (contents_of self.old (S.left source.old))) }
-
-        ensures given { IfOk result (λ o. given_by self.new ≡ given_by self.old + (if is_some o then 1 else 0)) }
-        ensures ready { OnOk result (IsReady self.new (S.begun source.new)) }
-        ensures policy { resolved_of self.new ≡ resolved_of self.old }
-        ensures kept { KeepsShelf S.lends S.content S.faults source.old source.new }
-        ensures cause { IsErrOf result Halt.Source → Rose (S.faults source.old) (S.faults source.new) }
-    {
-        let mut packet = unread_packet();
-        match self.next_packet(source, &mut packet) {
-            Ok(Some(link)) => Ok(Some(LinkedPacket { packet, link })),
-            Ok(None) => Ok(None),
-            Err(halt) => Err(halt),
         }
     }
 }
@@ -134,11 +107,10 @@ impl<'a, S: Shelf> Packets for AnyArrivals<'a, S> {
     ghost faults = { S.faults };
 
     #[inline(always)]
-    fn next(&mut self, source: &mut S) -> Result<Option<Packet>, Halt> {
-        let mut packet = unread_packet();
-        match self.next_packet(source, &mut packet) {
-            Ok(Some(_)) => Ok(Some(packet)),
-            Ok(None) => Ok(None),
+    fn next(&mut self, source: &mut S, packet: &mut Packet) -> Result<bool, Halt> {
+        match self.next_packet(source, packet) {
+            Ok(Some(_)) => Ok(true),
+            Ok(None) => Ok(false),
             Err(halt) => Err(halt),
         }
     }

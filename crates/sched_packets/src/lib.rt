@@ -5,7 +5,6 @@
 mod any_arrivals;
 mod arrivals;
 mod halts;
-mod linked;
 mod one_link;
 mod packets;
 #[cfg(test)]
@@ -13,6 +12,5 @@ mod tests;
 
 pub use any_arrivals::AnyArrivals;
 pub use arrivals::Arrivals;
-pub use linked::LinkedPacket;
 pub use one_link::{OTHER_LINK, OneLink};
 pub use sched_defs::{Halt, Packets};

@@ -9,7 +9,7 @@ ghost use Rattle.sched_packets.specs.Arrivals.{Begins, Refuses, AreCapturedIn};
 use crate::any_arrivals::AnyArrivals;
 use outside_core::Shelf;
 use packet_core::Packet;
-use sched_defs::{Halt, Packets};
+use sched_defs::{BLANK, Halt, Packets};
 
 /// The code of a packet that has another link type than the first, behind those of faults of captures. Its place is the
 /// packet's number.
@@ -48,11 +48,12 @@ impl<'a, S: Shelf> OneLink<'a, S> {
         ensures cause { IsErrOf result Halt.Source → Rose (S.faults source.old) (S.faults source.new) }
     {
         let mut arrivals = arrivals;
-        match arrivals.next_linked(source) {
-            Ok(Some(first)) => Ok(OneLink {
+        let mut first = BLANK;
+        match arrivals.next_packet(source, &mut first) {
+            Ok(Some(link)) => Ok(OneLink {
                 arrivals,
-                link: first.link,
-                ahead: Some(first.packet),
+                link,
+                ahead: Some(first),
             }),
             Ok(None) => Ok(OneLink {
                 arrivals,
@@ -90,24 +91,22 @@ impl<'a, S: Shelf> Packets for OneLink<'a, S> {
 
     ghost faults = { S.faults };
 
-    fn next(&mut self, source: &mut S) -> Result<Option<Packet>, Halt> {
+    fn next(&mut self, source: &mut S, packet: &mut Packet) -> Result<bool, Halt> {
         if let Some(first) = self.ahead.take() {
-            return Ok(Some(first));
+            *packet = first;
+            return Ok(true);
         }
-        match self.arrivals.next_linked(source) {
-            Ok(Some(linked)) if linked.link == self.link => Ok(Some(linked.packet)),
-            Ok(Some(linked)) => Err(Halt::Fault(OTHER_LINK, linked.packet.number)),
-            Ok(None) => Ok(None),
+        match self.arrivals.next_packet(source, packet) {
+            Ok(Some(link)) if link == self.link => Ok(true),
+            Ok(Some(_)) => Err(Halt::Fault(OTHER_LINK, packet.number)),
+            Ok(None) => Ok(false),
             Err(halt) => Err(halt),
         }
     }
 
     fn pass(&mut self, source: &mut S) -> Result<bool, Halt> {
-        match self.next(source) {
-            Ok(Some(_)) => Ok(true),
-            Ok(None) => Ok(false),
-            Err(halt) => Err(halt),
-        }
+        let mut packet = BLANK;
+        self.next(source, &mut packet)
     }
 
     fn captured(&self) -> &[u8] {

@@ -7,29 +7,6 @@ ghost use Rattle.sched_packets.specs.Packets.{packet_of};
 
 use capture_core::LinkedFrame;
 use packet_core::{Classifier, Packet};
-use rank_defs::FlowKey;
-
-/// What stands for a packet before it is read.
-const UNREAD: Packet = Packet {
-    number: 0,
-    class: 0,
-    len: 0,
-    moment: 0,
-    flow: FlowKey {
-        version: 0,
-        source: 0,
-        target: 0,
-        proto: 0,
-        sport: 0,
-        dport: 0,
-    },
-};
-
-/// A packet before it is read.
-#[inline(always)]
-pub(crate) fn unread_packet() -> Packet {
-    UNREAD
-}
 
 /// Puts a number, an original length and a moment into a packet.
 #[inline(always)]

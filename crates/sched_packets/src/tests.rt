@@ -1,10 +1,9 @@
 //! Tests of packets of two classes, in captures of both formats, of captures with faults, and of packets of one link type.
-ghost use Rattle.std.specs.Prelude.{◌≡◌};
-
 use crate::{AnyArrivals, OneLink, Packets};
 use outside_core::MemShelf;
 use policy_core::{Policy, resolve};
 use policy_text::parse;
+use sched_defs::BLANK;
 use std::alloc::{AllocError, Global};
 use std::test::Fail;
 
@@ -77,14 +76,15 @@ fn tell<P: Packets>(
 ) -> Result<(), AllocError>
     requires { P.ready packets.old source.old }
 {
+    let mut p = BLANK;
     for _ in 0..5 {
-        match packets.next(source) {
-            Ok(Some(p)) => write!(
+        match packets.next(source, &mut p) {
+            Ok(true) => write!(
                 text,
                 "{} {} {} {} {}, ",
                 p.number, p.class, p.len, p.moment, p.flow.dport
             )?,
-            Ok(None) => text.push_str("none, ")?,
+            Ok(false) => text.push_str("none, ")?,
             Err(halt) => {
                 write!(text, "{halt:?}")?;
                 break;

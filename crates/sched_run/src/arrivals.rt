@@ -8,7 +8,7 @@ use outside_core::{Sink, Stop};
 use packet_defs::Packet;
 use policy_defs::NodeNames;
 use sched_core::Scheduler;
-use sched_defs::{Ending, Halt, Packets};
+use sched_defs::{BLANK, Ending, Halt, Packets};
 use tap_core::{Tap, Watching};
 
 impl<'a, C: Scheduler + Drop, N: NodeNames, W: Recorder> Run<'a, C, N, W> {
@@ -103,12 +103,13 @@ impl<'a, C: Scheduler + Drop, N: NodeNames, W: Recorder> Run<'a, C, N, W> {
         ensures came { self.new.tally.came ≤ most_packets }
         ensures live { OnOk result (W.live self.new.recorder) }
     {
-        match packets.next(source) {
-            Ok(Some(packet)) => {
+        let mut packet = BLANK;
+        match packets.next(source, &mut packet) {
+            Ok(true) => {
                 self.admit(under, sink, watch, &packet, packets.captured())?;
                 Ok(None)
             }
-            Ok(None) => Ok(Some(Ending::PastLast(self.tally.event()))),
+            Ok(false) => Ok(Some(Ending::PastLast(self.tally.event()))),
             Err(Halt::Fault(code, place)) => Ok(Some(Ending::BadCapture(code, place))),
             Err(Halt::Source) => Err(Stop::Source),
             Err(Halt::Memory) => Err(Stop::Memory),

@@ -10,7 +10,7 @@ use outside_core::{Sink, Stop};
 use packet_defs::{Departed, Packet};
 use policy_defs::NodeNames;
 use sched_core::Scheduler;
-use sched_defs::{Ending, Halt, Packets};
+use sched_defs::{BLANK, Ending, Halt, Packets};
 use tap_core::{Tap, Watching};
 
 /// Whether a departure is due before a moment, where there is one.
@@ -219,9 +219,10 @@ impl<'a, C: Scheduler + Drop, N: NodeNames, W: Recorder> Run<'a, C, N, W> {
         ensures live { OnOk result (W.live self.new.recorder) }
     {
         let mut link = Link::new();
+        let mut packet = BLANK;
         loop {
-            match packets.next(source) {
-                Ok(Some(packet)) => {
+            match packets.next(source, &mut packet) {
+                Ok(true) => {
                     let captured = packets.captured();
                     let over = self.arrive_paced(
                         under, sink, watch, &mut link, rate, &packet, captured,
@@ -230,7 +231,7 @@ impl<'a, C: Scheduler + Drop, N: NodeNames, W: Recorder> Run<'a, C, N, W> {
                         return Ok(None);
                     }
                 }
-                Ok(None) => {
+                Ok(false) => {
                     let over = self.send_until(under, sink, watch, &mut link, rate, None)?;
                     if over {
                         return Ok(None);

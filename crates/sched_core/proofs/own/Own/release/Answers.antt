@@ -1,4 +1,4 @@
-use Rattle.std.proofs.Common.{◌≡◌, ℕ, None, Option, Some, if◌then◌else◌, ◌==◌, sym, ap, ◌∙◌, subst, List, refl, arith}
+use Rattle.std.proofs.Common.{◌≡◌, ℕ, None, Option, Some, is_some, if◌then◌else◌, ◌==◌, true≢false, sym, ap, ◌∙◌, subst, List, refl, arith}
 use Rattle.tree_defs.proofs.WellFormedLaws.{size-pop}
 use Rattle.packet_defs.specs.declared.packet.Packet.{Packet}
 use Rattle.policy_defs.specs.Policy.{Policy}
@@ -17,30 +17,30 @@ pub unreachable-requires : goal.unreachable-requires
 unreachable-requires c =
     let r = c.requires.stands in
     let held = is_held (policy_in c.args.self.now) r.state c.args.number c.args.digits.now c.args.ranks.now r.has r.sound in
-    let none : c.take.result ≡ Some held.0 = c.take.ensures.value ∙ r.stood.held c.args.number ∙ held.1 in
-    c.in_default.not-Some held.0 none
+    let none : None ≡ Some held.0 = sym c.if-not-take.ensures.value ∙ r.stood.held c.args.number ∙ held.1 in
+    absurd (true≢false (sym (ap is_some none)))
 
 pub pop_steps-requires-clause-leaf_address : goal.pop_steps-requires-clause-leaf_address
 pop_steps-requires-clause-leaf_address c =
     let r = c.requires.stands in
-    (leaves (policy_in c.args.self.now) r.state c.args.number c.args.digits.now c.args.ranks.now r.has r.sound c.in-Some.packet (sym (r.stood.held c.args.number) ∙ sym c.take.ensures.value ∙ c.in-Some.is)).leaf_is
+    (leaves (policy_in c.args.self.now) r.state c.args.number c.args.digits.now c.args.ranks.now r.has r.sound c.take.new.packet (sym (r.stood.held c.args.number) ∙ c.if-not-take.ensures.value)).leaf_is
 
 pub pop_steps-requires-clause-even : goal.pop_steps-requires-clause-even
 pop_steps-requires-clause-even c =
     let r = c.requires.stands in
-    (leaves (policy_in c.args.self.now) r.state c.args.number c.args.digits.now c.args.ranks.now r.has r.sound c.in-Some.packet (sym (r.stood.held c.args.number) ∙ sym c.take.ensures.value ∙ c.in-Some.is)).ranks.count
+    (leaves (policy_in c.args.self.now) r.state c.args.number c.args.digits.now c.args.ranks.now r.has r.sound c.take.new.packet (sym (r.stood.held c.args.number) ∙ c.if-not-take.ensures.value)).ranks.count
 
 pub pop_steps-requires-clause-limit : goal.pop_steps-requires-clause-limit
 pop_steps-requires-clause-limit c =
     let r = c.requires.stands in
-    (leaves (policy_in c.args.self.now) r.state c.args.number c.args.digits.now c.args.ranks.now r.has r.sound c.in-Some.packet (sym (r.stood.held c.args.number) ∙ sym c.take.ensures.value ∙ c.in-Some.is)).ranks.low
+    (leaves (policy_in c.args.self.now) r.state c.args.number c.args.digits.now c.args.ranks.now r.has r.sound c.take.new.packet (sym (r.stood.held c.args.number) ∙ c.if-not-take.ensures.value)).ranks.low
 
 pub index_mut-requires : goal.index_mut-requires
 index_mut-requires c =
     let policy : Policy = policy_in c.args.self.now in
     let r = c.requires.stands in
-    let p : Packet = c.in-Some.packet in
-    let held : r.state.held c.args.number ≡ Some p = sym (r.stood.held c.args.number) ∙ sym c.take.ensures.value ∙ c.in-Some.is in
+    let p : Packet = c.take.new.packet in
+    let held : r.state.held c.args.number ≡ Some p = sym (r.stood.held c.args.number) ∙ c.if-not-take.ensures.value in
     let is : c.leaf-leaf.result ≡ leaf_number policy p = c.leaf-leaf.ensures.number ∙ ap (λ (z : Policy). leaf_number z p) c.pop_steps.ensures.policy in
     let within = count-within policy c.requires.accepted p (r.sound.known c.args.number p held).class c.args.self.now.filled.items r.state r.stood.filled c.leaf-leaf.result is in
     omega (arith, within, c.args.self.now.filled.ok)
@@ -49,8 +49,8 @@ pub overflow_sub-index_mut : goal.overflow_sub-index_mut
 overflow_sub-index_mut c =
     let policy : Policy = policy_in c.args.self.now in
     let r = c.requires.stands in
-    let p : Packet = c.in-Some.packet in
-    let held : r.state.held c.args.number ≡ Some p = sym (r.stood.held c.args.number) ∙ sym c.take.ensures.value ∙ c.in-Some.is in
+    let p : Packet = c.take.new.packet in
+    let held : r.state.held c.args.number ≡ Some p = sym (r.stood.held c.args.number) ∙ c.if-not-take.ensures.value in
     let is : c.leaf-leaf.result ≡ leaf_number policy p = c.leaf-leaf.ensures.number ∙ ap (λ (z : Policy). leaf_number z p) c.pop_steps.ensures.policy in
     let some = count-some policy c.requires.accepted p (r.sound.known c.args.number p held).class c.args.self.now.filled.items r.state r.stood.filled c.leaf-leaf.result is c.index_mut.result.now c.index_mut.ensures.value
     (taken policy r.state c.args.number c.args.digits.now c.args.ranks.now r.has) r.has.popped
@@ -60,8 +60,8 @@ overflow_sub-index_mut c =
 pub returns-clause-state : goal.returns-clause-state
 returns-clause-state c = λ s sound own next.
     let policy : Policy = policy_in c.args.self.now in
-    let p : Packet = c.in-Some.packet in
-    let held : s.held c.args.number ≡ Some p = sym (own.held c.args.number) ∙ sym c.take.ensures.value ∙ c.in-Some.is in
+    let p : Packet = c.take.new.packet in
+    let held : s.held c.args.number ≡ Some p = sym (own.held c.args.number) ∙ c.if-not-take.ensures.value in
     let is : c.leaf-leaf.result ≡ leaf_number policy p = c.leaf-leaf.ensures.number ∙ ap (λ (z : Policy). leaf_number z p) c.pop_steps.ensures.policy in
     rw (departed-popped policy s c.args.number c.args.digits.now c.args.ranks.now next p held) record {
       nodes = subst (λ (m : ℕ). AreStates c.pop_steps.new.self (after_pops (way_out policy p c.args.digits.now m) c.args.ranks.now s.nodes)) (sym own.now)
@@ -78,8 +78,8 @@ returns-clause-state c = λ s sound own next.
 pub returns-clause-value : goal.returns-clause-value
 returns-clause-value c = λ s sound own next.
     let policy : Policy = policy_in c.args.self.now in
-    let p : Packet = c.in-Some.packet in
-    let held : s.held c.args.number ≡ Some p = sym (own.held c.args.number) ∙ sym c.take.ensures.value ∙ c.in-Some.is in
+    let p : Packet = c.take.new.packet in
+    let held : s.held c.args.number ≡ Some p = sym (own.held c.args.number) ∙ c.if-not-take.ensures.value in
     let l : LeavesItsLeaf policy s (record { packet = p; digits = c.args.digits.now; ranks = c.args.ranks.now }) = leaves policy s c.args.number c.args.digits.now c.args.ranks.now next sound p held in
     let number : p.number ≡ c.args.number = sound.numbered c.args.number p held in
     let leaf : number_at policy.tree c.args.digits.now ≡ c.leaf-leaf.result

@@ -8,5 +8,5 @@ returns c =
     let chunk = c.args.self.now in
     let slots = chunk.slots.items in
     let slot = c.index.result.now in
-    ap Some (c.packet.ensures ∙ ap (packet_in c.args.number) c.index.ensures)
+    ap Some (c.put_packet.ensures ∙ ap (packet_in c.args.number) c.index.ensures)
     ∙ sym (among-at 0 slots c.in_ok-i.i slot c.args.number (ordered-in 0 slots chunk.ordered) (omega (arith, c.in_ok-i.ensures.within, chunk.slots.ok)) (c.in_ok-i.ensures.found slot))

@@ -1,11 +1,11 @@
-use Rattle.std.proofs.Common.{ℕ, nat_eq, List, is_some, ap, ◌∙◌}
+use Rattle.std.proofs.Common.{ℕ, nat_eq, List, ap}
 use Rattle.std.specs.Map.{lookup}
 use Rattle.std.proofs.lemmas.Result.{err_from_is_err_and}
 use Rattle.indexmap.specs.IndexMap.{get}
 use Rattle.packet_defs.specs.declared.packet.Packet.{Packet}
 use Rattle.sched_held.specs.Windows.{packet_at}
 use Rattle.sched_held.specs.Held.{held_at, or_stray}
-use Rattle.sched_held.proofs.HeldNumbers.{put-beside}
+use Rattle.sched_held.proofs.HeldNumbers.{was-given, put-beside}
 use Rattle.sched_held.proofs.held.Held.put_stray.Goals as goal
 
 pub returns-in_err-insert-clause-err : goal.returns-in_err-insert-clause-err
@@ -22,4 +22,4 @@ returns-clause-ok c = λ n.
     put-beside n p.number p (packet_at h.window n) (packet_at c.clear.new.self n) (get nat_eq h.strays n) (get nat_eq c.insert.new.self n) (c.clear.ensures.packets n) (c.in_ok-insert.ensures.updates.0 n)
 
 pub returns-clause-fewer : goal.returns-clause-fewer
-returns-clause-fewer c = λ some. c.clear.ensures.fewer (ap is_some c.clear.ensures.value ∙ some)
+returns-clause-fewer c = λ some. c.clear.ensures.fewer (was-given c.clear.result c.clear.new.packet (packet_at c.args.self.now.window c.args.packet.now.number) c.clear.ensures.value some)

@@ -1,108 +1,88 @@
-use Rattle.std.proofs.Common.{◌≡◌, ◌<◌, ◌==◌, if◌then◌else◌, ℕ, true, None, is_some, length, set, sym, ap, ◌∙◌, arith}
-use Rattle.sched_held.specs.Chunks.{packet_within}
+use Rattle.std.proofs.Common.{◌≡◌, ◌<◌, ◌+◌, ◌==◌, if◌then◌else◌, ℕ, Option, None, Some, is_some, length, set, sym, ap, ◌∙◌, arith}
+use Rattle.packet_defs.specs.declared.packet.Packet.{Packet}
+use Rattle.sched_held.specs.Chunks.{packet_of, packet_within, numbers_below}
 use Rattle.sched_held.specs.Windows.{packet_at}
-use Rattle.sched_held.proofs.SlotLaws.{split, if_same, if_other}
+use Rattle.sched_held.proofs.SlotLaws.{if_other}
 use Rattle.sched_held.proofs.ChunkLaws.{taken, told}
 use Rattle.sched_held.proofs.NumberLaws.{below-same, below-without, found-below}
+use Rattle.sched_held.proofs.HeldNumbers.{was_empty}
 use Rattle.sched_held.proofs.window.Window.clear.Goals as goal
+use Rattle.sched_held.proofs.window.Window.clear.Goals.{After-take}
+
+-- what stood in the window when a chunk was asked for a packet, and what stands there after that
+abbrev before : After-take → ℕ → Option Packet
+before c = packet_within c.args.self.now.first c.args.self.now.chunks.items
+
+abbrev after : After-take → ℕ → Option Packet
+after c = packet_within c.args.self.now.first (set c.args.self.now.chunks.items c.in-Some.i c.take.new.self)
+
+-- what the chunk told
+abbrev told_now : After-take → Option Packet
+told_now c = packet_of c.index_mut.result.now c.args.number
+
+-- ---- a chunk tells what stood under the number, and nothing but that is gone
+stood : (c : After-take) → before c c.args.number ≡ told_now c
+stood c =
+    let w = c.args.self.now in
+    sym (told w.first w.chunks.items c.in-Some.i c.index_mut.result.now c.args.number (omega (arith, c.in-Some.ensures.within, w.chunks.ok)) c.in-Some.ensures.chunk c.index_mut.ensures.value)
+
+gone : (c : After-take) (n : ℕ) → after c n ≡ (if n == c.args.number then None else before c n)
+gone c n =
+    let w = c.args.self.now in
+    taken w.first w.chunks.items c.in-Some.i c.index_mut.result.now c.take.new.self c.args.number n (omega (arith, c.in-Some.ensures.within, w.chunks.ok)) c.in-Some.ensures.chunk c.index_mut.ensures.value (c.take.ensures.rest n)
+
+-- where nothing stood, all stays
+stay : (c : After-take) → told_now c ≡ None → (n : ℕ) → after c n ≡ before c n
+stay c none n = was_empty n c.args.number (before c n) (after c n) (gone c n) (λ same. ap (before c) same ∙ stood c ∙ none)
+
+-- where a packet stood, its number was below the end, and one fewer stands here
+near : (c : After-take) → told_now c ≡ Some c.take.new.packet → c.args.number < c.args.self.now.end
+near c some = found-below (before c) c.args.self.now.end c.args.number (ap is_some (stood c ∙ some)) c.args.self.now.behind
+
+fewer : (c : After-take) → told_now c ≡ Some c.take.new.packet → length (numbers_below (after c) c.args.self.now.end) + 1 ≡ c.args.self.now.filled
+fewer c some = below-without (before c) (after c) c.args.number c.args.self.now.end (near c some) (ap is_some (stood c ∙ some)) (gone c) ∙ sym c.args.self.now.counted
 
 pub invariant_of-self : goal.invariant_of-self
 invariant_of-self c =
     let w = c.args.self.now in
-    let m = c.args.number in
-    let i = c.in_ok-i.i in
-    let d = c.index_mut.result.now in
-    let new = c.take.new.self in
-    let within : i < length w.chunks.items = omega (arith, c.in_ok-i.ensures.within, w.chunks.ok) in
-    let none : packet_within w.first w.chunks.items m ≡ None = sym (c.in_err-packet.ensures.value ∙ told w.first w.chunks.items i d m within c.in_ok-i.ensures.chunk c.index_mut.ensures.value) in
-    let same : (n : ℕ) → packet_within w.first (set w.chunks.items i new) n ≡ packet_within w.first w.chunks.items n
-    = λ n. taken w.first w.chunks.items i d new m n within c.in_ok-i.ensures.chunk c.index_mut.ensures.value (c.in_err-packet.ensures.rest n)
-    ∙ split n m (λ one. if_same n m None (packet_within w.first w.chunks.items n) one ∙ sym (ap (packet_within w.first w.chunks.items) one ∙ none)) (λ other. if_other n m None (packet_within w.first w.chunks.items n) other) in
+    let t = (goal.at.invariant_of-self c).After-take in
+    let same = stay t c.if-not-take.ensures.value in
     record {
       low = w.low;
       ends = w.ends;
       behind = λ n far. same n ∙ w.behind n far;
-      counted = w.counted ∙ sym (ap length (below-same (packet_within w.first (set w.chunks.items i new)) (packet_within w.first w.chunks.items) w.end (λ n l. same n)));
+      counted = w.counted ∙ sym (ap length (below-same (after t) (before t) w.end (λ n l. same n)));
     }
 
-pub returns-in_err-packet-clause-value : goal.returns-in_err-packet-clause-value
+pub returns-then-not-take-clause-value : goal.returns-then-not-take-clause-value
 unfolding packet_at
-returns-in_err-packet-clause-value c =
-    let w = c.args.self.now in
-    let within : c.in_ok-i.i < length w.chunks.items = omega (arith, c.in_ok-i.ensures.within, w.chunks.ok) in
-    c.from_residual-in_err-packet.ensures ∙ c.in_err-packet.ensures.value ∙ told w.first w.chunks.items c.in_ok-i.i c.index_mut.result.now c.args.number within c.in_ok-i.ensures.chunk c.index_mut.ensures.value
+returns-then-not-take-clause-value c = stood (goal.at.returns-then-not-take-clause-value c).After-take ∙ c.if-not-take.ensures.value
 
-pub returns-in_err-packet-clause-packets : goal.returns-in_err-packet-clause-packets
+pub returns-then-not-take-clause-packets : goal.returns-then-not-take-clause-packets
 unfolding packet_at
-returns-in_err-packet-clause-packets c = λ n.
-    let w = c.args.self.now in
-    let within : c.in_ok-i.i < length w.chunks.items = omega (arith, c.in_ok-i.ensures.within, w.chunks.ok) in
-    taken w.first w.chunks.items c.in_ok-i.i c.index_mut.result.now c.take.new.self c.args.number n within c.in_ok-i.ensures.chunk c.index_mut.ensures.value (c.in_err-packet.ensures.rest n)
+returns-then-not-take-clause-packets c = gone (goal.at.returns-then-not-take-clause-packets c).After-take
 
 pub overflow_sub-self : goal.overflow_sub-self
-overflow_sub-self c =
-    let w = c.args.self.now in
-    let m = c.args.number in
-    let i = c.in_ok-i.i in
-    let d = c.index_mut.result.now in
-    let new = c.take.new.self in
-    let within : i < length w.chunks.items = omega (arith, c.in_ok-i.ensures.within, w.chunks.ok) in
-    let some : is_some (packet_within w.first w.chunks.items m) ≡ true = sym (ap is_some (c.in_ok-packet.ensures.value ∙ told w.first w.chunks.items i d m within c.in_ok-i.ensures.chunk c.index_mut.ensures.value)) in
-    let near : m < w.end = found-below (packet_within w.first w.chunks.items) w.end m some w.behind in
-    omega (
-      arith,
-      w.counted,
-      below-without (packet_within w.first w.chunks.items) (packet_within w.first (set w.chunks.items i new)) m w.end near some
-          (λ n. taken w.first w.chunks.items i d new m n within c.in_ok-i.ensures.chunk c.index_mut.ensures.value (c.in_ok-packet.ensures.rest n)),
-    )
+overflow_sub-self c = omega (arith, fewer (goal.at.overflow_sub-self c).After-take c.if-not-take.ensures.value)
 
 pub invariant_of-self-2 : goal.invariant_of-self-2
 invariant_of-self-2 c =
     let w = c.args.self.now in
-    let m = c.args.number in
-    let i = c.in_ok-i.i in
-    let d = c.index_mut.result.now in
-    let new = c.take.new.self in
-    let within : i < length w.chunks.items = omega (arith, c.in_ok-i.ensures.within, w.chunks.ok) in
-    let some : is_some (packet_within w.first w.chunks.items m) ≡ true = sym (ap is_some (c.in_ok-packet.ensures.value ∙ told w.first w.chunks.items i d m within c.in_ok-i.ensures.chunk c.index_mut.ensures.value)) in
-    let near : m < w.end = found-below (packet_within w.first w.chunks.items) w.end m some w.behind in
-    let gone : (n : ℕ) → packet_within w.first (set w.chunks.items i new) n ≡ (if n == m then None else packet_within w.first w.chunks.items n)
-    = λ n. taken w.first w.chunks.items i d new m n within c.in_ok-i.ensures.chunk c.index_mut.ensures.value (c.in_ok-packet.ensures.rest n) in
+    let t = (goal.at.invariant_of-self-2 c).After-take in
     record {
       low = w.low;
       ends = w.ends;
-      behind = λ n far. gone n ∙ if_other n m None (packet_within w.first w.chunks.items n) (omega (arith, far, near)) ∙ w.behind n far;
-      counted = omega (arith, w.counted, below-without (packet_within w.first w.chunks.items) (packet_within w.first (set w.chunks.items i new)) m w.end near some gone);
+      behind = λ n far. gone t n ∙ if_other n c.args.number None (before t n) (omega (arith, far, near t c.if-not-take.ensures.value)) ∙ w.behind n far;
+      counted = omega (arith, fewer t c.if-not-take.ensures.value);
     }
 
 pub returns-clause-value : goal.returns-clause-value
 unfolding packet_at
-returns-clause-value c =
-    let w = c.args.self.now in
-    let within : c.in_ok-i.i < length w.chunks.items = omega (arith, c.in_ok-i.ensures.within, w.chunks.ok) in
-    c.in_ok-packet.ensures.value ∙ told w.first w.chunks.items c.in_ok-i.i c.index_mut.result.now c.args.number within c.in_ok-i.ensures.chunk c.index_mut.ensures.value
+returns-clause-value c = stood (goal.at.returns-clause-value c).After-take ∙ c.if-not-take.ensures.value
 
 pub returns-clause-packets : goal.returns-clause-packets
 unfolding packet_at
-returns-clause-packets c = λ n.
-    let w = c.args.self.now in
-    let within : c.in_ok-i.i < length w.chunks.items = omega (arith, c.in_ok-i.ensures.within, w.chunks.ok) in
-    c.trim.ensures.packets n ∙ taken w.first w.chunks.items c.in_ok-i.i c.index_mut.result.now c.take.new.self c.args.number n within c.in_ok-i.ensures.chunk c.index_mut.ensures.value (c.in_ok-packet.ensures.rest n)
+returns-clause-packets c = λ n. c.trim.ensures.packets n ∙ gone (goal.at.returns-clause-packets c).After-take n
 
 pub returns-clause-fewer : goal.returns-clause-fewer
-returns-clause-fewer c = λ _.
-    let w = c.args.self.now in
-    let m = c.args.number in
-    let i = c.in_ok-i.i in
-    let d = c.index_mut.result.now in
-    let new = c.take.new.self in
-    let within : i < length w.chunks.items = omega (arith, c.in_ok-i.ensures.within, w.chunks.ok) in
-    let some : is_some (packet_within w.first w.chunks.items m) ≡ true = sym (ap is_some (c.in_ok-packet.ensures.value ∙ told w.first w.chunks.items i d m within c.in_ok-i.ensures.chunk c.index_mut.ensures.value)) in
-    let near : m < w.end = found-below (packet_within w.first w.chunks.items) w.end m some w.behind in
-    omega (
-      arith,
-      c.trim.ensures.filled,
-      w.counted,
-      below-without (packet_within w.first w.chunks.items) (packet_within w.first (set w.chunks.items i new)) m w.end near some
-          (λ n. taken w.first w.chunks.items i d new m n within c.in_ok-i.ensures.chunk c.index_mut.ensures.value (c.in_ok-packet.ensures.rest n)),
-    )
+returns-clause-fewer c = λ _. omega (arith, c.trim.ensures.filled, fewer (goal.at.returns-clause-fewer c).After-take c.if-not-take.ensures.value)

@@ -13,10 +13,10 @@ next_gives g c =
     _ c.next_packet.new.packet (captured_by b) (rw c.in-Ok-Some.field-0-is at e.given) (rw c.in-Ok-Some.field-0-is at e.next)
 
 pub returns-in-Ok-Some-clause-came : goal.returns-in-Ok-Some-clause-came
-returns-in-Ok-Some-clause-came g c = rw (c.next_packet.ensures.policy) (next_gives g c).came
+returns-in-Ok-Some-clause-came g c = rw (c.next_packet.ensures.policy) (λ _. (next_gives g c).came)
 
 pub returns-in-Ok-Some-clause-bytes : goal.returns-in-Ok-Some-clause-bytes
-returns-in-Ok-Some-clause-bytes g c = (next_gives g c).bytes
+returns-in-Ok-Some-clause-bytes g c = λ _. (next_gives g c).bytes
 
 pub returns-in-Ok-Some-clause-known : goal.returns-in-Ok-Some-clause-known
 returns-in-Ok-Some-clause-known g c = (next_gives g c).known
@@ -26,13 +26,13 @@ returns-in-Ok-None-clause-none g c =
     let a = c.args.self.now in
     let b = c.next_packet.new.self in
     let e = c.in-Ok-None.ensures in
-    rw (c.next_packet.ensures.policy) (ends (resolved_of a) (given_by a) (given_by b) (contents_of a (g.S.Shelf.left c.args.source.now)) (contents_of b (g.S.Shelf.left c.next_packet.new.source))
+    rw (c.next_packet.ensures.policy) (λ _. ends (resolved_of a) (given_by a) (given_by b) (contents_of a (g.S.Shelf.left c.args.source.now)) (contents_of b (g.S.Shelf.left c.next_packet.new.source))
     (rw c.in-Ok-None.field-0-is at e.ended) (rw c.in-Ok-None.field-0-is at e.over))
 
 pub returns-in-Ok-None-clause-over : goal.returns-in-Ok-None-clause-over
 returns-in-Ok-None-clause-over g c =
     let b = c.next_packet.new.self in
-    is_over (resolved_of b) (given_by b) (contents_of b (g.S.Shelf.left c.next_packet.new.source)) (rw c.in-Ok-None.field-0-is at c.in-Ok-None.ensures.over)
+    λ _. is_over (resolved_of b) (given_by b) (contents_of b (g.S.Shelf.left c.next_packet.new.source)) (rw c.in-Ok-None.field-0-is at c.in-Ok-None.ensures.over)
 
 pub returns-in-Ok-None-clause-known : goal.returns-in-Ok-None-clause-known
 returns-in-Ok-None-clause-known g c =

@@ -9,21 +9,20 @@ use Rattle.sched_packets.proofs.one_link.OneLink.start.Given.{Over}
 use Rattle.sched_packets.proofs.one_link.OneLink.start.Goals as goal
 
 -- ---- a packet that comes
-opens_some : (g : Over) (c : goal.After-result-1 g) → let b = c.next_linked.new.self in let first = c.in-Ok-Some.first in
+opens_some : (g : Over) (c : goal.In-Ok-Some g) → let b = c.next_packet.new.self in let link = c.in-Ok-Some.link in
     EachFileOf (contents_of c.args.arrivals (g.S.Shelf.left c.args.source.now)) (λ (file : FileContents).
-    Opens (one_link_in file) (behind_ahead first.link (given_by b) (captured_by b) (Some first.packet) (contents_of b (g.S.Shelf.left c.next_linked.new.source))))
+    Opens (one_link_in file) (behind_ahead link (given_by b) (captured_by b) (Some c.next_packet.new.packet) (contents_of b (g.S.Shelf.left c.next_packet.new.source))))
 opens_some g c file opened =
-    let b = c.next_linked.new.self in
+    let b = c.next_packet.new.self in
     let e = c.in-Ok-Some.ensures in
     let next = rw c.in-Ok-Some.field-0-is at e.next in
-    let first = c.in-Ok-Some.first in
     let one : given_by b ≡ 1 = omega (arith, (rw c.in-Ok-Some.field-0-is at e.given), c.requires.none_given) in
-    opens_first file (contents_of c.args.arrivals (g.S.Shelf.left c.args.source.now)) (contents_of b (g.S.Shelf.left c.next_linked.new.source)) first.packet first.link (given_by b) (captured_by b)
+    opens_first file (contents_of c.args.arrivals (g.S.Shelf.left c.args.source.now)) (contents_of b (g.S.Shelf.left c.next_packet.new.source)) c.next_packet.new.packet c.in-Ok-Some.link (given_by b) (captured_by b)
     one next.comes opened
 
 pub returns-in-Ok-Some-clause-begins : goal.returns-in-Ok-Some-clause-begins
 returns-in-Ok-Some-clause-begins g c =
-    rw (c.next_linked.ensures.policy) (λ file opened. begins (resolved_of c.args.arrivals) (one_link_in file) _ 0 refl (opens_some g c file opened))
+    rw (c.next_packet.ensures.policy) (λ file opened. begins (resolved_of c.args.arrivals) (one_link_in file) _ 0 refl (opens_some g c file opened))
 
 pub returns-in-Ok-Some-clause-captures : goal.returns-in-Ok-Some-clause-captures
 returns-in-Ok-Some-clause-captures g c = λ file opened. captured_at_start (one_link_in file) _ 0 refl (opens_some g c file opened)
@@ -31,43 +30,42 @@ returns-in-Ok-Some-clause-captures g c = λ file opened. captured_at_start (one_
 pub returns-in-Ok-Some-clause-link : goal.returns-in-Ok-Some-clause-link
 returns-in-Ok-Some-clause-link g c =
     let a = c.args.arrivals in
-    let b = c.next_linked.new.self in
+    let b = c.next_packet.new.self in
     let e = c.in-Ok-Some.ensures in
     let next = rw c.in-Ok-Some.field-0-is at e.next in
-    λ file opened. link_of_first file (contents_of a (g.S.Shelf.left c.args.source.now)) (contents_of b (g.S.Shelf.left c.next_linked.new.source)) _ next.comes opened
+    λ file opened. link_of_first file (contents_of a (g.S.Shelf.left c.args.source.now)) (contents_of b (g.S.Shelf.left c.next_packet.new.source)) _ next.comes opened
 
 pub returns-in-Ok-Some-clause-ready : goal.returns-in-Ok-Some-clause-ready
 returns-in-Ok-Some-clause-ready g c =
     let a = c.args.arrivals in
-    let b = c.next_linked.new.self in
+    let b = c.next_packet.new.self in
     let e = c.in-Ok-Some.ensures in
     let next = rw c.in-Ok-Some.field-0-is at e.next in
-    let first = c.in-Ok-Some.first in
     record {
       arrivals = e.ready;
-      ahead = rw (c.next_linked.ensures.policy) (is_first (resolved_of a) (given_by a) (given_by b) first.link (contents_of a (g.S.Shelf.left c.args.source.now))
-          (contents_of b (g.S.Shelf.left c.next_linked.new.source)) first.packet (captured_by b) c.requires.none_given (rw c.in-Ok-Some.field-0-is at e.given) next);
+      ahead = rw (c.next_packet.ensures.policy) (is_first (resolved_of a) (given_by a) (given_by b) c.in-Ok-Some.link (contents_of a (g.S.Shelf.left c.args.source.now))
+          (contents_of b (g.S.Shelf.left c.next_packet.new.source)) c.next_packet.new.packet (captured_by b) c.requires.none_given (rw c.in-Ok-Some.field-0-is at e.given) next);
     }
 
 -- ---- none
-opens_end : (g : Over) (c : goal.In-Ok-None g) → let b = c.next_linked.new.self in
+opens_end : (g : Over) (c : goal.In-Ok-None g) → let b = c.next_packet.new.self in
     EachFileOf (contents_of c.args.arrivals (g.S.Shelf.left c.args.source.now)) (λ (file : FileContents).
-    Opens (one_link_in file) (behind_ahead 0 (given_by b) (captured_by b) None (contents_of b (g.S.Shelf.left c.next_linked.new.source))))
+    Opens (one_link_in file) (behind_ahead 0 (given_by b) (captured_by b) None (contents_of b (g.S.Shelf.left c.next_packet.new.source))))
 opens_end g c file opened =
-    let b = c.next_linked.new.self in
+    let b = c.next_packet.new.self in
     let e = c.in-Ok-None.ensures in
-    opens_none file (contents_of c.args.arrivals (g.S.Shelf.left c.args.source.now)) (contents_of b (g.S.Shelf.left c.next_linked.new.source)) 0 (given_by b) (captured_by b)
+    opens_none file (contents_of c.args.arrivals (g.S.Shelf.left c.args.source.now)) (contents_of b (g.S.Shelf.left c.next_packet.new.source)) 0 (given_by b) (captured_by b)
     (rw c.in-Ok-None.field-0-is at e.ended) (rw c.in-Ok-None.field-0-is at e.over) opened
 
 pub returns-in-Ok-None-clause-begins : goal.returns-in-Ok-None-clause-begins
 returns-in-Ok-None-clause-begins g c =
-    let b = c.next_linked.new.self in
+    let b = c.next_packet.new.self in
     let none : given_by b ≡ 0 = omega (arith, (rw c.in-Ok-None.field-0-is at c.in-Ok-None.ensures.given), c.requires.none_given) in
-    rw (c.next_linked.ensures.policy) (λ file opened. begins (resolved_of c.args.arrivals) (one_link_in file) _ (given_by b) none (opens_end g c file opened))
+    rw (c.next_packet.ensures.policy) (λ file opened. begins (resolved_of c.args.arrivals) (one_link_in file) _ (given_by b) none (opens_end g c file opened))
 
 pub returns-in-Ok-None-clause-captures : goal.returns-in-Ok-None-clause-captures
 returns-in-Ok-None-clause-captures g c =
-    let b = c.next_linked.new.self in
+    let b = c.next_packet.new.self in
     let none : given_by b ≡ 0 = omega (arith, (rw c.in-Ok-None.field-0-is at c.in-Ok-None.ensures.given), c.requires.none_given) in
     λ file opened. captured_at_start (one_link_in file) _ (given_by b) none (opens_end g c file opened)
 

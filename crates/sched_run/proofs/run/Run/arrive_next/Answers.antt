@@ -12,43 +12,43 @@ use Rattle.sched_run.proofs.run.Run.arrive_next.Goals as goal
 pub admit-requires-clause-stands : goal.admit-requires-clause-stands
 admit-requires-clause-stands g c =
     let one = c.requires.stands in
-    let number = rw c.in-Ok-Some.field-0-is at c.in-Ok-Some.ensures.number in
-    let sendable = subst (λ (q : Policy). IsSendable q c.in-Ok-Some.packet) c.requires.packets (rw c.in-Ok-Some.field-0-is at c.in-Ok-Some.ensures.sendable) in
-    record { state = one.state; sound = one.sound; stood = one.stood; has = can_arrive (g.C.Scheduler.policy c.args.self.now.scheduler) one.state c.in-Ok-Some.packet _ number sendable one.has }
+    let number = c.in-Ok-true.ensures.number c.in-Ok-true.field-0-test in
+    let sendable = subst (λ (q : Policy). IsSendable q c.next.new.packet) c.requires.packets (c.in-Ok-true.ensures.sendable c.in-Ok-true.field-0-test) in
+    record { state = one.state; sound = one.sound; stood = one.stood; has = can_arrive (g.C.Scheduler.policy c.args.self.now.scheduler) one.state c.next.new.packet _ number sendable one.has }
 
-pub returns-in_err-admit-in-Ok-Some-clause-err : goal.returns-in_err-admit-in-Ok-Some-clause-err
-returns-in_err-admit-in-Ok-Some-clause-err g c =
+pub returns-in_err-admit-in-Ok-true-clause-err : goal.returns-in_err-admit-in-Ok-true-clause-err
+returns-in_err-admit-in-Ok-true-clause-err g c =
     let p = err_from_is_err_and c.from_residual.result c.from_residual.ensures.1 in
-    let number = rw c.in-Ok-Some.field-0-is at c.in-Ok-Some.ensures.number in
-    let sendable = subst (λ (q : Policy). IsSendable q c.in-Ok-Some.packet) c.requires.packets (rw c.in-Ok-Some.field-0-is at c.in-Ok-Some.ensures.sendable) in
-    let known = rw c.in-Ok-Some.field-0-is at c.in-Ok-Some.ensures.bytes in
+    let number = c.in-Ok-true.ensures.number c.in-Ok-true.field-0-test in
+    let sendable = subst (λ (q : Policy). IsSendable q c.next.new.packet) c.requires.packets (c.in-Ok-true.ensures.sendable c.in-Ok-true.field-0-test) in
+    let known = c.in-Ok-true.ensures.bytes c.in-Ok-true.field-0-test in
     rw (p.1) (record {
-      packets = c.in-Ok-Some.packet ∷ [];
+      packets = c.next.new.packet ∷ [];
       count = omega arith;
-      first = one_first _ _ (c.in-Ok-Some.packet ∷ []) (rw c.in-Ok-Some.field-0-is at c.in-Ok-Some.ensures.came);
-      stop = stops_so g.C.Scheduler (heard_gives g.W.Recorder (IsCapturedAs c.in-Ok-Some.packet c.captured.result.now) (g.P.Packets.captures c.args.packets.now c.args.source.now) (λ bytes are. known bytes are ∙ sym c.captured.ensures)) (g.C.Scheduler.policy c.args.self.now.scheduler)
-          (Arrive c.in-Ok-Some.packet ∷ []) _ _ _ _ (c.in_err-admit-in-Ok-Some.ensures.err _ (record { numbered = (number, tt); sendable = (sendable, tt) }));
+      first = one_first _ _ (c.next.new.packet ∷ []) (c.in-Ok-true.ensures.came c.in-Ok-true.field-0-test);
+      stop = stops_so g.C.Scheduler (heard_gives g.W.Recorder (IsCapturedAs c.next.new.packet c.captured.result.now) (g.P.Packets.captures c.args.packets.now c.args.source.now) (λ bytes are. known bytes are ∙ sym c.captured.ensures)) (g.C.Scheduler.policy c.args.self.now.scheduler)
+          (Arrive c.next.new.packet ∷ []) _ _ _ _ (c.in_err-admit-in-Ok-true.ensures.err _ (record { numbered = (number, tt); sendable = (sendable, tt) }));
     })
 
-pub returns-in_ok-admit-in-Ok-Some-clause-ok : goal.returns-in_ok-admit-in-Ok-Some-clause-ok
-returns-in_ok-admit-in-Ok-Some-clause-ok g c =
-    let number = rw c.in-Ok-Some.field-0-is at c.in-Ok-Some.ensures.number in
-    let sendable = subst (λ (q : Policy). IsSendable q c.in-Ok-Some.packet) c.requires.packets (rw c.in-Ok-Some.field-0-is at c.in-Ok-Some.ensures.sendable) in
-    let given = rw c.in-Ok-Some.field-0-is at c.in-Ok-Some.ensures.given in
-    let known = rw c.in-Ok-Some.field-0-is at c.in-Ok-Some.ensures.bytes in
+pub returns-in_ok-admit-in-Ok-true-clause-ok : goal.returns-in_ok-admit-in-Ok-true-clause-ok
+returns-in_ok-admit-in-Ok-true-clause-ok g c =
+    let number = c.in-Ok-true.ensures.number c.in-Ok-true.field-0-test in
+    let sendable = subst (λ (q : Policy). IsSendable q c.next.new.packet) c.requires.packets (c.in-Ok-true.ensures.sendable c.in-Ok-true.field-0-test) in
+    let given = rw c.in-Ok-true.field-0-test at c.in-Ok-true.ensures.given in
+    let known = c.in-Ok-true.ensures.bytes c.in-Ok-true.field-0-test in
     record {
-      packets = c.in-Ok-Some.packet ∷ [];
+      packets = c.next.new.packet ∷ [];
       count = refl;
-      came = rw c.in-Ok-Some.field-0-is at c.in-Ok-Some.ensures.came;
-      made = makes_so g.C.Scheduler (heard_gives g.W.Recorder (IsCapturedAs c.in-Ok-Some.packet c.captured.result.now) (g.P.Packets.captures c.args.packets.now c.args.source.now) (λ bytes are. known bytes are ∙ sym c.captured.ensures)) (g.C.Scheduler.policy c.args.self.now.scheduler)
-          (Arrive c.in-Ok-Some.packet ∷ []) _ _ (rw given (c.in_ok-admit-in-Ok-Some.ensures.ok _ (record { numbered = (number, tt); sendable = (sendable, tt) })));
+      came = c.in-Ok-true.ensures.came c.in-Ok-true.field-0-test;
+      made = makes_so g.C.Scheduler (heard_gives g.W.Recorder (IsCapturedAs c.next.new.packet c.captured.result.now) (g.P.Packets.captures c.args.packets.now c.args.source.now) (λ bytes are. known bytes are ∙ sym c.captured.ensures)) (g.C.Scheduler.policy c.args.self.now.scheduler)
+          (Arrive c.next.new.packet ∷ []) _ _ (rw given (c.in_ok-admit-in-Ok-true.ensures.ok _ (record { numbered = (number, tt); sendable = (sendable, tt) })));
     }
 
-pub returns-in-Ok-None-clause-ok : goal.returns-in-Ok-None-clause-ok
-returns-in-Ok-None-clause-ok g c = record {
+pub returns-in-Ok-false-clause-ok : goal.returns-in-Ok-false-clause-ok
+returns-in-Ok-false-clause-ok g c = record {
   packets = [];
   count = omega arith;
-  came = (c.event.ensures, rw c.in-Ok-None.field-0-is at c.in-Ok-None.ensures.none, rw c.in-Ok-None.field-0-is at c.in-Ok-None.ensures.over);
+  came = (c.event.ensures, c.in-Ok-false.ensures.none c.in-Ok-false.field-0-test, c.in-Ok-false.ensures.over c.in-Ok-false.field-0-test);
   made = makes_none g.C.Scheduler (heard g.W.Recorder (g.P.Packets.captures c.args.packets.now c.args.source.now)) (heard-joined g.W.Recorder g.met.W.Recorder.joined (g.P.Packets.captures c.args.packets.now c.args.source.now)) (g.C.Scheduler.policy c.args.self.now.scheduler) _ _ _ _ _ _ _ _;
 }
 
@@ -56,7 +56,7 @@ pub returns-in-Err-Fault-clause-ok : goal.returns-in-Err-Fault-clause-ok
 returns-in-Err-Fault-clause-ok g c = record {
   packets = [];
   count = omega arith;
-  came = rw c.in-Err-Fault.field-0-is at c.in-Err-Fault.ensures.fault;
+  came = rw (c.in-Err-Fault.code-is, c.in-Err-Fault.place-is) (rw c.in-Err-Fault.field-0-is at c.in-Err-Fault.ensures.fault);
   made = makes_none g.C.Scheduler (heard g.W.Recorder (g.P.Packets.captures c.args.packets.now c.args.source.now)) (heard-joined g.W.Recorder g.met.W.Recorder.joined (g.P.Packets.captures c.args.packets.now c.args.source.now)) (g.C.Scheduler.policy c.args.self.now.scheduler) _ _ _ _ _ _ _ _;
 }
 

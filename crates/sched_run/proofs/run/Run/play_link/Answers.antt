@@ -9,8 +9,8 @@ use Rattle.sched_run.specs.Heard.{heard, any_bytes, IsCapturedAs}
 use Rattle.sched_run.proofs.HeardLaws.{heard-joined, heard_gives, sends_so, sends_first_so, sends_amid_so}
 use Rattle.sched_run.proofs.run.Run.play_link.Goals as goal
 
-pub loop-packet-init : goal.loop-packet-init
-loop-packet-init g c =
+pub loop-packets-init : goal.loop-packets-init
+loop-packets-init g c =
     let S = g.C.Scheduler in
     let policy = S.policy c.args.self.now.scheduler in
     record {
@@ -28,8 +28,8 @@ loop-packet-init g c =
 pub arrive_paced-requires-clause-stands : goal.arrive_paced-requires-clause-stands
 arrive_paced-requires-clause-stands g c =
     let S = g.C.Scheduler in
-    let i = c.loop-packet.invariant in
-    let number = rw c.in-Ok-Some.field-0-is at c.in-Ok-Some.ensures.number in
+    let i = c.loop-packets.invariant in
+    let number = c.in-Ok-true.ensures.number c.in-Ok-true.field-0-test in
     let ready = run_ready S (heard g.W.Recorder (g.P.Packets.captures c.args.packets.now c.args.source.now)) (heard-joined g.W.Recorder g.met.W.Recorder.joined (g.P.Packets.captures c.args.packets.now c.args.source.now)) (S.policy c.args.self.now.scheduler) c.requires.set.accepted _ _ _ _ _ _ _ _ i.further.given i.further.few c.requires.fresh (omega arith) c.requires.stands i.run in
     rw i.kept.policy (record {
       state = ready.state;
@@ -41,39 +41,39 @@ arrive_paced-requires-clause-stands g c =
 pub arrive_paced-requires-clause-counts : goal.arrive_paced-requires-clause-counts
 arrive_paced-requires-clause-counts g c =
     let S = g.C.Scheduler in
-    let i = c.loop-packet.invariant in
+    let i = c.loop-packets.invariant in
     let room = run_room S (heard g.W.Recorder (g.P.Packets.captures c.args.packets.now c.args.source.now)) (heard-joined g.W.Recorder g.met.W.Recorder.joined (g.P.Packets.captures c.args.packets.now c.args.source.now)) (S.policy c.args.self.now.scheduler) c.requires.set.accepted _ _ _ _ _ _ _ _ i.further.given i.further.few c.requires.fresh (omega arith) c.requires.stands i.run c.requires.counts in
     record { departures_fit = room.departures_fit; few_asked = room.few_asked; few_came = omega (arith, room.came, room.few) }
 
 pub arrive_paced-requires-clause-few : goal.arrive_paced-requires-clause-few
 arrive_paced-requires-clause-few g c =
     let S = g.C.Scheduler in
-    let i = c.loop-packet.invariant in
+    let i = c.loop-packets.invariant in
     let room = run_room S (heard g.W.Recorder (g.P.Packets.captures c.args.packets.now c.args.source.now)) (heard-joined g.W.Recorder g.met.W.Recorder.joined (g.P.Packets.captures c.args.packets.now c.args.source.now)) (S.policy c.args.self.now.scheduler) c.requires.set.accepted _ _ _ _ _ _ _ _ i.further.given i.further.few c.requires.fresh (omega arith) c.requires.stands i.run c.requires.counts in
     omega (arith, room.pushes_fit, room.came, room.few)
 
 pub arrive_paced-requires-clause-dropped : goal.arrive_paced-requires-clause-dropped
 arrive_paced-requires-clause-dropped g c =
     let S = g.C.Scheduler in
-    let i = c.loop-packet.invariant in
+    let i = c.loop-packets.invariant in
     (run_room S (heard g.W.Recorder (g.P.Packets.captures c.args.packets.now c.args.source.now)) (heard-joined g.W.Recorder g.met.W.Recorder.joined (g.P.Packets.captures c.args.packets.now c.args.source.now)) (S.policy c.args.self.now.scheduler) c.requires.set.accepted _ _ _ _ _ _ _ _ i.further.given i.further.few c.requires.fresh (omega arith) c.requires.stands i.run c.requires.counts).dropped
 
-pub loop-packet-preserved : goal.loop-packet-preserved
-loop-packet-preserved g c =
+pub loop-packets-preserved : goal.loop-packets-preserved
+loop-packets-preserved g c =
     let S = g.C.Scheduler in
     let policy = S.policy c.args.self.now.scheduler in
-    let i = c.loop-packet.invariant in
-    let e = c.in_ok-over-in-Ok-Some.ensures in
-    let n = c.in-Ok-Some.ensures in
-    let number = rw c.in-Ok-Some.field-0-is at n.number in
-    let given : g.P.Packets.given c.next.new.self ≡ g.P.Packets.given c.loop-packet.packets + 1 = rw c.in-Ok-Some.field-0-is at n.given in
-    let came = rw c.in-Ok-Some.field-0-is at n.came in
-    let known = rw c.in-Ok-Some.field-0-is at n.bytes in
+    let i = c.loop-packets.invariant in
+    let e = c.in_ok-over-in-Ok-true.ensures in
+    let n = c.in-Ok-true.ensures in
+    let number = n.number c.in-Ok-true.field-0-test in
+    let given : g.P.Packets.given c.next.new.self ≡ g.P.Packets.given c.loop-packets.packets + 1 = rw c.in-Ok-true.field-0-test at n.given in
+    let came = n.came c.in-Ok-true.field-0-test in
+    let known = n.bytes c.in-Ok-true.field-0-test in
     let sends = rw (i.kept.policy, c.if-over.false) at e.ok in
     let one_came = rw c.if-over.false at e.came in
     record {
       run = run_goes S (heard g.W.Recorder (g.P.Packets.captures c.args.packets.now c.args.source.now)) (heard-joined g.W.Recorder g.met.W.Recorder.joined (g.P.Packets.captures c.args.packets.now c.args.source.now)) policy c.requires.set.accepted _ _ _ _ _ _ _ _ i.further.given i.run _ _ _ _
-          (link_goes S (heard g.W.Recorder (g.P.Packets.captures c.args.packets.now c.args.source.now)) policy c.args.rate c.loop-packet.link c.in-Ok-Some.packet c.arrive_paced.new.link _ _ _ _ came (same_sends S (heard g.W.Recorder (g.P.Packets.captures c.args.packets.now c.args.source.now)) policy _ _ _ _ _ _ _ _ _ _ _ (sym given) (sends_so S (heard_gives g.W.Recorder (IsCapturedAs c.in-Ok-Some.packet c.captured-captured.result.now) (g.P.Packets.captures c.args.packets.now c.args.source.now) (λ bytes are. known bytes (i.further.known bytes are) ∙ sym c.captured-captured.ensures)) policy _ _ _ _ (sends _ number))));
+          (link_goes S (heard g.W.Recorder (g.P.Packets.captures c.args.packets.now c.args.source.now)) policy c.args.rate c.loop-packets.link c.next.new.packet c.arrive_paced.new.link _ _ _ _ came (same_sends S (heard g.W.Recorder (g.P.Packets.captures c.args.packets.now c.args.source.now)) policy _ _ _ _ _ _ _ _ _ _ _ (sym given) (sends_so S (heard_gives g.W.Recorder (IsCapturedAs c.next.new.packet c.captured-captured.result.now) (g.P.Packets.captures c.args.packets.now c.args.source.now) (λ bytes are. known bytes (i.further.known bytes are) ∙ sym c.captured-captured.ensures)) policy _ _ _ _ (sends _ number))));
       early = e.early;
       further = record { ready = n.ready; known = λ bytes are. n.known bytes (i.further.known bytes are); given = omega (arith, i.further.given, given, one_came); few = n.few };
       kept = continues_then S _ _ _ i.kept e.kept;
@@ -84,65 +84,65 @@ loop-packet-preserved g c =
       live = e.live;
     }
 
-pub returns-in_err-over-in-Ok-Some-clause-err : goal.returns-in_err-over-in-Ok-Some-clause-err
-returns-in_err-over-in-Ok-Some-clause-err g c =
+pub returns-in_err-over-in-Ok-true-clause-err : goal.returns-in_err-over-in-Ok-true-clause-err
+returns-in_err-over-in-Ok-true-clause-err g c =
     let p = err_from_is_err_and c.from_residual.result c.from_residual.ensures.1 in
     let S = g.C.Scheduler in
     let policy = S.policy c.args.self.now.scheduler in
-    let i = c.loop-packet.invariant in
-    let number = rw c.in-Ok-Some.field-0-is at c.in-Ok-Some.ensures.number in
-    let came = rw c.in-Ok-Some.field-0-is at c.in-Ok-Some.ensures.came in
-    let known = rw c.in-Ok-Some.field-0-is at c.in-Ok-Some.ensures.bytes in
-    let amid = rw i.kept.policy at c.in_err-over-in-Ok-Some.ensures.err in
+    let i = c.loop-packets.invariant in
+    let number = c.in-Ok-true.ensures.number c.in-Ok-true.field-0-test in
+    let came = c.in-Ok-true.ensures.came c.in-Ok-true.field-0-test in
+    let known = c.in-Ok-true.ensures.bytes c.in-Ok-true.field-0-test in
+    let amid = rw i.kept.policy at c.in_err-over-in-Ok-true.ensures.err in
     rw (p.1) (run_breaks S (heard g.W.Recorder (g.P.Packets.captures c.args.packets.now c.args.source.now)) (heard-joined g.W.Recorder g.met.W.Recorder.joined (g.P.Packets.captures c.args.packets.now c.args.source.now)) policy c.requires.set.accepted _ _ _ _ _ _ _ _ i.further.given i.run g.W.Recorder.over _ _ _
-    (link_stops S (heard g.W.Recorder (g.P.Packets.captures c.args.packets.now c.args.source.now)) policy c.args.rate c.loop-packet.link g.W.Recorder.over c.in-Ok-Some.packet _ _ _ _ _ _ came (sends_amid_so S (heard_gives g.W.Recorder (IsCapturedAs c.in-Ok-Some.packet c.captured-captured.result.now) (g.P.Packets.captures c.args.packets.now c.args.source.now) (λ bytes are. known bytes (i.further.known bytes are) ∙ sym c.captured-captured.ensures)) policy g.W.Recorder.over _ _ _ _ _ (amid _ number))))
+    (link_stops S (heard g.W.Recorder (g.P.Packets.captures c.args.packets.now c.args.source.now)) policy c.args.rate c.loop-packets.link g.W.Recorder.over c.next.new.packet _ _ _ _ _ _ came (sends_amid_so S (heard_gives g.W.Recorder (IsCapturedAs c.next.new.packet c.captured-captured.result.now) (g.P.Packets.captures c.args.packets.now c.args.source.now) (λ bytes are. known bytes (i.further.known bytes are) ∙ sym c.captured-captured.ensures)) policy g.W.Recorder.over _ _ _ _ _ (amid _ number))))
 
 pub send_until-requires-clause-stands : goal.send_until-requires-clause-stands
 send_until-requires-clause-stands g c =
     let S = g.C.Scheduler in
-    let i = c.loop-packet.invariant in
+    let i = c.loop-packets.invariant in
     let ready = run_ready S (heard g.W.Recorder (g.P.Packets.captures c.args.packets.now c.args.source.now)) (heard-joined g.W.Recorder g.met.W.Recorder.joined (g.P.Packets.captures c.args.packets.now c.args.source.now)) (S.policy c.args.self.now.scheduler) c.requires.set.accepted _ _ _ _ _ _ _ _ i.further.given i.further.few c.requires.fresh (omega arith) c.requires.stands i.run in
     rw i.kept.policy (record { state = ready.state; sound = ready.sound; stood = ready.stood; has = record { number = _; below = ready.has.held; few = ready.has.few } })
 
 pub send_until-requires-clause-counts : goal.send_until-requires-clause-counts
 send_until-requires-clause-counts g c =
     let S = g.C.Scheduler in
-    let i = c.loop-packet.invariant in
+    let i = c.loop-packets.invariant in
     let room = run_room S (heard g.W.Recorder (g.P.Packets.captures c.args.packets.now c.args.source.now)) (heard-joined g.W.Recorder g.met.W.Recorder.joined (g.P.Packets.captures c.args.packets.now c.args.source.now)) (S.policy c.args.self.now.scheduler) c.requires.set.accepted _ _ _ _ _ _ _ _ i.further.given i.further.few c.requires.fresh (omega arith) c.requires.stands i.run c.requires.counts in
     record { departures_fit = room.departures_fit; few_asked = room.few_asked; few_came = omega (arith, room.came, room.few) }
 
-pub returns-in_err-over-in-Ok-None-clause-err : goal.returns-in_err-over-in-Ok-None-clause-err
-returns-in_err-over-in-Ok-None-clause-err g c =
-    let p = err_from_is_err_and c.from_residual-in_err-over-in-Ok-None.result c.from_residual-in_err-over-in-Ok-None.ensures.1 in
+pub returns-in_err-over-in-Ok-false-clause-err : goal.returns-in_err-over-in-Ok-false-clause-err
+returns-in_err-over-in-Ok-false-clause-err g c =
+    let p = err_from_is_err_and c.from_residual-in_err-over-in-Ok-false.result c.from_residual-in_err-over-in-Ok-false.ensures.1 in
     let S = g.C.Scheduler in
     let policy = S.policy c.args.self.now.scheduler in
-    let i = c.loop-packet.invariant in
-    let none = rw c.in-Ok-None.field-0-is at c.in-Ok-None.ensures.none in
-    let over = rw c.in-Ok-None.field-0-is at c.in-Ok-None.ensures.over in
-    let amid = rw i.kept.policy at c.in_err-over-in-Ok-None.ensures.err in
+    let i = c.loop-packets.invariant in
+    let none = c.in-Ok-false.ensures.none c.in-Ok-false.field-0-test in
+    let over = c.in-Ok-false.ensures.over c.in-Ok-false.field-0-test in
+    let amid = rw i.kept.policy at c.in_err-over-in-Ok-false.ensures.err in
     rw (p.1) (run_breaks S (heard g.W.Recorder (g.P.Packets.captures c.args.packets.now c.args.source.now)) (heard-joined g.W.Recorder g.met.W.Recorder.joined (g.P.Packets.captures c.args.packets.now c.args.source.now)) policy c.requires.set.accepted _ _ _ _ _ _ _ _ i.further.given i.run g.W.Recorder.over _ _ _
-    (link_drain_stops S (heard g.W.Recorder (g.P.Packets.captures c.args.packets.now c.args.source.now)) policy c.args.rate c.loop-packet.link g.W.Recorder.over _ _ _ _ _ _ none over (sends_amid_so S (heard_gives g.W.Recorder any_bytes (g.P.Packets.captures c.args.packets.now c.args.source.now) (λ bytes are. tt)) policy g.W.Recorder.over _ _ _ _ _ (amid _))))
+    (link_drain_stops S (heard g.W.Recorder (g.P.Packets.captures c.args.packets.now c.args.source.now)) policy c.args.rate c.loop-packets.link g.W.Recorder.over _ _ _ _ _ _ none over (sends_amid_so S (heard_gives g.W.Recorder any_bytes (g.P.Packets.captures c.args.packets.now c.args.source.now) (λ bytes are. tt)) policy g.W.Recorder.over _ _ _ _ _ (amid _))))
 
-pub returns-in-Ok-None-clause-ok : goal.returns-in-Ok-None-clause-ok
-returns-in-Ok-None-clause-ok g c =
+pub returns-in-Ok-false-clause-ok : goal.returns-in-Ok-false-clause-ok
+returns-in-Ok-false-clause-ok g c =
     let S = g.C.Scheduler in
     let policy = S.policy c.args.self.now.scheduler in
-    let i = c.loop-packet.invariant in
-    let none = rw c.in-Ok-None.field-0-is at c.in-Ok-None.ensures.none in
-    let over = rw c.in-Ok-None.field-0-is at c.in-Ok-None.ensures.over in
-    let given : g.P.Packets.given c.next.new.self ≡ g.P.Packets.given c.loop-packet.packets = (let e = rw c.in-Ok-None.field-0-is at c.in-Ok-None.ensures.given in omega (arith, e)) in
-    let sends = rw (i.kept.policy, c.if-over-2.false) at c.in_ok-over-in-Ok-None.ensures.ok in
+    let i = c.loop-packets.invariant in
+    let none = c.in-Ok-false.ensures.none c.in-Ok-false.field-0-test in
+    let over = c.in-Ok-false.ensures.over c.in-Ok-false.field-0-test in
+    let given : g.P.Packets.given c.next.new.self ≡ g.P.Packets.given c.loop-packets.packets = (let e = rw c.in-Ok-false.field-0-test at c.in-Ok-false.ensures.given in omega (arith, e)) in
+    let sends = rw (i.kept.policy, c.if-over-2.false) at c.in_ok-over-in-Ok-false.ensures.ok in
     run_ends S (heard g.W.Recorder (g.P.Packets.captures c.args.packets.now c.args.source.now)) (heard-joined g.W.Recorder g.met.W.Recorder.joined (g.P.Packets.captures c.args.packets.now c.args.source.now)) policy c.requires.set.accepted _ _ _ _ _ _ _ _ i.further.given i.run _ _
-    (link_drains S (heard g.W.Recorder (g.P.Packets.captures c.args.packets.now c.args.source.now)) policy c.args.rate c.loop-packet.link c.send_until.new.link _ _ _ _ none over (same_sends S (heard g.W.Recorder (g.P.Packets.captures c.args.packets.now c.args.source.now)) policy _ _ _ _ _ _ _ _ _ _ _ (sym given) (sends_so S (heard_gives g.W.Recorder any_bytes (g.P.Packets.captures c.args.packets.now c.args.source.now) (λ bytes are. tt)) policy _ _ _ _ (sends _))))
+    (link_drains S (heard g.W.Recorder (g.P.Packets.captures c.args.packets.now c.args.source.now)) policy c.args.rate c.loop-packets.link c.send_until.new.link _ _ _ _ none over (same_sends S (heard g.W.Recorder (g.P.Packets.captures c.args.packets.now c.args.source.now)) policy _ _ _ _ _ _ _ _ _ _ _ (sym given) (sends_so S (heard_gives g.W.Recorder any_bytes (g.P.Packets.captures c.args.packets.now c.args.source.now) (λ bytes are. tt)) policy _ _ _ _ (sends _))))
 
 pub returns-in-Err-Source-clause-err : goal.returns-in-Err-Source-clause-err
 returns-in-Err-Source-clause-err g c =
-    let i = c.loop-packet.invariant in
+    let i = c.loop-packets.invariant in
     run_halts_going g.C.Scheduler (heard g.W.Recorder (g.P.Packets.captures c.args.packets.now c.args.source.now)) (heard-joined g.W.Recorder g.met.W.Recorder.joined (g.P.Packets.captures c.args.packets.now c.args.source.now)) (g.C.Scheduler.policy c.args.self.now.scheduler) c.requires.set.accepted _ _ _ _ _ _ _ _ i.further.given i.run g.W.Recorder.over i.going
 
 pub returns-in-Err-Memory-clause-err : goal.returns-in-Err-Memory-clause-err
 returns-in-Err-Memory-clause-err g c =
-    let i = c.loop-packet.invariant in
+    let i = c.loop-packets.invariant in
     run_halts_going g.C.Scheduler (heard g.W.Recorder (g.P.Packets.captures c.args.packets.now c.args.source.now)) (heard-joined g.W.Recorder g.met.W.Recorder.joined (g.P.Packets.captures c.args.packets.now c.args.source.now)) (g.C.Scheduler.policy c.args.self.now.scheduler) c.requires.set.accepted _ _ _ _ _ _ _ _ i.further.given i.run g.W.Recorder.over i.going
 
 -- nothing more can be recorded in the turn of a packet
@@ -150,23 +150,23 @@ pub returns-then-over-clause-ok : goal.returns-then-over-clause-ok
 returns-then-over-clause-ok g c =
     let S = g.C.Scheduler in
     let policy = S.policy c.args.self.now.scheduler in
-    let i = c.loop-packet.invariant in
-    let e = c.in_ok-over-in-Ok-Some.ensures in
-    let number = rw c.in-Ok-Some.field-0-is at c.in-Ok-Some.ensures.number in
-    let came = rw c.in-Ok-Some.field-0-is at c.in-Ok-Some.ensures.came in
-    let known = rw c.in-Ok-Some.field-0-is at c.in-Ok-Some.ensures.bytes in
+    let i = c.loop-packets.invariant in
+    let e = c.in_ok-over-in-Ok-true.ensures in
+    let number = c.in-Ok-true.ensures.number c.in-Ok-true.field-0-test in
+    let came = c.in-Ok-true.ensures.came c.in-Ok-true.field-0-test in
+    let known = c.in-Ok-true.ensures.bytes c.in-Ok-true.field-0-test in
     let sends = rw (i.kept.policy, c.if-over.true) at e.ok in
     run_first S (heard g.W.Recorder (g.P.Packets.captures c.args.packets.now c.args.source.now)) (heard-joined g.W.Recorder g.met.W.Recorder.joined (g.P.Packets.captures c.args.packets.now c.args.source.now)) policy c.requires.set.accepted _ _ _ _ _ _ _ _ i.further.given i.run g.W.Recorder.over _
-    (link_first S (heard g.W.Recorder (g.P.Packets.captures c.args.packets.now c.args.source.now)) policy c.args.rate c.loop-packet.link g.W.Recorder.over c.in-Ok-Some.packet _ _ _ _ came (same_first S (heard g.W.Recorder (g.P.Packets.captures c.args.packets.now c.args.source.now)) (heard-joined g.W.Recorder g.met.W.Recorder.joined (g.P.Packets.captures c.args.packets.now c.args.source.now)) g.W.Recorder.over policy _ _ _ _ _ _ _ _ _ _ (sends_first_so S (heard_gives g.W.Recorder (IsCapturedAs c.in-Ok-Some.packet c.captured-captured.result.now) (g.P.Packets.captures c.args.packets.now c.args.source.now) (λ bytes are. known bytes (i.further.known bytes are) ∙ sym c.captured-captured.ensures)) policy g.W.Recorder.over _ _ _ (sends _ number))))
+    (link_first S (heard g.W.Recorder (g.P.Packets.captures c.args.packets.now c.args.source.now)) policy c.args.rate c.loop-packets.link g.W.Recorder.over c.next.new.packet _ _ _ _ came (same_first S (heard g.W.Recorder (g.P.Packets.captures c.args.packets.now c.args.source.now)) (heard-joined g.W.Recorder g.met.W.Recorder.joined (g.P.Packets.captures c.args.packets.now c.args.source.now)) g.W.Recorder.over policy _ _ _ _ _ _ _ _ _ _ (sends_first_so S (heard_gives g.W.Recorder (IsCapturedAs c.next.new.packet c.captured-captured.result.now) (g.P.Packets.captures c.args.packets.now c.args.source.now) (λ bytes are. known bytes (i.further.known bytes are) ∙ sym c.captured-captured.ensures)) policy g.W.Recorder.over _ _ _ (sends _ number))))
 
 -- nothing more can be recorded behind the last packet
 pub returns-then-over-2-clause-ok : goal.returns-then-over-2-clause-ok
 returns-then-over-2-clause-ok g c =
     let S = g.C.Scheduler in
     let policy = S.policy c.args.self.now.scheduler in
-    let i = c.loop-packet.invariant in
-    let none = rw c.in-Ok-None.field-0-is at c.in-Ok-None.ensures.none in
-    let over = rw c.in-Ok-None.field-0-is at c.in-Ok-None.ensures.over in
-    let sends = rw (i.kept.policy, c.if-over-2.true) at c.in_ok-over-in-Ok-None.ensures.ok in
+    let i = c.loop-packets.invariant in
+    let none = c.in-Ok-false.ensures.none c.in-Ok-false.field-0-test in
+    let over = c.in-Ok-false.ensures.over c.in-Ok-false.field-0-test in
+    let sends = rw (i.kept.policy, c.if-over-2.true) at c.in_ok-over-in-Ok-false.ensures.ok in
     run_first S (heard g.W.Recorder (g.P.Packets.captures c.args.packets.now c.args.source.now)) (heard-joined g.W.Recorder g.met.W.Recorder.joined (g.P.Packets.captures c.args.packets.now c.args.source.now)) policy c.requires.set.accepted _ _ _ _ _ _ _ _ i.further.given i.run g.W.Recorder.over _
-    (link_drain_first S (heard g.W.Recorder (g.P.Packets.captures c.args.packets.now c.args.source.now)) policy c.args.rate c.loop-packet.link g.W.Recorder.over _ _ _ _ none over (same_first S (heard g.W.Recorder (g.P.Packets.captures c.args.packets.now c.args.source.now)) (heard-joined g.W.Recorder g.met.W.Recorder.joined (g.P.Packets.captures c.args.packets.now c.args.source.now)) g.W.Recorder.over policy _ _ _ _ _ _ _ _ _ _ (sends_first_so S (heard_gives g.W.Recorder any_bytes (g.P.Packets.captures c.args.packets.now c.args.source.now) (λ bytes are. tt)) policy g.W.Recorder.over _ _ _ (sends _))))
+    (link_drain_first S (heard g.W.Recorder (g.P.Packets.captures c.args.packets.now c.args.source.now)) policy c.args.rate c.loop-packets.link g.W.Recorder.over _ _ _ _ none over (same_first S (heard g.W.Recorder (g.P.Packets.captures c.args.packets.now c.args.source.now)) (heard-joined g.W.Recorder g.met.W.Recorder.joined (g.P.Packets.captures c.args.packets.now c.args.source.now)) g.W.Recorder.over policy _ _ _ _ _ _ _ _ _ _ (sends_first_so S (heard_gives g.W.Recorder any_bytes (g.P.Packets.captures c.args.packets.now c.args.source.now) (λ bytes are. tt)) policy g.W.Recorder.over _ _ _ (sends _))))

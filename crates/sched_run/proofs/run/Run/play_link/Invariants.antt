@@ -9,8 +9,8 @@ use Rattle.sched_run.proofs.AgendaLaws.{HasRun}
 use Rattle.sched_run.specs.Heard.{heard}
 use Rattle.sched_run.proofs.run.Run.play_link.Given as goal
 
-abbrev pub invariant-loop-packet : goal.invariant-loop-packet
-invariant-loop-packet g l =
+abbrev pub invariant-loop-packets : goal.invariant-loop-packets
+invariant-loop-packets g l =
     let S = g.C.Scheduler in
     let P = g.P.Packets in
     let written = g.K.Sink.written in
@@ -30,5 +30,5 @@ invariant-loop-packet g l =
       live : g.W.Recorder.live l.self.recorder;
     }
 
-abbrev pub decreases-loop-packet : goal.decreases-loop-packet
-decreases-loop-packet g l = 4294967296 - g.P.Packets.given l.packets
+abbrev pub decreases-loop-packets : goal.decreases-loop-packets
+decreases-loop-packets g l = 4294967296 - g.P.Packets.given l.packets
