@@ -1,6 +1,6 @@
 -- The policy of the tests is accepted.
 use Rattle.std.proofs.Common.{◌≡◌, ◌≤◌, ℕ, zero, suc, List, [], ◌∷◌, length, Some, refl, codes, subst, rules, arith}
-use Rattle.rank_defs.specs.Builtins.{stfq}
+use Rattle.rank_defs.specs.Builtins.{strict, stfq}
 use Rattle.rank_defs.specs.Shapes.{IsShaped}
 use Rattle.rank_defs.specs.Checks.{IsChecked}
 use Rattle.tree_defs.specs.Tree.{Address}
@@ -27,13 +27,16 @@ urgent-in_range = record { prio = omega arith; weight_low = omega arith; weight_
 ready : (name : List ℕ) (m : Marks) → AreMarksInRange (told m) → length name ≤ 64 → IsNodeReady (node name (codes "stfq") stfq m)
 ready name m range short = record { shaped = shaped; checked = checked; marks = range; name = short }
 
+ready-strict : IsNodeReady (node (codes "right") (codes "strict") strict plain)
+ready-strict = record { shaped = search rules; checked = search rules; marks = plain-in_range; name = omega arith }
+
 nodes-ready : (a : Address) (n : Node) → node_at fair.policy.tree a ≡ Some n → IsNodeReady n
 nodes-ready [] n e = subst IsNodeReady (some-is e) (ready _ plain plain-in_range (omega arith))
 nodes-ready (zero ∷ []) n e = subst IsNodeReady (some-is e) (ready _ urgent urgent-in_range (omega arith))
 nodes-ready (zero ∷ zero ∷ []) n e = subst IsNodeReady (some-is e) (ready _ plain plain-in_range (omega arith))
 nodes-ready (zero ∷ zero ∷ i ∷ a) n e = cc
 nodes-ready (zero ∷ suc i ∷ a) n e = cc
-nodes-ready (suc zero ∷ []) n e = subst IsNodeReady (some-is e) (ready _ plain plain-in_range (omega arith))
+nodes-ready (suc zero ∷ []) n e = subst IsNodeReady (some-is e) ready-strict
 nodes-ready (suc zero ∷ i ∷ a) n e = cc
 nodes-ready (suc (suc i) ∷ a) n e = cc
 

@@ -1,6 +1,7 @@
 pub mod TreeParts
 pub mod StateUpdates
 pub mod Levels
+pub mod RanksTold
 pub mod NodeSteps
 pub mod WayVisits
 pub mod StepsMade

@@ -6,6 +6,7 @@ use Rattle.std.proofs.lemmas.Slice.Eq.{bytes_eq-Decides}
 use Rattle.tree_defs.specs.Tree.{Tree, Address, IsAddressOf, subtree, nodes}
 use Rattle.rank_defs.specs.declared.environment.Who.{Who}
 use Rattle.rank_defs.specs.States.{State, SameState}
+use Rattle.rank_defs.proofs.SameStates.{same-trans}
 use Rattle.rank_core.specs.declared.node.NodeState.{NodeState}
 use Rattle.rank_core.specs.Node.{state_of, HasRoom}
 use Rattle.policy_defs.specs.Policy.{Node}
@@ -34,6 +35,15 @@ with-apart values a b s n = by_test (bytes_eq a b) refl
     by_test : (t : Bool) → bytes_eq a b ≡ t → with_state values a s b ≡ values b
     by_test true q = absurd (n (sym ((bytes_eq-Decides a b).0 q)))
     by_test false q = ap (λ (t : Bool). if t then s else values b) q
+
+-- what is the same at that address changes no value
+pub values-same : (tree : Tree Node) (states : List NodeState) (values : States) (a : Address) (s : State) → SameState (values a) s → HaveValues tree states values → HaveValues tree states (with_state values a s)
+values-same tree states values a s same h b y p keeps = by_test (bytes_eq a b) refl
+  where
+    by_test : (t : Bool) → bytes_eq a b ≡ t → SameState (state_of y) (with_state values a s b)
+    by_test true q = subst (λ (t : Bool). SameState (state_of y) (if t then s else values b)) (sym q)
+        (same-trans _ _ _ (h b y p keeps) (subst (λ (c : Address). SameState (values c) s) ((bytes_eq-Decides a b).0 q) same))
+    by_test false q = subst (λ (t : Bool). SameState (state_of y) (if t then s else values b)) (sym q) (h b y p keeps)
 
 -- ---- the states with another at one number
 module _ (tree : Tree Node) (states : List NodeState) (k : ℕ) (x' : NodeState) where

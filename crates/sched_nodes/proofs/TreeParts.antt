@@ -1,5 +1,5 @@
 -- Parts of a tree, and the child to which a way goes on.
-use Rattle.std.proofs.Common.{◌≡◌, ◌<◌, ◌+◌, ℕ, zero, suc, List, [], ◌∷◌, ◌++◌, length, Option, Some, refl, sym, ap, ◌∙◌, subst, arith, take, drop}
+use Rattle.std.proofs.Common.{◌≡◌, ◌<◌, ℕ, zero, suc, List, [], ◌∷◌, ◌++◌, length, Option, Some, refl, sym, ap, ◌∙◌, subst, arith, take, drop}
 use Rattle.std.specs.Prelude.{unwrap_or, IsSomeAnd, ◌-◌}
 use Rattle.std.proofs.lemmas.List.{take_all}
 use Rattle.tree_defs.specs.Tree.{Tree, leaf, inner, Trees, none, more, Address, IsAddressOf, LeadsToLeaf, LeadsBelow, subtree, subtree_in, root_of, count_of}

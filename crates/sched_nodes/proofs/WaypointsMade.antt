@@ -1,21 +1,21 @@
 -- The nodes on the ways of classes, taken from a policy one after another.
 use Rattle.std.proofs.Common.{◌≡◌, ◌<◌, ◌≤◌, ℕ, zero, suc, ◌+◌, List, [], ◌∷◌, ◌++◌, length, map, Some, None, refl, sym, ap, ◌∙◌, subst, arith, take, drop, get_or}
-use Rattle.std.specs.Prelude.{slice_get, option_map, Vec}
+use Rattle.std.specs.Prelude.{slice_get, slice_index_or, option_map, Vec}
 use Rattle.std.specs.List.{AllByRecursion}
 use Rattle.std.specs.declared.alloc.Global.{Global}
 use Rattle.std.proofs.lemmas.List.{length-append, drop_all}
 use Rattle.std.proofs.lemmas.Option.{slice_get-map, slice_get-get_or}
-use Rattle.tree_defs.specs.Tree.{Tree, leaf, inner, Address, IsAddressOf, LeadsToLeaf, root_of, nodes}
-use Rattle.rank_defs.specs.Programs.{Program}
+use Rattle.tree_defs.specs.Tree.{Tree, leaf, inner, Address, IsAddressOf, LeadsToLeaf, nodes}
 use Rattle.policy_defs.specs.Policy.{Policy, Node, Class as Aimed, Marks as Told, node_at}
 use Rattle.policy_defs.specs.Accepted.{IsAccepted, IsClassReady}
 use Rattle.policy_defs.specs.Numbers.{number_at}
 use Rattle.policy_core.specs.declared.parts.Class.{Class}
+use Rattle.policy_core.specs.declared.parts.Marks.{Marks}
 use Rattle.policy_core.specs.Numbering.{address_at, HasAt}
-use Rattle.policy_core.specs.Parts.{class_in}
+use Rattle.policy_core.specs.Parts.{class_in, told}
 use Rattle.sched_nodes.specs.declared.waypoint.Waypoint.{Waypoint}
 use Rattle.sched_nodes.specs.Kept.{part_at}
-use Rattle.sched_nodes.specs.Waypoints.{marks_on, IsWaypoint, AreWaypoints}
+use Rattle.sched_nodes.specs.Waypoints.{marks_on, rank_told, IsWaypoint, AreWaypoints}
 use Rattle.sched_nodes.proofs.TreeParts.{some-is, some-and, node-of_part}
 use Rattle.sched_nodes.proofs.FirstStates.{last-cases}
 use Rattle.sched_nodes.proofs.NodeSteps.{marks-of_class}
@@ -44,39 +44,61 @@ pub root-number : (tree : Tree Node) → 0 ≡ number_at tree []
 root-number (leaf n) = refl
 root-number (inner n ts) = refl
 
--- ---- the node at a level
-module _ (tree : Tree Node) (c : Aimed) (leads : LeadsToLeaf tree c.leaf) (level : ℕ) (h : level ≤ length c.leaf) (node : ℕ) (is-node : node ≡ number_at tree (take level c.leaf)) where
+-- what is known of a node that is reached at a level of a class's way
+pub record IsReached (tree : Tree Node) (c : Aimed) (level node : ℕ) : Type 0 where
+  pub leads : LeadsToLeaf tree c.leaf
+  pub short : level ≤ length c.leaf
+  pub number : node ≡ number_at tree (take level c.leaf)
+
+pub reached : {tree : Tree Node} (c : Aimed) {digits : List ℕ} {level node : ℕ} → LeadsToLeaf tree c.leaf → digits ≡ c.leaf → level ≤ length digits → node ≡ number_at tree (take level digits) → IsReached tree c level node
+reached {tree} c {digits} {level} leads to short number = record {
+  leads = leads;
+  short = omega (arith, short, ap length to);
+  number = number ∙ ap (λ (ds : List ℕ). number_at tree (take level ds)) to;
+}
+
+module _ {tree : Tree Node} {c : Aimed} {level : ℕ} {node : ℕ} (r : IsReached tree c level node) where
   pub node-within : node < nodes tree
-  node-within = omega (arith, is-node, (number-of tree c.leaf leads level h).within)
+  node-within = omega (arith, r.number, (number-of tree c.leaf r.leads level r.short).within)
 
   back : address_at tree node ≡ take level c.leaf
-  back = ap (address_at tree) is-node ∙ (number-of tree c.leaf leads level h).address
+  back = ap (address_at tree) r.number ∙ (number-of tree c.leaf r.leads level r.short).address
 
-  pub program-at : (p : Program) → HasAt tree node (λ n. p ≡ n.program) → p ≡ (root_of (part_at tree (take level c.leaf))).program
-  program-at p is = some-and _ _ (λ n. p ≡ n.program) (ap (node_at tree) back ∙ node-of_part tree (take level c.leaf) (part_at tree (take level c.leaf)) (there-at tree c.leaf leads level h)) is
+  -- what is kept of it
+  pub waypoint-made : {s : Waypoint} {m : Marks} → s.node ≡ node → HasAt tree node (λ n. s.checked.now ≡ n.program) → s.marks ≡ m → s.told ≡ rank_told s.checked.now.push (told m)
+      → told m ≡ marks_on (part_at tree (take level c.leaf)) (drop level c.leaf) c → IsWaypoint tree c level s
+  waypoint-made {s} is-node program marks rank on = record {
+    node = is-node ∙ r.number;
+    program = some-and _ _ (λ n. s.checked.now ≡ n.program) (ap (node_at tree) back ∙ node-of_part tree (take level c.leaf) (part_at tree (take level c.leaf)) (there-at tree c.leaf r.leads level r.short)) program;
+    marks = ap told marks ∙ on;
+    rank = rank ∙ ap (λ (k : Marks). rank_told s.checked.now.push (told k)) (sym marks);
+  }
 
-  pub last-marks : level ≡ length c.leaf → c.marks ≡ marks_on (part_at tree (take level c.leaf)) (drop level c.leaf) c
-  last-marks is =
-      let none : drop level c.leaf ≡ [] = drop_all level c.leaf (omega (arith, is)) in
+  pub last-marks : length c.leaf ≤ level → c.marks ≡ marks_on (part_at tree (take level c.leaf)) (drop level c.leaf) c
+  last-marks all =
+      let none : drop level c.leaf ≡ [] = drop_all level c.leaf all in
       sym (ap (λ (ds : Address). marks_on (part_at tree (take level c.leaf)) ds c) none ∙ marks-of_class (part_at tree (take level c.leaf)) c)
 
-  -- ---- and its child on the way
-  module _ (more : level < length c.leaf) (digit : ℕ) (is-digit : digit ≡ get_or c.leaf level 0) where
-    down : take level c.leaf ++ get_or c.leaf level 0 ∷ [] ≡ address_at tree node ++ digit ∷ []
-    down = ap (λ (a : Address). a ++ get_or c.leaf level 0 ∷ []) (sym back) ∙ ap (λ (i : ℕ). address_at tree node ++ i ∷ []) (sym is-digit)
+  -- ---- and its child on the way, to which the next digit leads
+  module _ {digits : List ℕ} (to : digits ≡ c.leaf) (more : level < length digits) where
+    further : level < length c.leaf
+    further = omega (arith, more, ap length to)
 
-    pub child-there : IsAddressOf tree (address_at tree node ++ digit ∷ [])
-    child-there = subst (IsAddressOf tree) down (_, child-at tree c.leaf leads level more)
+    down : take level c.leaf ++ get_or c.leaf level 0 ∷ [] ≡ address_at tree node ++ slice_index_or digits level 0 ∷ []
+    down = ap (λ (a : Address). a ++ get_or c.leaf level 0 ∷ []) (sym back) ∙ ap (λ (ds : List ℕ). address_at tree node ++ get_or ds level 0 ∷ []) (sym to)
 
-    pub child-number : (child : ℕ) → child ≡ number_at tree (address_at tree node ++ digit ∷ []) → child ≡ number_at tree (take (level + 1) c.leaf)
-    child-number child is = is ∙ ap (number_at tree) (sym down ∙ sym (place-next tree c.leaf leads level more))
+    pub child-there : IsAddressOf tree (address_at tree node ++ slice_index_or digits level 0 ∷ [])
+    child-there = subst (IsAddressOf tree) down (_, child-at tree c.leaf r.leads level further)
 
-    pub child-marks : (child : ℕ) (m : Told) → address_at tree child ≡ address_at tree node ++ digit ∷ [] → HasAt tree child (λ n. m ≡ n.marks) → m ≡ marks_on (part_at tree (take level c.leaf)) (drop level c.leaf) c
-    child-marks child m at is =
-        let n = next-at tree c.leaf leads level more in
-        some-and _ _ (λ x. m ≡ x.marks) (ap (node_at tree) (at ∙ sym down) ∙ node-of_part tree (take level c.leaf ++ get_or c.leaf level 0 ∷ []) n.child (child-at tree c.leaf leads level more)) is
+    pub child-number : {child : ℕ} → child ≡ number_at tree (address_at tree node ++ slice_index_or digits level 0 ∷ []) → child ≡ number_at tree (take (level + 1) digits)
+    child-number is = is ∙ ap (number_at tree) (sym down ∙ sym (place-next tree c.leaf r.leads level further)) ∙ ap (λ (ds : List ℕ). number_at tree (take (level + 1) ds)) (sym to)
+
+    pub child-marks : (child : ℕ) {m : Told} → address_at tree child ≡ address_at tree node ++ slice_index_or digits level 0 ∷ [] → HasAt tree child (λ n. m ≡ n.marks) → m ≡ marks_on (part_at tree (take level c.leaf)) (drop level c.leaf) c
+    child-marks child {m} at is =
+        let n = next-at tree c.leaf r.leads level further in
+        some-and _ _ (λ x. m ≡ x.marks) (ap (node_at tree) (at ∙ sym down) ∙ node-of_part tree (take level c.leaf ++ get_or c.leaf level 0 ∷ []) n.child (child-at tree c.leaf r.leads level further)) is
         ∙ sym (n.marks c)
-        ∙ ap (λ (ds : Address). marks_on (part_at tree (take level c.leaf)) ds c) (sym (ahead-next tree c.leaf leads level more))
+        ∙ ap (λ (ds : Address). marks_on (part_at tree (take level c.leaf)) ds c) (sym (ahead-next tree c.leaf r.leads level further))
 
 -- ---- the ways of the first classes
 pub record HaveWays (policy : Policy) (ways : List (Vec Waypoint Global)) (n : ℕ) : Type 0 where

@@ -5,12 +5,11 @@ ghost use Rattle.rank_defs.specs.Shapes.{IsEnvInRange, max_len};
 ghost use Rattle.policy_defs.specs.Accepted.{AreMarksInRange};
 ghost use Rattle.policy_core.specs.Parts.{told};
 ghost use Rattle.sched_defs.specs.Visits.{env_for};
-ghost use Rattle.sched_nodes.specs.Ways.{who_on};
 
 use crate::waypoint::Waypoint;
 use packet_defs::Packet;
 use policy_core::{Class, Marks, Policy};
-use rank_core::{Env, Who};
+use rank_core::Env;
 
 /// A packet on its way, with its class, the nodes on the way of this class, and the moment that the steps are told.
 #[derive(Drop)]
@@ -23,16 +22,6 @@ pub struct Passage<'a> {
 }
 
 impl Passage<'_> {
-    /// For whom a node makes its step, if the way goes on along these digits.
-    pub fn who(&self, digits: &[u32]) -> Who
-        ensures { result ≡ who_on digits.now self.now.packet.now }
-    {
-        match digits {
-            [] => Who::Flow(self.packet.flow),
-            [digit, ..] => Who::Child(*digit),
-        }
-    }
-
     /// What a step is told, with these marks.
     pub fn env(&self, marks: &Marks) -> Env
         requires len { self.now.packet.now.len ≤ max_len }

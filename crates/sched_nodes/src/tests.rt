@@ -1,9 +1,9 @@
 //! Tests of the variables of nodes, children and flows.
 ghost use Rattle.std.specs.Prelude.{◌≡◌, ◌≤◌, [], codes, IfOk, OnOk};
-ghost use Rattle.rank_defs.specs.Builtins.{stfq};
+ghost use Rattle.rank_defs.specs.Builtins.{strict, stfq};
 ghost use Rattle.tree_graph.specs.Descent.{lists, two_below_a_root};
 ghost use Rattle.policy_core.specs.Samples.{station};
-ghost use Rattle.sched_nodes.specs.Samples.{one_program, tree, stations, classes, fair, deep};
+ghost use Rattle.sched_nodes.specs.Samples.{two_programs, tree, stations, classes, fair, deep};
 ghost use Rattle.sched_nodes.specs.Agreement.{policy_of, HasFlowRoom};
 
 use crate::Stations;
@@ -47,27 +47,35 @@ const DEEP: Packet = Packet {
     flow: FLOW,
 };
 
+const SHALLOW: Packet = Packet { class: 0, ..DEEP };
+
 const OTHER: Packet = Packet {
     flow: FlowKey { sport: 9, ..FLOW },
     ..DEEP
 };
 
 fn programs(alloc: Global) -> Result<List<Checked>, Fail>
-    ensures { IfOk result (λ all. all ≡ one_program) }
+    ensures { IfOk result (λ all. all ≡ two_programs) }
 {
-    match builtin(alloc, b"stfq")? {
-        Some(fair) => Ok(check(List::from_vec(vec![in alloc; fair]?))?),
-        None => unreachable!(),
+    match (builtin(alloc, b"stfq")?, builtin(alloc, b"strict")?) {
+        (Some(fair), Some(strict)) => Ok(check(List::from_vec(vec![in alloc; fair, strict]?))?),
+        _ => unreachable!(),
     }
 }
 
-fn station(alloc: Global, name: &str, marks: Marks) -> Result<Station, AllocError>
-    ensures { IfOk result (λ s. s ≡ station name.now (codes "stfq") 0 marks) }
+fn station(
+    alloc: Global,
+    name: &str,
+    used: &str,
+    program: usize,
+    marks: Marks,
+) -> Result<Station, AllocError>
+    ensures { IfOk result (λ s. s ≡ station name.now used.now program marks) }
 {
     Ok(Station {
         name: Name::new(alloc, name)?,
-        using: Name::new(alloc, "stfq")?,
-        program: 0,
+        using: Name::new(alloc, used)?,
+        program,
         marks,
         limit: None,
     })
@@ -92,10 +100,10 @@ fn tree(alloc: Global) -> Result<Preorder, AllocError>
 fn stations(alloc: Global) -> Result<List<Station>, AllocError>
     ensures { IfOk result (λ all. all ≡ stations) }
 {
-    let left = station(alloc, "left", URGENT)?;
-    let right = station(alloc, "right", PLAIN)?;
-    let root = station(alloc, "root", PLAIN)?;
-    let deep = station(alloc, "deep", PLAIN)?;
+    let left = station(alloc, "left", "stfq", 0, URGENT)?;
+    let right = station(alloc, "right", "strict", 1, PLAIN)?;
+    let root = station(alloc, "root", "stfq", 0, PLAIN)?;
+    let deep = station(alloc, "deep", "stfq", 0, PLAIN)?;
     Ok(List::from_vec(vec![in alloc; left, right, root, deep]?))
 }
 
@@ -118,7 +126,7 @@ fn classes(alloc: Global) -> Result<List<Class>, AllocError>
 }
 
 fn fair(alloc: Global, programs: List<Checked>) -> Result<Policy, AllocError>
-    requires { programs ≡ one_program }
+    requires { programs ≡ two_programs }
     ensures { IfOk result (λ p. p ≡ fair) }
 {
     let tree = tree(alloc)?;
@@ -149,11 +157,26 @@ fn go_on<R: Abort>(rt: &R, stations: &mut Stations<'_>, trace: &mut Taken) -> Re
     requires policy { policy_of stations.old ≡ fair.policy }
     requires levels { 2 ≤ trace.old.room }
     requires room { HasFlowRoom stations.old deep }
+    ensures policy { policy_of stations.new ≡ fair.policy }
+    ensures levels { trace.new.room ≡ trace.old.room }
 {
     stations.pop_steps(&DEEP, &[0, 0], &[50_000, 100_000, 100_000], 5);
     stations.reserve(&OTHER)?;
     stations.push_steps(&OTHER, 5, trace);
     assert_eq!(rt; trace.ranks(), [100_000, 200_000, 100_000].as_slice());
+    Ok(())
+}
+
+/// A packet of the other class comes and leaves: its leaf ranks it by the mark of its class alone.
+fn pass<R: Abort>(rt: &R, stations: &mut Stations<'_>, trace: &mut Taken) -> Result<(), AllocError>
+    requires policy { policy_of stations.old ≡ fair.policy }
+    requires levels { 2 ≤ trace.old.room }
+{
+    stations.reserve(&SHALLOW)?;
+    stations.push_steps(&SHALLOW, 5, trace);
+    assert_eq!(rt; trace.digits(), [1].as_slice());
+    assert_eq!(rt; trace.ranks(), [50_000, 7].as_slice());
+    stations.pop_steps(&SHALLOW, &[1], &[50_000, 7], 5);
     Ok(())
 }
 
@@ -165,5 +188,6 @@ fn each_node_ranks_by_its_own_variables(rt: HostRuntime) -> Result<(), Fail> {
     let mut trace = Taken::new(alloc, policy.depth())?;
     come(&rt, &mut stations, &mut trace)?;
     go_on(&rt, &mut stations, &mut trace)?;
+    pass(&rt, &mut stations, &mut trace)?;
     Ok(())
 }

@@ -7,10 +7,36 @@ ghost use Rattle.sched_nodes.specs.Kept.{AreStations};
 ghost use Rattle.sched_nodes.specs.Ways.{IsReady, tree_for, class_for, stop, way, HasRoomAtLeaf, AreLowRanks, ForValues, ValuesBecome, KeepsRoom};
 
 use crate::passage::Passage;
-use rank_core::{NodeState, run_pop, run_push};
+use rank_core::{NodeState, Who, run_pop, run_push};
 use tree_core::Taken;
 
-/// The push step at a level of the way. The answer is the packet's rank there.
+/// The lines of the push step at a level of the way. The answer is the packet's rank there.
+#[inline(never)]
+fn push_lines(states: &mut [NodeState], passage: &Passage, digits: &[u32], level: usize) -> u64
+    requires ready { IsReady passage.now }
+    requires digits { digits.now ≡ (class_for passage.now).leaf }
+    requires level { level ≤ length digits.now }
+    requires kept { AreStations (tree_for passage.now) states.old }
+    requires room { HasRoomAtLeaf passage.now states.old }
+    ensures rank { ForValues passage.now states.old (λ v. result ≡ rank_at v (stop passage.now level)) }
+    ensures values { ValuesBecome passage.now states.old states.new (after_pushes (stop passage.now level ∷ [])) }
+    ensures kept { AreStations (tree_for passage.now) states.new }
+    ensures room { KeepsRoom passage.now states.old states.new }
+    ensures limit { result ≤ max_rank }
+{
+    let waypoint = &passage.waypoints[level];
+    let transaction = waypoint.checked.transaction();
+    let state = &mut states[waypoint.node as usize];
+    let env = passage.env(&waypoint.marks);
+    if level < digits.len() {
+        return run_push(transaction, state, &Who::Child(digits[level]), &env);
+    }
+    run_push(transaction, state, &Who::Flow(passage.packet.flow), &env)
+}
+
+/// The push step at a level of the way. The answer is the packet's rank there. Where the marks alone tell it, as in most nodes,
+/// nothing is looked up for it.
+#[inline(always)]
 fn push_at(states: &mut [NodeState], passage: &Passage, digits: &[u32], level: usize) -> u64
     requires ready { IsReady passage.now }
     requires digits { digits.now ≡ (class_for passage.now).leaf }
@@ -24,19 +50,15 @@ fn push_at(states: &mut [NodeState], passage: &Passage, digits: &[u32], level: u
     ensures limit { result ≤ max_rank }
 {
     let waypoint = &passage.waypoints[level];
-    let who = passage.who(&digits[level..]);
-    let env = passage.env(&waypoint.marks);
-    run_push(
-        waypoint.checked.transaction(),
-        &mut states[waypoint.node as usize],
-        &who,
-        &env,
-    )
+    match waypoint.told {
+        Some(rank) => rank,
+        None => push_lines(states, passage, digits, level),
+    }
 }
 
-/// The pop step at a level of the way, where the packet was taken with a rank. Where the node has no lines, as most have none,
-/// nothing is looked up for it.
-fn pop_at(states: &mut [NodeState], passage: &Passage, digits: &[u32], level: usize, rank: u64)
+/// The lines of the pop step at a level of the way, where the packet was taken with a rank.
+#[inline(never)]
+fn pop_lines(states: &mut [NodeState], passage: &Passage, digits: &[u32], level: usize, rank: u64)
     requires ready { IsReady passage.now }
     requires digits { digits.now ≡ (class_for passage.now).leaf }
     requires level { level ≤ length digits.now }
@@ -50,12 +72,38 @@ fn pop_at(states: &mut [NodeState], passage: &Passage, digits: &[u32], level: us
     let waypoint = &passage.waypoints[level];
     let transaction = waypoint.checked.transaction();
     let state = &mut states[waypoint.node as usize];
-    if transaction.pop.is_empty() {
-        return;
-    }
-    let who = passage.who(&digits[level..]);
     let env = passage.env(&waypoint.marks);
-    run_pop(transaction, state, &who, rank, &env);
+    if level < digits.len() {
+        run_pop(transaction, state, &Who::Child(digits[level]), rank, &env);
+    } else {
+        run_pop(
+            transaction,
+            state,
+            &Who::Flow(passage.packet.flow),
+            rank,
+            &env,
+        );
+    }
+}
+
+/// The pop step at a level of the way, where the packet was taken with a rank. Where the node has no lines, as most have none,
+/// nothing is looked up for it.
+#[inline(always)]
+fn pop_at(states: &mut [NodeState], passage: &Passage, digits: &[u32], level: usize, rank: u64)
+    requires ready { IsReady passage.now }
+    requires digits { digits.now ≡ (class_for passage.now).leaf }
+    requires level { level ≤ length digits.now }
+    requires kept { AreStations (tree_for passage.now) states.old }
+    requires room { HasRoomAtLeaf passage.now states.old }
+    requires limit { rank ≤ max_rank }
+    ensures values { ValuesBecome passage.now states.old states.new (after_pops (stop passage.now level ∷ []) (rank ∷ [])) }
+    ensures kept { AreStations (tree_for passage.now) states.new }
+    ensures room { KeepsRoom passage.now states.old states.new }
+{
+    let waypoint = &passage.waypoints[level];
+    if !waypoint.checked.transaction().pop.is_empty() {
+        pop_lines(states, passage, digits, level, rank);
+    }
 }
 
 /// The push steps from the root down to the leaf. `trace` gets the digits and the ranks.

@@ -5,7 +5,7 @@ use Rattle.policy_core.specs.declared.parts.Station.{Station}
 use Rattle.policy_core.specs.declared.parts.Class.{Class}
 use Rattle.policy_core.specs.Parts.{resolved}
 use Rattle.policy_defs.specs.Accepted.{IsAccepted}
-use Rattle.sched_nodes.specs.Samples.{one_program, tree, stations}
+use Rattle.sched_nodes.specs.Samples.{two_programs, tree, stations}
 use Rattle.sched_nodes.proofs.FairPolicy.{fair-accepted}
 use Rattle.sched_nodes.proofs.tests.fair.Goals as goal
 
@@ -17,4 +17,4 @@ new-requires-clause-accepted c =
     subst (λ (t : Numbered). IsAccepted (resolved 1 t c.in_ok-stations.stations c.args.programs c.in_ok-classes.classes).policy) (sym c.in_ok-tree.ensures)
     (subst (λ (ss : List Station). IsAccepted (resolved 1 tree ss c.args.programs c.in_ok-classes.classes).policy) (sym c.in_ok-stations.ensures)
     (subst (λ (ps : List Program). IsAccepted (resolved 1 tree stations ps c.in_ok-classes.classes).policy) (sym c.requires)
-    (subst (λ (cs : List Class). IsAccepted (resolved 1 tree stations one_program cs).policy) (sym c.in_ok-classes.ensures) fair-accepted)))
+    (subst (λ (cs : List Class). IsAccepted (resolved 1 tree stations two_programs cs).policy) (sym c.in_ok-classes.ensures) fair-accepted)))

@@ -1,9 +1,7 @@
-use Rattle.std.proofs.Common.{◌≡◌, ◌≤◌, ◌<◌, ◌+◌, ℕ, List, length, ap, sym, ◌∙◌, arith, take, get_or, slice_index_or}
-use Rattle.tree_defs.specs.Tree.{Tree}
-use Rattle.policy_defs.specs.Policy.{Node, Class}
-use Rattle.policy_defs.specs.Numbers.{number_at}
-use Rattle.policy_core.specs.Parts.{class_in, told}
-use Rattle.sched_nodes.proofs.WaypointsMade.{waypoints-begun, waypoints-more, waypoints-whole, root-number, node-within, program-at, last-marks, child-there, child-number, child-marks}
+use Rattle.std.proofs.Common.{◌≡◌, length, ap, arith}
+use Rattle.policy_defs.specs.Policy.{Class}
+use Rattle.policy_core.specs.Parts.{class_in}
+use Rattle.sched_nodes.proofs.WaypointsMade.{waypoints-begun, waypoints-more, waypoints-whole, root-number, IsReached, reached, node-within, waypoint-made, last-marks, child-there, child-number, child-marks}
 use Rattle.sched_nodes.proofs.waypoint.waypoints_of.Goals as goal
 
 pub loop-digit-init : goal.loop-digit-init
@@ -13,73 +11,34 @@ loop-digit-init c = record {
 }
 
 pub child-child-requires-clause-there : goal.child-child-requires-clause-there
-child-child-requires-clause-there c =
-    let tree : Tree Node = c.args.policy.now.policy.tree in
-    let class : Class = class_in tree c.args.class.now in
-    let level = c.loop-digit.digit-index in
-    let short : level ≤ length class.leaf = omega (arith, c.loop-digit-test.true, ap length c.address-digits.ensures.address) in
-    let at : c.loop-digit.node ≡ number_at tree (take level class.leaf) = c.loop-digit.invariant.node ∙ ap (λ (ds : List ℕ). number_at tree (take level ds)) c.address-digits.ensures.address in
-    node-within tree class c.requires.leads level short c.loop-digit.node at
+child-child-requires-clause-there c = node-within (reached (class_in c.args.policy.now.policy.tree c.args.class.now) c.requires.leads c.address-digits.ensures.address (omega (arith, c.loop-digit-test.true)) c.loop-digit.invariant.node)
 
 pub child-child-requires-clause-child : goal.child-child-requires-clause-child
-child-child-requires-clause-child c =
-    let tree : Tree Node = c.args.policy.now.policy.tree in
-    let class : Class = class_in tree c.args.class.now in
-    let level = c.loop-digit.digit-index in
-    let short : level ≤ length class.leaf = omega (arith, c.loop-digit-test.true, ap length c.address-digits.ensures.address) in
-    let at : c.loop-digit.node ≡ number_at tree (take level class.leaf) = c.loop-digit.invariant.node ∙ ap (λ (ds : List ℕ). number_at tree (take level ds)) c.address-digits.ensures.address in
-    let more : level < length class.leaf = omega (arith, c.loop-digit-test.true, ap length c.address-digits.ensures.address) in
-    let is-digit : slice_index_or c.address-digits.result.now level 0 ≡ get_or class.leaf level 0 = ap (λ (ds : List ℕ). get_or ds level 0) c.address-digits.ensures.address in
-    child-there tree class c.requires.leads level short c.loop-digit.node at more _ is-digit
+child-child-requires-clause-child c = child-there (reached (class_in c.args.policy.now.policy.tree c.args.class.now) c.requires.leads c.address-digits.ensures.address (omega (arith, c.loop-digit-test.true)) c.loop-digit.invariant.node) c.address-digits.ensures.address c.loop-digit-test.true
 
-pub checked-requires : goal.checked-requires
-checked-requires c =
-    let tree : Tree Node = c.args.policy.now.policy.tree in
-    let class : Class = class_in tree c.args.class.now in
-    let level = c.loop-digit.digit-index in
-    let short : level ≤ length class.leaf = omega (arith, c.loop-digit-test.true, ap length c.address-digits.ensures.address) in
-    let at : c.loop-digit.node ≡ number_at tree (take level class.leaf) = c.loop-digit.invariant.node ∙ ap (λ (ds : List ℕ). number_at tree (take level ds)) c.address-digits.ensures.address in
-    record { there = node-within tree class c.requires.leads level short c.loop-digit.node at }
+pub waypoint_at-requires : goal.waypoint_at-requires
+waypoint_at-requires c = record { there = node-within (reached (class_in c.args.policy.now.policy.tree c.args.class.now) c.requires.leads c.address-digits.ensures.address (omega (arith, c.loop-digit-test.true)) c.loop-digit.invariant.node) }
 
 pub loop-digit-preserved : goal.loop-digit-preserved
 loop-digit-preserved c =
-    let tree : Tree Node = c.args.policy.now.policy.tree in
-    let class : Class = class_in tree c.args.class.now in
-    let level = c.loop-digit.digit-index in
-    let short : level ≤ length class.leaf = omega (arith, c.loop-digit-test.true, ap length c.address-digits.ensures.address) in
-    let at : c.loop-digit.node ≡ number_at tree (take level class.leaf) = c.loop-digit.invariant.node ∙ ap (λ (ds : List ℕ). number_at tree (take level ds)) c.address-digits.ensures.address in
-    let more : level < length class.leaf = omega (arith, c.loop-digit-test.true, ap length c.address-digits.ensures.address) in
-    let is-digit : slice_index_or c.address-digits.result.now level 0 ≡ get_or class.leaf level 0 = ap (λ (ds : List ℕ). get_or ds level 0) c.address-digits.ensures.address in
+    let r : IsReached c.args.policy.now.policy.tree (class_in c.args.policy.now.policy.tree c.args.class.now) c.loop-digit.digit-index c.loop-digit.node
+    = reached _ c.requires.leads c.address-digits.ensures.address (omega (arith, c.loop-digit-test.true)) c.loop-digit.invariant.node in
     record {
-      node = child-number tree class c.requires.leads level short c.loop-digit.node at more _ is-digit c.child-child.result c.child-child.ensures.child ∙ ap (λ (ds : List ℕ). number_at tree (take (level + 1) ds)) (sym c.address-digits.ensures.address);
-      waypoints = waypoints-more tree class c.loop-digit.waypoints.items c.push.new.self.items level _ c.loop-digit.invariant.waypoints c.in_ok-push.ensures.items (record {
-        node = at;
-        program = program-at tree class c.requires.leads level short c.loop-digit.node at c.checked.result.now c.checked.ensures.program;
-        marks = child-marks tree class c.requires.leads level short c.loop-digit.node at more _ is-digit c.child-child.result (told c.attrs.result) c.child-child.ensures.address c.attrs.ensures.marks;
-      });
+      node = child-number r c.address-digits.ensures.address c.loop-digit-test.true c.child-child.ensures.child;
+      waypoints = waypoints-more _ _ c.loop-digit.waypoints.items c.push.new.self.items c.loop-digit.digit-index _ c.loop-digit.invariant.waypoints c.in_ok-push.ensures.items
+          (waypoint-made r c.waypoint_at.ensures.node c.waypoint_at.ensures.program c.waypoint_at.ensures.marks c.waypoint_at.ensures.told
+          (child-marks r c.address-digits.ensures.address c.loop-digit-test.true _ c.child-child.ensures.address c.attrs.ensures.marks));
     }
 
-pub checked-requires-2 : goal.checked-requires-2
-checked-requires-2 c =
-    let tree : Tree Node = c.args.policy.now.policy.tree in
-    let class : Class = class_in tree c.args.class.now in
-    let level : ℕ = c.loop-digit.digit-index in
-    let all : level ≡ length class.leaf = omega (arith, c.loop-digit-test.false, c.loop-digit.auto.digit-index-end, ap length c.address-digits.ensures.address) in
-    let short : level ≤ length class.leaf = omega (arith, all) in
-    let at : c.loop-digit.node ≡ number_at tree (take level class.leaf) = c.loop-digit.invariant.node ∙ ap (λ (ds : List ℕ). number_at tree (take level ds)) c.address-digits.ensures.address in
-    record { there = node-within tree class c.requires.leads level short c.loop-digit.node at }
+pub waypoint_at-requires-2 : goal.waypoint_at-requires-2
+waypoint_at-requires-2 c = record { there = node-within (reached (class_in c.args.policy.now.policy.tree c.args.class.now) c.requires.leads c.address-digits.ensures.address (omega (arith, c.loop-digit.auto.digit-index-end)) c.loop-digit.invariant.node) }
 
 pub returns : goal.returns
 returns c =
-    let tree : Tree Node = c.args.policy.now.policy.tree in
-    let class : Class = class_in tree c.args.class.now in
-    let level : ℕ = c.loop-digit.digit-index in
-    let all : level ≡ length class.leaf = omega (arith, c.loop-digit-test.false, c.loop-digit.auto.digit-index-end, ap length c.address-digits.ensures.address) in
-    let short : level ≤ length class.leaf = omega (arith, all) in
-    let at : c.loop-digit.node ≡ number_at tree (take level class.leaf) = c.loop-digit.invariant.node ∙ ap (λ (ds : List ℕ). number_at tree (take level ds)) c.address-digits.ensures.address in
-    waypoints-whole tree class c.push-2.new.self.items level
-    (waypoints-more tree class c.loop-digit.waypoints.items c.push-2.new.self.items level _ c.loop-digit.invariant.waypoints c.in_ok-push-2.ensures.items (record {
-      node = at;
-      program = program-at tree class c.requires.leads level short c.loop-digit.node at c.checked-2.result.now c.checked-2.ensures.program;
-      marks = last-marks tree class c.requires.leads level short c.loop-digit.node at all;
-    })) all
+    let class : Class = class_in c.args.policy.now.policy.tree c.args.class.now in
+    let r : IsReached c.args.policy.now.policy.tree class c.loop-digit.digit-index c.loop-digit.node
+    = reached class c.requires.leads c.address-digits.ensures.address (omega (arith, c.loop-digit.auto.digit-index-end)) c.loop-digit.invariant.node in
+    let all : c.loop-digit.digit-index ≡ length class.leaf = omega (arith, c.loop-digit-test.false, c.loop-digit.auto.digit-index-end, ap length c.address-digits.ensures.address) in
+    waypoints-whole _ class c.push-2.new.self.items c.loop-digit.digit-index
+    (waypoints-more _ class c.loop-digit.waypoints.items c.push-2.new.self.items c.loop-digit.digit-index _ c.loop-digit.invariant.waypoints c.in_ok-push-2.ensures.items
+    (waypoint-made r c.waypoint_at-2.ensures.node c.waypoint_at-2.ensures.program c.waypoint_at-2.ensures.marks c.waypoint_at-2.ensures.told (last-marks r (omega (arith, all))))) all
