@@ -146,7 +146,8 @@ impl Window {
     }
 
     /// Moves bytes from the front of what is left into `into`, in place of what it held: `most`, or all where there are
-    /// fewer.
+    /// fewer. Bytes that are all held are moved at once.
+    #[inline(always)]
     pub fn take_anew<S: Shelf>(
         &mut self,
         shelf: &mut S,
@@ -162,6 +163,10 @@ impl Window {
         ensures cause { IfErr result (λ stop. HasSourceCause stop S.faults shelf.old shelf.new) }
     {
         into.clear();
+        if most <= self.end - self.at {
+            self.copy(into, most)?;
+            return Ok(());
+        }
         self.take(shelf, into, most)
     }
 

@@ -53,6 +53,7 @@ impl CaptureReader for Reader {
         }
     }
 
+    #[inline(always)]
     fn next<S: Shelf>(
         &mut self,
         shelf: &mut S,

@@ -24,6 +24,7 @@ pub struct Preface {
 }
 
 /// The moment in nanoseconds of a record that begins so.
+#[inline(always)]
 fn moment(head: Head, bytes: &[u8]) -> u64
     requires { 16 ≤ length bytes.now }
     ensures value { result ≡ moment_at head.nano (long_at head.big 0 bytes.now) (long_at head.big 4 bytes.now) }
@@ -36,6 +37,7 @@ fn moment(head: Head, bytes: &[u8]) -> u64
 
 /// What a record says that begins so, behind some records. These are its first bytes, up to the
 /// sixteenth.
+#[inline(always)]
 pub fn preface_in(head: Head, count: u32, bytes: &[u8]) -> Result<Preface, CaptureFault>
     requires some { 0 < length bytes.now }
     requires bound { length bytes.now ≤ 16 }

@@ -40,6 +40,7 @@ fn read_head<S: Shelf>(
 }
 
 /// Reads what the next record, behind so many, says of its captured bytes. They are looked at where they lie, if all are held.
+#[inline(always)]
 fn read_preface<S: Shelf>(
     head: Head,
     count: u32,
@@ -78,6 +79,7 @@ fn read_preface<S: Shelf>(
 }
 
 /// Reads the next record, behind so many.
+#[inline(always)]
 fn read_record<S: Shelf>(
     head: Head,
     count: u32,
@@ -245,6 +247,7 @@ impl Reader {
     }
 
     /// Reads the next record, and puts its captured bytes into `into`, in place of what it held.
+    #[inline(always)]
     pub fn next<S: Shelf>(
         &mut self,
         shelf: &mut S,
