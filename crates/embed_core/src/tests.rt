@@ -6,7 +6,7 @@ ghost use Rattle.tree_core.specs.Shape.{topology};
 ghost use Rattle.tree_core.specs.Paths.{digits as digits_on, digits_of};
 ghost use Rattle.embed_lift_defs.specs.GoodMaps.{IsGoodMap};
 
-use crate::{EmbedFault, Map, Target, embed, least_height, lift, pick};
+use crate::{EmbedFault, Lane, Map, Target, embed, least_height, lift, pick};
 use list_core::List;
 use std::alloc::{AllocError, Global};
 use std::test::Fail;
@@ -354,7 +354,7 @@ fn each_of_many_siblings_is_picked_back(rt: HostRuntime) -> Result<(), Fail> {
     Ok(())
 }
 
-/// Whether what was taken on the way to a leaf is lifted to these digits and ranks.
+/// Whether what was taken on the way to a leaf is lifted to these digits and ranks, by the map and along the leaf's lane.
 fn lifts_to(
     alloc: Global,
     topo: &Topo,
@@ -372,7 +372,15 @@ fn lifts_to(
     let mut image = vec![in alloc; 0; digits.len()]?;
     let mut lifted = vec![in alloc; 0; ranks.len()]?;
     lift(map, taken, &mut image, &mut lifted);
-    Ok(image.as_slice() == digits && lifted.as_slice() == ranks)
+    let lane = Lane::to(alloc, map, taken.digits(), digits.len())?;
+    let mut along = vec![in alloc; 0; lane.image().len() + 1]?;
+    lane.lift(taken.ranks(), &mut along);
+    Ok(
+        image.as_slice() == digits
+            && lifted.as_slice() == ranks
+            && lane.image() == digits
+            && along.as_slice() == ranks,
+    )
 }
 
 #[test]
