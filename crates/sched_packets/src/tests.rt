@@ -137,6 +137,31 @@ fn told_of_one_link(alloc: Global, policy: &Policy, shelf: &mut MemShelf) -> Res
     Ok(text)
 }
 
+/// What comes of passing over two packets of a capture, and those behind them.
+fn told_behind_two(alloc: Global, policy: &Policy, shelf: &mut MemShelf) -> Result<String, Fail> {
+    let mut text = String::new(alloc);
+    let mut arrivals = AnyArrivals::open(alloc, policy, shelf, "c")
+        .ok()
+        .ok_or("open")?;
+    tell_behind_two(&mut text, &mut arrivals, shelf)?;
+    Ok(text)
+}
+
+/// The same of those with the link type of the first.
+fn told_of_one_link_behind_two(
+    alloc: Global,
+    policy: &Policy,
+    shelf: &mut MemShelf,
+) -> Result<String, Fail> {
+    let mut text = String::new(alloc);
+    let arrivals = AnyArrivals::open(alloc, policy, shelf, "c")
+        .ok()
+        .ok_or("open")?;
+    let mut packets = OneLink::start(arrivals, shelf).ok().ok_or("start")?;
+    tell_behind_two(&mut text, &mut packets, shelf)?;
+    Ok(text)
+}
+
 #[test]
 fn packets_of_two_classes(rt: HostRuntime) -> Result<(), Fail> {
     let alloc = rt.alloc();
@@ -342,20 +367,10 @@ fn packets_are_passed_over(rt: HostRuntime) -> Result<(), Fail> {
     ];
     for (pieces, fail, want, want_of_one_link) in table {
         let mut shelf = shelf_of(alloc, pieces, fail)?;
-        let mut text = String::new(alloc);
-        let mut packets = AnyArrivals::open(alloc, &policy, &mut shelf, "c")
-            .ok()
-            .ok_or("open")?;
-        tell_behind_two(&mut text, &mut packets, &mut shelf)?;
+        let text = told_behind_two(alloc, &policy, &mut shelf)?;
         assert_eq!(rt; text.as_str(), want);
-
         let mut shelf = shelf_of(alloc, pieces, fail)?;
-        let mut text = String::new(alloc);
-        let arrivals = AnyArrivals::open(alloc, &policy, &mut shelf, "c")
-            .ok()
-            .ok_or("open")?;
-        let mut packets = OneLink::start(arrivals, &mut shelf).ok().ok_or("start")?;
-        tell_behind_two(&mut text, &mut packets, &mut shelf)?;
+        let text = told_of_one_link_behind_two(alloc, &policy, &mut shelf)?;
         assert_eq!(rt; text.as_str(), want_of_one_link);
     }
     Ok(())
