@@ -4,10 +4,6 @@
 
 mod block;
 mod fabric;
-#[cfg(test)]
-mod fabric_tests;
-#[cfg(test)]
-mod tests;
 mod waiting;
 
 pub use block::BlockPifo;

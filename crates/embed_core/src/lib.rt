@@ -13,6 +13,3 @@ pub use lane::Lane;
 pub use map::{EmbedFault, Map, embed, least_height, lift, pick};
 pub use target_core::{Target, TargetFault, read_target};
 pub use way::Way;
-
-#[cfg(test)]
-mod tests;

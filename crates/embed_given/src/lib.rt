@@ -3,7 +3,5 @@
 #![tactic(auto)]
 
 mod composition;
-#[cfg(test)]
-mod tests;
 
 pub use composition::compose;

@@ -10,8 +10,6 @@ mod load;
 mod parse;
 mod script;
 mod step;
-#[cfg(test)]
-mod tests;
 
 pub use fault::ScriptFault;
 pub use laws::scripts_have_an_answer;

@@ -7,8 +7,6 @@ mod flat;
 mod levels;
 mod node;
 mod spot;
-#[cfg(test)]
-mod tests;
 mod walk;
 
 pub use fabric::Fabric;

@@ -4,7 +4,6 @@ pub mod PlaceLaws
 pub mod LeastLines
 pub mod MapLaws
 pub mod Verdicts
-pub mod RowLaws
 pub mod GiveLaws
 pub mod LineLaws
 pub mod MapAnswers

@@ -9,10 +9,6 @@ mod map_text;
 mod nest;
 mod nodes;
 mod places;
-#[cfg(test)]
-mod reading_tests;
-#[cfg(test)]
-mod tests;
 mod tree_fault;
 mod tree_text;
 

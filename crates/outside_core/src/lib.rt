@@ -10,8 +10,6 @@ mod shelves;
 mod sinks;
 mod stop;
 mod system;
-#[cfg(test)]
-mod tests;
 
 pub use loading::{LoadError, load};
 pub use memory::{MemShelf, MemSink};

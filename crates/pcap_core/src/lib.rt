@@ -11,6 +11,3 @@ pub use capture_core::Frame;
 pub use fault::CaptureFault;
 pub use pcap_defs::Head;
 pub use reader::Reader;
-
-#[cfg(test)]
-mod tests;

@@ -12,7 +12,5 @@ mod start;
 
 pub use capture_core::LinkedFrame as NgFrame;
 pub use fault::NgFault;
+pub use moment::moment_in;
 pub use reader::NgReader;
-
-#[cfg(test)]
-mod tests;

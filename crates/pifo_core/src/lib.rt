@@ -10,6 +10,3 @@ mod sorted;
 pub use heap::HeapPifo;
 pub use pifo::Pifo;
 pub use sorted::SortedPifo;
-
-#[cfg(test)]
-mod tests;

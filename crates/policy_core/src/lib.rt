@@ -18,6 +18,3 @@ pub use parts::{Class, Marks, Station};
 pub use policy::Policy;
 pub use policy_rules::PolicyFault;
 pub use resolution::resolve;
-
-#[cfg(test)]
-mod tests;

@@ -13,6 +13,3 @@ mod words;
 pub use clauses::declarations;
 pub use spaces::Spaces;
 pub use words::is_builtin;
-
-#[cfg(test)]
-mod tests;

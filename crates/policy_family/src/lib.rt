@@ -9,6 +9,3 @@ mod laws;
 pub use faults::check_family;
 pub use graphs::{graph, number};
 pub use laws::{families_are_forests, families_are_shallow};
-
-#[cfg(test)]
-mod tests;

@@ -10,6 +10,3 @@ mod tallies;
 pub use leaves::check_leaves;
 pub use limits::{check_limits, version};
 pub use parents::check_parents;
-
-#[cfg(test)]
-mod tests;

@@ -7,6 +7,3 @@ mod tally;
 
 pub use names::Names;
 pub use tally::Tally;
-
-#[cfg(test)]
-mod tests;

@@ -1,5 +1,5 @@
 -- A policy that accepted statements give uses the names of the built-in transactions for these alone.
-use Rattle.std.proofs.Common.{◌≡◌, ℕ, zero, suc, List, ◌∷◌, [], sym, ap, ◌∙◌, subst, Option, Some, None, Any}
+use Rattle.std.proofs.Common.{◌≡◌, ℕ, zero, suc, List, ◌∷◌, [], sym, ap, ◌∙◌, subst, Option, Some, None}
 use Rattle.tree_defs.specs.Tree.{Tree, leaf as leaf_of, inner, Trees, none, more, Address}
 use Rattle.rank_defs.specs.Programs.{Program}
 use Rattle.rank_defs.specs.Builtins.{builtin}

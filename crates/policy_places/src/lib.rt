@@ -8,6 +8,3 @@ mod numbers;
 pub use homes::leaves;
 pub use laws::{graphs_give_the_tree, homes_give_the_classes, resolved_policies_are_accepted};
 pub use numbers::places;
-
-#[cfg(test)]
-mod tests;

@@ -12,6 +12,3 @@ mod variables;
 pub use checked::checked_transactions;
 pub use laws::known_programs_are_checked;
 pub use places::program_place;
-
-#[cfg(test)]
-mod tests;

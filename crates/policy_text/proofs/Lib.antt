@@ -5,4 +5,3 @@ pub mod PrintMeasure
 pub mod Refusals
 pub mod StateLaws
 pub mod TextSteps
-pub mod TestLaws

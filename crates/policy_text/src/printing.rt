@@ -3,8 +3,6 @@
 mod condition;
 mod expression;
 mod statement;
-#[cfg(test)]
-mod tests;
 
 ghost use Rattle.std.specs.Prelude.{◌≡◌, ◌++◌, map, IfOk, OnOk, codes};
 ghost use Rattle.policy_text_defs.specs.Sense.{sense_of};

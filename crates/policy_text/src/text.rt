@@ -4,9 +4,6 @@ ghost use Rattle.policy_text_defs.specs.Text.{HasEntries};
 ghost use Rattle.policy_text.specs.Entries.{entry_of};
 ghost use Rattle.policy_text.specs.Parsing.{HasCause, Kept, AcceptsAll, RefusesAll};
 
-#[cfg(test)]
-mod tests;
-
 use crate::fault::TextFault;
 use crate::line::read_line;
 use crate::lines::Lines;

@@ -10,6 +10,3 @@ mod types;
 
 pub use checked::{Checked, check};
 pub use fault::RangeFault;
-
-#[cfg(test)]
-mod tests;

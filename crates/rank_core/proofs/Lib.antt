@@ -4,4 +4,3 @@ pub mod Lists
 pub mod NoLines
 pub mod RankKept
 pub mod Table
-pub mod Samples

@@ -2,4 +2,3 @@ pub mod Scope
 pub mod Flows
 pub mod Node
 pub mod Table
-pub mod Samples

@@ -7,8 +7,6 @@ mod evaluate;
 mod flows;
 mod node;
 mod step;
-#[cfg(test)]
-mod tests;
 
 pub use builtins::builtin;
 pub use node::{NodeState, run_pop, run_push};

@@ -7,8 +7,6 @@ mod fault;
 mod line;
 mod report;
 mod tens;
-#[cfg(test)]
-mod tests;
 mod whole;
 
 pub use fault::{FaultKind, WriteFault};

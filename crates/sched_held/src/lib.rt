@@ -7,6 +7,3 @@ mod slot;
 mod window;
 
 pub use held::Held;
-
-#[cfg(test)]
-mod tests;

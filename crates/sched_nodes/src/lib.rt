@@ -8,6 +8,3 @@ mod walk;
 mod waypoint;
 
 pub use stations::Stations;
-
-#[cfg(test)]
-mod tests;

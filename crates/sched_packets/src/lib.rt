@@ -7,8 +7,6 @@ mod arrivals;
 mod halts;
 mod one_link;
 mod packets;
-#[cfg(test)]
-mod tests;
 
 pub use any_arrivals::AnyArrivals;
 pub use arrivals::Arrivals;

@@ -5,4 +5,12 @@
 #[cfg(test)]
 mod capture;
 #[cfg(test)]
+mod events;
+#[cfg(test)]
 mod fabrics;
+#[cfg(test)]
+mod held;
+#[cfg(test)]
+mod nodes;
+#[cfg(test)]
+mod packets;

@@ -8,8 +8,6 @@ mod laws;
 mod leaves;
 mod read;
 mod target;
-#[cfg(test)]
-mod tests;
 mod values;
 
 pub use fault::TargetFault;

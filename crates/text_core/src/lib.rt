@@ -7,8 +7,6 @@ mod line;
 mod mark;
 mod number;
 mod refusal;
-#[cfg(test)]
-mod tests;
 mod token;
 
 pub use item::{Item, items};

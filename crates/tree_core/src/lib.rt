@@ -10,6 +10,3 @@ pub use path::Path;
 pub use taken::Taken;
 pub use topo::{Topo, depth};
 pub use tree::SourceTree;
-
-#[cfg(test)]
-mod tests;

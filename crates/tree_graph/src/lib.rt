@@ -18,6 +18,3 @@ pub use laws::{
     trees_have_each_node_once,
 };
 pub use preorder::Preorder;
-
-#[cfg(test)]
-mod tests;

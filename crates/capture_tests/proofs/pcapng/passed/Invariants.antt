@@ -1,0 +1,10 @@
+use Rattle.std.proofs.Common.{IsTrue}
+use Rattle.outside_core.specs.Memory.{is_begun}
+use Rattle.pcapng_core.specs.Readers.{is_live}
+use Rattle.capture_tests.proofs.pcapng.passed.Given as goal
+
+abbrev pub invariant-loop-count : goal.invariant-loop-count
+invariant-loop-count l = record {
+  live : IsTrue (is_live l.reader);
+  begun : IsTrue (is_begun l.shelf);
+}

@@ -1,0 +1,13 @@
+use Rattle.std.proofs.Common.{◌∙◌, ap, subst, sym, arith}
+use Rattle.tree_graph.specs.Descent.{lists, Graph, IsForest, IsDeep}
+use Rattle.tree_graph.proofs.Example.{is_forest, is_shallow}
+use Rattle.policy_tests.proofs.places.each_class_has_the_leaf_that_lists_it.Goals as goal
+
+pub new-requires-clause-forest : goal.new-requires-clause-forest
+new-requires-clause-forest g c = subst (λ (g : Graph). IsForest g 2) (sym (ap lists c.as_slice.ensures.value ∙ c.in_ok-graph.ensures)) is_forest
+
+pub new-requires-clause-shallow : goal.new-requires-clause-shallow
+new-requires-clause-shallow g c = λ a within deep. is_shallow a (subst (λ (g : Graph). IsDeep g 2 a) (ap lists c.as_slice.ensures.value ∙ c.in_ok-graph.ensures) deep)
+
+pub leaves-requires-clause-once : goal.leaves-requires-clause-once
+leaves-requires-clause-once g c = λ a within. c.in_ok-tree.ensures.once a (omega (arith, within, c.in_ok-tree.ensures.count))
