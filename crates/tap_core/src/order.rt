@@ -58,32 +58,3 @@ impl Tap for OrderTap {
         put_line(into, TapKind::Order.name(), &[self.late, self.greatest])
     }
 }
-
-#[cfg(test)]
-mod tests {
-    //! Tests of late packets.
-    use super::*;
-    use rank_defs::MAX_RANK;
-
-    #[test]
-    fn an_equal_number_is_late(rt: HostRuntime) {
-        for (greatest, late, packet, want) in [
-            (0, 0, 0, (0, 1)),
-            (3, 0, 3, (3, 1)),
-            (3, 0, 4, (4, 0)),
-            (3, MAX_RANK - 1, 2, (3, MAX_RANK)),
-            (3, MAX_RANK, 3, (3, MAX_RANK)),
-            (u64::MAX - 1, MAX_RANK, u64::MAX, (u64::MAX, MAX_RANK)),
-        ] {
-            let mut tap = OrderTap { greatest, late };
-            let seen = tap.see(&Departed {
-                packet,
-                class: 0,
-                leaf: 0,
-                len: 0,
-            });
-            assert_eq!(rt; seen, Seen::More);
-            assert_eq!(rt; (tap.greatest, tap.late), want);
-        }
-    }
-}

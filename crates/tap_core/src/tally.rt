@@ -43,24 +43,3 @@ impl Tally {
         [self.packets, self.bytes]
     }
 }
-
-#[cfg(test)]
-mod tests {
-    //! Tests of counts near the greatest rank.
-    use super::*;
-
-    #[test]
-    fn counts_stay_at_the_greatest_rank(rt: HostRuntime) {
-        for (packets, bytes, len, want) in [
-            (MAX_RANK - 2, 0, 0, [MAX_RANK - 1, 0]),
-            (MAX_RANK - 1, MAX_RANK - 1, 1, [MAX_RANK, MAX_RANK]),
-            (MAX_RANK, MAX_RANK - 1, 2, [MAX_RANK, MAX_RANK]),
-            (MAX_RANK, MAX_RANK, u32::MAX, [MAX_RANK, MAX_RANK]),
-            (u64::MAX, u64::MAX, u32::MAX, [MAX_RANK, MAX_RANK]),
-        ] {
-            let mut tally = Tally { packets, bytes };
-            tally.count(len);
-            assert_eq!(rt; tally.numbers(), want);
-        }
-    }
-}
