@@ -15,7 +15,7 @@ import runs
 LAST = "examples: 5 passed, 0 failed\n"  # of the gate's log
 STAND_IN = "/bin/echo"  # a program that needs the C library alone
 FAULTS = {"words": [0], "size": [1], "target": range(1, 5), "script": range(1, 5), "capture": [1, 2, *range(4, 9), *range(11, 20)],
-          "policy": [*range(1, 15), *range(21, 25)]}
+          "policy": [*range(1, 15), *range(21, 25)], "tree": range(1, 4), "map": range(1, 10)}
 
 
 def loaded():

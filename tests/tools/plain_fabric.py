@@ -1,4 +1,4 @@
-"""The queues of a target reckoned with plain lists, by what docs/COMMANDS.md and docs/FORMATS.md say of `plan`, of a report and
+"""The queues of a target reckoned with plain lists, by what docs/commands and docs/FORMATS.md say of `plan`, of a report and
 of a spill: nothing of the programs is used but what they write."""
 
 
