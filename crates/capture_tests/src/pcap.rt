@@ -19,9 +19,9 @@ fn captures_are_read_the_same_however_reads_are_cut(rt: HostRuntime) -> Result<(
     let cut = Err(Unread::Fault(6, 3));
     for most in [1, 2, 7, 40, 65_536] {
         let read = given::<Reader>(rt.alloc(), TWO_AND_A_CUT, most, 0)?;
-        assert_eq!(rt; read, Ok((2, 2, cut)), "reads of {most} bytes");
+        assert_eq!(rt; (most, read), (most, Ok((2, 2, cut))));
         let pass = passed::<Reader>(rt.alloc(), TWO_AND_A_CUT, most, 0)?;
-        assert_eq!(rt; pass, Ok((2, cut)), "reads of {most} bytes");
+        assert_eq!(rt; (most, pass), (most, Ok((2, cut))));
     }
     Ok(())
 }
@@ -37,11 +37,11 @@ fn a_failed_read_is_no_fault_of_the_file(rt: HostRuntime) -> Result<(), Fail> {
         (9, Ok((1, 1, failed))),
     ] {
         let read = given::<Reader>(rt.alloc(), TWO_AND_A_CUT, 7, fail)?;
-        assert_eq!(rt; read, want, "call {fail} fails");
+        assert_eq!(rt; (fail, read), (fail, want));
     }
     for (fail, count) in [(6, 0), (8, 0), (9, 1)] {
         let pass = passed::<Reader>(rt.alloc(), TWO_AND_A_CUT, 7, fail)?;
-        assert_eq!(rt; pass, Ok((count, failed)), "call {fail} fails");
+        assert_eq!(rt; (fail, pass), (fail, Ok((count, failed))));
     }
     Ok(())
 }

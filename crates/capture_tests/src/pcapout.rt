@@ -31,10 +31,11 @@ fn what_was_written_before_a_fault_stays(rt: HostRuntime) -> Result<(), Fail> {
         (0, 42, 42),
         (0, 63, 63),
     ] {
-        let mut sink = MemSink::new(alloc, room, 100, vec![in alloc; fail]?)?;
-        let written = put_two_packets(&mut sink);
-        assert_eq!(rt; written.is_ok(), kept == 64, "write {fail} fails");
-        assert_eq!(rt; sink.bytes(), &TWO_PACKETS[..kept], "write {fail} fails");
+        let fails = vec![in alloc; fail]?;
+        let mut sink = MemSink::new(alloc, room, 100, fails)?;
+        let is_whole = put_two_packets(&mut sink).is_ok();
+        assert_eq!(rt; (fail, room, is_whole), (fail, room, kept == 64));
+        assert_eq!(rt; sink.bytes(), &TWO_PACKETS[..kept]);
     }
     Ok(())
 }
