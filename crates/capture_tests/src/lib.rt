@@ -1,4 +1,4 @@
-//! Tests of captures of both formats that are read, and of those that are written.
+//! Tests of readers and writers of captures, over reads that hand over few bytes and over calls that fail.
 //! They stand apart from the crates that they test, since a crate's tests have its own functions proved once more.
 #![tactic(auto)]
 
@@ -9,4 +9,4 @@ mod pcapng;
 #[cfg(test)]
 mod pcapout;
 #[cfg(test)]
-mod shelf;
+mod reading;

@@ -7,8 +7,3 @@ pair = inner tt (more (leaf tt) (more (leaf tt) none))
 
 abbrev pub leaf_beside_a_pair : Topology
 leaf_beside_a_pair = inner tt (more (leaf tt) (more pair none))
-
-abbrev pub eight_leaves_and_a_pair : Topology
-eight_leaves_and_a_pair =
-    inner tt (more (leaf tt) (more (leaf tt) (more (leaf tt) (more (leaf tt)
-    (more (leaf tt) (more (leaf tt) (more (leaf tt) (more (leaf tt) (more pair none)))))))))

@@ -1,10 +1,9 @@
 use Rattle.std.proofs.Common.{IsTrue}
 use Rattle.outside_core.specs.Memory.{is_begun}
-use Rattle.pcapng_core.specs.Readers.{is_live}
-use Rattle.capture_tests.proofs.pcapng.passed.Given as goal
+use Rattle.capture_tests.proofs.reading.pass_on.Given as goal
 
 abbrev pub invariant-loop-count : goal.invariant-loop-count
-invariant-loop-count l = record {
-  live : IsTrue (is_live l.reader);
+invariant-loop-count g l = record {
+  ready : g.R.CaptureReader.ready l.reader;
   begun : IsTrue (is_begun l.shelf);
 }
