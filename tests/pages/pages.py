@@ -21,6 +21,9 @@ ASK_STATUS = "echo $?"
 TIMEOUT = 900  # seconds for a section
 LEFT_OUT = shutil.ignore_patterns(".git", "out", "dist", "__pycache__")
 OTHER_COMMANDS = ("apt-get", "git", "rt")
+# The commands that the launcher and the commands of examples/README.md need. None is the toolchain's, and none is Python.
+TOOLS = ("awk bash cat chmod cmp cp cut dirname env git grep head mkdir mkfifo mktemp mv nproc od paste readlink rm sed sh "
+         "sha256sum sleep sort tail tee touch tr wc yes").split()
 
 # The commands that pages show and that aren't run, each with the reason. No page can show what they print.
 NOT_RUN = {
@@ -109,6 +112,25 @@ def sections(text):
     """For each section of a page its commands, where it has some."""
     found = [[command for block in section for command in commands_of(block)] for section in blocks(text)]
     return [commands for commands in found if commands]
+
+
+# a checkout's programs ------------------------------------------------------
+
+def keep_proved(top, path=None):
+    """Has a checkout keep the programs that were put where the gate leaves them, as the gate does."""
+    if not (top / "tools/keep_proved").exists():
+        return
+    how = {"cwd": top, "check": True, "stdout": subprocess.PIPE, "text": True,
+           "env": {**os.environ, "PATH": str(path or os.environ["PATH"])}}
+    total = subprocess.run(["tools/sources", "sum"], **how).stdout.strip()
+    subprocess.run(["tools/keep_proved", total], **how)
+
+
+def link_tools(folder):
+    """Makes a folder for a search path that has a few common commands and no others."""
+    folder.mkdir()
+    for name in TOOLS:
+        (folder / name).symlink_to(shutil.which(name))
 
 
 # running ------------------------------------------------------------------

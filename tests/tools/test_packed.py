@@ -185,7 +185,7 @@ class Checkout(unittest.TestCase):
         (self.top / "crates/low/src/main.rt").rename(self.top / "crates/low/src/lib.rt")
         seen.add(total())
         self.assertEqual(len(seen), 8)
-        self.assertEqual(self.run_in("env", "LC_ALL=en_US.UTF-8", "tools/sources", "sum")[1], total())
+        self.assertEqual(self.run_in("env", "LC_ALL=C.UTF-8", "tools/sources", "sum")[1], total())
 
     def test_what_can_not_be_read_has_no_sum(self):
         os.symlink("nothing", self.top / "crates/low/src/link.rt")
