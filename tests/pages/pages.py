@@ -138,7 +138,7 @@ def link_tools(folder):
 class Copy:
     """A copy of the checkout with the built programs, which is gone in the end.
 
-    The programs are copied last, so the launcher finds no source that is newer, and runs them.
+    The programs are kept there as the gate keeps them, so the launcher runs them.
     """
 
     def __init__(self, program, checkout=TOP):
@@ -153,6 +153,7 @@ class Copy:
             if source.is_file():
                 (self.top / place).parent.mkdir(parents=True)
                 shutil.copy(source, self.top / place)
+        keep_proved(self.top)
         return self
 
     def __exit__(self, *_):
@@ -184,7 +185,7 @@ class Copy:
                 path = pathlib.Path(folder, name)
                 kept = self.checkout / path.relative_to(self.top)
                 is_picture = kept.parent == self.checkout / "docs/pictures"
-                if kept.is_file() and not is_picture and str(path.relative_to(self.top)) not in (PROGRAM, SECOND_PROGRAM):
+                if kept.is_file() and not is_picture and "out" not in path.relative_to(self.top).parts:
                     if path.read_bytes() != kept.read_bytes():
                         yield str(path.relative_to(self.top))
 
