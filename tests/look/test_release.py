@@ -3,19 +3,24 @@ import gzip
 import importlib.machinery
 import importlib.util
 import io
+import os
 import pathlib
 import shutil
 import subprocess
+import sys
 import tarfile
 import tempfile
 import unittest
 
 import runs
 
-LAST = "examples: 5 passed, 0 failed\n"  # of the gate's log
+LAST = "examples: 5 passed, 0 failed\npacked: 7 passed, 0 failed\n"  # of the gate's log
 STAND_IN = "/bin/echo"  # a program that needs the C library alone
 FAULTS = {"words": [0], "size": [1], "target": range(1, 5), "script": range(1, 5), "capture": [1, 2, *range(4, 9), *range(11, 20)],
           "policy": [*range(1, 15), *range(21, 25)], "tree": range(1, 4), "map": range(1, 10)}
+
+
+sys.path.insert(0, str(runs.TOP / "tools"))
 
 
 def loaded():
@@ -27,11 +32,12 @@ def loaded():
 
 
 release = loaded()
+proved = release.proved
 
 
-def run(*words, cwd=None):
+def run(*words, cwd=None, **how):
     """What a command writes, its errors and its status."""
-    done = subprocess.run([str(word) for word in words], cwd=cwd, capture_output=True, text=True)
+    done = subprocess.run([str(word) for word in words], cwd=cwd, capture_output=True, text=True, **how)
     return done.returncode, done.stdout, done.stderr
 
 
@@ -39,17 +45,19 @@ class Parts(unittest.TestCase):
     """Parts of tools/release."""
 
     def test_a_gate_that_passed(self):
-        self.assertEqual(release.gate_passed("rt: ok\n57 passed, 0 failed\nplan: 9 passed, 0 failed\n" + LAST), "57")
+        self.assertEqual(proved.gate_passed("rt: ok\n57 passed, 0 failed\nplan: 9 passed, 0 failed\n" + LAST, "packed"),
+                         "57 passed, 0 failed")
 
     def test_a_gate_that_did_not(self):
         for log in ("", "56 passed, 1 failed\n", "57 passed, 0 failed\nplan: 8 passed, 1 failed\n",
                     "57 passed, 0 failed\nFAILED (failures=1)\n",
                     "57 passed, 0 failed\na package of tools/look is missing: apt-get install it\n",
                     "57 passed, 0 failed (plan_core and the crates below alone: not the gate)\n"):
-            with self.subTest(log), self.assertRaises(release.ReleaseError):
-                release.gate_passed(log + LAST)
-        with self.assertRaises(release.ReleaseError):
-            release.gate_passed("57 passed, 0 failed\nplan: 9 passed, 0 failed\n")
+            with self.subTest(log), self.assertRaises(proved.Refused):
+                proved.gate_passed(log + LAST, "packed")
+        for last in ("", "examples: 5 passed, 0 failed\n", LAST.replace("7 passed, 0", "6 passed, 1")):
+            with self.assertRaises(proved.Refused):
+                proved.gate_passed("57 passed, 0 failed\nplan: 9 passed, 0 failed\n" + last, "packed")
 
     def test_an_archive_is_of_no_time_and_no_one(self):
         files = {"b": (b"two", False), "a": (b"one", True)}
@@ -61,30 +69,37 @@ class Parts(unittest.TestCase):
         self.assertEqual(told, [("folder/a", 0o755, 7, 0, 0, ""), ("folder/b", 0o644, 7, 0, 0, "")])
 
     def test_libraries(self):
-        self.assertEqual(release.needed_libraries(STAND_IN), {"libc.so.6"})
+        self.assertEqual(proved.needed_libraries(STAND_IN), {"libc.so.6"})
 
 
 class Archive(unittest.TestCase):
-    """The archive that is packed from a clone of this repository, with a stand-in for the program."""
+    """The archive that is packed from a clone of this repository, with stand-ins for the programs."""
 
     @classmethod
     def setUpClass(cls):
         folder = tempfile.TemporaryDirectory()
         cls.addClassCleanup(folder.cleanup)
         cls.folder = pathlib.Path(folder.name)
-        cls.clone, cls.log, cls.program = (cls.folder / name for name in ("clone", "log", "program"))
+        cls.clone, cls.log = cls.folder / "clone", cls.folder / "log"
         subprocess.run(["git", "clone", "-q", runs.TOP, cls.clone], check=True)
         shutil.copytree(runs.TOP / "tools", cls.clone / "tools", dirs_exist_ok=True)
+        shutil.copy2(runs.TOP / "zovatsemo", cls.clone)
         for words in (("add", "-A"), ("commit", "-q", "--allow-empty", "-m", "The tools as they are here")):
             subprocess.run(["git", "-c", "user.name=test", "-c", "user.email=test", *words], cwd=cls.clone, check=True)
         cls.log.write_text("57 passed, 0 failed\n" + LAST)
-        cls.program.write_bytes(pathlib.Path(STAND_IN).read_bytes())
-        cls.program.chmod(0o755)
+        for name in ("replay_main", "block_app"):
+            (cls.clone / "crates" / name / "out").mkdir()
+            shutil.copy2(STAND_IN, cls.clone / "crates" / name / "out" / name)
+        (cls.folder / "rt").write_text("#!/bin/sh\necho a toolchain\n")
+        (cls.folder / "rt").chmod(0o755)
+        path = "%s:%s" % (cls.folder, os.environ["PATH"])
+        total = run("tools/sources", "sum", cwd=cls.clone)[1].strip()
+        if run("tools/keep_proved", total, cwd=cls.clone, env={**os.environ, "PATH": path})[0]:
+            raise AssertionError("nothing was kept")
 
     def pack(self):
         """Packs the archive, and answers its path."""
-        status, written, errors = run(self.clone / "tools/release", self.log, "--program", self.program,
-                                      "--toolchain", "a toolchain")
+        status, written, errors = run(self.clone / "tools/release", self.log)
         self.assertEqual((status, errors), (0, ""))
         return pathlib.Path(written.strip())
 
@@ -101,17 +116,22 @@ class Archive(unittest.TestCase):
         top = self.unpack(packed)
         commit = run("git", "rev-parse", "HEAD", cwd=self.clone)[1].strip()
         about = (top / "RELEASE").read_text()
-        for line in ("commit     %s" % commit, "proved by  a toolchain", "gate       57 passed, 0 failed",
+        for line in ("commit       %s" % commit, "toolchain    a toolchain", "gate         57 passed, 0 failed",
                      "replay_app"):
             self.assertIn(line, about.splitlines())
-        self.assertRegex(about, r"\nneeds      x86_64 Linux with glibc 2\.\d+ or later\n")
-        self.assertEqual((top / "bin/zovatsemo").read_bytes(), self.program.read_bytes())
+        self.assertRegex(about, r"\nneeds        x86_64 Linux with glibc 2\.\d+ or later\n")
+        for name in ("replay_main", "block_app"):
+            self.assertEqual((top / "bin" / name).read_bytes(), pathlib.Path(STAND_IN).read_bytes())
         self.assertEqual(run(top / "zovatsemo", "check", "some policy"), (0, "check some policy\n", ""))
+        self.assertEqual(run(top / "zovatsemo", "--block", "calm", "p"), (0, "calm p\n", ""))
+        (top / "bin/block_app").unlink()
+        self.assertEqual(run(top / "zovatsemo", "--block", "calm", "p")[:2], (127, ""))
         help_lines = run(top / "zovatsemo", "--help")[1].splitlines()
-        its_own = [line for line in run(self.clone / "zovatsemo", "--help")[1].split("\n\n")[0].splitlines()
-                   if not line.startswith(("zovatsemo --block", "zovatsemo --unproved", "zovatsemo --help"))]
-        self.assertEqual(help_lines, its_own)
-        self.assertGreater(len(help_lines), 6)
+        self.assertEqual(help_lines, run(self.clone / "zovatsemo", "--help")[1].splitlines()[:-2])
+        self.assertGreater(len(help_lines), 12)
+        self.assertEqual(run(top / "zovatsemo"), (2, "", "\n".join(help_lines) + "\n"))
+        self.assertTrue(run(top / "zovatsemo", "--help", "link")[1].startswith("link POLICY TARGET CAPTURE RATE\n"))
+        self.assertIn(commit, run(top / "zovatsemo", "--version")[1])
         explained = run(runs.TOP / "tools/explain", "policy", 7)
         self.assertEqual(run(top / "zovatsemo", "--explain", "policy", 7), explained)
         self.assertEqual(run(top / "tools/look", top / "examples/office/report")[0], 0)
@@ -120,7 +140,7 @@ class Archive(unittest.TestCase):
         stray = self.clone / "stray"
         stray.write_text("")
         self.addCleanup(stray.unlink)
-        status, _, errors = run(self.clone / "tools/release", self.log, "--program", self.program, "--toolchain", "t")
+        status, _, errors = run(self.clone / "tools/release", self.log)
         self.assertEqual(status, 1)
         self.assertIn("stray", errors)
 

@@ -21,6 +21,9 @@ ASK_STATUS = "echo $?"
 TIMEOUT = 900  # seconds for a section
 LEFT_OUT = shutil.ignore_patterns(".git", "out", "dist", "__pycache__")
 OTHER_COMMANDS = ("apt-get", "git", "rt")
+# The commands that the launcher and the commands of examples/README.md need. None is the toolchain's, and none is Python.
+TOOLS = ("awk bash cat chmod cmp cp cut dirname env git grep head mkdir mkfifo mktemp mv nproc od paste readlink rm sed sh "
+         "sha256sum sleep sort tail tee touch tr wc yes").split()
 
 # The commands that pages show and that aren't run, each with the reason. No page can show what they print.
 NOT_RUN = {
@@ -111,12 +114,31 @@ def sections(text):
     return [commands for commands in found if commands]
 
 
+# a checkout's programs ------------------------------------------------------
+
+def keep_proved(top, path=None):
+    """Has a checkout keep the programs that were put where the gate leaves them, as the gate does."""
+    if not (top / "tools/keep_proved").exists():
+        return
+    how = {"cwd": top, "check": True, "stdout": subprocess.PIPE, "text": True,
+           "env": {**os.environ, "PATH": str(path or os.environ["PATH"])}}
+    total = subprocess.run(["tools/sources", "sum"], **how).stdout.strip()
+    subprocess.run(["tools/keep_proved", total], **how)
+
+
+def link_tools(folder):
+    """Makes a folder for a search path that has a few common commands and no others."""
+    folder.mkdir()
+    for name in TOOLS:
+        (folder / name).symlink_to(shutil.which(name))
+
+
 # running ------------------------------------------------------------------
 
 class Copy:
     """A copy of the checkout with the built programs, which is gone in the end.
 
-    The programs are copied last, so the launcher finds no source that is newer, and runs them.
+    The programs are kept there as the gate keeps them, so the launcher runs them.
     """
 
     def __init__(self, program, checkout=TOP):
@@ -131,6 +153,7 @@ class Copy:
             if source.is_file():
                 (self.top / place).parent.mkdir(parents=True)
                 shutil.copy(source, self.top / place)
+        keep_proved(self.top)
         return self
 
     def __exit__(self, *_):
@@ -162,7 +185,7 @@ class Copy:
                 path = pathlib.Path(folder, name)
                 kept = self.checkout / path.relative_to(self.top)
                 is_picture = kept.parent == self.checkout / "docs/pictures"
-                if kept.is_file() and not is_picture and str(path.relative_to(self.top)) not in (PROGRAM, SECOND_PROGRAM):
+                if kept.is_file() and not is_picture and "out" not in path.relative_to(self.top).parts:
                     if path.read_bytes() != kept.read_bytes():
                         yield str(path.relative_to(self.top))
 

@@ -35,8 +35,15 @@ class Check(unittest.TestCase):
         self.program.write_text(PRINTING)
         self.program.chmod(0o755)
         shutil.copytree(pages.TOP / "examples", self.checkout / "examples")
-        for name in ("zovatsemo", "crates.txt"):
-            shutil.copy2(pages.TOP / name, self.checkout)
+        for name in ("zovatsemo", "tools/sources", "tools/usage", "tools/keep_proved"):
+            (self.checkout / name).parent.mkdir(exist_ok=True)
+            shutil.copy2(pages.TOP / name, self.checkout / name)
+        (self.checkout / "crates.txt").write_text("replay_main:\nblock_app:\n")
+        for name in ("replay_main", "block_app"):
+            (self.checkout / "crates" / name / "src").mkdir(parents=True)
+            (self.checkout / "crates" / name / "src/main.rt").write_text("fn main() {}\n")
+        (self.checkout / pages.SECOND_PROGRAM).parent.mkdir()
+        shutil.copy2(self.program, self.checkout / pages.SECOND_PROGRAM)
 
     def result(self, *lines):
         """Whether a page of these lines is right, and what is said of it."""
@@ -64,9 +71,10 @@ class Check(unittest.TestCase):
         self.assert_right(2, "    $ printf 'a b\\n' > new.report", "    $ cat new.report", "    a b")
         self.assert_right(1, "    $ wc -c", "    0")
 
-    def test_the_launcher_builds_nothing(self):
+    def test_the_launcher_runs_the_programs_that_were_built(self):
         os.utime(self.program, (0, 0))
         self.assert_right(2, "    $ ./zovatsemo check", "    one", "", "    two", "    $ echo $?", "    3")
+        self.assert_right(2, "    $ ./zovatsemo --block check", "    one", "", "    two", "    $ echo $?", "    3")
 
     def test_a_wrong_output(self):
         for command, shown, said in (
