@@ -17,6 +17,3 @@ pub use classifier::Classifier;
 pub use flows::flow;
 pub use headers::read_fields;
 pub use packet_defs::{Departed, Fields, Packet};
-
-#[cfg(test)]
-mod tests;
