@@ -1,0 +1,33 @@
+//! Test of the class of a packet, one by one.
+use packet_core::{Fields, classify};
+use policy_core::Policy;
+use std::test::Fail;
+
+const NO_FIELDS: Fields = Fields {
+    vlan: None,
+    version: None,
+    dscp: None,
+    proto: None,
+    source: None,
+    target: None,
+    sport: None,
+    dport: None,
+};
+
+#[test]
+fn a_packet_has_the_first_class_that_it_meets(rt: HostRuntime) -> Result<(), Fail> {
+    let office = Policy::office(rt.alloc())?;
+    let voice = Fields {
+        dscp: Some(46),
+        ..NO_FIELDS
+    };
+    let backup = Fields {
+        version: Some(4),
+        target: Some(0x0a09_0101),
+        ..NO_FIELDS
+    };
+    for (fields, class) in [(voice, 0), (backup, 6), (NO_FIELDS, 7)] {
+        assert_eq!(rt; classify(&office, &fields, 100), class);
+    }
+    Ok(())
+}
