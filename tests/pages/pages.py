@@ -28,7 +28,10 @@ TOOLS = ("awk bash cat chmod cmp cp cut dirname env git grep head mkdir mkfifo m
 # The commands that pages show and that aren't run, each with the reason. No page can show what they print.
 NOT_RUN = {
     ".ci/run": "proves everything, and runs this check",
-    ".ci/run > ../gate.log 2>&1 && tools/release ../gate.log": "proves everything, and runs this check",
+    ".ci/run > ../gate.log 2>&1": "proves everything, and runs this check",
+    "tools/pack ../gate.log": "needs the log of a gate, and this check is a part of it",
+    "tools/release ../gate.log": "needs the log of a gate, and this check is a part of it",
+    "tests/wrong_bodies/run pifo_core": "proves a crate, and tries its wrong bodies",
     "tests/look/run": "packs the commit of a checkout, which a copy of its files is not; the gate runs it before this check",
     "apt-get install python3-matplotlib python3-dpkt": "changes the machine; tests/look/run does it where CI=true",
 }
