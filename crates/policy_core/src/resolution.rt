@@ -1,6 +1,6 @@
 //! The policy that statements give.
 ghost use Rattle.std.specs.Prelude.{◌≡◌, IfOk, IfErr, OnOk};
-ghost use Rattle.policy_rules.specs.Accepted.{AreAccepted, IsFault};
+ghost use Rattle.policy_rules.specs.Accepted.{AreAccepted, AreComputable, AreShallow, HaveRoot, IsFault};
 ghost use Rattle.policy_rules.specs.Entries.{entries_of, AreRising};
 ghost use Rattle.policy_rules.specs.Graph.{graph_of};
 ghost use Rattle.policy_rules.specs.Resolved.{IsResolved};
@@ -49,6 +49,61 @@ fn assemble(
     Ok(Policy::new(version(lines), tree, stations, programs, classes))
 }
 
+/// Refuses statements whose leaves or limits break a rule.
+fn check_listings(alloc: Global, lines: &[(u32, Statement)]) -> Result<(), PolicyFault>
+    requires rising { AreRising (entries_of lines.now) }
+    requires shallow { AreShallow (entries_of lines.now) }
+    ensures accepts { OnOk result (AreAccepted (entries_of lines.now)) }
+    ensures refuses { IfErr result (IsFault (entries_of lines.now)) }
+{
+    check_leaves(alloc, lines)?;
+    check_limits(lines)
+}
+
+/// The policy of statements whose nodes have this graph, or the first clause that they fail.
+fn accept_graph(
+    alloc: Global,
+    lines: &[(u32, Statement)],
+    spaces: &Spaces<'_>,
+    programs: List<Checked>,
+    graph: &[Vec<u32>],
+) -> Result<Policy, PolicyFault>
+    requires rising { AreRising (entries_of lines.now) }
+    requires valid { AreValid (entries_of lines.now) }
+    requires rooted { HaveRoot (entries_of lines.now) }
+    requires spaces { AreSpaces (entries_of lines.now) spaces.now }
+    requires programs { programs ≡ known_programs (entries_of lines.now) }
+    requires graph { lists graph.now ≡ graph_of (entries_of lines.now) }
+    ensures accepts { OnOk result (AreAccepted (entries_of lines.now)) }
+    ensures policy { IfOk result (IsResolved (entries_of lines.now)) }
+    ensures refuses { IfErr result (IsFault (entries_of lines.now)) }
+{
+    check_family(alloc, lines, &spaces.nodes, graph)?;
+    check_listings(alloc, lines)?;
+    Ok(assemble(alloc, lines, spaces, programs, graph)?)
+}
+
+/// The policy of statements whose transactions are these, or the first clause that they fail.
+fn accept_transactions(
+    alloc: Global,
+    lines: &[(u32, Statement)],
+    spaces: &Spaces<'_>,
+    programs: List<Checked>,
+) -> Result<Policy, PolicyFault>
+    requires rising { AreRising (entries_of lines.now) }
+    requires valid { AreValid (entries_of lines.now) }
+    requires computable { AreComputable (entries_of lines.now) }
+    requires spaces { AreSpaces (entries_of lines.now) spaces.now }
+    requires programs { programs ≡ known_programs (entries_of lines.now) }
+    ensures accepts { OnOk result (AreAccepted (entries_of lines.now)) }
+    ensures policy { IfOk result (IsResolved (entries_of lines.now)) }
+    ensures refuses { IfErr result (IsFault (entries_of lines.now)) }
+{
+    check_parents(alloc, lines)?;
+    let graph = graph(alloc, lines, &spaces.nodes)?;
+    accept_graph(alloc, lines, spaces, programs, graph.as_slice())
+}
+
 /// The policy that statements give, or the first clause that they fail.
 fn accept(alloc: Global, lines: &[(u32, Statement)]) -> Result<Policy, PolicyFault>
     requires rising { AreRising (entries_of lines.now) }
@@ -59,12 +114,7 @@ fn accept(alloc: Global, lines: &[(u32, Statement)]) -> Result<Policy, PolicyFau
 {
     let spaces = declarations(alloc, lines)?;
     let programs = checked_transactions(alloc, lines)?;
-    check_parents(alloc, lines)?;
-    let graph = graph(alloc, lines, &spaces.nodes)?;
-    check_family(alloc, lines, &spaces.nodes, graph.as_slice())?;
-    check_leaves(alloc, lines)?;
-    check_limits(lines)?;
-    Ok(assemble(alloc, lines, &spaces, programs, graph.as_slice())?)
+    accept_transactions(alloc, lines, &spaces, programs)
 }
 
 /// The policy that statements give, or the first clause that they fail, with its least line. Names may be used before the
