@@ -1,23 +1,48 @@
 //! The numbers of the flows at a leaf.
 
-ghost use Rattle.std.specs.Prelude.{◌≡◌, ◌≢◌, IfSome, IfNone, IsSome, IsTrue, None, OnErr, OnOk, []};
+ghost use Rattle.std.specs.Prelude.{◌≡◌, ◌≢◌, IsSome, None, OnErr, OnOk, []};
 ghost use Rattle.rank_defs.specs.Shapes.{IsEnvInRange, IsMemoryInRange, IsShaped};
 ghost use Rattle.rank_defs.specs.Programs.{program_of};
-ghost use Rattle.rank_core.specs.Flows.{StandsAt, numbers_of};
+ghost use Rattle.rank_core.specs.Flows.{key_of, numbers_of};
 ghost use Rattle.rank_core.specs.Node.{kept_or};
 ghost use Rattle.rank_core.specs.Scope.{memory, run_of, AreCheckedIn, AreShapedIn};
 
 use crate::step::run;
-use indexmap::IndexMap;
 use rank_defs::{Assign, Env, FlowKey, Transaction};
 use std::alloc::{AllocError, Global};
+use std::collections::BTreeMap;
 
-/// The numbers of the flows that have room.
+/// A flow as a key with an order. What mostly tells flows apart comes first.
+#[derive(PartialEq, Eq, PartialOrd, Ord, Drop)]
+struct OrderedKey {
+    sport: u16,
+    dport: u16,
+    source: u128,
+    target: u128,
+    proto: u8,
+    version: u8,
+}
+
+#[inline]
+fn key_of(flow: &FlowKey) -> OrderedKey
+    ensures { result ≡ key_of flow.now }
+{
+    OrderedKey {
+        sport: flow.sport,
+        dport: flow.dport,
+        source: flow.source,
+        target: flow.target,
+        proto: flow.proto,
+        version: flow.version,
+    }
+}
+
+/// The numbers of the flows that have room. Captures choose the flows, so they are kept in order: where they were hashed
+/// with a seed that is known, a capture could make each look-up pass all flows.
 #[derive(Drop)]
 pub(crate) struct FlowTable {
-    values: IndexMap<FlowKey, Vec<u64>>,
-    /// Where the flow stands for which room was made last. The push step of its packet follows, and finds it here.
-    last: usize,
+    values: BTreeMap<OrderedKey, Vec<u64>>,
+    alloc: Global,
 }
 
 impl FlowTable {
@@ -26,46 +51,12 @@ impl FlowTable {
         ensures { (f : FlowKey) → numbers_of result f ≡ None }
     {
         FlowTable {
-            values: IndexMap::new(alloc),
-            last: 0,
-        }
-    }
-
-    #[inline]
-    fn is_at(&self, place: usize, flow: &FlowKey) -> bool
-        ensures { IsTrue result → StandsAt self.now place flow.now }
-    {
-        match self.values.get_index(place) {
-            Some((known, _)) => *known == *flow,
-            None => false,
-        }
-    }
-
-    #[inline(never)]
-    fn look_up(&self, flow: &FlowKey) -> Option<usize>
-        ensures found { IfSome result (λ i. StandsAt self.now i flow.now) }
-        ensures absent { IfNone result (numbers_of self.now flow.now ≡ None) }
-    {
-        match self.values.get_full(flow) {
-            Some((place, _, _)) => Some(place),
-            None => None,
-        }
-    }
-
-    #[inline]
-    fn place_of(&self, flow: &FlowKey) -> Option<usize>
-        ensures found { IfSome result (λ i. StandsAt self.now i flow.now) }
-        ensures absent { IfNone result (numbers_of self.now flow.now ≡ None) }
-    {
-        if self.is_at(self.last, flow) {
-            Some(self.last)
-        } else {
-            self.look_up(flow)
+            values: BTreeMap::new(alloc),
+            alloc,
         }
     }
 
     /// Makes room for a flow. New numbers are the first ones.
-    #[tactic(auto, using(crate::proofs::FlowMaps::get_same))]
     pub(crate) fn reserve(&mut self, flow: &FlowKey, first: &[u64]) -> Result<(), AllocError>
         ensures room { OnOk result (IsSome (numbers_of self.new flow.now)) }
         ensures same { (f : FlowKey) →
@@ -74,13 +65,10 @@ impl FlowTable {
         ensures others { (f : FlowKey) → f ≢ flow.now → numbers_of self.new f ≡ numbers_of self.old f }
         ensures err { OnErr result ((f : FlowKey) → numbers_of self.new f ≡ numbers_of self.old f) }
     {
-        match self.place_of(flow) {
-            Some(place) => self.last = place,
-            None => {
-                let numbers = Vec::from_slice(*self.values.allocator(), first)?;
-                self.last = self.values.len();
-                self.values.insert(*flow, numbers)?;
-            }
+        let key = key_of(flow);
+        if !self.values.contains_key(&key) {
+            let numbers = Vec::from_slice(self.alloc, first)?;
+            self.values.insert(key, numbers)?;
         }
         Ok(())
     }
@@ -107,18 +95,15 @@ impl FlowTable {
         ensures room { IsSome (numbers_of self.new flow.now) }
         ensures others { (f : FlowKey) → f ≢ flow.now → numbers_of self.new f ≡ numbers_of self.old f }
     {
-        match self.place_of(flow) {
-            Some(place) => {
-                let (_, numbers) = self.values.pair_mut(place);
-                run(
-                    transaction,
-                    assigns,
-                    env,
-                    rank,
-                    keeps,
-                    numbers.as_mut_slice(),
-                )
-            }
+        match self.values.get_mut(&key_of(flow)) {
+            Some(numbers) => run(
+                transaction,
+                assigns,
+                env,
+                rank,
+                keeps,
+                numbers.as_mut_slice(),
+            ),
             None => unreachable!(),
         }
     }

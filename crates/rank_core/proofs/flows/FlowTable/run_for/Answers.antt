@@ -1,25 +1,36 @@
-use Rattle.std.proofs.Common.{rules, ◌≡◌, ◌∙◌, Option, Some, option_map, length, refl, ap, sym}
+use Rattle.std.proofs.Common.{rules, ◌≡◌, refl, sym, subst, false, length, [], Some, None, is_some}
+use Rattle.std.specs.Vec.{with_items}
+use Rattle.rank_defs.specs.Shapes.{IsMemoryInRange}
+use Rattle.rank_defs.specs.Programs.{program_of}
+use Rattle.rank_core.specs.Flows.{numbers_of}
+use Rattle.rank_core.specs.Node.{kept_or}
+use Rattle.rank_core.specs.Scope.{memory}
 use Rattle.rank_core.proofs.Lists.{refilled}
-use Rattle.rank_core.proofs.FlowMaps.{write_there, write_others}
+use Rattle.rank_core.proofs.FlowMaps.{found_at, update_there, update_others}
 use Rattle.rank_core.proofs.flows.FlowTable.run_for.Goals as goal
 
-taken : {K X : Type 0} {o : Option (K × X)} {k l : K} {v w : X} → o ≡ Some (k, v) → o ≡ Some (l, w) → v ≡ w
-taken {K} {X} {o} {k} {l} {v} {w} e f =
-    let both : Some v ≡ Some w = ap (option_map (λ (p : K × X). p.1)) (sym e ∙ f) in cc
+pub run-requires-clause-range : goal.run-requires-clause-range
+run-requires-clause-range c =
+    let is : kept_or [] (numbers_of c.args.self.now c.args.flow.now) ≡ c.as_mut_slice.result.now = rw (found_at c.args.self.now.values c.args.flow.now (Some c.in-Some.numbers.now) c.key_of.ensures c.in-Some.ensures.value) (sym c.as_mut_slice.ensures.value)
+    in subst (λ xs. IsMemoryInRange (program_of c.args.transaction.now) (memory c.args.rank c.args.keeps.now xs)) is c.requires.range
+
+pub unreachable-requires : goal.unreachable-requires
+unreachable-requires c =
+    let none : is_some (numbers_of c.args.self.now c.args.flow.now) ≡ false = rw (found_at c.args.self.now.values c.args.flow.now None c.key_of.ensures c.in-None.ensures.value) refl
+    in let room = c.requires.room in cc
 
 pub returns-clause-ran : goal.returns-clause-ran
 returns-clause-ran c =
-    let stands = c.in-Some.ensures.found
-    in let is : stands.0 ≡ c.pair_mut-numbers.result.1.now = taken stands.1 c.pair_mut-numbers.ensures.value
-    in let same : length c.run.new.eaches ≡ length c.pair_mut-numbers.result.1.now.items = search rules
-    in rw (write_there c.args.self.now.values c.in-Some.place _ stands.0 c.args.flow.now c.pair_mut-numbers.ensures.unique stands.1, stands.2, is, refilled c.pair_mut-numbers.result.1.now c.run.new.eaches same, ← c.as_mut_slice.ensures.value) c.run.ensures
+    let w = with_items c.in-Some.numbers.now c.run.new.eaches
+    in let same : length c.run.new.eaches ≡ length c.in-Some.numbers.now.items = search rules
+    in rw (update_there c.args.self.now.values (c.get_mut.follows.lender w) c.args.flow.now (Some w) c.key_of.ensures ((c.get_mut.follows.holds w).3 (search rules)), refilled c.in-Some.numbers.now c.run.new.eaches same, found_at c.args.self.now.values c.args.flow.now (Some c.in-Some.numbers.now) c.key_of.ensures c.in-Some.ensures.value, ← c.as_mut_slice.ensures.value) c.run.ensures
 
 pub returns-clause-room : goal.returns-clause-room
 returns-clause-room c =
-    let stands = c.in-Some.ensures.found
-    in rw (write_there c.args.self.now.values c.in-Some.place _ stands.0 c.args.flow.now c.pair_mut-numbers.ensures.unique stands.1) refl
+    let w = with_items c.in-Some.numbers.now c.run.new.eaches
+    in rw (update_there c.args.self.now.values (c.get_mut.follows.lender w) c.args.flow.now (Some w) c.key_of.ensures ((c.get_mut.follows.holds w).3 (search rules))) refl
 
 pub returns-clause-others : goal.returns-clause-others
 returns-clause-others c = λ f other.
-    let stands = c.in-Some.ensures.found
-    in rw (write_others c.args.self.now.values c.in-Some.place _ stands.0 c.args.flow.now f c.pair_mut-numbers.ensures.unique stands.1 other) refl
+    let w = with_items c.in-Some.numbers.now c.run.new.eaches
+    in rw (update_others c.args.self.now.values (c.get_mut.follows.lender w) c.args.flow.now f (Some w) c.key_of.ensures ((c.get_mut.follows.holds w).3 (search rules)) other) refl
