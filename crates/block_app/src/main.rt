@@ -6,8 +6,6 @@ mod calmness;
 mod command;
 mod counting;
 mod laws;
-#[cfg(test)]
-mod tests;
 mod verdict;
 mod words;
 

@@ -9,8 +9,6 @@ mod line;
 mod order;
 mod tally;
 mod tap;
-#[cfg(test)]
-mod tests;
 mod watch;
 mod watching;
 
