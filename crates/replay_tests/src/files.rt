@@ -31,6 +31,19 @@ pub(crate) fn arguments(
     Ok(arguments)
 }
 
+/// A file more.
+fn put_file(
+    alloc: Global,
+    files: &mut Vec<(String, Vec<u8>)>,
+    name: &str,
+    content: &[u8],
+) -> Result<(), AllocError> {
+    let name = String::from_str(alloc, name)?;
+    let content = content.to_vec(alloc)?;
+    files.push((name, content))?;
+    Ok(())
+}
+
 /// The files `p`, `t`, `c` and `e` of a run, and a topology `g` and a map `m` for its policy.
 pub(crate) fn files(
     alloc: Global,
@@ -38,19 +51,12 @@ pub(crate) fn files(
     capture: &[u8],
     script: &[u8],
 ) -> Result<Vec<(String, Vec<u8>)>, AllocError> {
-    let list: [(&str, &[u8]); 6] = [
-        ("p", policy),
-        ("t", TARGET),
-        ("c", capture),
-        ("e", script),
-        ("g", b"leaf\n"),
-        ("m", b"map root -\n"),
-    ];
     let mut files = Vec::new(alloc);
-    for (name, content) in list {
-        let name = String::from_str(alloc, name)?;
-        let content = content.to_vec(alloc)?;
-        files.push((name, content))?;
-    }
+    put_file(alloc, &mut files, "p", policy)?;
+    put_file(alloc, &mut files, "t", TARGET)?;
+    put_file(alloc, &mut files, "c", capture)?;
+    put_file(alloc, &mut files, "e", script)?;
+    put_file(alloc, &mut files, "g", b"leaf\n")?;
+    put_file(alloc, &mut files, "m", b"map root -\n")?;
     Ok(files)
 }

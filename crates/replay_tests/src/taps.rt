@@ -1,7 +1,4 @@
 //! Runs that other taps than the program's watch, and the taps that are left.
-ghost use Rattle.std.specs.Prelude.{◌≤◌};
-ghost use Rattle.tap_core.specs.Steps.{max_limit};
-
 use crate::files::{CAPTURE, FULL, POLICY, arguments, files};
 use fabric_core::FlatFabric;
 use outside_core::{PlainShelf, PlainSink};
@@ -117,41 +114,6 @@ const ROWS: [Row; 6] = [
     },
 ];
 
-/// Appends a tap in a box.
-fn put<T: Tap + 'static>(
-    alloc: Global,
-    taps: &mut Vec<Box<dyn Tap>>,
-    tap: T,
-) -> Result<(), AllocError> {
-    let boxed = Box::new(alloc, tap)?;
-    taps.push(boxed)?;
-    Ok(())
-}
-
-/// Appends a tap of the first packets with this limit.
-fn put_first(alloc: Global, taps: &mut Vec<Box<dyn Tap>>, limit: u32) -> Result<(), AllocError>
-    requires { limit ≤ max_limit }
-{
-    let tap = FirstTap::new(alloc, limit)?;
-    put(alloc, taps, tap)
-}
-
-/// The taps that are handed in: those of the first packets have the limits 0, 1, 2 and 64, and the last but two is the one of
-/// another crate.
-fn taps_of(alloc: Global) -> Result<Vec<Box<dyn Tap>>, AllocError> {
-    let mut taps: Vec<Box<dyn Tap>> = Vec::new(alloc);
-    put_first(alloc, &mut taps, 0)?;
-    put(alloc, &mut taps, OrderTap::new())?;
-    put_first(alloc, &mut taps, 1)?;
-    put(alloc, &mut taps, BytesTap::new())?;
-    put(alloc, &mut taps, DropsTap::new())?;
-    let order = OrderTap::new();
-    put(alloc, &mut taps, AskedTap { order, asked: 0 })?;
-    put_first(alloc, &mut taps, 2)?;
-    put_first(alloc, &mut taps, 64)?;
-    Ok(taps)
-}
-
 /// The lines of taps.
 fn lines_of(alloc: Global, taps: &[Box<dyn Tap>]) -> Result<Vec<u8>, AllocError> {
     let mut lines = Vec::new(alloc);
@@ -175,14 +137,35 @@ fn answer_to(
     Ok((status, sink.bytes().to_vec(alloc)?))
 }
 
+/// The status of a row, what it writes, and the lines of the taps that are left. Those of the first packets that are handed in
+/// have the limits 0, 1, 2 and 64; the last but two is the tap of another crate.
+fn watch(alloc: Global, row: &Row) -> Result<(u8, Vec<u8>, Vec<u8>), Fail> {
+    let none = FirstTap::new(alloc, 0)?;
+    let one = FirstTap::new(alloc, 1)?;
+    let two = FirstTap::new(alloc, 2)?;
+    let most = FirstTap::new(alloc, 64)?;
+    let order = OrderTap::new();
+    let asked = AskedTap { order, asked: 0 };
+    let mut taps: Vec<Box<dyn Tap>> = Vec::new(alloc);
+    taps.push(Box::new(alloc, none)?)?;
+    taps.push(Box::new(alloc, OrderTap::new())?)?;
+    taps.push(Box::new(alloc, one)?)?;
+    taps.push(Box::new(alloc, BytesTap::new())?)?;
+    taps.push(Box::new(alloc, DropsTap::new())?)?;
+    taps.push(Box::new(alloc, asked)?)?;
+    taps.push(Box::new(alloc, two)?)?;
+    taps.push(Box::new(alloc, most)?)?;
+    let (status, written) = answer_to(alloc, row, &mut taps)?;
+    let left = lines_of(alloc, taps.as_slice())?;
+    Ok((status, written, left))
+}
+
 #[test]
 fn other_taps_watch_runs(rt: HostRuntime) -> Result<(), Fail> {
     let alloc = rt.alloc();
     for row in &ROWS {
-        let mut taps = taps_of(alloc)?;
-        let (status, written) = answer_to(alloc, row, &mut taps)?;
+        let (status, written, left) = watch(alloc, row)?;
         assert_eq!(rt; (status, written.as_slice()), (row.status, row.text));
-        let left = lines_of(alloc, taps.as_slice())?;
         assert_eq!(rt; left.as_slice(), row.left);
     }
     Ok(())

@@ -1,10 +1,10 @@
 -- Two packets that come to a single leaf in the two orders.
 use Rattle.std.specs.Option.{option_map_or}
-use Rattle.std.proofs.Common.{◌≡◌, ◌≢◌, ◌<◌, ◌+◌, ℕ, Bool, true, false, Option, Some, None, List, [], ◌∷◌, length, refl, sym, ap, ◌∙◌, subst, arith}
-use Rattle.std.specs.Prelude.{IsSomeAnd, is_some, nat_eq, max, if◌then◌else◌}
+use Rattle.std.proofs.Common.{◌≡◌, ◌≢◌, ◌<◌, ◌+◌, ℕ, Bool, true, false, Some, None, List, [], ◌∷◌, length, refl, sym, ap, ◌∙◌, subst, arith}
+use Rattle.std.specs.Prelude.{IsSomeAnd, nat_eq, max, if◌then◌else◌}
 use Rattle.std.specs.List.{AllByRecursion}
 use Rattle.std.proofs.lemmas.Bool.Decides.{Decides-eqb}
-use Rattle.tree_defs.specs.Tree.{Tree, leaf, inner, none, more, Address, LeadsToLeaf, IsAddressOf, SameShape, depth, nodes, subtree}
+use Rattle.tree_defs.specs.Tree.{Tree, leaf, inner, none, more, Address, LeadsToLeaf, IsAddressOf, SameShape, depth, subtree}
 use Rattle.pifo_defs.specs.Queue.{Queue}
 use Rattle.tree_defs.specs.Topology.{Topology, topology_of}
 use Rattle.tree_defs.specs.SourceTree.{size}
@@ -19,7 +19,6 @@ use Rattle.rank_defs.specs.Shapes.{IsStateInRange, AreWithin}
 use Rattle.packet_defs.specs.declared.packet.Packet.{Packet}
 use Rattle.policy_defs.specs.Policy.{Policy, Node, Class, node_at, limit_at}
 use Rattle.policy_defs.specs.Accepted.{IsAccepted, IsClassReady}
-use Rattle.policy_core.specs.Numbering.{address_at}
 use Rattle.sched_defs.specs.SourceState.{Held, SourceState, start, with_packet, class_of, filled, is_full, dropped, pushed, arrived}
 use Rattle.sched_defs.specs.Sound.{IsSound}
 use Rattle.sched_defs.specs.Events.{Arrive, CanMake, after}
@@ -54,39 +53,6 @@ alone (inner n (more t ts)) (c ∷ cs) d some all keeps eaches free = absurd (om
 pub plain_leaf : (policy : Policy) → IsAccepted policy → depth policy.tree ≡ 0 → IsSomeAnd (node_at policy.tree []) (λ n. n.program.keeps ≡ []) → IsSomeAnd (node_at policy.tree []) (λ n. n.program.eaches ≡ [])
     → IsSomeAnd (node_at policy.tree []) (λ n. n.limit ≡ None) → IsPlain policy.tree
 plain_leaf policy accepted d keeps eaches free = alone policy.tree policy.classes d accepted.some_class accepted.classes keeps eaches free
-
--- the node of number 0 is the root
-pub has_a_node : (tree : Tree Node) → 0 < nodes tree
-has_a_node (leaf n) = omega arith
-has_a_node (inner n ts) = omega arith
-
-root_first : (tree : Tree Node) → address_at tree 0 ≡ []
-root_first (leaf n) = refl
-root_first (inner n ts) = refl
-
--- what holds of the node of number 0 holds of the root
-pub at_root : (tree : Tree Node) (P : Node → Type 0) → IsSomeAnd (node_at tree (address_at tree 0)) P → IsSomeAnd (node_at tree []) P
-at_root tree P some = subst (λ (a : Address). IsSomeAnd (node_at tree a) P) (root_first tree) some
-
-pub none_is : {X : Type 0} (o : Option X) → is_some o ≡ false → o ≡ None
-none_is None e = refl
-none_is (Some x) e = cc
-
--- the root has no limit where none is told of the node of number 0
-pub unlimited_root : (tree : Tree Node) (x : Option ℕ) → IsSomeAnd (node_at tree (address_at tree 0)) (λ n. x ≡ n.limit) → x ≡ None → IsSomeAnd (node_at tree []) (λ n. n.limit ≡ None)
-unlimited_root tree x some none_of = by_node (node_at tree []) (at_root tree (λ n. x ≡ n.limit) some)
-  where
-    by_node : (o : Option Node) → IsSomeAnd o (λ n. x ≡ n.limit) → IsSomeAnd o (λ n. n.limit ≡ None)
-    by_node None s = absurd s
-    by_node (Some n) e = sym e ∙ none_of
-
--- the root's transaction is known by that of the node of number 0
-pub of_root : (tree : Tree Node) (p : Program) (spans : Program → List Span) → IsSomeAnd (node_at tree (address_at tree 0)) (λ n. p ≡ n.program) → spans p ≡ [] → IsSomeAnd (node_at tree []) (λ n. spans n.program ≡ [])
-of_root tree p spans some none_of = by_node (node_at tree []) (at_root tree (λ n. p ≡ n.program) some)
-  where
-    by_node : (o : Option Node) → IsSomeAnd o (λ n. p ≡ n.program) → IsSomeAnd o (λ n. spans n.program ≡ [])
-    by_node None s = absurd s
-    by_node (Some n) e = sym (ap spans e) ∙ none_of
 
 none_within : (xs : List ℕ) → AreWithin [] xs → xs ≡ []
 none_within [] w = refl

@@ -81,7 +81,7 @@ fn is_plain_leaf(policy: &Policy) -> bool
 
 /// Whether the packet that moved last had this rank at the root.
 fn is_ranked(trace: &Taken, rank: u64) -> bool {
-    trace.ranks().first().copied() == Some(rank)
+    matches!(trace.ranks(), [first, ..] if *first == rank)
 }
 
 /// Two packets arrive. The answer is whether they have these ranks at the root.
@@ -111,7 +111,8 @@ fn arrive_both<C: Scheduler>(
     scheduler.arrive(under, first, trace)?;
     let is_first = is_ranked(trace, ranks[0]);
     scheduler.arrive(under, second, trace)?;
-    Ok(is_first && is_ranked(trace, ranks[1]))
+    let is_second = is_ranked(trace, ranks[1]);
+    Ok(is_first & is_second)
 }
 
 /// A scheduler over a fabric that was neither pushed nor popped, at which two packets arrive with these ranks at the root.

@@ -1,4 +1,3 @@
-use Rattle.std.proofs.Common.{ap, ◌∙◌, arith}
 use Rattle.sched_tests.proofs.Exchanges.{never_full}
 use Rattle.sched_tests.proofs.fabrics.fill.Goals as goal
 
