@@ -1,13 +1,10 @@
-//! Tests of whole runs. They stand apart from replay_app, since a crate's tests have its own functions proved once more.
+//! Tests of whole runs that no case on the built programs reaches. They are in a crate of their own, since a crate's tests have
+//! its own functions proved once more.
 #![tactic(auto)]
 
 #[cfg(test)]
-mod forward;
+mod faults;
 #[cfg(test)]
-mod hostile;
-#[cfg(test)]
-mod runs;
+mod files;
 #[cfg(test)]
 mod taps;
-#[cfg(test)]
-mod via;

@@ -1,14 +1,14 @@
-//! Tests of taps that watch runs over files in memory.
-use crate::runs::{CAPTURE, FULL, POLICY, files, words};
+//! Runs that other taps than the program's watch, and the taps that are left.
+use crate::files::{CAPTURE, FULL, POLICY, arguments, files};
 use fabric_core::FlatFabric;
 use outside_core::{PlainShelf, PlainSink};
 use packet_defs::Departed;
 use replay_app::run;
-use std::alloc::AllocError;
+use std::alloc::{AllocError, Global};
 use std::test::Fail;
 use tap_core::{BytesTap, Dropped, DropsTap, FirstTap, OrderTap, Seen, Tap, TapKind};
 
-/// A tap that another crate than `tap_core` adds: it counts as `OrderTap` does, and how often it was asked.
+/// A tap that another crate than `tap_core` adds: it counts as `OrderTap` does, and how often it is called.
 #[derive(Drop)]
 struct AskedTap {
     order: OrderTap,
@@ -42,11 +42,10 @@ impl Tap for AskedTap {
     }
 }
 
-/// A run with these words behind the names of the files, and what it leaves.
+/// A run with these arguments after the names of the files, and what it leaves.
 #[derive(Clone, Copy)]
 struct Row {
     policy: &'static [u8],
-    capture: &'static [u8],
     script: &'static [u8],
     named: &'static [&'static str],
     status: u8,
@@ -55,124 +54,118 @@ struct Row {
     left: &'static [u8],
 }
 
-/// Rows in which a tap of the first packets with limit 0, an order tap, one with limit 1, one of bytes, one of drops, and another
-/// order tap are handed in.
-const ROWS: [Row; 9] = [
-    // Where nothing is named no tap watches, and all are dropped.
+const ROWS: [Row; 6] = [
+    // If no kind is named, no tap watches and all are dropped.
     Row {
         policy: POLICY,
-        capture: CAPTURE,
         script: b"rest\ndrain\n",
         named: &[],
         status: 0,
         text: b"a 1 1 root 0\na 2 2 root 0\nd 3 1 root 0\nd 4 2 root 0\nend pushed 2 popped 2 empty 0 held 0 unsent 0\n",
         left: b"",
     },
-    // The lines come in the order of the list, and the taps that are done are dropped.
+    // The lines are in the order of the list, and taps that are done are dropped.
     Row {
         policy: POLICY,
-        capture: CAPTURE,
         script: b"a\nd 2\na\nd\n",
         named: &["tap", "order", "tap", "first"],
         status: 0,
-        text: b"a 1 1 root 0\nd 2 1 root 0\ne 3\na 4 2 root 0\nd 5 2 root 0\nend pushed 2 popped 2 empty 1 held 0 unsent 0\ntap first\ntap order 0 2\ntap first 1\ntap order 0 2\n",
-        left: b"tap order 0 2\ntap order 0 2\n",
+        text: b"a 1 1 root 0\nd 2 1 root 0\ne 3\na 4 2 root 0\nd 5 2 root 0\nend pushed 2 popped 2 empty 1 held 0 unsent 0\n\
+            tap first\ntap order 0 2\ntap first 1\ntap order 0 2\ntap first 1 2\ntap first 1 2\n",
+        left: b"tap order 0 2\ntap order 0 2\ntap first 1 2\n",
     },
-    // No departure: the tap with limit 0 isn't done, and a departure of nothing is shown to none.
+    // The tap with limit 0 isn't done before the first departure.
     Row {
         policy: POLICY,
-        capture: CAPTURE,
         script: b"d\n",
         named: &["tap", "first", "tap", "bytes"],
         status: 0,
-        text: b"e 1\nend pushed 0 popped 0 empty 1 held 0 unsent 2\ntap first\ntap first\ntap bytes 0 0\n",
-        left: b"tap first\ntap first\ntap bytes 0 0\n",
+        text: b"e 1\nend pushed 0 popped 0 empty 1 held 0 unsent 2\n\
+            tap first\ntap first\ntap bytes 0 0\ntap first\ntap first\n",
+        left: b"tap first\ntap first\ntap bytes 0 0\ntap first\ntap first\n",
     },
-    // Drops are shown as drops alone.
+    // Only taps of drops count them.
     Row {
         policy: FULL,
-        capture: CAPTURE,
         script: b"a 2\nd 2\n",
         named: &["tap", "drops", "tap", "bytes"],
         status: 0,
-        text: b"a 1 1 root 0\nx 2 2 root\nd 3 1 root 0\ne 4\nend pushed 1 popped 1 empty 1 held 0 unsent 0 dropped 1\ntap bytes 1 4\ntap drops 1 4\n",
+        text: b"a 1 1 root 0\nx 2 2 root\nd 3 1 root 0\ne 4\nend pushed 1 popped 1 empty 1 held 0 unsent 0 dropped 1\n\
+            tap bytes 1 4\ntap drops 1 4\n",
         left: b"tap bytes 1 4\ntap drops 1 4\n",
     },
-    // A fault in mid-run: no line of a tap, and the list as the run left it.
+    // After an error in mid-run no line of a tap is written, and the list is as the run left it.
     Row {
         policy: POLICY,
-        capture: CAPTURE,
         script: b"a\nd\na 2\n",
         named: &["tap", "first", "tap", "bytes"],
         status: 6,
         text: b"a 1 1 root 0\nd 2 1 root 0\na 3 2 root 0\nfault script 3 4\n",
-        left: b"tap bytes 1 4\n",
+        left: b"tap bytes 1 4\ntap first 1\ntap first 1\n",
     },
-    Row {
-        policy: POLICY,
-        capture: b"\xd4\xc3\xb2\xa1\x02\0\x04\0\0\0\0\0\0\0\0\0\0\0\x04\0\x93\0\0\0\x01",
-        script: b"d\nrest\n",
-        named: &["tap", "order"],
-        status: 7,
-        text: b"e 1\nfault capture 5 1\n",
-        left: b"tap order 0 0\ntap order 0 0\n",
-    },
-    // Refusals before the run leave the list as it was.
-    Row {
-        policy: POLICY,
-        capture: b"",
-        script: b"d\n",
-        named: &["tap", "order"],
-        status: 7,
-        text: b"fault capture 1 0\n",
-        left: b"tap first\ntap order 0 0\ntap first\ntap bytes 0 0\ntap drops 0 0\ntap order 0 0\n",
-    },
+    // An error before the run leaves the list unchanged.
     Row {
         policy: b"policy 1\n",
-        capture: CAPTURE,
         script: b"d\n",
         named: &["tap", "order"],
         status: 3,
         text: b"fault policy 9 0\n",
-        left: b"tap first\ntap order 0 0\ntap first\ntap bytes 0 0\ntap drops 0 0\ntap order 0 0\n",
-    },
-    Row {
-        policy: POLICY,
-        capture: CAPTURE,
-        script: b"d\n",
-        named: &["tap", "order", "tap", "order"],
-        status: 2,
-        text: b"fault words 0 0\n",
-        left: b"tap first\ntap order 0 0\ntap first\ntap bytes 0 0\ntap drops 0 0\ntap order 0 0\n",
+        left: b"tap first\ntap order 0 0\ntap first\ntap bytes 0 0\ntap drops 0 0\ntap order 0 0\ntap first\ntap first\n",
     },
 ];
 
+/// The lines of taps.
+fn lines_of(alloc: Global, taps: &[Box<dyn Tap>]) -> Result<Vec<u8>, AllocError> {
+    let mut lines = Vec::new(alloc);
+    for tap in taps {
+        tap.say(&mut lines)?;
+    }
+    Ok(lines)
+}
+
+/// The status of a row and what it writes.
+fn answer_to(
+    alloc: Global,
+    row: &Row,
+    taps: &mut Vec<Box<dyn Tap>>,
+) -> Result<(u8, Vec<u8>), Fail> {
+    let list = arguments(alloc, &["replay", "p", "t", "c", "e"], row.named)?;
+    let mut shelf = PlainShelf::new(files(alloc, row.policy, CAPTURE, row.script)?);
+    let mut sink = PlainSink::new(alloc, 300)?;
+    let mut fabric = FlatFabric::new(alloc)?;
+    let status = run(alloc, &list, &mut shelf, &mut sink, &mut fabric, taps);
+    Ok((status, sink.bytes().to_vec(alloc)?))
+}
+
+/// The status of a row, what it writes, and the lines of the taps that are left. Those of the first packets that are handed in
+/// have the limits 0, 1, 2 and 64; the last but two is the tap of another crate.
+fn watch(alloc: Global, row: &Row) -> Result<(u8, Vec<u8>, Vec<u8>), Fail> {
+    let none = FirstTap::new(alloc, 0)?;
+    let one = FirstTap::new(alloc, 1)?;
+    let two = FirstTap::new(alloc, 2)?;
+    let most = FirstTap::new(alloc, 64)?;
+    let order = OrderTap::new();
+    let asked = AskedTap { order, asked: 0 };
+    let mut taps: Vec<Box<dyn Tap>> = Vec::new(alloc);
+    taps.push(Box::new(alloc, none)?)?;
+    taps.push(Box::new(alloc, OrderTap::new())?)?;
+    taps.push(Box::new(alloc, one)?)?;
+    taps.push(Box::new(alloc, BytesTap::new())?)?;
+    taps.push(Box::new(alloc, DropsTap::new())?)?;
+    taps.push(Box::new(alloc, asked)?)?;
+    taps.push(Box::new(alloc, two)?)?;
+    taps.push(Box::new(alloc, most)?)?;
+    let (status, written) = answer_to(alloc, row, &mut taps)?;
+    let left = lines_of(alloc, taps.as_slice())?;
+    Ok((status, written, left))
+}
+
 #[test]
-fn taps_watch_over_memory(rt: HostRuntime) -> Result<(), Fail> {
+fn other_taps_watch_runs(rt: HostRuntime) -> Result<(), Fail> {
     let alloc = rt.alloc();
-    for row in ROWS {
-        let mut list = words(alloc, &["replay", "p", "t", "c", "e"])?;
-        list.append(&mut words(alloc, row.named)?)?;
-        let mut shelf = PlainShelf::new(files(alloc, row.policy, row.capture, row.script)?);
-        let mut sink = PlainSink::new(alloc, 300)?;
-        let mut fabric = FlatFabric::new(alloc)?;
-        let mut taps: Vec<Box<dyn Tap>> = Vec::new(alloc);
-        taps.push(Box::new(alloc, FirstTap::new(alloc, 0)?)?)?;
-        taps.push(Box::new(alloc, OrderTap::new())?)?;
-        taps.push(Box::new(alloc, FirstTap::new(alloc, 1)?)?)?;
-        taps.push(Box::new(alloc, BytesTap::new())?)?;
-        taps.push(Box::new(alloc, DropsTap::new())?)?;
-        let another = AskedTap {
-            order: OrderTap::new(),
-            asked: 0,
-        };
-        taps.push(Box::new(alloc, another)?)?;
-        let status = run(alloc, &list, &mut shelf, &mut sink, &mut fabric, &mut taps);
-        assert_eq!(rt; (status, sink.bytes()), (row.status, row.text));
-        let mut left = Vec::new(alloc);
-        for tap in &taps {
-            tap.say(&mut left)?;
-        }
+    for row in &ROWS {
+        let (status, written, left) = watch(alloc, row)?;
+        assert_eq!(rt; (status, written.as_slice()), (row.status, row.text));
         assert_eq!(rt; left.as_slice(), row.left);
     }
     Ok(())

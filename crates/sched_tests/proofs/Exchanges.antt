@@ -1,10 +1,10 @@
 -- Two packets that come to a single leaf in the two orders.
 use Rattle.std.specs.Option.{option_map_or}
-use Rattle.std.proofs.Common.{◌≡◌, ◌≢◌, ◌<◌, ◌+◌, ℕ, Bool, true, false, Option, Some, None, List, [], ◌∷◌, length, refl, sym, ap, ◌∙◌, subst, arith}
+use Rattle.std.proofs.Common.{◌≡◌, ◌≢◌, ◌<◌, ◌+◌, ℕ, Bool, true, false, Some, None, List, [], ◌∷◌, length, refl, sym, ap, ◌∙◌, subst, arith}
 use Rattle.std.specs.Prelude.{IsSomeAnd, nat_eq, max, if◌then◌else◌}
 use Rattle.std.specs.List.{AllByRecursion}
 use Rattle.std.proofs.lemmas.Bool.Decides.{Decides-eqb}
-use Rattle.tree_defs.specs.Tree.{Tree, leaf, inner, none, more, Address, LeadsToLeaf, IsAddressOf, SameShape, depth, nodes, subtree}
+use Rattle.tree_defs.specs.Tree.{Tree, leaf, inner, none, more, Address, LeadsToLeaf, IsAddressOf, SameShape, depth, subtree}
 use Rattle.pifo_defs.specs.Queue.{Queue}
 use Rattle.tree_defs.specs.Topology.{Topology, topology_of}
 use Rattle.tree_defs.specs.SourceTree.{size}
@@ -19,7 +19,6 @@ use Rattle.rank_defs.specs.Shapes.{IsStateInRange, AreWithin}
 use Rattle.packet_defs.specs.declared.packet.Packet.{Packet}
 use Rattle.policy_defs.specs.Policy.{Policy, Node, Class, node_at, limit_at}
 use Rattle.policy_defs.specs.Accepted.{IsAccepted, IsClassReady}
-use Rattle.policy_core.specs.Numbering.{address_at}
 use Rattle.sched_defs.specs.SourceState.{Held, SourceState, start, with_packet, class_of, filled, is_full, dropped, pushed, arrived}
 use Rattle.sched_defs.specs.Sound.{IsSound}
 use Rattle.sched_defs.specs.Events.{Arrive, CanMake, after}
@@ -35,14 +34,9 @@ use Rattle.sched_core.specs.Standing.{StandForOne}
 use Rattle.sched_core.specs.Own.{policy_in}
 use Rattle.sched_embedded.specs.declared.embedded.Embedded.{Embedded}
 use Rattle.sched_embedded.specs.Embedded.{EmbeddedStands, origin_of}
-
--- ---- a single leaf without variables and without a limit
-pub record IsPlain (tree : Tree Node) : Type 0 where
-  pub node : Node
-  pub is : tree ≡ leaf node
-  pub keeps : node.program.keeps ≡ []
-  pub eaches : node.program.eaches ≡ []
-  pub limit : node.limit ≡ None
+use Rattle.target_core.specs.declared.target.Target.{Target}
+use Rattle.embed_core.specs.Range.{levels_of}
+use Rattle.sched_tests.specs.Filled.{IsPlain, IsFilled}
 
 -- a tree without levels below its root, in which a class has a leaf
 alone : (tree : Tree Node) (cs : List Class) → depth tree ≡ 0 → 0 < length cs → AllByRecursion (IsClassReady tree) cs
@@ -59,35 +53,6 @@ alone (inner n (more t ts)) (c ∷ cs) d some all keeps eaches free = absurd (om
 pub plain_leaf : (policy : Policy) → IsAccepted policy → depth policy.tree ≡ 0 → IsSomeAnd (node_at policy.tree []) (λ n. n.program.keeps ≡ []) → IsSomeAnd (node_at policy.tree []) (λ n. n.program.eaches ≡ [])
     → IsSomeAnd (node_at policy.tree []) (λ n. n.limit ≡ None) → IsPlain policy.tree
 plain_leaf policy accepted d keeps eaches free = alone policy.tree policy.classes d accepted.some_class accepted.classes keeps eaches free
-
--- the node of number 0 is the root
-pub has_a_node : (tree : Tree Node) → 0 < nodes tree
-has_a_node (leaf n) = omega arith
-has_a_node (inner n ts) = omega arith
-
-root_first : (tree : Tree Node) → address_at tree 0 ≡ []
-root_first (leaf n) = refl
-root_first (inner n ts) = refl
-
--- what holds of the node of number 0 holds of the root
-pub at_root : (tree : Tree Node) (P : Node → Type 0) → IsSomeAnd (node_at tree (address_at tree 0)) P → IsSomeAnd (node_at tree []) P
-at_root tree P some = subst (λ (a : Address). IsSomeAnd (node_at tree a) P) (root_first tree) some
-
--- the root has no limit where none is told of the node of number 0
-pub unlimited_root : (tree : Tree Node) (x : Option ℕ) → IsSomeAnd (node_at tree (address_at tree 0)) (λ n. x ≡ n.limit) → x ≡ None → IsSomeAnd (node_at tree []) (λ n. n.limit ≡ None)
-unlimited_root tree x some none_of = by_node (node_at tree []) (at_root tree (λ n. x ≡ n.limit) some)
-  where
-    by_node : (o : Option Node) → IsSomeAnd o (λ n. x ≡ n.limit) → IsSomeAnd o (λ n. n.limit ≡ None)
-    by_node None s = absurd s
-    by_node (Some n) e = sym e ∙ none_of
-
--- the root's transaction is known by that of the node of number 0
-pub of_root : (tree : Tree Node) (p : Program) (spans : Program → List Span) → IsSomeAnd (node_at tree (address_at tree 0)) (λ n. p ≡ n.program) → spans p ≡ [] → IsSomeAnd (node_at tree []) (λ n. spans n.program ≡ [])
-of_root tree p spans some none_of = by_node (node_at tree []) (at_root tree (λ n. p ≡ n.program) some)
-  where
-    by_node : (o : Option Node) → IsSomeAnd o (λ n. p ≡ n.program) → IsSomeAnd o (λ n. spans n.program ≡ [])
-    by_node None s = absurd s
-    by_node (Some n) e = sym (ap spans e) ∙ none_of
 
 none_within : (xs : List ℕ) → AreWithin [] xs → xs ≡ []
 none_within [] w = refl
@@ -252,14 +217,22 @@ same_beside policy accepted plain p q apart first second =
       now = ap (λ (z : SourceState). z.now) (both_pushed policy plain p q) ∙ same_now 0 p.moment q.moment ∙ sym (ap (λ (z : SourceState). z.now) (both_pushed policy plain q p));
     }
 
-module _ {F : Type 0} (fabrics : Ghosts F) (policy : Policy) (accepted : IsAccepted policy) (plain : IsPlain policy.tree) (p q : Packet) (apart : p.number ≢ q.number) (first : IsSendable policy p) (second : IsSendable policy q) where
-  pub stands_exchanged : (c d : Embedded F) (u v : F) → policy_in c.own ≡ policy → AreAlike c d
-      → EmbeddedStands fabrics c u (after policy (Arrive p ∷ Arrive q ∷ []) (start policy)) → EmbeddedStands fabrics d v (after policy (Arrive q ∷ Arrive p ∷ []) (start policy))
-      → StandForOne (EmbeddedStands fabrics) policy c v (λ _. Unit {0})
-  stands_exchanged c d u v own alike one other = record {
-    state = after policy (Arrive q ∷ Arrive p ∷ []) (start policy);
-    sound = sound_after policy (Arrive q ∷ Arrive p ∷ []) (start policy) accepted (sound_start policy accepted) (both_come policy accepted q p (λ e. apart (sym e)) second first);
-    stood = stands_with_another fabrics c d u v (after policy (Arrive p ∷ Arrive q ∷ []) (start policy)) (after policy (Arrive q ∷ Arrive p ∷ []) (start policy)) alike
-        (subst (λ (r : Policy). IsSameBeside r.tree (after policy (Arrive p ∷ Arrive q ∷ []) (start policy)) (after policy (Arrive q ∷ Arrive p ∷ []) (start policy))) (sym own) (same_beside policy accepted plain p q apart first second)) one other;
-    has = tt;
-  }
+-- the first stands with the fabric of the second, at which the same two packets arrived in the other order
+module _ {F : Type 0} (fabrics : Ghosts F) (policy : Policy) (target : Target) (accepted : IsAccepted policy) (plain : IsPlain policy.tree) (p q : Packet) (apart : p.number ≢ q.number) (first : IsSendable policy p) (second : IsSendable policy q) where
+  pub stands_exchanged : (c d : Embedded F) (u v : F) → IsFilled fabrics policy target p q c u → IsFilled fabrics policy target q p d v → StandForOne (EmbeddedStands fabrics) policy c v (λ _. Unit {0})
+  stands_exchanged c d u v one other =
+      let s : SourceState = after policy (Arrive p ∷ Arrive q ∷ []) (start policy) in
+      let t : SourceState = after policy (Arrive q ∷ Arrive p ∷ []) (start policy) in
+      let alike : AreAlike c d = record {
+        images = same_images policy plain (levels_of target) (length target.arities) _ _ one.images other.images;
+        arities = one.arities ∙ sym other.arities;
+        pushes = one.pushes ∙ sym other.pushes;
+        pops = one.pops ∙ sym other.pops;
+      } in
+      record {
+        state = t;
+        sound = sound_after policy (Arrive q ∷ Arrive p ∷ []) (start policy) accepted (sound_start policy accepted) (both_come policy accepted q p (λ e. apart (sym e)) second first);
+        stood = stands_with_another fabrics c d u v s t alike
+            (subst (λ (r : Policy). IsSameBeside r.tree s t) (sym one.own) (same_beside policy accepted plain p q apart first second)) one.stands other.stands;
+        has = tt;
+      }

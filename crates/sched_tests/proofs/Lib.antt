@@ -1,2 +1,3 @@
 pub mod EventTurns
 pub mod Exchanges
+pub mod Roots

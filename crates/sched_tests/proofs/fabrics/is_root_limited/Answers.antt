@@ -1,6 +1,5 @@
 use Rattle.std.proofs.Common.{sym, ◌∙◌}
-use Rattle.sched_run.proofs.PacketsInTurn.{none_is}
-use Rattle.sched_tests.proofs.Exchanges.{has_a_node, unlimited_root}
+use Rattle.sched_tests.proofs.Roots.{has_a_node, none_is, unlimited_root}
 use Rattle.sched_tests.proofs.fabrics.is_root_limited.Goals as goal
 
 pub limit-requires : goal.limit-requires

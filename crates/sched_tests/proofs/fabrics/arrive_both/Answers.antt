@@ -3,7 +3,7 @@ use Rattle.sched_defs.specs.SourceState.{start, arrived}
 use Rattle.sched_defs.specs.Events.{CanArrive}
 use Rattle.sched_defs.proofs.Soundness.{sound_start, sound_arrived}
 use Rattle.sched_tests.proofs.EventTurns.{asked, stands_arrived, one_push}
-use Rattle.sched_tests.proofs.fabrics.come_both.Goals as goal
+use Rattle.sched_tests.proofs.fabrics.arrive_both.Goals as goal
 
 pub arrive-requires-clause-stands : goal.arrive-requires-clause-stands
 arrive-requires-clause-stands g c =
