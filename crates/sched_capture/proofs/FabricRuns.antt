@@ -1,5 +1,5 @@
 -- What a run through a fabric leaves there.
-use Rattle.std.proofs.Common.{◌≡◌, ◌+◌, ℕ, Option, None, Some, Result, Ok, Err, List, ap, ◌∙◌, subst, arith, inr}
+use Rattle.std.proofs.Common.{◌≡◌, ◌+◌, ℕ, Option, None, Some, Result, Ok, Err, List, ap, ◌∙◌, subst, arith}
 use Rattle.std.specs.Prelude.{IfSome, OnOk, OnErr}
 use Rattle.embed_defs.specs.Images.{image_map}
 use Rattle.embed_lift_defs.specs.Lift.{IsLift}
@@ -17,14 +17,14 @@ use Rattle.outside_core.specs.declared.stop.Stop.{Stop}
 use Rattle.sched_defs.specs.Packets.{Left}
 use Rattle.sched_run.specs.declared.pace.Pace.{Pace}
 use Rattle.sched_run.specs.Steps.{pace_of}
-use Rattle.sched_run.specs.Courses.{course_of}
 use Rattle.sched_run.proofs.StepLaws.{on_err_given}
 use Rattle.sched_packets.specs.Arrivals.{Begins}
 use Rattle.sched_embedded.specs.declared.embedded.Embedded.{Embedded}
 use Rattle.sched_embedded.specs.Embedded.{EmbeddedStands, origin_of}
-use Rattle.sched_embedded.specs.Fabrics.{FabricRun, run_of, HoldsAfter, HoldsAmid, Leaves, LeavesPart}
+use Rattle.sched_embedded.specs.Fabrics.{FabricRun, run_of, HoldsAfter, Leaves, LeavesPart}
 use Rattle.sched_embedded.specs.Laid.{Laid}
 use Rattle.sched_capture.specs.Answers.{answer_over, paced_answer}
+use Rattle.sched_capture.specs.Placements.{paced_through}
 
 module _ {F : Type 0} (fabrics : Ghosts F) (policy : Policy) (laid : Laid) (c : Embedded F) (old mid : F)
     (origin : origin_of c ≡ record { images = laid.images; arities = laid.arities; pushes = fabrics.pushed old; pops = fabrics.popped old })
@@ -49,37 +49,32 @@ module _ {F : Type 0} (fabrics : Ghosts F) (policy : Policy) (laid : Laid) (c : 
 
 -- ---- a whole run, and a part of one
 module _ {F : Type 0} (fabrics : Ghosts F) (policy : Resolved) (laid : Laid) (pace : Pace) where
-  -- the run over what was left of the capture behind its header
-  abbrev over : Left → FabricRun
-  over l = record { policy = policy.policy; laid = laid; events = (course_of policy.policy pace l (start policy.policy) 1).events }
-
-  -- what is said of that run is said of the run of the file
-  of_contents : (file : FileContents) (left : Option Left) (Q : Left → Type 0) (P : Option FabricRun → Type 0) → ((l : Left) → Q l → P (Some (over l))) → Begins policy file left → IfSome left Q
+  -- what is said of the run over what was left of the capture behind its header is said of the run of the file
+  of_contents : (file : FileContents) (left : Option Left) (P : Option FabricRun → Type 0) → Begins policy file left → IfSome left (λ l. P (Some (paced_through policy.policy laid pace l)))
       → P (run_of policy.policy laid (answer_over policy (pace_of pace) file).events)
-  of_contents (no_capture fault) left Q P into begins each = absurd begins
-  of_contents (holds contents) left Q P into begins each = into _ (rw begins at each)
+  of_contents (no_capture fault) left P begins each = absurd begins
+  of_contents (holds contents) left P begins each = rw begins at each
 
-  of_file : (file : List ℕ) (left : Option Left) (Q : Left → Type 0) (P : Option FabricRun → Type 0) → ((l : Left) → Q l → P (Some (over l))) → Begins policy (in_file file) left → IfSome left Q
+  of_file : (file : List ℕ) (left : Option Left) (P : Option FabricRun → Type 0) → Begins policy (in_file file) left → IfSome left (λ l. P (Some (paced_through policy.policy laid pace l)))
       → P (run_of policy.policy laid (paced_answer policy (pace_of pace) file).events)
-  of_file file left Q P into begins each = of_contents (in_file file) left Q P into begins each
+  of_file file left P begins each = of_contents (in_file file) left P begins each
 
-  pub left_by : (r : Result Ending Stop) (told : Option (List ℕ)) (left : Option Left) (Q : Left → Type 0) (old new : F) → ((l : Left) → Q l → HoldsAfter fabrics (over l) old new) →
-      IfSome told (λ file. Begins policy (in_file file) left) → OnOk r (IfSome left Q) → OnOk r (IfSome told (λ file. Leaves fabrics (run_of policy.policy laid (paced_answer policy (pace_of pace) file).events) old new))
-  left_by (Err stop) told left Q old new into begins each = tt
-  left_by (Ok e) None left Q old new into begins each = tt
-  left_by (Ok e) (Some file) left Q old new into begins each = of_file file left Q (λ run. Leaves fabrics run old new) into begins each
+  pub left_by : (r : Result Ending Stop) (told : Option (List ℕ)) (left : Option Left) (old new : F) → IfSome told (λ file. Begins policy (in_file file) left) →
+      OnOk r (IfSome left (λ l. Leaves fabrics (Some (paced_through policy.policy laid pace l)) old new)) → OnOk r (IfSome told (λ file. Leaves fabrics (run_of policy.policy laid (paced_answer policy (pace_of pace) file).events) old new))
+  left_by (Err stop) told left old new begins each = tt
+  left_by (Ok e) None left old new begins each = tt
+  left_by (Ok e) (Some file) left old new begins each = of_file file left (λ run. Leaves fabrics run old new) begins each
 
-  pub left_amid : (r : Result Ending Stop) (told : Option (List ℕ)) (left : Option Left) (Q : Left → Type 0) (old new : F) → ((l : Left) → Q l → HoldsAmid fabrics (over l) old new) →
-      IfSome told (λ file. Begins policy (in_file file) left) → OnErr r (IfSome left Q) → OnErr r (IfSome told (λ file. LeavesPart fabrics (run_of policy.policy laid (paced_answer policy (pace_of pace) file).events) old new))
-  left_amid (Ok e) told left Q old new into begins each = tt
-  left_amid (Err stop) None left Q old new into begins each = tt
-  left_amid (Err stop) (Some file) left Q old new into begins each = of_file file left Q (λ run. LeavesPart fabrics run old new) (λ l q. inr (into l q)) begins each
+  pub left_amid : (r : Result Ending Stop) (told : Option (List ℕ)) (left : Option Left) (old new : F) → IfSome told (λ file. Begins policy (in_file file) left) →
+      OnErr r (IfSome left (λ l. LeavesPart fabrics (Some (paced_through policy.policy laid pace l)) old new)) → OnErr r (IfSome told (λ file. LeavesPart fabrics (run_of policy.policy laid (paced_answer policy (pace_of pace) file).events) old new))
+  left_amid (Ok e) told left old new begins each = tt
+  left_amid (Err stop) None left old new begins each = tt
+  left_amid (Err stop) (Some file) left old new begins each = of_file file left (λ run. LeavesPart fabrics run old new) begins each
 
-  -- nothing was made yet
-  pub none_amid : (r : Result Ending Stop) (told : Option (List ℕ)) (left : Option Left) (old new : F) → ((l : Left) → HoldsAmid fabrics (over l) old new) →
-      IfSome told (λ file. Begins policy (in_file file) left) → OnErr r (IfSome told (λ file. LeavesPart fabrics (run_of policy.policy laid (paced_answer policy (pace_of pace) file).events) old new))
-  none_amid r told left old new each begins = left_amid r told left (λ l. Unit {0}) old new (λ l _. each l) begins (on_err_given r (IfSome left (λ l. Unit {0})) (always left))
-    where
-      always : (o : Option Left) → IfSome o (λ l. Unit {0})
-      always None = tt
-      always (Some l) = tt
+-- what is left before a run begins is left of each
+pub left_before : {A : Type 0} (r : Result A Stop) (left : Option Left) (P : Left → Type 0) → ((l : Left) → P l) → OnErr r (IfSome left P)
+left_before r left P each = on_err_given r (IfSome left P) (each_left left)
+  where
+    each_left : (o : Option Left) → IfSome o P
+    each_left None = tt
+    each_left (Some l) = each l

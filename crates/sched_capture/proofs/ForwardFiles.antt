@@ -1,5 +1,5 @@
 -- What a run over the packets of one link type answers, of the file that they come from.
-use Rattle.std.proofs.Common.{◌≡◌, ◌≤◌, ℕ, Option, None, Some, Result, Ok, Err, List, [], refl, sym, ap, ◌∙◌, subst, inr}
+use Rattle.std.proofs.Common.{◌≡◌, ◌≤◌, ℕ, Option, None, Some, Result, Ok, Err, List, sym, ap, ◌∙◌, subst}
 use Rattle.std.specs.Prelude.{IfSome, IfErr, OnOk, OnErr}
 use Rattle.std.proofs.lemmas.Option.{IfSome_then}
 use Rattle.std.proofs.lemmas.Result.{on_ok_weaker, on_err_weaker}
@@ -9,13 +9,10 @@ use Rattle.outside_core.specs.declared.stop.Stop.{Stop}
 use Rattle.outside_core.specs.declared.stop.Stop.TheVariants.{Source, Sink, Memory}
 use Rattle.outside_core.proofs.FaultLaws.{rose_after}
 use Rattle.outside_core.proofs.WrittenLaws.{appended_in_turn, appended_nothing, prefix_in_turn, prefix_of_longer, prefix_of_nothing}
-use Rattle.fabric_core.specs.declared.fabric.Fabric.{Ghosts}
 use Rattle.policy_defs.specs.Policy.{Policy}
 use Rattle.pcapout_core.specs.Bytes.{header_bytes}
 use Rattle.sched_defs.specs.SourceState.{start}
 use Rattle.sched_defs.specs.Events.{outcomes}
-use Rattle.sched_embedded.specs.Fabrics.{HoldsAfter, LeavesPart}
-use Rattle.sched_embedded.specs.Laid.{Laid}
 use Rattle.sched_run.proofs.StepLaws.{on_err_given}
 use Rattle.pcap_defs.specs.Contents.{FaultAt, FileContents, no_capture, holds}
 use Rattle.pcapng_defs.specs.NgContents.{in_file}
@@ -26,7 +23,7 @@ use Rattle.sched_packets.specs.Arrivals.{Begins, AreCapturedIn, left_in}
 use Rattle.sched_packets.specs.CapturedBytes.{captured_from-are}
 use Rattle.sched_packets.specs.OneLink.{one_link_in, link_in}
 use Rattle.sched_capture.specs.Answers.{IsRefusal}
-use Rattle.sched_capture.specs.Forwards.{ForwardAnswer, forward_of, forward_over, forward_answer, forward_refusal, forward_events, forward_through, sent_bytes, refusal_ending}
+use Rattle.sched_capture.specs.Forwards.{ForwardAnswer, forward_of, forward_over, forward_answer, forward_refusal, forward_events, sent_bytes, refusal_ending}
 use Rattle.sched_capture.specs.declared.departures.ForwardEnding.{ForwardEnding}
 
 -- ---- the header, and then the records
@@ -43,9 +40,10 @@ module _ (policy : Policy) (rate link : ℕ) (left : Option Left) (known : Captu
   cut_header a b part = on_err_given r _ (each_left left (λ l. (captured : Captured) → known captured → AppendedPrefix a b (forward_of policy rate link captured l).text)
       (λ l captured h. prefix_of_longer a b (header_bytes link) (sent_bytes captured (outcomes policy (forward_events policy rate l) (start policy))) part))
 
-  pub no_records : (a b : Option (List ℕ)) → Appended a b (header_bytes link) → IsPartOfAnswer a b
-  no_records a b header = on_err_given r _ (each_left left (λ l. (captured : Captured) → known captured → AppendedPrefix a b (forward_of policy rate link captured l).text)
-      (λ l captured h. prefix_in_turn a b b (header_bytes link) (sent_bytes captured (outcomes policy (forward_events policy rate l) (start policy))) header (prefix_of_nothing b b _ (appended_nothing b))))
+  -- no record is written yet
+  pub none_sent : (a : Option (List ℕ)) → OnErr r (IfSome left (λ l. (captured : Captured) → known captured → AppendedPrefix a a (sent_bytes captured (outcomes policy (forward_events policy rate l) (start policy)))))
+  none_sent a = on_err_given r _ (each_left left (λ l. (captured : Captured) → known captured → AppendedPrefix a a (sent_bytes captured (outcomes policy (forward_events policy rate l) (start policy))))
+      (λ l captured h. prefix_of_nothing a a (sent_bytes captured (outcomes policy (forward_events policy rate l) (start policy))) (appended_nothing a)))
 
   pub cut_records : (a b c : Option (List ℕ)) → Appended a b (header_bytes link)
       → OnErr r (IfSome left (λ l. (captured : Captured) → known captured → AppendedPrefix b c (sent_bytes captured (outcomes policy (forward_events policy rate l) (start policy))))) → IsPartOfAnswer a c
@@ -57,12 +55,6 @@ module _ (policy : Policy) (rate link : ℕ) (left : Option Left) (known : Captu
       → OnOk r (IfSome left (λ l. (captured : Captured) → known captured → Appended a c (forward_of policy rate link captured l).text))
   all_records a b c header records = on_ok_weaker r (λ all. IfSome_then left all
       (λ l each captured h. appended_in_turn a b c (header_bytes link) (sent_bytes captured (outcomes policy (forward_events policy rate l) (start policy))) header (each captured h))) records
-
-  -- nothing was made yet in the fabric
-  pub none_made : {F : Type 0} (fabrics : Ghosts F) (laid : Laid) (old new : F) → HoldsAfter fabrics (record { policy = policy; laid = laid; events = [] }) old new
-      → OnErr r (IfSome left (λ l. LeavesPart fabrics (Some (forward_through policy laid rate l)) old new))
-  none_made fabrics laid old new left_so = on_err_given r _ (each_left left (λ l. LeavesPart fabrics (Some (forward_through policy laid rate l)) old new)
-      (λ l. inr (record { made = []; unmade = forward_events policy rate l; whole = refl; holds = left_so })))
 
 -- a cause behind a call that wrote
 pub cause_behind : {S K : Type 0} (source_faults : S → ℕ) (s s' : S) (sink_faults : K → ℕ) (k k' k'' : K) (r : Result ForwardEnding Stop) → sink_faults k ≤ sink_faults k'

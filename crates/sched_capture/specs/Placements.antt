@@ -1,7 +1,17 @@
 -- Where a policy's tree is laid.
+use Rattle.policy_defs.specs.Policy.{Policy}
+use Rattle.sched_defs.specs.SourceState.{start}
+use Rattle.sched_defs.specs.Packets.{Left}
+use Rattle.sched_run.specs.declared.pace.Pace.{Pace}
+use Rattle.sched_run.specs.Courses.{course_of}
+use Rattle.sched_embedded.specs.Fabrics.{FabricRun}
 use Rattle.sched_embedded.specs.Laid.{Laid}
 use Rattle.sched_capture.specs.declared.fabric.Placement.{Placement}
 
 -- what a placement says of the images and of the hardware's shape
 abbrev pub laid_by : Placement → Laid
 laid_by placement = record { images = placement.map; arities = placement.target.arities }
+
+-- the run over what is left of a capture, through a fabric into which the policy's tree is laid
+abbrev pub paced_through : Policy → Laid → Pace → Left → FabricRun
+paced_through policy laid pace l = record { policy = policy; laid = laid; events = (course_of policy pace l (start policy) 1).events }

@@ -1,5 +1,5 @@
 //! A run over a capture through the policy's own tree of queues.
-ghost use Rattle.std.specs.Prelude.{◌≡◌, ◌≤◌, codes, IfOk, IfErr, IfSome, IsTrue, OnOk, OnErr, IsErrOf};
+ghost use Rattle.std.specs.Prelude.{◌≡◌, ◌≤◌, [], codes, IfOk, IfErr, IfSome, IsTrue, OnOk, OnErr, IsErrOf};
 ghost use Rattle.outside_core.specs.Faults.{Rose};
 ghost use Rattle.outside_core.specs.Kept.{KeepsSink, HasCause, HasSinkCause};
 ghost use Rattle.outside_core.specs.Written.{Appended, AppendedPrefix};
@@ -7,21 +7,26 @@ ghost use Rattle.report_defs.specs.Report.{fault_line};
 ghost use Rattle.pcapng_defs.specs.NgContents.{in_file};
 ghost use Rattle.sched_packets.specs.Arrivals.{Begins};
 ghost use Rattle.capture_core.specs.Captures.{Opens};
-ghost use Rattle.sched_packets.specs.AnyArrivals.{resolved_of, given_by, contents_of, left_of, IsReady};
+ghost use Rattle.sched_packets.specs.AnyArrivals.{resolved_of, policy_of, given_by, contents_of, left_of, IsReady};
+ghost use Rattle.sched_defs.specs.SourceState.{start};
+ghost use Rattle.sched_core.specs.Own.{policy_in};
+ghost use Rattle.sched_core.specs.Direct.{DirectStands};
+ghost use Rattle.sched_run.specs.Frames.{IsSet};
 ghost use Rattle.sched_run.specs.Steps.{pace_of, IsBounded, IsNoPastLast, CanEndSo};
-ghost use Rattle.sched_capture.specs.Answers.{IsRefusal, IsRefusalPart, paced_answer};
+ghost use Rattle.sched_capture.specs.Answers.{IsRefusal, IsRefusalPart, answer_of, paced_answer};
 
 use crate::course::run_over;
 use crate::task::Task;
 use outside_core::{Shelf, Sink, Stop};
 use policy_core::Policy;
 use report_core::{FaultKind, Report, write_fault};
-use sched_core::Direct;
+use sched_core::{Direct, Scheduler};
 use sched_defs::{Ending, Halt};
 use sched_packets::AnyArrivals;
-use sched_run::Run;
-use std::alloc::Global;
+use sched_run::{Pace, Recorder, Run};
+use std::alloc::{AllocError, Global};
 use tap_core::{Named, Tap, Watching};
+use tree_core::SourceTree;
 
 /// Writes the line of a file that is no capture, as the whole report. The answer is how the run ends.
 pub(crate) fn refuse<K: Sink>(
@@ -78,6 +83,63 @@ pub fn begin<'a, S: Shelf, K: Sink>(
     }
 }
 
+/// A run without an event so far, through the policy's own tree of queues, and that tree. The error is want of memory.
+fn direct_run<'a>(
+    alloc: Global,
+    policy: &'a Policy,
+) -> Result<(Run<'a, Direct<'a>, Policy, Report>, SourceTree), AllocError>
+    ensures set { IfOk result (λ r. IsSet ⟦<Direct<'a> as Scheduler>⟧ ⟦<Report as Recorder>⟧ (λ p. p.policy) r.0) }
+    ensures unwritten { IfOk result (λ r. r.0.recorder.unwritten ≡ []) }
+    ensures policy { IfOk result (λ r. policy_in r.0.scheduler.own ≡ policy.now.policy) }
+    ensures stands { IfOk result (λ r. DirectStands r.0.scheduler r.1 (start policy.now.policy)) }
+    ensures pushes { IfOk result (λ r. r.0.scheduler.own.pushes ≡ 0) }
+    ensures departures { IfOk result (λ r. r.0.scheduler.own.departures ≡ 0) }
+{
+    let report = Report::new(alloc)?;
+    let (scheduler, tree) = Direct::new(alloc, policy)?;
+    let run = Run::new(
+        alloc,
+        policy,
+        policy.depth(),
+        policy.version(),
+        scheduler,
+        report,
+    )?;
+    Ok((run, tree))
+}
+
+/// Runs the packets that come through the policy's own tree of queues, and writes the report.
+fn direct_packets<S: Shelf, K: Sink>(
+    alloc: Global,
+    policy: &Policy,
+    pace: Pace<'_>,
+    packets: &mut AnyArrivals<'_, S>,
+    shelf: &mut S,
+    sink: &mut K,
+) -> Result<Ending, Stop>
+    requires packets { policy_of packets.old ≡ policy.now.policy }
+    requires none_given { given_by packets.old ≡ 0 }
+    requires ready { IsReady packets.old (S.begun shelf.old) }
+    requires bounded { IsBounded pace }
+
+    ensures ending { IfOk result (λ e. IfSome (left_of packets.old (S.left shelf.old)) (λ l.
+        e ≡ (answer_of policy.now.policy (pace_of pace.entry) l.packets l.fault).ending)) }
+    ensures ends { IfOk result (CanEndSo pace.entry) }
+    ensures text { OnOk result (IfSome (left_of packets.old (S.left shelf.old)) (λ l.
+        Appended (K.written sink.old) (K.written sink.new) (answer_of policy.now.policy (pace_of pace.entry) l.packets l.fault).text)) }
+    ensures part { OnErr result (IfSome (left_of packets.old (S.left shelf.old)) (λ l.
+        AppendedPrefix (K.written sink.old) (K.written sink.new) (answer_of policy.now.policy (pace_of pace.entry) l.packets l.fault).text)) }
+    ensures kept { KeepsSink K.written K.faults sink.old sink.new }
+    ensures later { S.faults shelf.old ≤ S.faults shelf.new }
+    ensures cause { IfErr result (λ stop. HasCause stop S.faults shelf.old shelf.new K.faults sink.old sink.new) }
+{
+    let (mut run, mut tree) = direct_run(alloc, policy)?;
+    let mut watch: Watching<Box<dyn Tap>> = Watching::new(alloc, Named::none(), Vec::new(alloc));
+    run_over(
+        policy, &mut run, &mut tree, pace, packets, shelf, sink, &mut watch,
+    )
+}
+
 /// Runs a script or a link over a capture, through the policy's own tree of queues, and writes the whole report.
 /// The answer is how the run ended: at a capture with a fault and at a script that asks for too much, too. It is an error
 /// where the capture can't be read, the report can't be written, or there is no memory; the report is then cut short.
@@ -103,30 +165,8 @@ pub fn direct<S: Shelf, K: Sink>(
     ensures kept { KeepsSink K.written K.faults sink.old sink.new }
     ensures later { S.faults shelf.old ≤ S.faults shelf.new }
 {
-    let mut packets = match begin(alloc, policy, task.capture, shelf, sink) {
-        Ok(packets) => packets,
-        Err(answer) => return answer,
-    };
-    let Ok((scheduler, mut tree)) = Direct::new(alloc, policy) else {
-        return Err(Stop::Memory);
-    };
-    let mut run = Run::new(
-        alloc,
-        policy,
-        policy.depth(),
-        policy.version(),
-        scheduler,
-        Report::new(alloc)?,
-    )?;
-    let mut watch: Watching<Box<dyn Tap>> = Watching::new(alloc, Named::none(), Vec::new(alloc));
-    run_over(
-        policy,
-        &mut run,
-        &mut tree,
-        task.pace,
-        &mut packets,
-        shelf,
-        sink,
-        &mut watch,
-    )
+    match begin(alloc, policy, task.capture, shelf, sink) {
+        Ok(mut packets) => direct_packets(alloc, policy, task.pace, &mut packets, shelf, sink),
+        Err(answer) => answer,
+    }
 }

@@ -29,14 +29,13 @@ ghost use Rattle.sched_capture.specs.Forwards.{forward_ending, refusal_ending, s
 ghost use Rattle.sched_capture.specs.Placements.{laid_by};
 
 use crate::capture::{begin, refuse};
-use crate::fabric::Placement;
+use crate::fabric::{Placement, run_through};
 use fabric_core::Fabric;
 use outside_core::{Shelf, Sink, SinkError, Stop};
 use pcapout_core::put_head;
 use policy_core::Policy;
 use sched_core::Scheduler;
 use sched_defs::{Ending, Halt};
-use sched_embedded::Embedded;
 use sched_forward::Forwarding;
 use sched_packets::{AnyArrivals, OTHER_LINK, OneLink};
 use sched_run::{Recorder, Run};
@@ -215,14 +214,14 @@ fn write_header<K: Sink>(sink: &mut K, link: u16) -> Result<(), Stop>
     }
 }
 
-/// Runs a link over packets of one link type, through a fabric into which the policy's tree is laid, and writes the header and a
-/// record for each departure.
-fn forward_packets<S: Shelf, K: Sink, F: Fabric>(
+/// Runs a link over packets of one link type, through a fabric into which the policy's tree is laid, and writes a record for each
+/// departure.
+fn forward_records<S: Shelf, K: Sink, F: Fabric>(
     alloc: Global,
     policy: &Policy,
     placement: Placement,
     rate: u64,
-    packets: OneLink<'_, S>,
+    packets: &mut OneLink<'_, S>,
     shelf: &mut S,
     sink: &mut K,
     fabric: &mut F,
@@ -233,51 +232,74 @@ fn forward_packets<S: Shelf, K: Sink, F: Fabric>(
     requires embedding { IsEmbedding (topology_of policy.now.policy.tree) (complete placement.target.arities) (image_map placement.map) }
     requires pushes { F.pushed fabric.old < 2 ^ 61 }
     requires pops { F.popped fabric.old < 2 ^ 61 }
-    requires packets { policy_of packets ≡ policy.now.policy }
-    requires none_given { given_by packets ≡ 0 }
-    requires ready { IsReady packets (S.begun shelf.old) }
+    requires packets { policy_of packets.old ≡ policy.now.policy }
+    requires none_given { given_by packets.old ≡ 0 }
+    requires ready { IsReady packets.old (S.begun shelf.old) }
 
-    ensures ending { IfOk result (λ e. IfSome (left_of packets.entry (S.left shelf.old)) (λ l. (link : ℕ) (captured : Captured) →
+    ensures ending { IfOk result (λ e. IfSome (left_of packets.old (S.left shelf.old)) (λ l. (link : ℕ) (captured : Captured) →
         e ≡ (forward_of policy.now.policy rate link captured l).ending)) }
-    ensures text { OnOk result (IfSome (left_of packets.entry (S.left shelf.old)) (λ l. (captured : Captured) →
-        captures_of packets.entry (S.left shelf.old) captured → Appended (K.written sink.old) (K.written sink.new)
-        (forward_of policy.now.policy rate (link_of packets.entry) captured l).text)) }
-    ensures part { OnErr result (IfSome (left_of packets.entry (S.left shelf.old)) (λ l. (captured : Captured) →
-        captures_of packets.entry (S.left shelf.old) captured → AppendedPrefix (K.written sink.old) (K.written sink.new)
-        (forward_of policy.now.policy rate (link_of packets.entry) captured l).text)) }
-    ensures fabric { OnOk result (IfSome (left_of packets.entry (S.left shelf.old)) (λ l.
+    ensures text { OnOk result (IfSome (left_of packets.old (S.left shelf.old)) (λ l. (captured : Captured) →
+        captures_of packets.old (S.left shelf.old) captured → Appended (K.written sink.old) (K.written sink.new)
+        (sent_bytes captured (outcomes policy.now.policy (forward_events policy.now.policy rate l) (start policy.now.policy))))) }
+    ensures part { OnErr result (IfSome (left_of packets.old (S.left shelf.old)) (λ l. (captured : Captured) →
+        captures_of packets.old (S.left shelf.old) captured → AppendedPrefix (K.written sink.old) (K.written sink.new)
+        (sent_bytes captured (outcomes policy.now.policy (forward_events policy.now.policy rate l) (start policy.now.policy))))) }
+    ensures fabric { OnOk result (IfSome (left_of packets.old (S.left shelf.old)) (λ l.
         Leaves F.Fabric (Some (forward_through policy.now.policy (laid_by placement) rate l)) fabric.old fabric.new)) }
-    ensures fabric_part { OnErr result (IfSome (left_of packets.entry (S.left shelf.old)) (λ l.
+    ensures fabric_part { OnErr result (IfSome (left_of packets.old (S.left shelf.old)) (λ l.
+        LeavesPart F.Fabric (Some (forward_through policy.now.policy (laid_by placement) rate l)) fabric.old fabric.new)) }
+    ensures kept { KeepsSink K.written K.faults sink.old sink.new }
+    ensures later { S.faults shelf.old ≤ S.faults shelf.new }
+    ensures cause { IfErr result (λ stop. HasCause stop S.faults shelf.old shelf.new K.faults sink.old sink.new) }
+{
+    let recorder = Forwarding::new(alloc)?;
+    let mut run = run_through(alloc, policy, placement, recorder, fabric)?;
+    let mut watch: Watching<OrderTap> = Watching::new(alloc, Named::none(), Vec::new(alloc));
+    forward_over(
+        policy, &mut run, fabric, rate, packets, shelf, sink, &mut watch,
+    )
+}
+
+/// Runs a link over packets of one link type, through a fabric into which the policy's tree is laid, and writes the header and a
+/// record for each departure.
+fn forward_packets<S: Shelf, K: Sink, F: Fabric>(
+    alloc: Global,
+    policy: &Policy,
+    placement: Placement,
+    rate: u64,
+    packets: &mut OneLink<'_, S>,
+    shelf: &mut S,
+    sink: &mut K,
+    fabric: &mut F,
+) -> Result<ForwardEnding, Stop>
+    requires rate { IsRate rate }
+    requires range { IsInRange placement.target.arities placement.target.above }
+    requires map_shape { SameShape (topology_of policy.now.policy.tree) placement.map }
+    requires embedding { IsEmbedding (topology_of policy.now.policy.tree) (complete placement.target.arities) (image_map placement.map) }
+    requires pushes { F.pushed fabric.old < 2 ^ 61 }
+    requires pops { F.popped fabric.old < 2 ^ 61 }
+    requires packets { policy_of packets.old ≡ policy.now.policy }
+    requires none_given { given_by packets.old ≡ 0 }
+    requires ready { IsReady packets.old (S.begun shelf.old) }
+
+    ensures ending { IfOk result (λ e. IfSome (left_of packets.old (S.left shelf.old)) (λ l. (link : ℕ) (captured : Captured) →
+        e ≡ (forward_of policy.now.policy rate link captured l).ending)) }
+    ensures text { OnOk result (IfSome (left_of packets.old (S.left shelf.old)) (λ l. (captured : Captured) →
+        captures_of packets.old (S.left shelf.old) captured → Appended (K.written sink.old) (K.written sink.new)
+        (forward_of policy.now.policy rate (link_of packets.old) captured l).text)) }
+    ensures part { OnErr result (IfSome (left_of packets.old (S.left shelf.old)) (λ l. (captured : Captured) →
+        captures_of packets.old (S.left shelf.old) captured → AppendedPrefix (K.written sink.old) (K.written sink.new)
+        (forward_of policy.now.policy rate (link_of packets.old) captured l).text)) }
+    ensures fabric { OnOk result (IfSome (left_of packets.old (S.left shelf.old)) (λ l.
+        Leaves F.Fabric (Some (forward_through policy.now.policy (laid_by placement) rate l)) fabric.old fabric.new)) }
+    ensures fabric_part { OnErr result (IfSome (left_of packets.old (S.left shelf.old)) (λ l.
         LeavesPart F.Fabric (Some (forward_through policy.now.policy (laid_by placement) rate l)) fabric.old fabric.new)) }
     ensures kept { KeepsSink K.written K.faults sink.old sink.new }
     ensures later { S.faults shelf.old ≤ S.faults shelf.new }
     ensures cause { IfErr result (λ stop. HasCause stop S.faults shelf.old shelf.new K.faults sink.old sink.new) }
 {
     write_header(sink, packets.link())?;
-    let mut packets = packets;
-    let Placement { target, map } = placement;
-    let Ok(scheduler) = Embedded::new(alloc, policy, map, &target, fabric) else {
-        return Err(Stop::Memory);
-    };
-    let mut run = Run::new(
-        alloc,
-        policy,
-        policy.depth(),
-        policy.version(),
-        scheduler,
-        Forwarding::new(alloc)?,
-    )?;
-    let mut watch: Watching<OrderTap> = Watching::new(alloc, Named::none(), Vec::new(alloc));
-    forward_over(
-        policy,
-        &mut run,
-        fabric,
-        rate,
-        &mut packets,
-        shelf,
-        sink,
-        &mut watch,
-    )
+    forward_records(alloc, policy, placement, rate, packets, shelf, sink, fabric)
 }
 
 /// Runs a link over a capture, through a fabric into which the policy's tree is laid by a map, and writes the departures as a
@@ -321,8 +343,15 @@ pub fn forward<S: Shelf, K: Sink, F: Fabric>(
     ensures later { S.faults shelf.old ≤ S.faults shelf.new }
 {
     match begin_one_link(alloc, policy, capture, shelf, sink) {
-        Ok(packets) => forward_packets(
-            alloc, policy, placement, rate, packets, shelf, sink, fabric,
+        Ok(mut packets) => forward_packets(
+            alloc,
+            policy,
+            placement,
+            rate,
+            &mut packets,
+            shelf,
+            sink,
+            fabric,
         ),
         Err(Ok(ending)) => Ok(refusal_of(ending)),
         Err(Err(stop)) => Err(stop),

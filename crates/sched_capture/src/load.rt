@@ -6,17 +6,21 @@ ghost use Rattle.tree_defs.specs.Topology.{topology_of, complete};
 ghost use Rattle.target_defs.specs.Target.{IsInRange};
 ghost use Rattle.embed_defs.specs.Images.{image_map};
 ghost use Rattle.embed_defs.specs.Embedding.{IsEmbedding};
+ghost use Rattle.sched_defs.specs.SourceState.{start};
+ghost use Rattle.sched_run.specs.Frames.{IsSet};
+ghost use Rattle.sched_run.specs.Load.{load_run};
+ghost use Rattle.sched_run.specs.Played.{HasMade, HasMadeSome};
 ghost use Rattle.sched_run.specs.Drawings.{HasLoadClasses, most_load};
 ghost use Rattle.sched_embedded.specs.Fabrics.{Leaves, LeavesPart};
 ghost use Rattle.sched_capture.specs.Placements.{laid_by};
 ghost use Rattle.sched_capture.specs.Loads.{load_counts, load_through};
 
-use crate::fabric::Placement;
+use crate::fabric::{Placement, run_through};
 use fabric_core::Fabric;
 use outside_core::{Sink, Stop};
 use policy_core::Policy;
-use sched_embedded::Embedded;
-use sched_run::{DepartureSum, Run};
+use sched_core::Scheduler;
+use sched_run::{DepartureSum, Recorder, Run};
 use std::alloc::Global;
 use tap_core::{Named, Tap, Watching};
 
@@ -35,6 +39,45 @@ pub struct LoadCounts {
 pub struct LoadSize {
     pub seed: u64,
     pub count: u64,
+}
+
+/// Makes the events of a generated load by any scheduler of this policy that stands for the start, and then departures until no
+/// packet is held.
+fn count_load<C: Scheduler + Drop, K: Sink>(
+    policy: &Policy,
+    run: &mut Run<'_, C, Policy, DepartureSum>,
+    under: &mut C::Under,
+    load: LoadSize,
+    sink: &mut K,
+    watch: &mut Watching<Box<dyn Tap>>,
+) -> Result<LoadCounts, Stop>
+    requires set { IsSet C.Scheduler ⟦<DepartureSum as Recorder>⟧ (λ p. p.policy) run.old }
+    requires zero { run.old.recorder ≡ 0 }
+    requires policy { C.policy run.old.scheduler ≡ policy.now.policy }
+    requires classes { HasLoadClasses policy.now.policy }
+    requires short { load.count ≤ most_load }
+    requires stands { C.stands run.old.scheduler under.old (start policy.now.policy) }
+    requires no_pushes { C.pushes run.old.scheduler ≡ 0 }
+    requires no_departures { C.departures run.old.scheduler ≡ 0 }
+
+    ensures counts { IfOk result (λ n. n ≡ load_counts policy.now.policy load) }
+    ensures state { OnOk result (HasMade C.Scheduler policy.now.policy
+        (load_run policy.now.policy load.seed load.count (start policy.now.policy)) (start policy.now.policy)
+        run.old.scheduler under.old run.new.scheduler under.new) }
+    ensures amid { OnErr result (HasMadeSome C.Scheduler policy.now.policy
+        (load_run policy.now.policy load.seed load.count (start policy.now.policy)) (start policy.now.policy)
+        run.old.scheduler under.old run.new.scheduler under.new) }
+    ensures unwritten { K.written sink.new ≡ K.written sink.old }
+    ensures kept { KeepsSink K.written K.faults sink.old sink.new }
+    ensures cause { IfErr result (λ stop. HasSinkCause stop K.faults sink.old sink.new) }
+{
+    let totals = run.play_load(under, sink, watch, load.seed, load.count)?;
+    Ok(LoadCounts {
+        pushed: totals.pushed,
+        popped: totals.popped,
+        empty: totals.empty,
+        sum: run.recorder().sum(),
+    })
 }
 
 /// Makes the events of a generated load through a fabric into which the policy's tree is laid by a map, and then departures
@@ -64,24 +107,8 @@ pub fn soak<K: Sink, F: Fabric>(
     ensures kept { KeepsSink K.written K.faults sink.old sink.new }
     ensures cause { IfErr result (λ stop. HasSinkCause stop K.faults sink.old sink.new) }
 {
-    let Placement { target, map } = placement;
-    let Ok(scheduler) = Embedded::new(alloc, policy, map, &target, fabric) else {
-        return Err(Stop::Memory);
-    };
-    let mut run = Run::new(
-        alloc,
-        policy,
-        policy.depth(),
-        policy.version(),
-        scheduler,
-        DepartureSum::new(),
-    )?;
+    let sum = DepartureSum::new();
+    let mut run = run_through(alloc, policy, placement, sum, fabric)?;
     let mut watch: Watching<Box<dyn Tap>> = Watching::new(alloc, Named::none(), Vec::new(alloc));
-    let totals = run.play_load(fabric, sink, &mut watch, load.seed, load.count)?;
-    Ok(LoadCounts {
-        pushed: totals.pushed,
-        popped: totals.popped,
-        empty: totals.empty,
-        sum: run.recorder().sum(),
-    })
+    count_load(policy, &mut run, fabric, load, sink, &mut watch)
 }

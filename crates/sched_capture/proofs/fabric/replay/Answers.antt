@@ -1,15 +1,11 @@
-use Rattle.std.proofs.Common.{[], refl, sym, ap, ◌∙◌, arith}
-use Rattle.std.proofs.lemmas.Result.{IfOk-weaker, err_from_is_err_and}
-use Rattle.report_core.proofs.WholeTexts.{nothing_written}
+use Rattle.std.proofs.Common.{arith}
+use Rattle.std.proofs.lemmas.Result.{IfOk-weaker}
 use Rattle.sched_packets.specs.AnyArrivals.{left_of}
 use Rattle.sched_run.specs.Steps.{pace_of, IsNoPastLast, CanEndSo}
-use Rattle.sched_capture.specs.Answers.{paced_answer}
 use Rattle.sched_capture.proofs.FileRuns.{can_end, ending_of, text_of_file, part_of_file, watched_of_file, unwatched, sink_rose, source_rose}
 use Rattle.sched_capture.proofs.Refusals.{part_of_report}
-use Rattle.sched_embedded.specs.Embedded.{origin_of}
 use Rattle.sched_embedded.specs.Laid.{Laid}
-use Rattle.sched_run.proofs.JoinedEvents.{raised_nothing}
-use Rattle.sched_capture.proofs.FabricRuns.{holds_after, left_by, left_amid, none_amid}
+use Rattle.sched_capture.proofs.FabricRuns.{left_by, left_amid}
 use Rattle.sched_capture.proofs.fabric.replay.Goals as goal
 
 pub returns-in-Err-clause-ends : goal.returns-in-Err-clause-ends
@@ -19,76 +15,6 @@ pub returns-in-Err-clause-part : goal.returns-in-Err-clause-part
 returns-in-Err-clause-part g c =
     part_of_report c.args.policy.now (pace_of c.args.task.now.pace) c.in-Err.answer (g.S.Shelf.content c.args.shelf.now c.args.task.now.capture.now) (g.K.Sink.written c.args.sink.now) (g.K.Sink.written c.begin.new.sink) c.in-Err.ensures.part
 
-pub returns-clause-fabric : goal.returns-clause-fabric
-returns-clause-fabric g c =
-    let policy = c.args.policy.now in
-    let laid : Laid = record { images = c.args.placement.map; arities = c.args.placement.target.arities } in
-    let n = c.in-Ok-new.ensures in
-    let runs = c.in_ok-run.ensures.scheduler in
-    left_by g.F.Fabric policy laid c.args.task.now.pace c.run_over.result (g.S.Shelf.content c.args.shelf.now c.args.task.now.capture.now) (left_of c.in-Ok.packets (g.S.Shelf.left c.begin.new.shelf)) _ c.args.fabric.now c.run_over.new.under
-    (λ l made. holds_after g.F.Fabric policy.policy laid c.in_ok-run.run'.scheduler c.args.fabric.now c.new.new.fabric (ap (λ s. origin_of s) runs ∙ n.origin) (ap (λ s. s.own.pushes) runs ∙ n.pushes) (ap (λ s. s.own.departures) runs ∙ n.departures) n.spilled _ c.run_over.new.run.scheduler c.run_over.new.under made.state made.pushed made.asked made.origin made.spilled)
-    c.in-Ok.ensures.begins c.run_over.ensures.state
-
-pub returns-clause-fabric_part : goal.returns-clause-fabric_part
-returns-clause-fabric_part g c =
-    let policy = c.args.policy.now in
-    let laid : Laid = record { images = c.args.placement.map; arities = c.args.placement.target.arities } in
-    let n = c.in-Ok-new.ensures in
-    let runs = c.in_ok-run.ensures.scheduler in
-    left_amid g.F.Fabric policy laid c.args.task.now.pace c.run_over.result (g.S.Shelf.content c.args.shelf.now c.args.task.now.capture.now) (left_of c.in-Ok.packets (g.S.Shelf.left c.begin.new.shelf)) _ c.args.fabric.now c.run_over.new.under
-    (λ l some. record {
-      made = some.made;
-      unmade = some.unmade;
-      whole = some.whole;
-      holds = holds_after g.F.Fabric policy.policy laid c.in_ok-run.run'.scheduler c.args.fabric.now c.new.new.fabric (ap (λ s. origin_of s) runs ∙ n.origin) (ap (λ s. s.own.pushes) runs ∙ n.pushes) (ap (λ s. s.own.departures) runs ∙ n.departures) n.spilled some.made c.run_over.new.run.scheduler c.run_over.new.under
-          some.leaves.state some.leaves.pushed some.leaves.asked some.leaves.origin some.leaves.spilled;
-    })
-    c.in-Ok.ensures.begins c.run_over.ensures.amid
-
-pub returns-in_err-new-clause-fabric_part : goal.returns-in_err-new-clause-fabric_part
-returns-in_err-new-clause-fabric_part g c =
-    let policy = c.args.policy.now in
-    let laid : Laid = record { images = c.args.placement.map; arities = c.args.placement.target.arities } in
-    let n = c.in-Ok-new.ensures in
-    none_amid g.F.Fabric policy laid c.args.task.now.pace _ (g.S.Shelf.content c.args.shelf.now c.args.task.now.capture.now) (left_of c.in-Ok.packets (g.S.Shelf.left c.begin.new.shelf)) c.args.fabric.now c.new.new.fabric
-    (λ l. record {
-      made = [];
-      unmade = _;
-      whole = refl;
-      holds = holds_after g.F.Fabric policy.policy laid c.in-Ok-new.scheduler c.args.fabric.now c.new.new.fabric n.origin n.pushes n.departures n.spilled [] c.in-Ok-new.scheduler c.new.new.fabric
-          n.stands (omega arith) (omega arith) refl (sym (raised_nothing _));
-    })
-    c.in-Ok.ensures.begins
-
-pub returns-in_err-run-clause-fabric_part : goal.returns-in_err-run-clause-fabric_part
-returns-in_err-run-clause-fabric_part g c =
-    let policy = c.args.policy.now in
-    let laid : Laid = record { images = c.args.placement.map; arities = c.args.placement.target.arities } in
-    let n = c.in-Ok-new.ensures in
-    none_amid g.F.Fabric policy laid c.args.task.now.pace _ (g.S.Shelf.content c.args.shelf.now c.args.task.now.capture.now) (left_of c.in-Ok.packets (g.S.Shelf.left c.begin.new.shelf)) c.args.fabric.now c.new.new.fabric
-    (λ l. record {
-      made = [];
-      unmade = _;
-      whole = refl;
-      holds = holds_after g.F.Fabric policy.policy laid c.in-Ok-new.scheduler c.args.fabric.now c.new.new.fabric n.origin n.pushes n.departures n.spilled [] c.in-Ok-new.scheduler c.new.new.fabric
-          n.stands (omega arith) (omega arith) refl (sym (raised_nothing _));
-    })
-    c.in-Ok.ensures.begins
-
-pub returns-in_err-new-clause-part : goal.returns-in_err-new-clause-part
-returns-in_err-new-clause-part g c =
-    let p = err_from_is_err_and c.from_residual.result c.from_residual.ensures.1 in
-    rw (p.1, c.in-Ok.ensures.unwritten) (nothing_written (g.S.Shelf.content c.args.shelf.now c.args.task.now.capture.now) (g.K.Sink.written c.args.sink.now) (λ file. (paced_answer c.args.policy.now (pace_of c.args.task.now.pace) file).text))
-
-pub returns-in_err-run-clause-part : goal.returns-in_err-run-clause-part
-returns-in_err-run-clause-part g c =
-    let p = err_from_is_err_and c.from_residual-in_err-run.result c.from_residual-in_err-run.ensures.1 in
-    rw (p.1, c.in-Ok.ensures.unwritten) (nothing_written (g.S.Shelf.content c.args.shelf.now c.args.task.now.capture.now) (g.K.Sink.written c.args.sink.now) (λ file. (paced_answer c.args.policy.now (pace_of c.args.task.now.pace) file).text))
-
-pub returns-in_default-clause-part : goal.returns-in_default-clause-part
-returns-in_default-clause-part g c =
-    rw (c.in-Ok.ensures.unwritten) (nothing_written (g.S.Shelf.content c.args.shelf.now c.args.task.now.capture.now) (g.K.Sink.written c.args.sink.now) (λ file. (paced_answer c.args.policy.now (pace_of c.args.task.now.pace) file).text))
-
 pub returns-in-Err-clause-sink_cause : goal.returns-in-Err-clause-sink_cause
 returns-in-Err-clause-sink_cause g c =
     sink_rose g.S.Shelf.faults c.args.shelf.now c.args.shelf.now c.begin.new.shelf g.K.Sink.faults c.args.sink.now c.args.sink.now c.begin.new.sink c.in-Err.answer (omega arith) c.in-Err.ensures.cause
@@ -97,32 +23,44 @@ pub returns-in-Err-clause-source_cause : goal.returns-in-Err-clause-source_cause
 returns-in-Err-clause-source_cause g c =
     source_rose g.S.Shelf.faults c.args.shelf.now c.args.shelf.now c.begin.new.shelf g.K.Sink.faults c.args.sink.now c.args.sink.now c.begin.new.sink c.in-Err.answer (omega arith) c.in-Err.ensures.cause
 
-pub returns-clause-ending : goal.returns-clause-ending
-returns-clause-ending g c =
-    ending_of c.args.policy.now (pace_of c.args.task.now.pace) c.run_over.result (g.S.Shelf.content c.args.shelf.now c.args.task.now.capture.now) (left_of c.in-Ok.packets (g.S.Shelf.left c.begin.new.shelf)) c.in-Ok.ensures.begins c.run_over.ensures.ending
+pub returns-in-Ok-clause-ending : goal.returns-in-Ok-clause-ending
+returns-in-Ok-clause-ending g c =
+    ending_of c.args.policy.now (pace_of c.args.task.now.pace) c.replay_packets.result (g.S.Shelf.content c.args.shelf.now c.args.task.now.capture.now) (left_of c.in-Ok.packets (g.S.Shelf.left c.begin.new.shelf)) c.in-Ok.ensures.begins c.replay_packets.ensures.ending
 
-pub returns-clause-text : goal.returns-clause-text
-returns-clause-text g c =
-    text_of_file c.args.policy.now (pace_of c.args.task.now.pace) c.run_over.result (g.S.Shelf.content c.args.shelf.now c.args.task.now.capture.now) (left_of c.in-Ok.packets (g.S.Shelf.left c.begin.new.shelf)) (g.K.Sink.written c.args.sink.now) (g.K.Sink.written c.run_over.new.sink)
-    c.in-Ok.ensures.begins (rw (c.in-Ok.ensures.unwritten) at c.run_over.ensures.text)
+pub returns-in-Ok-clause-text : goal.returns-in-Ok-clause-text
+returns-in-Ok-clause-text g c =
+    text_of_file c.args.policy.now (pace_of c.args.task.now.pace) c.replay_packets.result (g.S.Shelf.content c.args.shelf.now c.args.task.now.capture.now) (left_of c.in-Ok.packets (g.S.Shelf.left c.begin.new.shelf)) (g.K.Sink.written c.args.sink.now) (g.K.Sink.written c.replay_packets.new.sink)
+    c.in-Ok.ensures.begins (rw (c.in-Ok.ensures.unwritten) at c.replay_packets.ensures.text)
 
-pub returns-clause-part : goal.returns-clause-part
-returns-clause-part g c =
-    part_of_file c.args.policy.now (pace_of c.args.task.now.pace) c.run_over.result (g.S.Shelf.content c.args.shelf.now c.args.task.now.capture.now) (left_of c.in-Ok.packets (g.S.Shelf.left c.begin.new.shelf)) (g.K.Sink.written c.args.sink.now) (g.K.Sink.written c.run_over.new.sink)
-    c.in-Ok.ensures.begins (rw (c.in-Ok.ensures.unwritten) at c.run_over.ensures.part)
+pub returns-in-Ok-clause-part : goal.returns-in-Ok-clause-part
+returns-in-Ok-clause-part g c =
+    part_of_file c.args.policy.now (pace_of c.args.task.now.pace) c.replay_packets.result (g.S.Shelf.content c.args.shelf.now c.args.task.now.capture.now) (left_of c.in-Ok.packets (g.S.Shelf.left c.begin.new.shelf)) (g.K.Sink.written c.args.sink.now) (g.K.Sink.written c.replay_packets.new.sink)
+    c.in-Ok.ensures.begins (rw (c.in-Ok.ensures.unwritten) at c.replay_packets.ensures.part)
 
-pub returns-clause-sink_cause : goal.returns-clause-sink_cause
-returns-clause-sink_cause g c =
-    sink_rose g.S.Shelf.faults c.args.shelf.now c.begin.new.shelf c.run_over.new.shelf g.K.Sink.faults c.args.sink.now c.begin.new.sink c.run_over.new.sink c.run_over.result c.in-Ok.ensures.kept.later c.run_over.ensures.cause
+pub returns-in-Ok-clause-sink_cause : goal.returns-in-Ok-clause-sink_cause
+returns-in-Ok-clause-sink_cause g c =
+    sink_rose g.S.Shelf.faults c.args.shelf.now c.begin.new.shelf c.replay_packets.new.shelf g.K.Sink.faults c.args.sink.now c.begin.new.sink c.replay_packets.new.sink c.replay_packets.result c.in-Ok.ensures.kept.later c.replay_packets.ensures.cause
 
-pub returns-clause-source_cause : goal.returns-clause-source_cause
-returns-clause-source_cause g c =
-    source_rose g.S.Shelf.faults c.args.shelf.now c.begin.new.shelf c.run_over.new.shelf g.K.Sink.faults c.args.sink.now c.begin.new.sink c.run_over.new.sink c.run_over.result c.in-Ok.ensures.later c.run_over.ensures.cause
+pub returns-in-Ok-clause-source_cause : goal.returns-in-Ok-clause-source_cause
+returns-in-Ok-clause-source_cause g c =
+    source_rose g.S.Shelf.faults c.args.shelf.now c.begin.new.shelf c.replay_packets.new.shelf g.K.Sink.faults c.args.sink.now c.begin.new.sink c.replay_packets.new.sink c.replay_packets.result c.in-Ok.ensures.later c.replay_packets.ensures.cause
 
 pub returns-in-Err-clause-watched : goal.returns-in-Err-clause-watched
 returns-in-Err-clause-watched g c =
     unwatched c.args.policy.now (pace_of c.args.task.now.pace) c.in-Err.answer (g.S.Shelf.content c.args.shelf.now c.args.task.now.capture.now) _ _ _ c.in-Err.ensures.refused
 
-pub returns-clause-watched : goal.returns-clause-watched
-returns-clause-watched g c =
-    watched_of_file c.args.policy.now (pace_of c.args.task.now.pace) c.run_over.result (g.S.Shelf.content c.args.shelf.now c.args.task.now.capture.now) (left_of c.in-Ok.packets (g.S.Shelf.left c.begin.new.shelf)) _ _ c.in-Ok.ensures.begins c.run_over.ensures.watched
+pub returns-in-Ok-clause-watched : goal.returns-in-Ok-clause-watched
+returns-in-Ok-clause-watched g c =
+    watched_of_file c.args.policy.now (pace_of c.args.task.now.pace) c.replay_packets.result (g.S.Shelf.content c.args.shelf.now c.args.task.now.capture.now) (left_of c.in-Ok.packets (g.S.Shelf.left c.begin.new.shelf)) _ _ c.in-Ok.ensures.begins c.replay_packets.ensures.watched
+
+pub returns-in-Ok-clause-fabric : goal.returns-in-Ok-clause-fabric
+returns-in-Ok-clause-fabric g c =
+    let laid : Laid = record { images = c.args.placement.map; arities = c.args.placement.target.arities } in
+    left_by g.F.Fabric c.args.policy.now laid c.args.task.now.pace c.replay_packets.result (g.S.Shelf.content c.args.shelf.now c.args.task.now.capture.now) (left_of c.in-Ok.packets (g.S.Shelf.left c.begin.new.shelf)) c.args.fabric.now c.replay_packets.new.fabric
+    c.in-Ok.ensures.begins c.replay_packets.ensures.fabric
+
+pub returns-in-Ok-clause-fabric_part : goal.returns-in-Ok-clause-fabric_part
+returns-in-Ok-clause-fabric_part g c =
+    let laid : Laid = record { images = c.args.placement.map; arities = c.args.placement.target.arities } in
+    left_amid g.F.Fabric c.args.policy.now laid c.args.task.now.pace c.replay_packets.result (g.S.Shelf.content c.args.shelf.now c.args.task.now.capture.now) (left_of c.in-Ok.packets (g.S.Shelf.left c.begin.new.shelf)) c.args.fabric.now c.replay_packets.new.fabric
+    c.in-Ok.ensures.begins c.replay_packets.ensures.fabric_part

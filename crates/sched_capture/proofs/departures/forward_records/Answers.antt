@@ -1,0 +1,54 @@
+use Rattle.std.proofs.Common.{Some, inr}
+use Rattle.std.proofs.lemmas.Option.{IfSome_then}
+use Rattle.std.proofs.lemmas.Result.{on_ok_weaker, on_err_weaker}
+use Rattle.outside_core.proofs.KeptLaws.{sink-same}
+use Rattle.sched_packets.specs.OneLink.{left_of, link_of, captures_of}
+use Rattle.sched_embedded.specs.Fabrics.{LeavesPart}
+use Rattle.sched_embedded.specs.Laid.{Laid}
+use Rattle.sched_capture.specs.Forwards.{forward_through}
+use Rattle.sched_capture.proofs.FabricRuns.{holds_after, left_before}
+use Rattle.sched_capture.proofs.ForwardFiles.{none_sent}
+use Rattle.sched_capture.proofs.departures.forward_records.Goals as goal
+
+pub returns-in_err-recorder-clause-part : goal.returns-in_err-recorder-clause-part
+returns-in_err-recorder-clause-part g c =
+    none_sent c.args.policy.now.policy c.args.rate (link_of c.args.packets.now) (left_of c.args.packets.now (g.S.Shelf.left c.args.shelf.now)) (captures_of c.args.packets.now (g.S.Shelf.left c.args.shelf.now)) _ (g.K.Sink.written c.args.sink.now)
+
+pub returns-in_err-run-clause-part : goal.returns-in_err-run-clause-part
+returns-in_err-run-clause-part g c =
+    none_sent c.args.policy.now.policy c.args.rate (link_of c.args.packets.now) (left_of c.args.packets.now (g.S.Shelf.left c.args.shelf.now)) (captures_of c.args.packets.now (g.S.Shelf.left c.args.shelf.now)) _ (g.K.Sink.written c.args.sink.now)
+
+pub returns-clause-fabric : goal.returns-clause-fabric
+returns-clause-fabric g c =
+    let laid : Laid = record { images = c.args.placement.map; arities = c.args.placement.target.arities } in
+    let n = c.in_ok-run.ensures in
+    on_ok_weaker c.forward_over.result (λ all. IfSome_then (left_of c.args.packets.now (g.S.Shelf.left c.args.shelf.now)) all
+    (λ l made. holds_after g.F.Fabric c.args.policy.now.policy laid c.in_ok-run.run'.scheduler c.args.fabric.now c.run_through.new.fabric n.origin n.pushes n.departures n.spilled
+    _ c.forward_over.new.run.scheduler c.forward_over.new.under made.state made.pushed made.asked made.origin made.spilled))
+    c.forward_over.ensures.state
+
+pub returns-clause-fabric_part : goal.returns-clause-fabric_part
+returns-clause-fabric_part g c =
+    let laid : Laid = record { images = c.args.placement.map; arities = c.args.placement.target.arities } in
+    let n = c.in_ok-run.ensures in
+    on_err_weaker c.forward_over.result (λ all. IfSome_then (left_of c.args.packets.now (g.S.Shelf.left c.args.shelf.now)) all
+    (λ l some. inr (record {
+      made = some.made;
+      unmade = some.unmade;
+      whole = some.whole;
+      holds = holds_after g.F.Fabric c.args.policy.now.policy laid c.in_ok-run.run'.scheduler c.args.fabric.now c.run_through.new.fabric n.origin n.pushes n.departures n.spilled
+          some.made c.forward_over.new.run.scheduler c.forward_over.new.under some.leaves.state some.leaves.pushed some.leaves.asked some.leaves.origin some.leaves.spilled;
+    })))
+    c.forward_over.ensures.amid
+
+pub returns-in_err-run-clause-fabric_part : goal.returns-in_err-run-clause-fabric_part
+returns-in_err-run-clause-fabric_part g c =
+    let laid : Laid = record { images = c.args.placement.map; arities = c.args.placement.target.arities } in
+    left_before _ (left_of c.args.packets.now (g.S.Shelf.left c.args.shelf.now)) (λ l. LeavesPart g.F.Fabric (Some (forward_through c.args.policy.now.policy laid c.args.rate l)) c.args.fabric.now c.run_through.new.fabric)
+    (λ l. c.in_err-run.ensures.part _)
+
+pub returns-in_err-recorder-clause-kept : goal.returns-in_err-recorder-clause-kept
+returns-in_err-recorder-clause-kept g c = sink-same g.K.Sink.written g.K.Sink.faults c.args.sink.now
+
+pub returns-in_err-run-clause-kept : goal.returns-in_err-run-clause-kept
+returns-in_err-run-clause-kept g c = sink-same g.K.Sink.written g.K.Sink.faults c.args.sink.now
