@@ -70,15 +70,18 @@ impl Fabric for FlatFabric {
         Ok(())
     }
 
+    #[inline(always)]
     fn reserve(&mut self, digits: &[u32]) -> Result<(), AllocError> {
         reserve_along(&mut self.queues, &self.arities, digits)
     }
 
+    #[inline(always)]
     fn push(&mut self, digits: &[u32], ranks: &[u64], item: u64) {
         push_along(&mut self.queues, &self.arities, digits, ranks, item);
         self.pushed += 1;
     }
 
+    #[inline(always)]
     fn pop(&mut self, digits: &mut [u32], ranks: &mut [u64]) -> Option<u64> {
         self.popped += 1;
         if self.queues[0].is_empty() {

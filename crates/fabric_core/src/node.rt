@@ -33,6 +33,7 @@ pub trait NodeQueue {
         ensures flows { tells ≡ true → IfOk result (λ q. flows q ≡ count) };
 
     /// Makes room for one push. The error is want of memory.
+    #[inline(always)]
     fn make_room(&mut self) -> Result<(), AllocError>
         ensures room { OnOk result (1 ≤ spare self.new) }
         ensures kept { spare self.old ≤ spare self.new }
@@ -41,6 +42,7 @@ pub trait NodeQueue {
         ensures flows { flows self.new ≡ flows self.old };
 
     /// Puts a pair last in the order of arrival, and says whether it spilled, where that is told. Takes no memory.
+    #[inline(always)]
     fn push_pair(&mut self, rank: u64, value: u64) -> bool
         requires room { 1 ≤ spare self.old }
         requires few { pushes self.old < 2 ^ 62 }
@@ -52,12 +54,14 @@ pub trait NodeQueue {
         ensures flows { flows self.new ≡ flows self.old };
 
     /// Takes the pair that leaves: its rank and its value, or `None` exactly where there is no pair.
+    #[inline(always)]
     fn pop_pair(&mut self) -> Option<(u64, u64)>
         ensures taken { Pops (entries self.old) result (entries self.new) }
         ensures pushes { pushes self.new ≡ pushes self.old }
         ensures flows { flows self.new ≡ flows self.old };
 
     /// Whether there is no pair.
+    #[inline(always)]
     fn is_empty(&self) -> bool
         ensures { (result ≡ true) ↔ (entries self.now ≡ []) };
 }
@@ -79,19 +83,23 @@ impl NodeQueue for HeapPifo {
         Ok(HeapPifo::new(alloc))
     }
 
+    #[inline(always)]
     fn make_room(&mut self) -> Result<(), AllocError> {
         self.reserve(1)
     }
 
+    #[inline(always)]
     fn push_pair(&mut self, rank: u64, value: u64) -> bool {
         self.push(rank, value);
         false
     }
 
+    #[inline(always)]
     fn pop_pair(&mut self) -> Option<(u64, u64)> {
         self.pop()
     }
 
+    #[inline(always)]
     fn is_empty(&self) -> bool {
         self.len() == 0
     }

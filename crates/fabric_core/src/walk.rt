@@ -12,6 +12,7 @@ use crate::spot::Spot;
 use std::alloc::AllocError;
 
 /// Makes room for one more entry at each node on the way to a leaf.
+#[inline(always)]
 pub fn reserve_along<Q: NodeQueue>(
     queues: &mut [Q],
     arities: &[u32],
@@ -35,6 +36,7 @@ pub fn reserve_along<Q: NodeQueue>(
 
 /// Pushes a rank and the next digit at each inner node on the way to a leaf, and the last rank and the item at the leaf. Says
 /// at how many nodes that spilled, where the queues tell it.
+#[inline(always)]
 pub fn push_along<Q: NodeQueue>(
     queues: &mut [Q],
     arities: &[u32],
@@ -69,6 +71,7 @@ pub fn push_along<Q: NodeQueue>(
 }
 
 /// Pops the root's queue, which has an entry, then the queue that each taken digit names, down to an item.
+#[inline(always)]
 pub fn pop_along<Q: NodeQueue>(
     queues: &mut [Q],
     arities: &[u32],
@@ -98,6 +101,7 @@ pub fn pop_along<Q: NodeQueue>(
 }
 
 /// Takes the pair that leaves a queue that has one.
+#[inline(always)]
 fn pop_one<Q: NodeQueue>(queue: &mut Q) -> (u64, u64)
     requires { Q.entries queue.old ≢ [] }
     ensures taken { Pops (Q.entries queue.old) (Some result) (Q.entries queue.new) }

@@ -54,6 +54,7 @@ impl Report {
     }
 
     /// Notes whether the bytes were taken.
+    #[inline(always)]
     fn noted(&mut self, sent: Result<(), WriteFault>) -> Result<(), WriteFault>
         ensures same { result ≡ sent }
         ensures live { self.new.live ≡ is_ok sent }
@@ -64,6 +65,7 @@ impl Report {
     }
 
     /// A packet came to a leaf, with the ranks pushed from the root down.
+    #[inline(always)]
     pub fn arrived<K: Sink>(
         &mut self,
         sink: &mut K,
@@ -89,6 +91,7 @@ impl Report {
     }
 
     /// A packet left a leaf, with the ranks taken from the root down. The start is in nanoseconds.
+    #[inline(always)]
     pub fn departed<K: Sink>(
         &mut self,
         sink: &mut K,

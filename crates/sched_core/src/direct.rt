@@ -51,6 +51,7 @@ impl<'a> Scheduler for Direct<'a> {
 
     ghost spilled = { λ _ _. None };
 
+    #[inline(always)]
     fn arrive(
         &mut self,
         under: &mut SourceTree,
@@ -66,6 +67,7 @@ impl<'a> Scheduler for Direct<'a> {
         Ok(Arrival::Pushed(leaf))
     }
 
+    #[inline(always)]
     fn depart(&mut self, under: &mut SourceTree, trace: &mut Taken) -> Option<Departed> {
         match under.pop(trace) {
             None => {
@@ -76,10 +78,12 @@ impl<'a> Scheduler for Direct<'a> {
         }
     }
 
+    #[inline(always)]
     fn held(&self) -> u64 {
         self.own.held()
     }
 
+    #[inline(always)]
     fn now(&self) -> u64 {
         self.own.now()
     }

@@ -56,6 +56,7 @@ impl<'a> Own<'a> {
     }
 
     /// The number of the leaf of a packet's class.
+    #[inline(always)]
     fn leaf(&self, packet: &Packet) -> u32
         requires known { IsKnown (policy_in self.now) packet.now }
         ensures number { result ≡ leaf_number (policy_in self.now) packet.now }
@@ -64,6 +65,7 @@ impl<'a> Own<'a> {
     }
 
     /// The address of the leaf of a packet's class.
+    #[inline(always)]
     pub fn address(&self, packet: &Packet) -> &[u32]
         requires known { IsKnown (policy_in self.now) packet.now }
         ensures address { result.now ≡ (class_of (policy_in self.now) packet.now).leaf }
@@ -73,6 +75,7 @@ impl<'a> Own<'a> {
     }
 
     /// Whether the leaf of a packet's class has a limit and holds that many packets.
+    #[inline(always)]
     pub fn is_full(&self, packet: &Packet) -> bool
         requires accepted { IsAccepted (policy_in self.now) }
         requires stands { IsOfOne self.now (λ _. IsKnown (policy_in self.now) packet.now) }
@@ -100,6 +103,7 @@ impl<'a> Own<'a> {
 
     /// Takes in a packet: the push steps run on its way, and `trace` gets the digits and the ranks. The answer is the number of
     /// its leaf. The error is want of memory.
+    #[inline(always)]
     pub fn admit(&mut self, packet: &Packet, trace: &mut Taken) -> Result<u32, AllocError>
         requires accepted { IsAccepted (policy_in self.old) }
         requires stands { IsOfOne self.old (λ s. CanArrive (policy_in self.old) s packet.now) }
@@ -129,6 +133,7 @@ impl<'a> Own<'a> {
     }
 
     /// Lets go of the packet that was popped with these digits and ranks: the pop steps run on its way. Takes no memory.
+    #[inline(always)]
     pub fn release(&mut self, number: u64, digits: &[u32], ranks: &[u64]) -> Departed
         requires accepted { IsAccepted (policy_in self.old) }
         requires stands { IsOfOne self.old (λ s. PopsNext s number digits.now ranks.now) }
@@ -157,6 +162,7 @@ impl<'a> Own<'a> {
     }
 
     /// Counts a departure of nothing.
+    #[inline(always)]
     pub fn find_none(&mut self)
         requires few { self.old.departures < 2 ^ 61 }
         ensures state { (s : SourceState) → IsOwn self.old s → IsOwn self.new s }
@@ -168,6 +174,7 @@ impl<'a> Own<'a> {
     }
 
     /// How many packets are held.
+    #[inline(always)]
     pub fn held(&self) -> u64
         ensures { IsOfEach self.now (λ s. result ≡ size s.tree) }
     {
@@ -175,6 +182,7 @@ impl<'a> Own<'a> {
     }
 
     /// The greatest moment of the packets so far, in nanoseconds.
+    #[inline(always)]
     pub fn now(&self) -> u64
         ensures { (s : SourceState) → IsOwn self.now s → result ≡ s.now }
     {

@@ -117,6 +117,7 @@ impl<'a, F: Fabric> Scheduler for Embedded<'a, F> {
 
     ghost spilled = { λ _ fabric. F.spilled fabric };
 
+    #[inline(always)]
     fn arrive(
         &mut self,
         under: &mut F,
@@ -134,6 +135,7 @@ impl<'a, F: Fabric> Scheduler for Embedded<'a, F> {
         Ok(Arrival::Pushed(leaf))
     }
 
+    #[inline(always)]
     fn depart(&mut self, under: &mut F, trace: &mut Taken) -> Option<Departed> {
         let Some(number) = self.embedding.pop(under, trace) else {
             self.own.find_none();
@@ -142,10 +144,12 @@ impl<'a, F: Fabric> Scheduler for Embedded<'a, F> {
         Some(self.own.release(number, trace.digits(), trace.ranks()))
     }
 
+    #[inline(always)]
     fn held(&self) -> u64 {
         self.own.held()
     }
 
+    #[inline(always)]
     fn now(&self) -> u64 {
         self.own.now()
     }

@@ -66,6 +66,7 @@ impl Embedding {
     }
 
     /// The image of the leaf to which a lane leads.
+    #[inline(always)]
     pub fn image<'a>(&self, lane: &'a Lane) -> &'a [u32]
         requires lane { IsLane self.now lane.now }
         ensures image { result.now ≡ lane.now.image.items }
@@ -77,6 +78,7 @@ impl Embedding {
     }
 
     /// Pushes a packet's number along the image of a way to a leaf, with the lifted ranks. Takes no memory.
+    #[inline(always)]
     pub fn push<F: Fabric>(&mut self, fabric: &mut F, lane: &Lane, way: &Taken, number: u64)
         requires lane { IsLaneTo self.old.images way.now.digits lane.now }
         requires arities { F.shape fabric.old ≡ self.old.arities }
@@ -100,6 +102,7 @@ impl Embedding {
 
     /// Pops the fabric, and sets `trace` to the digits and ranks with which the packet leaves the tree that is laid into it.
     /// Takes no memory.
+    #[inline(always)]
     pub fn pop<F: Fabric>(&mut self, fabric: &mut F, trace: &mut Taken) -> Option<u64>
         requires arities { F.shape fabric.old ≡ self.old.arities }
         requires lift { IsLiftOfOne self.old (F.queues fabric.old) }

@@ -38,6 +38,7 @@ impl Chunk {
     }
 
     /// Whether a place is behind those of all slots.
+    #[inline(always)]
     fn is_behind(&self, place: u8) -> bool
         ensures { IsTrue result → place_behind 0 self.now.slots.items ≤ place }
     {
@@ -59,6 +60,7 @@ impl Chunk {
     }
 
     /// One slot more, if its place is behind those of all others, and whether it is.
+    #[inline(always)]
     pub(crate) fn push(&mut self, slot: Slot) -> Result<bool, AllocError>
         requires filled { slot.filled ≡ true }
         ensures ok { IfOk result (λ stands. (n : ℕ) → packet_of self.new n
@@ -75,6 +77,7 @@ impl Chunk {
     }
 
     /// Where the slot of a number is, if a packet stands there. It is never behind the place of the number.
+    #[inline(always)]
     fn find(&self, number: u64) -> Option<usize>
         ensures within { IfSome result (λ i. i < vec_len self.now.slots) }
         ensures found { IfSome result (λ i. HoldsAt (λ slot. stands_at (number % 64) slot ≡ true) self.now.slots.items i) }
@@ -112,6 +115,7 @@ impl Chunk {
     }
 
     /// Empties the slot of a number, if it is filled, and answers whether it was. Its packet is put in place of another.
+    #[inline(always)]
     pub(crate) fn take(&mut self, number: u64, packet: &mut Packet) -> bool
         ensures value { packet_of self.old number ≡ (if result then Some packet.new else None) }
         ensures rest { (n : ℕ) → packet_of self.new n ≡ (if n % 64 == number % 64 then None else packet_of self.old n) }

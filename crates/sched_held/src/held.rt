@@ -40,6 +40,7 @@ impl Held {
     }
 
     /// A packet more, in the place of one with its number if there is one. The error is want of memory.
+    #[inline(always)]
     pub fn put(&mut self, packet: &Packet) -> Result<(), AllocError>
         ensures ok { OnOk result ((n : ℕ) → held_at self.new n ≡ with_packet (held_at self.old) packet.now n) }
         ensures err { OnErr result ((n : ℕ) → held_at self.new n ≡ held_at self.old n) }
@@ -56,6 +57,7 @@ impl Held {
 
     /// Lets go of the packet with a number, if one is held, and answers whether one was. It is put in place of another. Takes no
     /// memory.
+    #[inline(always)]
     pub fn take(&mut self, number: u64, packet: &mut Packet) -> bool
         ensures value { held_at self.old number ≡ (if result then Some packet.new else None) }
         ensures rest { (n : ℕ) → held_at self.new n ≡ without (held_at self.old) number n }
@@ -73,6 +75,7 @@ impl Held {
     }
 
     /// How many packets are held.
+    #[inline(always)]
     pub fn len(&self) -> u64
         ensures len { result ≡ length (numbers_in self.now) }
         ensures numbers { AreNumbersOf (held_at self.now) (numbers_in self.now) }
@@ -81,6 +84,7 @@ impl Held {
     }
 
     /// A packet more that stands in no slot. If one with its number does, lets go of that.
+    #[inline(never)]
     fn put_stray(&mut self, packet: &Packet) -> Result<(), AllocError>
         requires before { end_of self.old.window ≤ packet.now.number → 2 ^ 63 ≤ packet.now.number }
         ensures ok { OnOk result ((n : ℕ) → held_at self.new n ≡ with_packet (held_at self.old) packet.now n) }
@@ -96,6 +100,7 @@ impl Held {
     }
 
     /// Makes a number the last one of the window, in which few numbers have no packet then.
+    #[inline(always)]
     fn reach(&mut self, number: u64) -> Result<(), AllocError>
         requires behind { end_of self.old.window ≤ number }
         requires low { number < 2 ^ 63 }

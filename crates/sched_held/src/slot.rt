@@ -28,6 +28,7 @@ const _: () = prove!(size_of::<Slot>() == 32);
 
 impl Slot {
     /// A slot with a packet whose addresses have at most 32 bits.
+    #[inline(always)]
     pub(crate) fn of(packet: &Packet) -> Option<Slot>
         ensures packet { IfSome result (λ slot. packet_in packet.now.number slot ≡ packet.now) }
         ensures place { IfSome result (λ slot. slot.place ≡ packet.now.number % 64) }
@@ -72,6 +73,7 @@ impl Slot {
     }
 
     /// Whether a packet stands here whose number has a place.
+    #[inline(always)]
     pub(crate) fn is_at(&self, place: u8) -> bool
         ensures { result ≡ stands_at place self.now }
     {

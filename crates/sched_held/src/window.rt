@@ -48,6 +48,7 @@ impl Window {
     }
 
     /// The number behind the last one so far.
+    #[inline(always)]
     pub(crate) fn end(&self) -> u64
         ensures { result ≡ end_of self.now }
     {
@@ -55,6 +56,7 @@ impl Window {
     }
 
     /// How many packets stand here.
+    #[inline(always)]
     pub(crate) fn filled(&self) -> u64
         ensures numbers { result ≡ length (numbers_of self.now) }
         ensures small { result ≤ 2 ^ 63 }
@@ -63,6 +65,7 @@ impl Window {
     }
 
     /// Which chunk is that of a number.
+    #[inline(always)]
     fn place(&self, number: u64) -> Option<usize>
         ensures within { IfSome result (λ i. i < deque_len self.now.chunks) }
         ensures chunk { IfSome result (λ i. number / 64 ≡ self.now.first + i) }
@@ -85,6 +88,7 @@ impl Window {
     }
 
     /// The first packet.
+    #[inline(never)]
     fn front(&self) -> Option<Packet>
         ensures { IfSome result (λ p. packet_at self.now p.number ≡ Some p) }
     {
@@ -105,6 +109,7 @@ impl Window {
     }
 
     /// A packet more, if its addresses are short, and whether it stands here now.
+    #[inline(always)]
     pub(crate) fn push(&mut self, packet: &Packet) -> Result<bool, AllocError>
         requires below { packet.now.number < end_of self.old }
         requires free { packet_at self.old packet.now.number ≡ None }
@@ -141,6 +146,7 @@ impl Window {
     }
 
     /// One chunk more.
+    #[inline(never)]
     fn add_chunk(&mut self) -> Result<(), AllocError>
         requires low { self.old.first + deque_len self.old.chunks < 2 ^ 57 }
         ensures packets { (n : ℕ) → packet_at self.new n ≡ packet_at self.old n }
@@ -166,6 +172,7 @@ impl Window {
     }
 
     /// Chunks up to that of a number, which is the last one then.
+    #[inline(always)]
     pub(crate) fn stretch(&mut self, number: u64) -> Result<(), AllocError>
         requires behind { end_of self.old ≤ number }
         requires low { number < 2 ^ 63 }
@@ -184,6 +191,7 @@ impl Window {
 
     /// Lets go of the packet of a number, if one stands here, and of the empty chunks before all others, and answers whether one
     /// stood here. It is put in place of another.
+    #[inline(always)]
     pub(crate) fn clear(&mut self, number: u64, packet: &mut Packet) -> bool
         ensures value { packet_at self.old number ≡ (if result then Some packet.new else None) }
         ensures packets { (n : ℕ) → packet_at self.new n ≡ without (packet_at self.old) number n }
@@ -201,6 +209,7 @@ impl Window {
         true
     }
 
+    #[inline(always)]
     fn trim(&mut self)
         ensures packets { (n : ℕ) → packet_at self.new n ≡ packet_at self.old n }
         ensures end { end_of self.new ≡ end_of self.old }

@@ -122,6 +122,7 @@ impl<'a, S: Shelf> Packets for AnyArrivals<'a, S> {
         }
     }
 
+    #[inline(always)]
     fn captured(&self) -> &[u8] {
         match self {
             AnyArrivals::Classic(arrivals) => arrivals.captured(),

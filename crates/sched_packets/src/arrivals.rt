@@ -91,6 +91,7 @@ impl<'a, R: CaptureReader + Drop, S: Shelf> Arrivals<'a, R, S> {
 
     /// Puts the next packet, if one is left, in place of another, and answers its link type. It may be asked for again where
     /// none is, and not after an error.
+    #[inline(always)]
     pub fn next_packet(&mut self, source: &mut S, packet: &mut Packet) -> Result<Option<u16>, Halt>
         requires ready { IsReady R.ready R.given self.old (S.begun source.old) }
 
@@ -155,6 +156,7 @@ impl<'a, R: CaptureReader + Drop, S: Shelf> Arrivals<'a, R, S> {
     }
 
     /// The captured bytes of the packet that came last, if it wasn't passed over.
+    #[inline(always)]
     pub fn captured(&self) -> &[u8]
         ensures { result.now ≡ captured_by self.now }
     {

@@ -26,6 +26,7 @@ impl<'a, C: Scheduler + Drop, N: NodeNames, W: Recorder> Run<'a, C, N, W> {
     ghost use Rattle.sched_run.specs.Turns.{Arrives, ArrivalsStop, Turns, StopsAmid, GoesOn};
 
     /// Makes the arrival of a packet with these captured bytes, with its line, counts it, and shows it to the taps that watch.
+    #[inline(always)]
     pub(crate) fn admit<K: Sink, T: Tap>(
         &mut self,
         under: &mut C::Under,
@@ -67,6 +68,7 @@ impl<'a, C: Scheduler + Drop, N: NodeNames, W: Recorder> Run<'a, C, N, W> {
     }
 
     /// Makes the arrival of the next packet, with its line. Where none is left, the answer is how a run ends that asks for one.
+    #[inline(always)]
     pub(crate) fn arrive_next<P: Packets, K: Sink, T: Tap>(
         &mut self,
         under: &mut C::Under,

@@ -33,6 +33,7 @@ pub(crate) struct Departure {
 }
 
 /// Makes a departure, and records it. Takes no memory.
+#[inline(always)]
 pub(crate) fn depart_at<C: Scheduler, N: NodeNames, W: Recorder, K: Sink>(
     names: &N,
     scheduler: &mut C,
@@ -142,6 +143,7 @@ impl<'a, C: Scheduler + Drop, N: NodeNames, W: Recorder> Run<'a, C, N, W> {
     ghost use Rattle.tap_core.specs.Watching.{sight_of, AreNoMore};
 
     /// Makes an arrival, and records it. The answer is what became of the packet.
+    #[inline(always)]
     pub(crate) fn arrive_line<K: Sink>(
         &mut self,
         under: &mut C::Under,
@@ -189,6 +191,7 @@ impl<'a, C: Scheduler + Drop, N: NodeNames, W: Recorder> Run<'a, C, N, W> {
 
     /// Makes a departure, which starts at a moment where a link paces it, records it, counts it, and shows it to the taps
     /// that watch. The error can be want of memory for the line of a tap that is done.
+    #[inline(always)]
     pub(crate) fn depart_next<K: Sink, T: Tap>(
         &mut self,
         under: &mut C::Under,

@@ -16,6 +16,7 @@ impl Recorder for Report {
 
     ghost over = { λ _. false };
 
+    #[inline(always)]
     fn arrived<K: Sink>(
         &mut self,
         sink: &mut K,
@@ -39,6 +40,7 @@ impl Recorder for Report {
         self.dropped(sink, event, packet.number, leaf)
     }
 
+    #[inline(always)]
     fn departed<K: Sink>(
         &mut self,
         sink: &mut K,
@@ -51,6 +53,7 @@ impl Recorder for Report {
         self.departed(sink, event, departed.packet, leaf, ranks, start)
     }
 
+    #[inline(always)]
     fn empty<K: Sink>(&mut self, sink: &mut K, event: u64) -> Result<(), WriteFault> {
         self.empty(sink, event)
     }

@@ -9,6 +9,7 @@ use std::alloc::AllocError;
 use tap_core::{Dropped, Tap, Watching};
 
 /// Shows what became of a packet that came. Takes no memory.
+#[inline(always)]
 pub(crate) fn show_arrival<T: Tap>(watch: &mut Watching<T>, packet: &Packet, arrival: Arrival)
     ensures shown { Shows (shown_arrival packet.now arrival)
         (sight_of T.kind_of T.state_of watch.old) (sight_of T.kind_of T.state_of watch.new) }
@@ -25,6 +26,7 @@ pub(crate) fn show_arrival<T: Tap>(watch: &mut Watching<T>, packet: &Packet, arr
 }
 
 /// Shows a packet that left, if one did. The error is want of memory for the line of a tap that is done.
+#[inline(always)]
 pub(crate) fn show_departure<T: Tap>(
     watch: &mut Watching<T>,
     departed: Option<Departed>,

@@ -41,6 +41,7 @@ impl Tally {
     }
 
     /// The number of the next event, from 1.
+    #[inline(always)]
     pub(crate) fn event(self) -> u64
         requires few { self.came + self.asked < 2 ^ 63 }
         ensures { result ≡ event_of self }
@@ -49,6 +50,7 @@ impl Tally {
     }
 
     /// One more packet came, and this became of it.
+    #[inline(always)]
     pub(crate) fn count(&mut self, arrival: Arrival)
         requires few { self.old.came < 2 ^ 63 }
         requires some { self.old.dropped ≤ self.old.came }

@@ -51,6 +51,7 @@ impl<T: Tap> Watching<T> {
     }
 
     /// Shows a departure to each tap. The error is want of memory for the line of a tap that is done.
+    #[inline(always)]
     pub fn departed(&mut self, packet: &Departed) -> Result<(), AllocError>
         ensures shown { OnOk result (Shows (departed packet.now ∷ [])
             (sight_of T.kind_of T.state_of self.old) (sight_of T.kind_of T.state_of self.new)) }

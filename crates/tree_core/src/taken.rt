@@ -40,12 +40,14 @@ impl Taken {
         })
     }
 
+    #[inline(always)]
     pub fn digits(&self) -> &[u32]
         ensures digits { result.now ≡ self.now.digits }
     {
         self.digits.as_slice()
     }
 
+    #[inline(always)]
     pub fn ranks(&self) -> &[u64]
         ensures ranks { result.now ≡ self.now.ranks }
     {
@@ -59,6 +61,7 @@ impl Taken {
         self.room
     }
 
+    #[inline(always)]
     pub fn clear(&mut self)
         ensures digits { self.new.digits ≡ [] }
         ensures ranks { self.new.ranks ≡ [] }
@@ -69,6 +72,7 @@ impl Taken {
     }
 
     /// Puts a child's index and the rank that was taken at its parent last.
+    #[inline(always)]
     pub fn step(&mut self, digit: u32, rank: u64)
         requires room { length self.old.digits < self.old.room }
         requires even { length self.old.ranks ≡ length self.old.digits }
@@ -81,6 +85,7 @@ impl Taken {
     }
 
     /// Puts the rank that was taken at the leaf last.
+    #[inline(always)]
     pub fn last(&mut self, rank: u64)
         requires even { length self.old.ranks ≡ length self.old.digits }
         ensures digits { self.new.digits ≡ self.old.digits }

@@ -69,6 +69,7 @@ impl SourceTree {
     }
 
     /// Makes a free place at each node on the way to a leaf. The error is want of memory.
+    #[inline]
     pub fn reserve(&mut self, digits: &[u32]) -> Result<(), AllocError>
         requires leaf { LeadsToLeaf self.old.tree digits.now }
         ensures tree { self.new.tree ≡ self.old.tree }
@@ -96,6 +97,7 @@ impl SourceTree {
     }
 
     /// Pushes a packet's number to the leaf at an address, with a rank for each node on the way to it. Takes no memory.
+    #[inline]
     pub fn push_to(&mut self, address: &[u32], ranks: &[u64], value: u64)
         requires leaf { LeadsToLeaf self.old.tree address.now }
         requires ranks { length ranks.now ≡ length address.now + 1 }
@@ -118,6 +120,7 @@ impl SourceTree {
     }
 
     /// Takes a packet's number, and sets `taken` to the digits and the ranks taken on the way to it. Takes no memory.
+    #[inline]
     pub fn pop(&mut self, taken: &mut Taken) -> Option<u64>
         requires room { depth self.old.tree ≤ taken.old.room }
         ensures empty { IsNone result ↔ (size self.old.tree ≡ 0) }
@@ -160,6 +163,7 @@ impl SourceTree {
         }
     }
 
+    #[inline]
     fn pop_onto(&mut self, taken: &mut Taken) -> u64
         requires held { 0 < size self.old.tree }
         requires room { length taken.old.digits + depth self.old.tree ≤ taken.old.room }
