@@ -1,5 +1,5 @@
 -- One more name among those that a map finds.
-use Rattle.std.proofs.Common.{arith, ◌≡◌, ◌∙◌, ℕ, ◌+◌, ◌≤◌, Bool, true, false, ◌||◌, not, Bor, List, [], ◌∷◌, ◌++◌, length, length-append, position, Option, None, Some, refl, sym, ap, subst, is_some, cond, nat_lt, eqb}
+use Rattle.std.proofs.Common.{arith, ◌≡◌, ◌∙◌, ℕ, ◌+◌, ◌≤◌, Bool, true, false, ◌||◌, not, Bor, List, [], ◌∷◌, ◌++◌, length, length-append, map, position, Option, None, Some, refl, sym, ap, subst, is_some, cond, nat_lt, eqb}
 use Rattle.std.specs.List.{list_any, position_or_len}
 use Rattle.std.specs.BTreeMap.{BTreeMap, UpdatesBy}
 use Rattle.std.specs.Cmp.Lexicographic.{slice_cmp, nat_list_eq_equiv}
@@ -14,6 +14,16 @@ use Rattle.std.proofs.lemmas.Map.Text.{btree_map_updates_str}
 use Rattle.std.proofs.lemmas.Slice.Eq.{bytes_eq-Decides}
 use Rattle.policy_rules.specs.Names.{has}
 use Rattle.policy_names.specs.Places.{texts, ArePlaces}
+
+-- the first that passes stands at the same place among what a function makes of each
+position_or_len-map : {X Y : Type 0} (f : X → Y) (t : Y → Bool) (xs : List X) → position_or_len t (map f xs) ≡ position_or_len (λ x. t (f x)) xs
+position_or_len-map f t [] = refl
+position_or_len-map f t (x ∷ xs) = ap (λ n. cond (not (t (f x))) (1 + n) 0) (position_or_len-map f t xs)
+
+pub position-map : {X Y : Type 0} (f : X → Y) (t : Y → Bool) (xs : List X) → position (λ x. t (f x)) xs ≡ position t (map f xs)
+position-map f t xs =
+    ap (λ n. cond (nat_lt n (length xs)) (Some n) None) (sym (position_or_len-map f t xs))
+    ∙ ap (λ n. cond (nat_lt (position_or_len t (map f xs)) n) (Some (position_or_len t (map f xs))) None) (sym (length-map xs f))
 
 -- something passes exactly where the first that passes is before the end
 pub any-first : {X : Type 0} (p : X → Bool) (xs : List X) → nat_lt (position_or_len p xs) (length xs) ≡ list_any p xs
