@@ -50,7 +50,7 @@ class Judged(unittest.TestCase):
 
     def test_a_row_that_ends_early_has_empty_cells(self):
         row = growth.Row("row", "one", None, [], [2000])
-        self.assertEqual("| row | 3 |  |  |", growth.line(row, [3.0], [2000, 4000]))
+        self.assertEqual("| row | 3 |  |  |", growth.line(row, [3.0], [2000, 4000], None))
 
     def test_a_run_of_all_rows(self):
         with tempfile.TemporaryDirectory() as folder:
