@@ -4,23 +4,27 @@ ghost use Rattle.std.specs.Str.{bytes_eq};
 ghost use Rattle.policy_rules.specs.Names.{has};
 ghost use Rattle.policy_names.specs.Names.{with_name};
 
-use indexmap::IndexMap;
 use std::alloc::{AllocError, Global};
+use std::collections::BTreeMap;
 use std::marker::Model;
 
-/// Names, each once, in the order in which they came.
+/// Names, each once, in the order in which they came. Policies choose the names, so they are found by order: where they
+/// were hashed with a seed that is known, a policy could make each look-up pass all names.
 #[derive(Drop)]
 pub struct Names<'a> {
-    places: IndexMap<&'a str, ()>,
+    names: Vec<&'a str>,
+    places: BTreeMap<&'a str, usize>,
 }
 
 impl<'a> Model for Names<'a> {
-    ghost use Rattle.std.specs.Prelude.{List, ℕ, map};
-    ghost use Rattle.indexmap.specs.IndexMap.{keys};
+    ghost use Rattle.std.specs.Prelude.{List, ℕ};
+    ghost use Rattle.policy_names.specs.Places.{texts, ArePlaces};
 
     ghost Value = { List (List ℕ) };
 
-    ghost view = { λ n. map (λ k. k.now) (keys n.places) };
+    ghost view = { λ n. texts n.names.items };
+
+    ghost invariant = { λ n. ArePlaces n.places (texts n.names.items) };
 }
 
 impl<'a> Names<'a> {
@@ -28,7 +32,8 @@ impl<'a> Names<'a> {
         ensures { result ≡ [] }
     {
         Names {
-            places: IndexMap::new(alloc),
+            names: Vec::new(alloc),
+            places: BTreeMap::new(alloc),
         }
     }
 
@@ -36,14 +41,14 @@ impl<'a> Names<'a> {
     pub fn len(&self) -> usize
         ensures { result ≡ length self.now }
     {
-        self.places.len()
+        self.names.len()
     }
 
     /// The place of a name.
     pub fn place(&self, name: &str) -> Option<usize>
         ensures { result ≡ position (bytes_eq name.now) self.now }
     {
-        self.places.get_index_of(name)
+        self.places.get(name).copied()
     }
 
     /// Whether the name came.
@@ -62,7 +67,9 @@ impl<'a> Names<'a> {
         if self.contains(name) {
             return Ok(false);
         }
-        self.places.insert(name, ())?;
+        self.names.reserve(1)?;
+        self.places.insert(name, self.names.len())?;
+        self.names.push_reserved(name);
         Ok(true)
     }
 }

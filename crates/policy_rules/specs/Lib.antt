@@ -9,4 +9,5 @@ pub mod Resolved
 pub mod Graph
 pub mod Entries
 pub mod Rows
+pub mod TwoFaults
 pub mod Laws

@@ -1,14 +1,14 @@
 -- Statements whose clauses are worked out.
-use Rattle.std.specs.Prelude.{◌≡◌, refl, ℕ, true, false, Some, None, List, [], ◌∷◌, codes}
+use Rattle.std.specs.Prelude.{◌≡◌, refl, ℕ, true, false, Some, None, List, [], ◌∷◌, ◌++◌, map, replicate, codes}
 use Rattle.rank_defs.specs.declared.expression.Op.TheVariants.{Add}
 use Rattle.rank_defs.specs.declared.expression.Var.TheVariants as var
 use Rattle.rank_defs.specs.declared.transaction.Aim.TheVariants as aim
 use Rattle.rank_defs.specs.Formulas as formula
 use Rattle.policy_text_defs.specs.declared.attribute.Attrs.{Attrs}
 use Rattle.policy_text_defs.specs.Phrase.{number, word, two}
-use Rattle.policy_text_defs.specs.Sense.{Entry, entry, numbered, version, transaction, keep, each, push, class, leaf}
+use Rattle.policy_text_defs.specs.Sense.{Sense, Entry, entry, numbered, version, transaction, keep, each, push, pop, class, leaf, node}
 use Rattle.policy_rules.specs.Names.{before, listed, leaf_classes}
-use Rattle.policy_rules.specs.Clauses.{is_placed, is_declared, is_known, is_stray, has_root, has_catch_all, version_of, IsAhead}
+use Rattle.policy_rules.specs.Clauses.{is_placed, is_declared, is_known, is_beyond, is_stray, has_root, has_catch_all, version_of, IsAhead}
 use Rattle.policy_rules.specs.Programs.{programs}
 
 abbrev pub nothing_set : Attrs
@@ -49,6 +49,63 @@ is_declared-a_variable = refl
 
 pub is_known-another_variable : is_known counting (before 6 counting) (push (codes "n") (word (codes "m"))) ≡ false
 is_known-another_variable = refl
+
+abbrev a_transaction : Sense
+a_transaction = transaction (codes "t")
+
+abbrev a_keep : Sense
+a_keep = keep (codes "k") (record { low = 0; high = 9; first = 0 })
+
+abbrev an_each : Sense
+an_each = each (codes "e") (record { low = 0; high = 9; first = 0 })
+
+abbrev a_push : Sense
+a_push = push (codes "k") (number 1)
+
+abbrev a_pop : Sense
+a_pop = pop (codes "k") (number 1)
+
+abbrev a_class : Sense
+a_class = class (codes "c") nothing_set []
+
+abbrev a_leaf : Sense
+a_leaf = leaf (codes "l") (codes "fifo") nothing_set None []
+
+abbrev a_node : Sense
+a_node = node (codes "n") (codes "fifo") nothing_set []
+
+-- so many statements of a form
+abbrev so_many : ℕ → Sense → List Entry
+so_many n s = replicate n (entry 1 s)
+
+-- the 256th class has room, and no class behind it
+pub is_beyond-classes : map (λ n. is_beyond (so_many n a_class) a_class) (255 ∷ 256 ∷ []) ≡ false ∷ true ∷ []
+is_beyond-classes = refl
+
+-- nodes and leaves are counted together
+pub is_beyond-nodes_and_leaves : map (λ s. map (λ n. is_beyond (so_many 1000 a_leaf ++ so_many n a_node) s) (23 ∷ 24 ∷ [])) (a_leaf ∷ a_node ∷ []) ≡ replicate 2 (false ∷ true ∷ [])
+is_beyond-nodes_and_leaves = refl
+
+-- classes and nodes are not
+pub is_beyond-each_its_own : map (is_beyond (so_many 256 a_class ++ so_many 64 a_transaction)) (a_node ∷ a_leaf ∷ version 1 ∷ a_keep ∷ a_push ∷ []) ≡ replicate 5 false
+is_beyond-each_its_own = refl
+
+pub is_beyond-transactions : map (λ n. is_beyond (so_many n a_transaction) a_transaction) (63 ∷ 64 ∷ []) ≡ false ∷ true ∷ []
+is_beyond-transactions = refl
+
+-- both kinds of variables are counted together, and those of an earlier transaction aren't
+pub is_beyond-variables : map (λ s. map (λ n. is_beyond (so_many 1 a_transaction ++ so_many 8 a_keep ++ so_many n an_each) s) (7 ∷ 8 ∷ [])) (a_keep ∷ an_each ∷ []) ≡ replicate 2 (false ∷ true ∷ [])
+is_beyond-variables = refl
+
+pub is_beyond-variables_of_another : is_beyond (so_many 1 a_transaction ++ so_many 16 a_keep ++ so_many 1 a_transaction) a_keep ≡ false
+is_beyond-variables_of_another = refl
+
+-- so are push and pop lines
+pub is_beyond-assignments : map (λ s. map (λ n. is_beyond (so_many 1 a_transaction ++ so_many 40 a_push ++ so_many n a_pop) s) (23 ∷ 24 ∷ [])) (a_push ∷ a_pop ∷ []) ≡ replicate 2 (false ∷ true ∷ [])
+is_beyond-assignments = refl
+
+pub is_beyond-assignments_of_another : is_beyond (so_many 1 a_transaction ++ so_many 64 a_push ++ so_many 1 a_transaction) a_push ≡ false
+is_beyond-assignments_of_another = refl
 
 pub is_stray-listed_once : is_stray (listed leaf_classes counting) (class (codes "all") nothing_set []) ≡ false
 is_stray-listed_once = refl

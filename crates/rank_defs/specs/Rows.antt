@@ -1,7 +1,10 @@
 -- Worked rows, each computed from the definitions.
-use Rattle.std.specs.Prelude.{◌≡◌, ℕ, suc, ◌-◌, ◌^◌, refl, List, [], ◌∷◌, map, replicate, true, false, Some, None, codes, pos, negsuc}
+use Rattle.std.specs.Prelude.{◌≡◌, ℕ, zero, suc, ◌-◌, ◌^◌, refl, List, [], ◌∷◌, map, replicate, true, false, Some, None, codes, pos, negsuc}
 use Rattle.std.specs.Int.Signed.{le_z_yes, lt_z_yes, clash_ℤ}
+use Rattle.std.specs.List.{AllByRecursion}
+use Rattle.std.proofs.Common.{arith}
 use Rattle.rank_defs.specs.declared.environment.Env.{Env}
+use Rattle.rank_defs.specs.declared.environment.FlowKey.{FlowKey}
 use Rattle.rank_defs.specs.declared.environment.Who.{Who}
 use Rattle.rank_defs.specs.declared.environment.Who.TheVariants.{Child, Flow}
 use Rattle.rank_defs.specs.declared.expression.Op.{Op}
@@ -12,13 +15,13 @@ use Rattle.rank_defs.specs.declared.transaction.Aim.TheVariants.{Rank as AimRank
 use Rattle.rank_defs.specs.declared.environment.TheConstants.{MAX_PRIO, MAX_WEIGHT, MAX_SLACK}
 use Rattle.rank_defs.specs.declared.expression.TheConstants.{MAX_DEPTH}
 use Rattle.rank_defs.specs.declared.transaction.TheConstants.{MAX_RANK}
-use Rattle.rank_defs.specs.Shapes.{max_depth, max_len, max_prio, max_weight, max_slack}
+use Rattle.rank_defs.specs.Shapes.{IsSpan, AreDeclared, IsAim, IsShaped, IsShapedAssignment, AreWithin, IsEnvInRange, max_depth, max_len, max_prio, max_weight, max_slack}
 use Rattle.rank_defs.specs.Formulas.{Formula, number, variable, two, negation, choice, depth_of, computes, compares, joins, group}
-use Rattle.rank_defs.specs.Programs.{Program, span, max_rank, target, assignments}
+use Rattle.rank_defs.specs.Programs.{Assignment, Program, span, max_rank, target, assignments}
 use Rattle.rank_defs.specs.Values.{num, truth, nothing, quotient, apply, negated, chosen, value_of}
-use Rattle.rank_defs.specs.States.{State, Memory, first_state, same_who, variable_in}
+use Rattle.rank_defs.specs.States.{State, Memory, first_state, same_flow, same_who, variable_in}
 use Rattle.rank_defs.specs.Steps.{clamped, write, push_rank, after_push, after_pop}
-use Rattle.rank_defs.specs.Ranges.{counts, tells, clash, sort_of, range, hull_of, holds_zero, reach, quotient_range, joined_range, range_of_two, range_of, declared, parts_divide, widest, IsNarrow}
+use Rattle.rank_defs.specs.Ranges.{counts, tells, clash, sort_of, range, hull_of, holds_zero, reach, quotient_range, joined_range, range_of_two, range_of, declared, parts_divide, widest, IsNarrow, ArePartsNarrow}
 use Rattle.rank_defs.specs.Checks.{entries, lesser_line}
 use Rattle.rank_defs.specs.Builtins.{set, ranked_by, fifo, strict, shortest, lstf, rr, stfq, builtins, builtin}
 
@@ -80,6 +83,29 @@ first_eaches = refl
 -- a child and a flow are never the same
 pub same_children_and_flows : map (same_who (Child 1)) (Child 1 ∷ Child 2 ∷ flow_of 1 ∷ []) ≡ true ∷ false ∷ false ∷ []
 same_children_and_flows = refl
+
+-- six different numbers
+abbrev one_flow : FlowKey
+one_flow = record { version = 4; source = 1; target = 2; proto = 17; sport = 5; dport = 6 }
+
+-- another flow in one field alone
+abbrev flows_of_another_field : List FlowKey
+flows_of_another_field =
+    record one_flow { version = 6 } ∷ record one_flow { source = 2 } ∷ record one_flow { target = 1 } ∷ record one_flow { proto = 6 } ∷ record one_flow { sport = 6 } ∷ record one_flow { dport = 5 } ∷ []
+
+pub same_flow-itself : same_flow one_flow one_flow ≡ true
+same_flow-itself = refl
+
+pub same_flow-another_field : map (same_flow one_flow) flows_of_another_field ≡ replicate 6 false
+same_flow-another_field = refl
+
+-- what is sent back is another flow
+pub same_flow-the_way_back : same_flow one_flow (record one_flow { source = 2; target = 1; sport = 6; dport = 5 }) ≡ false
+same_flow-the_way_back = refl
+
+-- and so it has variables of its own
+pub flows_apart : map (λ f. same_who (Flow one_flow) (Flow f)) (one_flow ∷ flows_of_another_field) ≡ true ∷ replicate 6 false
+flows_apart = refl
 
 -- the sum, difference, product, quotient, lesser and greater of -7 and 2
 pub operations_of_two_numbers : map (λ op. apply op (num (negsuc 6)) (num (pos 2))) operations ≡ map num (negsuc 4 ∷ negsuc 8 ∷ negsuc 13 ∷ negsuc 2 ∷ negsuc 6 ∷ pos 2 ∷ [])
@@ -264,6 +290,120 @@ wider_is_not_narrow n = clash_ℤ (lt_z_yes tt) n.high
 
 pub less_is_not_narrow : IsNarrow (range (negsuc (2 ^ 100)) (pos 0)) → ⊥
 less_is_not_narrow n = clash_ℤ (lt_z_yes tt) n.low
+
+-- now * now goes up to 2^124, and each part has to be narrow, also where the whole is
+abbrev wide : Formula
+wide = two Mul (variable Now) (variable Now)
+
+pub square_is_wide : ArePartsNarrow (declared fifo) wide → ⊥
+square_is_wide parts = clash_ℤ (lt_z_yes tt) parts.2.high
+
+pub wide_in_the_first_part : ArePartsNarrow (declared fifo) (two Min wide (number 1)) → ⊥
+wide_in_the_first_part parts = square_is_wide parts.0
+
+pub wide_in_the_second_part : ArePartsNarrow (declared fifo) (two Min (number 1) wide) → ⊥
+wide_in_the_second_part parts = square_is_wide parts.1
+
+pub wide_in_a_comparison : ArePartsNarrow (declared fifo) (two Less wide (number 1)) → ⊥
+wide_in_a_comparison parts = square_is_wide parts.0
+
+pub wide_in_a_negation : ArePartsNarrow (declared fifo) (negation (two Less (number 1) wide)) → ⊥
+wide_in_a_negation parts = square_is_wide parts.1
+
+pub wide_in_a_test : ArePartsNarrow (declared fifo) (choice (two Less wide (number 1)) (number 1) (number 2)) → ⊥
+wide_in_a_test parts = square_is_wide parts.0.0
+
+pub wide_in_the_first_choice : ArePartsNarrow (declared fifo) (choice test (two Min wide (number 1)) (number 1)) → ⊥
+wide_in_the_first_choice parts = square_is_wide parts.1.0
+
+pub wide_in_the_second_choice : ArePartsNarrow (declared fifo) (choice test (number 1) (two Min wide (number 1))) → ⊥
+wide_in_the_second_choice parts = square_is_wide parts.2.0
+
+-- the whole counts too: len * now is narrow, and its double isn't
+pub parts_are_narrow : ArePartsNarrow (declared fifo) (two Mul (variable Len) (variable Now))
+parts_are_narrow = (record { low = le_z_yes tt; high = le_z_yes tt }, record { low = le_z_yes tt; high = le_z_yes tt }, record { low = le_z_yes tt; high = le_z_yes tt })
+
+pub the_whole_is_wide : ArePartsNarrow (declared fifo) (two Mul (number 128) (two Mul (variable Len) (variable Now))) → ⊥
+the_whole_is_wide parts = clash_ℤ (lt_z_yes tt) parts.2.high
+
+-- a first value may be either end, and the greatest rank is the greatest value
+pub spans_in_order : AllByRecursion IsSpan (span 0 0 0 ∷ span 2 5 2 ∷ span 2 5 5 ∷ span 0 max_rank 1 ∷ [])
+spans_in_order =
+    (record { low = omega arith; high = omega arith; most = omega arith }, (record { low = omega arith; high = omega arith; most = omega arith }, (record { low = omega arith; high = omega arith; most = omega arith }, (record { low = omega arith; high = omega arith; most = omega arith }, tt))))
+
+pub first_value_below : IsSpan (span 2 5 1) → ⊥
+first_value_below s = let low = s.low in omega arith
+
+pub first_value_above : IsSpan (span 2 5 6) → ⊥
+first_value_above s = let high = s.high in omega arith
+
+pub greatest_value_above_all_ranks : IsSpan (span 0 (suc max_rank) 0) → ⊥
+greatest_value_above_all_ranks s = let most = s.most in omega arith
+
+-- three variables of the node, and one of each child or flow
+abbrev three_and_one : Program
+three_and_one =
+    record { keeps = span 0 9 3 ∷ span 0 9 3 ∷ span 0 9 3 ∷ []; eaches = span 0 9 3 ∷ []; push = []; pop = [] }
+
+pub last_variables_are_declared : AreDeclared three_and_one (two Add (variable (Keep 2)) (variable (Each 0)))
+last_variables_are_declared = (omega arith, omega arith)
+
+pub keep_past_the_last : AreDeclared three_and_one (variable (Keep 3)) → ⊥
+keep_past_the_last below = omega arith
+
+pub each_past_the_last : AreDeclared three_and_one (variable (Each 1)) → ⊥
+each_past_the_last below = omega arith
+
+pub undeclared_in_a_negation : AreDeclared three_and_one (negation (two Less (number 1) (variable (Each 1)))) → ⊥
+undeclared_in_a_negation are = each_past_the_last are.1
+
+pub undeclared_in_a_choice : AreDeclared three_and_one (choice test (number 1) (variable (Each 1))) → ⊥
+undeclared_in_a_choice are = each_past_the_last are.2
+
+pub aims_past_the_last : (IsAim three_and_one (AimKeep 3) → ⊥) × (IsAim three_and_one (AimEach 1) → ⊥)
+aims_past_the_last = (λ below. omega arith, λ below. omega arith)
+
+-- not (not (.. (1 < 2))): so many parts deep, and two more
+abbrev negations : ℕ → Formula
+negations zero = two Less (number 1) (number 2)
+negations (suc n) = negation (negations n)
+
+abbrev sets_rank : ℕ → Assignment
+sets_rank n = set AimRank (choice (negations n) (number 1) (number 2))
+
+pub depth_of_64 : IsShapedAssignment fifo (sets_rank 61)
+depth_of_64 = record { aim = tt; variables = ((tt, tt), tt, tt); depth = omega arith }
+
+pub depth_of_65 : IsShapedAssignment fifo (sets_rank 62) → ⊥
+depth_of_65 shaped = let depth = shaped.depth in omega arith
+
+-- a pop may read the rank, and may not set it
+abbrev pops : Assignment → Program
+pops a = record { keeps = span 0 9 3 ∷ []; eaches = []; push = []; pop = a ∷ [] }
+
+pub pops_may_read_the_rank : IsShaped (pops (set (AimKeep 0) (variable Rank)))
+pops_may_read_the_rank =
+    record { keeps = (record { low = omega arith; high = omega arith; most = omega arith }, tt); eaches = tt; push = tt; pop = (record { aim = omega arith; variables = tt; depth = omega arith }, tt); leaves_rank = ((λ e. cc), tt) }
+
+pub pops_set_no_rank : IsShaped (pops (set AimRank (number 1))) → ⊥
+pops_set_no_rank shaped = shaped.leaves_rank.0 refl
+
+-- each value in the span at its place, ends included, and as many as there are spans
+pub values_within : AreWithin (span 2 5 3 ∷ span 0 1 0 ∷ []) (5 ∷ 0 ∷ [])
+values_within = (omega arith, omega arith, (omega arith, omega arith, tt))
+
+pub values_at_each_others_place : AreWithin (span 2 5 3 ∷ span 0 1 0 ∷ []) (0 ∷ 5 ∷ []) → ⊥
+values_at_each_others_place within = let low = within.0 in omega arith
+
+pub values_too_few : AreWithin (span 2 5 3 ∷ span 0 1 0 ∷ []) (2 ∷ []) → ⊥
+values_too_few within = within.2
+
+-- a weight of 0 is out of range, and any other number may be 0
+pub least_env : IsEnvInRange (env_of 0 1)
+least_env = record { len = omega arith; now = omega arith; prio = omega arith; weight_low = omega arith; weight_high = omega arith; slack = omega arith }
+
+pub env_without_weight : IsEnvInRange (env_of 0 0) → ⊥
+env_without_weight env = let low = env.weight_low in omega arith
 
 -- the deepest part counts, wherever it stands
 pub depths : map depth_of (number 7 ∷ variable Len ∷ negation (number 7) ∷ deep ∷ two Add deep (number 1) ∷ two Add (number 1) deep ∷ choice deep (number 1) (number 1) ∷ choice (number 1) deep (number 1) ∷ choice (number 1) (number 1) deep ∷ []) ≡ 1 ∷ 1 ∷ 2 ∷ 3 ∷ 4 ∷ 4 ∷ 4 ∷ 4 ∷ 4 ∷ []

@@ -1,0 +1,192 @@
+-- Statements with two faults: the clause that goes first is told, whatever its line.
+use Rattle.std.specs.Prelude.{◌≡◌, refl, ℕ, zero, suc, ◌<◌, ◌≤◌, nat_le, nat_eq, Bool, true, false, not, ◌||◌, IsTrue, Option, Some, None, IsSomeAnd, List, [], ◌∷◌, length, slice_index_or, codes}
+use Rattle.std.specs.List.{list_all}
+use Rattle.std.proofs.Common.{arith, subst}
+use Rattle.std.proofs.lemmas.Bool.Decides.{nat_tests}
+use Rattle.std.proofs.lemmas.List.Sums.{AllPass-from_list_all}
+use Rattle.rank_defs.specs.Checks.{AreChecked}
+use Rattle.policy_text_defs.specs.declared.condition.Condition.TheVariants.{Field}
+use Rattle.policy_text_defs.specs.declared.condition.FieldName.TheVariants.{Dscp}
+use Rattle.policy_text_defs.specs.Phrase.{word}
+use Rattle.policy_text_defs.specs.Sense.{Sense, Entry, entry, numbered, version, transaction, keep, push, class, leaf, node}
+use Rattle.policy_rules.specs.Names.{Name, node_name, before, listed, children, leaf_classes}
+use Rattle.policy_rules.specs.Clauses.{IsLeastLine, NoLine, is_placed, is_declared, is_known, is_beyond, is_orphan, is_stray, has_root, has_catch_all, root, IsAgain, IsUnknown, IsBeyond, IsOrphan, IsAhead}
+use Rattle.policy_rules.specs.Families.{ListsChild, NamesLead, IsCyclic, IsTooDeep}
+use Rattle.policy_rules.specs.Accepted.{AreFew, AreShallow, IsFault}
+use Rattle.policy_rules.specs.Programs.{programs}
+use Rattle.policy_rules.specs.Rows.{nothing_set}
+use Rattle.policy_rules.specs.declared.fault.PolicyFault.TheVariants.{Misplaced, Twice, Unknown, TooMany, Parents, NoRoot, Cycle, ClassLeaf, NoCatchAll}
+
+-- ---- clauses that are tests
+
+both_ways : (b : Bool) → not b ≡ true → b ≡ true → ⊥
+both_ways true e h = cc
+both_ways false e h = cc
+
+-- no line passes the test
+none_passes : (test : Entry → Bool) (es : List Entry) → list_all (λ e. not (test e)) es ≡ true → NoLine (λ e. IsTrue (test e)) es
+none_passes test es all k d short passes = both_ways (test (slice_index_or es k d)) (AllPass-from_list_all (λ e. not (test e)) es all k d short) passes
+
+or_less : (b : Bool) (m n : ℕ) → (not b || nat_le m n) ≡ true → b ≡ true → m ≤ n
+or_less true m n le h = grind (arith, nat_tests)
+or_less false m n le h = cc
+
+-- the statement at a place passes, and no other that passes stands on a lower line
+least_passes : (test : Entry → Bool) (es : List Entry) (k : ℕ) (e : Entry) → k < length es → slice_index_or es k e ≡ e → test e ≡ true → list_all (λ x. not (test x) || nat_le e.0 x.0) es ≡ true → IsLeastLine (λ x. IsTrue (test x)) es e.0
+least_passes test es k e short is passes least = record {
+  there = (k, e, short, is, (passes, refl));
+  least = λ j d s bad. or_less (test (slice_index_or es j d)) e.0 (slice_index_or es j d).0 (AllPass-from_list_all (λ x. not (test x) || nat_le e.0 x.0) es least j d s) bad;
+}
+
+abbrev misplaced : List Entry → Entry → Bool
+misplaced es e = not (is_placed (before e.0 es) e.1)
+
+abbrev again : List Entry → Entry → Bool
+again es e = is_declared (before e.0 es) e.1
+
+abbrev unknown : List Entry → Entry → Bool
+unknown es e = not (is_known es (before e.0 es) e.1)
+
+abbrev beyond : List Entry → Entry → Bool
+beyond es e = is_beyond (before e.0 es) e.1
+
+abbrev orphan : List Entry → Entry → Bool
+orphan es e = is_orphan (listed children es) e.1
+
+abbrev stray : List Entry → Entry → Bool
+stray es e = is_stray (listed leaf_classes es) e.1
+
+abbrev none : (List Entry → Entry → Bool) → List Entry → Bool
+none test es = list_all (λ e. not (test es e)) es
+
+are_few : (es : List Entry) → none misplaced es ≡ true → none again es ≡ true → none unknown es ≡ true → none beyond es ≡ true → AreFew es
+are_few es a b c d = (((none_passes (misplaced es) es a, none_passes (again es) es b), none_passes (unknown es) es c), none_passes (beyond es) es d)
+
+-- ---- statements
+
+abbrev all_packets : Sense
+all_packets = class (codes "all") nothing_set []
+
+abbrev some_packets : Sense
+some_packets = class (codes "all") nothing_set (Field Dscp 46 46 ∷ [])
+
+abbrev leaf_of : Name → List Name → Sense
+leaf_of n classes = leaf n (codes "fifo") nothing_set None classes
+
+abbrev node_of : Name → List Name → Sense
+node_of n names = node n (codes "fifo") nothing_set names
+
+-- so many variables, each of another name
+abbrev variables : ℕ → ℕ → List Sense → List Sense
+variables zero first rest = rest
+variables (suc n) first rest = keep (first ∷ []) (record { low = 0; high = 9; first = 0 }) ∷ variables n (suc first) rest
+
+-- ---- 1 before 2: a name comes again on line 3, and `policy` on line 4
+abbrev misplaced_and_again : List Entry
+misplaced_and_again = numbered 1 (version 1 ∷ all_packets ∷ all_packets ∷ version 1 ∷ [])
+
+pub misplaced_before_again : IsFault misplaced_and_again (Misplaced 4) × IsAgain misplaced_and_again (entry 3 all_packets)
+misplaced_before_again = (least_passes (misplaced misplaced_and_again) misplaced_and_again 3 (entry 4 (version 1)) (omega arith) refl refl refl, refl)
+
+-- ---- 2 before 3: a class that isn't there on line 2, and a name comes again on line 4
+abbrev again_and_unknown : List Entry
+again_and_unknown = numbered 1 (version 1 ∷ leaf_of root (codes "b" ∷ []) ∷ all_packets ∷ all_packets ∷ [])
+
+pub again_before_unknown : IsFault again_and_unknown (Twice 4) × IsUnknown again_and_unknown (entry 2 (leaf_of root (codes "b" ∷ [])))
+again_before_unknown = ((none_passes (misplaced again_and_unknown) again_and_unknown refl, least_passes (again again_and_unknown) again_and_unknown 3 (entry 4 all_packets) (omega arith) refl refl refl), refl)
+
+-- ---- 3 before 4: the seventeenth variable on line 19, and a variable that isn't there on line 20
+abbrev unknown_and_beyond : List Entry
+unknown_and_beyond = numbered 1 (version 1 ∷ transaction (codes "t") ∷ variables 17 97 (push (codes "rank") (word (codes "zz")) ∷ []))
+
+pub unknown_before_beyond : IsFault unknown_and_beyond (Unknown 20) × IsBeyond unknown_and_beyond (entry 19 (keep (113 ∷ []) (record { low = 0; high = 9; first = 0 })))
+unknown_before_beyond = (((none_passes (misplaced unknown_and_beyond) unknown_and_beyond refl, none_passes (again unknown_and_beyond) unknown_and_beyond refl), least_passes (unknown unknown_and_beyond) unknown_and_beyond 19 (entry 20 (push (codes "rank") (word (codes "zz")))) (omega arith) refl refl refl), refl)
+
+-- ---- 4 before 8: a node that no other lists on line 2, and the seventeenth variable on line 20
+abbrev beyond_and_orphan : List Entry
+beyond_and_orphan = numbered 1 (version 1 ∷ leaf_of (codes "x") [] ∷ transaction (codes "t") ∷ variables 17 97 [])
+
+pub beyond_before_orphan : IsFault beyond_and_orphan (TooMany 20) × IsOrphan beyond_and_orphan (entry 2 (leaf_of (codes "x") []))
+beyond_before_orphan = ((((none_passes (misplaced beyond_and_orphan) beyond_and_orphan refl, none_passes (again beyond_and_orphan) beyond_and_orphan refl), none_passes (unknown beyond_and_orphan) beyond_and_orphan refl), least_passes (beyond beyond_and_orphan) beyond_and_orphan 19 (entry 20 (keep (113 ∷ []) (record { low = 0; high = 9; first = 0 }))) (omega arith) refl refl refl), refl)
+
+-- ---- 8 before 9: one leaf that no node lists, and no root
+abbrev orphan_and_no_root : List Entry
+orphan_and_no_root = numbered 1 (version 1 ∷ all_packets ∷ leaf_of (codes "x") (codes "all" ∷ []) ∷ [])
+
+pub orphan_before_no_root : IsFault orphan_and_no_root (Parents 3) × (has_root orphan_and_no_root ≡ false)
+orphan_before_no_root = (((are_few orphan_and_no_root refl refl refl refl, tt), least_passes (orphan orphan_and_no_root) orphan_and_no_root 2 (entry 3 (leaf_of (codes "x") (codes "all" ∷ []))) (omega arith) refl refl refl), refl)
+
+-- ---- 9 before 10: two nodes that list each other, and no root
+abbrev no_root_and_cycle : List Entry
+no_root_and_cycle = numbered 1 (version 1 ∷ node_of (codes "a") (codes "b" ∷ []) ∷ node_of (codes "b") (codes "a" ∷ []) ∷ [])
+
+a_lists_b : ListsChild no_root_and_cycle (codes "a") (codes "b")
+a_lists_b = (1, entry 2 (node_of (codes "a") (codes "b" ∷ [])), omega arith, refl, (refl, (0, omega arith, refl)))
+
+b_lists_a : ListsChild no_root_and_cycle (codes "b") (codes "a")
+b_lists_a = (2, entry 3 (node_of (codes "b") (codes "a" ∷ [])), omega arith, refl, (refl, (0, omega arith, refl)))
+
+pub no_root_before_cycle : IsFault no_root_and_cycle NoRoot × IsCyclic no_root_and_cycle (entry 3 (node_of (codes "b") (codes "a" ∷ [])))
+no_root_before_cycle = ((((are_few no_root_and_cycle refl refl refl refl, tt), none_passes (orphan no_root_and_cycle) no_root_and_cycle refl), refl), (1, (codes "a", b_lists_a, (codes "b", a_lists_b, refl))))
+
+-- ---- 10 before 11: a root that lists itself is among its own descendants, and 65 levels below itself
+abbrev cycle_and_deep : List Entry
+cycle_and_deep = numbered 1 (version 1 ∷ node_of root (root ∷ []) ∷ [])
+
+root_lists_root : ListsChild cycle_and_deep root root
+root_lists_root = (1, entry 2 (node_of root (root ∷ [])), omega arith, refl, (refl, (0, omega arith, refl)))
+
+around : (k : ℕ) → NamesLead cycle_and_deep k root root
+around zero = refl
+around (suc k) = (root, root_lists_root, around k)
+
+cycle_least : (k : ℕ) (d : Entry) → k < 2 → IsCyclic cycle_and_deep (slice_index_or cycle_and_deep k d) → 2 ≤ (slice_index_or cycle_and_deep k d).0
+cycle_least zero d short bad = absurd bad
+cycle_least (suc zero) d short bad = omega arith
+cycle_least (suc (suc k)) d short bad = omega arith
+
+pub cycle_before_deep : IsFault cycle_and_deep (Cycle 2) × IsTooDeep cycle_and_deep (entry 2 (node_of root (root ∷ [])))
+cycle_before_deep = (((((are_few cycle_and_deep refl refl refl refl, tt), none_passes (orphan cycle_and_deep) cycle_and_deep refl), refl), record { there = (1, entry 2 (node_of root (root ∷ [])), omega arith, refl, ((0, (root, root_lists_root, refl)), refl)); least = cycle_least }), (65, omega arith, around 65))
+
+-- ---- statements in which no node lists another have no cycle, and no node below the root
+
+none_lists : (es : List Entry) → list_all (λ e. nat_eq (length (children e.1)) 0) es ≡ true → (a b : Name) → ListsChild es a b → ⊥
+none_lists es all a b lists =
+    let empty : nat_eq (length (children lists.1.1)) 0 ≡ true = subst (λ (e : Entry). nat_eq (length (children e.1)) 0 ≡ true) lists.3 (AllPass-from_list_all (λ e. nat_eq (length (children e.1)) 0) es all lists.0 lists.1 lists.2)
+    in let some : lists.4.1.0 < length (children lists.1.1) = lists.4.1.1
+    in grind (arith, nat_tests)
+
+in_some : {P : Name → Type 0} (o : Option Name) → IsSomeAnd o P → ((a : Name) → P a → ⊥) → ⊥
+in_some (Some a) is none = none a is
+in_some None is none = is
+
+none_is_cyclic : (es : List Entry) → list_all (λ e. nat_eq (length (children e.1)) 0) es ≡ true → NoLine (IsCyclic es) es
+none_is_cyclic es all k d short cyclic = in_some (node_name (slice_index_or es k d).1) cyclic (λ a below. none_lists es all a below.1.0 below.1.1)
+
+none_is_deep : (es : List Entry) → list_all (λ e. nat_eq (length (children e.1)) 0) es ≡ true → NoLine (IsTooDeep es) es
+none_is_deep es all k d short deep = in_some (node_name (slice_index_or es k d).1) deep (λ a below. at below.0 a below.1 below.2)
+  where
+    at : (n : ℕ) (a : Name) → 64 < n → NamesLead es n root a → ⊥
+    at zero a above lead = omega arith
+    at (suc n) a above lead = none_lists es all root lead.0 lead.1
+
+abbrev lists_none : List Entry → Bool
+lists_none es = list_all (λ e. nat_eq (length (children e.1)) 0) es
+
+are_shallow : (es : List Entry) → AreFew es → AreChecked (programs es) → none orphan es ≡ true → has_root es ≡ true → lists_none es ≡ true → AreShallow es
+are_shallow es few checked listed rooted flat =
+    (((((few, checked), none_passes (orphan es) es listed), rooted), none_is_cyclic es flat), none_is_deep es flat)
+
+-- ---- 12 before 13: a class that no leaf lists, and no class for all packets
+abbrev stray_and_no_catch_all : List Entry
+stray_and_no_catch_all = numbered 1 (version 1 ∷ some_packets ∷ leaf_of root [] ∷ [])
+
+pub stray_before_no_catch_all : IsFault stray_and_no_catch_all (ClassLeaf 2) × (has_catch_all stray_and_no_catch_all ≡ false)
+stray_before_no_catch_all = ((are_shallow stray_and_no_catch_all (are_few stray_and_no_catch_all refl refl refl refl) tt refl refl refl, least_passes (stray stray_and_no_catch_all) stray_and_no_catch_all 1 (entry 2 some_packets) (omega arith) refl refl refl), refl)
+
+-- ---- 13 before 14: no class for all packets, and a limit in version 1
+abbrev no_catch_all_and_ahead : List Entry
+no_catch_all_and_ahead = numbered 1 (version 1 ∷ some_packets ∷ leaf root (codes "fifo") nothing_set (Some 10) (codes "all" ∷ []) ∷ [])
+
+pub no_catch_all_before_ahead : IsFault no_catch_all_and_ahead NoCatchAll × IsAhead no_catch_all_and_ahead (entry 3 (leaf root (codes "fifo") nothing_set (Some 10) (codes "all" ∷ [])))
+no_catch_all_before_ahead = (((are_shallow no_catch_all_and_ahead (are_few no_catch_all_and_ahead refl refl refl refl) tt refl refl refl, none_passes (stray no_catch_all_and_ahead) no_catch_all_and_ahead refl), refl), refl)
