@@ -1,8 +1,9 @@
 -- What a queue of rank stores is and keeps.
-use Rattle.std.specs.Prelude.{◌≡◌, ◌≤◌, ◌<◌, ℕ, ◌+◌, Bool, ◌&&◌, List, [], ◌++◌, length, map, nat_eq, nat_lt, slice_index_or, if◌then◌else◌}
+use Rattle.std.specs.Prelude.{◌≡◌, refl, ◌≤◌, ◌<◌, ℕ, ◌+◌, Bool, true, false, ◌&&◌, List, [], ◌∷◌, ◌++◌, length, map, nat_eq, nat_lt, slice_index_or, if◌then◌else◌}
 use Rattle.std.specs.List.{AllByRecursion, list_any}
 use Rattle.std.specs.BinaryHeap.{IsHeap}
 use Rattle.std.specs.declared.cmp.Ordering.{Ordering}
+use Rattle.std.specs.declared.cmp.Ordering.TheVariants.{Less, Greater}
 use Rattle.std.specs.Ordering.{nat_cmp, ordering_then}
 use Rattle.std.specs.declared.cmp.Reverse.{Reverse}
 use Rattle.std.specs.declared.collections.VecDeque.{VecDeque}
@@ -10,7 +11,7 @@ use Rattle.std.specs.VecDeque.{deque_len, deque_capacity}
 use Rattle.pifo_defs.specs.Queue.{Queue}
 use Rattle.block_core.specs.declared.waiting.Waiting.{Waiting}
 use Rattle.block_core.specs.Arrival.{weight, came_as, queue_of}
-use Rattle.block_core.specs.Stores.{waiting_in, heads_of, last_rank, flow_of, IsStored}
+use Rattle.block_core.specs.Stores.{waiting_in, heads_of, last_rank, flow_of, IsStored, three_flows}
 
 -- what contracts see of a queue
 pub record Block : Type 0 where
@@ -71,3 +72,41 @@ HasSpare spare rooms = AllByRecursion (λ r. r.0 + spare ≤ r.1) rooms
 pub record IsCounted (waiting pushed : ℕ) (stores : List (List Waiting)) (spilled : List Waiting) : Type 0 where
   pub all : weight (λ _. 1) (all_of stores spilled) ≡ waiting
   pub few : waiting ≤ pushed
+
+-- ---- the three flows, and an entry of the first that came third and was passed
+abbrev pub passed : Waiting
+passed = record { rank = 2; arrival = 3; value = 0 }
+
+pub queue_in-order_of_arrival : queue_in 6 three_flows (passed ∷ []) ≡ (4, 0) ∷ (2, 0) ∷ (3, 2) ∷ (6, 0) ∷ []
+unfolding queue_of
+queue_in-order_of_arrival = refl
+
+pub spills_in-own_flow : spills_in 3 5 0 (queue_in 6 three_flows []) ≡ true
+unfolding queue_of
+spills_in-own_flow = refl
+
+pub spills_in-same_rank : spills_in 3 6 0 (queue_in 6 three_flows []) ≡ false
+unfolding queue_of
+spills_in-same_rank = refl
+
+pub spills_in-other_flow : spills_in 3 5 2 (queue_in 6 three_flows []) ≡ false
+unfolding queue_of
+spills_in-other_flow = refl
+
+-- among one flow, as at a leaf, each entry counts
+pub spills_in-one_flow : spills_in 1 5 2 (queue_in 6 three_flows []) ≡ true
+unfolding queue_of
+spills_in-one_flow = refl
+
+-- the rank decides, then which came first, whatever the values
+pub leaving_order-rank : leaving_order passed (record { rank = 3; arrival = 1; value = 0 }) ≡ Less
+leaving_order-rank = refl
+
+pub leaving_order-arrival : leaving_order passed (record { rank = 2; arrival = 1; value = 9 }) ≡ Greater
+leaving_order-arrival = refl
+
+abbrev in_heap : Waiting → Reverse Waiting
+in_heap w = record { 0 = w }
+
+pub heap_order-first_is_greatest : heap_order (in_heap passed) (in_heap (record { rank = 3; arrival = 1; value = 0 })) ≡ Greater
+heap_order-first_is_greatest = refl

@@ -1,5 +1,5 @@
 -- First-in first-out queues, one a flow.
-use Rattle.std.specs.Prelude.{◌≡◌, ◌≤◌, ◌<◌, ℕ, ◌+◌, ◌-◌, List, [], ◌∷◌, ◌++◌, nat_lt, if◌then◌else◌}
+use Rattle.std.specs.Prelude.{◌≡◌, refl, ◌≤◌, ◌<◌, ℕ, ◌+◌, ◌-◌, List, [], ◌∷◌, ◌++◌, map, nat_lt, if◌then◌else◌}
 use Rattle.std.specs.List.{AllByRecursion}
 use Rattle.block_core.specs.declared.waiting.Waiting.{Waiting}
 
@@ -41,3 +41,31 @@ flow_of flows value = if nat_lt value (flows - 1) then value else flows - 1
 abbrev pub IsStored : ℕ → ℕ → List (List Waiting) → Type 0
 IsStored flows k [] = Unit {0}
 IsStored flows k (s ∷ ss) = AllByRecursion (λ w. flow_of flows w.value ≡ k) s × IsFifo s × IsStored flows (k + 1) ss
+
+-- ---- three flows: two entries wait in the first, none in the second and one in the third
+abbrev pub three_flows : List (List Waiting)
+three_flows =
+    (record { rank = 4; arrival = 1; value = 0 } ∷ record { rank = 6; arrival = 5; value = 0 } ∷ [])
+    ∷ []
+    ∷ (record { rank = 3; arrival = 4; value = 2 } ∷ [])
+    ∷ []
+
+pub heads_of-one_a_flow : heads_of three_flows ≡ record { rank = 4; arrival = 1; value = 0 } ∷ record { rank = 3; arrival = 4; value = 2 } ∷ []
+heads_of-one_a_flow = refl
+
+pub waiting_in-by_flow :
+    waiting_in three_flows ≡ record { rank = 4; arrival = 1; value = 0 } ∷ record { rank = 6; arrival = 5; value = 0 } ∷ record { rank = 3; arrival = 4; value = 2 } ∷ []
+waiting_in-by_flow = refl
+
+pub last_rank-of_the_last : last_rank (record { rank = 6; arrival = 1; value = 0 } ∷ record { rank = 4; arrival = 5; value = 0 } ∷ []) ≡ 4
+last_rank-of_the_last = refl
+
+pub last_rank-of_none : last_rank [] ≡ 0
+last_rank-of_none = refl
+
+-- a value without a flow of its own goes with the last, and at a leaf all go with the only one
+pub flow_of-three : map (flow_of 3) (0 ∷ 1 ∷ 2 ∷ 3 ∷ 4 ∷ []) ≡ 0 ∷ 1 ∷ 2 ∷ 2 ∷ 2 ∷ []
+flow_of-three = refl
+
+pub flow_of-one : map (flow_of 1) (0 ∷ 70 ∷ []) ≡ 0 ∷ 0 ∷ []
+flow_of-one = refl

@@ -48,7 +48,7 @@ pub pushed_sound : (ar : List ℕ) (old new : List Queue) (before after : List �
     → new ≡ array_push ar old 0 1 0 digits ranks item
     → ((n : ℕ) → AllByRecursion (λ k. k ≤ n) before → AllByRecursion (λ k. k ≤ n + 1) after) → IsSound ar new after (pushed + 1)
 pushed_sound ar old new before after pushed digits ranks item s leaf e p =
-    let long : length new ≡ length old = ap (λ (z : List Queue). length z) e ∙ length-array_push ar old 0 1 0 digits ranks item in record {
+    let long : length new ≡ length old = ap (λ (z : List Queue). length z) e ∙ length-array_push ar old 0 1 0 digits ranks item leaf in record {
       nodes = s.nodes ∙ sym long;
       small = omega (arith, s.small, long);
       pushes = p pushed s.pushes;

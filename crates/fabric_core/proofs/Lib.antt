@@ -10,4 +10,5 @@ mod PopSteps
 mod PushLaws
 mod PushSteps
 mod ReserveSteps
+mod RoomSteps
 mod SpillSteps

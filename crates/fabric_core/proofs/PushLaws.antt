@@ -1,12 +1,12 @@
--- A push in the array is a push of the family of its queues.
-use Rattle.std.proofs.Common.{◌≡◌, ◌≢◌, ℕ, ◌+◌, ◌*◌, ◌<◌, ◌≤◌, eqb, List, [], ◌∷◌, length, get_or, drop, refl, sym, ap, subst, ◌∙◌, arith, inl, inr, length-set, get_or-set_same, get_or-set_other}
-use Rattle.std.specs.Prelude.{slice_index}
+-- A push in the array is a push of the family of its queues, and takes a free place at each node on its way.
+use Rattle.std.proofs.Common.{◌≡◌, ◌≢◌, ℕ, zero, suc, ◌+◌, ◌*◌, ◌-◌, ◌<◌, ◌≤◌, eqb, List, [], ◌∷◌, length, get_or, set, drop, refl, sym, ap, subst, ◌∙◌, arith, inl, inr, length-set, get_or-set_same, get_or-set_other}
+use Rattle.std.specs.Prelude.{slice_index, nat_eq, if◌then◌else◌}
 use Rattle.std.proofs.lemmas.Nat.{same_from_place}
 use Rattle.std.proofs.lemmas.Bool.{cases_Bool, cases_lt, eqb-true, eqb-false, eq-eqb, ne_eqb}
 use mathlib.Core.Path.{fun_ext}
 use Rattle.pifo_defs.specs.Queue.{Queue, put}
-use Rattle.fabric_defs.specs.Family.{Address, Family, below, push_along, IsLeafAddress}
-use Rattle.fabric_core.specs.Array.{nodes, queues_at, put_at, array_push}
+use Rattle.fabric_defs.specs.Family.{Address, Family, below, push_along, less_room_along, IsLeafAddress}
+use Rattle.fabric_core.specs.Array.{nodes, read, queues_at, room_at, array_push}
 use Rattle.fabric_core.proofs.ArrayReads.{read-below, read-outside, read-same, child_place, next_nodes, place_within}
 
 pub push_along-same : (x : ℕ) (a : Address) (ranks : List ℕ) (item : ℕ) (F : Family) (b : Address) → push_along (x ∷ a) ranks item F (x ∷ b) ≡ push_along a (drop 1 ranks) item (below F x) b
@@ -15,86 +15,159 @@ push_along-same x a ranks item F b = rw (eq-eqb x x refl) refl
 pub push_along-other : (x y : ℕ) (a : Address) (ranks : List ℕ) (item : ℕ) (F : Family) (b : Address) → x ≢ y → push_along (x ∷ a) ranks item F (y ∷ b) ≡ F (y ∷ b)
 push_along-other x y a ranks item F b n = rw (ne_eqb x y n) refl
 
-pub length-put_at : (qs : List Queue) (n rank value : ℕ) → length (put_at qs n rank value) ≡ length qs
-length-put_at qs n rank value = length-set qs n (put (get_or qs n []) rank value)
+-- ---- a change at each node on the way to an address, which depends on the level
+module _ {A : Type 0} where
+  -- in what stands at each address
+  abbrev pub changed_along : Address → (ℕ → A → A) → (Address → A) → Address → A
+  changed_along [] f F [] = f 0 (F [])
+  changed_along [] f F (y ∷ b) = F (y ∷ b)
+  changed_along (x ∷ a) f F [] = f 0 (F [])
+  changed_along (x ∷ a) f F (y ∷ b) = if nat_eq x y then changed_along a (λ n. f (suc n)) (λ c. F (x ∷ c)) b else F (y ∷ b)
 
-pub put_at-other : (qs : List Queue) (n rank value j : ℕ) → j ≢ n → get_or (put_at qs n rank value) j [] ≡ get_or qs j []
-put_at-other qs n rank value j e = get_or-set_other qs n j (put (get_or qs n []) rank value) [] e
+  abbrev pub change_at : A → (A → A) → List A → ℕ → List A
+  change_at none f items n = set items n (f (get_or items n none))
 
-pub length-array_push : (ar : List ℕ) (qs : List Queue) (begin width place : ℕ) (a : Address) (ranks : List ℕ) (item : ℕ) → length (array_push ar qs begin width place a ranks item) ≡ length qs
-length-array_push [] qs begin width place a ranks item = length-put_at qs (begin + place) (slice_index ranks 0) item
-length-array_push (d ∷ ar) qs begin width place [] ranks item = refl
-length-array_push (d ∷ ar) qs begin width place (x ∷ a) ranks item =
-    length-array_push ar (put_at qs (begin + place) (slice_index ranks 0) x) (begin + width) (width * d) (place * d + x) a (drop 1 ranks) item ∙ length-put_at qs (begin + place) (slice_index ranks 0) x
+  -- in the array
+  abbrev pub array_change : List ℕ → A → (ℕ → A → A) → List A → ℕ → ℕ → ℕ → Address → List A
+  array_change [] none f items begin width place a = change_at none (f 0) items (begin + place)
+  array_change (d ∷ ar) none f items begin width place [] = items
+  array_change (d ∷ ar) none f items begin width place (x ∷ a) = array_change ar none (λ n. f (suc n)) (change_at none (f 0) items (begin + place)) (begin + width) (width * d) (place * d + x) a
 
--- nothing before a level changes
-pub push-before : (ar : List ℕ) (qs : List Queue) (begin width place : ℕ) (a : Address) (ranks : List ℕ) (item j : ℕ) → j < begin
-    → get_or (array_push ar qs begin width place a ranks item) j [] ≡ get_or qs j []
-push-before [] qs begin width place a ranks item j l = put_at-other qs (begin + place) (slice_index ranks 0) item j (omega arith)
-push-before (d ∷ ar) qs begin width place [] ranks item j l = refl
-push-before (d ∷ ar) qs begin width place (x ∷ a) ranks item j l =
-    push-before ar (put_at qs (begin + place) (slice_index ranks 0) x) (begin + width) (width * d) (place * d + x) a (drop 1 ranks) item j (omega arith)
-    ∙ put_at-other qs (begin + place) (slice_index ranks 0) x j (omega arith)
+  changed_along-same : (x : ℕ) (a : Address) (f : ℕ → A → A) (F : Address → A) (b : Address) → changed_along (x ∷ a) f F (x ∷ b) ≡ changed_along a (λ n. f (suc n)) (λ c. F (x ∷ c)) b
+  changed_along-same x a f F b = rw (eq-eqb x x refl) refl
 
--- nothing below another node of the level changes
-pub push-beside : (ar : List ℕ) (qs : List Queue) (begin width p q : ℕ) (a : Address) (ranks : List ℕ) (item : ℕ) (b : Address) → p < width → q < width → p ≢ q → IsLeafAddress ar a
-    → queues_at ar (array_push ar qs begin width p a ranks item) begin width q b ≡ queues_at ar qs begin width q b
-push-beside [] qs begin width p q [] ranks item [] l m n h = put_at-other qs (begin + p) (slice_index ranks 0) item (begin + q) (λ e. n (omega (arith, e)))
-push-beside [] qs begin width p q [] ranks item (y ∷ b) l m n h = refl
-push-beside [] qs begin width p q (x ∷ a) ranks item b l m n h = absurd h
-push-beside (d ∷ ar) qs begin width p q [] ranks item b l m n h = absurd h
-push-beside (d ∷ ar) qs begin width p q (x ∷ a) ranks item [] l m n h =
-    push-before ar (put_at qs (begin + p) (slice_index ranks 0) x) (begin + width) (width * d) (p * d + x) a (drop 1 ranks) item (begin + q) (omega arith)
-    ∙ put_at-other qs (begin + p) (slice_index ranks 0) x (begin + q) (λ e. n (omega (arith, e)))
-push-beside (d ∷ ar) qs begin width p q (x ∷ a) ranks item (y ∷ b) l m n h =
-    elim (cases_lt y d) [
-      | inl t ↦
-          read-below ar (array_push ar (put_at qs (begin + p) (slice_index ranks 0) x) (begin + width) (width * d) (p * d + x) a (drop 1 ranks) item) [] d begin width q y b t
-          ∙ push-beside ar (put_at qs (begin + p) (slice_index ranks 0) x) (begin + width) (width * d) (p * d + x) (q * d + y) a (drop 1 ranks) item b
-          (child_place p d x width l h.0) (child_place q d y width m t) (λ e. n ((same_from_place p x q y d h.0 t e).0)) h.1
-          ∙ read-same ar (put_at qs (begin + p) (slice_index ranks 0) x) qs [] (begin + width) (width * d) (q * d + y) b (λ j k. put_at-other qs (begin + p) (slice_index ranks 0) x j (omega arith))
-          ∙ sym (read-below ar qs [] d begin width q y b t)
-      | inr t ↦
-          read-outside ar (array_push ar (put_at qs (begin + p) (slice_index ranks 0) x) (begin + width) (width * d) (p * d + x) a (drop 1 ranks) item) [] d begin width q y b t
-          ∙ sym (read-outside ar qs [] d begin width q y b t)
-    ]
+  changed_along-other : (x y : ℕ) (a : Address) (f : ℕ → A → A) (F : Address → A) (b : Address) → x ≢ y → changed_along (x ∷ a) f F (y ∷ b) ≡ F (y ∷ b)
+  changed_along-other x y a f F b n = rw (ne_eqb x y n) refl
 
--- nothing below another child changes
-pub beside_child : (ar : List ℕ) (qs : List Queue) (d begin width place x y : ℕ) (a : Address) (ranks : List ℕ) (item : ℕ) (b : Address) → place < width → IsLeafAddress (d ∷ ar) (x ∷ a) → y < d → x ≢ y
-    → queues_at ar (array_push ar qs begin (width * d) (place * d + x) a ranks item) begin (width * d) (place * d + y) b ≡ queues_at ar qs begin (width * d) (place * d + y) b
-beside_child ar qs d begin width place x y a ranks item b l h k n =
-    push-beside ar qs begin (width * d) (place * d + x) (place * d + y) a ranks item b (child_place place d x width l h.0) (child_place place d y width l k) (λ e. n (omega (arith, e))) h.1
+  length-change_at : (none : A) (f : A → A) (items : List A) (n : ℕ) → length (change_at none f items n) ≡ length items
+  length-change_at none f items n = length-set items n (f (get_or items n none))
+
+  change_at-other : (none : A) (f : A → A) (items : List A) (n j : ℕ) → j ≢ n → get_or (change_at none f items n) j none ≡ get_or items j none
+  change_at-other none f items n j e = get_or-set_other items n j (f (get_or items n none)) none e
+
+  length-change : (ar : List ℕ) (none : A) (f : ℕ → A → A) (items : List A) (begin width place : ℕ) (a : Address) → length (array_change ar none f items begin width place a) ≡ length items
+  length-change [] none f items begin width place a = length-change_at none (f 0) items (begin + place)
+  length-change (d ∷ ar) none f items begin width place [] = refl
+  length-change (d ∷ ar) none f items begin width place (x ∷ a) =
+      length-change ar none (λ n. f (suc n)) (change_at none (f 0) items (begin + place)) (begin + width) (width * d) (place * d + x) a ∙ length-change_at none (f 0) items (begin + place)
+
+  -- nothing before a level changes
+  change-before : (ar : List ℕ) (none : A) (f : ℕ → A → A) (items : List A) (begin width place : ℕ) (a : Address) (j : ℕ) → j < begin
+      → get_or (array_change ar none f items begin width place a) j none ≡ get_or items j none
+  change-before [] none f items begin width place a j l = change_at-other none (f 0) items (begin + place) j (omega arith)
+  change-before (d ∷ ar) none f items begin width place [] j l = refl
+  change-before (d ∷ ar) none f items begin width place (x ∷ a) j l =
+      change-before ar none (λ n. f (suc n)) (change_at none (f 0) items (begin + place)) (begin + width) (width * d) (place * d + x) a j (omega arith)
+      ∙ change_at-other none (f 0) items (begin + place) j (omega arith)
+
+  -- nothing below another node of the level changes
+  change-beside : (ar : List ℕ) (none : A) (f : ℕ → A → A) (items : List A) (begin width p q : ℕ) (a : Address) (b : Address) → p < width → q < width → p ≢ q → IsLeafAddress ar a
+      → read ar (array_change ar none f items begin width p a) none begin width q b ≡ read ar items none begin width q b
+  change-beside [] none f items begin width p q [] [] l m n h = change_at-other none (f 0) items (begin + p) (begin + q) (λ e. n (omega (arith, e)))
+  change-beside [] none f items begin width p q [] (y ∷ b) l m n h = refl
+  change-beside [] none f items begin width p q (x ∷ a) b l m n h = absurd h
+  change-beside (d ∷ ar) none f items begin width p q [] b l m n h = absurd h
+  change-beside (d ∷ ar) none f items begin width p q (x ∷ a) [] l m n h =
+      change-before ar none (λ n. f (suc n)) (change_at none (f 0) items (begin + p)) (begin + width) (width * d) (p * d + x) a (begin + q) (omega arith)
+      ∙ change_at-other none (f 0) items (begin + p) (begin + q) (λ e. n (omega (arith, e)))
+  change-beside (d ∷ ar) none f items begin width p q (x ∷ a) (y ∷ b) l m n h =
+      let here : List A = change_at none (f 0) items (begin + p) in
+      let after : List A = array_change ar none (λ n. f (suc n)) (change_at none (f 0) items (begin + p)) (begin + width) (width * d) (p * d + x) a in
+      elim (cases_lt y d) [
+        | inl t ↦
+            read-below ar after none d begin width q y b t
+            ∙ change-beside ar none (λ n. f (suc n)) here (begin + width) (width * d) (p * d + x) (q * d + y) a b
+            (child_place p d x width l h.0) (child_place q d y width m t) (λ e. n ((same_from_place p x q y d h.0 t e).0)) h.1
+            ∙ read-same ar here items none (begin + width) (width * d) (q * d + y) b (λ j k. change_at-other none (f 0) items (begin + p) j (omega arith))
+            ∙ sym (read-below ar items none d begin width q y b t)
+        | inr t ↦ read-outside ar after none d begin width q y b t ∙ sym (read-outside ar items none d begin width q y b t)
+      ]
+
+  -- nothing below another child changes
+  beside_child : (ar : List ℕ) (none : A) (f : ℕ → A → A) (items : List A) (d begin width place x y : ℕ) (a : Address) (b : Address) → place < width → IsLeafAddress (d ∷ ar) (x ∷ a) → y < d → x ≢ y
+      → read ar (array_change ar none f items begin (width * d) (place * d + x) a) none begin (width * d) (place * d + y) b ≡ read ar items none begin (width * d) (place * d + y) b
+  beside_child ar none f items d begin width place x y a b l h k n =
+      change-beside ar none f items begin (width * d) (place * d + x) (place * d + y) a b (child_place place d x width l h.0) (child_place place d y width l k) (λ e. n (omega (arith, e))) h.1
+
+  pub array_change-along : (ar : List ℕ) (none : A) (f : ℕ → A → A) (items : List A) (begin width place : ℕ) (a : Address) (b : Address) → place < width → begin + width * nodes ar ≤ length items → IsLeafAddress ar a
+      → read ar (array_change ar none f items begin width place a) none begin width place b ≡ changed_along a f (read ar items none begin width place) b
+  array_change-along [] none f items begin width place [] [] l m h = get_or-set_same items (begin + place) (f 0 (get_or items (begin + place) none)) none (place_within [] begin width place (length items) l m)
+  array_change-along [] none f items begin width place [] (y ∷ b) l m h = refl
+  array_change-along [] none f items begin width place (x ∷ a) b l m h = absurd h
+  array_change-along (d ∷ ar) none f items begin width place [] b l m h = absurd h
+  array_change-along (d ∷ ar) none f items begin width place (x ∷ a) [] l m h =
+      change-before ar none (λ n. f (suc n)) (change_at none (f 0) items (begin + place)) (begin + width) (width * d) (place * d + x) a (begin + place) (omega arith)
+      ∙ get_or-set_same items (begin + place) (f 0 (get_or items (begin + place) none)) none (place_within (d ∷ ar) begin width place (length items) l m)
+  array_change-along (d ∷ ar) none f items begin width place (x ∷ a) (y ∷ b) l m h =
+      let here : List A = change_at none (f 0) items (begin + place) in
+      let after : List A = array_change ar none (λ n. f (suc n)) (change_at none (f 0) items (begin + place)) (begin + width) (width * d) (place * d + x) a in
+      let untouched : (z : ℕ) (c : Address) → read ar (change_at none (f 0) items (begin + place)) none (begin + width) (width * d) (place * d + z) c ≡ read ar items none (begin + width) (width * d) (place * d + z) c
+      = λ z c. read-same ar (change_at none (f 0) items (begin + place)) items none (begin + width) (width * d) (place * d + z) c (λ j k. change_at-other none (f 0) items (begin + place) j (omega arith)) in
+      elim (cases_Bool (eqb x y)) [
+        | inl t ↦ subst (λ (z : ℕ). read (d ∷ ar) (array_change (d ∷ ar) none f items begin width place (x ∷ a)) none begin width place (z ∷ b) ≡ changed_along (x ∷ a) f (read (d ∷ ar) items none begin width place) (z ∷ b)) (eqb-true x y t) (
+            read-below ar after none d begin width place x b h.0
+            ∙ array_change-along ar none (λ n. f (suc n)) here (begin + width) (width * d) (place * d + x) a b (child_place place d x width l h.0)
+            (omega (arith, m, length-change_at none (f 0) items (begin + place), next_nodes ar d begin width)) h.1
+            ∙ ap (λ (G : Address → A). changed_along a (λ n. f (suc n)) G b) (fun_ext (λ c. untouched x c ∙ sym (read-below ar items none d begin width place x c h.0)))
+            ∙ sym (changed_along-same x a f (read (d ∷ ar) items none begin width place) b))
+        | inr t ↦ elim (cases_lt y d) [
+          | inl k ↦
+              read-below ar after none d begin width place y b k
+              ∙ beside_child ar none (λ n. f (suc n)) here d (begin + width) width place x y a b l h k (eqb-false x y t)
+              ∙ untouched y b ∙ sym (read-below ar items none d begin width place y b k)
+              ∙ sym (changed_along-other x y a f (read (d ∷ ar) items none begin width place) b (eqb-false x y t))
+          | inr k ↦
+              read-outside ar after none d begin width place y b k
+              ∙ sym (read-outside ar items none d begin width place y b k)
+              ∙ sym (changed_along-other x y a f (read (d ∷ ar) items none begin width place) b (eqb-false x y t))
+        ]
+      ]
+
+-- ---- a push puts a pair at each node
+abbrev put_along : Address → List ℕ → ℕ → ℕ → Queue → Queue
+put_along [] ranks item n q = put q (slice_index ranks 0) item
+put_along (x ∷ a) ranks item zero q = put q (slice_index ranks 0) x
+put_along (x ∷ a) ranks item (suc n) q = put_along a (drop 1 ranks) item n q
+
+push_is_change : (a : Address) (ranks : List ℕ) (item : ℕ) (F : Family) (b : Address) → push_along a ranks item F b ≡ changed_along a (put_along a ranks item) F b
+push_is_change [] ranks item F [] = refl
+push_is_change [] ranks item F (y ∷ b) = refl
+push_is_change (x ∷ a) ranks item F [] = refl
+push_is_change (x ∷ a) ranks item F (y ∷ b) = ap (λ (q : Queue). if nat_eq x y then q else F (y ∷ b)) (push_is_change a (drop 1 ranks) item (below F x) b)
+
+array_push_is_change : (ar : List ℕ) (qs : List Queue) (begin width place : ℕ) (a : Address) (ranks : List ℕ) (item : ℕ) → IsLeafAddress ar a
+    → array_push ar qs begin width place a ranks item ≡ array_change ar [] (put_along a ranks item) qs begin width place a
+array_push_is_change [] qs begin width place [] ranks item h = refl
+array_push_is_change [] qs begin width place (x ∷ a) ranks item h = absurd h
+array_push_is_change (d ∷ ar) qs begin width place [] ranks item h = absurd h
+array_push_is_change (d ∷ ar) qs begin width place (x ∷ a) ranks item h =
+    array_push_is_change ar (change_at [] (λ q. put q (slice_index ranks 0) x) qs (begin + place)) (begin + width) (width * d) (place * d + x) a (drop 1 ranks) item h.1
+
+pub length-array_push : (ar : List ℕ) (qs : List Queue) (begin width place : ℕ) (a : Address) (ranks : List ℕ) (item : ℕ) → IsLeafAddress ar a → length (array_push ar qs begin width place a ranks item) ≡ length qs
+length-array_push ar qs begin width place a ranks item h =
+    ap (λ (z : List Queue). length z) (array_push_is_change ar qs begin width place a ranks item h) ∙ length-change ar [] (put_along a ranks item) qs begin width place a
 
 pub array_push-along : (ar : List ℕ) (qs : List Queue) (begin width place : ℕ) (a : Address) (ranks : List ℕ) (item : ℕ) (b : Address) → place < width → begin + width * nodes ar ≤ length qs → IsLeafAddress ar a
     → queues_at ar (array_push ar qs begin width place a ranks item) begin width place b ≡ push_along a ranks item (queues_at ar qs begin width place) b
-array_push-along [] qs begin width place [] ranks item [] l m h = get_or-set_same qs (begin + place) (put (get_or qs (begin + place) []) (slice_index ranks 0) item) [] (place_within [] begin width place (length qs) l m)
-array_push-along [] qs begin width place [] ranks item (y ∷ b) l m h = refl
-array_push-along [] qs begin width place (x ∷ a) ranks item b l m h = absurd h
-array_push-along (d ∷ ar) qs begin width place [] ranks item b l m h = absurd h
-array_push-along (d ∷ ar) qs begin width place (x ∷ a) ranks item [] l m h =
-    push-before ar (put_at qs (begin + place) (slice_index ranks 0) x) (begin + width) (width * d) (place * d + x) a (drop 1 ranks) item (begin + place) (omega arith)
-    ∙ get_or-set_same qs (begin + place) (put (get_or qs (begin + place) []) (slice_index ranks 0) x) [] (place_within (d ∷ ar) begin width place (length qs) l m)
-array_push-along (d ∷ ar) qs begin width place (x ∷ a) ranks item (y ∷ b) l m h =
-    let put_here : List Queue = put_at qs (begin + place) (slice_index ranks 0) x in
-    let after : List Queue = array_push ar (put_at qs (begin + place) (slice_index ranks 0) x) (begin + width) (width * d) (place * d + x) a (drop 1 ranks) item in
-    let untouched : (z : ℕ) (c : Address) → queues_at ar (put_at qs (begin + place) (slice_index ranks 0) x) (begin + width) (width * d) (place * d + z) c ≡ queues_at ar qs (begin + width) (width * d) (place * d + z) c
-    = λ z c. read-same ar (put_at qs (begin + place) (slice_index ranks 0) x) qs [] (begin + width) (width * d) (place * d + z) c (λ j k. put_at-other qs (begin + place) (slice_index ranks 0) x j (omega arith)) in
-    elim (cases_Bool (eqb x y)) [
-      | inl t ↦ subst (λ (z : ℕ). queues_at (d ∷ ar) (array_push (d ∷ ar) qs begin width place (x ∷ a) ranks item) begin width place (z ∷ b) ≡ push_along (x ∷ a) ranks item (queues_at (d ∷ ar) qs begin width place) (z ∷ b)) (eqb-true x y t) (
-          read-below ar after [] d begin width place x b h.0
-          ∙ array_push-along ar put_here (begin + width) (width * d) (place * d + x) a (drop 1 ranks) item b (child_place place d x width l h.0)
-          (omega (arith, m, length-put_at qs (begin + place) (slice_index ranks 0) x, next_nodes ar d begin width)) h.1
-          ∙ ap (λ (G : Family). push_along a (drop 1 ranks) item G b) (fun_ext (λ c. untouched x c ∙ sym (read-below ar qs [] d begin width place x c h.0)))
-          ∙ sym (push_along-same x a ranks item (queues_at (d ∷ ar) qs begin width place) b))
-      | inr t ↦ elim (cases_lt y d) [
-        | inl k ↦
-            read-below ar after [] d begin width place y b k
-            ∙ beside_child ar put_here d (begin + width) width place x y a (drop 1 ranks) item b l h k (eqb-false x y t)
-            ∙ untouched y b ∙ sym (read-below ar qs [] d begin width place y b k)
-            ∙ sym (push_along-other x y a ranks item (queues_at (d ∷ ar) qs begin width place) b (eqb-false x y t))
-        | inr k ↦
-            read-outside ar after [] d begin width place y b k
-            ∙ sym (read-outside ar qs [] d begin width place y b k)
-            ∙ sym (push_along-other x y a ranks item (queues_at (d ∷ ar) qs begin width place) b (eqb-false x y t))
-      ]
-    ]
+array_push-along ar qs begin width place a ranks item b l m h =
+    ap (λ (z : List Queue). queues_at ar z begin width place b) (array_push_is_change ar qs begin width place a ranks item h)
+    ∙ array_change-along ar [] (put_along a ranks item) qs begin width place a b l m h
+    ∙ sym (push_is_change a ranks item (queues_at ar qs begin width place) b)
+
+-- ---- and takes a free place there
+abbrev pub one_fewer : ℕ → ℕ → ℕ
+one_fewer level n = n - 1
+
+abbrev pub array_take : List ℕ → List ℕ → ℕ → ℕ → ℕ → Address → List ℕ
+array_take ar spare = array_change ar 0 one_fewer spare
+
+taking_is_change : (a : Address) (room : Address → ℕ) (b : Address) → less_room_along a room b ≡ changed_along a one_fewer room b
+taking_is_change [] room [] = refl
+taking_is_change [] room (y ∷ b) = refl
+taking_is_change (x ∷ a) room [] = refl
+taking_is_change (x ∷ a) room (y ∷ b) = ap (λ (n : ℕ). if nat_eq x y then n else room (y ∷ b)) (taking_is_change a (λ c. room (x ∷ c)) b)
+
+pub array_take-along : (ar : List ℕ) (spare : List ℕ) (begin width place : ℕ) (a : Address) (b : Address) → place < width → begin + width * nodes ar ≤ length spare → IsLeafAddress ar a
+    → room_at ar (array_take ar spare begin width place a) begin width place b ≡ less_room_along a (room_at ar spare begin width place) b
+array_take-along ar spare begin width place a b l m h =
+    array_change-along ar 0 one_fewer spare begin width place a b l m h ∙ sym (taking_is_change a (room_at ar spare begin width place) b)

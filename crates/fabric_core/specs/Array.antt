@@ -1,9 +1,9 @@
 -- The queues of a complete tree in one array, level by level from the root. Child x of the node at a place of its level
 -- stands at that place times the level's arity, and x, of the level below.
-use Rattle.std.specs.Prelude.{◌≡◌, refl, ℕ, ◌+◌, ◌*◌, List, [], ◌∷◌, Option, Some, option_map, nat_lt, slice_index, slice_index_or, slice_set, drop, if◌then◌else◌}
+use Rattle.std.specs.Prelude.{◌≡◌, refl, ℕ, ◌+◌, ◌*◌, List, [], ◌∷◌, Option, Some, None, option_map, nat_lt, slice_index, slice_index_or, slice_set, drop, if◌then◌else◌}
 use Rattle.pifo_defs.specs.Queue.{Queue, Taking, put, take_least}
 use Rattle.tree_defs.specs.Tree.{Popping, option_bind}
-use Rattle.fabric_defs.specs.Family.{Address, Family}
+use Rattle.fabric_defs.specs.Family.{Address, Family, SameRoom, HasNoLessRoom, less_room_along}
 
 -- the number of nodes of the complete tree of these arities
 abbrev pub nodes : List ℕ → ℕ
@@ -54,6 +54,15 @@ abbrev pub ArrayPops : List ℕ → List Queue → ℕ → List ℕ → List ℕ
 ArrayPops arities queues v digits ranks left =
     array_pop arities queues 0 1 0 ≡ Some (record { value = v; digits = digits; ranks = ranks; left = left })
 
+-- ---- free places
+-- no node has fewer of them
+abbrev pub ArrayKeepsRoom : List ℕ → List ℕ → List ℕ → Type 0
+ArrayKeepsRoom arities old new = HasNoLessRoom (room_at arities old 0 1 0) (room_at arities new 0 1 0)
+
+-- each node on the way to an address has one fewer, and no other node has more or fewer
+abbrev pub ArrayTakesRoom : List ℕ → Address → List ℕ → List ℕ → Type 0
+ArrayTakesRoom arities a old new = SameRoom (room_at arities new 0 1 0) (less_room_along a (room_at arities old 0 1 0))
+
 -- ---- two children, and three below each
 pub nodes-two_by_three : nodes (2 ∷ 3 ∷ []) ≡ 9
 nodes-two_by_three = refl
@@ -72,3 +81,45 @@ read-its_first_leaf = refl
 
 pub read-no_such_leaf : read (2 ∷ 3 ∷ []) numbered 99 0 1 0 (0 ∷ 3 ∷ []) ≡ 99
 read-no_such_leaf = refl
+
+-- ---- pushes and pops of the same tree: the root, two nodes, and three leaves below each
+abbrev pub nine : List Queue
+nine = [] ∷ [] ∷ [] ∷ [] ∷ [] ∷ [] ∷ [] ∷ [] ∷ [] ∷ []
+
+-- packet 40 goes to the last leaf, packet 41 to the first, and packet 42 beside packet 40
+abbrev pub one_pushed : List Queue
+one_pushed = array_push (2 ∷ 3 ∷ []) nine 0 1 0 (1 ∷ 2 ∷ []) (5 ∷ 7 ∷ 9 ∷ []) 40
+
+abbrev pub two_pushed : List Queue
+two_pushed = array_push (2 ∷ 3 ∷ []) one_pushed 0 1 0 (0 ∷ 0 ∷ []) (5 ∷ 1 ∷ 1 ∷ []) 41
+
+pub array_push-each_depth : one_pushed ≡ ((5, 1) ∷ []) ∷ [] ∷ ((7, 2) ∷ []) ∷ [] ∷ [] ∷ [] ∷ [] ∷ [] ∷ ((9, 40) ∷ []) ∷ []
+array_push-each_depth = refl
+
+pub array_push-last_of_its_rank : two_pushed ≡ ((5, 1) ∷ (5, 0) ∷ []) ∷ ((1, 0) ∷ []) ∷ ((7, 2) ∷ []) ∷ ((1, 41) ∷ []) ∷ [] ∷ [] ∷ [] ∷ [] ∷ ((9, 40) ∷ []) ∷ []
+array_push-last_of_its_rank = refl
+
+-- ranks tie at the root and at its second child: at each the first to come leaves, whatever the ranks below
+pub array_pop-ties :
+    array_pop (2 ∷ 3 ∷ []) (array_push (2 ∷ 3 ∷ []) two_pushed 0 1 0 (1 ∷ 0 ∷ []) (5 ∷ 7 ∷ 1 ∷ []) 42) 0 1 0
+    ≡ Some (record {
+      value = 40;
+      digits = 1 ∷ 2 ∷ [];
+      ranks = 5 ∷ 7 ∷ 9 ∷ [];
+      left = ((5, 0) ∷ (5, 1) ∷ []) ∷ ((1, 0) ∷ []) ∷ ((7, 0) ∷ []) ∷ ((1, 41) ∷ []) ∷ [] ∷ [] ∷ ((1, 42) ∷ []) ∷ [] ∷ [] ∷ [];
+    })
+array_pop-ties = refl
+
+-- the root's entry came with packet 40, and packet 42 leaves, which has the lower rank at the child
+pub array_pop-another_packet :
+    array_pop (2 ∷ 3 ∷ []) (array_push (2 ∷ 3 ∷ []) two_pushed 0 1 0 (1 ∷ 0 ∷ []) (6 ∷ 3 ∷ 10 ∷ []) 42) 0 1 0
+    ≡ Some (record {
+      value = 42;
+      digits = 1 ∷ 0 ∷ [];
+      ranks = 5 ∷ 3 ∷ 10 ∷ [];
+      left = ((5, 0) ∷ (6, 1) ∷ []) ∷ ((1, 0) ∷ []) ∷ ((7, 2) ∷ []) ∷ ((1, 41) ∷ []) ∷ [] ∷ [] ∷ [] ∷ [] ∷ ((9, 40) ∷ []) ∷ [];
+    })
+array_pop-another_packet = refl
+
+pub array_pop-nothing : array_pop (2 ∷ 3 ∷ []) nine 0 1 0 ≡ None
+array_pop-nothing = refl

@@ -1,5 +1,6 @@
 -- What the queues of a fabric keep.
-use Rattle.std.specs.Prelude.{ℕ, ◌≡◌, ◌≤◌, ◌<◌, ◌^◌, List, [], ◌∷◌, length}
+use Rattle.std.proofs.Common.{lit<}
+use Rattle.std.specs.Prelude.{ℕ, zero, suc, ◌≡◌, refl, ◌≤◌, ◌<◌, ◌^◌, List, [], ◌∷◌, length, map, nat_eq, if◌then◌else◌}
 use Rattle.std.specs.List.{AllByRecursion}
 use Rattle.pifo_defs.specs.Queue.{Queue}
 use Rattle.tree_defs.specs.SourceTree.{times}
@@ -26,3 +27,19 @@ pub record IsSound (arities : List ℕ) (queues : List Queue) (counts : List ℕ
   pub small : length queues < 2 ^ 32
   pub pushes : AllByRecursion (λ n. n ≤ pushed) counts
   pub flow : IsFlow arities (queues_at arities queues 0 1 0)
+
+-- ---- a root with two leaves
+-- two packets wait for leaf 1 and one for leaf 0, whose numbers are no digits
+abbrev pub three_waiting : Family
+three_waiting [] = (6, 1) ∷ (3, 0) ∷ (5, 1) ∷ []
+three_waiting (zero ∷ b) = (4, 70) ∷ []
+three_waiting (suc i ∷ b) = (2, 71) ∷ (9, 72) ∷ []
+
+pub IsFlow-names : NamesBelow 2 (three_waiting []) × IsFlow [] (below three_waiting 1)
+IsFlow-names = ((lit< tt, (lit< tt, (lit< tt, tt))), tt)
+
+pub IsFlow-counts : map (λ x. times x (three_waiting [])) (0 ∷ 1 ∷ []) ≡ map (λ x. length (three_waiting (x ∷ []))) (0 ∷ 1 ∷ [])
+IsFlow-counts = refl
+
+pub HasFlows-two_leaves : HasFlows (2 ∷ []) (λ b. if nat_eq (length b) 0 then 2 else 1)
+HasFlows-two_leaves = (refl, λ x l. refl)

@@ -1,6 +1,6 @@
 //! The trait of the hardware's queues: a complete tree that is configured, pushed and popped.
 ghost use Rattle.std.specs.Prelude.{◌≡◌, ◌+◌, ◌^◌, ◌<◌, ◌↔◌, ℕ, List, Option, [], length, option_map, OnOk, OnErr, IsNone, IfNone, IfSome};
-ghost use Rattle.fabric_defs.specs.Family.{Family, SameQueues, IsEmpty, IsLeafAddress, HasRoomAlong, AreRanks, Pops, push_along, PopsFrom};
+ghost use Rattle.fabric_defs.specs.Family.{Address, Family, SameQueues, IsEmpty, IsLeafAddress, HasRoomAlong, SameRoom, HasNoLessRoom, less_room_along, AreRanks, Pops, push_along, PopsFrom};
 ghost use Rattle.fabric_defs.specs.Spills.{spills_along};
 ghost use Rattle.target_defs.specs.Target.{IsTarget};
 
@@ -25,7 +25,7 @@ pub trait Fabric {
     ghost spilled: { Self → Option ℕ };
 
     /// For how many entries the queue at an address has room.
-    ghost room: { Self → List ℕ → ℕ };
+    ghost room: { Self → Address → ℕ };
 
     /// Takes another shape, with all queues empty.
     fn configure(&mut self, arities: &[u32]) -> Result<(), AllocError>
@@ -34,6 +34,7 @@ pub trait Fabric {
         ensures emptied { OnOk result (IsEmpty (queues self.new)) }
         ensures shape_stays { OnErr result (shape self.new ≡ shape self.old) }
         ensures queues_stay { OnErr result (SameQueues (queues self.new) (queues self.old)) }
+        ensures room_stays { OnErr result (HasNoLessRoom (room self.old) (room self.new)) }
         ensures pushed { pushed self.new ≡ pushed self.old }
         ensures popped { popped self.new ≡ popped self.old }
         ensures spilled { spilled self.new ≡ spilled self.old };
@@ -42,6 +43,7 @@ pub trait Fabric {
     fn reserve(&mut self, digits: &[u32]) -> Result<(), AllocError>
         requires leaf { IsLeafAddress (shape self.old) digits.now }
         ensures room { OnOk result (HasRoomAlong (room self.new) digits.now) }
+        ensures kept { HasNoLessRoom (room self.old) (room self.new) }
         ensures queues { SameQueues (queues self.new) (queues self.old) }
         ensures shape { shape self.new ≡ shape self.old }
         ensures pushed { pushed self.new ≡ pushed self.old }
@@ -57,6 +59,7 @@ pub trait Fabric {
         requires room { HasRoomAlong (room self.old) digits.now }
         requires few { pushed self.old < 2 ^ 62 }
         ensures queues { SameQueues (queues self.new) (push_along digits.now ranks.now item (queues self.old)) }
+        ensures less_room { SameRoom (room self.new) (less_room_along digits.now (room self.old)) }
         ensures shape { shape self.new ≡ shape self.old }
         ensures pushed { pushed self.new ≡ pushed self.old + 1 }
         ensures popped { popped self.new ≡ popped self.old }
@@ -73,6 +76,7 @@ pub trait Fabric {
         ensures queues_stay { IfNone result (SameQueues (queues self.new) (queues self.old)) }
         ensures digits_stay { IfNone result (digits.new ≡ digits.old) }
         ensures ranks_stay { IfNone result (ranks.new ≡ ranks.old) }
+        ensures kept { HasNoLessRoom (room self.old) (room self.new) }
         ensures shape { shape self.new ≡ shape self.old }
         ensures pushed { pushed self.new ≡ pushed self.old }
         ensures popped { popped self.new ≡ popped self.old + 1 }

@@ -51,6 +51,7 @@ pub trait NodeQueue {
             result ≡ spills_for rank value (entries self.old) }
         ensures entries { entries self.new ≡ put (entries self.old) rank value }
         ensures pushes { pushes self.new ≡ pushes self.old + 1 }
+        ensures spare { spare self.new + 1 ≡ spare self.old }
         ensures flows { flows self.new ≡ flows self.old };
 
     /// Takes the pair that leaves: its rank and its value, or `None` exactly where there is no pair.
@@ -58,6 +59,7 @@ pub trait NodeQueue {
     fn pop_pair(&mut self) -> Option<(u64, u64)>
         ensures taken { Pops (entries self.old) result (entries self.new) }
         ensures pushes { pushes self.new ≡ pushes self.old }
+        ensures spare { spare self.old ≤ spare self.new }
         ensures flows { flows self.new ≡ flows self.old };
 
     /// Whether there is no pair.

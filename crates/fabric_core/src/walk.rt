@@ -3,7 +3,7 @@ ghost use Rattle.std.specs.Prelude.{ℕ, ◌≡◌, ◌≢◌, ◌≤◌, ◌<�
 ghost use Rattle.std.specs.List.{AllByRecursion};
 ghost use Rattle.fabric_defs.specs.Family.{IsLeafAddress, HasRoomAlong};
 ghost use Rattle.fabric_defs.specs.Spills.{spills_along};
-ghost use Rattle.fabric_core.specs.Array.{nodes, queues_at, room_at, flows_at, array_push, ArrayPops};
+ghost use Rattle.fabric_core.specs.Array.{nodes, queues_at, room_at, flows_at, array_push, ArrayPops, ArrayKeepsRoom, ArrayTakesRoom};
 ghost use Rattle.fabric_core.specs.Flow.{IsFlow, HasFlows};
 ghost use Rattle.pifo_core.specs.Taking.{Pops};
 
@@ -22,6 +22,7 @@ pub fn reserve_along<Q: NodeQueue>(
     requires nodes { nodes arities.now ≡ length queues.old }
     requires small { length queues.old < 2 ^ 32 }
     ensures room { OnOk result (HasRoomAlong (room_at arities.now (map Q.spare queues.new) 0 1 0) digits.now) }
+    ensures kept { ArrayKeepsRoom arities.now (map Q.spare queues.old) (map Q.spare queues.new) }
     ensures entries { map Q.entries queues.new ≡ map Q.entries queues.old }
     ensures pushes { map Q.pushes queues.new ≡ map Q.pushes queues.old }
     ensures flows { map Q.flows queues.new ≡ map Q.flows queues.old }
@@ -53,6 +54,7 @@ pub fn push_along<Q: NodeQueue>(
     ensures entries { map Q.entries queues.new ≡ array_push arities.now (map Q.entries queues.old) 0 1 0 digits.now ranks.now item }
     ensures pushes { (n : ℕ) →
         AllByRecursion (λ k. k ≤ n) (map Q.pushes queues.old) → AllByRecursion (λ k. k ≤ n + 1) (map Q.pushes queues.new) }
+    ensures less_room { ArrayTakesRoom arities.now digits.now (map Q.spare queues.old) (map Q.spare queues.new) }
     ensures flows { map Q.flows queues.new ≡ map Q.flows queues.old }
     ensures spilled { HasFlows arities.now (flows_at arities.now (map Q.flows queues.old) 0 1 0) →
         IsFlow arities.now (queues_at arities.now (map Q.entries queues.old) 0 1 0) →
@@ -86,6 +88,7 @@ pub fn pop_along<Q: NodeQueue>(
     requires some { queues_at arities.now (map Q.entries queues.old) 0 1 0 [] ≢ [] }
     ensures popped { ArrayPops arities.now (map Q.entries queues.old) result digits.new ranks.new (map Q.entries queues.new) }
     ensures pushes { map Q.pushes queues.new ≡ map Q.pushes queues.old }
+    ensures kept { ArrayKeepsRoom arities.now (map Q.spare queues.old) (map Q.spare queues.new) }
     ensures flows { map Q.flows queues.new ≡ map Q.flows queues.old }
 {
     let mut spot = Spot::root();
@@ -106,6 +109,7 @@ fn pop_one<Q: NodeQueue>(queue: &mut Q) -> (u64, u64)
     requires { Q.entries queue.old ≢ [] }
     ensures taken { Pops (Q.entries queue.old) (Some result) (Q.entries queue.new) }
     ensures pushes { Q.pushes queue.new ≡ Q.pushes queue.old }
+    ensures spare { Q.spare queue.old ≤ Q.spare queue.new }
     ensures flows { Q.flows queue.new ≡ Q.flows queue.old }
 {
     let Some(taken) = queue.pop_pair() else {

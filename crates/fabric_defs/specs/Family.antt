@@ -1,5 +1,5 @@
 -- A complete tree of queues as a family: one queue for each address.
-use Rattle.std.specs.Prelude.{◌≡◌, refl, ℕ, zero, suc, ◌<◌, ◌≤◌, List, [], ◌∷◌, length, Option, Some, option_map, nat_eq, slice_index, drop, if◌then◌else◌}
+use Rattle.std.specs.Prelude.{◌≡◌, refl, ℕ, zero, suc, ◌-◌, ◌<◌, ◌≤◌, List, [], ◌∷◌, length, Option, Some, option_map, nat_eq, slice_index, drop, if◌then◌else◌}
 use Rattle.std.specs.List.{AllByRecursion}
 use Rattle.pifo_defs.specs.Queue.{Queue, put, take_least, Taking}
 use Rattle.tree_defs.specs.Tree.{Popping, option_bind}
@@ -76,6 +76,21 @@ abbrev pub HasRoomAlong : (Address → ℕ) → Address → Type 0
 HasRoomAlong room [] = 0 < room []
 HasRoomAlong room (x ∷ a) = (0 < room []) × HasRoomAlong (λ b. room (x ∷ b)) a
 
+-- a free place fewer at each node on the way to an address, and as many as before elsewhere
+abbrev pub less_room_along : Address → (Address → ℕ) → Address → ℕ
+less_room_along [] room [] = room [] - 1
+less_room_along [] room (y ∷ b) = room (y ∷ b)
+less_room_along (x ∷ a) room [] = room [] - 1
+less_room_along (x ∷ a) room (y ∷ b) = if nat_eq x y then less_room_along a (λ c. room (x ∷ c)) b else room (y ∷ b)
+
+-- as many free places at each address
+abbrev pub SameRoom : (Address → ℕ) → (Address → ℕ) → Type 0
+SameRoom room other = (b : Address) → room b ≡ other b
+
+-- at no address are there fewer free places in the second
+abbrev pub HasNoLessRoom : (Address → ℕ) → (Address → ℕ) → Type 0
+HasNoLessRoom room other = (b : Address) → room b ≤ other b
+
 -- the greatest rank that a fabric takes, 2^62 - 1
 abbrev pub most_rank : ℕ
 most_rank = 4611686018427387903
@@ -102,3 +117,19 @@ shown p = record { value = p.value; digits = p.digits; ranks = p.ranks; left = p
 
 pub pop_along-two_levels : option_map shown (pop_along 1 two_levels) ≡ Some (record { value = 7; digits = 1 ∷ []; ranks = 5 ∷ 2 ∷ []; left = [] })
 pop_along-two_levels = refl
+
+-- three free places at each node, of which a push along digit 1 takes one at the root and one at that child
+abbrev pub three_places : Address → ℕ
+three_places = less_room_along (1 ∷ []) (λ _. 3)
+
+pub less_room_along-root : three_places [] ≡ 2
+less_room_along-root = refl
+
+pub less_room_along-leaf : three_places (1 ∷ []) ≡ 2
+less_room_along-leaf = refl
+
+pub less_room_along-beside : three_places (0 ∷ []) ≡ 3
+less_room_along-beside = refl
+
+pub less_room_along-beyond : three_places (1 ∷ 1 ∷ []) ≡ 3
+less_room_along-beyond = refl

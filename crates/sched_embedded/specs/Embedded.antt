@@ -1,12 +1,17 @@
 -- Which source states a scheduler over a fabric stands for.
-use Rattle.std.specs.Prelude.{◌≡◌, ◌+◌, ℕ, List}
+use Rattle.std.specs.Prelude.{◌≡◌, ◌↔◌, ◌+◌, ℕ, List}
 use Rattle.tree_defs.specs.Tree.{Tree, Address}
 use Rattle.embed_defs.specs.Images.{image_map}
 use Rattle.embed_lift_defs.specs.Lift.{IsLift}
 use Rattle.fabric_core.specs.declared.fabric.Fabric.{Ghosts}
 use Rattle.sched_defs.specs.SourceState.{SourceState}
+use Rattle.sched_defs.specs.Sound.{IsSound}
+use Rattle.sched_held.specs.Held.{held_at}
+use Rattle.sched_nodes.specs.Agreement.{AreStates}
 use Rattle.sched_core.specs.Origins.{Origin}
-use Rattle.sched_core.specs.Own.{IsOwn}
+use Rattle.sched_core.specs.Standing.{StandForOne}
+use Rattle.sched_core.specs.declared.own.Own.{Own}
+use Rattle.sched_core.specs.Own.{IsOwn, policy_in}
 use Rattle.sched_embedded.specs.declared.embedded.Embedded.{Embedded}
 
 -- where the queues stand in the target
@@ -25,3 +30,25 @@ pub record EmbeddedStands {F : Type 0} (fabrics : Ghosts F) (c : Embedded F) (fa
   pub lifted : IsLift s.tree (image_map c.embedding.images) (fabrics.queues fabric)
   pub pushes : fabrics.pushed fabric ≡ c.pushes_before + c.own.pushes
   pub pops : fabrics.popped fabric ≡ c.pops_before + c.own.departures
+
+-- ---- five points
+-- the node states, the packets held and the greatest moment
+pub record IsKept (own : Own) (s : SourceState) : Type 0 where
+  pub nodes : AreStates own.stations s.nodes
+  pub held : (n : ℕ) → held_at own.held n ≡ s.held n
+  pub now : s.now ≡ own.moment
+
+-- the same without the counts that a scheduler keeps of its packets
+pub record HasFivePoints {F : Type 0} (fabrics : Ghosts F) (c : Embedded F) (fabric : F) (s : SourceState) : Type 0 where
+  pub kept : IsKept c.own s
+  pub shape : fabrics.shape fabric ≡ c.embedding.arities
+  pub lifted : IsLift s.tree (image_map c.embedding.images) (fabrics.queues fabric)
+  pub pushes : fabrics.pushed fabric ≡ c.pushes_before + c.own.pushes
+  pub pops : fabrics.popped fabric ≡ c.pops_before + c.own.departures
+
+-- A scheduler that stands with some fabric for some sound state stands with another for another sound state exactly where the
+-- five points hold: what it counts of its packets is then right too.
+abbrev pub FivePointsStand : {F : Type 0} → Ghosts F → Type 0
+FivePointsStand {F} fabrics =
+    (c : Embedded F) (some other : F) (s : SourceState) → StandForOne (EmbeddedStands fabrics) (policy_in c.own) c some (λ _. Unit {0}) → IsSound (policy_in c.own) s
+    → EmbeddedStands fabrics c other s ↔ HasFivePoints fabrics c other s

@@ -2,3 +2,4 @@ pub mod Laid
 pub mod Codes
 pub mod Embedded
 pub mod Fabrics
+pub mod Rows

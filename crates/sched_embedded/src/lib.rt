@@ -4,5 +4,7 @@
 
 mod embedded;
 mod embedding;
+mod laws;
 
 pub use embedded::Embedded;
+pub use laws::five_points_stand;

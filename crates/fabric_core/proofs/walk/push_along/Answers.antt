@@ -2,12 +2,14 @@ use Rattle.std.proofs.Common.{rules, ◌<◌, ◌≡◌, ℕ, get_or, length, ap
 use Rattle.fabric_core.proofs.LevelWalks.{at_index, at_width, at_child_width, leaf_length, digit_below}
 use Rattle.fabric_core.proofs.PushSteps.{pushing_first, pushing_next, pushed_last, pushed_counts, room_for, few_for}
 use Rattle.fabric_core.proofs.ArrayUpdates.{flows_stay}
+use Rattle.fabric_core.proofs.RoomSteps.{taking_first, taking_next, taken_last}
 use Rattle.fabric_core.proofs.SpillSteps.{counting_first, counting_next, counted_last, few_byte}
 use Rattle.fabric_core.proofs.walk.push_along.Goals as goal
 
 pub loop-level-init : goal.loop-level-init
 loop-level-init g c = record {
   pushing = pushing_first g.Q.NodeQueue c.args.arities.now c.args.digits.now c.args.ranks.now c.args.item c.args.queues.now _ _ _ c.requires.nodes c.requires.room c.requires.few c.root-spot.ensures.begin c.root-spot.ensures.width c.root-spot.ensures.place;
+  taking = taking_first g.Q.NodeQueue c.args.arities.now c.args.digits.now c.args.queues.now _ _ _ c.root-spot.ensures.begin c.root-spot.ensures.width c.root-spot.ensures.place;
   counting = counting_first g.Q.NodeQueue c.args.arities.now c.args.digits.now c.args.ranks.now c.args.queues.now _ _ _ c.root-spot.ensures.begin c.root-spot.ensures.width c.root-spot.ensures.place;
 }
 
@@ -72,6 +74,8 @@ loop-level-preserved g c =
     record {
       pushing = pushing_next g.Q.NodeQueue c.args.arities.now c.args.digits.now c.args.ranks.now c.args.item c.args.queues.now l.queues l.level l.spot.begin l.spot.width l.spot.place c.index.result c.from.result c.child-spot.result.begin c.child-spot.result.width c.child-spot.result.place c.push_pair-spills.new.self c.index-queues-index.result
           c.requires.leaf c.requires.one_more c.loop-level-test.true l.invariant.pushing c.index.ensures c.from.ensures c.push_pair-spills.ensures.entries c.push_pair-spills.ensures.pushes c.child-spot.ensures.begin c.child-spot.ensures.width c.child-spot.ensures.place;
+      taking = taking_next g.Q.NodeQueue c.args.arities.now c.args.digits.now c.args.queues.now l.queues l.level l.spot.begin l.spot.width l.spot.place c.index.result c.child-spot.result.begin c.child-spot.result.width c.child-spot.result.place c.push_pair-spills.new.self c.index-queues-index.result
+          c.requires.leaf c.loop-level-test.true l.invariant.pushing.here l.invariant.taking c.index.ensures c.push_pair-spills.ensures.spare c.child-spot.ensures.begin c.child-spot.ensures.width c.child-spot.ensures.place;
       counting = counting_next g.Q.NodeQueue c.args.arities.now c.args.digits.now c.args.ranks.now c.args.queues.now l.queues l.spilled c.from-spilled.result l.level l.spot.begin l.spot.width l.spot.place c.index.result c.from.result c.child-spot.result.begin c.child-spot.result.width c.child-spot.result.place c.push_pair-spills.new.self c.index-queues-index.result c.push_pair-spills.result
           c.requires.leaf c.requires.one_more c.loop-level-test.true l.invariant.pushing.here l.invariant.counting c.index.ensures c.from.ensures c.push_pair-spills.ensures.inner c.from-spilled.ensures c.push_pair-spills.ensures.flows c.child-spot.ensures.begin c.child-spot.ensures.width c.child-spot.ensures.place;
     }
@@ -87,6 +91,12 @@ pub returns-clause-pushes : goal.returns-clause-pushes
 returns-clause-pushes g c =
     let l = c.loop-level in
     pushed_counts g.Q.NodeQueue c.args.arities.now c.args.digits.now c.args.ranks.now c.args.item c.args.queues.now l.queues l.level l.spot.begin l.spot.width l.spot.place c.index-2.result c.push_pair-spills-2.new.self c.index-queues-index-2.result l.invariant.pushing c.index-2.ensures c.push_pair-spills-2.ensures.pushes
+
+pub returns-clause-less_room : goal.returns-clause-less_room
+returns-clause-less_room g c =
+    let l = c.loop-level in
+    taken_last g.Q.NodeQueue c.args.arities.now c.args.digits.now c.args.queues.now l.queues l.level l.spot.begin l.spot.width l.spot.place c.index-2.result c.push_pair-spills-2.new.self c.index-queues-index-2.result
+    c.requires.nodes c.requires.leaf (omega (arith, c.loop-level-test.false)) l.invariant.pushing.here l.invariant.taking c.index-2.ensures c.push_pair-spills-2.ensures.spare
 
 pub returns-clause-flows : goal.returns-clause-flows
 returns-clause-flows g c =

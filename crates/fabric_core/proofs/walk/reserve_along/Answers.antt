@@ -3,6 +3,7 @@ use Rattle.std.proofs.lemmas.Result.{on_ok_weaker}
 use Rattle.fabric_core.proofs.LevelWalks.{IsAt, at_index, at_width, at_child, at_child_width, leaf_length, digit_below}
 use Rattle.fabric_core.proofs.ArrayUpdates.{entries_stay, pushes_stay, flows_stay}
 use Rattle.fabric_core.proofs.ReserveSteps.{room_next_queue, room_last_queue}
+use Rattle.fabric_core.proofs.RoomSteps.{roomier_next, roomier_last}
 use Rattle.fabric_core.proofs.walk.reserve_along.Goals as goal
 
 pub index-requires-clause-few : goal.index-requires-clause-few
@@ -24,6 +25,12 @@ pub bounds-queues-index-2 : goal.bounds-queues-index-2
 bounds-queues-index-2 g c =
     let l = c.loop-level in
     omega (arith, at_index c.args.arities.now (length l.queues) l.level l.spot.begin l.spot.width l.spot.place l.invariant.here, c.index-2.ensures)
+
+pub returns-in_err-make_room-clause-kept : goal.returns-in_err-make_room-clause-kept
+returns-in_err-make_room-clause-kept g c =
+    let l = c.loop-level in
+    roomier_last g.Q.NodeQueue c.args.arities.now c.args.queues.now l.queues c.index.result c.make_room.new.self c.index-queues-index.result
+    (omega (arith, at_index c.args.arities.now (length l.queues) l.level l.spot.begin l.spot.width l.spot.place l.invariant.here, c.index.ensures)) l.invariant.kept c.make_room.ensures.kept
 
 pub returns-in_err-make_room-clause-entries : goal.returns-in_err-make_room-clause-entries
 returns-in_err-make_room-clause-entries g c =
@@ -66,6 +73,8 @@ loop-level-preserved g c =
       count = length-set l.queues c.index.result c.make_room.new.self ∙ l.invariant.count;
       room = room_next_queue g.Q.NodeQueue c.args.arities.now c.args.digits.now l.queues l.level l.spot.begin l.spot.width l.spot.place c.index.result c.child-spot.result.begin c.child-spot.result.width c.child-spot.result.place c.make_room.new.self c.index-queues-index.result
           c.requires.leaf c.loop-level-test.true (at_index c.args.arities.now (length l.queues) l.level l.spot.begin l.spot.width l.spot.place l.invariant.here) l.invariant.room c.index.ensures c.make_room.ensures.kept c.in_ok-make_room.ensures.room c.child-spot.ensures.begin c.child-spot.ensures.width c.child-spot.ensures.place;
+      kept = roomier_next g.Q.NodeQueue c.args.queues.now l.queues c.index.result c.make_room.new.self c.index-queues-index.result
+          (omega (arith, at_index c.args.arities.now (length l.queues) l.level l.spot.begin l.spot.width l.spot.place l.invariant.here, c.index.ensures)) l.invariant.kept c.make_room.ensures.kept;
       entries = entries_stay g.Q.NodeQueue c.args.queues.now l.queues c.index.result c.make_room.new.self c.index-queues-index.result l.invariant.entries c.make_room.ensures.entries;
       pushes = pushes_stay g.Q.NodeQueue c.args.queues.now l.queues c.index.result c.make_room.new.self c.index-queues-index.result l.invariant.pushes c.make_room.ensures.pushes;
       flows = flows_stay g.Q.NodeQueue c.args.queues.now l.queues c.index.result c.make_room.new.self c.index-queues-index.result l.invariant.flows c.make_room.ensures.flows;
@@ -78,6 +87,12 @@ returns-clause-room g c =
     room_last_queue g.Q.NodeQueue c.args.arities.now c.args.digits.now l.queues l.level l.spot.begin l.spot.width l.spot.place c.index-2.result c.make_room-2.new.self c.index-queues-index-2.result
     c.requires.leaf (omega (arith, c.loop-level-test.false)) (at_index c.args.arities.now (length l.queues) l.level l.spot.begin l.spot.width l.spot.place l.invariant.here) l.invariant.room c.index-2.ensures c.make_room-2.ensures.kept some)
     c.make_room-2.ensures.room
+
+pub returns-clause-kept : goal.returns-clause-kept
+returns-clause-kept g c =
+    let l = c.loop-level in
+    roomier_last g.Q.NodeQueue c.args.arities.now c.args.queues.now l.queues c.index-2.result c.make_room-2.new.self c.index-queues-index-2.result
+    (omega (arith, at_index c.args.arities.now (length l.queues) l.level l.spot.begin l.spot.width l.spot.place l.invariant.here, c.index-2.ensures)) l.invariant.kept c.make_room-2.ensures.kept
 
 pub returns-clause-entries : goal.returns-clause-entries
 returns-clause-entries g c =

@@ -3,11 +3,11 @@ use Rattle.std.proofs.lemmas.List.{with_items_is}
 use Rattle.std.specs.Vec.{with_items}
 use Rattle.std.specs.List.{AllByRecursion}
 use Rattle.block_core.specs.Block.{Block}
-use Rattle.fabric_defs.specs.Family.{IsLeafAddress, push_along}
+use Rattle.fabric_defs.specs.Family.{IsLeafAddress, push_along, less_room_along}
 use Rattle.fabric_defs.specs.Spills.{spills_along}
-use Rattle.fabric_core.specs.Array.{array_push, queues_at, flows_at}
+use Rattle.fabric_core.specs.Array.{array_push, queues_at, room_at, flows_at, ArrayTakesRoom}
 use Rattle.fabric_core.specs.Flow.{HasFlows, IsFlow}
-use Rattle.block_core.specs.BlockTree.{BlockTree, block_queues, entries_of, pushes_of, flows_of}
+use Rattle.block_core.specs.BlockTree.{BlockTree, block_queues, block_room, entries_of, pushes_of, spare_of, flows_of}
 use Rattle.fabric_core.proofs.FabricLaws.{pushed_sound, pushed_queues, nodes_kept, few_kept}
 use Rattle.block_core.proofs.NodeSpills.{fewer_levels}
 use Rattle.block_core.proofs.fabric.BlockFabricFabric.push.Goals as goal
@@ -42,6 +42,15 @@ returns-clause-queues c b =
     ∙ ap (λ (z : List ℕ). array_push z (entries_of c.deref_mut.result.now) 0 1 0 c.args.digits.now c.args.ranks.now c.args.item) c.deref.ensures.value
     ∙ ap (λ (z : List Block). array_push f.arities.items (entries_of z) 0 1 0 c.args.digits.now c.args.ranks.now c.args.item) c.deref_mut.ensures.value) b
     ∙ ap (λ (v : BlockTree). push_along c.args.digits.now c.args.ranks.now c.args.item (block_queues v) b) c.self.view_is
+
+pub returns-clause-less_room : goal.returns-clause-less_room
+returns-clause-less_room c b =
+    let f = c.self.inside in
+    let back = with_items_is f.queues c.push_along-spilled.new.queues (omega (arith, c.push_along-spilled.auto.queues, c.deref_mut.ensures.len)) in
+    let taken : ArrayTakesRoom f.arities.items c.args.digits.now (spare_of f.queues.items) (spare_of c.push_along-spilled.new.queues)
+    = subst (λ (z : List ℕ). ArrayTakesRoom z c.args.digits.now (spare_of f.queues.items) (spare_of c.push_along-spilled.new.queues)) c.deref.ensures.value
+    (subst (λ (z : List Block). ArrayTakesRoom c.deref.result.now c.args.digits.now (spare_of z) (spare_of c.push_along-spilled.new.queues)) c.deref_mut.ensures.value c.push_along-spilled.ensures.less_room) in
+    ap (λ (z : List Block). room_at f.arities.items (spare_of z) 0 1 0 b) back ∙ taken b ∙ ap (λ (v : BlockTree). less_room_along c.args.digits.now (block_room v) b) c.self.view_is
 
 pub returns-clause-spilled : goal.returns-clause-spilled
 returns-clause-spilled c =

@@ -3,9 +3,9 @@ use Rattle.std.proofs.lemmas.List.{with_items_is}
 use Rattle.std.specs.Vec.{with_items}
 use Rattle.std.specs.List.{AllByRecursion}
 use Rattle.pifo_core.specs.Sorted.{Contents}
-use Rattle.fabric_defs.specs.Family.{IsLeafAddress, push_along}
-use Rattle.fabric_core.specs.Array.{array_push}
-use Rattle.fabric_core.specs.Flat.{Flat, flat_queues, entries_of, pushes_of}
+use Rattle.fabric_defs.specs.Family.{IsLeafAddress, push_along, less_room_along}
+use Rattle.fabric_core.specs.Array.{array_push, room_at, ArrayTakesRoom}
+use Rattle.fabric_core.specs.Flat.{Flat, flat_queues, flat_room, entries_of, pushes_of, spare_of}
 use Rattle.fabric_core.proofs.FabricLaws.{pushed_sound, pushed_queues}
 use Rattle.fabric_core.proofs.flat.FlatFabricFabric.push.Goals as goal
 
@@ -31,3 +31,12 @@ returns-clause-queues c b =
     ∙ ap (λ (z : List ℕ). array_push z (entries_of c.deref_mut.result.now) 0 1 0 c.args.digits.now c.args.ranks.now c.args.item) c.deref.ensures.value
     ∙ ap (λ (z : List Contents). array_push f.arities.items (entries_of z) 0 1 0 c.args.digits.now c.args.ranks.now c.args.item) c.deref_mut.ensures.value) b
     ∙ ap (λ (v : Flat). push_along c.args.digits.now c.args.ranks.now c.args.item (flat_queues v) b) c.self.view_is
+
+pub returns-clause-less_room : goal.returns-clause-less_room
+returns-clause-less_room c b =
+    let f = c.self.inside in
+    let back = with_items_is f.queues c.push_along.new.queues (omega (arith, c.push_along.auto.queues, c.deref_mut.ensures.len)) in
+    let taken : ArrayTakesRoom f.arities.items c.args.digits.now (spare_of f.queues.items) (spare_of c.push_along.new.queues)
+    = subst (λ (z : List ℕ). ArrayTakesRoom z c.args.digits.now (spare_of f.queues.items) (spare_of c.push_along.new.queues)) c.deref.ensures.value
+    (subst (λ (z : List Contents). ArrayTakesRoom c.deref.result.now c.args.digits.now (spare_of z) (spare_of c.push_along.new.queues)) c.deref_mut.ensures.value c.push_along.ensures.less_room) in
+    ap (λ (z : List Contents). room_at f.arities.items (spare_of z) 0 1 0 b) back ∙ taken b ∙ ap (λ (v : Flat). less_room_along c.args.digits.now (flat_room v) b) c.self.view_is
