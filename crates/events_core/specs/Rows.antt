@@ -1,11 +1,23 @@
 -- Worked scripts.
-use Rattle.std.specs.Prelude.{◌≡◌, refl, [], ◌∷◌, Some, None, codes}
+use Rattle.std.specs.Prelude.{◌≡◌, refl, [], ◌∷◌, map, Some, None, codes}
+use Rattle.std.proofs.Common.{arith}
 use Rattle.text_core.specs.declared.token.TokenKind.TheVariants.{Word, Number}
 use Rattle.text_core.specs.Glyphs.{text, figure}
 use Rattle.text_core.specs.Lines.{statements_of}
 use Rattle.events_core.specs.declared.step.Step.TheVariants.{Arrive, Depart, Rest, Drain}
-use Rattle.events_core.specs.Steps.{line_steps, counts_of}
-use Rattle.events_core.specs.Script.{Carries, Carry, over, next}
+use Rattle.events_core.specs.declared.fault.ScriptFault.TheVariants.{Line, TooMany, TooLong}
+use Rattle.events_core.specs.Steps.{word_step, counted_step, line_steps, counts_of}
+use Rattle.events_core.specs.Script.{Carries, Carry, over, next, IsFirstFault, code_of, place_of}
+
+-- without a count it is 1, and words are spelled in small letters
+words : map word_step (codes "a" ∷ codes "d" ∷ codes "rest" ∷ codes "drain" ∷ codes "A" ∷ codes "drained" ∷ codes "" ∷ []) ≡ Some (Arrive 1) ∷ Some (Depart 1) ∷ Some Rest ∷ Some Drain ∷ None ∷ None ∷ None ∷ []
+words = refl
+
+counted_words : map (λ w. counted_step w 7) (codes "a" ∷ codes "d" ∷ codes "rest" ∷ codes "drain" ∷ []) ≡ Some (Arrive 7) ∷ Some (Depart 7) ∷ None ∷ None ∷ []
+counted_words = refl
+
+the_count_stands_last : map line_steps ((figure 2 ∷ text (codes "a") ∷ []) ∷ (text (codes "a") ∷ figure 2 ∷ figure 2 ∷ []) ∷ (text (codes "a") ∷ text (codes "d") ∷ []) ∷ []) ≡ None ∷ None ∷ None ∷ []
+the_count_stands_last = refl
 
 a_count_may_be_zero : line_steps (text (codes "d") ∷ figure 0 ∷ []) ≡ Some (Depart 0 ∷ [])
 a_count_may_be_zero = refl
@@ -27,3 +39,45 @@ a_comment_behind = record { clean = refl; glyphs = text (codes "drain") ∷ []; 
 
 three_lines : Carry (statements_of (codes "a 2\n\r\ndrain # all")) (Arrive 2 ∷ Drain ∷ [])
 three_lines = next (codes "a 2") ([] ∷ codes "drain " ∷ []) (Arrive 2 ∷ []) (Drain ∷ []) two_arrivals (next [] (codes "drain " ∷ []) [] (Drain ∷ []) nothing_asked (next (codes "drain ") [] (Drain ∷ []) [] a_comment_behind over))
+
+-- ---- faults
+-- 4,194,304 are not too many, one more is, and lines are counted from 1; what follows the fault isn't looked at
+one_too_many : IsFirstFault (codes "a 4194304\nd 1\nb") (TooMany 2)
+one_too_many = record {
+  short = omega arith;
+  before = codes "a 4194304" ∷ [];
+  line = codes "d 1";
+  after = codes "b" ∷ [];
+  split = refl;
+  steps = Arrive 4194304 ∷ [];
+  carry = next (codes "a 4194304") [] (Arrive 4194304 ∷ []) [] (record { clean = refl; glyphs = text (codes "a") ∷ figure 4194304 ∷ []; says = (Word, 1, refl, refl, (Number, 7, refl, refl, refl)); form = refl }) over;
+  few = omega arith;
+  at_fault = (
+    refl,
+    record {
+      steps = Depart 1 ∷ [];
+      carries = record { clean = refl; glyphs = text (codes "d") ∷ figure 1 ∷ []; says = (Word, 1, refl, refl, (Number, 1, refl, refl, refl)); form = refl };
+      many = omega arith;
+    },
+  );
+}
+
+-- a byte that isn't allowed
+an_unclean_line : IsFirstFault (codes "\na\rb") (Line 2)
+an_unclean_line = record {
+  short = omega arith;
+  before = [] ∷ [];
+  line = codes "a\rb";
+  after = [];
+  split = refl;
+  steps = [];
+  carry = next [] [] [] [] nothing_asked over;
+  few = omega arith;
+  at_fault = (refl, λ steps carries. (let clean = carries.clean in cc));
+}
+
+fault_codes : map code_of (Line 7 ∷ TooMany 7 ∷ TooLong ∷ []) ≡ 1 ∷ 2 ∷ 4 ∷ []
+fault_codes = refl
+
+fault_lines : map place_of (Line 7 ∷ TooMany 7 ∷ TooLong ∷ []) ≡ 7 ∷ 7 ∷ 0 ∷ []
+fault_lines = refl

@@ -1,5 +1,6 @@
 -- How long a link takes to send a packet.
-use Rattle.std.specs.Prelude.{◌≡◌, refl, ℕ, ◌*◌, ◌≤◌}
+use Rattle.std.specs.Prelude.{◌≡◌, refl, ℕ, ◌*◌, ◌≤◌, map, [], ◌∷◌}
+use Rattle.std.proofs.Common.{arith}
 use Rattle.std.specs.Int.{div_ceil}
 
 -- nanoseconds of a second
@@ -26,5 +27,23 @@ pub record IsLeastTime (len rate time : ℕ) : Type 0 where
 abbrev pub SendTimeIsLeast : Type 0
 SendTimeIsLeast = (len rate : ℕ) → IsRate rate → IsLeastTime len rate (send_time len rate)
 
+-- rounded up, but not where the bytes go in whole nanoseconds; and a rate is of bytes, and not of bits
 a_byte_at_three_a_second : send_time 1 3 ≡ 333333334
 a_byte_at_three_a_second = refl
+
+three_bytes_at_three_a_second : send_time 3 3 ≡ 1000000000
+three_bytes_at_three_a_second = refl
+
+-- at the highest rate 1,000 bytes go in a nanosecond
+bytes_at_the_highest_rate : map (λ len. send_time len most_rate) (0 ∷ 1 ∷ 1000 ∷ 1001 ∷ []) ≡ 0 ∷ 1 ∷ 1 ∷ 2 ∷ []
+bytes_at_the_highest_rate = refl
+
+-- the lowest and the highest rate are rates, and none beyond them is
+the_ends_are_rates : IsRate 1 × IsRate 1000000000000
+the_ends_are_rates = ((omega arith, omega arith), (omega arith, omega arith))
+
+zero_is_no_rate : IsRate 0 → ⊥
+zero_is_no_rate rate = omega (arith, rate.0)
+
+one_more_is_no_rate : IsRate 1000000000001 → ⊥
+one_more_is_no_rate rate = omega (arith, rate.1)

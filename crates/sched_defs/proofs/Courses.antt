@@ -75,12 +75,12 @@ drop_whole [] = refl
 drop_whole (x ∷ xs) = drop_whole xs
 
 -- what a step leaves to send
-record IsStepMade (policy : Policy) (step : Step) (n : ℕ) (packets : List Packet) (s : SourceState) : Type 0 where
-  can : CanMake policy (step_events step packets s) s
-  next : ℕ
-  rest : CanBeSent policy next (left_by step packets) (after policy (step_events step packets s) s)
+pub record IsStepMade (policy : Policy) (step : Step) (n : ℕ) (packets : List Packet) (s : SourceState) : Type 0 where
+  pub can : CanMake policy (step_events step packets s) s
+  pub next : ℕ
+  pub rest : CanBeSent policy next (left_by step packets) (after policy (step_events step packets s) s)
 
-step_made : (policy : Policy) (step : Step) (n : ℕ) (packets : List Packet) (s : SourceState) → CanBeSent policy n packets s → IsStepMade policy step n packets s
+pub step_made : (policy : Policy) (step : Step) (n : ℕ) (packets : List Packet) (s : SourceState) → CanBeSent policy n packets s → IsStepMade policy step n packets s
 step_made policy (Arrivals k) n packets s can = record { can = sent_front policy n k packets s can; next = n + length (take k packets); rest = sent_rest policy n k packets s can }
 step_made policy (Departures k) n packets s can = record { can = CanMake-departures policy k None s; next = n; rest = sent_departures policy n k packets s can }
 step_made policy Rest n packets s can = record {

@@ -55,6 +55,14 @@ held_count policy s numbers sound are =
     (λ n i. in_of n numbers ((are.each n).1 ((own.each n).0 (contains_of n (values s.tree) i))))
     ∙ length-values s.tree
 
+-- where none stands in the leaves none is held
+pub none_held : (policy : Policy) (s : SourceState) → IsSound policy s → size s.tree ≡ 0 → (n : ℕ) → s.held n ≡ None
+none_held policy s sound z n = by_held (s.held n) refl
+  where
+    by_held : (o : Option Packet) → s.held n ≡ o → s.held n ≡ None
+    by_held None e = e
+    by_held (Some p) e = let at = sound.stands n p e in absurd (omega (arith, at.1, length-values s.tree, z))
+
 pub size_pushed : (policy : Policy) (p : Packet) (s : SourceState) → IsAccepted policy → IsSound policy s → CanArrive policy s p → size (pushed policy p s).tree ≡ size s.tree + 1
 size_pushed policy p s accepted sound can = size-push s.tree (class_of policy p).leaf (arrival_ranks policy p s) p.number (leads_in policy accepted s sound p can.known.class)
 

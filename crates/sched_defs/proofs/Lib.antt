@@ -7,4 +7,5 @@ pub mod Soundness
 pub mod Runs
 pub mod Leaving
 pub mod Courses
+pub mod Drains
 pub mod Links

@@ -1,5 +1,6 @@
 -- The events of a run that a link paces can be made: each packet comes, and each departure takes one.
-use Rattle.std.proofs.Common.{◌≡◌, ◌≤◌, ℕ, zero, suc, ◌+◌, max, Bool, true, false, Option, Some, None, List, [], ◌∷◌, ◌++◌, if◌then◌else◌, refl, sym, ap, ◌∙◌, subst, arith}
+use Rattle.std.proofs.Common.{◌≡◌, ◌<◌, ◌≤◌, ℕ, zero, suc, ◌+◌, max, Bool, true, false, Option, Some, None, List, [], ◌∷◌, ◌++◌, if◌then◌else◌, refl, sym, ap, ◌∙◌, subst, arith, inl, inr}
+use Rattle.std.proofs.lemmas.Bool.{ltb-true, ltb-false}
 use Rattle.std.specs.Option.{option_map_or}
 use Rattle.tree_defs.specs.SourceTree.{size}
 use Rattle.packet_defs.specs.declared.packet.Packet.{Packet}
@@ -11,7 +12,7 @@ use Rattle.sched_defs.specs.Sound.{IsSound}
 use Rattle.sched_defs.specs.Events.{Event, Arrive, Depart, Outcome, Arrived, Dropped, after, departure, outcome, outcomes, pushed_in, dropped_in, empty_in, CanArrive, CanMake}
 use Rattle.sched_defs.specs.Faults.{FaultAt}
 use Rattle.sched_defs.specs.Numbered.{IsHeldBelow, CanBeSent}
-use Rattle.sched_defs.specs.Laws.{IsLinkRun}
+use Rattle.sched_defs.specs.Laws.{IsLinkRun, IsSentBefore, IsSentBeforeEach}
 use Rattle.sched_defs.specs.Link.{Sent, sent_nothing, sent_first, is_due, send_until, send_due, send_all, link_turn, link_course}
 use Rattle.sched_defs.proofs.Runs.{sound_after, CanMake-joined, after-append, outcomes-append, pushed_in-append, dropped_in-append, empty_in-append, arrivals_count}
 use Rattle.sched_defs.proofs.Courses.{held_none, held_arrived, held_departed}
@@ -124,6 +125,41 @@ module _ (policy : Policy) (rate : ℕ) (accepted : IsAccepted policy) where
           → size (option_map_or (λ l. sent_first (Depart (Some free)) (send_until policy rate None n (departed policy s) (free + send_time l.packet.len rate))) o (sent_nothing s free)).state.tree ≡ 0
       by_leaver rest None e = (leaver-none policy s sound).0 e
       by_leaver rest (Some l) e = rest (free + send_time l.packet.len rate)
+
+  -- before a moment the departures stop only where nothing is held or the link isn't free before it
+  sent_before : (moment n : ℕ) (s : SourceState) (free : ℕ) → IsSound policy s → size s.tree ≤ n → IsSentBefore moment (send_until policy rate (Some moment) n s free)
+  sent_before moment zero s free sound few = record { early = tt; stops = inl (omega arith) }
+  sent_before moment (suc n) s free sound few =
+      by_due (λ after. sent_before moment n (departed policy s) after (sound_departed policy s accepted sound) (omega (arith, size_departed policy s sound, few))) (is_due (Some moment) free) refl
+    where
+      next : Leaver → Sent
+      next l = send_until policy rate (Some moment) n (departed policy s) (free + send_time l.packet.len rate)
+
+      Rest : Type 0
+      Rest = (after : ℕ) → IsSentBefore moment (send_until policy rate (Some moment) n (departed policy s) after)
+
+      by_leaver : free < moment → Rest → (o : Option Leaver) → leaver s ≡ o → IsSentBefore moment (option_map_or (λ l. sent_first (Depart (Some free)) (next l)) o (sent_nothing s free))
+      by_leaver due rest None e = record { early = tt; stops = inl ((leaver-none policy s sound).0 e) }
+      by_leaver due rest (Some l) e =
+          let more = rest (free + send_time l.packet.len rate) in
+          record { early = (due, more.early); stops = more.stops }
+
+      by_due : Rest → (t : Bool) → is_due (Some moment) free ≡ t → IsSentBefore moment (if t then option_map_or (λ l. sent_first (Depart (Some free)) (next l)) (leaver s) (sent_nothing s free) else sent_nothing s free)
+      by_due rest true e = by_leaver (ltb-true free moment e) rest (leaver s) refl
+      by_due rest false e = record { early = tt; stops = inr (ltb-false free moment e) }
+
+  pub due_sent : (moment : ℕ) (s : SourceState) (free : ℕ) → IsSound policy s → IsSentBefore moment (send_due policy rate moment s free)
+  due_sent moment s free sound = sent_before moment (size s.tree) s free sound (omega arith)
+
+  pub due_sent_each : (packets : List Packet) (first : ℕ) (s : SourceState) (free : ℕ) → IsSound policy s → CanBeSent policy first packets s → IsSentBeforeEach policy rate packets s free
+  due_sent_each [] first s free sound can = tt
+  due_sent_each (p ∷ packets) first s free sound can =
+      let turn : Sent = link_turn policy rate p s free in (
+        due_sent (max s.now p.moment) s free sound,
+        due_sent_each packets (first + 1) turn.state turn.free
+            (subst (IsSound policy) (turn_leads policy rate p s free) (sound_after policy turn.events s accepted sound (turn_can policy rate p s free first packets can)))
+            (turn_rest policy rate p s free first packets can),
+      )
 
   pub link_leaves : (packets : List Packet) (fault : Option FaultAt) (first : ℕ) (s : SourceState) (free : ℕ) → IsSound policy s → CanBeSent policy first packets s
       → IsLinkRun policy packets fault s (link_course policy rate packets fault s free).events

@@ -1,5 +1,5 @@
 -- What follows from the definitions of states and events.
-use Rattle.std.specs.Prelude.{◌≡◌, ◌≤◌, ◌↔◌, ℕ, ◌+◌, ◌-◌, nat_eq, IsSome, Option, None, Some, List, ◌++◌, length, replicate}
+use Rattle.std.specs.Prelude.{◌≡◌, ◌<◌, ◌≤◌, ◌↔◌, ◌⊎◌, ℕ, ◌+◌, ◌-◌, max, nat_eq, IsSome, Option, None, Some, List, [], ◌∷◌, ◌++◌, length, replicate, ⊤}
 use Rattle.std.specs.List.{AllByRecursion, IsDistinct, Contains}
 use Rattle.tree_defs.specs.Tree.{Address, LeadsToLeaf}
 use Rattle.tree_defs.specs.SourceTree.{size}
@@ -9,11 +9,12 @@ use Rattle.policy_defs.specs.Policy.{Policy, limit_at}
 use Rattle.policy_defs.specs.Accepted.{IsAccepted}
 use Rattle.sched_defs.specs.SourceState.{Held, SourceState, Leaver, start, class_of, arrival_ranks, pushed, arrived, departed, leaver}
 use Rattle.sched_defs.specs.Sound.{IsSound}
-use Rattle.sched_defs.specs.Events.{Event, Depart, Outcome, after, outcomes, pushed_in, popped_in, dropped_in, empty_in, asked_in, CanArrive, CanMake}
-use Rattle.sched_defs.specs.Script.{Step, course}
+use Rattle.sched_defs.specs.Events.{Event, Arrive, Depart, Outcome, after, outcomes, pushed_in, popped_in, dropped_in, empty_in, asked_in, CanArrive, CanMake}
+use Rattle.sched_defs.specs.Script.{Step, Drain, step_events, left_by, course}
+use Rattle.sched_defs.specs.declared.ending.Ending.TheVariants.{Whole}
 use Rattle.sched_defs.specs.Numbered.{CanBeSent, departures_asked}
 use Rattle.sched_defs.specs.Faults.{FaultAt}
-use Rattle.sched_defs.specs.Link.{link_course}
+use Rattle.sched_defs.specs.Link.{Sent, send_due, link_turn, link_course}
 
 -- ---- sound states
 abbrev pub StartIsSound : Type 0
@@ -109,6 +110,38 @@ CoursesAreShort =
     (policy : Policy) (steps : List Step) (packets : List Packet) (fault : Option FaultAt) (first event : ℕ) (s : SourceState) → IsAccepted policy → IsSound policy s → CanBeSent policy first packets s
     → IsCourseShort steps packets s (outcomes policy (course policy steps packets fault s event).events s)
 
+-- no packet is in the tree, and none is held under any number
+pub record HoldsNothing (s : SourceState) : Type 0 where
+  pub tree : size s.tree ≡ 0
+  pub held : (n : ℕ) → s.held n ≡ None
+
+-- these events take each packet that is held, no departure finds nothing, and nothing is held after them
+pub record IsDrained (policy : Policy) (events : List Event) (s : SourceState) : Type 0 where
+  pub popped : popped_in (outcomes policy events s) ≡ size s.tree
+  pub empty : empty_in (outcomes policy events s) ≡ 0
+  pub nothing : HoldsNothing (after policy events s)
+
+abbrev pub DrainsLeaveNothing : Type 0
+DrainsLeaveNothing = (policy : Policy) (packets : List Packet) (s : SourceState) → IsAccepted policy → IsSound policy s → IsDrained policy (step_events Drain packets s) s
+
+-- the same for each `drain` of a script, in the state in which it begins
+abbrev pub IsEachDrained : Policy → List Step → List Packet → SourceState → Type 0
+IsEachDrained policy [] packets s = ⊤
+IsEachDrained policy (step ∷ steps) packets s =
+    (step ≡ Drain → IsDrained policy (step_events step packets s) s) × IsEachDrained policy steps (left_by step packets) (after policy (step_events step packets s) s)
+
+abbrev pub EachDrainLeavesNothing : Type 0
+EachDrainLeavesNothing =
+    (policy : Policy) (steps : List Step) (packets : List Packet) (first : ℕ) (s : SourceState) → IsAccepted policy → IsSound policy s → CanBeSent policy first packets s
+    → IsEachDrained policy steps packets s
+
+-- a run that ends whole, after a script whose last step is `drain`, leaves nothing held
+abbrev pub LastDrainsLeaveNothing : Type 0
+LastDrainsLeaveNothing =
+    (policy : Policy) (steps : List Step) (packets : List Packet) (fault : Option FaultAt) (first event unsent : ℕ) (s : SourceState) → IsAccepted policy → IsSound policy s → CanBeSent policy first packets s
+    → (course policy (steps ++ Drain ∷ []) packets fault s event).ending ≡ Whole unsent
+    → HoldsNothing (after policy (course policy (steps ++ Drain ∷ []) packets fault s event).events s)
+
 -- ---- links
 -- the events that a link paces over packets in the order of a capture can be made
 abbrev pub LinksCanRun : Type 0
@@ -126,3 +159,30 @@ abbrev pub LinksSendAll : Type 0
 LinksSendAll =
     (policy : Policy) (rate : ℕ) → IsAccepted policy → (packets : List Packet) (fault : Option FaultAt) (first : ℕ) (s : SourceState) (free : ℕ) → IsSound policy s → CanBeSent policy first packets s
     → IsLinkRun policy packets fault s (link_course policy rate packets fault s free).events
+
+-- the event is a departure that starts before this timestamp
+abbrev pub StartsBefore : ℕ → Event → Type 0
+StartsBefore moment (Depart (Some start)) = start < moment
+StartsBefore moment (Depart None) = ⊥
+StartsBefore moment (Arrive p) = ⊥
+
+-- Each departure starts before this timestamp. They stop only if nothing is held or the link isn't free before the timestamp.
+pub record IsSentBefore (moment : ℕ) (sent : Sent) : Type 0 where
+  pub early : AllByRecursion (StartsBefore moment) sent.events
+  pub stops : (size sent.state.tree ≡ 0) ⊎ (moment ≤ sent.free)
+
+-- what a link sends before a timestamp is what is due
+abbrev pub LinksSendWhatIsDue : Type 0
+LinksSendWhatIsDue = (policy : Policy) (rate moment : ℕ) (s : SourceState) (free : ℕ) → IsAccepted policy → IsSound policy s → IsSentBefore moment (send_due policy rate moment s free)
+
+-- the same before each packet of a run, at its timestamp, or at the latest one so far
+abbrev pub IsSentBeforeEach : Policy → ℕ → List Packet → SourceState → ℕ → Type 0
+IsSentBeforeEach policy rate [] s free = ⊤
+IsSentBeforeEach policy rate (p ∷ packets) s free =
+    let turn = link_turn policy rate p s free in
+    IsSentBefore (max s.now p.moment) (send_due policy rate (max s.now p.moment) s free) × IsSentBeforeEach policy rate packets turn.state turn.free
+
+abbrev pub LinksSendBeforeEach : Type 0
+LinksSendBeforeEach =
+    (policy : Policy) (rate : ℕ) (packets : List Packet) (first : ℕ) (s : SourceState) (free : ℕ) → IsAccepted policy → IsSound policy s → CanBeSent policy first packets s
+    → IsSentBeforeEach policy rate packets s free

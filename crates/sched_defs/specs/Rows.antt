@@ -3,11 +3,12 @@ use Rattle.std.specs.Prelude.{◌≡◌, refl, ℕ, None, Some, List, [], ◌∷
 use Rattle.std.specs.Fmt.{digits}
 use Rattle.sched_defs.specs.Faults.{FaultAt}
 use Rattle.rank_defs.specs.declared.environment.FlowKey.{FlowKey}
-use Rattle.rank_defs.specs.declared.expression.Op.TheVariants.{Sub}
-use Rattle.rank_defs.specs.declared.expression.Var.TheVariants.{Len}
+use Rattle.rank_defs.specs.declared.expression.Op.TheVariants.{Add, Sub}
+use Rattle.rank_defs.specs.declared.expression.Var.TheVariants.{Len, Now, Weight, Slack, Rank, Keep}
+use Rattle.rank_defs.specs.declared.transaction.Aim.TheVariants.{Rank as AimRank, Keep as AimKeep}
 use Rattle.rank_defs.specs.Formulas.{number, variable, two}
 use Rattle.rank_defs.specs.Programs.{Program}
-use Rattle.rank_defs.specs.Builtins.{ranked_by, shortest, fifo, rr, stfq}
+use Rattle.rank_defs.specs.Builtins.{set, counter, ranked_by, shortest, strict, fifo, rr, stfq}
 use Rattle.tree_defs.specs.Tree.{leaf, inner, none, more}
 use Rattle.packet_defs.specs.declared.packet.Packet.{Packet}
 use Rattle.policy_defs.specs.Policy.{Policy, no_marks, Node, one_leaf}
@@ -120,3 +121,35 @@ pub report-one_leaf_limited : report one_leaf_limited (Arrivals 2 ∷ Departures
     ≡ codes "a 1 1 root 0\nx 2 2 root\nd 3 1 root 0\ne 4\ne 5\nend pushed 1 popped 1 empty 2 held 0 unsent 0 dropped 1\n"
 unfolding digits
 report-one_leaf_limited = refl
+
+-- a packet that is dropped raises `now`, by which the next one is ranked
+abbrev pub by_time_limited : Policy
+by_time_limited = record one_leaf_limited { tree = leaf (record (node (codes "root") (ranked_by (variable Now))) { limit = Some 1 }) }
+
+pub report-a_drop_raises_now : report by_time_limited (Arrivals 2 ∷ Departures 1 ∷ Arrivals 1 ∷ []) (packet 1 4 5 ∷ packet 2 4 9 ∷ packet 3 4 7 ∷ []) None
+    ≡ codes "a 1 1 root 5\nx 2 2 root\nd 3 1 root 5\na 4 3 root 9\nend pushed 2 popped 1 empty 0 held 1 unsent 0 dropped 1\n"
+unfolding digits
+report-a_drop_raises_now = refl
+
+-- ranks by a variable and the slack; a departure sets the variable to the rank taken and the weight
+abbrev pub by_slack_and_weight : Program
+by_slack_and_weight = record {
+  keeps = counter ∷ [];
+  eaches = [];
+  push = set AimRank (two Add (variable (Keep 0)) (variable Slack)) ∷ [];
+  pop = set (AimKeep 0) (two Add (variable Rank) (variable Weight)) ∷ [];
+}
+
+-- The root's steps read the marks of its child; the leaf's steps, at a push and at a pop, read those of the packet's class,
+-- and not those of the leaf.
+abbrev pub marked : Policy
+marked = record {
+  version = 1;
+  tree = inner (node (codes "root") strict) (more (leaf (record (node (codes "q") by_slack_and_weight) { marks = record { prio = 7; weight = 30; slack = 100 } })) none);
+  classes = record { marks = record { prio = 2; weight = 3; slack = 10 }; leaf = 0 ∷ [] } ∷ [];
+}
+
+pub report-marks_at_a_leaf : report marked (Arrivals 1 ∷ Departures 1 ∷ Arrivals 1 ∷ []) two_packets None
+    ≡ codes "a 1 1 q 7/10\nd 2 1 q 7/10\na 3 2 q 7/23\nend pushed 2 popped 1 empty 0 held 1 unsent 0\n"
+unfolding digits
+report-marks_at_a_leaf = refl

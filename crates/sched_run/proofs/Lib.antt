@@ -14,3 +14,4 @@ pub mod TotalLaws
 pub mod ReportLaws
 pub mod StartLaws
 pub mod LoadLaws
+pub mod LoadLeaves

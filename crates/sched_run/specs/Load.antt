@@ -1,14 +1,18 @@
 -- The events of a generated load, and what its line says of them.
-use Rattle.std.specs.Prelude.{◌≡◌, refl, ℕ, zero, suc, ◌+◌, ◌*◌, ◌%◌, nat_le, Bool, if◌then◌else◌, Option, None, List, [], ◌∷◌, ◌++◌, replicate}
+use Rattle.std.specs.Prelude.{◌≡◌, ◌≤◌, refl, ℕ, zero, suc, ◌+◌, ◌*◌, ◌%◌, nat_le, Bool, if◌then◌else◌, Option, None, List, [], ◌∷◌, ◌++◌, map, replicate}
 use Rattle.tree_defs.specs.SourceTree.{size}
 use Rattle.packet_defs.specs.declared.packet.Packet.{Packet}
-use Rattle.policy_defs.specs.Policy.{Policy}
+use Rattle.policy_defs.specs.Policy.{Policy, one_leaf}
+use Rattle.policy_defs.specs.Accepted.{IsAccepted}
 use Rattle.events_core.specs.Draws.{next_draw, drawn}
-use Rattle.sched_defs.specs.SourceState.{SourceState}
-use Rattle.sched_defs.specs.Events.{Event, Arrive, Depart, Outcome, Departed, after, outcomes, pushed_in, popped_in, empty_in}
+use Rattle.sched_defs.specs.SourceState.{SourceState, start}
+use Rattle.sched_defs.specs.Events.{Event, Arrive, Depart, Outcome, Departed, Empty, after, outcomes, pushed_in, popped_in, empty_in, CanMake}
+use Rattle.sched_defs.specs.Laws.{HoldsNothing}
+use Rattle.sched_defs.specs.Rows.{packet}
 use Rattle.sched_core.specs.declared.scheduler.Scheduler.{Ghosts}
 use Rattle.sched_run.specs.declared.drawing.Drawing.{Drawing}
 use Rattle.sched_run.specs.declared.tally.Totals.{Totals}
+use Rattle.sched_run.specs.Drawings.{HasLoadClasses, most_load}
 use Rattle.sched_run.specs.Played.{HasMade}
 use Rattle.sched_run.specs.Recording.{Recordings}
 
@@ -75,6 +79,40 @@ pub record MakesLoad {C U W : Type 0} (S : Ghosts C U) (R : Recordings W) (polic
   pub popped : t.popped ≡ popped_in (outcomes policy (load_run policy seed count from) from)
   pub empty : t.empty ≡ empty_in (outcomes policy (load_run policy seed count from) from)
 
-first_event_of_seed_0 : load_events 1 (first_drawing 0)
-    ≡ Arrive (packet_of (first_drawing 0)) ∷ []
-first_event_of_seed_0 = refl
+-- ---- what a load leaves
+-- The events of a load from the start can be made. Behind them nothing is held, as many packets were popped as were pushed,
+-- and no departure found nothing but one that was drawn.
+pub record LeavesNothing (policy : Policy) (seed count : ℕ) : Type 0 where
+  pub made : CanMake policy (load_run policy seed count (start policy)) (start policy)
+  pub nothing : HoldsNothing (after policy (load_run policy seed count (start policy)) (start policy))
+  pub balance : popped_in (outcomes policy (load_run policy seed count (start policy)) (start policy)) ≡ pushed_in (outcomes policy (load_run policy seed count (start policy)) (start policy))
+  pub empty : empty_in (outcomes policy (load_run policy seed count (start policy)) (start policy)) ≡ empty_in (outcomes policy (load_events count (first_drawing seed)) (start policy))
+
+abbrev pub LoadsLeaveNothing : Type 0
+LoadsLeaveNothing = (policy : Policy) (seed count : ℕ) → IsAccepted policy → HasLoadClasses policy → count ≤ most_load → LeavesNothing policy seed count
+
+-- ---- loads that are worked out
+-- a packet of a load
+abbrev load_packet : ℕ → ℕ → ℕ → ℕ → ℕ → Packet
+load_packet n c length_in_bytes source_address moment_in_ns = record {
+  number = n;
+  class = c;
+  len = length_in_bytes;
+  moment = moment_in_ns;
+  flow = record { version = 4; source = source_address; target = 0; proto = 0; sport = 0; dport = 0 };
+}
+
+-- draws in another order, numbers that a departure takes, or moments that aren't counted on would give other packets
+events_of_seed_2 : load_events 5 (first_drawing 2) ≡ Arrive (load_packet 1 2 388 8 295) ∷ Depart None ∷ Depart None ∷ Depart None ∷ Arrive (load_packet 2 2 1272 2 2169) ∷ []
+events_of_seed_2 = refl
+
+packets_of_seed_4 : load_events 2 (first_drawing 4) ≡ Arrive (load_packet 1 4 470 11 465) ∷ Arrive (load_packet 2 1 1098 2 681) ∷ []
+packets_of_seed_4 = refl
+
+-- one packet is held behind the five events, and leaves
+run_of_seed_2 : load_run one_leaf 2 5 (start one_leaf) ≡ load_events 5 (first_drawing 2) ++ Depart None ∷ []
+run_of_seed_2 = refl
+
+-- the order of departures counts, other outcomes don't, and the sum stays below 2^32
+sums : map (λ s. sum_of s (Departed (packet 2 64 0) [] [] None ∷ Empty ∷ Departed (packet 1 64 0) [] [] None ∷ [])) (0 ∷ 4294967295 ∷ []) ≡ 63 ∷ 4294966398 ∷ []
+sums = refl

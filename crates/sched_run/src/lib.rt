@@ -19,7 +19,7 @@ mod sum;
 mod tally;
 
 pub use drawing::Drawing;
-pub use laws::runs_begin_at_the_start;
+pub use laws::{loads_leave_nothing, runs_begin_at_the_start};
 pub use lines::depart_line;
 pub use load::MOST_LOAD;
 pub use pace::Pace;
