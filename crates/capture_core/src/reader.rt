@@ -4,10 +4,13 @@ ghost use Rattle.outside_core.specs.Faults.{Rose};
 ghost use Rattle.outside_core.specs.Kept.{KeepsShelf};
 ghost use Rattle.pcap_defs.specs.Record.{most_captured, most_records};
 ghost use Rattle.pcap_defs.specs.Contents.{Contents, FileContents, no_capture};
+ghost use Rattle.capture_core.specs.Held.{held};
+ghost use Rattle.capture_core.specs.Rest.{rest_of};
 ghost use Rattle.capture_core.specs.Captures.{packet_of, fault_told, Opens, Comes, IsOneLess, IsAt, LeavesNone};
 
 use crate::frame::LinkedFrame;
 use crate::unread::Unread;
+use crate::window::Window;
 use outside_core::Shelf;
 use std::alloc::Global;
 
@@ -25,28 +28,34 @@ pub trait CaptureReader {
     /// No call was refused.
     ghost is_live: { Self → Bool };
 
-    /// Nothing was read.
+    /// The bytes that were read and aren't used up.
+    ghost ahead: { Self → List ℕ };
+
+    /// Nothing was used up.
     ghost fresh: { Self → Type 0 };
 
     /// The beginning was read, and no call was refused.
     ghost ready: { Self → Type 0 };
 
-    fn new(alloc: Global) -> Self
-        ensures { fresh result };
+    /// One over the bytes that a window holds, and then those left of the begun file.
+    fn over(alloc: Global, window: Window) -> Self
+        ensures fresh { fresh result }
+        ensures ahead { ahead result ≡ held window };
 
     /// Whether no call was refused.
     fn live(&self) -> bool
         ensures { result ≡ is_live self.now };
 
-    /// Reads the beginning of the begun file.
+    /// Reads the beginning of the file: the bytes at hand, and then those left of the begun file.
     fn start<S: Shelf>(&mut self, shelf: &mut S) -> Result<(), Unread>
         requires fresh { fresh self.old }
         requires begun { IsTrue (S.begun shelf.old) }
 
-        ensures opens { OnOk result (IfSome (S.left shelf.old) (λ file.
+        ensures opens { OnOk result (IfSome (rest_of (ahead self.old) (S.left shelf.old)) (λ file.
             Opens (contents file) (left self.new (S.left shelf.new)))) }
         ensures refused { IfErr result (λ e. IfSome (fault_told e) (λ fault.
-            IfSome (S.left shelf.old) (λ file. contents file ≡ no_capture fault))) }
+            IfSome (rest_of (ahead self.old) (S.left shelf.old)) (λ file.
+            contents file ≡ no_capture fault))) }
         ensures none_given { given self.new ≡ 0 }
         ensures ready { OnOk result (ready self.new) }
         ensures live { IsTrue (is_live self.new) ↔ IsOk result }

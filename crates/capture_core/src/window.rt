@@ -20,10 +20,11 @@ pub struct Window {
 }
 
 impl Window {
-    ghost use Rattle.std.specs.Prelude.{◌≡◌, ◌≢◌, ◌+◌, ◌-◌, ◌<◌, ◌≤◌, ◌==◌, [], ◌++◌, List, ℕ, Some, None, length, min, take, drop, vec_len, IfOk, IfErr, OnOk, OnErr, IsTrue, IsErrOf};
+    ghost use Rattle.std.specs.Prelude.{◌≡◌, ◌≢◌, ◌+◌, ◌-◌, ◌<◌, ◌≤◌, ◌==◌, [], ◌++◌, List, ℕ, Some, None, length, min, take, drop, vec_len, IfOk, IfErr, IfSome, OnOk, OnErr, IsTrue, IsErrOf};
     ghost use Rattle.outside_core.specs.Kept.{HasSourceCause};
     ghost use Rattle.capture_core.specs.Rest.{rest_of, TakesFront, IsWhole, IsShort, Serves};
     ghost use Rattle.capture_core.specs.Held.{held};
+    ghost use Rattle.capture_core.specs.Limits.{most_held};
     ghost use Rattle.capture_core.specs.Passed.{Passes, IsAll};
 
     /// One that holds nothing.
@@ -76,6 +77,47 @@ impl Window {
         self.at = 0;
         self.end = 0;
         self.end = shelf.read(&mut self.buffer)?;
+        Ok(())
+    }
+
+    /// Reads more bytes of the file after those that are held, and returns how many: none only if nothing is left.
+    fn read_on<S: Shelf>(&mut self, shelf: &mut S) -> Result<usize, Stop>
+        requires room { self.old.end < vec_len self.old.buffer }
+        requires begun { IsTrue (S.begun shelf.old) }
+        ensures same { TakesFront (rest_of (held self.old) (S.left shelf.old))
+            (rest_of (held self.new) (S.left shelf.new)) [] }
+        ensures more { IfOk result (λ n. self.new.end ≡ self.old.end + n) }
+        ensures kept { self.new.at ≡ self.old.at }
+        ensures room { vec_len self.new.buffer ≡ vec_len self.old.buffer }
+        ensures end { IfOk result (λ n. n ≡ 0 →
+            IfSome (rest_of (held self.old) (S.left shelf.old)) (λ left. left ≡ held self.new)) }
+        ensures shelf { Serves S.lends S.content S.begun S.faults shelf.old shelf.new }
+        ensures cause { IfErr result (λ stop. HasSourceCause stop S.faults shelf.old shelf.new) }
+    {
+        let count = shelf.read(&mut self.buffer[self.end..])?;
+        self.end += count;
+        Ok(count)
+    }
+
+    /// Reads on until `count` bytes are held, or all that are left if these are fewer.
+    pub fn hold<S: Shelf>(&mut self, shelf: &mut S, count: usize) -> Result<(), Stop>
+        requires empty { held self.old ≡ [] }
+        requires room { count ≤ most_held }
+        requires begun { IsTrue (S.begun shelf.old) }
+        ensures same { OnOk result (TakesFront (rest_of (held self.old) (S.left shelf.old))
+            (rest_of (held self.new) (S.left shelf.new)) []) }
+        ensures short { OnOk result (IsShort (rest_of (held self.old) (S.left shelf.old)) (held self.new) count) }
+        ensures shelf { Serves S.lends S.content S.begun S.faults shelf.old shelf.new }
+        ensures cause { IfErr result (λ stop. HasSourceCause stop S.faults shelf.old shelf.new) }
+    {
+        self.buffer.resize(WINDOW_LEN, 0)?;
+        self.at = 0;
+        self.end = 0;
+        while self.end < count {
+            if self.read_on(shelf)? == 0 {
+                break;
+            }
+        }
         Ok(())
     }
 

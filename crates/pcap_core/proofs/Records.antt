@@ -12,7 +12,7 @@ use Rattle.pcap_defs.specs.Reading.{head_of as head_in_file}
 use Rattle.pcap_defs.proofs.Numbers.{number_at-append}
 use Rattle.pcap_defs.proofs.Headers.{head_of-header, head_of-fault}
 use Rattle.pcap_defs.proofs.FrontTests.{front_of-spelled, front_of-fault}
-use Rattle.capture_core.specs.Rest.{rest_of, TakesFront, IsWhole, LeavesNothing, IsShort}
+use Rattle.capture_core.specs.Rest.{TakesFront, IsWhole, LeavesNothing, IsShort}
 use Rattle.capture_core.specs.Passed.{Passes, IsAll}
 use Rattle.pcap_core.specs.declared.preface.Preface.{Preface}
 use Rattle.pcap_core.specs.Rest.{TakesHeader, TakesPreface, TakesRecord}
@@ -129,11 +129,11 @@ header-clean head header rest file split h fault faulty =
     let refused : head_in_file file ≡ Err fault = head_of-fault file fault faulty in
     cc
 
-pub header-sound : (head : Head) (held : List ℕ) (left new : Option (List ℕ)) → held ≡ [] → TakesHeader head (rest_of held left) new
-    → IfSome left (λ file. (fault : Fault) → IsHeaderFault file fault → false ≡ true)
-header-sound head held None new e taken = tt
-header-sound head held (Some left) None e taken = absurd taken.2
-header-sound head held (Some left) (Some rest) e taken = header-clean head taken.0 rest left (ap (λ xs. xs ++ left) (sym e) ∙ taken.2) taken.1
+pub header-sound : (head : Head) (old new : Option (List ℕ)) → TakesHeader head old new
+    → IfSome old (λ file. (fault : Fault) → IsHeaderFault file fault → false ≡ true)
+header-sound head None new taken = tt
+header-sound head (Some file) None taken = absurd taken.2
+header-sound head (Some file) (Some rest) taken = header-clean head taken.0 rest file taken.2 taken.1
 
 -- where a record can be taken, no record is at fault
 record-clean : (big : Bool) (n : ℕ) (r : Record) (spelling rest left : List ℕ) → n < most_records → left ≡ spelling ++ rest → IsSpelling big r spelling

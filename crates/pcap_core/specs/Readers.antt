@@ -1,5 +1,5 @@
 -- What a reader of captures stands for.
-use Rattle.std.specs.Prelude.{◌≡◌, ℕ, Bool, true, false, Option, None, List, []}
+use Rattle.std.specs.Prelude.{◌≡◌, ℕ, Bool, true, false, Option, None, List}
 use Rattle.std.specs.Option.{option_map_or}
 use Rattle.pcap_defs.specs.declared.head.Head.{Head}
 use Rattle.capture_core.specs.Held.{held}
@@ -29,11 +29,10 @@ bytes_held reader = held reader.window
 abbrev pub is_live : Reader → Bool
 is_live reader = reader.live
 
--- nothing was read
-pub record IsNew (reader : Reader) : Type 0 where
+-- no byte was used up
+pub record IsFresh (reader : Reader) : Type 0 where
   pub no_head : head_of reader ≡ None
   pub none_given : records_given reader ≡ 0
-  pub none_held : bytes_held reader ≡ []
   pub live : is_live reader ≡ true
 
 -- what is left of the capture, where the shelf tells what is left of the file

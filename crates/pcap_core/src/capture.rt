@@ -4,7 +4,7 @@ ghost use Rattle.pcap_core.specs.Faults.{unread_as};
 
 use crate::fault::CaptureFault;
 use crate::reader::Reader;
-use capture_core::{CaptureReader, LinkedFrame, Unread};
+use capture_core::{CaptureReader, LinkedFrame, Unread, Window};
 use outside_core::Shelf;
 use std::alloc::Global;
 
@@ -23,7 +23,7 @@ impl CaptureReader for Reader {
     ghost use Rattle.std.specs.Prelude.{IsSome, IsTrue};
     ghost use Rattle.pcap_defs.specs.Reading.{capture_of};
     ghost use Rattle.pcap_defs.specs.Contents.{in_capture};
-    ghost use Rattle.pcap_core.specs.Readers.{head_of, is_live, records_given, IsNew};
+    ghost use Rattle.pcap_core.specs.Readers.{head_of, is_live, records_given, bytes_held, IsFresh};
     ghost use Rattle.pcap_core.specs.Left.{contents_left};
 
     ghost contents = { λ file. in_capture (capture_of file) };
@@ -34,12 +34,14 @@ impl CaptureReader for Reader {
 
     ghost is_live = { is_live };
 
-    ghost fresh = { IsNew };
+    ghost ahead = { bytes_held };
+
+    ghost fresh = { IsFresh };
 
     ghost ready = { λ r. IsSome (head_of r) × IsTrue (is_live r) };
 
-    fn new(alloc: Global) -> Reader {
-        Reader::new(alloc)
+    fn over(alloc: Global, window: Window) -> Reader {
+        Reader::over(alloc, window)
     }
 
     fn live(&self) -> bool {

@@ -1,5 +1,6 @@
 //! The file header of a capture.
 ghost use Rattle.std.specs.Prelude.{◌≡◌, ◌≤◌, ◌↔◌, Bool, length, IsTrue, IfOk, IfErr, IfSome, IfNone, IsSomeAnd, IsErr};
+ghost use Rattle.pcap_defs.specs.Fault.{pcap_ng};
 ghost use Rattle.pcap_defs.specs.Header.{HasMagic, IsHeader, IsHeaderFault, magic_number};
 ghost use Rattle.pcap_core.specs.Faults.{fault_in};
 
@@ -47,6 +48,13 @@ fn magic_of(bytes: &[u8]) -> Option<(bool, bool)>
     }
 }
 
+/// Whether a file is in the newer format pcapng that has these bytes at its front: 24 at least, or all.
+pub fn is_newer(front: &[u8]) -> bool
+    ensures { IsTrue result ↔ IsHeaderFault front.now pcap_ng }
+{
+    front.len() >= HEADER_LEN && front.starts_with(&PCAP_NG)
+}
+
 /// What the header says, where these are the first bytes of the file, up to the header's length.
 pub fn head_in(bytes: &[u8]) -> Result<Head, CaptureFault>
     requires { length bytes.now ≤ 24 }
@@ -56,7 +64,7 @@ pub fn head_in(bytes: &[u8]) -> Result<Head, CaptureFault>
     if bytes.len() < HEADER_LEN {
         return Err(CaptureFault::HeaderCut);
     }
-    if bytes.starts_with(&PCAP_NG) {
+    if is_newer(bytes) {
         return Err(CaptureFault::PcapNg);
     }
     let (big, nano) = magic_of(bytes).ok_or(CaptureFault::BadMagic)?;

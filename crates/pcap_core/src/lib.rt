@@ -9,5 +9,6 @@ mod reader;
 
 pub use capture_core::Frame;
 pub use fault::CaptureFault;
+pub use header::{HEADER_LEN, is_newer};
 pub use pcap_defs::Head;
 pub use reader::Reader;

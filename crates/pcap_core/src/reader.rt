@@ -177,18 +177,29 @@ impl Reader {
     ghost use Rattle.pcap_defs.specs.Record.{Record, IsRecordFault, most_captured, most_records};
     ghost use Rattle.pcap_core.specs.Faults.{fault_in};
     ghost use Rattle.pcap_core.specs.Frames.{IsFrameOf};
+    ghost use Rattle.capture_core.specs.Held.{held};
     ghost use Rattle.capture_core.specs.Limits.{most_held};
     ghost use Rattle.capture_core.specs.Rest.{rest_of, IsWhole, LeavesNothing};
     ghost use Rattle.pcap_core.specs.Rest.{TakesHeader, TakesRecord};
     ghost use Rattle.pcap_core.specs.Left.{head_read};
-    ghost use Rattle.pcap_core.specs.Readers.{head_of, is_big, is_nano, records_given, bytes_held, is_live, IsNew, rest_left};
+    ghost use Rattle.pcap_core.specs.Readers.{head_of, is_big, is_nano, records_given, bytes_held, is_live, IsFresh, rest_left};
 
+    /// One that holds no bytes.
     pub fn new(alloc: Global) -> Reader
-        ensures { IsNew result }
+        ensures fresh { IsFresh result }
+        ensures none_held { bytes_held result ≡ [] }
+    {
+        Reader::over(alloc, Window::new(alloc))
+    }
+
+    /// One over the bytes that a window holds, and then those left of the begun file.
+    pub fn over(alloc: Global, window: Window) -> Reader
+        ensures fresh { IsFresh result }
+        ensures held { bytes_held result ≡ held window }
     {
         Reader {
             alloc,
-            window: Window::new(alloc),
+            window,
             head: None,
             records: 0,
             live: true,
@@ -212,21 +223,21 @@ impl Reader {
         }
     }
 
-    /// Reads the file header of the begun file.
+    /// Reads the file header: from the bytes that it holds, and then from the begun file.
     pub fn start<S: Shelf>(&mut self, shelf: &mut S) -> Result<Head, CaptureFault>
-        requires fresh { IsNew self.old }
+        requires fresh { IsFresh self.old }
         requires begun { IsTrue (S.begun shelf.old) }
 
         ensures header { IfOk result (λ head.
-            TakesHeader head (S.left shelf.old) (rest_left self.new (S.left shelf.new))) }
+            TakesHeader head (rest_left self.old (S.left shelf.old)) (rest_left self.new (S.left shelf.new))) }
         ensures head { IfOk result (λ head. head_of self.new ≡ Some head) }
         ensures none_given { records_given self.new ≡ 0 }
         ensures bounded { length (bytes_held self.new) ≤ most_held }
 
         // A fault of the file is answered exactly where the header has it.
         ensures fault { IfErr result (λ e. IfSome (fault_in e) (λ fault.
-            IfSome (S.left shelf.old) (λ file. IsHeaderFault file fault))) }
-        ensures refused { IfSome (S.left shelf.old) (λ file.
+            IfSome (rest_left self.old (S.left shelf.old)) (λ file. IsHeaderFault file fault))) }
+        ensures refused { IfSome (rest_left self.old (S.left shelf.old)) (λ file.
             (fault : Fault) → IsHeaderFault file fault → IsErr result) }
         ensures live { IsTrue (is_live self.new) ↔ IsOk result }
 

@@ -35,11 +35,10 @@ is_live reader = reader.live
 abbrev pub rest_left : NgReader → Option (List ℕ) → Option (List ℕ)
 rest_left reader left = rest_of (bytes_held reader) left
 
--- nothing was read
-pub record IsNew (reader : NgReader) : Type 0 where
+-- no byte was used up
+pub record IsFresh (reader : NgReader) : Type 0 where
   pub before : carry_of reader ≡ at_start
   pub none_given : packets_given reader ≡ 0
-  pub none_held : bytes_held reader ≡ []
   pub live : is_live reader ≡ true
 
 -- the packet of a block, with its captured bytes, if it is one

@@ -4,7 +4,7 @@ ghost use Rattle.pcapng_core.specs.Faults.{unread_as};
 
 use crate::fault::NgFault;
 use crate::reader::NgReader;
-use capture_core::{CaptureReader, LinkedFrame, Unread};
+use capture_core::{CaptureReader, LinkedFrame, Unread, Window};
 use outside_core::Shelf;
 use std::alloc::Global;
 
@@ -22,7 +22,7 @@ fn unread(fault: NgFault) -> Unread
 impl CaptureReader for NgReader {
     ghost use Rattle.std.specs.Prelude.{IsTrue};
     ghost use Rattle.pcapng_defs.specs.NgContents.{in_ng_capture};
-    ghost use Rattle.pcapng_core.specs.Readers.{is_live, packets_given, IsNew};
+    ghost use Rattle.pcapng_core.specs.Readers.{is_live, packets_given, bytes_held, IsFresh};
     ghost use Rattle.pcapng_core.specs.Left.{contents_left};
 
     ghost contents = { in_ng_capture };
@@ -33,12 +33,14 @@ impl CaptureReader for NgReader {
 
     ghost is_live = { is_live };
 
-    ghost fresh = { IsNew };
+    ghost ahead = { bytes_held };
+
+    ghost fresh = { IsFresh };
 
     ghost ready = { λ r. IsTrue (is_live r) };
 
-    fn new(alloc: Global) -> NgReader {
-        NgReader::new(alloc)
+    fn over(alloc: Global, window: Window) -> NgReader {
+        NgReader::over(alloc, window)
     }
 
     fn live(&self) -> bool {

@@ -207,6 +207,7 @@ impl NgReader {
     ghost use Rattle.outside_core.specs.Kept.{KeepsShelf};
     ghost use Rattle.rank_defs.specs.Programs.{max_rank};
     ghost use Rattle.capture_core.specs.Captures.{packet_of};
+    ghost use Rattle.capture_core.specs.Held.{held};
     ghost use Rattle.capture_core.specs.Limits.{most_held};
     ghost use Rattle.capture_core.specs.Rest.{IsWhole, LeavesNothing, Serves};
     ghost use Rattle.pcap_defs.specs.Record.{most_captured};
@@ -214,15 +215,25 @@ impl NgReader {
     ghost use Rattle.pcapng_defs.specs.Block.{at_start};
     ghost use Rattle.pcapng_defs.specs.NgCapture.{front_of, broken, most_blocks};
     ghost use Rattle.pcapng_core.specs.Faults.{fault_in};
-    ghost use Rattle.pcapng_core.specs.Readers.{carry_of, packets_given, bytes_held, is_live, IsNew, rest_left, TakesBlock, GoesOn, IsOver, block_packet, IsBoundedBlock, IsBoundedPacket};
+    ghost use Rattle.pcapng_core.specs.Readers.{carry_of, packets_given, bytes_held, is_live, IsFresh, rest_left, TakesBlock, GoesOn, IsOver, block_packet, IsBoundedBlock, IsBoundedPacket};
     ghost use Rattle.pcapng_core.specs.Bodies.{packet_told};
 
+    /// One that holds no bytes.
     pub fn new(alloc: Global) -> NgReader
-        ensures { IsNew result }
+        ensures fresh { IsFresh result }
+        ensures none_held { bytes_held result ≡ [] }
+    {
+        NgReader::over(alloc, Window::new(alloc))
+    }
+
+    /// One over the bytes that a window holds, and then those left of the begun file.
+    pub fn over(alloc: Global, window: Window) -> NgReader
+        ensures fresh { IsFresh result }
+        ensures held { bytes_held result ≡ held window }
     {
         NgReader {
             alloc,
-            window: Window::new(alloc),
+            window,
             front: Vec::new(alloc),
             carry: Carry::new(alloc),
             packets: 0,
@@ -307,20 +318,20 @@ impl NgReader {
         }
     }
 
-    /// Reads the first block of the begun file, which has to be a section header.
+    /// Reads the first block, which has to be a section header: from the bytes that it holds, and then from the begun file.
     pub fn start<S: Shelf>(&mut self, shelf: &mut S) -> Result<(), NgFault>
-        requires fresh { IsNew self.old }
+        requires fresh { IsFresh self.old }
         requires begun { IsTrue (S.begun shelf.old) }
 
         // What was left is a block without a packet, and what is left now.
         ensures header { OnOk result (TakesBlock at_start None (carry_of self.new)
-            (S.left shelf.old) (rest_left self.new (S.left shelf.new))) }
+            (rest_left self.old (S.left shelf.old)) (rest_left self.new (S.left shelf.new))) }
         ensures none_given { packets_given self.new ≡ 0 }
         ensures bounded { length (bytes_held self.new) ≤ most_held }
 
         // A fault of the file is answered only where its first block has it.
         ensures fault { IfErr result (λ e. IfSome (fault_in e) (λ fault.
-            IfSome (S.left shelf.old) (λ file. front_of at_start file ≡ broken fault))) }
+            IfSome (rest_left self.old (S.left shelf.old)) (λ file. front_of at_start file ≡ broken fault))) }
         ensures live { IsTrue (is_live self.new) ↔ IsOk result }
 
         ensures begun { IsTrue (S.begun shelf.new) }

@@ -5,3 +5,4 @@ pub mod FaultCauses
 pub mod OptionSteps
 pub mod Readings
 pub mod AlikeFiles
+pub mod Formats

@@ -1,16 +1,18 @@
 -- What follows from the definition of a pcapng capture.
-use Rattle.std.specs.Prelude.{◌≡◌, ◌≢◌, ℕ, ◌+◌, ◌≤◌, Bool, Option, Some, None, List, ◌++◌, length, map}
+use Rattle.std.specs.Prelude.{◌≡◌, ◌≢◌, ℕ, ◌+◌, ◌≤◌, Bool, Option, Some, None, List, [], ◌++◌, ◌<◌, length, map}
 use Rattle.std.specs.List.{AllByRecursion}
 use Rattle.rank_defs.specs.Programs.{max_rank}
 use Rattle.pcap_defs.specs.declared.head.Head.{Head}
 use Rattle.pcap_defs.specs.Record.{Record, most_captured}
 use Rattle.pcap_defs.specs.Fault.{pcap_ng}
+use Rattle.pcap_defs.specs.Header.{header_len, IsHeaderFault}
 use Rattle.pcap_defs.specs.Reading.{refused, packets, capture_of}
 use Rattle.pcapng_defs.specs.Fault.{BlockFault, block_cut, code, place}
 use Rattle.pcapng_defs.specs.Interface.{unit_of, at_option, option_front}
 use Rattle.pcap_defs.specs.Packet.{CapturedPacket, packet_with}
 use Rattle.pcapng_defs.specs.Block.{Carried}
-use Rattle.pcapng_defs.specs.NgContents.{in_file}
+use Rattle.pcap_defs.specs.Contents.{in_capture}
+use Rattle.pcapng_defs.specs.NgContents.{in_file, in_ng_capture}
 use Rattle.pcapng_defs.specs.NgCapture.{broken, found, front_of, at_front, behind, reading_of, ng_capture_of, most_blocks}
 
 -- what is left is read block by block, with what is carried from each to the next
@@ -74,3 +76,16 @@ pub record AreAlike (file ng_file : List ℕ) : Type 0 where
 -- such files hold the same
 abbrev pub AlikeFilesHoldTheSame : Type 0
 AlikeFilesHoldTheSame = (file ng_file : List ℕ) → AreAlike file ng_file → in_file file ≡ in_file ng_file
+
+-- These bytes are at the front of the file: as many as a header has, or all.
+pub record IsHeaderFront (front file : List ℕ) : Type 0 where
+  pub rest : List ℕ
+  pub joined : file ≡ front ++ rest
+  pub enough : length front < header_len → rest ≡ []
+
+-- they tell the format of the file: pcapng where their header is refused for it, and else the classic one
+abbrev pub FrontsTellFormats : Type 0
+FrontsTellFormats =
+    (front file : List ℕ) → IsHeaderFront front file
+    → (IsHeaderFault front pcap_ng → in_file file ≡ in_ng_capture file)
+    × ((IsHeaderFault front pcap_ng → ⊥) → in_file file ≡ in_capture (capture_of file))

@@ -43,6 +43,14 @@ pub two_packets_whole : told two_packets ≡ (packet_of 1000000000 1 ∷ packet_
 unfolding front_of read_from unit_from option_front
 two_packets_whole = refl
 
+-- a packet like the plain ones at 513 times 2^32 microseconds and 259 more
+abbrev pub late_packet : List ℕ
+late_packet = take 12 (plain_packet 0 0 0 1) ++ (1 ∷ 2 ∷ 0 ∷ 0 ∷ 3 ∷ 1 ∷ 0 ∷ 0 ∷ []) ++ drop 20 (plain_packet 0 0 0 1)
+
+pub high_half_of_a_time : told (section_header ++ plain_interface ++ late_packet) ≡ (packet_of 2203318223107000 1 ∷ [], None)
+unfolding front_of read_from unit_from option_front
+high_half_of_a_time = refl
+
 -- what is carried behind the last block
 pub two_packets_carried : (ng_capture_of two_packets).carried ≡ record { big = false; described = record { link = 147; snapshot = 262144; unit = Decimal 6 } ∷ []; moment = 2000000000; blocks = 4 }
 unfolding front_of read_from unit_from option_front
@@ -122,6 +130,11 @@ pub simple_packet_cut : told (section_header ++ cutting_interface 2 ++ simple_pa
 unfolding front_of read_from unit_from option_front
 simple_packet_cut = refl
 
+-- a snapshot length above the packet's length cuts nothing, and bytes that fill the block up aren't captured
+pub simple_packet_below_the_snapshot_length : map (λ original. told (section_header ++ cutting_interface 6 ++ simple_packet original)) (4 ∷ 3 ∷ []) ≡ (record { link = 147; moment = 0; original = 4; captured = 1 ∷ 2 ∷ 3 ∷ 4 ∷ [] } ∷ [], None) ∷ (record { link = 147; moment = 0; original = 3; captured = 1 ∷ 2 ∷ 3 ∷ [] } ∷ [], None) ∷ []
+unfolding front_of read_from unit_from option_front
+simple_packet_below_the_snapshot_length = refl
+
 -- a snapshot length of 0 counts as none
 pub simple_packet_whole : told (section_header ++ cutting_interface 0 ++ simple_packet 4) ≡ (record { link = 147; moment = 0; original = 4; captured = 1 ∷ 2 ∷ 3 ∷ 4 ∷ [] } ∷ [], None)
 unfolding front_of read_from unit_from option_front
@@ -157,6 +170,18 @@ other_block before after = (9 ∷ 0 ∷ 0 ∷ 0 ∷ before ∷ 0 ∷ 0 ∷ 0 ∷
 pub other_block_passed : told (section_header ++ other_block 16 16 ++ drop 28 two_packets) ≡ (packet_of 1000000000 1 ∷ packet_of 2000000000 2 ∷ [], None)
 unfolding front_of read_from unit_from option_front
 other_block_passed = refl
+
+-- a block without a body: its two total lengths are next to each other
+abbrev pub empty_block : ℕ → List ℕ
+empty_block after = (9 ∷ 0 ∷ 0 ∷ 0 ∷ 12 ∷ 0 ∷ 0 ∷ 0 ∷ []) ++ (after ∷ 0 ∷ 0 ∷ 0 ∷ [])
+
+pub empty_block_passed : told (section_header ++ empty_block 12 ++ drop 28 two_packets) ≡ (packet_of 1000000000 1 ∷ packet_of 2000000000 2 ∷ [], None)
+unfolding front_of read_from unit_from option_front
+empty_block_passed = refl
+
+pub empty_block_at_the_end : map told ((section_header ++ empty_block 12) ∷ (section_header ++ empty_block 16) ∷ (section_header ++ take 11 (empty_block 12)) ∷ []) ≡ ([], None) ∷ ([], Some (block_end 2)) ∷ ([], Some (block_cut 2)) ∷ []
+unfolding front_of read_from
+empty_block_at_the_end = refl
 
 pub lengths_differ : told (section_header ++ other_block 16 20) ≡ ([], Some (block_end 2))
 unfolding front_of read_from
@@ -254,6 +279,16 @@ pub units : map (λ bytes. unit_of false bytes) (
     ≡ Decimal 6 ∷ Decimal 9 ∷ Binary 127 ∷ Decimal 127 ∷ Decimal 6 ∷ Decimal 6 ∷ []
 unfolding unit_from option_front
 units = refl
+
+-- the unit behind a value of 4 bytes, of 8 and of none, which nothing fills up
+pub options_of_whole_words : map (λ bytes. unit_of false bytes) (
+    (1 ∷ 0 ∷ 4 ∷ 0 ∷ 65 ∷ 66 ∷ 67 ∷ 68 ∷ 9 ∷ 0 ∷ 1 ∷ 0 ∷ 9 ∷ 0 ∷ 0 ∷ 0 ∷ [])
+    ∷ (1 ∷ 0 ∷ 8 ∷ 0 ∷ 65 ∷ 66 ∷ 67 ∷ 68 ∷ 69 ∷ 70 ∷ 71 ∷ 72 ∷ 9 ∷ 0 ∷ 1 ∷ 0 ∷ 9 ∷ 0 ∷ 0 ∷ 0 ∷ [])
+    ∷ (1 ∷ 0 ∷ 0 ∷ 0 ∷ 9 ∷ 0 ∷ 1 ∷ 0 ∷ 9 ∷ 0 ∷ 0 ∷ 0 ∷ [])
+    ∷ [])
+    ≡ Decimal 9 ∷ Decimal 9 ∷ Decimal 9 ∷ []
+unfolding unit_from option_front
+options_of_whole_words = refl
 
 -- the numbers of faults and the blocks at fault
 pub codes_of_faults : map code (block_cut 9 ∷ block_length 9 ∷ order_magic 9 ∷ ng_version 9 ∷ no_interface 9 ∷ packet_length 9 ∷ interfaces 9 ∷ too_many_blocks 9 ∷ block_end 9 ∷ []) ≡ 11 ∷ 12 ∷ 13 ∷ 14 ∷ 15 ∷ 16 ∷ 17 ∷ 18 ∷ 19 ∷ []

@@ -1,7 +1,7 @@
 //! The laws of pcapng captures.
 ghost use Rattle.pcapng_defs.specs.FaultCauses.{ReadsFaults};
 ghost use Rattle.pcapng_defs.specs.WholeBlock.{ReadsBlocks};
-ghost use Rattle.pcapng_defs.specs.Laws.{GoesBlockByBlock, UnitsGoOptionByOption, BlocksStand, FaultsStand, GoesOnBehindBlocks, FaultsAreNumbered, PacketsAreBounded, PacketsAreFew, AlikeFilesHoldTheSame};
+ghost use Rattle.pcapng_defs.specs.Laws.{GoesBlockByBlock, UnitsGoOptionByOption, BlocksStand, FaultsStand, GoesOnBehindBlocks, FaultsAreNumbered, PacketsAreBounded, PacketsAreFew, AlikeFilesHoldTheSame, FrontsTellFormats};
 
 /// What is left of a file is read block by block.
 pub fn a_file_goes_block_by_block()
@@ -52,4 +52,9 @@ pub fn packets_are_bounded()
 /// A classic file and a pcapng file without fault, whose packets are equal, hold the same.
 pub fn alike_files_hold_the_same()
     ensures law { AlikeFilesHoldTheSame }
+{}
+
+/// The first 24 bytes of a file, or all if there are fewer, tell its format.
+pub fn a_front_tells_the_format()
+    ensures law { FrontsTellFormats }
 {}

@@ -4,6 +4,7 @@ use Rattle.std.specs.Prelude.{Result, IfOk, IfSome, option_map}
 use Rattle.pcap_defs.specs.Packet.{CapturedPacket}
 use Rattle.pcap_defs.specs.Contents.{Contents, FileContents, no_capture, holds}
 use Rattle.capture_core.specs.Captures.{fault_told, Opens, Comes, IsOneLess, IsAt, nothing_left}
+use Rattle.capture_core.specs.Rest.{rest_of}
 use Rattle.capture_core.specs.declared.unread.Unread.{Unread}
 use Rattle.capture_core.specs.declared.unread.Unread.TheVariants.{Fault, Source, Memory}
 use Rattle.packet_defs.specs.declared.packet.Packet.{Packet}
@@ -38,6 +39,12 @@ refuses Source contents None h = tt
 refuses Source contents (Some bytes) h = tt
 refuses Memory contents None h = tt
 refuses Memory contents (Some bytes) h = tt
+
+-- the same where the bytes that the reader had are those of a window
+pub refuses_over : (unread : Unread) (contents : List ℕ → FileContents) (ahead held : List ℕ) (left : Option (List ℕ)) → ahead ≡ held
+    → IfSome (fault_told unread) (λ f. IfSome (rest_of ahead left) (λ bytes. contents bytes ≡ no_capture f)) → IfSome (rest_of held left) (λ bytes. Refuses (halt_of unread) (contents bytes))
+refuses_over unread contents ahead held left same h =
+    subst (λ xs. IfSome (rest_of xs left) (λ bytes. Refuses (halt_of unread) (contents bytes))) same (refuses unread contents (rest_of ahead left) h)
 
 -- ---- a halt
 pub halts_told : (unread : Unread) (old : Option Contents) → IfSome (fault_told unread) (λ f. IsAt (Some f) old) → HaltsAt old (halt_of unread)

@@ -8,9 +8,11 @@ ghost use Rattle.sched_packets.specs.Arrivals.{Begins, Refuses};
 ghost use Rattle.sched_packets.specs.NextPacket.{IsNext, HaltsAt};
 
 use crate::arrivals::Arrivals;
+use crate::halts::{halt_stopped, halt_unbegun};
+use capture_core::Window;
 use outside_core::Shelf;
 use packet_core::Packet;
-use pcap_core::{CaptureFault, Reader};
+use pcap_core::{HEADER_LEN, Reader, is_newer};
 use pcapng_core::NgReader;
 use policy_core::Policy;
 use sched_defs::{Halt, Packets};
@@ -28,7 +30,7 @@ pub enum AnyArrivals<'a, S> {
 impl<'a, S: Shelf> AnyArrivals<'a, S> {
     ghost use Rattle.sched_packets.specs.AnyArrivals.{resolved_of, given_by, captured_by, contents_of, left_of, IsReady};
 
-    /// Begins the file of this name, and reads its beginning. A file that begins as pcapng does is begun again, and read so.
+    /// Begins the file of this name, and reads its beginning in the format that its first bytes tell.
     pub fn open(
         alloc: Global,
         policy: &'a Policy,
@@ -49,15 +51,40 @@ impl<'a, S: Shelf> AnyArrivals<'a, S> {
         ensures kept { KeepsShelf S.lends S.content S.faults shelf.old shelf.new }
         ensures cause { IsErrOf result Halt.Source → Rose (S.faults shelf.old) (S.faults shelf.new) }
     {
-        match Arrivals::open(alloc, policy, shelf, name) {
-            Ok(arrivals) => Ok(AnyArrivals::Classic(arrivals)),
-            Err(Halt::Fault(code, _)) if code == CaptureFault::PcapNg.code() => {
-                match Arrivals::open(alloc, policy, shelf, name) {
-                    Ok(arrivals) => Ok(AnyArrivals::Blocks(arrivals)),
-                    Err(halt) => Err(halt),
-                }
+        match shelf.begin(name) {
+            Ok(()) => Self::start(alloc, policy, shelf),
+            Err(error) => Err(halt_unbegun(error)),
+        }
+    }
+
+    /// Reads the beginning of the begun file. The window that its first bytes fill goes on to the reader.
+    fn start(alloc: Global, policy: &'a Policy, shelf: &mut S) -> Result<AnyArrivals<'a, S>, Halt>
+        requires begun { IsTrue (S.begun shelf.old) }
+
+        ensures opens { IfOk result (λ a. IfSome (S.left shelf.old) (λ file.
+            Opens (in_file file) (contents_of a (S.left shelf.new)))) }
+        ensures policy { IfOk result (λ a. resolved_of a ≡ policy.now) }
+        ensures none_given { IfOk result (λ a. given_by a ≡ 0) }
+        ensures ready { IfOk result (λ a. IsReady a (S.begun shelf.new)) }
+
+        ensures refuses { IfErr result (λ halt. IfSome (S.left shelf.old) (λ file. Refuses halt (in_file file))) }
+        ensures kept { KeepsShelf S.lends S.content S.faults shelf.old shelf.new }
+        ensures cause { IsErrOf result Halt.Source → Rose (S.faults shelf.old) (S.faults shelf.new) }
+    {
+        let mut window = Window::new(alloc);
+        if let Err(stop) = window.hold(shelf, HEADER_LEN) {
+            return Err(halt_stopped(stop));
+        }
+        if is_newer(window.front()) {
+            match Arrivals::start(alloc, policy, window, shelf) {
+                Ok(arrivals) => Ok(AnyArrivals::Blocks(arrivals)),
+                Err(halt) => Err(halt),
             }
-            Err(halt) => Err(halt),
+        } else {
+            match Arrivals::start(alloc, policy, window, shelf) {
+                Ok(arrivals) => Ok(AnyArrivals::Classic(arrivals)),
+                Err(halt) => Err(halt),
+            }
         }
     }
 

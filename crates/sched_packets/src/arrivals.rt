@@ -3,11 +3,13 @@ ghost use Rattle.std.specs.Prelude.{◌≡◌, ◌+◌, Some, true, false, is_so
 ghost use Rattle.outside_core.specs.Faults.{Rose};
 ghost use Rattle.outside_core.specs.Kept.{KeepsShelf};
 ghost use Rattle.capture_core.specs.Captures.{Opens, IsOneLess, IsAt, nothing_left};
+ghost use Rattle.capture_core.specs.Held.{held};
+ghost use Rattle.capture_core.specs.Rest.{rest_of};
 ghost use Rattle.sched_packets.specs.NextPacket.{IsNext, HaltsAt};
 
-use crate::halts::{halt_of, halt_unbegun};
+use crate::halts::halt_of;
 use crate::packets::put_packet;
-use capture_core::CaptureReader;
+use capture_core::{CaptureReader, Window};
 use outside_core::Shelf;
 use packet_core::{Classifier, Packet};
 use policy_core::Policy;
@@ -29,26 +31,28 @@ pub struct Arrivals<'a, R, S> {
 impl<'a, R: CaptureReader + Drop, S: Shelf> Arrivals<'a, R, S> {
     ghost use Rattle.sched_packets.specs.Arrivals.{resolved_of, given_by, captured_by, contents_of, IsReady, Refuses};
 
-    /// Reads the beginning of the begun file.
+    /// Reads the beginning of a file: the bytes that a window holds, and then those left of the begun file.
     pub fn start(
         alloc: Global,
         policy: &'a Policy,
+        window: Window,
         shelf: &mut S,
     ) -> Result<Arrivals<'a, R, S>, Halt>
         requires begun { IsTrue (S.begun shelf.old) }
 
-        ensures opens { IfOk result (λ a. IfSome (S.left shelf.old) (λ file.
+        ensures opens { IfOk result (λ a. IfSome (rest_of (held window) (S.left shelf.old)) (λ file.
             Opens (R.contents file) (contents_of R.left a (S.left shelf.new)))) }
         ensures policy { IfOk result (λ a. resolved_of a ≡ policy.now) }
         ensures none_given { IfOk result (λ a. given_by R.given a ≡ 0) }
         ensures ready { IfOk result (λ a. IsReady R.ready R.given a (S.begun shelf.new)) }
 
-        ensures refuses { IfErr result (λ halt. IfSome (S.left shelf.old) (λ file. Refuses halt (R.contents file))) }
+        ensures refuses { IfErr result (λ halt. IfSome (rest_of (held window) (S.left shelf.old)) (λ file.
+            Refuses halt (R.contents file))) }
         ensures begun { IsTrue (S.begun shelf.new) }
         ensures kept { KeepsShelf S.lends S.content S.faults shelf.old shelf.new }
         ensures cause { IsErrOf result Halt.Source → Rose (S.faults shelf.old) (S.faults shelf.new) }
     {
-        let mut reader = R::new(alloc);
+        let mut reader = R::over(alloc, window);
         match reader.start(shelf) {
             Ok(()) => match Classifier::new(alloc, policy) {
                 Ok(classifier) => Ok(Arrivals {
@@ -61,31 +65,6 @@ impl<'a, R: CaptureReader + Drop, S: Shelf> Arrivals<'a, R, S> {
                 Err(_) => Err(Halt::Memory),
             },
             Err(unread) => Err(halt_of(unread)),
-        }
-    }
-
-    /// Begins the file of this name, and reads its beginning.
-    pub fn open(
-        alloc: Global,
-        policy: &'a Policy,
-        shelf: &mut S,
-        name: &str,
-    ) -> Result<Arrivals<'a, R, S>, Halt>
-        requires lent { IsTrue (S.lends shelf.old name.now) }
-
-        ensures opens { IfOk result (λ a. IfSome (S.content shelf.old name.now) (λ file.
-            Opens (R.contents file) (contents_of R.left a (S.left shelf.new)))) }
-        ensures policy { IfOk result (λ a. resolved_of a ≡ policy.now) }
-        ensures none_given { IfOk result (λ a. given_by R.given a ≡ 0) }
-        ensures ready { IfOk result (λ a. IsReady R.ready R.given a (S.begun shelf.new)) }
-
-        ensures refuses { IfErr result (λ halt. IfSome (S.content shelf.old name.now) (λ file. Refuses halt (R.contents file))) }
-        ensures kept { KeepsShelf S.lends S.content S.faults shelf.old shelf.new }
-        ensures cause { IsErrOf result Halt.Source → Rose (S.faults shelf.old) (S.faults shelf.new) }
-    {
-        match shelf.begin(name) {
-            Ok(()) => Self::start(alloc, policy, shelf),
-            Err(error) => Err(halt_unbegun(error)),
         }
     }
 

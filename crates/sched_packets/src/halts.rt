@@ -1,9 +1,9 @@
 //! Why no more packets come.
 ghost use Rattle.std.specs.Prelude.{◌≡◌};
-ghost use Rattle.sched_packets.specs.Halts.{halt_of, halt_unbegun};
+ghost use Rattle.sched_packets.specs.Halts.{halt_of, halt_stopped, halt_unbegun};
 
 use capture_core::Unread;
-use outside_core::ShelfError;
+use outside_core::{ShelfError, Stop};
 use sched_defs::Halt;
 
 /// Why no packet comes, where a capture isn't read on.
@@ -24,5 +24,15 @@ pub(crate) fn halt_unbegun(error: ShelfError) -> Halt
     match error {
         ShelfError::Failed => Halt::Source,
         ShelfError::NoMemory => Halt::Memory,
+    }
+}
+
+/// Why no packet comes, where the front of the file isn't read.
+pub(crate) fn halt_stopped(stop: Stop) -> Halt
+    ensures { result ≡ halt_stopped stop }
+{
+    match stop {
+        Stop::Source | Stop::Sink => Halt::Source,
+        Stop::Memory => Halt::Memory,
     }
 }

@@ -3,4 +3,4 @@ use Rattle.pcap_core.proofs.reader.Reader.start.Goals as goal
 
 pub returns-in-Ok-clause-refused : goal.returns-in-Ok-clause-refused
 returns-in-Ok-clause-refused g c =
-    header-sound c.in-Ok.head _ (g.S.Shelf.left c.args.shelf.now) _ c.requires.fresh.none_held c.in-Ok.ensures.header
+    header-sound c.in-Ok.head _ _ c.in-Ok.ensures.header
