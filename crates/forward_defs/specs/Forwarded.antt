@@ -1,5 +1,5 @@
 -- The bytes of a capture of departures: little-endian, with nanoseconds (libpcap 2.4).
-use Rattle.std.specs.Prelude.{◌≡◌, refl, ℕ, Some, List, [], ◌∷◌, map}
+use Rattle.std.specs.Prelude.{◌≡◌, refl, ℕ, None, Some, List, [], ◌∷◌, map}
 use Rattle.pcap_defs.specs.Packet.{CapturedPacket}
 use Rattle.pcap_defs.specs.Record.{Record}
 use Rattle.pcapout_core.specs.Bytes.{file_bytes, two_packets_file}
@@ -37,3 +37,18 @@ forward_bytes-two : forward_bytes 147 two_captured
     (Departed (packet_of 1) [] (0 ∷ []) (Some 1000000000) ∷ Dropped (packet_of 3) [] ∷ Departed (packet_of 2) [] (0 ∷ []) (Some 1000001000) ∷ Empty
     ∷ Departed (packet_of 3) [] (0 ∷ []) (Some 4294967296000000000) ∷ []) ≡ two_packets_file
 forward_bytes-two = refl
+
+-- a packet of 1500 bytes, of which four are captured, that starts 1000 nanoseconds after it arrived
+abbrev later : Sending
+later = record { start = 1000001000; packet = record (packet_of 2) { len = 1500 } }
+
+sent_record-later : sent_record two_captured later ≡ record { seconds = 1; fraction = 1000; original = 1500; captured = 0 ∷ 0 ∷ 0 ∷ 2 ∷ [] }
+sent_record-later = refl
+
+sent_packet-later : sent_packet 147 two_captured later ≡ record { link = 147; moment = 1000001000; original = 1500; captured = 0 ∷ 0 ∷ 0 ∷ 2 ∷ [] }
+sent_packet-later = refl
+
+-- departures stay in the order in which they start, each with its start, and one without a start is none
+sendings-in_order : sendings (Departed (packet_of 2) [] (0 ∷ []) (Some 5) ∷ Departed (packet_of 3) [] (0 ∷ []) None ∷ Dropped (packet_of 4) [] ∷ Departed (packet_of 1) [] (0 ∷ []) (Some 9) ∷ [])
+    ≡ record { start = 5; packet = packet_of 2 } ∷ record { start = 9; packet = packet_of 1 } ∷ []
+sendings-in_order = refl

@@ -64,6 +64,23 @@ kept_behind-late = refl
 records_of-late : records_of two_captured keeps_nothing two_came ≡ []
 records_of-late = refl
 
+-- on time, it is the record of the departure alone, with the bytes that were kept
+abbrev one_leaves : List Outcome
+one_leaves = Arrived (packet_of 1) [] (0 ∷ []) ∷ Arrived (packet_of 2) [] (0 ∷ []) ∷ Dropped (packet_of 3) [] ∷ Departed (packet_of 2) [] (0 ∷ []) (Some 1000001000) ∷ Empty ∷ []
+
+records_of-one : records_of two_captured keeps_nothing one_leaves ≡ record_bytes 1 1000 4 (0 ∷ 0 ∷ 0 ∷ 2 ∷ [])
+records_of-one = refl
+
+kept_behind-dropped : (kept_behind two_captured keeps_nothing one_leaves).kept 3 ≡ None
+kept_behind-dropped = refl
+
+kept_behind-on_time : (kept_behind two_captured keeps_nothing one_leaves).late ≡ false
+kept_behind-on_time = refl
+
+-- without kept bytes, or without a start, there is no record
+record_for-none : record_for (Some 5) 4 None ++ record_for None 4 (Some (7 ∷ [])) ≡ []
+record_for-none = refl
+
 -- what is told one by one of events from the start is what is forwarded of them
 abbrev pub RecordsAreForwarded : Type 0
 RecordsAreForwarded =

@@ -38,3 +38,18 @@ of_one_link-third = refl
 of_one_link-fault : of_one_link (record { packets = packet_on 1 ∷ []; fault = Some (record { code = 6; place = 2 }) })
     ≡ record { packets = packet_on 1 ∷ []; fault = Some (record { code = 6; place = 2 }) }
 of_one_link-fault = refl
+
+-- a packet of another link type comes before the fault of the capture, which isn't met
+of_one_link-before_the_fault : of_one_link (record { packets = packet_on 1 ∷ packet_on 0 ∷ []; fault = Some (record { code = 6; place = 3 }) })
+    ≡ record { packets = packet_on 1 ∷ []; fault = Some (record { code = 20; place = 2 }) }
+of_one_link-before_the_fault = refl
+
+-- a capture without packets has link type 0, and keeps its fault
+first_link-none : first_link [] ≡ 0
+first_link-none = refl
+
+first_link-of_two : first_link (packet_on 101 ∷ packet_on 1 ∷ []) ≡ 101
+first_link-of_two = refl
+
+of_one_link-none : of_one_link (record { packets = []; fault = Some (record { code = 6; place = 1 }) }) ≡ record { packets = []; fault = Some (record { code = 6; place = 1 }) }
+of_one_link-none = refl

@@ -1,5 +1,5 @@
 -- The departures that a capture can tell: each with the moment at which it starts, as long as 32 bits count its seconds.
-use Rattle.std.specs.Prelude.{◌≡◌, ℕ, ◌*◌, ◌^◌, Bool, true, false, not, nat_lt, if◌then◌else◌, Option, None, Some, List, [], ◌∷◌, ◌++◌, refl}
+use Rattle.std.specs.Prelude.{◌≡◌, ℕ, ◌*◌, ◌^◌, Bool, true, false, not, nat_lt, if◌then◌else◌, Option, None, Some, List, [], ◌∷◌, ◌++◌, map, refl}
 use Rattle.packet_defs.specs.declared.packet.Packet.{Packet}
 use Rattle.sched_defs.specs.Events.{Event, Arrive, Depart, Outcome, Departed}
 
@@ -53,3 +53,11 @@ up_to_late-second = refl
 
 up_to_late-none : up_to_late (Depart (Some 5) ∷ Depart (Some 6) ∷ []) ≡ Depart (Some 5) ∷ Depart (Some 6) ∷ []
 up_to_late-none = refl
+
+is_late-without_a_start : is_late None ≡ false
+is_late-without_a_start = refl
+
+-- a late departure counts wherever it is, and arrivals never do
+has_late-second : map has_late ((Depart (Some 5) ∷ Depart (Some 4294967296000000000) ∷ []) ∷ (Depart (Some 4294967296000000000) ∷ Depart (Some 5) ∷ []) ∷ (Depart None ∷ Depart (Some 5) ∷ []) ∷ [] ∷ [])
+    ≡ true ∷ true ∷ false ∷ false ∷ []
+has_late-second = refl

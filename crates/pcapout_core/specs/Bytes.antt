@@ -1,5 +1,5 @@
 -- The bytes of a capture that is written (libpcap 2.4): fractions count nanoseconds, and numbers have their lowest byte first.
-use Rattle.std.specs.Prelude.{◌≡◌, ℕ, true, false, None, List, [], ◌∷◌, ◌++◌, length, refl}
+use Rattle.std.specs.Prelude.{◌≡◌, ℕ, true, false, None, List, [], ◌∷◌, ◌++◌, length, drop, refl}
 use Rattle.byteorder.specs.Endian.{little_bytes}
 use Rattle.pcap_defs.specs.declared.head.Head.{Head}
 use Rattle.pcap_defs.specs.Header.{magic_number, major_version}
@@ -66,3 +66,28 @@ two_packets_read_back = refl
 
 pub header_alone : file_bytes 0 [] ≡ (0x4D ∷ 0x3C ∷ 0xB2 ∷ 0xA1 ∷ 2 ∷ 0 ∷ 4 ∷ 0 ∷ []) ++ (0 ∷ 0 ∷ 0 ∷ 0 ∷ 0 ∷ 0 ∷ 0 ∷ 0 ∷ []) ++ (0 ∷ 0 ∷ 4 ∷ 0 ∷ 0 ∷ 0 ∷ 0 ∷ 0 ∷ [])
 header_alone = refl
+
+-- numbers of which each byte differs
+short_bytes-two : short_bytes 0x0102 ≡ 2 ∷ 1 ∷ []
+short_bytes-two = refl
+
+long_bytes-four : long_bytes 0x01020304 ≡ 4 ∷ 3 ∷ 2 ∷ 1 ∷ []
+long_bytes-four = refl
+
+-- of 1500 bytes three are captured: seconds, nanoseconds, the captured length and then the original one
+record_bytes-cut : record_bytes 0x01020304 999999999 1500 (7 ∷ 8 ∷ 9 ∷ [])
+    ≡ (4 ∷ 3 ∷ 2 ∷ 1 ∷ 0xFF ∷ 0xC9 ∷ 0x9A ∷ 0x3B ∷ []) ++ (3 ∷ 0 ∷ 0 ∷ 0 ∷ 0xDC ∷ 5 ∷ 0 ∷ 0 ∷ []) ++ (7 ∷ 8 ∷ 9 ∷ [])
+record_bytes-cut = refl
+
+record_front-order : record_front 1 2 3 4 ≡ (1 ∷ 0 ∷ 0 ∷ 0 ∷ 2 ∷ 0 ∷ 0 ∷ 0 ∷ []) ++ (3 ∷ 0 ∷ 0 ∷ 0 ∷ 4 ∷ 0 ∷ 0 ∷ 0 ∷ [])
+record_front-order = refl
+
+-- the link type is behind all else of the header, and has two bytes
+header_bytes-link : drop 20 (header_bytes 0x0102) ≡ 2 ∷ 1 ∷ 0 ∷ 0 ∷ []
+header_bytes-link = refl
+
+records_bytes-none : records_bytes [] ≡ []
+records_bytes-none = refl
+
+head_with-link : head_with 101 ≡ record { link = 101; nano = true; big = false }
+head_with-link = refl

@@ -31,6 +31,10 @@ record_at start len bytes = record { seconds = start / 10 ^ 9; fraction = start 
 record_at-second_packet : record_at 1000001000 4 (0 ∷ 0 ∷ 0 ∷ 2 ∷ []) ≡ record { seconds = 1; fraction = 1000; original = 4; captured = 0 ∷ 0 ∷ 0 ∷ 2 ∷ [] }
 record_at-second_packet = refl
 
+-- the original length is that of the packet, also where less is captured
+record_at-cut : record_at 4294967295999999999 1500 (7 ∷ []) ≡ record { seconds = 4294967295; fraction = 999999999; original = 1500; captured = 7 ∷ [] }
+record_at-cut = refl
+
 -- below 2^32 seconds such a record can be written, and its moment is read back
 abbrev pub MomentsAreKept : Type 0
 MomentsAreKept =

@@ -81,6 +81,18 @@ pub end_line-one_dropped : end_line 1 1 2 0 0 (Some 1) ≡ codes "end pushed 1 p
 unfolding digits
 end_line-one_dropped = refl
 
+pub departure_line-at_0 : departure_line 2 1 (codes "root") (7 ∷ 5 ∷ []) (Some 0) ≡ codes "d 2 1 root 7/5 0\n"
+unfolding digits
+departure_line-at_0 = refl
+
+-- no ranks leave the two spaces of their word
+pub arrival_line-no_ranks : arrival_line 12 3 (codes "q") [] ≡ codes "a 12 3 q \n"
+unfolding digits
+arrival_line-no_ranks = refl
+
+ranks_text-none : ranks_text [] ≡ []
+ranks_text-none = refl
+
 pub drop_line-second : drop_line 2 2 (codes "root") ≡ codes "x 2 2 root\n"
 unfolding digits
 drop_line-second = refl
@@ -92,3 +104,20 @@ fault_line-words = refl
 pub fault_line-policy : fault_line (codes "policy") 5 12 ≡ codes "fault policy 5 12\n"
 unfolding digits
 fault_line-policy = refl
+
+-- the event's number, and then the packet's
+pub drop_line-event_first : drop_line 9 4 (codes "web") ≡ codes "x 9 4 web\n"
+unfolding digits
+drop_line-event_first = refl
+
+pub end_line-all_differ : end_line 9 6 5 3 1 (Some 2) ≡ codes "end pushed 9 popped 6 empty 5 held 3 unsent 1 dropped 2\n"
+unfolding digits
+end_line-all_differ = refl
+
+-- a count of 0 is shown where counts are
+pub end_line-none_dropped : end_line 0 0 0 0 0 (Some 0) ≡ codes "end pushed 0 popped 0 empty 0 held 0 unsent 0 dropped 0\n"
+unfolding digits
+end_line-none_dropped = refl
+
+line_of-no_words : line_of [] ≡ 10 ∷ []
+line_of-no_words = refl

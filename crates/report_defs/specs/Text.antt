@@ -27,3 +27,13 @@ IsCut-in_the_text = record { rest = 2 ∷ 3 ∷ []; joined = refl }
 
 IsCut-stops_telling : IsCut (Some (1 ∷ [])) (2 ∷ []) None
 IsCut-stops_telling = tt
+
+-- all of it may be written, and nothing
+IsCut-all : IsCut (Some (1 ∷ [])) (2 ∷ []) (Some (1 ∷ 2 ∷ []))
+IsCut-all = record { rest = []; joined = refl }
+
+IsCut-nothing : IsCut (Some []) (2 ∷ []) (Some [])
+IsCut-nothing = record { rest = 2 ∷ []; joined = refl }
+
+appended-nothing : appended (Some (1 ∷ 2 ∷ [])) [] ≡ Some (1 ∷ 2 ∷ [])
+appended-nothing = refl

@@ -6,3 +6,6 @@ pub mod FileRuns
 pub mod ForwardFiles
 pub mod ForwardRuns
 pub mod ForwardRefusals
+pub mod RunnablePolicies
+pub mod PacketRanges
+pub mod FilesReadBack

@@ -3,3 +3,4 @@ pub mod Placements
 pub mod Loads
 pub mod Laws
 pub mod Forwards
+pub mod Rows

@@ -14,7 +14,7 @@ pub use capture::{begin, direct};
 pub use course::run_over;
 pub use departures::{ForwardEnding, forward};
 pub use fabric::{Placement, replay};
-pub use laws::alike_files_have_equal_answers;
+pub use laws::{alike_files_have_equal_answers, forwards_are_read_back};
 pub use load::{LoadCounts, LoadSize, soak};
 pub use outside_core::Stop;
 pub use sched_defs::Ending;

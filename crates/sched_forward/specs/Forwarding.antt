@@ -19,9 +19,10 @@ keeping_of f = record { kept = bytes_kept f; late = f.late }
 abbrev pub is_late_now : Forwarding → Bool
 is_late_now f = f.late
 
--- each write so far was taken
-abbrev pub IsLive : Forwarding → Type 0
-IsLive f = IsTrue f.gathered.live
+-- no call failed so far: there was memory for the captured bytes of each packet, and each write was taken
+pub record IsLive (f : Forwarding) : Type 0 where
+  pub whole : IsTrue f.whole
+  pub taken : IsTrue f.gathered.live
 
 pub record HoldsTheSame (k l : Keeping) : Type 0 where
   pub kept : (n : ℕ) → k.kept n ≡ l.kept n

@@ -1,5 +1,5 @@
 //! Departures as records of a capture.
-ghost use Rattle.std.specs.Prelude.{◌≡◌, ◌≤◌, ◌<◌, ◌/◌, ◌%◌, ◌^◌, ℕ, nat_eq, List, length, Option, Some, option_map, IsTrue, OnOk, OnErr};
+ghost use Rattle.std.specs.Prelude.{◌≡◌, ◌≤◌, ◌<◌, ◌/◌, ◌%◌, ◌^◌, ℕ, nat_eq, List, length, Option, Some, option_map, is_ok, IsTrue, OnOk, OnErr};
 ghost use Rattle.std.proofs.Props.{props};
 ghost use Rattle.indexmap.specs.IndexMap.{get};
 ghost use Rattle.outside_core.specs.Faults.{Rose};
@@ -41,7 +41,7 @@ fn put_sent<K: Sink>(
         (record_bytes (start / 10 ^ 9) (start % 10 ^ 9) len bytes.now)) }
     ensures kept { KeepsSink K.written K.faults sink.old sink.new }
     ensures cause { OnErr result (Rose (K.faults sink.old) (K.faults sink.new)) }
-    ensures live { OnOk result (IsTrue gathered.new.live) }
+    ensures live { gathered.new.live ≡ is_ok result }
 {
     let seconds = (start / SECOND) as u32;
     let nanos = (start % SECOND) as u32;
@@ -57,6 +57,7 @@ fn put_sent<K: Sink>(
 pub struct Forwarding {
     held: IndexMap<u64, Vec<u8>>,
     late: bool,
+    whole: bool,
     gathered: Report,
     ghost short: { (n : ℕ) (bytes : List ℕ) → option_map (λ v. v.items) (get nat_eq held n) ≡ Some bytes → length bytes ≤ most_captured } by { Prim.hlevel props },
 }
@@ -77,6 +78,7 @@ impl Forwarding {
         Ok(Forwarding {
             held: IndexMap::new(alloc),
             late: false,
+            whole: true,
             gathered: Report::new(alloc)?,
         })
     }
@@ -100,6 +102,7 @@ impl Forwarding {
 
         ensures ok { OnOk result ((n : ℕ) → bytes_kept self.new n ≡ with_bytes (bytes_kept self.old) number captured.now n) }
         ensures late { self.new.late ≡ self.old.late }
+        ensures whole { self.new.whole ≡ self.old.whole }
         ensures gathered { self.new.gathered ≡ self.old.gathered }
     {
         let bytes = Vec::from_slice(*self.held.allocator(), captured)?;
@@ -113,6 +116,7 @@ impl Forwarding {
         ensures short { IfSome result (λ v. length v.items ≤ most_captured) }
         ensures rest { (n : ℕ) → bytes_kept self.new n ≡ without_bytes (bytes_kept self.old) number n }
         ensures late { self.new.late ≡ self.old.late }
+        ensures whole { self.new.whole ≡ self.old.whole }
         ensures gathered { self.new.gathered ≡ self.old.gathered }
     {
         self.held.swap_remove(&number)
@@ -140,7 +144,9 @@ impl Recorder for Forwarding {
         _leaf: &str,
         _ranks: &[u64],
     ) -> Result<(), Stop> {
-        self.keep(packet.number, captured)?;
+        let kept = self.keep(packet.number, captured);
+        self.whole = kept.is_ok();
+        kept?;
         Ok(())
     }
 

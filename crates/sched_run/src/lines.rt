@@ -1,5 +1,5 @@
 //! One event, with what is recorded of it.
-ghost use Rattle.std.specs.Prelude.{◌≡◌, ◌<◌, ◌≤◌, ◌+◌, ◌^◌, ◌↔◌, [], ◌∷◌, None, option_map, IsNone, IsTrue, IfErr, IfOk, OnOk, OnErr, IfSome, IfNone};
+ghost use Rattle.std.specs.Prelude.{◌≡◌, ◌<◌, ◌≤◌, ◌+◌, ◌^◌, ◌↔◌, [], ◌∷◌, None, option_map, is_ok, IsNone, IsTrue, IfErr, IfOk, OnOk, OnErr, IfSome, IfNone};
 ghost use Rattle.outside_core.specs.Faults.{Rose};
 ghost use Rattle.outside_core.specs.Kept.{KeepsSink, HasSinkCause};
 ghost use Rattle.report_core.specs.Gathered.{Tells, CutsOff};
@@ -71,6 +71,7 @@ pub(crate) fn depart_at<C: Scheduler, N: NodeNames, W: Recorder, K: Sink>(
     ensures kept { KeepsSink K.written K.faults sink.old sink.new }
     ensures cause { OnErr result (Rose (K.faults sink.old) (K.faults sink.new)) }
     ensures live { OnOk result (W.live recorder.new) }
+    ensures dead { OnErr result (W.live recorder.new → ⊥) }
     ensures asked { AsksOnce C.Scheduler scheduler.old under.old scheduler.new under.new }
 {
     let Departure { event, start } = departure;
@@ -122,7 +123,7 @@ pub fn depart_line<C: Scheduler, N: NodeNames, K: Sink>(
         CutsOff K.written sink.old report.old sink.new (line_of (C.policy scheduler.old) event (Depart None) s))) }
     ensures kept { KeepsSink K.written K.faults sink.old sink.new }
     ensures cause { OnErr result (Rose (K.faults sink.old) (K.faults sink.new)) }
-    ensures live { OnOk result (IsTrue report.new.live) }
+    ensures live { report.new.live ≡ is_ok result }
     ensures asked { AsksOnce C.Scheduler scheduler.old under.old scheduler.new under.new }
 {
     let departure = Departure { event, start: None };

@@ -58,7 +58,8 @@ pub trait Recorder: Drop {
         ensures kept { KeepsSink K.written K.faults sink.old sink.new }
         ensures cause { IfErr result (λ stop. HasSinkCause stop K.faults sink.old sink.new) }
         ensures over { OnOk result (over self.new ≡ over self.old) }
-        ensures live { OnOk result (live self.new) };
+        ensures live { OnOk result (live self.new) }
+        ensures dead { OnErr result (live self.new → ⊥) };
 
     /// Records a packet that was dropped at a leaf of this name.
     fn dropped<K: Sink>(
@@ -79,7 +80,8 @@ pub trait Recorder: Drop {
         ensures kept { KeepsSink K.written K.faults sink.old sink.new }
         ensures cause { OnErr result (Rose (K.faults sink.old) (K.faults sink.new)) }
         ensures over { OnOk result (over self.new ≡ over self.old) }
-        ensures live { OnOk result (live self.new) };
+        ensures live { OnOk result (live self.new) }
+        ensures dead { OnErr result (live self.new → ⊥) };
 
     /// Records a packet that left from a leaf of this name, with the ranks taken from the root down, and with the moment at
     /// which it starts, in nanoseconds, where a link says it.
@@ -106,7 +108,8 @@ pub trait Recorder: Drop {
             (K.written sink.new)) }
         ensures kept { KeepsSink K.written K.faults sink.old sink.new }
         ensures cause { OnErr result (Rose (K.faults sink.old) (K.faults sink.new)) }
-        ensures live { OnOk result (live self.new) };
+        ensures live { OnOk result (live self.new) }
+        ensures dead { OnErr result (live self.new → ⊥) };
 
     /// Records a departure of nothing.
     fn empty<K: Sink>(&mut self, sink: &mut K, event: u64) -> Result<(), WriteFault>
@@ -118,7 +121,8 @@ pub trait Recorder: Drop {
             cuts bytes self.old (K.written sink.old) policy event (events.Empty ∷ []) (K.written sink.new)) }
         ensures kept { KeepsSink K.written K.faults sink.old sink.new }
         ensures cause { OnErr result (Rose (K.faults sink.old) (K.faults sink.new)) }
-        ensures live { OnOk result (live self.new) };
+        ensures live { OnOk result (live self.new) }
+        ensures dead { OnErr result (live self.new → ⊥) };
 
     /// Whether nothing more can be recorded, so that the run has to end.
     fn over(&self) -> bool

@@ -5,3 +5,4 @@ pub mod Lists
 pub mod Names
 pub mod Rows
 pub mod Watching
+pub mod ListRows

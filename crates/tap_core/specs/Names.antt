@@ -1,5 +1,5 @@
 -- The kinds of taps that words name.
-use Rattle.std.specs.Prelude.{◌≡◌, refl, ℕ, Bool, true, false, if◌then◌else◌, Option, None, Some, List, codes}
+use Rattle.std.specs.Prelude.{◌≡◌, refl, ℕ, Bool, true, false, if◌then◌else◌, Option, None, Some, List, [], codes}
 use Rattle.std.specs.Str.{bytes_eq}
 use Rattle.tap_core.specs.declared.watch.Named.{Named}
 use Rattle.tap_core.specs.Lines.{name_of}
@@ -29,3 +29,19 @@ named_with-twice = refl
 
 named_with-unknown : named_with none_named (codes "Bytes") ≡ None
 named_with-unknown = refl
+
+named_with-drops : named_with none_named (codes "drops") ≡ Some (record { bytes = false; order = false; first = false; drops = true })
+named_with-drops = refl
+
+-- in any order, and the others stay
+named_with-more : named_with (record { bytes = false; order = true; first = false; drops = true }) (codes "bytes") ≡ Some (record { bytes = true; order = true; first = false; drops = true })
+named_with-more = refl
+
+named_with-order_last : named_with (record { bytes = true; order = false; first = true; drops = false }) (codes "order") ≡ Some (record { bytes = true; order = true; first = true; drops = false })
+named_with-order_last = refl
+
+named_with-cut : named_with none_named (codes "byte") ≡ None
+named_with-cut = refl
+
+named_with-nothing : named_with none_named [] ≡ None
+named_with-nothing = refl
