@@ -110,37 +110,32 @@ operand w = given word (passing is_operand w)
 
 -- The reader is of expressions inside one more pair of parentheses.
 module _ (inside : Reader Phrase) where
-  unfoldable pub in_parentheses : Reader Phrase
-  in_parentheses = do
+  -- up to a mark, and the mark
+  unfoldable pub argument : Mark → Reader Phrase
+  argument s = do
     a ← inside
-    mark m.Close
+    mark s
     pure a
 
   unfoldable pub call : Op → Reader Phrase
   call o = do
     mark m.Open
-    a ← inside
-    mark m.Comma
-    b ← inside
-    mark m.Close
+    a ← argument m.Comma
+    b ← argument m.Close
     limited (two o a b)
 
   unfoldable pub opposite : Reader Phrase
   opposite = do
     mark m.Open
-    a ← inside
-    mark m.Close
+    a ← argument m.Close
     limited (negation a)
 
   unfoldable pub alternative : Reader Phrase
   alternative = do
     mark m.Open
-    a ← inside
-    mark m.Comma
-    b ← inside
-    mark m.Comma
-    c ← inside
-    mark m.Close
+    a ← argument m.Comma
+    b ← argument m.Comma
+    c ← argument m.Close
     limited (choice a b c)
 
   abbrev pub word_at : List ℕ → Option Function → Reader Phrase
@@ -150,7 +145,7 @@ module _ (inside : Reader Phrase) where
   word_at w (Some function.If) = alternative
 
   abbrev pub mark_at : Mark → Reader Phrase
-  mark_at m.Open = in_parentheses
+  mark_at m.Open = argument m.Close
   mark_at _ = refuse
 
   abbrev pub atom_at : Glyph → Reader Phrase
@@ -181,5 +176,5 @@ a_comparison_ends = refl
 
 -- where no parentheses may be opened
 no_room : expression (atom 0) (sign m.Open ∷ figure 1 ∷ sign m.Close ∷ []) ≡ None
-unfolding expression sum product chain limited atom operand in_parentheses
+unfolding expression sum product chain limited atom operand argument
 no_room = refl
