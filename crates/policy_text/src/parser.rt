@@ -84,6 +84,17 @@ fn inside(alloc: Global, cursor: &mut Cursor<'_>, room: u32) -> Result<Part, Ref
     expression(alloc, cursor, room - 1)
 }
 
+/// An expression up to this mark, and the mark.
+#[tactic(auto, unfolding(policy_text_defs::specs::Reading::argument))]
+#[cycle(expression)]
+fn argument(alloc: Global, cursor: &mut Cursor<'_>, room: u32, mark: Mark) -> Result<Part, Refusal>
+    ensures { Reads phrase_of_part (spec.argument (spec.inside room) mark) result cursor.old.rest.now cursor.new.rest.now }
+{
+    let part = inside(alloc, cursor, room)?;
+    cursor.mark(mark)?;
+    Ok(part)
+}
+
 /// The arguments of a function of two, and the parentheses round them.
 #[tactic(auto, unfolding(policy_text_defs::specs::Reading::call))]
 #[cycle(expression)]
@@ -91,10 +102,8 @@ fn call(alloc: Global, cursor: &mut Cursor<'_>, room: u32, op: Op) -> Result<Par
     ensures { Reads phrase_of_part (spec.call (spec.inside room) op) result cursor.old.rest.now cursor.new.rest.now }
 {
     cursor.mark(Mark::Open)?;
-    let first = inside(alloc, cursor, room)?;
-    cursor.mark(Mark::Comma)?;
-    let second = inside(alloc, cursor, room)?;
-    cursor.mark(Mark::Close)?;
+    let first = argument(alloc, cursor, room, Mark::Comma)?;
+    let second = argument(alloc, cursor, room, Mark::Close)?;
     pair(alloc, op, first, second)
 }
 
@@ -105,8 +114,7 @@ fn opposite(alloc: Global, cursor: &mut Cursor<'_>, room: u32) -> Result<Part, R
     ensures { Reads phrase_of_part (spec.opposite (spec.inside room)) result cursor.old.rest.now cursor.new.rest.now }
 {
     cursor.mark(Mark::Open)?;
-    let part = inside(alloc, cursor, room)?;
-    cursor.mark(Mark::Close)?;
+    let part = argument(alloc, cursor, room, Mark::Close)?;
     negated(alloc, part)
 }
 
@@ -117,24 +125,10 @@ fn alternative(alloc: Global, cursor: &mut Cursor<'_>, room: u32) -> Result<Part
     ensures { Reads phrase_of_part (spec.alternative (spec.inside room)) result cursor.old.rest.now cursor.new.rest.now }
 {
     cursor.mark(Mark::Open)?;
-    let test = inside(alloc, cursor, room)?;
-    cursor.mark(Mark::Comma)?;
-    let then = inside(alloc, cursor, room)?;
-    cursor.mark(Mark::Comma)?;
-    let other = inside(alloc, cursor, room)?;
-    cursor.mark(Mark::Close)?;
+    let test = argument(alloc, cursor, room, Mark::Comma)?;
+    let then = argument(alloc, cursor, room, Mark::Comma)?;
+    let other = argument(alloc, cursor, room, Mark::Close)?;
     chosen(alloc, test, then, other)
-}
-
-/// An expression after its opening parenthesis, with the closing one.
-#[tactic(auto, unfolding(policy_text_defs::specs::Reading::in_parentheses))]
-#[cycle(expression)]
-fn in_parentheses(alloc: Global, cursor: &mut Cursor<'_>, room: u32) -> Result<Part, Refusal>
-    ensures { Reads phrase_of_part (spec.in_parentheses (spec.inside room)) result cursor.old.rest.now cursor.new.rest.now }
-{
-    let part = inside(alloc, cursor, room)?;
-    cursor.mark(Mark::Close)?;
-    Ok(part)
 }
 
 #[cycle(expression)]
@@ -166,7 +160,7 @@ fn atom(alloc: Global, cursor: &mut Cursor<'_>, room: u32) -> Result<Part, Refus
             depth: 1,
         }),
         Item::Word(word) => word_atom(alloc, cursor, room, word),
-        Item::Mark(Mark::Open) => in_parentheses(alloc, cursor, room),
+        Item::Mark(Mark::Open) => argument(alloc, cursor, room, Mark::Close),
         Item::Mark(_) => Err(Refusal::NoForm),
     }
 }

@@ -10,7 +10,7 @@ use Rattle.policy_text_defs.specs.declared.function.Function.TheVariants as f
 use Rattle.policy_text_defs.specs.Words.{is_name, is_variable, function_of, some_if}
 use Rattle.policy_text_defs.specs.Phrase.{Phrase, number, word, two, negation, choice, depth, most_depth, most_open}
 use Rattle.text_core.specs.Glyphs.{Glyph, text, figure, sign}
-use Rattle.policy_text_defs.specs.Reading.{Reader, ◌>>=◌, pick, given, next, ahead, pure, refuse, limited, comparison, mark, operand, in_parentheses, call, opposite, alternative, mark_at, word_at, atom_at, expression, product, sum, atom}
+use Rattle.policy_text_defs.specs.Reading.{Reader, ◌>>=◌, pick, given, next, ahead, pure, refuse, limited, comparison, mark, operand, argument, call, opposite, alternative, mark_at, word_at, atom_at, expression, product, sum, atom}
 use Rattle.policy_text_defs.specs.Grammar.{product_op, sum_op, relation, Form, Compared, alone, compared, Expression, Call, min_call, max_call, and_call, or_call, IsOperand, named, variable, AtomOver, number_atom, word_atom, parens_atom, call_atom, not_atom, if_atom, NoForm, Atom}
 use Rattle.policy_text_defs.proofs.GrammarLaws.{Exact, Begins, low_along, limited_low, passed, Grouped-exact}
 use Rattle.policy_text_defs.proofs.StepLaws.{steps, same_value, same_rest, stands, ahead_at, marked, in_table}
@@ -132,7 +132,7 @@ module _ {Inside : Form} {InsideEnds : List Glyph → Type 0} {reads : Reader Ph
   before_mark s ends us vs rest a part low = ap reads (append_assoc us (sign s ∷ vs) rest) ∙ exact.again us (sign s ∷ (vs ++ rest)) a part low (ends (vs ++ rest))
 
   atom_again : ((gs : List Glyph) → InsideEnds (sign m.Close ∷ gs)) → ((gs : List Glyph) → InsideEnds (sign m.Comma ∷ gs)) → (ts rest : List Glyph) (c : Phrase) → AtomOver Inside ts c → depth c ≤ most_depth → Unit {0} → (next >>= atom_at reads) (ts ++ rest) ≡ Some (c, rest)
-  unfolding in_parentheses call opposite alternative
+  unfolding argument call opposite alternative
   atom_again close comma ts rest c (number_atom n) low end = refl
   atom_again close comma ts rest c (word_atom w is) low end = rw (no_function w (function_of w) refl is) (operand_reads w rest is)
   atom_again close comma ts rest c (parens_atom us a part) low end = rw (before_mark m.Close close us [] rest c part low) refl
@@ -152,8 +152,8 @@ module _ {Inside : Form} {InsideEnds : List Glyph → Type 0} {reads : Reader Ph
       let third_low : depth d ≤ most_depth = omega arith in
       rw (before_mark m.Comma comma us (vs ++ (sign m.Comma ∷ ws ++ sign m.Close ∷ [])) rest a first first_low, before_mark m.Comma comma vs (ws ++ sign m.Close ∷ []) rest b second second_low, before_mark m.Close close ws [] rest d third third_low, limited_low (choice a b d) rest low) refl
 
-  parens_sound : (gs rest : List Glyph) (c : Phrase) → in_parentheses reads gs ≡ Some (c, rest) → Begins (AtomOver Inside) (sign m.Open ∷ gs) c rest
-  unfolding in_parentheses
+  parens_sound : (gs rest : List Glyph) (c : Phrase) → argument reads m.Close gs ≡ Some (c, rest) → Begins (AtomOver Inside) (sign m.Open ∷ gs) c rest
+  unfolding argument
   parens_sound gs rest c e =
       let first = steps (reads gs) (λ a. mark m.Close >>= (λ _. pure a)) c rest e in
       let second = steps (mark m.Close first.left) (λ _. pure first.value) c rest first.next in
@@ -172,10 +172,16 @@ module _ {Inside : Form} {InsideEnds : List Glyph → Type 0} {reads : Reader Ph
     split : gs ≡ front ++ sign s ∷ left
     is : Inside front a
 
-  argument : (s : Mark) (gs hs left : List Glyph) (a : Phrase) (u : Unit {0}) → reads gs ≡ Some (a, hs) → mark s hs ≡ Some (u, left) → Argument s gs left a
-  argument s gs hs left a u read closed =
-      let part = exact.sound gs hs a read in
-      record { front = part.front; split = part.split ∙ ap (λ l. part.front ++ l) (marked s hs left u closed); is = part.is }
+  argued : (s : Mark) (gs left : List Glyph) (a : Phrase) → argument reads s gs ≡ Some (a, left) → Argument s gs left a
+  unfolding argument
+  argued s gs left a e =
+      let first = steps (reads gs) (λ b. mark s >>= (λ _. pure b)) a left e in
+      let second = steps (mark s first.left) (λ _. pure first.value) a left first.next in
+      let part = exact.sound gs first.left first.value first.read in
+      let closed = marked s first.left second.left second.value second.read in
+      let over : second.left ≡ left = same_rest first.value a second.left left second.next in
+      let same : first.value ≡ a = same_value first.value a second.left left second.next in
+      record { front = part.front; split = part.split ∙ ap (λ l. part.front ++ l) (closed ∙ ap (λ l. sign s ∷ l) over); is = subst (Inside part.front) same part.is }
 
   -- an argument and what follows it are a list of tokens
   onto : (s : Mark) (gs left ts rest : List Glyph) (a : Phrase) (arg : Argument s gs left a) → left ≡ ts ++ rest → gs ≡ (arg.front ++ sign s ∷ ts) ++ rest
@@ -184,51 +190,45 @@ module _ {Inside : Form} {InsideEnds : List Glyph → Type 0} {reads : Reader Ph
   opposite_sound : (gs rest : List Glyph) (c : Phrase) → opposite reads gs ≡ Some (c, rest) → Begins (AtomOver Inside) (text (codes "not") ∷ gs) c rest
   unfolding opposite
   opposite_sound gs rest c e =
-      let zeroth = steps (mark m.Open gs) (λ _. reads >>= (λ a. mark m.Close >>= (λ _. limited (negation a)))) c rest e in
+      let zeroth = steps (mark m.Open gs) (λ _. argument reads m.Close >>= (λ a. limited (negation a))) c rest e in
       let opened = marked m.Open gs zeroth.left zeroth.value zeroth.read in
-      let first = steps (reads zeroth.left) (λ a. mark m.Close >>= (λ _. limited (negation a))) c rest zeroth.next in
-      let second = steps (mark m.Close first.left) (λ _. limited (negation first.value)) c rest first.next in
-      let arg = argument m.Close zeroth.left first.left second.left first.value second.value first.read second.read in
-      let pass = passed (negation first.value) c second.left rest second.next in
-      let split : zeroth.left ≡ (arg.front ++ sign m.Close ∷ []) ++ rest = onto m.Close zeroth.left second.left [] rest first.value arg pass.left in
+      let first = steps (argument reads m.Close zeroth.left) (λ a. limited (negation a)) c rest zeroth.next in
+      let arg = argued m.Close zeroth.left first.left first.value first.read in
+      let pass = passed (negation first.value) c first.left rest first.next in
+      let split : zeroth.left ≡ (arg.front ++ sign m.Close ∷ []) ++ rest = onto m.Close zeroth.left first.left [] rest first.value arg pass.left in
       let front : List Glyph = text (codes "not") ∷ sign m.Open ∷ arg.front ++ sign m.Close ∷ [] in
       record { front = front; split = ap (λ l. text (codes "not") ∷ l) (opened ∙ ap (λ l. sign m.Open ∷ l) split); is = subst (AtomOver Inside front) pass.same (not_atom arg.front first.value arg.is); low = low_along (negation first.value) c pass.same pass.low }
 
   call_sound : (o : Op) (w : List ℕ) (gs rest : List Glyph) (c : Phrase) → Call o w → call reads o gs ≡ Some (c, rest) → Begins (AtomOver Inside) (text w ∷ gs) c rest
   unfolding call
   call_sound o w gs rest c is e =
-      let zeroth = steps (mark m.Open gs) (λ _. reads >>= (λ a. mark m.Comma >>= (λ _. reads >>= (λ b. mark m.Close >>= (λ _. limited (two o a b)))))) c rest e in
+      let zeroth = steps (mark m.Open gs) (λ _. argument reads m.Comma >>= (λ a. argument reads m.Close >>= (λ b. limited (two o a b)))) c rest e in
       let opened = marked m.Open gs zeroth.left zeroth.value zeroth.read in
-      let first = steps (reads zeroth.left) (λ a. mark m.Comma >>= (λ _. reads >>= (λ b. mark m.Close >>= (λ _. limited (two o a b))))) c rest zeroth.next in
-      let second = steps (mark m.Comma first.left) (λ _. reads >>= (λ b. mark m.Close >>= (λ _. limited (two o first.value b)))) c rest first.next in
-      let third = steps (reads second.left) (λ b. mark m.Close >>= (λ _. limited (two o first.value b))) c rest second.next in
-      let fourth = steps (mark m.Close third.left) (λ _. limited (two o first.value third.value)) c rest third.next in
-      let left = argument m.Comma zeroth.left first.left second.left first.value second.value first.read second.read in
-      let right = argument m.Close second.left third.left fourth.left third.value fourth.value third.read fourth.read in
-      let pass = passed (two o first.value third.value) c fourth.left rest fourth.next in
-      let end : second.left ≡ (right.front ++ sign m.Close ∷ []) ++ rest = onto m.Close second.left fourth.left [] rest third.value right pass.left in
-      let split : zeroth.left ≡ (left.front ++ (sign m.Comma ∷ (right.front ++ sign m.Close ∷ []))) ++ rest = onto m.Comma zeroth.left second.left (right.front ++ sign m.Close ∷ []) rest first.value left end in
+      let first = steps (argument reads m.Comma zeroth.left) (λ a. argument reads m.Close >>= (λ b. limited (two o a b))) c rest zeroth.next in
+      let second = steps (argument reads m.Close first.left) (λ b. limited (two o first.value b)) c rest first.next in
+      let left = argued m.Comma zeroth.left first.left first.value first.read in
+      let right = argued m.Close first.left second.left second.value second.read in
+      let pass = passed (two o first.value second.value) c second.left rest second.next in
+      let end : first.left ≡ (right.front ++ sign m.Close ∷ []) ++ rest = onto m.Close first.left second.left [] rest second.value right pass.left in
+      let split : zeroth.left ≡ (left.front ++ (sign m.Comma ∷ (right.front ++ sign m.Close ∷ []))) ++ rest = onto m.Comma zeroth.left first.left (right.front ++ sign m.Close ∷ []) rest first.value left end in
       let front : List Glyph = text w ∷ sign m.Open ∷ left.front ++ (sign m.Comma ∷ right.front ++ (sign m.Close ∷ [])) in
-      record { front = front; split = ap (λ l. text w ∷ l) (opened ∙ ap (λ l. sign m.Open ∷ l) split); is = subst (AtomOver Inside front) pass.same (call_atom o w left.front right.front first.value third.value is left.is right.is); low = low_along (two o first.value third.value) c pass.same pass.low }
+      record { front = front; split = ap (λ l. text w ∷ l) (opened ∙ ap (λ l. sign m.Open ∷ l) split); is = subst (AtomOver Inside front) pass.same (call_atom o w left.front right.front first.value second.value is left.is right.is); low = low_along (two o first.value second.value) c pass.same pass.low }
 
   alternative_sound : (gs rest : List Glyph) (c : Phrase) → alternative reads gs ≡ Some (c, rest) → Begins (AtomOver Inside) (text (codes "if") ∷ gs) c rest
   unfolding alternative
   alternative_sound gs rest c e =
-      let zeroth = steps (mark m.Open gs) (λ _. reads >>= (λ a. mark m.Comma >>= (λ _. reads >>= (λ b. mark m.Comma >>= (λ _. reads >>= (λ d. mark m.Close >>= (λ _. limited (choice a b d)))))))) c rest e in
+      let zeroth = steps (mark m.Open gs) (λ _. argument reads m.Comma >>= (λ a. argument reads m.Comma >>= (λ b. argument reads m.Close >>= (λ d. limited (choice a b d))))) c rest e in
       let opened = marked m.Open gs zeroth.left zeroth.value zeroth.read in
-      let one = steps (reads zeroth.left) (λ a. mark m.Comma >>= (λ _. reads >>= (λ b. mark m.Comma >>= (λ _. reads >>= (λ d. mark m.Close >>= (λ _. limited (choice a b d))))))) c rest zeroth.next in
-      let after_one = steps (mark m.Comma one.left) (λ _. reads >>= (λ b. mark m.Comma >>= (λ _. reads >>= (λ d. mark m.Close >>= (λ _. limited (choice one.value b d)))))) c rest one.next in
-      let other = steps (reads after_one.left) (λ b. mark m.Comma >>= (λ _. reads >>= (λ d. mark m.Close >>= (λ _. limited (choice one.value b d))))) c rest after_one.next in
-      let after_other = steps (mark m.Comma other.left) (λ _. reads >>= (λ d. mark m.Close >>= (λ _. limited (choice one.value other.value d)))) c rest other.next in
-      let last = steps (reads after_other.left) (λ d. mark m.Close >>= (λ _. limited (choice one.value other.value d))) c rest after_other.next in
-      let after_last = steps (mark m.Close last.left) (λ _. limited (choice one.value other.value last.value)) c rest last.next in
-      let test = argument m.Comma zeroth.left one.left after_one.left one.value after_one.value one.read after_one.read in
-      let then = argument m.Comma after_one.left other.left after_other.left other.value after_other.value other.read after_other.read in
-      let otherwise = argument m.Close after_other.left last.left after_last.left last.value after_last.value last.read after_last.read in
-      let pass = passed (choice one.value other.value last.value) c after_last.left rest after_last.next in
-      let third : after_other.left ≡ (otherwise.front ++ sign m.Close ∷ []) ++ rest = onto m.Close after_other.left after_last.left [] rest last.value otherwise pass.left in
-      let second : after_one.left ≡ (then.front ++ (sign m.Comma ∷ (otherwise.front ++ sign m.Close ∷ []))) ++ rest = onto m.Comma after_one.left after_other.left (otherwise.front ++ sign m.Close ∷ []) rest other.value then third in
-      let first : zeroth.left ≡ (test.front ++ (sign m.Comma ∷ (then.front ++ (sign m.Comma ∷ (otherwise.front ++ sign m.Close ∷ []))))) ++ rest = onto m.Comma zeroth.left after_one.left (then.front ++ (sign m.Comma ∷ (otherwise.front ++ sign m.Close ∷ []))) rest one.value test second in
+      let one = steps (argument reads m.Comma zeroth.left) (λ a. argument reads m.Comma >>= (λ b. argument reads m.Close >>= (λ d. limited (choice a b d)))) c rest zeroth.next in
+      let other = steps (argument reads m.Comma one.left) (λ b. argument reads m.Close >>= (λ d. limited (choice one.value b d))) c rest one.next in
+      let last = steps (argument reads m.Close other.left) (λ d. limited (choice one.value other.value d)) c rest other.next in
+      let test = argued m.Comma zeroth.left one.left one.value one.read in
+      let then = argued m.Comma one.left other.left other.value other.read in
+      let otherwise = argued m.Close other.left last.left last.value last.read in
+      let pass = passed (choice one.value other.value last.value) c last.left rest last.next in
+      let third : other.left ≡ (otherwise.front ++ sign m.Close ∷ []) ++ rest = onto m.Close other.left last.left [] rest last.value otherwise pass.left in
+      let second : one.left ≡ (then.front ++ (sign m.Comma ∷ (otherwise.front ++ sign m.Close ∷ []))) ++ rest = onto m.Comma one.left other.left (otherwise.front ++ sign m.Close ∷ []) rest other.value then third in
+      let first : zeroth.left ≡ (test.front ++ (sign m.Comma ∷ (then.front ++ (sign m.Comma ∷ (otherwise.front ++ sign m.Close ∷ []))))) ++ rest = onto m.Comma zeroth.left one.left (then.front ++ (sign m.Comma ∷ (otherwise.front ++ sign m.Close ∷ []))) rest one.value test second in
       let front : List Glyph = text (codes "if") ∷ sign m.Open ∷ test.front ++ (sign m.Comma ∷ then.front ++ (sign m.Comma ∷ otherwise.front ++ (sign m.Close ∷ []))) in
       record { front = front; split = ap (λ l. text (codes "if") ∷ l) (opened ∙ ap (λ l. sign m.Open ∷ l) first); is = subst (AtomOver Inside front) pass.same (if_atom test.front then.front otherwise.front one.value other.value last.value test.is then.is otherwise.is); low = low_along (choice one.value other.value last.value) c pass.same pass.low }
 

@@ -1,5 +1,5 @@
 -- The grammar of expressions, over whole lists of tokens.
-use Rattle.std.specs.Prelude.{◌≡◌, ℕ, zero, suc, ◌≤◌, true, List, [], ◌∷◌, ◌++◌, Option, Some, None, codes}
+use Rattle.std.specs.Prelude.{◌≡◌, refl, ℕ, zero, suc, ◌≤◌, true, List, [], ◌∷◌, ◌++◌, Option, Some, None, codes}
 use Rattle.rank_defs.specs.declared.expression.Op.{Op}
 use Rattle.rank_defs.specs.declared.expression.Op.TheVariants as op
 use Rattle.text_core.specs.declared.mark.Mark.TheVariants as m
@@ -95,3 +95,20 @@ Atom (suc room) = AtomOver (Expression (Atom room))
 pub record Spells (gs : List Glyph) (a : Phrase) : Type 0 where
   pub form : Expression (Atom most_open) gs a
   pub low : depth a ≤ most_depth
+
+-- a name is a product by itself
+a_name : (w : List ℕ) → is_name w ≡ true → Product (Atom 0) (text w ∷ []) (word w)
+a_name w is = grouped (text w ∷ []) [] (word w) (word w) (word_atom w (named is)) (ends (word w))
+
+-- `a - b - c` is (a - b) - c
+minus_groups_from_the_left :
+    Expression (Atom 0) (text (codes "a") ∷ sign m.Minus ∷ text (codes "b") ∷ sign m.Minus ∷ text (codes "c") ∷ [])
+    (two op.Sub (two op.Sub (word (codes "a")) (word (codes "b"))) (word (codes "c")))
+minus_groups_from_the_left =
+    let a : Phrase = word (codes "a") in
+    let b : Phrase = word (codes "b") in
+    let c : Phrase = word (codes "c") in
+    let all : Phrase = two op.Sub (two op.Sub a b) c in
+    alone _ all (grouped (text (codes "a") ∷ []) (sign m.Minus ∷ text (codes "b") ∷ sign m.Minus ∷ text (codes "c") ∷ []) a all (a_name (codes "a") refl)
+    (more op.Sub (sign m.Minus) (text (codes "b") ∷ []) (sign m.Minus ∷ text (codes "c") ∷ []) a b all refl (a_name (codes "b") refl)
+    (more op.Sub (sign m.Minus) (text (codes "c") ∷ []) [] (two op.Sub a b) c all refl (a_name (codes "c") refl) (ends all))))

@@ -1,6 +1,7 @@
 -- An expression apart from where it lies in memory.
-use Rattle.std.specs.Prelude.{ℕ, suc, max, List}
+use Rattle.std.specs.Prelude.{◌≡◌, refl, ℕ, suc, max, List, codes}
 use Rattle.rank_defs.specs.declared.expression.Op.{Op}
+use Rattle.rank_defs.specs.declared.expression.Op.TheVariants as op
 use Rattle.rank_defs.specs.Shapes.{max_depth}
 use Rattle.policy_text_defs.specs.declared.term.Term.{Term}
 use Rattle.policy_text_defs.specs.declared.term.Term.TheVariants.{Number, Word, Two', Not', If'}
@@ -33,3 +34,10 @@ most_depth = max_depth
 
 abbrev pub most_open : ℕ
 most_open = 64
+
+-- a number or word counts, and the deepest part decides
+depth_of_a_sum : depth (two op.Add (word (codes "len")) (two op.Mul (number 2) (word (codes "vt")))) ≡ 3
+depth_of_a_sum = refl
+
+depth_of_a_choice : depth (choice (negation (number 1)) (number 0) (word (codes "len"))) ≡ 3
+depth_of_a_choice = refl

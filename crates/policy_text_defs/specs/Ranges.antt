@@ -1,5 +1,5 @@
 -- The ranges of the numbers that are written.
-use Rattle.std.specs.Prelude.{ℕ}
+use Rattle.std.specs.Prelude.{◌≡◌, refl, ℕ, ◌-◌, ◌^◌, [], ◌∷◌, map}
 use Rattle.rank_defs.specs.Shapes.{max_len, max_prio, max_weight, max_slack}
 use Rattle.policy_text_defs.specs.declared.attribute.Attribute.{Attribute}
 use Rattle.policy_text_defs.specs.declared.attribute.Attribute.TheVariants as attribute
@@ -50,3 +50,15 @@ most_prefix = 32
 -- the most bytes of a policy text
 abbrev pub most_text : ℕ
 most_text = 1048576
+
+-- a weight divides, so it is never 0; a priority and a slack may be
+least_numbers : map attribute_least (attribute.Prio ∷ attribute.Weight ∷ attribute.Slack ∷ []) ≡ 0 ∷ 1 ∷ 0 ∷ []
+least_numbers = refl
+
+-- a VLAN identifier has 12 bits, a DSCP 6, a protocol 8, a port 16
+bits_of_fields : map field_most (field.Vlan ∷ field.Dscp ∷ field.Proto ∷ field.Sport ∷ field.Dport ∷ []) ≡ (2 ^ 12 - 1) ∷ (2 ^ 6 - 1) ∷ (2 ^ 8 - 1) ∷ (2 ^ 16 - 1) ∷ (2 ^ 16 - 1) ∷ []
+bits_of_fields = refl
+
+-- a text of 1 MiB, and a limit of 4 Mi packets
+powers_of_two : most_text ∷ limit_most ∷ [] ≡ (2 ^ 20) ∷ (2 ^ 22) ∷ []
+powers_of_two = refl

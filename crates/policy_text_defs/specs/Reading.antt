@@ -1,8 +1,9 @@
 -- Reading from the left, token by token: what a reader gives of a list of tokens, and what it leaves.
 -- It serves proofs; the laws in proofs/ say that it gives exactly the forms of Grammar and Statements.
-use Rattle.std.specs.Prelude.{ℕ, zero, suc, nat_le, Bool, false, if◌then◌else◌, List, [], ◌∷◌, Option, Some, None, option_map}
+use Rattle.std.specs.Prelude.{◌≡◌, refl, ℕ, zero, suc, nat_le, Bool, false, if◌then◌else◌, List, [], ◌∷◌, Option, Some, None, option_map, codes}
 use Rattle.std.specs.Str.{bytes_eq}
 use Rattle.rank_defs.specs.declared.expression.Op.{Op}
+use Rattle.rank_defs.specs.declared.expression.Op.TheVariants as op
 use Rattle.text_core.specs.declared.mark.Mark.{Mark}
 use Rattle.text_core.specs.declared.mark.Mark.TheVariants as m
 use Rattle.text_core.specs.Marks.{mark_text}
@@ -109,37 +110,32 @@ operand w = given word (passing is_operand w)
 
 -- The reader is of expressions inside one more pair of parentheses.
 module _ (inside : Reader Phrase) where
-  unfoldable pub in_parentheses : Reader Phrase
-  in_parentheses = do
+  -- up to a mark, and the mark
+  unfoldable pub argument : Mark → Reader Phrase
+  argument s = do
     a ← inside
-    mark m.Close
+    mark s
     pure a
 
   unfoldable pub call : Op → Reader Phrase
   call o = do
     mark m.Open
-    a ← inside
-    mark m.Comma
-    b ← inside
-    mark m.Close
+    a ← argument m.Comma
+    b ← argument m.Close
     limited (two o a b)
 
   unfoldable pub opposite : Reader Phrase
   opposite = do
     mark m.Open
-    a ← inside
-    mark m.Close
+    a ← argument m.Close
     limited (negation a)
 
   unfoldable pub alternative : Reader Phrase
   alternative = do
     mark m.Open
-    a ← inside
-    mark m.Comma
-    b ← inside
-    mark m.Comma
-    c ← inside
-    mark m.Close
+    a ← argument m.Comma
+    b ← argument m.Comma
+    c ← argument m.Close
     limited (choice a b c)
 
   abbrev pub word_at : List ℕ → Option Function → Reader Phrase
@@ -149,7 +145,7 @@ module _ (inside : Reader Phrase) where
   word_at w (Some function.If) = alternative
 
   abbrev pub mark_at : Mark → Reader Phrase
-  mark_at m.Open = in_parentheses
+  mark_at m.Open = argument m.Close
   mark_at _ = refuse
 
   abbrev pub atom_at : Glyph → Reader Phrase
@@ -165,3 +161,20 @@ atom (suc room) = next >>= atom_at (expression (atom room))
 abbrev pub inside : ℕ → Reader Phrase
 inside zero = refuse
 inside (suc room) = expression (atom room)
+
+-- `*` goes before `+`, and both group from the left
+products_before_sums :
+    expression (atom 0) (text (codes "a") ∷ sign m.Minus ∷ text (codes "b") ∷ sign m.Star ∷ figure 2 ∷ sign m.Plus ∷ figure 3 ∷ [])
+    ≡ Some (two op.Add (two op.Sub (word (codes "a")) (two op.Mul (word (codes "b")) (number 2))) (number 3), [])
+unfolding expression sum product chain limited atom operand
+products_before_sums = refl
+
+-- one comparison alone, and what follows is left
+a_comparison_ends : expression (atom 0) (figure 1 ∷ sign m.Less ∷ figure 2 ∷ sign m.Less ∷ figure 3 ∷ []) ≡ Some (two op.Less (number 1) (number 2), sign m.Less ∷ figure 3 ∷ [])
+unfolding expression sum product chain limited atom operand
+a_comparison_ends = refl
+
+-- where no parentheses may be opened
+no_room : expression (atom 0) (sign m.Open ∷ figure 1 ∷ sign m.Close ∷ []) ≡ None
+unfolding expression sum product chain limited atom operand argument
+no_room = refl

@@ -1,5 +1,5 @@
 -- A statement apart from where it lies in memory.
-use Rattle.std.specs.Prelude.{ℕ, suc, List, [], ◌∷◌, Option}
+use Rattle.std.specs.Prelude.{◌≡◌, refl, ℕ, suc, List, [], ◌∷◌, Option, codes}
 use Rattle.rank_defs.specs.declared.transaction.Span.{Span}
 use Rattle.policy_text_defs.specs.declared.attribute.Attrs.{Attrs}
 use Rattle.policy_text_defs.specs.declared.condition.Condition.{Condition}
@@ -40,3 +40,6 @@ entry n s = (n, s)
 abbrev pub numbered : ℕ → List Sense → List Entry
 numbered n [] = []
 numbered n (s ∷ ss) = entry n s ∷ numbered (suc n) ss
+
+numbers_follow_one_another : numbered 3 (version 2 ∷ transaction (codes "t") ∷ []) ≡ (3, version 2) ∷ (4, transaction (codes "t")) ∷ []
+numbers_follow_one_another = refl

@@ -1,5 +1,5 @@
 -- Reading a statement from the left, token by token. It serves proofs, as Reading does.
-use Rattle.std.specs.Prelude.{ℕ, zero, suc, nat_le, Bool, true, false, ◌&&◌, if◌then◌else◌, List, [], ◌∷◌, ◌++◌, length, Option, Some, None, codes}
+use Rattle.std.specs.Prelude.{◌≡◌, refl, ℕ, zero, suc, nat_le, Bool, true, false, ◌&&◌, if◌then◌else◌, List, [], ◌∷◌, ◌++◌, length, map, Option, Some, None, codes}
 use Rattle.rank_defs.specs.declared.transaction.Span.{Span}
 use Rattle.text_core.specs.declared.mark.Mark.TheVariants as m
 use Rattle.text_core.specs.Glyphs.{Glyph, text, figure, sign}
@@ -269,3 +269,32 @@ rest_by (Some keyword.Node) = node_rest
 
 unfoldable pub a_statement : Reader Sense
 a_statement = a_word >>= (λ w. rest_by (keyword_of w))
+
+-- a protocol is at most 255, by its number or by its name
+protocols : map (λ g. a_condition (text (codes "proto") ∷ g ∷ [])) (figure 255 ∷ figure 256 ∷ text (codes "udp") ∷ text (codes "gre") ∷ []) ≡ Some (condition.Field field_name.Proto 255 255, []) ∷ None ∷ Some (condition.Field field_name.Proto 17 17, []) ∷ None ∷ []
+unfolding a_condition upper bounded
+protocols = refl
+
+-- each of the four numbers is at most 255
+octets : map (λ n. address (figure n ∷ sign m.Dot ∷ figure 0 ∷ sign m.Dot ∷ figure 2 ∷ sign m.Dot ∷ figure 1 ∷ [])) (255 ∷ 256 ∷ []) ≡ Some (4278190593, []) ∷ None ∷ []
+unfolding address within
+octets = refl
+
+last_octets : map (λ n. address (figure 0 ∷ sign m.Dot ∷ figure 0 ∷ sign m.Dot ∷ figure 2 ∷ sign m.Dot ∷ figure n ∷ [])) (255 ∷ 256 ∷ []) ≡ Some (767, []) ∷ None ∷ []
+unfolding address within
+last_octets = refl
+
+-- a prefix has 0 to 32 bits, and 32 where none is written
+prefixes : map prefix_length ((sign m.Slash ∷ figure 0 ∷ []) ∷ (sign m.Slash ∷ figure 32 ∷ []) ∷ (sign m.Slash ∷ figure 33 ∷ []) ∷ [] ∷ []) ≡ Some (0, []) ∷ Some (32, []) ∷ None ∷ Some (32, []) ∷ []
+unfolding prefix_length within
+prefixes = refl
+
+-- a range's ends may be equal, and not the wrong way round; the last number is the greatest alone
+ranges : map (λ (p : ℕ × ℕ). bounds field_name.Dport (figure p.0 ∷ sign m.DotDot ∷ figure p.1 ∷ [])) ((80, 80) ∷ (81, 80) ∷ (0, 65535) ∷ (0, 65536) ∷ []) ≡ Some (condition.Field field_name.Dport 80 80, []) ∷ None ∷ Some (condition.Field field_name.Dport 0 65535, []) ∷ None ∷ []
+unfolding upper bounded
+ranges = refl
+
+-- an attribute that is set is not set again, and a weight is 1 or more
+attributes_once : map (λ (k : List ℕ × ℕ). attributes (text (codes "weight") ∷ figure 3 ∷ text k.0 ∷ figure k.1 ∷ [])) ((codes "prio", 0) ∷ (codes "weight", 3) ∷ []) ≡ Some (record { prio = Some 0; weight = Some 3; slack = None }, []) ∷ None ∷ []
+unfolding many repeated set_to
+attributes_once = refl

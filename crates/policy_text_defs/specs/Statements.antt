@@ -1,5 +1,6 @@
 -- The forms of statements, over whole lists of tokens.
-use Rattle.std.specs.Prelude.{◌≡◌, ℕ, ◌+◌, ◌*◌, ◌≤◌, ◌<◌, true, List, [], ◌∷◌, ◌++◌, length, map, Option, Some, None, codes}
+use Rattle.std.specs.Prelude.{◌≡◌, refl, ℕ, ◌+◌, ◌*◌, ◌≤◌, ◌<◌, true, List, [], ◌∷◌, ◌++◌, length, map, Option, Some, None, codes}
+use Rattle.std.proofs.Common.{lit≤}
 use Rattle.std.specs.List.{AllByRecursion}
 use Rattle.rank_defs.specs.declared.transaction.Span.{Span}
 use Rattle.text_core.specs.declared.mark.Mark.TheVariants as m
@@ -145,3 +146,20 @@ pub data IsForm : List Glyph → Sense → Type 0 where
   class_form : (n : List ℕ) (ts us : List Glyph) (a : Attrs) (cs : List Condition) → IsName n → Attributes ts a → Guard us cs → IsForm (text (codes "class") ∷ text n ∷ ts ++ us) (class n a cs)
   leaf_form : (n u : List ℕ) (ts ls : List Glyph) (a : Attrs) (l : Option ℕ) (ns : List (List ℕ)) → IsName n → IsName u → Attributes ts a → Limit ls l → AreNames ns → IsForm (text (codes "leaf") ∷ text n ∷ text (codes "using") ∷ text u ∷ ts ++ (ls ++ text (codes "classes") ∷ map text ns)) (leaf n u a l ns)
   node_form : (n u : List ℕ) (ts : List Glyph) (a : Attrs) (ns : List (List ℕ)) → IsName n → IsName u → Attributes ts a → AreNames ns → IsForm (text (codes "node") ∷ text n ∷ text (codes "using") ∷ text u ∷ ts ++ text (codes "children") ∷ map text ns) (node n u a ns)
+
+-- the first number is the most significant
+bytes_of_an_address : address_of (record { first = 10; second = 9; third = 0; fourth = 1 }) ≡ 168361985
+bytes_of_an_address = refl
+
+one_attribute_is_set : with_attribute attribute.Weight 3 (record { prio = Some 1; weight = None; slack = Some 0 }) ≡ record { prio = Some 1; weight = Some 3; slack = Some 0 }
+one_attribute_is_set = refl
+
+-- LOW and HIGH come first
+the_first_value_is_last : span_tokens (record { low = 1; high = 9; first = 4 }) ≡ figure 1 ∷ sign m.DotDot ∷ figure 9 ∷ sign m.Is ∷ figure 4 ∷ []
+the_first_value_is_last = refl
+
+-- an address alone has a prefix of 32 bits
+a_whole_address : IsCondition (text (codes "dst") ∷ figure 0 ∷ sign m.Dot ∷ figure 0 ∷ sign m.Dot ∷ figure 0 ∷ sign m.Dot ∷ figure 255 ∷ []) (condition.Dest 255 32)
+a_whole_address =
+    let octets : Octets = record { first = 0; second = 0; third = 0; fourth = 255 } in
+    dest (octet_tokens octets) 255 32 (whole octets (record { first = lit≤ tt; second = lit≤ tt; third = lit≤ tt; fourth = lit≤ tt }))

@@ -1,13 +1,14 @@
 -- The statements of a text, and the least of its lines that is at fault.
-use Rattle.std.specs.Prelude.{◌≡◌, ℕ, suc, ◌≤◌, ◌↔◌, Bool, true, false, List, [], ◌∷◌, length, take, codes}
+use Rattle.std.specs.Prelude.{◌≡◌, refl, ℕ, suc, ◌≤◌, ◌↔◌, Bool, true, false, List, [], ◌∷◌, length, map, take, codes}
 use Rattle.std.specs.List.{prefix_len, list_all}
 use Rattle.std.specs.Str.{bytes_eq}
 use Rattle.text_core.specs.Lines.{is_clean_text, statements_of}
 use Rattle.text_core.specs.Tokens.{is_blank, is_word_byte}
 use Rattle.policy_text_defs.specs.Ranges.{most_text}
-use Rattle.text_core.specs.Glyphs.{Glyph}
-use Rattle.policy_text_defs.specs.Sense.{Sense, Entry, entry, numbered}
-use Rattle.policy_text_defs.specs.Statements.{IsForm}
+use Rattle.text_core.specs.Glyphs.{Glyph, text as spelled}
+use Rattle.text_core.specs.declared.token.TokenKind.TheVariants as k
+use Rattle.policy_text_defs.specs.Sense.{Sense, transaction, Entry, entry, numbered}
+use Rattle.policy_text_defs.specs.Statements.{IsForm, transaction_form}
 use Rattle.text_core.specs.Says.{Says, skipped}
 
 -- the longest run of letters, digits and `_` after the leading blanks
@@ -75,3 +76,24 @@ pub data FirstFault : ℕ → List (List ℕ) → ℕ → Fault → Type 0 where
 pub record IsFirstFault (text : List ℕ) (n : ℕ) (f : Fault) : Type 0 where
   pub short : length text ≤ most_text
   pub first : FirstFault 1 (statements_of text) n f
+
+-- leading blanks don't count, and the word ends before what is no byte of a word
+first_words : map first_word (codes "\t shape=9 w" ∷ codes "shapes w" ∷ codes "9 shape" ∷ []) ≡ codes "shape" ∷ codes "shapes" ∷ codes "9" ∷ []
+first_words = refl
+
+-- a line need not parse to be refused for shaping
+shaping_lines : map is_shaping (codes " shape" ∷ codes "shape(=" ∷ codes "shaped" ∷ codes "leaf shape" ∷ []) ≡ true ∷ true ∷ false ∷ false ∷ []
+shaping_lines = refl
+
+-- a byte that isn't clean goes before the word
+unclean_before_shaping : IsFault (codes "shape\r w") not_text
+unclean_before_shaping = refl
+
+-- blank lines have numbers too
+blank_lines_count : Entries 1 (codes " " ∷ codes "transaction t" ∷ []) (entry 2 (transaction (codes "t")) ∷ [])
+blank_lines_count =
+    let says : Says (codes "transaction t") (spelled (codes "transaction") ∷ spelled (codes "t") ∷ []) = (k.Word, 11, refl, refl, (k.Word, 1, refl, refl, refl)) in
+    empty 1 (codes " ") _ _ refl
+    (carried 2 (codes "transaction t") [] (transaction (codes "t")) []
+    (record { clean = refl; unshaped = refl; tokens = spelled (codes "transaction") ∷ spelled (codes "t") ∷ []; says = says; form = transaction_form (codes "t") refl })
+    (over 3))

@@ -1,6 +1,8 @@
 -- What a statement is like that some line has: names are names, numbers are in range, expressions aren't too deep.
-use Rattle.std.specs.Prelude.{◌≡◌, ℕ, ◌<◌, ◌≤◌, ◌^◌, true, Option, Some, None, IfSome}
+use Rattle.std.specs.Prelude.{◌≡◌, refl, ℕ, ◌<◌, ◌≤◌, ◌^◌, true, Option, Some, None, IfSome, codes}
+use Rattle.std.proofs.Common.{lit≤}
 use Rattle.std.specs.List.{AllByRecursion}
+use Rattle.rank_defs.specs.declared.expression.Op.TheVariants as op
 use Rattle.rank_defs.specs.declared.transaction.Span.{Span}
 use Rattle.text_core.specs.Decimals.{max}
 use Rattle.policy_text_defs.specs.declared.attribute.Attrs.{Attrs}
@@ -78,3 +80,14 @@ IsValid (pop n a) = IsName n × IsValidPhrase a
 IsValid (class n a cs) = IsName n × AreValidAttributes a × AllByRecursion IsValidCondition cs
 IsValid (leaf n u a l ns) = IsName n × IsName u × AreValidAttributes a × IfSome l IsLimit × AreNames ns
 IsValid (node n u a ns) = IsName n × IsName u × AreValidAttributes a × AreNames ns
+
+-- a push may write the rank, and a number may be the greatest
+a_push_to_the_rank : IsValid (push (codes "rank") (two op.Add (word (codes "len")) (number 4611686018427387903)))
+a_push_to_the_rank = (refl, record { operands = (refl, lit≤ tt); low = lit≤ tt })
+
+-- the first value may be both ends
+a_span_of_one : IsValid (keep (codes "vt") (record { low = 5; high = 5; first = 5 }))
+a_span_of_one =
+    let five : 5 ≤ 5 = lit≤ tt in
+    let low : 5 ≤ max = lit≤ tt in
+    (refl, record { ordered = record { above = five; below = five }; low = low; high = low; first = low })

@@ -1,5 +1,5 @@
 -- The words of the language.
-use Rattle.std.specs.Prelude.{ℕ, nat_le, Bool, not, ◌&&◌, ◌||◌, List, [], ◌∷◌, length, Option, Some, None, if◌then◌else◌, codes}
+use Rattle.std.specs.Prelude.{◌≡◌, refl, ℕ, nat_le, Bool, true, false, not, ◌&&◌, ◌||◌, List, [], ◌∷◌, length, map, replicate, Option, Some, None, if◌then◌else◌, codes}
 use Rattle.std.specs.List.{list_all, list_any}
 use Rattle.std.specs.Str.{bytes_eq}
 use Rattle.text_core.specs.Tokens.{begins_word, is_word_byte, most_name}
@@ -126,3 +126,33 @@ protocol_of w =
     else (if bytes_eq w (codes "udp") then Some 17
     else (if bytes_eq w (codes "icmp") then Some 1
     else None))
+
+-- each word of the language, written once more
+no_word_of_the_language_is_a_name : list_any is_name (
+    codes "policy" ∷ codes "transaction" ∷ codes "keep" ∷ codes "each" ∷ codes "push" ∷ codes "pop" ∷ codes "class" ∷ codes "leaf" ∷ codes "node" ∷
+    codes "using" ∷ codes "classes" ∷ codes "children" ∷ codes "when" ∷ codes "limit" ∷ codes "shape" ∷
+    codes "and" ∷ codes "or" ∷ codes "not" ∷ codes "min" ∷ codes "max" ∷ codes "if" ∷
+    codes "prio" ∷ codes "weight" ∷ codes "slack" ∷ codes "len" ∷ codes "now" ∷ codes "rank" ∷
+    codes "src" ∷ codes "dst" ∷ codes "sport" ∷ codes "dport" ∷ codes "proto" ∷ codes "dscp" ∷ codes "vlan" ∷ codes "ipv4" ∷ codes "ipv6" ∷
+    codes "tcp" ∷ codes "udp" ∷ codes "icmp" ∷ []) ≡ false
+no_word_of_the_language_is_a_name = refl
+
+-- capitals count, and words that begin or end as one of the language do
+names : list_all is_name (codes "root" ∷ codes "fifo" ∷ codes "Leaf" ∷ codes "LEN" ∷ codes "leafs" ∷ codes "key" ∷ codes "min_" ∷ codes "ip" ∷ codes "icmpv6" ∷ codes "_" ∷ codes "w1" ∷ []) ≡ true
+names = refl
+
+no_names : list_any is_name (codes "" ∷ codes "1w" ∷ codes "a-b" ∷ codes "a b" ∷ []) ≡ false
+no_names = refl
+
+sixty_four_bytes_are_a_name : map (λ n. is_name (replicate n 97)) (1 ∷ 64 ∷ 65 ∷ []) ≡ true ∷ true ∷ false ∷ []
+sixty_four_bytes_are_a_name = refl
+
+-- an expression may read a variable, and a push may write the rank alone of these; a keyword is neither
+operands : map is_operand (codes "vt" ∷ codes "rank" ∷ codes "len" ∷ codes "leaf" ∷ []) ≡ true ∷ true ∷ true ∷ false ∷ []
+operands = refl
+
+targets : map is_target (codes "vt" ∷ codes "rank" ∷ codes "len" ∷ codes "leaf" ∷ []) ≡ true ∷ true ∷ false ∷ false ∷ []
+targets = refl
+
+numbers_of_protocols : map protocol_of (codes "tcp" ∷ codes "udp" ∷ codes "icmp" ∷ codes "TCP" ∷ codes "icmpv6" ∷ []) ≡ Some 6 ∷ Some 17 ∷ Some 1 ∷ None ∷ None ∷ []
+numbers_of_protocols = refl
