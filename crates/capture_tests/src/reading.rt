@@ -2,7 +2,7 @@
 ghost use Rattle.std.specs.Prelude.{◌≤◌, IfOk, IsTrue};
 ghost use Rattle.outside_core.specs.Memory.{is_begun};
 
-use capture_core::{CaptureReader, Unread};
+use capture_core::{CaptureReader, Unread, Window};
 use outside_core::{MemShelf, Shelf};
 use std::alloc::Global;
 use std::test::Fail;
@@ -74,7 +74,7 @@ pub(crate) fn given<R: CaptureReader + Drop>(
     requires { 1 ≤ most }
 {
     let mut shelf = begun(alloc, bytes, most, fail)?;
-    let mut reader = R::new(alloc);
+    let mut reader = R::over(alloc, Window::new(alloc));
     let mut into = Vec::new(alloc);
     match reader.start(&mut shelf) {
         Ok(()) => Ok(Ok(read_on(&mut reader, &mut shelf, &mut into))),
@@ -92,7 +92,7 @@ pub(crate) fn passed<R: CaptureReader + Drop>(
     requires { 1 ≤ most }
 {
     let mut shelf = begun(alloc, bytes, most, fail)?;
-    let mut reader = R::new(alloc);
+    let mut reader = R::over(alloc, Window::new(alloc));
     let mut scratch = Vec::new(alloc);
     match reader.start(&mut shelf) {
         Ok(()) => Ok(Ok(pass_on(&mut reader, &mut shelf, &mut scratch))),
