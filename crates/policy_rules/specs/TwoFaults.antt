@@ -70,10 +70,10 @@ all_packets = class (codes "all") nothing_set []
 abbrev some_packets : Sense
 some_packets = class (codes "all") nothing_set (Field Dscp 46 46 ∷ [])
 
-abbrev leaf_of : Name → List Name → Sense
+abbrev pub leaf_of : Name → List Name → Sense
 leaf_of n classes = leaf n (codes "fifo") nothing_set None classes
 
-abbrev node_of : Name → List Name → Sense
+abbrev pub node_of : Name → List Name → Sense
 node_of n names = node n (codes "fifo") nothing_set names
 
 -- so many variables, each of another name
