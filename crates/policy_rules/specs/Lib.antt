@@ -10,4 +10,5 @@ pub mod Graph
 pub mod Entries
 pub mod Rows
 pub mod TwoFaults
+pub mod FamilyRows
 pub mod Laws

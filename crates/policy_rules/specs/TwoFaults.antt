@@ -1,13 +1,19 @@
 -- Statements with two faults: the clause that goes first is told, whatever its line.
 use Rattle.std.specs.Prelude.{◌≡◌, refl, ℕ, zero, suc, ◌<◌, ◌≤◌, nat_le, nat_eq, Bool, true, false, not, ◌||◌, IsTrue, Option, Some, None, IsSomeAnd, List, [], ◌∷◌, length, slice_index_or, codes}
 use Rattle.std.specs.List.{list_all}
-use Rattle.std.proofs.Common.{arith, subst}
+use Rattle.std.proofs.Common.{arith, subst, inl, inr}
 use Rattle.std.proofs.lemmas.Bool.Decides.{nat_tests}
 use Rattle.std.proofs.lemmas.List.Sums.{AllPass-from_list_all}
-use Rattle.rank_defs.specs.Checks.{AreChecked}
+use Rattle.std.specs.Int.Signed.{le_z_yes, lt_z_yes, clash_ℤ}
+use Rattle.rank_defs.specs.declared.expression.Op.TheVariants.{Mul, Div, Less}
+use Rattle.rank_defs.specs.declared.expression.Var.TheVariants as var
+use Rattle.rank_defs.specs.Formulas as formula
+use Rattle.rank_defs.specs.Builtins.{fifo}
+use Rattle.rank_defs.specs.Ranges.{declared, ArePartsNarrow}
+use Rattle.rank_defs.specs.Checks.{Clashes, IsWide, MayDivideByZero, SomeAt, AreChecked, entries as assignments_of}
 use Rattle.policy_text_defs.specs.declared.condition.Condition.TheVariants.{Field}
 use Rattle.policy_text_defs.specs.declared.condition.FieldName.TheVariants.{Dscp}
-use Rattle.policy_text_defs.specs.Phrase.{word}
+use Rattle.policy_text_defs.specs.Phrase.{Phrase, number, word, two}
 use Rattle.policy_text_defs.specs.Sense.{Sense, Entry, entry, numbered, version, transaction, keep, push, class, leaf, node}
 use Rattle.policy_rules.specs.Names.{Name, node_name, before, listed, children, leaf_classes}
 use Rattle.policy_rules.specs.Clauses.{IsLeastLine, NoLine, is_placed, is_declared, is_known, is_beyond, is_orphan, is_stray, has_root, has_catch_all, root, IsAgain, IsUnknown, IsBeyond, IsOrphan, IsAhead}
@@ -15,7 +21,7 @@ use Rattle.policy_rules.specs.Families.{ListsChild, NamesLead, IsCyclic, IsTooDe
 use Rattle.policy_rules.specs.Accepted.{AreFew, AreShallow, IsFault}
 use Rattle.policy_rules.specs.Programs.{programs}
 use Rattle.policy_rules.specs.Rows.{nothing_set}
-use Rattle.policy_rules.specs.declared.fault.PolicyFault.TheVariants.{Misplaced, Twice, Unknown, TooMany, Parents, NoRoot, Cycle, ClassLeaf, NoCatchAll}
+use Rattle.policy_rules.specs.declared.fault.PolicyFault.TheVariants.{Misplaced, Twice, Unknown, TooMany, TypeClash, Wide, DivZero, Parents, NoRoot, Cycle, ClassLeaf, NoCatchAll}
 
 -- ---- clauses that are tests
 
@@ -70,10 +76,10 @@ all_packets = class (codes "all") nothing_set []
 abbrev some_packets : Sense
 some_packets = class (codes "all") nothing_set (Field Dscp 46 46 ∷ [])
 
-abbrev leaf_of : Name → List Name → Sense
+abbrev pub leaf_of : Name → List Name → Sense
 leaf_of n classes = leaf n (codes "fifo") nothing_set None classes
 
-abbrev node_of : Name → List Name → Sense
+abbrev pub node_of : Name → List Name → Sense
 node_of n names = node n (codes "fifo") nothing_set names
 
 -- so many variables, each of another name
@@ -108,6 +114,72 @@ beyond_and_orphan = numbered 1 (version 1 ∷ leaf_of (codes "x") [] ∷ transac
 
 pub beyond_before_orphan : IsFault beyond_and_orphan (TooMany 20) × IsOrphan beyond_and_orphan (entry 2 (leaf_of (codes "x") []))
 beyond_before_orphan = ((((none_passes (misplaced beyond_and_orphan) beyond_and_orphan refl, none_passes (again beyond_and_orphan) beyond_and_orphan refl), none_passes (unknown beyond_and_orphan) beyond_and_orphan refl), least_passes (beyond beyond_and_orphan) beyond_and_orphan 19 (entry 20 (keep (113 ∷ []) (record { low = 0; high = 9; first = 0 }))) (omega arith) refl refl refl), refl)
+
+-- ---- 5, 6 and 7: one transaction of two push lines, on lines 3 and 4
+abbrev two_pushes : Phrase → Phrase → List Entry
+two_pushes a b = numbered 1 (version 1 ∷ transaction (codes "t") ∷ push (codes "rank") a ∷ push (codes "rank") b ∷ [])
+
+abbrev truth_value : Phrase
+truth_value = two Less (number 1) (number 2)
+
+abbrev too_wide : Phrase
+too_wide = two Mul (word (codes "now")) (word (codes "now"))
+
+abbrev may_be_by_zero : Phrase
+may_be_by_zero = two Div (number 1) (word (codes "prio"))
+
+-- the parts of what may be divided by zero are narrow
+parts_by_zero : ArePartsNarrow (declared fifo) (formula.two Div (formula.number 1) (formula.variable (var.Prio)))
+parts_by_zero = (record { low = le_z_yes tt; high = le_z_yes tt }, record { low = le_z_yes tt; high = le_z_yes tt }, record { low = le_z_yes tt; high = le_z_yes tt })
+
+-- 4 before 5: a truth value on line 3, and the seventeenth variable of another transaction on line 21
+abbrev beyond_and_clash : List Entry
+beyond_and_clash = numbered 1 (version 1 ∷ transaction (codes "t") ∷ push (codes "rank") truth_value ∷ transaction (codes "u") ∷ variables 17 97 [])
+
+pub beyond_before_clash : IsFault beyond_and_clash (TooMany 21) × SomeAt Clashes (assignments_of (programs beyond_and_clash)) 3
+beyond_before_clash = ((((none_passes (misplaced beyond_and_clash) beyond_and_clash refl, none_passes (again beyond_and_clash) beyond_and_clash refl), none_passes (unknown beyond_and_clash) beyond_and_clash refl), least_passes (beyond beyond_and_clash) beyond_and_clash 20 (entry 21 (keep (113 ∷ []) (record { low = 0; high = 9; first = 0 }))) (omega arith) refl refl refl), inl (refl, λ e. cc))
+
+-- 5 before 6: too wide on line 3, and a truth value on line 4
+pub clash_before_wide : IsFault (two_pushes too_wide truth_value) (TypeClash 4) × SomeAt IsWide (assignments_of (programs (two_pushes too_wide truth_value))) 3
+clash_before_wide = ((are_few (two_pushes too_wide truth_value) refl refl refl refl, record { here = inr (inl (refl, λ e. cc)); least = least }), inl (refl, λ parts. clash_ℤ (lt_z_yes tt) parts.2.high))
+  where
+    least : (other : ℕ) → SomeAt Clashes (assignments_of (programs (two_pushes too_wide truth_value))) other → 4 ≤ other
+    least other (inl h) = absurd (h.1 refl)
+    least other (inr (inl h)) = let on : 4 ≡ other = h.0 in omega arith
+    least other (inr (inr none)) = absurd none
+
+-- 6 before 7: what may be divided by zero on line 3, and too wide on line 4
+pub wide_before_zero : IsFault (two_pushes may_be_by_zero too_wide) (Wide 4) × SomeAt MayDivideByZero (assignments_of (programs (two_pushes may_be_by_zero too_wide))) 3
+wide_before_zero = ((are_few (two_pushes may_be_by_zero too_wide) refl refl refl refl, record { typed = typed; wide = record { here = inr (inl (refl, λ parts. clash_ℤ (lt_z_yes tt) parts.2.high)); least = least } }), inl (refl, refl))
+  where
+    typed : (line : ℕ) → SomeAt Clashes (assignments_of (programs (two_pushes may_be_by_zero too_wide))) line → ⊥
+    typed line (inl h) = h.1 refl
+    typed line (inr (inl h)) = h.1 refl
+    typed line (inr (inr none)) = none
+
+    least : (other : ℕ) → SomeAt IsWide (assignments_of (programs (two_pushes may_be_by_zero too_wide))) other → 4 ≤ other
+    least other (inl h) = absurd (h.1 parts_by_zero)
+    least other (inr (inl h)) = let on : 4 ≡ other = h.0 in omega arith
+    least other (inr (inr none)) = absurd none
+
+-- 7 before 8: a node that no other lists on line 2, and what may be divided by zero on line 4
+abbrev zero_and_orphan : List Entry
+zero_and_orphan = numbered 1 (version 1 ∷ leaf_of (codes "x") [] ∷ transaction (codes "t") ∷ push (codes "rank") may_be_by_zero ∷ [])
+
+pub zero_before_orphan : IsFault zero_and_orphan (DivZero 4) × IsOrphan zero_and_orphan (entry 2 (leaf_of (codes "x") []))
+zero_before_orphan = ((are_few zero_and_orphan refl refl refl refl, record { typed = typed; narrow = narrow; zero = record { here = inl (refl, refl); least = least } }), refl)
+  where
+    typed : (line : ℕ) → SomeAt Clashes (assignments_of (programs zero_and_orphan)) line → ⊥
+    typed line (inl h) = h.1 refl
+    typed line (inr none) = none
+
+    narrow : (line : ℕ) → SomeAt IsWide (assignments_of (programs zero_and_orphan)) line → ⊥
+    narrow line (inl h) = h.1 parts_by_zero
+    narrow line (inr none) = none
+
+    least : (other : ℕ) → SomeAt MayDivideByZero (assignments_of (programs zero_and_orphan)) other → 4 ≤ other
+    least other (inl h) = let on : 4 ≡ other = h.0 in omega arith
+    least other (inr none) = absurd none
 
 -- ---- 8 before 9: one leaf that no node lists, and no root
 abbrev orphan_and_no_root : List Entry
