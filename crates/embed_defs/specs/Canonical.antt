@@ -1,5 +1,5 @@
 -- The canonical placement of a topology in a complete tree.
-use Rattle.std.specs.Prelude.{◌≡◌, ◌⊎◌, refl, ℕ, zero, suc, ◌+◌, ◌-◌, ◌/◌, ◌%◌, Bool, ◌&&◌, ◌||◌, nat_lt, nat_eq, List, [], ◌∷◌, ◌++◌, take, if◌then◌else◌}
+use Rattle.std.specs.Prelude.{◌≡◌, ◌⊎◌, refl, ℕ, zero, suc, ◌+◌, ◌-◌, ◌/◌, ◌%◌, Bool, true, false, ◌&&◌, ◌||◌, nat_lt, nat_eq, List, [], ◌∷◌, ◌++◌, take, slice_index, if◌then◌else◌}
 use Rattle.tree_defs.specs.Tree.{Tree, leaf, inner, Trees, none, more, Address, root_of}
 use Rattle.tree_defs.specs.Topology.{Topology}
 use Rattle.target_defs.specs.Levels.{Arities}
@@ -66,3 +66,16 @@ uneven = inner 2 (more (leaf 0) (more (inner 1 (more (leaf 0) (more (leaf 0) non
 
 pub canonical-uneven : canonical (λ _. 2) 2 [] uneven ≡ inner [] (more (leaf (1 ∷ 0 ∷ [])) (more (inner (0 ∷ []) (more (leaf (0 ∷ 0 ∷ [])) (more (leaf (0 ∷ 1 ∷ [])) none))) none))
 canonical-uneven = refl
+
+-- three children below the root, and two leaves below each
+pub digits-mixed : digits (λ h. slice_index (2 ∷ 3 ∷ []) h) 2 3 ≡ 1 ∷ 1 ∷ []
+digits-mixed = refl
+
+pub comes_before-greater_need : comes_before (2, 1) (0, 0) ≡ true
+comes_before-greater_need = refl
+
+pub comes_before-same_need : comes_before (0, 1) (2, 1) ≡ true
+comes_before-same_need = refl
+
+pub comes_before-later_child : comes_before (2, 1) (0, 1) ≡ false
+comes_before-later_child = refl

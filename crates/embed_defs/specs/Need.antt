@@ -1,5 +1,6 @@
 -- The height that a topology needs.
-use Rattle.std.specs.Prelude.{◌≡◌, refl, ℕ, suc, ◌+◌, ◌≤◌, List, [], ◌∷◌, sum_by}
+use Rattle.std.proofs.Common.{lit≤, le→leb}
+use Rattle.std.specs.Prelude.{◌≡◌, refl, ℕ, suc, ◌+◌, ◌≤◌, List, [], ◌∷◌, sum_by, slice_index}
 use Rattle.tree_defs.specs.Tree.{Tree, leaf, inner, Trees, none, more, SameShape, root_of}
 use Rattle.tree_defs.specs.Topology.{Topology}
 use Rattle.target_defs.specs.Target.{leaves}
@@ -60,3 +61,23 @@ HasHeight h (inner n ts) = n ≤ h
 
 pub leaves_below-node_of_height_two : leaves_below (λ _. 3) 2 ≡ 9
 leaves_below-node_of_height_two = refl
+
+-- ---- needs in binary trees
+pub needs_at-roots : needs_at (more (inner 1 (more (leaf 0) (more (leaf 0) none))) (more (leaf 0) none)) ≡ 1 ∷ 0 ∷ []
+needs_at-roots = refl
+
+-- two nodes of need 1 have four leaves in all, which fit below a node of height 2
+pub FitsBelow-exactly : IsLeast (FitsBelow (λ _. 2) (1 ∷ 1 ∷ [])) 2
+FitsBelow-exactly = record { holds = record { below = (lit≤ tt, (lit≤ tt, tt)); room = lit≤ tt }; least = λ m f. f.below.0 }
+
+-- a third one has two more, and no node of height 2 has room for six, though each of the three is lower
+pub FitsBelow-one_too_many : FitsBelow (λ _. 2) (1 ∷ 1 ∷ 1 ∷ []) 3 × (FitsBelow (λ _. 2) (1 ∷ 1 ∷ 1 ∷ []) 2 → ⊥)
+FitsBelow-one_too_many = (record { below = (lit≤ tt, (lit≤ tt, (lit≤ tt, tt))); room = lit≤ tt }, λ f. le→leb 6 4 f.room)
+
+-- the leaves of a single child of need 2 fit below a node of height 2, and yet its parent has a greater need
+pub FitsBelow-one_child : IsLeast (FitsBelow (λ _. 2) (2 ∷ [])) 3
+FitsBelow-one_child = record { holds = record { below = (lit≤ tt, tt); room = lit≤ tt }; least = λ m f. f.below.0 }
+
+-- three children below the root, and two below each of them
+pub leaves_below-mixed : leaves_below (λ h. slice_index (2 ∷ 3 ∷ []) h) 2 ≡ 6
+leaves_below-mixed = refl

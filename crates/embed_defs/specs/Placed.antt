@@ -1,5 +1,5 @@
 -- Placements: at each node the digits of its image behind its parent's.
-use Rattle.std.specs.Prelude.{◌≡◌, ◌≢◌, ℕ, zero, suc, None, [], ◌∷◌, ◌++◌}
+use Rattle.std.specs.Prelude.{◌≡◌, refl, ◌≢◌, ℕ, zero, suc, None, [], ◌∷◌, ◌++◌}
 use Rattle.tree_defs.specs.Tree.{Tree, leaf, inner, Trees, none, more, Address, root_of}
 use Rattle.tree_defs.specs.Topology.{after}
 
@@ -41,3 +41,17 @@ abbrev mutual
   digits_below none i digits = []
   digits_below (more p ps) zero digits = lift_digits p digits
   digits_below (more p ps) (suc i) digits = digits_below ps i digits
+
+-- a leaf two levels below the root's image, beside a node one level below it that has two leaves
+abbrev pub leaf_and_node : Placement
+leaf_and_node = inner [] (more (leaf (1 ∷ 0 ∷ [])) (more (inner (0 ∷ []) (more (leaf (1 ∷ [])) (more (leaf (0 ∷ [])) none))) none))
+
+pub lift_digits-leaf : lift_digits leaf_and_node (0 ∷ []) ≡ 1 ∷ 0 ∷ []
+lift_digits-leaf = refl
+
+pub lift_digits-below_the_node : lift_digits leaf_and_node (1 ∷ 0 ∷ []) ≡ 0 ∷ 1 ∷ []
+lift_digits-below_the_node = refl
+
+-- the same first digit is no prefix yet
+pub IsApartFrom-leaf_and_node : IsApartFrom (1 ∷ 0 ∷ []) (more (leaf (0 ∷ [])) (more (leaf (1 ∷ 1 ∷ [])) none))
+IsApartFrom-leaf_and_node = (refl, refl, (refl, refl, tt))

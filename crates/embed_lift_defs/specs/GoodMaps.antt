@@ -1,8 +1,10 @@
 -- Maps of a topology into a complete tree under which a lift does its work: the image of each node, as a tree.
-use Rattle.std.specs.Prelude.{◌≡◌, ℕ, ◌<◌, ◌≤◌, [], length}
+use Rattle.std.proofs.Common.{lit<, lit≤}
+use Rattle.std.specs.Prelude.{◌≡◌, refl, ℕ, ◌<◌, ◌≤◌, [], ◌∷◌, length}
 use Rattle.tree_defs.specs.Tree.{Tree, leaf, inner, Trees, none, more, Address, root_of}
 use Rattle.tree_defs.specs.Topology.{IsPrefixOf}
 use Rattle.embed_defs.specs.Placed.{IsApartFrom}
+use Rattle.embed_lift_defs.specs.Lift.{with_transit}
 
 -- each leaf's image has h digits, none has more, and each child's image has more than its parent's
 abbrev mutual
@@ -30,3 +32,11 @@ pub record IsGoodMap (h : ℕ) (images : Tree Address) : Type 0 where
   pub root : root_of images ≡ []
   pub deep : IsDeep h images
   pub nested : IsNested images
+
+-- a leaf beside a node with two leaves, with a transit node above both
+pub IsGoodMap-with_transit : IsGoodMap 3 with_transit
+IsGoodMap-with_transit = record {
+  root = refl;
+  deep = (lit< tt, lit≤ tt, refl, (lit< tt, lit≤ tt, (lit< tt, lit≤ tt, refl, (lit< tt, lit≤ tt, refl, tt)), tt));
+  nested = ((0 ∷ 1 ∷ 0 ∷ [], refl), (refl, refl, tt), tt, ((0 ∷ 0 ∷ [], refl), tt, ((0 ∷ [], refl), (refl, refl, tt), tt, ((1 ∷ [], refl), tt, tt, tt)), tt));
+}

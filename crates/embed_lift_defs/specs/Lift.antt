@@ -77,6 +77,11 @@ with_transit = inner [] (more (leaf (0 ∷ 1 ∷ 0 ∷ [])) (more (inner (0 ∷ 
 abbrev pub chain : Tree Address
 chain = inner [] (more (inner (0 ∷ []) (more (leaf (0 ∷ 0 ∷ [])) none)) none)
 
+-- the images of the root's two children
+abbrev pub image_of : ℕ → Address
+image_of zero = 0 ∷ 1 ∷ 0 ∷ []
+image_of (suc i) = 0 ∷ 0 ∷ []
+
 pub lift_ranks-transit_node : lift_ranks with_transit (1 ∷ 0 ∷ []) (5 ∷ 7 ∷ 9 ∷ []) ≡ 5 ∷ 5 ∷ 7 ∷ 9 ∷ []
 lift_ranks-transit_node = refl
 
@@ -91,3 +96,14 @@ picked_ranks-transit_node = refl
 
 pub picked_ranks-chain : picked_ranks chain (0 ∷ 0 ∷ []) (5 ∷ 7 ∷ 9 ∷ []) ≡ 5 ∷ 7 ∷ 9 ∷ []
 picked_ranks-chain = refl
+
+-- three entries pass by address 0 in order, the first and the last for the node, and the middle one for the leaf beside it
+pub passing_by-both : passing_by (λ i. digit_beyond (image_of i) (0 ∷ [])) ((5, 1) ∷ (3, 0) ∷ (4, 1) ∷ []) ≡ (5, 0) ∷ (3, 1) ∷ (4, 0) ∷ []
+passing_by-both = refl
+
+-- at address 0 1 the leaf's entry alone passes by, and at the node's own image none
+pub passing_by-leaf_alone : passing_by (λ i. digit_beyond (image_of i) (0 ∷ 1 ∷ [])) ((5, 1) ∷ (3, 0) ∷ (4, 1) ∷ []) ≡ (3, 0) ∷ []
+passing_by-leaf_alone = refl
+
+pub passing_by-at_the_image : passing_by (λ i. digit_beyond (image_of i) (0 ∷ 0 ∷ [])) ((5, 1) ∷ (3, 0) ∷ (4, 1) ∷ []) ≡ []
+passing_by-at_the_image = refl

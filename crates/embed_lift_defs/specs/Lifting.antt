@@ -3,6 +3,7 @@ use Rattle.std.specs.Prelude.{◌≡◌, refl, ℕ, zero, suc, List, [], ◌∷�
 use Rattle.pifo_defs.specs.Queue.{Queue}
 use Rattle.tree_defs.specs.Tree.{Tree, leaf, inner, Trees, none, more, Address, Popping, root_of}
 use Rattle.tree_defs.specs.Topology.{after}
+use Rattle.tree_defs.specs.SourceTree.{pop}
 use Rattle.fabric_defs.specs.Family.{Family}
 use Rattle.embed_defs.specs.Placed.{Placement, Placements, part, lift_digits, digits_below}
 use Rattle.embed_lift_defs.specs.Lift.{digit_beyond, passing_by, with_transit}
@@ -90,3 +91,21 @@ lift-beside_the_leaf = refl
 
 pub lift-elsewhere : lift tied (placement_of with_transit) (1 ∷ 0 ∷ []) ≡ []
 lift-elsewhere = refl
+
+-- each image without its parent's
+pub placement_of-with_transit : placement_of with_transit ≡ inner [] (more (leaf (0 ∷ 1 ∷ 0 ∷ [])) (more (inner (0 ∷ 0 ∷ []) (more (leaf (0 ∷ [])) (more (leaf (1 ∷ [])) none))) none))
+placement_of-with_transit = refl
+
+-- the rank of the root stands at the transit node too
+pub placed_ranks-transit_node : placed_ranks (placement_of with_transit) (1 ∷ 0 ∷ []) (5 ∷ 7 ∷ 9 ∷ []) ≡ 5 ∷ 5 ∷ 7 ∷ 9 ∷ []
+placed_ranks-transit_node = refl
+
+-- the first entry of the root's rank is the node's, of whose entries the second is the least: packet 3 leaves
+abbrev pub at_root : Popping Family → Popping Queue
+at_root p = record { value = p.value; digits = p.digits; ranks = p.ranks; left = p.left [] }
+
+abbrev pub popped_there : Option (Popping Queue)
+popped_there = option_map (λ r. at_root (lifted (placement_of with_transit) r)) (pop tied)
+
+pub lifted-tied : popped_there ≡ Some (record { value = 3; digits = 0 ∷ 0 ∷ 1 ∷ []; ranks = 5 ∷ 5 ∷ 6 ∷ 4 ∷ []; left = (5, 0) ∷ (5, 0) ∷ [] })
+lifted-tied = refl

@@ -32,7 +32,7 @@ pub record EmbeddedStands {F : Type 0} (fabrics : Ghosts F) (c : Embedded F) (fa
   pub pops : fabrics.popped fabric ≡ c.pops_before + c.own.departures
 
 -- ---- five points
--- the node states, the packets held and the greatest moment
+-- the node states, the held packets and the latest timestamp
 pub record IsKept (own : Own) (s : SourceState) : Type 0 where
   pub nodes : AreStates own.stations s.nodes
   pub held : (n : ℕ) → held_at own.held n ≡ s.held n
