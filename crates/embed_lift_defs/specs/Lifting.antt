@@ -6,7 +6,8 @@ use Rattle.tree_defs.specs.Topology.{after}
 use Rattle.tree_defs.specs.SourceTree.{pop}
 use Rattle.fabric_defs.specs.Family.{Family}
 use Rattle.embed_defs.specs.Placed.{Placement, Placements, part, lift_digits, digits_below}
-use Rattle.embed_lift_defs.specs.Lift.{digit_beyond, passing_by, with_transit}
+use Rattle.embed_defs.specs.Images.{image_map}
+use Rattle.embed_lift_defs.specs.Lift.{digit_beyond, passing_by, StandsAt, with_transit}
 
 -- each image without its parent's, which has n digits
 abbrev mutual
@@ -109,3 +110,13 @@ popped_there = option_map (λ r. at_root (lifted (placement_of with_transit) r))
 
 pub lifted-tied : popped_there ≡ Some (record { value = 3; digits = 0 ∷ 0 ∷ 1 ∷ []; ranks = 5 ∷ 5 ∷ 6 ∷ 4 ∷ []; left = (5, 0) ∷ (5, 0) ∷ [] })
 lifted-tied = refl
+
+-- what the lift's definition says of three of these addresses, by the longest address whose image is a prefix
+pub StandsAt-transit_node : StandsAt (image_map with_transit) (0 ∷ []) [] tied ((5, 0) ∷ (5, 1) ∷ (5, 0) ∷ [])
+StandsAt-transit_node = refl
+
+pub StandsAt-leaf : StandsAt (image_map with_transit) (0 ∷ 1 ∷ 0 ∷ []) (0 ∷ []) (leaf ((9, 2) ∷ [])) ((9, 2) ∷ [])
+StandsAt-leaf = (λ _. refl, λ n. absurd (n refl))
+
+pub StandsAt-beside_the_leaf : StandsAt (image_map with_transit) (0 ∷ 1 ∷ []) [] tied ((5, 0) ∷ [])
+StandsAt-beside_the_leaf = refl
