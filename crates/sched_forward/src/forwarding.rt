@@ -57,6 +57,7 @@ fn put_sent<K: Sink>(
 pub struct Forwarding {
     held: IndexMap<u64, Vec<u8>>,
     late: bool,
+    /// There was memory for the captured bytes of each packet so far.
     whole: bool,
     gathered: Report,
     ghost short: { (n : ℕ) (bytes : List ℕ) → option_map (λ v. v.items) (get nat_eq held n) ≡ Some bytes → length bytes ≤ most_captured } by { Prim.hlevel props },
