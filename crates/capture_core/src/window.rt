@@ -106,7 +106,8 @@ impl Window {
         requires begun { IsTrue (S.begun shelf.old) }
         ensures same { OnOk result (TakesFront (rest_of (held self.old) (S.left shelf.old))
             (rest_of (held self.new) (S.left shelf.new)) []) }
-        ensures short { OnOk result (IsShort (rest_of (held self.old) (S.left shelf.old)) (held self.new) count) }
+        ensures short { OnOk result (IsShort (rest_of (held self.old) (S.left shelf.old))
+            (held self.new) count) }
         ensures shelf { Serves S.lends S.content S.begun S.faults shelf.old shelf.new }
         ensures cause { IfErr result (λ stop. HasSourceCause stop S.faults shelf.old shelf.new) }
     {

@@ -48,7 +48,7 @@ fn magic_of(bytes: &[u8]) -> Option<(bool, bool)>
     }
 }
 
-/// Whether a file is in the newer format pcapng that has these bytes at its front: 24 at least, or all.
+/// Whether a file that begins with these bytes is in the newer format pcapng. They are at least 24, or all.
 pub fn is_newer(front: &[u8]) -> bool
     ensures { IsTrue result ↔ IsHeaderFault front.now pcap_ng }
 {

@@ -229,7 +229,8 @@ impl Reader {
         requires begun { IsTrue (S.begun shelf.old) }
 
         ensures header { IfOk result (λ head.
-            TakesHeader head (rest_left self.old (S.left shelf.old)) (rest_left self.new (S.left shelf.new))) }
+            TakesHeader head (rest_left self.old (S.left shelf.old))
+            (rest_left self.new (S.left shelf.new))) }
         ensures head { IfOk result (λ head. head_of self.new ≡ Some head) }
         ensures none_given { records_given self.new ≡ 0 }
         ensures bounded { length (bytes_held self.new) ≤ most_held }

@@ -331,7 +331,8 @@ impl NgReader {
 
         // A fault of the file is answered only where its first block has it.
         ensures fault { IfErr result (λ e. IfSome (fault_in e) (λ fault.
-            IfSome (rest_left self.old (S.left shelf.old)) (λ file. front_of at_start file ≡ broken fault))) }
+            IfSome (rest_left self.old (S.left shelf.old)) (λ file.
+            front_of at_start file ≡ broken fault))) }
         ensures live { IsTrue (is_live self.new) ↔ IsOk result }
 
         ensures begun { IsTrue (S.begun shelf.new) }

@@ -67,7 +67,8 @@ impl<'a, S: Shelf> AnyArrivals<'a, S> {
         ensures none_given { IfOk result (λ a. given_by a ≡ 0) }
         ensures ready { IfOk result (λ a. IsReady a (S.begun shelf.new)) }
 
-        ensures refuses { IfErr result (λ halt. IfSome (S.left shelf.old) (λ file. Refuses halt (in_file file))) }
+        ensures refuses { IfErr result (λ halt. IfSome (S.left shelf.old) (λ file.
+            Refuses halt (in_file file))) }
         ensures kept { KeepsShelf S.lends S.content S.faults shelf.old shelf.new }
         ensures cause { IsErrOf result Halt.Source → Rose (S.faults shelf.old) (S.faults shelf.new) }
     {

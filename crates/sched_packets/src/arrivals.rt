@@ -46,8 +46,8 @@ impl<'a, R: CaptureReader + Drop, S: Shelf> Arrivals<'a, R, S> {
         ensures none_given { IfOk result (λ a. given_by R.given a ≡ 0) }
         ensures ready { IfOk result (λ a. IsReady R.ready R.given a (S.begun shelf.new)) }
 
-        ensures refuses { IfErr result (λ halt. IfSome (rest_of (held window) (S.left shelf.old)) (λ file.
-            Refuses halt (R.contents file))) }
+        ensures refuses { IfErr result (λ halt.
+            IfSome (rest_of (held window) (S.left shelf.old)) (λ file. Refuses halt (R.contents file))) }
         ensures begun { IsTrue (S.begun shelf.new) }
         ensures kept { KeepsShelf S.lends S.content S.faults shelf.old shelf.new }
         ensures cause { IsErrOf result Halt.Source → Rose (S.faults shelf.old) (S.faults shelf.new) }
