@@ -3,7 +3,6 @@ use Rattle.std.specs.Prelude.{◌≡◌, refl, ℕ, true, false, List, [], ◌�
 use Rattle.std.specs.Fmt.{digits}
 use Rattle.pcap_defs.specs.Reading.{capture_of, head_of, front_of, records_from}
 use Rattle.tree_defs.specs.Tree.{leaf}
-use Rattle.rank_defs.specs.declared.environment.FlowKey.{FlowKey}
 use Rattle.packet_defs.specs.declared.packet.Packet.{Packet}
 use Rattle.policy_defs.specs.Policy.{one_leaf}
 use Rattle.policy_rules.specs.Resolved.{Resolved}
