@@ -19,3 +19,4 @@ pub mod LineForms
 pub mod EntryLines
 pub mod TextAnswers
 pub mod SomeVerdict
+mod MapRows

@@ -1,8 +1,13 @@
 -- Where each node is named, and lists with one element more.
-use Rattle.std.proofs.Common.{◌≡◌, ℕ, zero, suc, ◌+◌, ◌<◌, Bool, true, false, cond, not, List, [], ◌∷◌, ◌++◌, length, get_or, take, map, position, Some, None, inl, inr, sym, ap, ◌∙◌, arith}
-use Rattle.std.specs.List.{position_or_len}
+use Rattle.std.proofs.Common.{◌≡◌, ℕ, zero, suc, ◌+◌, ◌<◌, Bool, true, false, cond, not, List, [], ◌∷◌, ◌++◌, length, get_or, take, map, position, Some, None, inl, inr, refl, sym, ap, ◌∙◌, arith}
+use Rattle.std.specs.Prelude.{◌||◌}
+use Rattle.std.specs.Bool.{Decides}
+use Rattle.std.specs.List.{position_or_len, list_any}
+use Rattle.std.specs.Str.{bytes_eq}
 use Rattle.std.proofs.Math.Seq.{take-suc}
 use Rattle.std.proofs.lemmas.Bool.{cases_Bool, lt-ltb}
+use Rattle.std.proofs.lemmas.Bool.Decides.{same_from_decides}
+use Rattle.std.proofs.lemmas.Slice.Eq.{bytes_eq-Decides}
 use Rattle.std.proofs.lemmas.List.{map-append}
 use Rattle.mapcheck_core.specs.MapLines.{MapLine}
 use Rattle.mapcheck_core.specs.MapTexts.{has, named, missing_node}
@@ -46,3 +51,38 @@ mapped-more {X} {Y} f xs i x ys y low is so_far told =
     ∙ sym (map-append f (take i xs) (get_or xs i x ∷ []))
     ∙ ap (map f) (sym (take-suc xs i x low))
     ∙ ap (λ n. map f (take n xs)) one
+
+-- ---- names in order
+cond-or : (a b : Bool) → cond a true b ≡ (a || b)
+cond-or true b = refl
+cond-or false b = refl
+
+or-swap : (a b c : Bool) → (a || (b || c)) ≡ (b || (a || c))
+or-swap true true c = refl
+or-swap true false c = refl
+or-swap false true c = refl
+or-swap false false c = refl
+
+any-more : {X : Type 0} (p : X → Bool) (xs : List X) (i : ℕ) (d : X) → i < length xs → (p (get_or xs i d) || list_any p (take i xs)) ≡ list_any p (take (i + 1) xs)
+any-more p [] i d low = absurd (omega arith)
+any-more p (x ∷ xs) zero d low = refl
+any-more p (x ∷ xs) (suc i) d low =
+    let one : suc i + 1 ≡ suc (i + 1) = omega arith in
+    or-swap (p (get_or xs i d)) (p x) (list_any p (take i xs))
+    ∙ ap (λ b. p x || b) (any-more p xs i d (omega arith))
+    ∙ ap (λ n. list_any p (take n (x ∷ xs))) (sym one)
+
+same-either-way : (a b : List ℕ) → bytes_eq a b ≡ bytes_eq b a
+same-either-way a b =
+    let flipped : Decides (bytes_eq b a) (a ≡ b) = (λ e. sym ((bytes_eq-Decides b a).0 e), λ e. (bytes_eq-Decides b a).1 (sym e)) in
+    same_from_decides (bytes_eq a b) (bytes_eq b a) (bytes_eq-Decides a b) flipped
+
+-- one name more is known
+pub has-more : (names : List (List ℕ)) (i : ℕ) (name q : List ℕ) (before after : Bool) → i < length names → name ≡ get_or names i name → before ≡ has (take i names) q → after ≡ cond (bytes_eq name q) true before → after ≡ has (take (i + 1) names) q
+has-more names i name q before after low is so_far new =
+    new
+    ∙ cond-or (bytes_eq name q) before
+    ∙ ap (λ b. b || before) (same-either-way name q)
+    ∙ ap (λ b. bytes_eq q name || b) so_far
+    ∙ ap (λ n. bytes_eq q n || has (take i names) q) is
+    ∙ any-more (bytes_eq q) names i name low

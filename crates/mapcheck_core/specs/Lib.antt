@@ -8,3 +8,4 @@ pub mod MapLines
 pub mod MapTexts
 pub mod TreeTexts
 pub mod TreeReading
+pub mod Known

@@ -26,8 +26,12 @@ place_of (fault.Root n) = n
 place_of (fault.Leaf n) = n
 place_of _ = 0
 
-codes_of_a_leaf_and_a_pair : map code_of (fault.Leaf 4 ∷ fault.Prefix 1 2 ∷ []) ≡ 8 ∷ 9 ∷ []
-codes_of_a_leaf_and_a_pair = refl
+codes_of_texts : map code_of (fault.TooLong ∷ fault.Line 4 ∷ fault.Unknown 4 ∷ fault.Twice 4 ∷ fault.Missing 4 ∷ []) ≡ 1 ∷ 2 ∷ 3 ∷ 4 ∷ 5 ∷ []
+codes_of_texts = refl
 
-a_pair_is_no_place : map place_of (fault.Leaf 4 ∷ fault.Prefix 1 2 ∷ []) ≡ 4 ∷ 0 ∷ []
-a_pair_is_no_place = refl
+codes_of_clauses : map code_of (fault.NoAddress 4 ∷ fault.Root 4 ∷ fault.Leaf 4 ∷ fault.Prefix 1 2 ∷ []) ≡ 6 ∷ 7 ∷ 8 ∷ 9 ∷ []
+codes_of_clauses = refl
+
+-- two nodes are no place, and a missing node is one by its number
+places : map place_of (fault.TooLong ∷ fault.Missing 3 ∷ fault.Root 4 ∷ fault.Prefix 1 2 ∷ []) ≡ 0 ∷ 3 ∷ 4 ∷ 0 ∷ []
+places = refl

@@ -1,12 +1,13 @@
 -- Which texts are trees, and what fault another text has. The codes decide in their order.
-use Rattle.std.specs.Prelude.{◌≡◌, refl, ℕ, ◌<◌, ◌≤◌, ◌⊎◌, true, List, [], ◌∷◌, ◌++◌, length, map, codes}
+use Rattle.std.specs.Prelude.{◌≡◌, refl, ℕ, zero, suc, ◌<◌, ◌≤◌, ◌⊎◌, true, List, [], ◌∷◌, ◌++◌, length, map, codes}
+use Rattle.std.proofs.Common.{inl, inr, lit<, lit≤}
 use Rattle.text_core.specs.declared.token.TokenKind.TheVariants as k
 use Rattle.text_core.specs.declared.mark.Mark.TheVariants as m
 use Rattle.text_core.specs.Glyphs.{Glyph, text, sign}
 use Rattle.text_core.specs.Lines.{is_clean_text, statements_of}
 use Rattle.text_core.specs.Says.{Says}
 use Rattle.tree_defs.specs.Tree.{leaf, inner, Trees, none, more, nodes, depth, most_nodes, most_levels}
-use Rattle.tree_defs.specs.Topology.{Topology, IsBranched, office}
+use Rattle.tree_defs.specs.Topology.{Topology, IsBranched, copies, office}
 use Rattle.tree_core.specs.Shape.{topology}
 use Rattle.mapcheck_core.specs.declared.tree_text.Found.{Found}
 use Rattle.mapcheck_core.specs.declared.tree_text.Found.TheVariants as found
@@ -117,3 +118,21 @@ codes_and_places = refl
 
 a_line_is_the_place : map place_of (fault.TooLong ∷ fault.Line 4 ∷ fault.Large 2 ∷ []) ≡ 0 ∷ 4 ∷ 2 ∷ []
 a_line_is_the_place = refl
+
+-- one node below another, above a leaf
+abbrev chained : ℕ → Topology
+chained zero = leaf tt
+chained (suc n) = inner tt (more (chained n) none)
+
+levels_of_a_small_tree : IsSmall (chained 64)
+levels_of_a_small_tree = (lit≤ tt, lit≤ tt)
+
+a_level_too_many : IsLarge (chained 65)
+a_level_too_many = inr (lit< tt)
+
+-- the root is a node too
+nodes_of_a_small_tree : IsSmall (inner tt (copies 1023 (leaf tt)))
+nodes_of_a_small_tree = (lit≤ tt, lit≤ tt)
+
+a_node_too_many : IsLarge (inner tt (copies 1024 (leaf tt)))
+a_node_too_many = inl (lit< tt)

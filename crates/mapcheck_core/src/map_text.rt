@@ -1,6 +1,7 @@
 //! Reading a given map: its lines in order, and then for each node the line that names it.
-ghost use Rattle.std.specs.Prelude.{◌≡◌, ◌↔◌, ◌⊎◌, ◌<◌, ◌≤◌, ℕ, true, false, [], length, map, option_map, IfOk, IfErr, MatchOption};
+ghost use Rattle.std.specs.Prelude.{◌≡◌, ◌↔◌, ◌⊎◌, ◌<◌, ◌≤◌, ℕ, true, false, List, [], length, map, option_map, IfOk, IfErr, MatchOption};
 ghost use Rattle.std.specs.Option.{option_to_list};
+ghost use Rattle.mapcheck_core.specs.Known.{knows};
 ghost use Rattle.text_core.specs.Lines.{is_clean_text, statements_of};
 ghost use Rattle.tree_defs.specs.Tree.{most_nodes};
 ghost use Rattle.mapcheck_core.specs.declared.given.Given.{Given as Map};
@@ -15,6 +16,7 @@ use crate::fault::MapFault;
 use crate::given::Given;
 use list_core::{List, Name};
 use std::alloc::{AllocError, Global};
+use std::collections::BTreeSet;
 use text_core::{Refusal, lines};
 
 /// The most bytes of a map.
@@ -58,11 +60,15 @@ fn read_entries<'a>(alloc: Global, text: &'a [u8]) -> Result<List<Entry<'a>>, Ma
     Ok(entries)
 }
 
-/// Whether a name stands among the names.
-fn is_known(names: &[Name], name: &str) -> bool
-    ensures { result ≡ has names.now name.now }
+/// Sorts the names, so that a line's name is found without comparing it with each of them.
+fn ordered<'a>(alloc: Global, names: &'a [Name]) -> Result<BTreeSet<&'a str>, AllocError>
+    ensures { IfOk result (λ known. (name : List ℕ) → knows known name ≡ has names.now name) }
 {
-    names.iter().any(|other| name == other.as_str())
+    let mut known = BTreeSet::new(alloc);
+    for name in names {
+        known.insert(name.as_str())?;
+    }
+    Ok(known)
 }
 
 /// The first line that gives a name.
@@ -86,16 +92,30 @@ fn is_named(entries: &[Entry<'_>], name: &str) -> bool
     entry_for(entries, name).is_some()
 }
 
-/// The least line whose name isn't among the names.
-fn unknown_line(entries: &[Entry<'_>], names: &[Name]) -> Option<u32>
-    ensures { result ≡ unknown_line names.now (map line_of_entry entries.now) }
+/// Returns the least line whose name isn't known.
+fn first_unknown(entries: &[Entry<'_>], known: &BTreeSet<&str>) -> Option<u32>
+    ensures { (names : List (List ℕ)) → ((name : List ℕ) → knows known.now name ≡ has names name)
+        → result ≡ unknown_line names (map line_of_entry entries.now) }
 {
     for entry in entries {
-        if !is_known(names, entry.name) {
+        if !known.contains(entry.name) {
             return Some(entry.line);
         }
     }
     None
+}
+
+/// Returns the least line whose name isn't among the names. Names are sorted first, since a map may have 100,000 lines.
+/// The error means out of memory.
+fn unknown_line(
+    alloc: Global,
+    entries: &[Entry<'_>],
+    names: &[Name],
+) -> Result<Option<u32>, AllocError>
+    ensures { IfOk result (λ line. line ≡ unknown_line names.now (map line_of_entry entries.now)) }
+{
+    let known = ordered(alloc, names)?;
+    Ok(first_unknown(entries, &known))
 }
 
 /// The least line whose name stands on an earlier line.
@@ -141,7 +161,7 @@ fn map_of(alloc: Global, entries: &[Entry<'_>], names: &[Name]) -> Result<Given,
     requires few { length names.now ≤ most_nodes }
     ensures { (result ≡ answer_of names.now (map line_of_entry entries.now)) ⊎ (result ≡ Err NoMemory) }
 {
-    if let Some(line) = unknown_line(entries, names) {
+    if let Some(line) = unknown_line(alloc, entries, names)? {
         return Err(MapFault::Unknown(line));
     }
     if let Some(line) = repeated_line(entries) {

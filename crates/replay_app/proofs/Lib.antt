@@ -16,3 +16,4 @@ pub mod ForwardLaws
 pub mod WordLaws
 pub mod OfficeRoom
 pub mod SoakLaws
+pub mod SameReports

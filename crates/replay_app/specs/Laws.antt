@@ -1,9 +1,16 @@
 -- What holds of the answers to words.
-use Rattle.std.specs.Prelude.{◌≡◌, ℕ, List}
+use Rattle.std.specs.Prelude.{◌≡◌, ℕ, List, [], ◌++◌}
+use Rattle.tree_defs.specs.Topology.{topology_of, complete}
+use Rattle.target_core.specs.declared.target.Target.{Target}
+use Rattle.embed_defs.specs.Embedding.{HasEmbedding}
 use Rattle.tap_core.specs.Lists.{Entry}
+use Rattle.tap_core.specs.Names.{none_named}
+use Rattle.tap_core.specs.declared.watch.Named.{Named}
 use Rattle.replay_app.specs.Answer.{Answer}
 use Rattle.replay_app.specs.Output.{IsOutput}
-use Rattle.replay_app.specs.Words.{Form}
+use Rattle.replay_app.specs.Policies.{Judged, IsPolicy}
+use Rattle.replay_app.specs.Targets.{IsTargetOf}
+use Rattle.replay_app.specs.Words.{Form, replay, direct, script}
 
 -- words have at most one answer for what their names contain and for the taps that are handed in
 abbrev pub HaveOneAnswer : Type 0
@@ -13,3 +20,16 @@ HaveOneAnswer = (form : Form) (contents : List ℕ → List ℕ) (taps : List En
 -- there are no words and contents without an answer
 abbrev pub HaveAnAnswer : Type 0
 HaveAnAnswer = (form : Form) (contents : List ℕ → List ℕ) (taps : List Entry) → ((a : Answer) → IsOutput form contents taps a → ⊥) → ⊥
+
+-- the same status and the same report, after which lines of taps may follow, where taps are named
+pub record ReportsTheSame (named : Named) (through direct : Answer) : Type 0 where
+  pub status : through.status ≡ direct.status
+  pub lines : List ℕ
+  pub report : through.text ≡ direct.text ++ lines
+  pub untapped : named ≡ none_named → lines ≡ []
+
+-- if some map lays the policy's tree into the target, `replay` has the report of `direct` on the same policy, capture and script
+abbrev pub ReplayReportsWhatDirectReports : Type 0
+ReplayReportsWhatDirectReports = (p t c e : List ℕ) (named : Named) (contents : List ℕ → List ℕ) (taps : List Entry) (judged : Judged) (target : Target)
+    → IsPolicy (contents p) judged → IsTargetOf (contents t) target → HasEmbedding (topology_of judged.policy.policy.tree) (complete target.arities)
+    → (a b : Answer) → IsOutput (replay p t c (script e named)) contents taps a → IsOutput (direct p c e) contents taps b → ReportsTheSame named a b

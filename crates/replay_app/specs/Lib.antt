@@ -13,3 +13,4 @@ pub mod Behind
 pub mod Stops
 pub mod Named
 pub mod Laws
+pub mod Rows

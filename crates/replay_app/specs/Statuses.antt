@@ -1,5 +1,5 @@
 -- The statuses with which the program ends.
-use Rattle.std.specs.Prelude.{◌≡◌, ◌⊎◌, ◌≤◌, ℕ, List, [], ◌∷◌}
+use Rattle.std.specs.Prelude.{◌≡◌, refl, ◌⊎◌, ◌≤◌, ℕ, List, [], ◌∷◌, map, codes}
 use Rattle.report_core.specs.declared.fault.FaultKind.{FaultKind}
 use Rattle.report_core.specs.declared.fault.FaultKind.TheVariants.{Words, Policy, Target, Size, Script, Capture, Tree, Map}
 use Rattle.sched_defs.specs.declared.ending.Ending as run
@@ -97,3 +97,21 @@ CanEnd form status = IsOneOf (statuses_of form) status ⊎ IsStop status
 -- the words, the policy, the topology, the map or the target are refused, or the target has no room: no run was begun
 abbrev pub IsRefusal : ℕ → Type 0
 IsRefusal status = ((2 ≤ status) × (status ≤ 5)) ⊎ ((12 ≤ status) × (status ≤ 13))
+
+statuses_of_inputs : map (λ k. status_code (kind_status k)) (Words ∷ Policy ∷ Target ∷ Size ∷ Script ∷ Capture ∷ Tree ∷ Map ∷ []) ≡ 2 ∷ 3 ∷ 4 ∷ 5 ∷ 6 ∷ 7 ∷ 12 ∷ 13 ∷ []
+statuses_of_inputs = refl
+
+-- packets that aren't sent are no fault
+statuses_of_runs : map (λ e. status_code (run_status e)) (run_ending.Whole 3 ∷ run_ending.PastLast 3 ∷ run_ending.BadCapture 6 3 ∷ []) ≡ 0 ∷ 6 ∷ 7 ∷ []
+statuses_of_runs = refl
+
+statuses_of_forwards : map (λ e. status_code (forward_status e)) (forward_ending.Whole ∷ forward_ending.BadCapture 6 3 ∷ forward_ending.Late ∷ forward_ending.OtherLink 3 ∷ []) ≡ 0 ∷ 7 ∷ 14 ∷ 15 ∷ []
+statuses_of_forwards = refl
+
+-- a link reads no script, so it never ends with 6
+statuses_of_a_link : statuses_of (replay (codes "p") (codes "t") (codes "c") (link 60)) ≡ 3 ∷ 4 ∷ 5 ∷ 7 ∷ 0 ∷ []
+statuses_of_a_link = refl
+
+-- a plan reads no capture, and the size is a refusal
+statuses_of_a_plan : statuses_of (plan (codes "p") (codes "t")) ≡ 3 ∷ 4 ∷ 5 ∷ 0 ∷ []
+statuses_of_a_plan = refl

@@ -1,5 +1,5 @@
 //! The laws of the program's answers.
-ghost use Rattle.replay_app.specs.Laws.{HaveOneAnswer, HaveAnAnswer};
+ghost use Rattle.replay_app.specs.Laws.{HaveOneAnswer, HaveAnAnswer, ReplayReportsWhatDirectReports};
 
 /// Words have at most one answer for what their files contain, though the answer is a relation.
 pub fn words_have_one_answer()
@@ -9,4 +9,9 @@ pub fn words_have_one_answer()
 /// No words and contents are without an answer.
 pub fn words_have_an_answer()
     ensures some { HaveAnAnswer }
+{}
+
+/// If some map lays the policy's tree into the target, `replay` reports exactly what `direct` reports.
+pub fn replay_reports_what_direct_reports()
+    ensures law { ReplayReportsWhatDirectReports }
 {}

@@ -27,7 +27,7 @@ mod writing;
 
 pub use command::{NO_FORM, run};
 pub use host::{Program, run_program};
-pub use laws::{words_have_an_answer, words_have_one_answer};
+pub use laws::{replay_reports_what_direct_reports, words_have_an_answer, words_have_one_answer};
 pub use policies::{Judged, read_policy};
 pub use refusal::{Read, Refusal};
 pub use sched_run::depart_line;

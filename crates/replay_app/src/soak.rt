@@ -1,10 +1,16 @@
 //! A generated load, and its line.
-ghost use Rattle.std.specs.Prelude.{◌≡◌, ◌++◌, ◌<◌, ◌≤◌, ◌^◌, IfOk, OnOk, IsErrOf};
+ghost use Rattle.std.specs.Prelude.{◌≡◌, ◌++◌, ◌<◌, ◌≤◌, ◌^◌, IfOk, OnOk, OnErr, IsErrOf};
 ghost use Rattle.outside_core.specs.Faults.{Rose};
+ghost use Rattle.outside_core.specs.Written.{Appended, AppendedPrefix};
+ghost use Rattle.policy_core.specs.Office.{office_lines};
+ghost use Rattle.policy_rules.specs.Resolved.{IsResolved};
 ghost use Rattle.sched_embedded.specs.Fabrics.{Leaves, LeavesPart};
 ghost use Rattle.sched_run.specs.Drawings.{most_load};
 ghost use Rattle.replay_app.specs.Answer.{IsDone, IsTold};
 ghost use Rattle.replay_app.specs.Soak.{IsSoaked, counted, soak_line, soak_target};
+ghost use Rattle.replay_app.specs.Targets.{IsPlacement};
+ghost use Rattle.tree_defs.specs.Topology.{topology_of};
+ghost use Rattle.tree_defs.specs.Tree.{SameShape};
 
 use crate::status::Status;
 use crate::writing::write;
@@ -39,12 +45,67 @@ fn put_line(into: &mut Vec<u8>, counts: LoadCounts) -> Result<(), AllocError>
     into.extend_from_slice(b"\n")
 }
 
+/// Writes the line of a load.
+fn write_counts<K: Sink>(alloc: Global, counts: LoadCounts, sink: &mut K) -> Result<(), Stop>
+    ensures text { OnOk result (Appended (K.written sink.old) (K.written sink.new) (soak_line counts)) }
+    ensures part { OnErr result (AppendedPrefix (K.written sink.old) (K.written sink.new) (soak_line counts)) }
+    ensures sink_cause { IsErrOf result Stop.Sink → Rose (K.faults sink.old) (K.faults sink.new) }
+    ensures sink_later { K.faults sink.old ≤ K.faults sink.new }
+    ensures reads_nothing { IsErrOf result Stop.Source → ⊥ }
+{
+    let mut line = Vec::new(alloc);
+    put_line(&mut line, counts)?;
+    write(alloc, &line, sink)
+}
+
 /// A target of three levels of arity 4.
 fn target(alloc: Global) -> Result<Target, AllocError>
     ensures { IfOk result (λ t. t ≡ soak_target) }
 {
     let arities = List::from_vec(Vec::from_slice(alloc, &[4, 4, 4])?);
     Ok(Target { arities, above: 4 })
+}
+
+/// Lays the tree of the office's policy into that target, which has room for it. The error means out of memory.
+fn placement(alloc: Global, policy: &Policy) -> Result<Placement, AllocError>
+    requires office { IsResolved office_lines policy.now }
+    ensures target { IfOk result (λ p. p.target ≡ soak_target) }
+    ensures map { IfOk result (λ p. IsPlacement (topology_of policy.now.policy.tree) p.target p.map) }
+    ensures shape { IfOk result (λ p. SameShape (topology_of policy.now.policy.tree) p.map) }
+{
+    let target = target(alloc)?;
+    match embed(alloc, policy.topo(), &target) {
+        Ok(map) => Ok(Placement { target, map }),
+        Err(EmbedFault::NoEmbedding) => unreachable!(),
+        Err(EmbedFault::NoMemory) => Err(AllocError),
+    }
+}
+
+/// Runs a load through the fabric under the policy of an office, and writes its line.
+fn soak_office<K: Sink, F: Fabric>(
+    alloc: Global,
+    policy: &Policy,
+    load: LoadSize,
+    sink: &mut K,
+    fabric: &mut F,
+) -> Result<Status, Stop>
+    requires office { IsResolved office_lines policy.now }
+    requires short { load.count ≤ most_load }
+    requires pushes { F.pushed fabric.old < 2 ^ 61 }
+    requires pops { F.popped fabric.old < 2 ^ 61 }
+
+    ensures status { IfOk result (λ s. s ≡ Status.Done) }
+    ensures answer { IsTold (IsSoaked load) result (K.written sink.old) (K.written sink.new) }
+    ensures left { IsDone (IsSoaked load) result
+        (λ a. Leaves F.Fabric a.run fabric.old fabric.new) (λ a. LeavesPart F.Fabric a.run fabric.old fabric.new) }
+    ensures sink_cause { IsErrOf result Stop.Sink → Rose (K.faults sink.old) (K.faults sink.new) }
+    ensures sink_later { K.faults sink.old ≤ K.faults sink.new }
+    ensures reads_nothing { IsErrOf result Stop.Source → ⊥ }
+{
+    let placement = placement(alloc, policy)?;
+    let counts = soak(alloc, policy, placement, load, sink, fabric)?;
+    write_counts(alloc, counts, sink)?;
+    Ok(Status::Done)
 }
 
 /// Runs a load through the fabric, under the policy of an office, whose tree is laid into a target of three levels of arity 4,
@@ -68,16 +129,5 @@ pub fn soak_load<K: Sink, F: Fabric>(
     ensures reads_nothing { IsErrOf result Stop.Source → ⊥ }
 {
     let policy = Policy::office(alloc)?;
-    let target = target(alloc)?;
-    let map = match embed(alloc, policy.topo(), &target) {
-        Ok(map) => map,
-        Err(EmbedFault::NoEmbedding) => unreachable!(),
-        Err(EmbedFault::NoMemory) => return Err(Stop::Memory),
-    };
-    let placement = Placement { target, map };
-    let counts = soak(alloc, &policy, placement, load, sink, fabric)?;
-    let mut line = Vec::new(alloc);
-    put_line(&mut line, counts)?;
-    write(alloc, &line, sink)?;
-    Ok(Status::Done)
+    soak_office(alloc, &policy, load, sink, fabric)
 }

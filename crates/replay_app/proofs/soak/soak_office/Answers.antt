@@ -1,0 +1,50 @@
+use Rattle.std.proofs.Common.{refl, arith}
+use Rattle.std.proofs.lemmas.Result.{err_from_is_err_and}
+use Rattle.policy_core.specs.Office.{IsOffice}
+use Rattle.policy_core.proofs.OfficeTree.{offices-alike}
+use Rattle.replay_app.proofs.SoakLaws.{soaked_none, soaked_whole, soaked_part, left_whole, left_part, left_written}
+use Rattle.replay_app.proofs.soak.soak_office.Goals as goal
+
+-- the office has eight classes
+pub soak-requires-clause-classes : goal.soak-requires-clause-classes
+soak-requires-clause-classes g c = let office : IsOffice c.args.policy.now = offices-alike c.args.policy.now c.requires.office in omega arith
+
+pub returns-in_err-placement-clause-answer : goal.returns-in_err-placement-clause-answer
+returns-in_err-placement-clause-answer g c =
+    let p = err_from_is_err_and c.from_residual.result c.from_residual.ensures.1 in
+    rw (p.1) (soaked_none c.args.load _ (g.K.Sink.written c.args.sink.now))
+
+pub returns-in_err-counts-clause-answer : goal.returns-in_err-counts-clause-answer
+returns-in_err-counts-clause-answer g c =
+    let p = err_from_is_err_and c.from_residual-in_err-counts.result c.from_residual-in_err-counts.ensures.1 in
+    rw (p.1, c.in_err-counts.ensures.unwritten) (soaked_none c.args.load _ (g.K.Sink.written c.args.sink.now))
+
+pub returns-in_err-counts-clause-left : goal.returns-in_err-counts-clause-left
+returns-in_err-counts-clause-left g c =
+    let p = err_from_is_err_and c.from_residual-in_err-counts.result c.from_residual-in_err-counts.ensures.1 in
+    let placed = c.in_ok-placement in
+    rw (p.1) (left_part c.args.load c.args.policy.now placed.placement.target placed.placement.map placed.ensures.target c.requires.office placed.ensures.map g.F.Fabric c.args.fabric.now c.soak.new.fabric _ c.in_err-counts.ensures.fabric_part)
+
+pub returns-in_err-write_counts-clause-answer : goal.returns-in_err-write_counts-clause-answer
+returns-in_err-write_counts-clause-answer g c =
+    let p = err_from_is_err_and c.from_residual-in_err-write_counts.result c.from_residual-in_err-write_counts.ensures.1 in
+    let placed = c.in_ok-placement in
+    rw (p.1) (soaked_part c.args.load c.args.policy.now placed.placement.target placed.placement.map placed.ensures.target c.requires.office placed.ensures.map _ c.in_ok-counts.counts _ (g.K.Sink.written c.args.sink.now) (g.K.Sink.written c.soak.new.sink) _
+    c.in_ok-counts.ensures.counts refl c.in_ok-counts.ensures.unwritten c.in_err-write_counts.ensures.part)
+
+pub returns-in_err-write_counts-clause-left : goal.returns-in_err-write_counts-clause-left
+returns-in_err-write_counts-clause-left g c =
+    let p = err_from_is_err_and c.from_residual-in_err-write_counts.result c.from_residual-in_err-write_counts.ensures.1 in
+    let placed = c.in_ok-placement in
+    rw (p.1) (left_written c.args.load c.args.policy.now placed.placement.target placed.placement.map placed.ensures.target c.requires.office placed.ensures.map g.F.Fabric c.args.fabric.now c.soak.new.fabric _ c.in_ok-counts.ensures.fabric)
+
+pub returns-clause-answer : goal.returns-clause-answer
+returns-clause-answer g c =
+    let placed = c.in_ok-placement in
+    soaked_whole c.args.load c.args.policy.now placed.placement.target placed.placement.map placed.ensures.target c.requires.office placed.ensures.map _ c.in_ok-counts.counts _ (g.K.Sink.written c.args.sink.now) (g.K.Sink.written c.soak.new.sink) _
+    refl c.in_ok-counts.ensures.counts refl c.in_ok-counts.ensures.unwritten c.in_ok-write_counts.ensures.text
+
+pub returns-clause-left : goal.returns-clause-left
+returns-clause-left g c =
+    let placed = c.in_ok-placement in
+    left_whole c.args.load c.args.policy.now placed.placement.target placed.placement.map placed.ensures.target c.requires.office placed.ensures.map g.F.Fabric c.args.fabric.now c.soak.new.fabric _ c.in_ok-counts.ensures.fabric
