@@ -1,0 +1,37 @@
+-- What a sink that keeps a line back was told.
+use Rattle.std.proofs.Common.{◌≡◌, ℕ, ◌+◌, List, [], ◌++◌, take, drop, Option, None, Some, refl, sym, ap, ◌∙◌, append_assoc, append-nil, subst}
+use Rattle.std.proofs.lemmas.List.{take-append-drop, drop-drop}
+use Rattle.outside_core.specs.Written.{Appended}
+use Rattle.outside_core.proofs.WrittenLaws.{appended_in_turn}
+use Rattle.front_core.specs.Catching.{told}
+
+-- the front of what was kept is sent on
+pub front_sent : (old new : Option (List ℕ)) (front rest : List ℕ) → Appended old new front → Appended (told old (front ++ rest)) (told new rest) []
+front_sent old None front rest grew = tt
+front_sent None (Some now) front rest grew = absurd grew
+front_sent (Some before) (Some now) front rest grew =
+    ap (λ s. s ++ rest) grew ∙ append_assoc before front rest ∙ sym (append-nil (before ++ (front ++ rest)))
+
+-- some more of what is held is sent on
+pub more_sent : (old new : Option (List ℕ)) (held piece : List ℕ) (at n : ℕ) → piece ≡ drop at held → Appended old new (take n piece) → Appended (told old (drop at held)) (told new (drop (at + n) held)) []
+more_sent old new held piece at n is grew =
+    let parts = front_sent old new (take n piece) (drop n piece) grew in
+    let P : List ℕ → Type 0 = λ kept. Appended (told old kept) (told new (drop (at + n) held)) [] in
+    let Q : List ℕ → Type 0 = λ rest. Appended (told old (take n piece ++ drop n piece)) (told new rest) [] in
+    subst P (take-append-drop n piece ∙ is) (subst Q (ap (drop n) is ∙ drop-drop n at held) parts)
+
+-- bytes are sent on where none is kept
+pub bytes_sent : (old new : Option (List ℕ)) (bytes : List ℕ) → Appended old new bytes → Appended (told old []) (told new []) bytes
+bytes_sent old None bytes grew = tt
+bytes_sent None (Some now) bytes grew = absurd grew
+bytes_sent (Some before) (Some now) bytes grew =
+    append-nil now ∙ grew ∙ ap (λ s. s ++ bytes) (sym (append-nil before))
+
+-- bytes are kept where none was
+pub bytes_kept : (sent : Option (List ℕ)) (bytes : List ℕ) → Appended (told sent []) (told sent bytes) bytes
+bytes_kept None bytes = tt
+bytes_kept (Some before) bytes = ap (λ s. s ++ bytes) (sym (append-nil before))
+
+-- what was released, and then a growth
+pub then_grew : (a b c : Option (List ℕ)) (bytes : List ℕ) → Appended a b [] → Appended b c bytes → Appended a c bytes
+then_grew a b c bytes first second = appended_in_turn a b c [] bytes first second
