@@ -1,8 +1,8 @@
 //! A sink that keeps the line of a fault back, which a message is made of.
-ghost use Rattle.std.specs.Prelude.{◌≤◌, vec_len, vec_capacity};
-ghost use Rattle.front_core.specs.FaultLine.{most_held};
+ghost use Rattle.std.specs.Prelude.{◌≡◌, ◌≤◌, true, vec_len, vec_capacity};
+ghost use Rattle.front_core.specs.FaultLine.{most_held, is_caught};
 
-use crate::fault_line::{MOST_HELD, before_fault, bytes_from, is_fault_line};
+use crate::fault_line::{MOST_HELD, before_fault, bytes_from, bytes_to, is_fault_line};
 use outside_core::{Sink, SinkError};
 use std::alloc::{AllocError, Global};
 
@@ -17,6 +17,7 @@ pub struct Catching<K> {
     catches_first_alone: bool,
     ghost reserved: { most_held ≤ vec_capacity held },
     ghost within: { sent ≤ vec_len held },
+    ghost caught: { is_caught held.items ≡ true },
 }
 
 impl<K: Sink + Drop> Catching<K> {
@@ -94,6 +95,55 @@ impl<K: Sink + Drop> Catching<K> {
         self.begins_line = !self.catches_first_alone && piece[count - 1] == b'\n';
         Ok(count)
     }
+
+    /// How many of these bytes may be sent on before the line of a fault at their end.
+    fn count_before(&self, piece: &[u8]) -> usize
+        requires { 0 < length piece.now }
+        ensures some { 0 < result }
+        ensures within { result ≤ length piece.now }
+    {
+        if self.catches_first_alone {
+            piece.len()
+        } else {
+            before_fault(piece)
+        }
+    }
+
+    /// Sends some bytes on, which stand before the line of a fault.
+    #[tactic(auto, using(crate::proofs::CatchLaws::bytes_sent, crate::proofs::CatchLaws::front_of_piece))]
+    fn send_before(&mut self, piece: &[u8]) -> Result<usize, SinkError>
+        requires some { 0 < length piece.now }
+        requires none { kept_of self.old ≡ [] }
+        ensures least { IfOk result (λ n. 0 < n) }
+        ensures bound { IfOk result (λ n. n ≤ length piece.now) }
+        ensures appended { IfOk result (λ n. Appended (told (K.written self.old.below) []) (told (K.written self.new.below) (kept_of self.new)) (take n piece.now)) }
+        ensures refused { OnErr result (Appended (told (K.written self.old.below) []) (told (K.written self.new.below) (kept_of self.new)) []) }
+        ensures later { K.faults self.old.below ≤ K.faults self.new.below }
+        ensures cause { IsErrOf result SinkError.Failed → Rose (K.faults self.old.below) (K.faults self.new.below) }
+    {
+        let most = self.count_before(piece);
+        let count = self.send(bytes_to(piece, most))?;
+        Ok(count)
+    }
+
+    /// Sends some bytes on from the front of these, or keeps the line of a fault back.
+    #[tactic(auto, using(crate::proofs::CatchLaws::piece_kept))]
+    fn pass(&mut self, piece: &[u8]) -> Result<usize, SinkError>
+        requires some { 0 < length piece.now }
+        requires none { kept_of self.old ≡ [] }
+        ensures least { IfOk result (λ n. 0 < n) }
+        ensures bound { IfOk result (λ n. n ≤ length piece.now) }
+        ensures appended { IfOk result (λ n. Appended (told (K.written self.old.below) []) (told (K.written self.new.below) (kept_of self.new)) (take n piece.now)) }
+        ensures refused { OnErr result (Appended (told (K.written self.old.below) []) (told (K.written self.new.below) (kept_of self.new)) []) }
+        ensures later { K.faults self.old.below ≤ K.faults self.new.below }
+        ensures cause { IsErrOf result SinkError.Failed → Rose (K.faults self.old.below) (K.faults self.new.below) }
+    {
+        if self.begins_line && is_fault_line(piece) {
+            self.keep(piece);
+            return Ok(piece.len());
+        }
+        self.send_before(piece)
+    }
 }
 
 impl<K: Sink + Drop> Sink for Catching<K> {
@@ -106,17 +156,9 @@ impl<K: Sink + Drop> Sink for Catching<K> {
 
     ghost faults = { λ s. K.faults s.below };
 
+    #[tactic(auto, using(crate::proofs::CatchLaws::then_grew))]
     fn write(&mut self, piece: &[u8]) -> Result<usize, SinkError> {
         self.release()?;
-        if self.begins_line && is_fault_line(piece) {
-            self.keep(piece);
-            return Ok(piece.len());
-        }
-        let front = if self.catches_first_alone {
-            piece.len()
-        } else {
-            before_fault(piece)
-        };
-        self.send(&piece[..front])
+        self.pass(piece)
     }
 }

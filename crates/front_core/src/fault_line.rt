@@ -1,5 +1,5 @@
 //! The line of a fault.
-ghost use Rattle.std.specs.Prelude.{◌≡◌, ◌≤◌, ◌<◌, length, drop, IsTrue};
+ghost use Rattle.std.specs.Prelude.{◌≡◌, ◌≤◌, ◌<◌, length, take, drop, IsTrue};
 ghost use Rattle.std.specs.List.{prefix_len};
 ghost use Rattle.text_core.specs.Lines.{is_text};
 ghost use Rattle.front_core.specs.FaultLine.{begins_fault, is_one_line, is_fault_line, most_held};
@@ -13,6 +13,15 @@ pub fn bytes_from(bytes: &[u8], at: usize) -> &[u8]
     ensures { result.now ≡ drop at bytes.now }
 {
     &bytes[at..]
+}
+
+/// The bytes before a place.
+pub fn bytes_to(bytes: &[u8], end: usize) -> &[u8]
+    requires { end ≤ length bytes.now }
+    ensures value { result.now ≡ take end bytes.now }
+    ensures count { length result.now ≡ end }
+{
+    &bytes[..end]
 }
 
 /// How many bytes stand before the end of the first line.
@@ -58,7 +67,11 @@ pub fn before_fault(bytes: &[u8]) -> usize
     let mut at = bytes.len() - 1;
     while 0 < at {
         if bytes[at - 1] == b'\n' {
-            return if is_fault_line(&bytes[at..]) { at } else { bytes.len() };
+            return if is_fault_line(&bytes[at..]) {
+                at
+            } else {
+                bytes.len()
+            };
         }
         at -= 1;
     }

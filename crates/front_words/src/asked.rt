@@ -1,7 +1,7 @@
 //! What a command line asks for.
 use crate::mistake::Mistake;
 use crate::names::{TAPS, command_named, count_of};
-use crate::scan::{Scan, scan};
+use crate::scan::{Scan, tell_apart};
 use front_defs::{Command, Options, rate_in};
 use std::alloc::Global;
 use text_core::decimal;
@@ -40,6 +40,17 @@ fn see_number<'a>(place: usize, word: &'a str, most: u64) -> Result<(), Mistake<
     }
 }
 
+/// Sees that the numbers of a load are in range.
+fn see_load<'a>(arguments: &[&'a str]) -> Result<(), Mistake<'a>> {
+    match arguments {
+        [seed, count] => {
+            see_number(0, seed, MOST_SEED)?;
+            see_number(1, count, MOST_COUNT)
+        }
+        _ => Ok(()),
+    }
+}
+
 /// Sees that each tap is one, and that none is named twice.
 fn see_taps<'a>(taps: &[&'a str]) -> Result<(), Mistake<'a>> {
     for place in 0..taps.len() {
@@ -69,7 +80,10 @@ fn take_pairs<'a>(scan: &mut Scan<'a>) -> Result<(), Mistake<'a>> {
 }
 
 /// The rate behind the other arguments of a link, which is taken out of them.
-fn take_rate<'a>(command: Command, arguments: &mut Vec<&'a str>) -> Result<Option<u64>, Mistake<'a>> {
+fn take_rate<'a>(
+    command: Command,
+    arguments: &mut Vec<&'a str>,
+) -> Result<Option<u64>, Mistake<'a>> {
     if command != Command::Link && command != Command::Forward {
         return Ok(None);
     }
@@ -98,8 +112,7 @@ fn request_of<'a>(command: Command, mut scan: Scan<'a>) -> Result<Request<'a>, M
     }
     see_taps(&scan.taps)?;
     if command == Command::Soak {
-        see_number(0, scan.arguments[0], MOST_SEED)?;
-        see_number(1, scan.arguments[1], MOST_COUNT)?;
+        see_load(&scan.arguments)?;
     }
     let rate = take_rate(command, &mut scan.arguments)?;
     if let Some(output) = scan.output {
@@ -107,19 +120,40 @@ fn request_of<'a>(command: Command, mut scan: Scan<'a>) -> Result<Request<'a>, M
             return Err(Mistake::OverInput(output));
         }
     }
-    let Scan { arguments, taps, output, plain, quiet, .. } = scan;
-    let options = Options { command, files: arguments, rate, taps, plain };
-    Ok(Request { options, output, quiet })
+    let Scan {
+        arguments,
+        taps,
+        output,
+        plain,
+        quiet,
+        ..
+    } = scan;
+    let options = Options {
+        command,
+        files: arguments,
+        rate,
+        taps,
+        plain,
+    };
+    Ok(Request {
+        options,
+        output,
+        quiet,
+    })
 }
 
 /// What a command line asks for.
-pub fn asked<'a>(alloc: Global, words: &'a [String]) -> Result<Asked<'a>, Mistake<'a>> {
-    let mut scan = scan(alloc, words)?;
+pub fn ask<'a>(alloc: Global, words: &'a [String]) -> Result<Asked<'a>, Mistake<'a>> {
+    let mut scan = tell_apart(alloc, words)?;
     if scan.version {
         return Ok(Asked::Version);
     }
     if scan.arguments.is_empty() {
-        return if scan.help { Ok(Asked::Help(None)) } else { Err(Mistake::NoCommand) };
+        return if scan.help {
+            Ok(Asked::Help(None))
+        } else {
+            Err(Mistake::NoCommand)
+        };
     }
     let first = scan.arguments.remove(0);
     if first == "help" {

@@ -6,6 +6,6 @@ mod mistake;
 mod names;
 mod scan;
 
-pub use asked::{Asked, Request, asked};
+pub use asked::{Asked, Request, ask};
 pub use mistake::Mistake;
 pub use names::{COMMANDS, OPTIONS, TAPS, argument_of, form_of};

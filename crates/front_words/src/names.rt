@@ -8,7 +8,12 @@ pub const COMMANDS: [&str; 8] = [
 
 /// The options.
 pub const OPTIONS: [&str; 6] = [
-    "--help", "--output", "--plain", "--quiet", "--tap", "--version",
+    "--help",
+    "--output",
+    "--plain",
+    "--quiet",
+    "--tap",
+    "--version",
 ];
 
 /// The kinds of taps.

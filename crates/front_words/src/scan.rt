@@ -36,8 +36,11 @@ impl<'a> Scan<'a> {
 
     /// Takes an argument. The name `-` is standard input.
     fn argument(&mut self, word: &'a str) -> Result<(), Mistake<'a>> {
-        self.arguments
-            .push(if word == "-" && !self.ended { "/dev/stdin" } else { word })?;
+        self.arguments.push(if word == "-" && !self.ended {
+            "/dev/stdin"
+        } else {
+            word
+        })?;
         Ok(())
     }
 
@@ -88,8 +91,8 @@ impl<'a> Scan<'a> {
 }
 
 /// Tells the words of a command line apart.
-pub fn scan<'a>(alloc: Global, words: &'a [String]) -> Result<Scan<'a>, Mistake<'a>> {
-    let mut scan = Scan::new(alloc);
+pub fn tell_apart<'a>(alloc: Global, words: &'a [String]) -> Result<Scan<'a>, Mistake<'a>> {
+    let mut found = Scan::new(alloc);
     let mut is_value = false;
     for place in 0..words.len() {
         if is_value {
@@ -97,7 +100,7 @@ pub fn scan<'a>(alloc: Global, words: &'a [String]) -> Result<Scan<'a>, Mistake<
             continue;
         }
         let next = words.get(place + 1).map(|word| word.as_str());
-        is_value = scan.take(words[place].as_str(), next)?;
+        is_value = found.take(words[place].as_str(), next)?;
     }
-    Ok(scan)
+    Ok(found)
 }
