@@ -24,10 +24,6 @@ pub fn file_of(command: Command, kind: FaultKind) -> Option<usize> {
 pub fn is_text(kind: FaultKind) -> bool {
     matches!(
         kind,
-        FaultKind::Policy
-            | FaultKind::Target
-            | FaultKind::Script
-            | FaultKind::Tree
-            | FaultKind::Map
+        FaultKind::Policy | FaultKind::Target | FaultKind::Script | FaultKind::Tree | FaultKind::Map
     )
 }

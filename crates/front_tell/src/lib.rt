@@ -1,8 +1,8 @@
 //! What a person is told: messages for mistakes of the command line and for faults of files, and the help.
 #![tactic(auto)]
 
-mod causes;
 mod captures;
+mod causes;
 mod fault;
 mod files;
 mod help;

@@ -43,15 +43,46 @@ pub fn first_word(line: &[u8]) -> (&[u8], &[u8]) {
     begun.split_at(word_length(begun))
 }
 
+/// A line without its end, and the bytes behind that, if the line ends before the text does.
+fn cut_line(text: &[u8]) -> (&[u8], Option<&[u8]>) {
+    let (line, behind) = text.split_at(line_length(text));
+    match behind {
+        [_, more @ ..] => (line, Some(more)),
+        [] => (line, None),
+    }
+}
+
 /// The line of this number, counted from 1, without its end.
 pub fn line_at(text: &[u8], number: u64) -> Option<&[u8]> {
     let mut rest = text;
     for _ in 1..number {
-        let length = line_length(rest);
-        if length == rest.len() {
-            return None;
-        }
-        rest = &rest[length + 1..];
+        rest = cut_line(rest).1?;
     }
-    Some(&rest[..line_length(rest)])
+    Some(cut_line(rest).0)
+}
+
+/// Whether a line of a policy declares a node or leaf that is named `root`.
+fn declares_root(line: &[u8]) -> bool {
+    let (word, behind) = first_word(line);
+    let (name, _) = first_word(behind);
+    match word {
+        b"node" | b"leaf" => matches!(name, b"root"),
+        _ => false,
+    }
+}
+
+/// Whether a policy has a node or leaf that is named `root`.
+pub fn has_root(text: &[u8]) -> bool {
+    let mut rest = text;
+    for _ in 0..text.len() {
+        let (line, more) = cut_line(rest);
+        if declares_root(line) {
+            return true;
+        }
+        let Some(more) = more else {
+            return false;
+        };
+        rest = more;
+    }
+    false
 }
