@@ -34,6 +34,41 @@ fn text_cause(code: u64) -> Cause {
     }
 }
 
+/// What the codes of a policy's tree and classes mean.
+fn tree_rule_cause(code: u64) -> Cause {
+    match code {
+        8 => made(
+            "expected each node and leaf but root to be listed as a child exactly once, found one that isn't",
+            "list it below one node",
+        ),
+        9 => made(
+            "expected a node or leaf named root, found none",
+            "name the top of the tree root",
+        ),
+        10 => made(
+            "expected a tree, found a node among its own descendants",
+            "hang one of them below the root",
+        ),
+        11 => made(
+            "expected at most 64 levels below the root, found more",
+            "leave out nodes with one child",
+        ),
+        12 => made(
+            "expected each class to be listed by leaves exactly once, found one that isn't",
+            "list it at the leaf that is to hold its packets, and only there",
+        ),
+        13 => made(
+            "expected a last class without a condition, found one with",
+            "end the classes with one without `when`",
+        ),
+        14 => made(
+            "expected no limit in version 1, found one",
+            "write `policy 2` on the first line",
+        ),
+        _ => text_cause(code),
+    }
+}
+
 /// What the codes of a policy's names and rules mean.
 fn rule_cause(code: u64) -> Cause {
     match code {
@@ -65,35 +100,7 @@ fn rule_cause(code: u64) -> Cause {
             "expected a divisor that can't be 0, found one that can",
             "write max(1, DIVISOR)",
         ),
-        8 => made(
-            "expected each node and leaf but root to be listed as a child exactly once, found one that isn't",
-            "list it below one node",
-        ),
-        9 => made(
-            "expected a node or leaf named root, found none",
-            "name the top of the tree root",
-        ),
-        10 => made(
-            "expected a tree, found a node among its own descendants",
-            "hang one of them below the root",
-        ),
-        11 => made(
-            "expected at most 64 levels below the root, found more",
-            "leave out nodes with one child",
-        ),
-        12 => made(
-            "expected each class to be listed by leaves exactly once, found one that isn't",
-            "list it at the leaf that is to hold its packets, and only there",
-        ),
-        13 => made(
-            "expected a last class without a condition, found one with",
-            "end the classes with one without `when`",
-        ),
-        14 => made(
-            "expected no limit in version 1, found one",
-            "write `policy 2` on the first line",
-        ),
-        _ => text_cause(code),
+        _ => tree_rule_cause(code),
     }
 }
 

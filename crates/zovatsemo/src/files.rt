@@ -3,8 +3,8 @@ use std::alloc::AllocError;
 use std::fs;
 use std::io::{self, Read};
 
-/// The most bytes of a text that are read again for a message.
-const MOST_TEXT: usize = 1 << 20;
+/// How many times a file is read at most for a message.
+const MOST_READS: u32 = 512;
 
 /// Reads a byte, to see that a file can be read.
 fn try_file(rt: &HostRuntime, name: &str) -> io::Result<usize> {
@@ -33,7 +33,7 @@ pub fn front_of(rt: &HostRuntime, name: &str) -> Result<Vec<u8>, AllocError> {
         return Ok(text);
     };
     let mut chunk = [0; 4096];
-    while text.len() < MOST_TEXT {
+    for _ in 0..MOST_READS {
         match file.read(&mut chunk) {
             Ok(count) if 0 < count => text.extend_from_slice(&chunk[..count])?,
             _ => break,

@@ -46,17 +46,6 @@ fn words_of(rt: &HostRuntime) -> io::Result<Vec<String>> {
     Ok(words)
 }
 
-/// Taps of each kind.
-fn all_taps(rt: &HostRuntime) -> Result<Vec<Box<dyn Tap>>, AllocError> {
-    let alloc = rt.alloc();
-    let mut taps: Vec<Box<dyn Tap>> = Vec::new(alloc);
-    taps.push(Box::new(alloc, BytesTap::new())?)?;
-    taps.push(Box::new(alloc, OrderTap::new())?)?;
-    taps.push(Box::new(alloc, FirstTap::new(alloc, FIRST_LIMIT)?)?)?;
-    taps.push(Box::new(alloc, DropsTap::new())?)?;
-    Ok(taps)
-}
-
 /// Says what the line of a fault means.
 fn tell_line(rt: &HostRuntime, options: &Options<'_>, line: &[u8]) -> Result<(), AllocError> {
     let Some(fault) = fault_in(rt.alloc(), line) else {
@@ -92,21 +81,14 @@ fn run_told<K: Sink + Drop>(
     rt: &HostRuntime,
     request: &Request<'_>,
     below: K,
+    taps: &mut Vec<Box<dyn Tap>>,
 ) -> Result<u8, AllocError> {
     let alloc = rt.alloc();
     let options = &request.options;
-    let mut taps = all_taps(rt)?;
     let mut fabric = FlatFabric::new(alloc)?;
     let mut shelf = FileShelf::new(rt.clone()?);
     let mut sink = Catching::new(alloc, below, options.command == Command::Forward)?;
-    let status = front_caught(
-        alloc,
-        options,
-        &mut shelf,
-        &mut sink,
-        &mut fabric,
-        &mut taps,
-    );
+    let status = front_caught(alloc, options, &mut shelf, &mut sink, &mut fabric, taps);
     let is_done = status == 0 || status == 14 || status == 15;
     if is_done && sink.release().is_err() {
         return Ok(NO_OUTPUT);
@@ -118,38 +100,34 @@ fn run_told<K: Sink + Drop>(
 }
 
 /// Runs what is asked for, with all that the replayer writes.
-fn run_plain<K: Sink>(
+fn run_plain<K: Sink + Drop>(
     rt: &HostRuntime,
     options: &Options<'_>,
     mut sink: K,
-) -> Result<u8, AllocError>
-where
-    K: Drop,
-{
+    taps: &mut Vec<Box<dyn Tap>>,
+) -> Result<u8, AllocError> {
     let alloc = rt.alloc();
-    let mut taps = all_taps(rt)?;
     let mut fabric = FlatFabric::new(alloc)?;
     let mut shelf = FileShelf::new(rt.clone()?);
-    Ok(front_run(
-        alloc,
-        options,
-        &mut shelf,
-        &mut sink,
-        &mut fabric,
-        &mut taps,
-    ))
+    Ok(front_run(alloc, options, &mut shelf, &mut sink, &mut fabric, taps))
 }
 
-/// Runs what is asked for into an output.
+/// Runs what is asked for into an output. There is a tap of each kind.
 fn run_into<K: Sink + Drop>(
     rt: &HostRuntime,
     request: &Request<'_>,
     below: K,
 ) -> Result<u8, AllocError> {
+    let alloc = rt.alloc();
+    let mut taps: Vec<Box<dyn Tap>> = Vec::new(alloc);
+    taps.push(Box::new(alloc, BytesTap::new())?)?;
+    taps.push(Box::new(alloc, OrderTap::new())?)?;
+    taps.push(Box::new(alloc, FirstTap::new(alloc, FIRST_LIMIT)?)?)?;
+    taps.push(Box::new(alloc, DropsTap::new())?)?;
     if request.options.plain {
-        run_plain(rt, &request.options, below)
+        run_plain(rt, &request.options, below, &mut taps)
     } else {
-        run_told(rt, request, below)
+        run_told(rt, request, below, &mut taps)
     }
 }
 
