@@ -1,5 +1,5 @@
 -- What a sink that keeps a line back was told.
-use Rattle.std.proofs.Common.{◌≡◌, ℕ, ◌+◌, List, [], ◌++◌, take, drop, Option, None, Some, refl, sym, ap, ◌∙◌, append_assoc, append-nil, subst, length, ◌≤◌}
+use Rattle.std.proofs.Common.{◌≡◌, ℕ, ◌+◌, List, [], ◌++◌, take, drop, Option, None, Some, sym, ap, ◌∙◌, append_assoc, append-nil, subst, length, ◌≤◌}
 use Rattle.std.proofs.lemmas.List.{take-append-drop, drop-drop, take-take}
 use Rattle.std.proofs.Math.Seq.{take-length}
 use Rattle.outside_core.specs.Written.{Appended}
