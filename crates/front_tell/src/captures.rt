@@ -25,9 +25,6 @@ pub fn capture_kind(front: &[u8]) -> (&'static str, &'static str) {
             "a snoop file",
             "editcap -F pcap FILE OUT makes a pcap file of it",
         ),
-        _ => (
-            "no capture that is known by its first bytes",
-            "give a pcap or pcapng file",
-        ),
+        _ => ("other bytes", "give a pcap or pcapng file"),
     }
 }

@@ -135,6 +135,21 @@ fn say_in_text(
     }
 }
 
+/// Whether a file is no capture, which its first bytes tell.
+fn is_no_capture(fault: Fault) -> bool {
+    fault.kind == FaultKind::Capture && fault.code <= NO_CAPTURE
+}
+
+/// How a fault is mended in a file that begins so.
+fn help_for(fault: Fault, cause: Cause, front: &[u8]) -> &'static str {
+    if is_no_capture(fault) {
+        let (_, help) = capture_kind(front);
+        help
+    } else {
+        cause.help
+    }
+}
+
 /// Appends what a cause is, and the number of the packet, the block or the event that it is in.
 fn say_at_place(
     into: &mut Vec<u8>,
@@ -143,11 +158,9 @@ fn say_at_place(
     front: &[u8],
 ) -> Result<(), AllocError> {
     say_around(into, " error: ", cause.is, "")?;
-    if fault.kind == FaultKind::Capture && fault.code <= NO_CAPTURE {
-        let (kind, help) = capture_kind(front);
-        say_around(into, " ", kind, "\n  help: ")?;
-        say(into, help)?;
-        return say(into, "\n");
+    if fault.kind == FaultKind::Capture && fault.code == NO_CAPTURE {
+        let (kind, _) = capture_kind(front);
+        return say_around(into, " ", kind, "\n");
     }
     if fault.place != 0 {
         let what = match fault.kind {
@@ -211,7 +224,7 @@ pub fn tell_fault(
     say_around(&mut text, "", name, ":")?;
     say_cause(alloc, &mut text, fault, cause, content)?;
     say_of_whole(&mut text, fault, content)?;
-    say_around(&mut text, "  help: ", cause.help, "\n")?;
+    say_around(&mut text, "  help: ", help_for(fault, cause, content), "\n")?;
     Ok(text)
 }
 

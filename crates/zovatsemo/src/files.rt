@@ -1,16 +1,29 @@
 //! Why a file can't be read, and how it begins.
 use std::alloc::AllocError;
-use std::fs;
+use std::fs::{self, File};
 use std::io::{self, Read};
 
 /// How many times a file is read at most for a message.
 const MOST_READS: u32 = 512;
 
-/// Reads a byte, to see that a file can be read.
+/// Reads a byte, to see that a file can be read. A pipe isn't opened again, since that could wait for a writer.
 fn try_file(rt: &HostRuntime, name: &str) -> io::Result<usize> {
+    let found = fs::metadata(rt, name)?;
+    if !found.is_file() && !found.is_dir() {
+        return Ok(0);
+    }
     let mut file = fs::open(rt, name)?;
     let mut buffer = [0; 1];
     file.read(&mut buffer)
+}
+
+/// Opens a file that can be read twice, which a pipe can't be.
+fn open_again(rt: &HostRuntime, name: &str) -> io::Result<Option<File>> {
+    if fs::metadata(rt, name)?.is_file() {
+        Ok(Some(fs::open(rt, name)?))
+    } else {
+        Ok(None)
+    }
 }
 
 /// Says which file can't be read, and why.
@@ -29,7 +42,7 @@ pub fn tell_unread(rt: &HostRuntime, names: &[&str]) {
 /// The first bytes of a file, as far as it can be read.
 pub fn front_of(rt: &HostRuntime, name: &str) -> Result<Vec<u8>, AllocError> {
     let mut text = Vec::new(rt.alloc());
-    let Ok(mut file) = fs::open(rt, name) else {
+    let Ok(Some(mut file)) = open_again(rt, name) else {
         return Ok(text);
     };
     let mut chunk = [0; 4096];
