@@ -4,6 +4,7 @@ use crate::names::{TAPS, command_named, count_of};
 use crate::scan::{Scan, tell_apart};
 use front_defs::{Command, Options, rate_in};
 use std::alloc::Global;
+use std::path::Path;
 use text_core::decimal;
 
 /// The greatest seed of a load.
@@ -116,7 +117,11 @@ fn request_of<'a>(command: Command, mut scan: Scan<'a>) -> Result<Request<'a>, M
     }
     let rate = take_rate(command, &mut scan.arguments)?;
     if let Some(output) = scan.output {
-        if scan.arguments.iter().any(|name| *name == output) {
+        if scan
+            .arguments
+            .iter()
+            .any(|name| Path::new(name) == Path::new(output))
+        {
             return Err(Mistake::OverInput(output));
         }
     }
