@@ -8,7 +8,7 @@ use Rattle.tree_defs.specs.Topology.{topology_of}
 use Rattle.tree_defs.specs.SourceTree.{empty_tree}
 use Rattle.tree_defs.proofs.Shapes.{topology_of-empty, same_shape}
 use Rattle.tree_defs.proofs.TopologyLaws.{leaf_at, leads_to}
-use Rattle.embed_lift_defs.proofs.EmbeddedMaps.{embeddings_are_good_maps}
+use Rattle.embed_defs.proofs.EmbeddedMaps.{embeddings_are_good_maps}
 use Rattle.rank_defs.specs.Builtins.{same_name}
 use Rattle.rank_defs.proofs.Table.{same_name-is}
 use Rattle.policy_defs.specs.Accepted.{IsAccepted}
@@ -16,9 +16,9 @@ use Rattle.policy_defs.specs.BuiltIn.{AreBuiltIn}
 use Rattle.policy_defs.specs.Policy.{Policy, Node, node_at}
 use Rattle.policy_defs.specs.Numbers.{number_at}
 use Rattle.policy_core.specs.Numbering.{address_at}
-use Rattle.policy_core.proofs.Numbers.{number-undone}
-use Rattle.sched_nodes.proofs.TreeParts.{node-of_part}
-use Rattle.embed_given.proofs.ComposedImages.{placed-topology}
+use Rattle.policy_core.proofs.NumberedAddresses.{number-undone}
+use Rattle.sched_core.proofs.TreeParts.{node-of_part}
+use Rattle.mapcheck_core.proofs.ComposedImages.{placed-topology}
 use Rattle.calm_defs.specs.Calm.{steady, is_steady, is_calm, node_using}
 use Rattle.calm_defs.specs.Laws.{DifferBehind, UsesSteady}
 use Rattle.calm_defs.proofs.EachNode.{calm_at_each_node}

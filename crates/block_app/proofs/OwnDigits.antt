@@ -7,9 +7,9 @@ use Rattle.tree_defs.specs.Topology.{topology_of, IsPrefixOf, after}
 use Rattle.tree_defs.proofs.TopologyLaws.{after-append, after-is}
 use Rattle.embed_defs.specs.Images.{image_at, image_map}
 use Rattle.embed_defs.proofs.Subtrees.{subtree-root, subtree-then, same_address}
-use Rattle.embed_lift_defs.proofs.ImageLifts.{other_shape}
+use Rattle.embed_defs.proofs.ImageLifts.{other_shape}
 use Rattle.policy_defs.specs.Policy.{Node}
-use Rattle.policy_core.proofs.Numbers.{address-down, address-up}
+use Rattle.policy_core.proofs.NumberedAddresses.{address-down, address-up}
 use Rattle.calm_defs.specs.Laws.{DifferBehind}
 use Rattle.block_app.specs.Calm.{IsMapOf, HasOwnDigit, HaveOwnDigits, digit_at}
 

@@ -13,7 +13,7 @@ use Rattle.tree_core.proofs.NewTrees.{topology_inner, child_nodes}
 use Rattle.tree_core.proofs.AddressSteps.{rest, rest-is}
 use Rattle.embed_defs.proofs.Subtrees.{subtree-root}
 use Rattle.policy_defs.specs.Policy.{Node}
-use Rattle.policy_core.proofs.Numbers.{address-down, address-up}
+use Rattle.policy_core.proofs.NumberedAddresses.{address-down, address-up}
 use Rattle.mapcheck_core.proofs.PlaceLaws.{next_step, no_step}
 
 -- this many children stand below the node at an address

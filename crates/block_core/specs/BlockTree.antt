@@ -1,7 +1,7 @@
 -- What a fabric of rank stores is.
 use Rattle.std.specs.Prelude.{ℕ, ◌≡◌, ◌≤◌, ◌*◌, ◌^◌, [], List, map}
 use Rattle.pifo_defs.specs.Queue.{Queue}
-use Rattle.fabric_defs.specs.Family.{Address, Family, IsEmpty}
+use Rattle.target_defs.specs.Family.{Address, Family, IsEmpty}
 use Rattle.fabric_core.specs.Array.{queues_at, room_at, flows_at}
 use Rattle.fabric_core.specs.Flow.{HasFlows, IsSound}
 use Rattle.block_core.specs.Block.{Block}

@@ -9,18 +9,18 @@ use Rattle.tree_defs.specs.Tree.{Tree, leaf, inner, Trees, none, more, Address, 
 use Rattle.tree_defs.specs.SourceTree.{SourceTree}
 use Rattle.tree_defs.proofs.TopologyLaws.{after-append}
 use Rattle.tree_defs.proofs.WellFormedLaws.{leads_has}
-use Rattle.fabric_defs.specs.Family.{Family, below}
-use Rattle.fabric_defs.specs.Spills.{spills_for, spills_at_leaf, counted, spills_along}
+use Rattle.target_defs.specs.Family.{Family, below}
+use Rattle.target_defs.specs.Spills.{spills_for, spills_at_leaf, counted, spills_along}
 use Rattle.embed_defs.specs.Placed.{Placement, Placements, part, IsPlaced, ArePlaced, lift_digits, digits_below}
 use Rattle.embed_defs.proofs.Addresses.{some_of_cond}
-use Rattle.embed_lift_defs.specs.Lift.{digit_beyond, lift_ranks}
-use Rattle.embed_lift_defs.specs.Lifting.{placement_of, digit_at, passing, lift, lift_child, placed_ranks, placed_ranks_below}
-use Rattle.embed_lift_defs.specs.Laws.{Maps}
-use Rattle.embed_lift_defs.specs.Spilling.{push_spills}
-use Rattle.embed_lift_defs.proofs.PassedEntries.{passing_by-none, passing_by-some}
-use Rattle.embed_lift_defs.proofs.LiftPush.{lift_at_child, transit_below}
-use Rattle.embed_lift_defs.proofs.MapPlacements.{ranks-relative}
-use Rattle.embed_lift_defs.proofs.ImageLifts.{shape, is_placed, agrees}
+use Rattle.embed_defs.specs.Lift.{digit_beyond, lift_ranks}
+use Rattle.embed_defs.specs.Lifting.{placement_of, digit_at, passing, lift, lift_child, placed_ranks, placed_ranks_below}
+use Rattle.embed_defs.specs.LiftLaws.{Maps}
+use Rattle.embed_defs.specs.Spilling.{push_spills}
+use Rattle.embed_defs.proofs.PassedEntries.{passing_by-none, passing_by-some}
+use Rattle.embed_defs.proofs.LiftPush.{lift_at_child, transit_below}
+use Rattle.embed_defs.proofs.MapPlacements.{ranks-relative}
+use Rattle.embed_defs.proofs.ImageLifts.{shape, is_placed, agrees}
 use Rattle.sched_defs.proofs.Members.{all_mapped}
 use Rattle.calm_defs.specs.Calm.{is_spread}
 use Rattle.calm_defs.proofs.OwnDigits.{AreOwnDigits, HasOwnDigits, HaveOwnDigits, spread-own}

@@ -10,7 +10,7 @@ use Rattle.rank_defs.specs.Programs.{max_rank}
 use Rattle.packet_defs.specs.declared.packet.Packet.{Packet}
 use Rattle.policy_defs.specs.Policy.{Policy, Node, node_at}
 use Rattle.policy_defs.specs.Accepted.{IsAccepted, IsClassReady}
-use Rattle.embed_lift_defs.specs.Laws.{Maps}
+use Rattle.embed_defs.specs.LiftLaws.{Maps}
 use Rattle.sched_defs.specs.Visits.{Visit, after_pushes, after_pops}
 use Rattle.sched_defs.specs.SourceState.{SourceState, start, class_of, way_in, way_out, arrival_ranks, pushed, arrived, left_with, left_from, departed}
 use Rattle.sched_defs.specs.Sound.{IsKnown, IsAtItsLeaf, IsSound}

@@ -4,7 +4,7 @@ use Rattle.std.specs.Prelude.{slice_index}
 use Rattle.std.proofs.lemmas.Bool.{and_parts}
 use Rattle.tree_defs.specs.Tree.{Tree, leaf, inner, Trees, none, more, Address, child, root_of}
 use Rattle.embed_defs.specs.Placed.{Placement, Placements, part}
-use Rattle.embed_lift_defs.specs.Lifting.{relative, relatives}
+use Rattle.embed_defs.specs.Lifting.{relative, relatives}
 use Rattle.calm_defs.specs.Calm.{digits_behind, all_differ, is_spread, are_spread}
 use Rattle.calm_defs.proofs.SpreadDigits.{differ-children}
 

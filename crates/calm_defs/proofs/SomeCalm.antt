@@ -7,7 +7,7 @@ use Rattle.rank_defs.proofs.Table.{builtins-checked}
 use Rattle.policy_defs.specs.Policy.{Policy, Node, node_at}
 use Rattle.policy_defs.specs.Accepted.{IsNodeReady, IsAccepted}
 use Rattle.policy_defs.specs.BuiltIn.{AreBuiltIn}
-use Rattle.embed_lift_defs.specs.Laws.{Maps}
+use Rattle.embed_defs.specs.LiftLaws.{Maps}
 use Rattle.sched_defs.specs.SourceState.{start}
 use Rattle.sched_defs.proofs.Visits.{no_marks_in_range}
 use Rattle.calm_defs.specs.Laws.{IsLaidCalmly}

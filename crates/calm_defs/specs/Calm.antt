@@ -5,8 +5,8 @@ use Rattle.tree_defs.specs.Tree.{Tree, leaf, inner, Trees, none, more, Address, 
 use Rattle.tree_defs.specs.SourceTree.{SourceTree}
 use Rattle.rank_defs.specs.Builtins.{same_name, fifo}
 use Rattle.policy_defs.specs.Policy.{Node, no_marks}
-use Rattle.embed_lift_defs.specs.Lift.{with_transit, chain}
-use Rattle.embed_lift_defs.specs.Spilling.{push_spills}
+use Rattle.embed_defs.specs.Lift.{with_transit, chain}
+use Rattle.embed_defs.specs.Spilling.{push_spills}
 
 -- the built-in transactions that never rank a packet of a child below an earlier one of that child
 abbrev pub steady : List (List ℕ)

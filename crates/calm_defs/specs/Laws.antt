@@ -6,8 +6,8 @@ use Rattle.packet_defs.specs.declared.packet.Packet.{Packet}
 use Rattle.policy_defs.specs.Policy.{Policy, Node}
 use Rattle.policy_defs.specs.Accepted.{IsAccepted}
 use Rattle.policy_defs.specs.BuiltIn.{AreBuiltIn}
-use Rattle.embed_lift_defs.specs.Laws.{Maps}
-use Rattle.embed_lift_defs.specs.Spilling.{push_spills}
+use Rattle.embed_defs.specs.LiftLaws.{Maps}
+use Rattle.embed_defs.specs.Spilling.{push_spills}
 use Rattle.sched_defs.specs.SourceState.{SourceState, start, class_of, arrival_ranks, arrived, departed}
 use Rattle.sched_defs.specs.Events.{Event, Arrive, Depart, after, CanArrive, CanMake}
 use Rattle.calm_defs.specs.Calm.{steady, is_calm}

@@ -3,7 +3,7 @@ use Rattle.std.specs.Prelude.{◌≡◌, refl, ℕ, None, List, [], ◌∷◌, c
 use Rattle.tree_defs.specs.Tree.{Tree, leaf, inner, none, more, Address}
 use Rattle.rank_defs.specs.Builtins.{Builtin, named, fifo, shortest, rr, stfq}
 use Rattle.policy_defs.specs.Policy.{Policy, Node, no_marks}
-use Rattle.embed_lift_defs.specs.Spilling.{push_spills}
+use Rattle.embed_defs.specs.Spilling.{push_spills}
 use Rattle.sched_defs.specs.SourceState.{SourceState, start, arrival_ranks}
 use Rattle.sched_defs.specs.Events.{Event, Arrive, Depart, after}
 use Rattle.sched_defs.specs.Rows.{packet}

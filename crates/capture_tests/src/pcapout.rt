@@ -1,6 +1,6 @@
 //! Tests of captures that are written, up to a fault.
 use outside_core::{MemSink, Sink, SinkError};
-use pcapout_core::{put_head, put_record};
+use pcap_core::{put_head, put_record};
 use std::test::Fail;
 
 /// Link type 147, and two packets in second 1.

@@ -5,7 +5,7 @@ use Rattle.std.proofs.lemmas.List.FromFn.{get_or-range_with_len, length-range_wi
 use Rattle.std.specs.Prelude.{slice_index}
 use Rattle.std.specs.List.{AllByRecursion, range_with_len}
 use Rattle.tree_defs.specs.Tree.{Tree, leaf, inner, Trees, none, more, Address, root_of}
-use Rattle.embed_lift_defs.specs.Lift.{lift_ranks, lift_ranks_below}
+use Rattle.embed_defs.specs.Lift.{lift_ranks, lift_ranks_below}
 use Rattle.embed_core.specs.declared.lane.Lane.{Lane}
 use Rattle.embed_core.specs.Lanes.{IsLaneTo}
 

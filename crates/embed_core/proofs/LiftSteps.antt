@@ -6,8 +6,8 @@ use borrow.Rule.Slice.PartMut.{put_mid}
 use Rattle.tree_defs.specs.Tree.{Tree, leaf, inner, Trees, none, more, trees_of, root_of, Address, LeadsToLeaf, LeadsBelow}
 use Rattle.tree_core.specs.TreeContents.{branch}
 use Rattle.embed_defs.specs.Images.{image_map}
-use Rattle.embed_lift_defs.specs.Lift.{lift_ranks, lift_ranks_below}
-use Rattle.embed_lift_defs.specs.GoodMaps.{IsDeep, AreDeep}
+use Rattle.embed_defs.specs.Lift.{lift_ranks, lift_ranks_below}
+use Rattle.embed_defs.specs.GoodMaps.{IsDeep, AreDeep}
 use Rattle.embed_core.proofs.MapSteps.{child-at}
 
 root-branch : (e : Address) (ts : Trees Address) → root_of (branch e ts) ≡ e

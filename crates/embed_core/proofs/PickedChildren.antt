@@ -10,8 +10,8 @@ use Rattle.tree_core.specs.TreeContents.{branch}
 use Rattle.embed_defs.specs.Images.{image_map}
 use Rattle.embed_defs.specs.Placed.{IsApartFrom}
 use Rattle.embed_defs.proofs.Addresses.{one_prefix}
-use Rattle.embed_lift_defs.specs.Lift.{picked_ranks, picked_ranks_below}
-use Rattle.embed_lift_defs.specs.GoodMaps.{IsDeep, IsNested, AreNested}
+use Rattle.embed_defs.specs.Lift.{picked_ranks, picked_ranks_below}
+use Rattle.embed_defs.specs.GoodMaps.{IsDeep, IsNested, AreNested}
 use Rattle.embed_core.specs.ImageOrder.{child_image, AreApart, IsOnSide, EachChild, GoesBeside}
 use Rattle.embed_core.specs.Picks.{LeadsToImage, IsLeafImage, PicksOnto}
 use Rattle.embed_core.proofs.MapSteps.{child-at}

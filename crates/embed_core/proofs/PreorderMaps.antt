@@ -11,8 +11,8 @@ use Rattle.tree_core.specs.declared.topo.Topo.TheOpen.{Leaf}
 use Rattle.tree_core.specs.declared.topo.Topo.TheFolds.{fold-roll-Topo}
 use Rattle.tree_core.specs.declared.topo.Topo.TheViews as views
 use Rattle.tree_core.proofs.NewTrees.{topology_inner}
-use Rattle.embed_map_defs.specs.Preorder.{image_in, tree_in, trees_in, HoldsImages}
-use Rattle.embed_map_defs.proofs.PreorderTrees.{trees_in_preorder_hold_the_images}
+use Rattle.embed_defs.specs.Preorder.{image_in, tree_in, trees_in, HoldsImages}
+use Rattle.embed_defs.proofs.PreorderTrees.{trees_in_preorder_hold_the_images}
 
 -- the trees of some topologies one behind the other
 abbrev pub trees_from : List Topology → List Address → List (Tree Address)

@@ -3,7 +3,7 @@ use Rattle.std.specs.Prelude.{◌≡◌, ◌+◌, length}
 use Rattle.std.specs.List.{range_with_len}
 use Rattle.tree_defs.specs.Tree.{Tree, Address}
 use Rattle.embed_defs.specs.Images.{image_map}
-use Rattle.embed_lift_defs.specs.Lift.{lift_ranks}
+use Rattle.embed_defs.specs.Lift.{lift_ranks}
 use Rattle.embed_core.specs.declared.lane.Lane.{Lane}
 
 -- it has the leaf's image, and where a lift has a step's rank it has the number of the step

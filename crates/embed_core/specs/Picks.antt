@@ -3,7 +3,7 @@ use Rattle.std.specs.Prelude.{◌≡◌, ℕ, List, ◌++◌}
 use Rattle.tree_defs.specs.Tree.{Tree, Address, LeadsToLeaf}
 use Rattle.tree_core.specs.Paths.{Way}
 use Rattle.embed_defs.specs.Images.{image_map}
-use Rattle.embed_lift_defs.specs.Lift.{picked_ranks}
+use Rattle.embed_defs.specs.Lift.{picked_ranks}
 
 -- a path leads to the leaf with this image
 pub record LeadsToImage (m : Tree Address) (image path : Address) : Type 0 where

@@ -2,7 +2,7 @@
 ghost use Rattle.std.specs.Prelude.{◌≡◌, ◌+◌, ◌<◌, length, map, slice_index, IfOk};
 ghost use Rattle.std.specs.List.{AllByRecursion};
 ghost use Rattle.tree_defs.specs.Tree.{LeadsToLeaf};
-ghost use Rattle.embed_lift_defs.specs.GoodMaps.{IsGoodMap};
+ghost use Rattle.embed_defs.specs.GoodMaps.{IsGoodMap};
 ghost use Rattle.embed_core.specs.Lanes.{IsLaneTo};
 
 use crate::map::{Map, lift};

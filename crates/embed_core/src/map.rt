@@ -9,9 +9,9 @@ ghost use Rattle.embed_defs.specs.Embedding.{IsEmbedding, HasEmbedding};
 ghost use Rattle.embed_defs.specs.Need.{IsLeast, IsNeed, HoldsNeeds, HasHeight};
 ghost use Rattle.embed_defs.specs.Canonical.{canonical, IsCanonical};
 ghost use Rattle.embed_defs.specs.Images.{image_at, image_map};
-ghost use Rattle.embed_map_defs.specs.Preorder.{image_in, tree_in, HoldsImages};
-ghost use Rattle.embed_lift_defs.specs.Lift.{lift_ranks, picked_ranks};
-ghost use Rattle.embed_lift_defs.specs.GoodMaps.{IsGoodMap, IsDeep, IsNested};
+ghost use Rattle.embed_defs.specs.Preorder.{image_in, tree_in, HoldsImages};
+ghost use Rattle.embed_defs.specs.Lift.{lift_ranks, picked_ranks};
+ghost use Rattle.embed_defs.specs.GoodMaps.{IsGoodMap, IsDeep, IsNested};
 ghost use Rattle.embed_core.specs.Range.{levels_of, FitsInLevels};
 ghost use Rattle.embed_core.specs.Picks.{IsLeafImage, PicksOnto};
 

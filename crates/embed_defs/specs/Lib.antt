@@ -5,3 +5,10 @@ pub mod Counting
 pub mod Images
 pub mod Placed
 pub mod Laws
+pub mod Lift
+pub mod GoodMaps
+pub mod Lifting
+pub mod LiftLaws
+pub mod Spilling
+pub mod Preorder
+pub mod MapLaws

@@ -1,35 +1,11 @@
-//! How a topology is laid into a complete tree: embeddings, needs and the canonical placement. Begin with
-//! specs/Embedding.antt.
+//! How a topology is laid into a complete tree: embeddings, needs, the canonical placement, maps one behind the other, and the
+//! lift of a source tree along a map. Begin with specs/Embedding.antt.
 #![tactic(auto)]
 
-ghost use Rattle.embed_defs.specs.Laws.{TopologiesHaveOneNeed, NeedsAreLeastHeights, EmbeddingsNeedRoom, CanonicalPlacementsAreEmbeddings, CanonicalPlacementsAreOne, PlacementsAreThereOrNone};
+mod laws;
+mod lift_laws;
+mod map_laws;
 
-/// A topology has one need.
-pub fn topologies_have_one_need()
-    ensures law { TopologiesHaveOneNeed }
-{}
-
-/// The need of a topology is the least height of a complete tree in which there is an embedding.
-pub fn needs_are_least_heights()
-    ensures law { NeedsAreLeastHeights }
-{}
-
-/// An embedding exists exactly where there is room for the needs.
-pub fn embeddings_need_room()
-    ensures law { EmbeddingsNeedRoom }
-{}
-
-/// Where there is room, the canonical placement is an embedding.
-pub fn canonical_placements_are_embeddings()
-    ensures law { CanonicalPlacementsAreEmbeddings }
-{}
-
-/// There is one canonical placement.
-pub fn canonical_placements_are_one()
-    ensures law { CanonicalPlacementsAreOne }
-{}
-
-/// The canonical placement is an embedding, or there is none.
-pub fn placements_are_there_or_none()
-    ensures law { PlacementsAreThereOrNone }
-{}
+pub use laws::{canonical_placements_are_embeddings, canonical_placements_are_one, embeddings_need_room, needs_are_least_heights, placements_are_there_or_none, topologies_have_one_need};
+pub use lift_laws::{canonical_maps_are_good, embeddings_are_good_maps, empty_trees_have_empty_lifts, lift_of_is_the_lift, lifted_ranks_are_of_the_deepest, lifts_are_one, maps_stay, nodes_have_images_of_their_own, picked_ranks_are_those_at_the_images, picked_ranks_are_those_lifted, pops_of_lifts_are_lifted_pops, pushes_of_lifts_are_lifts, spills_of_lifts};
+pub use map_laws::{embeddings_compose, trees_in_preorder_hold_the_images, trees_of_images_are_one, trees_of_images_embed};

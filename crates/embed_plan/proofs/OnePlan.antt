@@ -1,6 +1,6 @@
 -- One plan: one least height, one canonical placement, and room or none.
 use Rattle.std.proofs.Common.{◌≡◌, ℕ, Bool, List, length, ◌++◌, refl, ap, ◌∙◌}
-use Rattle.embed_defs.proofs.Laws.{topologies_have_one_need-holds, canonical_placements_are_one-holds}
+use Rattle.embed_defs.proofs.EmbeddingLaws.{topologies_have_one_need-holds, canonical_placements_are_one-holds}
 use Rattle.policy_defs.specs.Policy.{Policy}
 use Rattle.target_defs.specs.Levels.{levels}
 use Rattle.tree_defs.specs.Topology.{topology_of}

@@ -3,7 +3,7 @@ use Rattle.std.proofs.Common.{◌≡◌, ℕ, ◌-◌, true, false, List, length
 use Rattle.embed_defs.specs.Embedding.{HasEmbedding}
 use Rattle.embed_defs.specs.Images.{image_map}
 use Rattle.embed_defs.specs.Laws.{AreWide}
-use Rattle.embed_defs.proofs.Laws.{topologies_have_one_need-holds}
+use Rattle.embed_defs.proofs.EmbeddingLaws.{topologies_have_one_need-holds}
 use Rattle.embed_defs.proofs.RoomOrNone.{there_or_none}
 use Rattle.target_defs.specs.Levels.{levels, down_from}
 use Rattle.target_defs.proofs.LevelLaws.{heights_give-holds, heights_in_range-holds}

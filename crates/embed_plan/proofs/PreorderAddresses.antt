@@ -6,7 +6,7 @@ use Rattle.std.proofs.lemmas.Bool.{cases_lt}
 use Rattle.std.specs.List.{concat}
 use Rattle.tree_defs.specs.Tree.{Tree, leaf, inner, Trees, none, more, Address, nodes, nodes_below}
 use Rattle.policy_core.specs.Numbering.{sibling_of, address_at, address_below}
-use Rattle.policy_core.proofs.Numbers.{sibling-first, way-first, sibling-later, way-later}
+use Rattle.policy_core.proofs.NumberedAddresses.{sibling-first, way-first, sibling-later, way-later}
 use Rattle.embed_plan.specs.Preorder.{addresses, addresses_below}
 
 mutual

@@ -1,6 +1,6 @@
 //! A link that sends one packet after another, and how long each takes.
 ghost use Rattle.std.specs.Prelude.{◌≡◌, ◌+◌, ◌<◌, ◌^◌, ◌↔◌, IsTrue, max};
-ghost use Rattle.link_defs.specs.Link.{send_time, IsRate};
+ghost use Rattle.sched_defs.specs.SendTime.{send_time, IsRate};
 
 use std::marker::Model;
 

@@ -9,7 +9,7 @@ use Rattle.tree_defs.specs.Tree.{Popping}
 use Rattle.tree_defs.specs.SourceTree.{times}
 use Rattle.tree_defs.proofs.Options.{option_map-some, option_bind-some}
 use Rattle.tree_defs.proofs.WellFormedLaws.{times-put_same, times-put_other, times-taken_same, times-taken_other}
-use Rattle.fabric_defs.specs.Family.{Address, Family, below, push_along, pop_along, popped_last, popped_digit, with_branch, IsLeafAddress}
+use Rattle.target_defs.specs.Family.{Address, Family, below, push_along, pop_along, popped_last, popped_digit, with_branch, IsLeafAddress}
 use Rattle.fabric_core.specs.Flow.{NamesBelow, IsFlow}
 use Rattle.fabric_core.proofs.PushLaws.{push_along-same, push_along-other}
 

@@ -8,7 +8,7 @@ use Rattle.tree_defs.specs.Tree.{Popping, option_bind}
 use Rattle.fabric_core.specs.declared.node.NodeQueue.{Ghosts}
 use Rattle.fabric_core.specs.Array.{nodes, queues_at, of_last, of_digit, array_pop}
 use Rattle.fabric_core.specs.Flow.{IsFlow}
-use Rattle.fabric_defs.specs.Family.{Family}
+use Rattle.target_defs.specs.Family.{Family}
 use Rattle.fabric_core.proofs.ArrayReads.{read-root}
 use Rattle.fabric_core.proofs.FlowLaws.{names-taken, child-waits}
 use Rattle.fabric_core.proofs.PopLaws.{queues-child, flow-child}

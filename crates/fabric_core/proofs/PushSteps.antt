@@ -5,7 +5,7 @@ use Rattle.std.specs.List.{AllByRecursion}
 use mathlib.Core.Path.{fun_ext}
 use Rattle.pifo_defs.specs.Queue.{Queue, put}
 use Rattle.fabric_core.specs.declared.node.NodeQueue.{Ghosts}
-use Rattle.fabric_defs.specs.Family.{Address, IsLeafAddress, HasRoomAlong}
+use Rattle.target_defs.specs.Family.{Address, IsLeafAddress, HasRoomAlong}
 use Rattle.fabric_core.specs.Array.{nodes, room_at, put_at, array_push}
 use Rattle.fabric_core.proofs.ArrayReads.{read-below, read-same}
 use Rattle.fabric_core.proofs.LevelWalks.{IsAt, at_index, at_child, placed_as, leaf_length, digit_below}

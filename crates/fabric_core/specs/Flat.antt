@@ -2,7 +2,7 @@
 use Rattle.std.specs.Prelude.{ℕ, ◌≡◌, [], List, map}
 use Rattle.pifo_defs.specs.Queue.{Queue}
 use Rattle.pifo_core.specs.Sorted.{Contents}
-use Rattle.fabric_defs.specs.Family.{Address, Family, IsEmpty}
+use Rattle.target_defs.specs.Family.{Address, Family, IsEmpty}
 use Rattle.fabric_core.specs.Array.{queues_at, room_at}
 
 -- what contracts see of it

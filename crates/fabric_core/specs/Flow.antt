@@ -4,7 +4,7 @@ use Rattle.std.specs.Prelude.{ℕ, zero, suc, ◌≡◌, refl, ◌≤◌, ◌<�
 use Rattle.std.specs.List.{AllByRecursion}
 use Rattle.pifo_defs.specs.Queue.{Queue}
 use Rattle.tree_defs.specs.SourceTree.{times}
-use Rattle.fabric_defs.specs.Family.{Address, Family, below}
+use Rattle.target_defs.specs.Family.{Address, Family, below}
 use Rattle.fabric_core.specs.Array.{nodes, queues_at}
 
 -- each value is a child's digit

@@ -6,8 +6,8 @@ use Rattle.std.proofs.lemmas.Bool.{eqb-true}
 use Rattle.std.proofs.lemmas.List.{map-append}
 use Rattle.tree_defs.specs.Tree.{Address, Popping, option_bind}
 use Rattle.tree_defs.specs.SourceTree.{SourceTree, pop}
-use Rattle.pcapout_core.specs.Bytes.{header_bytes, record_bytes, records_bytes}
-use Rattle.pcapout_core.proofs.BytesLaws.{records_follow}
+use Rattle.pcap_core.specs.Bytes.{header_bytes, record_bytes, records_bytes}
+use Rattle.pcap_core.proofs.BytesLaws.{records_follow}
 use Rattle.packet_defs.specs.declared.packet.Packet.{Packet}
 use Rattle.policy_defs.specs.Policy.{Policy}
 use Rattle.policy_defs.specs.Accepted.{IsAccepted}

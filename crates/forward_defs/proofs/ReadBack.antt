@@ -11,9 +11,9 @@ use Rattle.pcap_defs.specs.Reading.{Capture, packets, capture_of}
 use Rattle.pcap_defs.specs.Packet.{CapturedPacket, packet_with}
 use Rattle.pcap_defs.specs.Contents.{holds}
 use Rattle.pcapng_defs.specs.NgContents.{in_either, in_ng_capture}
-use Rattle.pcapout_core.specs.Bytes.{head_with}
-use Rattle.pcapout_core.specs.Laws.{IsWritable}
-use Rattle.pcapout_core.proofs.BytesLaws.{are_read_back}
+use Rattle.pcap_core.specs.Bytes.{head_with}
+use Rattle.pcap_core.specs.Laws.{IsWritable}
+use Rattle.pcap_core.proofs.BytesLaws.{are_read_back}
 use Rattle.policy_defs.specs.Policy.{Policy}
 use Rattle.sched_defs.specs.SourceState.{start}
 use Rattle.sched_defs.specs.Sound.{IsKnown}

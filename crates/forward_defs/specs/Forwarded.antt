@@ -2,8 +2,8 @@
 use Rattle.std.specs.Prelude.{◌≡◌, refl, ℕ, None, Some, List, [], ◌∷◌, map}
 use Rattle.pcap_defs.specs.Packet.{CapturedPacket}
 use Rattle.pcap_defs.specs.Record.{Record}
-use Rattle.pcapout_core.specs.Bytes.{file_bytes, two_packets_file}
-use Rattle.pcapout_core.specs.Laws.{record_at}
+use Rattle.pcap_core.specs.Bytes.{file_bytes, two_packets_file}
+use Rattle.pcap_core.specs.Laws.{record_at}
 use Rattle.packet_defs.specs.declared.packet.Packet.{Packet}
 use Rattle.rank_defs.specs.declared.environment.FlowKey.{FlowKey}
 use Rattle.sched_defs.specs.Events.{Outcome, Departed, Empty, Dropped}

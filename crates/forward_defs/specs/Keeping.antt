@@ -1,6 +1,6 @@
 -- What is told of outcomes one by one, by the captured bytes that are kept of packets until they leave.
 use Rattle.std.specs.Prelude.{◌≡◌, refl, ℕ, ◌/◌, ◌%◌, ◌^◌, ◌==◌, nat_lt, Bool, true, false, ◌||◌, if◌then◌else◌, Option, None, Some, List, [], ◌∷◌, ◌++◌}
-use Rattle.pcapout_core.specs.Bytes.{header_bytes, record_bytes}
+use Rattle.pcap_core.specs.Bytes.{header_bytes, record_bytes}
 use Rattle.policy_defs.specs.Policy.{Policy}
 use Rattle.policy_defs.specs.Accepted.{IsAccepted}
 use Rattle.sched_defs.specs.SourceState.{start}

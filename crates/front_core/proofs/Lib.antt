@@ -1,1 +1,2 @@
 pub mod CatchLaws
+pub mod StoppedLaws

@@ -1,8 +1,34 @@
-//! What stands between a person and the replayer: command lines, a sink that keeps the line of a fault back, and messages.
-//! Begin with specs/Catching.antt.
+//! What stands between a person and the replayer: command lines, a sink that keeps the line of a fault back, messages, and the
+//! one call. Begin with specs/Front.antt and specs/Catching.antt.
 #![tactic(auto)]
 
+mod asked;
+mod captures;
 mod catching;
+mod causes;
+mod fault;
 mod fault_line;
+mod files;
+mod front;
+mod help;
+mod lines;
+mod mistake;
+mod mistakes;
+mod names;
+mod near;
+mod say;
+mod scan;
+mod statements;
+mod tell;
 
+pub use asked::{Asked, Request, ask};
+pub use captures::capture_kind;
 pub use catching::Catching;
+pub use fault::{Fault, fault_in};
+pub use files::{file_of, is_text};
+pub use front::{front_caught, front_run};
+pub use help::{help_of, help_of_all};
+pub use mistake::Mistake;
+pub use mistakes::tell_mistake;
+pub use names::{COMMANDS, OPTIONS, TAPS, argument_of, form_of};
+pub use tell::{tell_fault, tell_status};

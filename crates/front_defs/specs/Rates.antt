@@ -3,7 +3,7 @@ use Rattle.std.specs.Prelude.{◌≡◌, refl, ℕ, ◌+◌, ◌*◌, ◌^◌, �
 use Rattle.std.specs.List.{prefix_len}
 use Rattle.std.specs.Option.{option_map_or}
 use Rattle.std.specs.Str.{bytes_eq}
-use Rattle.link_defs.specs.Link.{most_rate}
+use Rattle.sched_defs.specs.SendTime.{most_rate}
 use Rattle.text_core.specs.Decimals.{number_of}
 use Rattle.text_core.specs.Tokens.{is_digit}
 use Rattle.front_defs.specs.declared.unit.Unit.{Unit}

@@ -3,7 +3,7 @@ ghost use Rattle.std.specs.Prelude.{◌≡◌, ◌+◌, ◌*◌, ◌^◌, ◌<�
 ghost use Rattle.std.specs.List.{prefix_len};
 ghost use Rattle.text_core.specs.Tokens.{is_digit};
 ghost use Rattle.text_core.specs.Decimals.{number_of};
-ghost use Rattle.link_defs.specs.Link.{IsRate};
+ghost use Rattle.sched_defs.specs.SendTime.{IsRate};
 ghost use Rattle.front_defs.specs.Rates.{most_whole, most_digits, rate_written, whole_bytes, rate_by, rate_of_digits, rate_in};
 
 use crate::unit::{Unit, unit_of};

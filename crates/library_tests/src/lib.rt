@@ -1,9 +1,11 @@
 //! Tests of public calls that no program makes.
 #![tactic(auto)]
 
-#[cfg(test)]
+mod block;
 mod classes;
-#[cfg(test)]
+mod embed;
+mod outside;
 mod queues;
-#[cfg(test)]
+mod report;
 mod trees;
+

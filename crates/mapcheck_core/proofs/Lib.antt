@@ -20,3 +20,4 @@ pub mod EntryLines
 pub mod TextAnswers
 pub mod SomeVerdict
 mod MapRows
+pub mod ComposedImages

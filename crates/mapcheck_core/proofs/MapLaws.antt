@@ -8,7 +8,7 @@ use Rattle.tree_defs.specs.Tree as tree
 use Rattle.tree_defs.proofs.TopologyLaws.{leaf_at}
 use Rattle.tree_defs.specs.Topology.{Topology, IsBranched, IsPrefixOf}
 use Rattle.embed_defs.specs.Embedding.{IsEmbedding}
-use Rattle.embed_map_defs.specs.Preorder.{number_of}
+use Rattle.embed_defs.specs.Preorder.{number_of}
 use Rattle.mapcheck_core.specs.declared.given.Given.{Given}
 use Rattle.mapcheck_core.specs.declared.fault.MapFault.{MapFault}
 use Rattle.mapcheck_core.specs.declared.fault.MapFault.TheVariants as fault

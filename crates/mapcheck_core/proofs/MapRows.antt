@@ -2,7 +2,7 @@
 use Rattle.std.proofs.Common.{◌≡◌, ◌<◌, ◌≤◌, ◌⊎◌, zero, suc, [], ◌∷◌, inl, inr, refl, arith}
 use Rattle.tree_defs.specs.Tree.{Address, IsAddressOf, leaf, inner, none, more}
 use Rattle.tree_defs.specs.Topology.{Topology, IsPrefixOf}
-use Rattle.embed_map_defs.specs.Preorder.{number_of}
+use Rattle.embed_defs.specs.Preorder.{number_of}
 use Rattle.mapcheck_core.specs.declared.given.Given.{Given}
 use Rattle.mapcheck_core.specs.declared.fault.MapFault.TheVariants as fault
 use Rattle.mapcheck_core.specs.GivenMaps.{image_of, IsOutside, MissesLeaf, KeepsPrefix, Breaks, outside, root, leaf as leaf_breaks, prefix}

@@ -4,7 +4,7 @@ use Rattle.std.proofs.lemmas.Bool.{cases_Bool, ltb-true, ltb-false, lt-ltb, le-l
 use Rattle.tree_defs.specs.Tree.{leaf, inner, Trees, none, more, Address, subtree, subtree_in, nodes, nodes_below}
 use Rattle.tree_defs.specs.Topology.{Topology, IsBranched, AreBranched}
 use Rattle.tree_core.proofs.NewTrees.{are_branched}
-use Rattle.embed_map_defs.specs.Preorder.{number_of, number_below}
+use Rattle.embed_defs.specs.Preorder.{number_of, number_below}
 use Rattle.mapcheck_core.specs.Numbers.{span_at, span_below}
 
 pub some_same : (t u : Topology) → Some t ≡ Some u → t ≡ u

@@ -5,7 +5,7 @@ use Rattle.std.proofs.lemmas.Bool.{leb-true, ltb-true, le-leb, lt-ltb, and_parts
 use Rattle.tree_defs.specs.Tree.{leaf, inner, Address, subtree, nodes, IsAddressOf, LeadsToLeaf}
 use Rattle.tree_defs.specs.Topology.{Topology, IsBranched, after, IsPrefixOf}
 use Rattle.tree_defs.proofs.TopologyLaws.{leaf_at, leads_to, after-append, after-is}
-use Rattle.embed_map_defs.specs.Preorder.{number_of}
+use Rattle.embed_defs.specs.Preorder.{number_of}
 use Rattle.mapcheck_core.specs.Numbers.{span_at, is_address, is_leaf, is_leaf_at}
 use Rattle.mapcheck_core.specs.Checks as check
 use Rattle.mapcheck_core.proofs.NumberLaws.{at_number, number_inside, one_address, span_is, part_branched, single_is_leaf, part_of_part, number_in_part}

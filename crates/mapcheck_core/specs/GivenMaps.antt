@@ -3,7 +3,7 @@ use Rattle.std.specs.Prelude.{◌≡◌, ℕ, ◌<◌, ◌≤◌, ◌⊎◌, ◌
 use Rattle.tree_defs.specs.Tree.{Address, IsAddressOf, LeadsToLeaf, nodes, depth, most_nodes, most_levels}
 use Rattle.tree_defs.specs.Topology.{Topology, IsPrefixOf, IsBranched}
 use Rattle.embed_defs.specs.Embedding.{IsEmbedding}
-use Rattle.embed_map_defs.specs.Preorder.{number_of, image_in}
+use Rattle.embed_defs.specs.Preorder.{number_of, image_in}
 use Rattle.mapcheck_core.specs.declared.given.Given.{Given}
 use Rattle.mapcheck_core.specs.declared.fault.MapFault.{MapFault}
 use Rattle.mapcheck_core.specs.declared.fault.MapFault.TheVariants as fault

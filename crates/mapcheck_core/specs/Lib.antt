@@ -9,3 +9,4 @@ pub mod MapTexts
 pub mod TreeTexts
 pub mod TreeReading
 pub mod Known
+pub mod Composition

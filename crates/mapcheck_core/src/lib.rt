@@ -1,7 +1,9 @@
-//! A given topology and a map into it as texts, and whether the map is an embedding. Begin with specs/GivenMaps.antt.
+//! A given topology and a map into it as texts, whether the map is an embedding, and where it goes in a target. Begin with
+//! specs/GivenMaps.antt and specs/Composition.antt.
 #![tactic(auto)]
 
 mod check;
+mod composition;
 mod entry;
 mod fault;
 mod given;
@@ -13,6 +15,7 @@ mod tree_fault;
 mod tree_text;
 
 pub use check::check_map;
+pub use composition::compose;
 pub use fault::MapFault;
 pub use given::Given;
 pub use map_text::{MOST_MAP_BYTES, read_map};

@@ -3,3 +3,5 @@ pub mod Rest
 pub mod Frames
 pub mod Readers
 pub mod Left
+pub mod Bytes
+pub mod Laws

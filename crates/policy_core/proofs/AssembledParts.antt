@@ -25,29 +25,29 @@ use Rattle.tree_graph.specs.Descent.{times}
 use Rattle.tree_graph.specs.Row.{Row, row, row_at, nodes_of}
 use Rattle.tree_graph.specs.Preorder.{Numbered, rows, IsTreeBelow, IsSound}
 use Rattle.tree_graph.proofs.GrowthLemmas.{length-rows}
-use Rattle.policy_places.specs.Labels.{node_numbered, nodes_at}
-use Rattle.policy_places.specs.Homes.{IsHome, AreHomes, classes_at}
-use Rattle.policy_places.specs.Laws.{AreValid, IsNodeTree}
-use Rattle.policy_places.proofs.TreeAgreement.{nodes-agree}
-use Rattle.policy_places.proofs.Classes.{classes-of, names-classes}
-use Rattle.policy_places.proofs.ResolvedTrees.{node-tree}
-use Rattle.policy_places.proofs.Shape.{topology-map}
-use Rattle.policy_places.proofs.AcceptedPolicies.{acceptable}
-use Rattle.policy_places.proofs.BuiltIns.{built-in}
-use Rattle.policy_places.proofs.AcceptedStatements.{root-there}
+use Rattle.policy_core.specs.Labels.{node_numbered, nodes_at}
+use Rattle.policy_core.specs.Homes.{IsHome, AreHomes, classes_at}
+use Rattle.policy_core.specs.PlaceLaws.{AreValid, IsNodeTree}
+use Rattle.policy_core.proofs.TreeAgreement.{nodes-agree}
+use Rattle.policy_core.proofs.LeafClasses.{classes-of, names-classes}
+use Rattle.policy_core.proofs.ResolvedTrees.{node-tree}
+use Rattle.policy_core.proofs.Shape.{topology-map}
+use Rattle.policy_core.proofs.AcceptedPolicies.{acceptable}
+use Rattle.policy_core.proofs.BuiltIns.{built-in}
+use Rattle.policy_core.proofs.AcceptedStatements.{root-there}
 use Rattle.policy_rules.proofs.Places.{found, place-within}
-use Rattle.policy_places.proofs.HomePasses.{length-graph}
-use Rattle.policy_places.proofs.HomeLaws.{length-nodes}
-use Rattle.policy_places.proofs.InverseNumbers.{node-within}
-use Rattle.policy_programs.specs.Known.{known_programs}
-use Rattle.policy_family.proofs.NodeNames.{named}
+use Rattle.policy_core.proofs.HomePasses.{length-graph}
+use Rattle.policy_core.proofs.HomeLaws.{length-nodes}
+use Rattle.policy_core.proofs.InverseNumbers.{node-within}
+use Rattle.policy_statements.specs.Known.{known_programs}
+use Rattle.policy_core.proofs.FamilyNames.{named}
 use Rattle.policy_core.specs.declared.parts.Station.{Station}
 use Rattle.policy_core.specs.declared.parts.Class.{Class}
 use Rattle.policy_core.specs.Numbering.{nodes_from, address_at}
 use Rattle.policy_core.specs.Parts.{resolved, tree_of, node_of, station_at, no_station, class_in, HaveLeaves, HaveStations, HasCatchAll}
 use Rattle.policy_core.specs.Made.{Made, made, made_of, nodes_told}
 use Rattle.policy_core.proofs.FewClasses.{few-classes, catch-all}
-use Rattle.policy_core.proofs.Numbers.{address_at-topology, topology_of-nodes}
+use Rattle.policy_core.proofs.NumberedAddresses.{address_at-topology, topology_of-nodes}
 use Rattle.policy_core.proofs.Rows.{row-numbered}
 use Rattle.policy_core.proofs.RowTrees.{rows-told}
 

@@ -6,7 +6,7 @@ use Rattle.tree_defs.specs.Tree.{Address, IsAddressOf}
 use Rattle.policy_defs.specs.Policy.{Policy, Node, node_at, name_at}
 use Rattle.policy_defs.specs.Numbers.{number_at}
 use Rattle.policy_core.specs.Numbering.{address_at}
-use Rattle.policy_core.proofs.Numbers.{IsNumber, number-undone}
+use Rattle.policy_core.proofs.NumberedAddresses.{IsNumber, number-undone}
 
 named : (found : Option Node) (name : List ℕ) → IsSomeAnd found (λ n. name ≡ n.name) → name ≡ option_map_or (λ (n : Node). n.name) found []
 named None name h = absurd h

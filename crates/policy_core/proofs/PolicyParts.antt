@@ -20,7 +20,7 @@ use Rattle.policy_core.specs.declared.parts.Station.{Station}
 use Rattle.policy_core.specs.declared.parts.Class.{Class}
 use Rattle.policy_core.specs.Numbering.{address_at}
 use Rattle.policy_core.specs.Parts.{resolved, tree_of, node_of, station_at, no_station, no_program, told, AreNumbered, IsWhole}
-use Rattle.policy_core.proofs.Numbers.{IsAddress, address-undone, address_at-topology, address-down, address-up, topology_of-nodes, node_numbered}
+use Rattle.policy_core.proofs.NumberedAddresses.{IsAddress, address-undone, address_at-topology, address-down, address-up, topology_of-nodes, node_numbered}
 use Rattle.policy_core.proofs.Rows.{IsRowAt, row-numbered}
 
 pub all-at : {X : Type 0} (P : X → Type 0) (xs : List X) (i : ℕ) (d : X) → AllByRecursion P xs → i < length xs → P (get_or xs i d)

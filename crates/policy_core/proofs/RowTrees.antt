@@ -8,7 +8,7 @@ use Rattle.tree_graph.specs.Row.{Row, row, row_at}
 use Rattle.tree_graph.specs.Preorder.{rows, rows_below}
 use Rattle.tree_graph.proofs.GrowthLemmas.{length-rows}
 use Rattle.policy_core.specs.Numbering.{nodes_from, nodes_from_below}
-use Rattle.policy_places.specs.Labels.{map_tree, map_trees}
+use Rattle.policy_core.specs.Labels.{map_tree, map_trees}
 
 -- a function of numbers agrees with one of nodes on rows, the first of which has number n
 abbrev Agrees : {Q : Type 0} → (ℕ → Q) → (ℕ → Q) → ℕ → List Row → ℕ → Type 0

@@ -7,7 +7,7 @@ use Rattle.tree_graph.specs.Row.{Row, row, row_at}
 use Rattle.tree_graph.specs.Preorder.{starts, rows, rows_below}
 use Rattle.tree_graph.proofs.GrowthLemmas.{length-rows}
 use Rattle.policy_core.specs.Numbering.{address_at, sibling_of, address_below}
-use Rattle.policy_core.proofs.Numbers.{sibling-first, way-first, sibling-later, way-later}
+use Rattle.policy_core.proofs.NumberedAddresses.{sibling-first, way-first, sibling-later, way-later}
 
 -- a row has this address, and a child at each digit that leads on
 pub record IsRowAt (t : Tree ℕ) (a w : Address) (r : Row) : Type 0 where

@@ -6,7 +6,7 @@ use Rattle.policy_rules.specs.Entries.{entries_of}
 use Rattle.policy_rules.specs.Names.{before}
 use Rattle.policy_rules.specs.Clauses.{NoLine, IsUnknown, is_known}
 use Rattle.policy_rules.proofs.Lines.{entry_of, within-entries, entry-at}
-use Rattle.policy_places.proofs.AcceptedStatements.{known-at}
+use Rattle.policy_core.proofs.AcceptedStatements.{known-at}
 
 -- what a line uses is declared
 pub known-here : (lines : List (ℕ × Statement)) (i : ℕ) (l : ℕ × Statement) → NoLine (IsUnknown (entries_of lines)) (entries_of lines) → i < length lines → l ≡ get_or lines i l

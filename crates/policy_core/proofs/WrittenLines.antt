@@ -9,7 +9,7 @@ use Rattle.policy_text_defs.proofs.ValidLaws.{IsWritten_IsValid}
 use Rattle.policy_text.specs.Entries.{IsRising, AreWritten}
 use Rattle.policy_rules.specs.Entries.{entries_of, AreRising}
 use Rattle.policy_rules.proofs.Lines.{entry_of, length-entries}
-use Rattle.policy_places.specs.Laws.{AreValid}
+use Rattle.policy_core.specs.PlaceLaws.{AreValid}
 
 no-line : ℕ × Statement
 no-line = (0, statement.Version 1)

@@ -7,7 +7,7 @@ use Rattle.tree_graph.specs.Preorder.{rows}
 use Rattle.policy_defs.specs.Policy.{Node}
 use Rattle.policy_defs.specs.Numbers.{number_at}
 use Rattle.policy_core.specs.Numbering.{address_at, nodes_from}
-use Rattle.policy_places.specs.Labels.{map_tree}
+use Rattle.policy_core.specs.Labels.{map_tree}
 
 -- the number at an address stands for it
 pub record IsNumberOf (tree : Tree Node) (a : Address) (n : ℕ) : Type 0 where

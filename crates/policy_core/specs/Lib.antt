@@ -5,3 +5,12 @@ pub mod Laws
 pub mod Samples
 pub mod Made
 pub mod Office
+pub mod Lines
+pub mod FamilyLaws
+pub mod Example
+pub mod Labels
+pub mod Homes
+pub mod Numbers
+pub mod PlaceLaws
+pub mod PlaceSamples
+pub mod TextLaws

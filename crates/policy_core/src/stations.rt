@@ -7,14 +7,14 @@ ghost use Rattle.policy_rules.specs.Entries.{entries_of, AreRising};
 ghost use Rattle.policy_rules.specs.Graph.{nodes_in};
 ghost use Rattle.policy_rules.specs.Names.{declared, transaction_name};
 ghost use Rattle.policy_rules.specs.Resolved.{marks_of};
-ghost use Rattle.policy_programs.specs.Known.{known_programs, WhereDeclared};
+ghost use Rattle.policy_statements.specs.Known.{known_programs, WhereDeclared};
 ghost use Rattle.policy_core.specs.Made.{nodes_told, IsPlaceOf, IsStationOf, AreMore};
 ghost use Rattle.policy_core.specs.Parts.{HavePrograms, told};
 
 use crate::parts::{Marks, Station};
 use list_core::{List, Name};
-use policy_names::Names;
-use policy_programs::program_place;
+use policy_statements::Names;
+use policy_statements::program_place;
 use policy_text_defs::{Attrs, Statement};
 use std::alloc::{AllocError, Global};
 

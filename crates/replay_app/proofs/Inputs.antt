@@ -21,12 +21,12 @@ use Rattle.policy_rules.proofs.OneFault.{one-fault, accepted-fault}
 use Rattle.policy_text.specs.Codes.{code_of as text_code, line_of as text_line}
 use Rattle.policy_text.proofs.EntryLaws.{Rises, entries_rise}
 use Rattle.policy_text.proofs.TextSteps.{entries_no_cause, one_cause}
-use Rattle.policy_laws.proofs.OnePolicy.{one-policy}
+use Rattle.policy_core.proofs.OnePolicy.{one-policy}
 use Rattle.events_core.specs.Script as script
 use Rattle.events_core.proofs.ScriptLaws.{IsScript-one, IsFirstFault-one, IsScript-IsFirstFault}
 use Rattle.target_core.specs.declared.target.Target.{Target}
 use Rattle.target_core.proofs.OneTarget.{one_answer-holds}
-use Rattle.embed_defs.proofs.Laws.{canonical_placements_are_one-holds}
+use Rattle.embed_defs.proofs.EmbeddingLaws.{canonical_placements_are_one-holds}
 use Rattle.replay_app.specs.Policies.{IsTextRefused, at_fault, IsPolicyRefused, text_refused, statements_refused, Judged, IsPolicy}
 use Rattle.replay_app.specs.Scripts as scripts
 use Rattle.replay_app.specs.Targets.{IsTargetRefused, IsTargetOf, HasNoRoom, IsPlacement}

@@ -8,7 +8,7 @@ use Rattle.target_defs.proofs.LevelLaws.{heights_in_range-holds}
 use Rattle.embed_defs.specs.Embedding.{HasEmbedding}
 use Rattle.embed_defs.specs.Laws.{AreWide}
 use Rattle.embed_defs.specs.Need.{AreNeedsOf, HoldsNeeds, FitsBelow, IsLeast}
-use Rattle.embed_defs.proofs.Laws.{embeddings_need_room-holds}
+use Rattle.embed_defs.proofs.EmbeddingLaws.{embeddings_need_room-holds}
 use Rattle.policy_rules.specs.Resolved.{Resolved, IsResolved}
 use Rattle.policy_core.specs.Office.{office_lines}
 use Rattle.policy_core.proofs.OfficeTree.{offices-alike}

@@ -16,11 +16,11 @@ use Rattle.policy_text_defs.specs.Valid.{IsValid}
 use Rattle.policy_text.proofs.EntryLaws.{numbered_rises}
 use Rattle.policy_rules.specs.Entries.{AreRising}
 use Rattle.policy_rules.specs.Resolved.{Resolved, IsResolved}
-use Rattle.policy_places.specs.Laws.{AreValid}
+use Rattle.policy_core.specs.PlaceLaws.{AreValid}
 use Rattle.policy_core.specs.Office.{office_statements, office_lines}
 use Rattle.policy_core.proofs.OfficeStatements.{office-valid, office-accepted}
-use Rattle.policy_laws.proofs.OnePolicy.{one-policy}
-use Rattle.policy_laws.proofs.SomePolicy.{a_policy}
+use Rattle.policy_core.proofs.OnePolicy.{one-policy}
+use Rattle.policy_core.proofs.SomePolicy.{a_policy}
 use Rattle.sched_embedded.specs.Fabrics.{FabricRun, Leaves, LeavesPart}
 use Rattle.sched_capture.specs.Loads.{load_counts, load_through}
 use Rattle.sched_capture.specs.declared.load.LoadCounts.{LoadCounts}

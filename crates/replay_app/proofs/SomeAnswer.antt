@@ -19,9 +19,9 @@ use Rattle.policy_text_defs.specs.Ranges.{most_text}
 use Rattle.policy_text_defs.specs.Sense.{Entry}
 use Rattle.policy_text_defs.specs.Text.{Fault, not_text, syntax_fault, shaping, HasEntries, IsFirstFault}
 use Rattle.policy_text.specs.declared.fault.TextFault.TheVariants as fault
-use Rattle.policy_laws.proofs.FaultlessStatements.{accepted}
-use Rattle.policy_laws.proofs.SomePolicy.{a_policy}
-use Rattle.policy_laws.proofs.TextAnswers.{an_answer, sound_entries}
+use Rattle.policy_core.proofs.FaultlessStatements.{accepted}
+use Rattle.policy_core.proofs.SomePolicy.{a_policy}
+use Rattle.policy_core.proofs.TextAnswers.{an_answer, sound_entries}
 use Rattle.policy_rules.specs.Accepted.{AreAccepted}
 use Rattle.policy_rules.specs.Codes.{code_of, line_of}
 use Rattle.events_core.specs.Script.{most_bytes, IsScript, code_of as script_code, place_of as script_place}

@@ -6,12 +6,12 @@ use Rattle.tree_defs.specs.Topology.{Topology, topology_of}
 use Rattle.tree_defs.proofs.Shapes.{nodes-topology}
 use Rattle.policy_defs.specs.Policy.{Policy, name_at}
 use Rattle.embed_defs.specs.Images.{image_map}
-use Rattle.embed_map_defs.specs.Preorder.{number_of, tree_in, HoldsImages}
-use Rattle.embed_map_defs.proofs.PreorderTrees.{trees_in_preorder_hold_the_images}
-use Rattle.embed_map_defs.proofs.TreesOfImages.{trees_of_images_are_one}
+use Rattle.embed_defs.specs.Preorder.{number_of, tree_in, HoldsImages}
+use Rattle.embed_defs.proofs.PreorderTrees.{trees_in_preorder_hold_the_images}
+use Rattle.embed_defs.proofs.TreesOfImages.{trees_of_images_are_one}
 use Rattle.embed_plan.specs.Preorder.{addresses}
 use Rattle.embed_plan.proofs.PreorderAddresses.{count}
-use Rattle.embed_given.specs.Composition.{IsComposed}
+use Rattle.mapcheck_core.specs.Composition.{IsComposed}
 use Rattle.mapcheck_core.specs.declared.given.Given.{Given}
 use Rattle.mapcheck_core.specs.declared.fault.MapFault.{MapFault}
 use Rattle.mapcheck_core.specs.GivenMaps.{IsGivenFor, image_of, IsVerdict, Breaks, outside, root, leaf, prefix}

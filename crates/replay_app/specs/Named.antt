@@ -1,6 +1,6 @@
 -- The files that words name.
 use Rattle.std.specs.Prelude.{◌≤◌}
-use Rattle.link_defs.specs.Link.{IsRate}
+use Rattle.sched_defs.specs.SendTime.{IsRate}
 use Rattle.tap_core.specs.Names.{none_named}
 use Rattle.tap_core.specs.declared.watch.Named.{Named}
 use Rattle.sched_run.specs.Drawings.{most_load}

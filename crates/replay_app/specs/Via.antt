@@ -6,7 +6,7 @@ use Rattle.tree_defs.specs.Topology.{Topology, topology_of}
 use Rattle.policy_defs.specs.Policy.{Policy, name_at, one_leaf}
 use Rattle.embed_defs.specs.Embedding.{IsEmbedding}
 use Rattle.embed_plan.specs.Preorder.{addresses}
-use Rattle.embed_given.specs.Composition.{IsComposed}
+use Rattle.mapcheck_core.specs.Composition.{IsComposed}
 use Rattle.mapcheck_core.specs.declared.given.Given.{Given}
 use Rattle.mapcheck_core.specs.declared.fault.MapFault.{MapFault}
 use Rattle.mapcheck_core.specs.declared.fault.MapFault.TheVariants as fault

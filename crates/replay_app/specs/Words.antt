@@ -4,7 +4,7 @@ use Rattle.std.specs.List.{AllByRecursion}
 use Rattle.std.specs.Option.{option_and_then, option_map_or}
 use Rattle.std.specs.Str.{bytes_eq}
 use Rattle.std.specs.declared.alloc.Global.{Global}
-use Rattle.link_defs.specs.Link.{most_rate}
+use Rattle.sched_defs.specs.SendTime.{most_rate}
 use Rattle.text_core.specs.Decimals.{number_of}
 use Rattle.rank_defs.specs.Programs.{max_rank}
 use Rattle.sched_run.specs.Drawings.{most_load}

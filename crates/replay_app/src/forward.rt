@@ -4,7 +4,7 @@ ghost use Rattle.outside_core.specs.Faults.{Rose};
 ghost use Rattle.tree_defs.specs.Tree.{SameShape};
 ghost use Rattle.tree_defs.specs.Topology.{topology_of, complete};
 ghost use Rattle.target_defs.specs.Target.{IsInRange};
-ghost use Rattle.link_defs.specs.Link.{IsRate};
+ghost use Rattle.sched_defs.specs.SendTime.{IsRate};
 ghost use Rattle.embed_defs.specs.Images.{image_map};
 ghost use Rattle.embed_defs.specs.Embedding.{IsEmbedding};
 ghost use Rattle.sched_capture.specs.Placements.{laid_by};

@@ -30,7 +30,7 @@ use crate::topologies::read_topology;
 use crate::words::ViaFiles;
 use crate::writing::{refuse, refuse_behind};
 use embed_core::{EmbedFault, Target, embed};
-use embed_given::compose;
+use mapcheck_core::compose;
 use fabric_core::Fabric;
 use mapcheck_core::{Given, MapFault};
 use outside_core::{Shelf, Sink, Stop};

@@ -1,6 +1,6 @@
 //! The words of the commands.
 ghost use Rattle.std.specs.Prelude.{◌≡◌, ◌≤◌, IfSome, IsFalse, IsTrue, MatchOption, option_map};
-ghost use Rattle.link_defs.specs.Link.{IsRate};
+ghost use Rattle.sched_defs.specs.SendTime.{IsRate};
 ghost use Rattle.sched_run.specs.Drawings.{most_load};
 ghost use Rattle.replay_app.specs.Behind.{UsesNoFabric};
 ghost use Rattle.replay_app.specs.Words.{form_in, rate_of, number_within, load_of, three_words, named_in, last_rate, pacing_by, via_by, form_of, no_form, texts};

@@ -2,7 +2,7 @@
 use Rattle.std.proofs.Common.{◌≡◌, ◌+◌, ℕ, Option, None, Some, Result, Ok, Err, List, ap, ◌∙◌, subst, arith}
 use Rattle.std.specs.Prelude.{IfSome, OnOk, OnErr}
 use Rattle.embed_defs.specs.Images.{image_map}
-use Rattle.embed_lift_defs.specs.Lift.{IsLift}
+use Rattle.embed_defs.specs.Lift.{IsLift}
 use Rattle.pcap_defs.specs.Contents.{FileContents, no_capture, holds}
 use Rattle.pcapng_defs.specs.NgContents.{in_file}
 use Rattle.policy_defs.specs.Policy.{Policy}

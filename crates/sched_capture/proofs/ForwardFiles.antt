@@ -10,7 +10,7 @@ use Rattle.outside_core.specs.declared.stop.Stop.TheVariants.{Source, Sink, Memo
 use Rattle.outside_core.proofs.FaultLaws.{rose_after}
 use Rattle.outside_core.proofs.WrittenLaws.{appended_in_turn, appended_nothing, prefix_in_turn, prefix_of_longer, prefix_of_nothing}
 use Rattle.policy_defs.specs.Policy.{Policy}
-use Rattle.pcapout_core.specs.Bytes.{header_bytes}
+use Rattle.pcap_core.specs.Bytes.{header_bytes}
 use Rattle.sched_defs.specs.SourceState.{start}
 use Rattle.sched_defs.specs.Events.{outcomes}
 use Rattle.sched_run.proofs.StepLaws.{on_err_given}

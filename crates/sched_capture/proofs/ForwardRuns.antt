@@ -17,8 +17,8 @@ use Rattle.sched_defs.specs.Packets.{Left, Captured, AreThere}
 use Rattle.sched_defs.specs.declared.ending.Ending.{Ending}
 use Rattle.sched_defs.proofs.Soundness.{sound_start}
 use Rattle.sched_defs.proofs.Runs.{outcomes-append}
-use Rattle.pcapout_core.specs.Bytes.{records_bytes}
-use Rattle.pcapout_core.proofs.BytesLaws.{records_follow}
+use Rattle.pcap_core.specs.Bytes.{records_bytes}
+use Rattle.pcap_core.proofs.BytesLaws.{records_follow}
 use Rattle.forward_defs.specs.Sendings.{Sending, sending_at, sendings, up_to_late, has_late}
 use Rattle.forward_defs.specs.Forwarded.{sent_record}
 use Rattle.forward_defs.specs.Keeping.{keeps_nothing, kept_behind, records_of}
@@ -32,9 +32,9 @@ use Rattle.sched_run.specs.Turns.{AreFirst}
 use Rattle.sched_run.specs.Courses.{link_agenda, IsCourse, CoursesUnless, CoursesAmid}
 use Rattle.sched_run.proofs.StartLaws.{start_can_begin}
 use Rattle.sched_run.proofs.MadeEvents.{can_make, makes_to_last, stops_at_last}
-use Rattle.sched_forward.specs.declared.forwarding.Forwarding.{Forwarding}
-use Rattle.sched_forward.specs.Forwarding.{keeping_of, is_late_now, HoldsNothing, TellsRecords, CutsRecords}
-use Rattle.sched_forward.specs.JoinedRecords.{same_behind, same_records}
+use Rattle.sched_capture.specs.declared.forwarding.Forwarding.{Forwarding}
+use Rattle.sched_capture.specs.Forwarding.{keeping_of, is_late_now, HoldsNothing, TellsRecords, CutsRecords}
+use Rattle.sched_capture.specs.JoinedRecords.{same_behind, same_records}
 use Rattle.sched_capture.specs.Forwards.{ending_unless, sent_bytes, forward_course, forward_events}
 
 -- what such a recorder records of outcomes are records of departures, whatever the captured bytes are of which H holds

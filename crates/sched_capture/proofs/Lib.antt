@@ -9,3 +9,4 @@ pub mod ForwardRefusals
 pub mod RunnablePolicies
 pub mod PacketRanges
 pub mod FilesReadBack
+pub mod SentRecords

@@ -21,18 +21,18 @@ use Rattle.policy_rules.specs.Programs.{place, programs}
 use Rattle.policy_rules.specs.Graph.{graph_of}
 use Rattle.policy_rules.specs.Accepted.{AreAccepted}
 use Rattle.policy_rules.specs.Resolved.{Resolved, Declared, IsResolved, AreClassesOf, classes_in}
-use Rattle.policy_programs.proofs.KnownPrograms.{shaped_known}
-use Rattle.policy_family.proofs.FamilyFaults.{is-forest, is-shallow}
-use Rattle.policy_places.specs.Labels.{node_numbered, nodes_at}
-use Rattle.policy_places.specs.Laws.{IsNodeTree}
-use Rattle.policy_places.proofs.Shape.{nodes-map, depth-map}
-use Rattle.policy_places.proofs.ResolvedTrees.{node-tree}
-use Rattle.policy_places.proofs.AcceptedPolicies.{acceptable}
+use Rattle.policy_statements.proofs.KnownPrograms.{shaped_known}
+use Rattle.policy_core.proofs.FamilyFaults.{is-forest, is-shallow}
+use Rattle.policy_core.specs.Labels.{node_numbered, nodes_at}
+use Rattle.policy_core.specs.PlaceLaws.{IsNodeTree}
+use Rattle.policy_core.proofs.Shape.{nodes-map, depth-map}
+use Rattle.policy_core.proofs.ResolvedTrees.{node-tree}
+use Rattle.policy_core.proofs.AcceptedPolicies.{acceptable}
 use Rattle.policy_core.proofs.AssembledParts.{graph-few}
-use Rattle.policy_laws.specs.Laws.{HasSoundEntries}
-use Rattle.policy_laws.proofs.TextAnswers.{sound_entries}
-use Rattle.policy_laws.proofs.GraphTrees.{HasTree, tree-there}
-use Rattle.policy_laws.proofs.OneTree.{one-tree}
+use Rattle.policy_core.specs.TextLaws.{HasSoundEntries}
+use Rattle.policy_core.proofs.TextAnswers.{sound_entries}
+use Rattle.policy_core.proofs.GraphTrees.{HasTree, tree-there}
+use Rattle.policy_core.proofs.OneTree.{one-tree}
 
 -- a policy that can be run, with conditions for each of its classes
 pub record IsRunnable (policy : Resolved) : Type 0 where

@@ -12,7 +12,7 @@ use Rattle.sched_defs.specs.declared.ending.Ending.TheVariants as run
 use Rattle.sched_defs.specs.Script.{Course}
 use Rattle.sched_defs.specs.Link.{link_course}
 use Rattle.sched_defs.specs.Packets.{Left, Captured, captured_from}
-use Rattle.pcapout_core.specs.Bytes.{records_bytes}
+use Rattle.pcap_core.specs.Bytes.{records_bytes}
 use Rattle.forward_defs.specs.Sendings.{sendings, up_to_late, has_late}
 use Rattle.forward_defs.specs.Forwarded.{sent_record, forward_bytes}
 use Rattle.forward_defs.specs.OneLink.{other_link}

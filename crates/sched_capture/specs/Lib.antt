@@ -4,3 +4,5 @@ pub mod Loads
 pub mod Laws
 pub mod Forwards
 pub mod Rows
+pub mod Forwarding
+pub mod JoinedRecords

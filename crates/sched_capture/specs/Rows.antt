@@ -5,7 +5,7 @@ use Rattle.pcap_defs.specs.Packet.{CapturedPacket}
 use Rattle.pcap_defs.specs.Reading.{capture_of, head_of, front_of, records_from}
 use Rattle.pcap_defs.specs.Contents.{FileContents, no_capture, holds}
 use Rattle.pcapng_defs.specs.NgContents.{in_file}
-use Rattle.pcapout_core.specs.Bytes.{header_bytes, two_packets_file}
+use Rattle.pcap_core.specs.Bytes.{header_bytes, two_packets_file}
 use Rattle.packet_defs.specs.declared.packet.Packet.{Packet}
 use Rattle.policy_defs.specs.Policy.{no_marks, one_leaf}
 use Rattle.policy_rules.specs.Resolved.{Resolved}

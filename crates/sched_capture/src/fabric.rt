@@ -8,7 +8,7 @@ ghost use Rattle.tree_defs.specs.Topology.{topology_of, complete};
 ghost use Rattle.target_defs.specs.Target.{IsInRange};
 ghost use Rattle.embed_defs.specs.Images.{image_map};
 ghost use Rattle.embed_defs.specs.Embedding.{IsEmbedding};
-ghost use Rattle.fabric_defs.specs.Family.{SameQueues};
+ghost use Rattle.target_defs.specs.Family.{SameQueues};
 ghost use Rattle.sched_defs.specs.SourceState.{start};
 ghost use Rattle.sched_defs.specs.Events.{Event, outcomes};
 ghost use Rattle.sched_packets.specs.AnyArrivals.{policy_of, given_by, left_of, IsReady};

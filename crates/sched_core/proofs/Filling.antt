@@ -20,7 +20,7 @@ use Rattle.policy_defs.specs.Policy.{Policy, Node, node_at, limit_at}
 use Rattle.policy_defs.specs.Accepted.{IsAccepted}
 use Rattle.policy_defs.specs.Numbers.{number_at}
 use Rattle.policy_core.specs.Numbering.{address_at, HasAt}
-use Rattle.policy_core.proofs.Numbers.{IsNumber, number-undone}
+use Rattle.policy_core.proofs.NumberedAddresses.{IsNumber, number-undone}
 use Rattle.sched_defs.specs.SourceState.{SourceState, start, class_of, arrival_ranks, filled, pushed, left_with}
 use Rattle.sched_defs.specs.Sound.{IsSound}
 use Rattle.sched_defs.proofs.Soundness.{class_is_ready, leads_in}

@@ -7,7 +7,7 @@ use Rattle.policy_defs.specs.Numbers.{number_at}
 use Rattle.policy_core.specs.declared.parts.Class.{Class}
 use Rattle.policy_core.specs.Numbering.{address_at}
 use Rattle.policy_core.specs.Parts.{class_in}
-use Rattle.policy_core.proofs.Numbers.{IsAddress, address-undone}
+use Rattle.policy_core.proofs.NumberedAddresses.{IsAddress, address-undone}
 
 -- it is the number at its address
 pub leaf-number : (tree : Tree Node) (all : List Class) (i : ℕ) (c : Class) (d : Aimed) → i < length all → AllByRecursion (λ x. x.leaf < nodes tree) all

@@ -1,3 +1,17 @@
 pub mod LeafNumbers
 pub mod Filling
 pub mod PoppedPackets
+pub mod TreeParts
+pub mod StateUpdates
+pub mod Levels
+pub mod RanksTold
+pub mod NodeSteps
+pub mod WayVisits
+pub mod StepsMade
+pub mod WaypointsMade
+pub mod ClassLeaves
+pub mod ChildCounts
+pub mod RoomLaws
+pub mod FirstStates
+pub mod RootWays
+pub mod FairPolicy

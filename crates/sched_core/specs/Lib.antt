@@ -5,3 +5,8 @@ pub mod Arrivals
 pub mod Departures
 pub mod Own
 pub mod Direct
+pub mod Kept
+pub mod Waypoints
+pub mod Ways
+pub mod Agreement
+pub mod Samples

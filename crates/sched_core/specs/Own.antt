@@ -5,7 +5,7 @@ use Rattle.tree_defs.specs.SourceTree.{SourceTree, pop, size}
 use Rattle.policy_defs.specs.Policy.{Policy}
 use Rattle.policy_defs.specs.Numbers.{number_at}
 use Rattle.sched_defs.specs.SourceState.{SourceState, filled}
-use Rattle.sched_nodes.specs.Agreement.{policy_of, AreStates}
+use Rattle.sched_core.specs.Agreement.{policy_of, AreStates}
 use Rattle.sched_core.specs.declared.own.Own.{Own}
 use Rattle.sched_held.specs.Held.{held_at}
 use Rattle.sched_core.specs.Standing.{StandForOne, ForEachState}

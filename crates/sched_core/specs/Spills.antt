@@ -1,7 +1,7 @@
 -- At how many nodes of a target the pushes of events spill.
 use Rattle.std.specs.Prelude.{ℕ, ◌+◌, if◌then◌else◌, Option, None, Some, option_map, List, [], ◌∷◌}
 use Rattle.tree_defs.specs.Tree.{Tree, Address}
-use Rattle.embed_lift_defs.specs.Spilling.{push_spills}
+use Rattle.embed_defs.specs.Spilling.{push_spills}
 use Rattle.packet_defs.specs.declared.packet.Packet.{Packet}
 use Rattle.policy_defs.specs.Policy.{Policy}
 use Rattle.sched_defs.specs.SourceState.{SourceState, class_of, arrival_ranks, is_full, arrived, departed}

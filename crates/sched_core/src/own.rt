@@ -8,7 +8,7 @@ ghost use Rattle.policy_defs.specs.Accepted.{IsAccepted};
 ghost use Rattle.sched_defs.specs.SourceState.{SourceState, start, class_of, arrival_ranks, is_full, dropped, pushed, departed};
 ghost use Rattle.sched_defs.specs.Sound.{IsKnown};
 ghost use Rattle.sched_defs.specs.Events.{CanArrive};
-ghost use Rattle.sched_nodes.specs.Agreement.{HasFlowRoom};
+ghost use Rattle.sched_core.specs.Agreement.{HasFlowRoom};
 ghost use Rattle.sched_core.specs.Arrivals.{leaf_number};
 ghost use Rattle.sched_core.specs.Departures.{next_departed};
 ghost use Rattle.sched_held.specs.Held.{held_at};
@@ -17,7 +17,7 @@ use packet_defs::{Departed, Packet};
 use policy_core::Policy;
 use sched_defs::BLANK;
 use sched_held::Held;
-use sched_nodes::Stations;
+use crate::stations::Stations;
 use std::alloc::{AllocError, Global};
 use tree_core::Taken;
 

@@ -9,3 +9,4 @@ pub mod Leaving
 pub mod Courses
 pub mod Drains
 pub mod Links
+pub mod SendTimes

@@ -6,7 +6,7 @@ use Rattle.tree_defs.specs.SourceTree.{size}
 use Rattle.packet_defs.specs.declared.packet.Packet.{Packet}
 use Rattle.policy_defs.specs.Policy.{Policy}
 use Rattle.policy_defs.specs.Accepted.{IsAccepted}
-use Rattle.link_defs.specs.Link.{send_time}
+use Rattle.sched_defs.specs.SendTime.{send_time}
 use Rattle.sched_defs.specs.SourceState.{SourceState, Leaver, class_of, arrival_ranks, is_full, arrived, departed, leaver}
 use Rattle.sched_defs.specs.Sound.{IsSound}
 use Rattle.sched_defs.specs.Events.{Event, Arrive, Depart, Outcome, Arrived, Dropped, after, departure, outcome, outcomes, pushed_in, dropped_in, empty_in, CanArrive, CanMake}

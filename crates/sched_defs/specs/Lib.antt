@@ -12,3 +12,4 @@ pub mod Rows
 pub mod Link
 pub mod Pace
 pub mod LinkRows
+pub mod SendTime

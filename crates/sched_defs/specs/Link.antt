@@ -4,7 +4,7 @@ use Rattle.std.specs.Option.{option_map_or}
 use Rattle.tree_defs.specs.SourceTree.{size}
 use Rattle.packet_defs.specs.declared.packet.Packet.{Packet}
 use Rattle.policy_defs.specs.Policy.{Policy}
-use Rattle.link_defs.specs.Link.{send_time}
+use Rattle.sched_defs.specs.SendTime.{send_time}
 use Rattle.sched_defs.specs.SourceState.{SourceState, arrived, departed, leaver}
 use Rattle.sched_defs.specs.Events.{Event, Arrive, Depart}
 use Rattle.sched_defs.specs.Faults.{FaultAt}

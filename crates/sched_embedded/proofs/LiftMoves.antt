@@ -8,16 +8,16 @@ use Rattle.tree_defs.proofs.Shapes.{topology_of-same, pop-path}
 use Rattle.tree_defs.proofs.TopologyLaws.{leaf_at}
 use Rattle.tree_defs.proofs.WellFormedLaws.{IsWellFormed-push, IsWellFormed-pop}
 use Rattle.tree_core.specs.Paths.{Way}
-use Rattle.fabric_defs.specs.Family.{Family, SameQueues, Pops, push_along, pop_along}
-use Rattle.fabric_defs.specs.Spills.{spills_along}
+use Rattle.target_defs.specs.Family.{Family, SameQueues, Pops, push_along, pop_along}
+use Rattle.target_defs.specs.Spills.{spills_along}
 use Rattle.embed_defs.specs.Images.{image_map}
-use Rattle.embed_lift_defs.specs.Lift.{IsLift, StandsAt, lift_ranks, picked_ranks}
-use Rattle.embed_lift_defs.specs.Spilling.{push_spills}
-use Rattle.embed_lift_defs.specs.GoodMaps.{IsGoodMap}
-use Rattle.embed_lift_defs.specs.Laws.{Maps, IsLiftedPop, PopsAsTheTree}
-use Rattle.embed_lift_defs.proofs.LawProofs.{lifts_are_one, pushes_of_lifts_are_lifts, pops_of_lifts_are_lifted_pops, maps_stay}
-use Rattle.embed_lift_defs.proofs.SpillsOfLifts.{spills_of_lifts}
-use Rattle.embed_lift_defs.proofs.PathsReadBack.{nodes_have_images_of_their_own, picked_ranks_are_those_lifted}
+use Rattle.embed_defs.specs.Lift.{IsLift, StandsAt, lift_ranks, picked_ranks}
+use Rattle.embed_defs.specs.Spilling.{push_spills}
+use Rattle.embed_defs.specs.GoodMaps.{IsGoodMap}
+use Rattle.embed_defs.specs.LiftLaws.{Maps, IsLiftedPop, PopsAsTheTree}
+use Rattle.embed_defs.proofs.LiftLawProofs.{lifts_are_one, pushes_of_lifts_are_lifts, pops_of_lifts_are_lifted_pops, maps_stay}
+use Rattle.embed_defs.proofs.SpillsOfLifts.{spills_of_lifts}
+use Rattle.embed_defs.proofs.PathsReadBack.{nodes_have_images_of_their_own, picked_ranks_are_those_lifted}
 use Rattle.embed_core.specs.Picks.{IsLeafImage}
 use Rattle.sched_embedded.specs.Laid.{Laid, HoldsLift, PopsTo}
 use Rattle.sched_embedded.proofs.MapShapes.{same_leaves}

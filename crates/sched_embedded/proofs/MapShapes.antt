@@ -6,13 +6,13 @@ use Rattle.tree_defs.specs.Topology.{Topology, topology_of, topologies_of, compl
 use Rattle.tree_defs.proofs.Shapes.{topology_of-same, topology_of-empty, same_shape, LeadsToLeaf-topology, depth-topology}
 use Rattle.tree_defs.proofs.TopologyLaws.{leaf_at, deep_leaf}
 use Rattle.tree_defs.specs.SourceTree.{empty_tree}
-use Rattle.fabric_defs.specs.Family.{Family, IsEmpty, IsLeafAddress}
+use Rattle.target_defs.specs.Family.{Family, IsEmpty, IsLeafAddress}
 use Rattle.embed_defs.specs.Images.{image_at, image_map}
 use Rattle.embed_defs.specs.Embedding.{IsEmbedding}
-use Rattle.embed_lift_defs.specs.Lift.{IsLift}
-use Rattle.embed_lift_defs.specs.GoodMaps.{IsGoodMap}
-use Rattle.embed_lift_defs.proofs.LawProofs.{empty_trees_have_empty_lifts}
-use Rattle.embed_lift_defs.proofs.EmbeddedMaps.{embeddings_are_good_maps}
+use Rattle.embed_defs.specs.Lift.{IsLift}
+use Rattle.embed_defs.specs.GoodMaps.{IsGoodMap}
+use Rattle.embed_defs.proofs.LiftLawProofs.{empty_trees_have_empty_lifts}
+use Rattle.embed_defs.proofs.EmbeddedMaps.{embeddings_are_good_maps}
 use Rattle.policy_defs.specs.Policy.{Policy}
 use Rattle.sched_defs.specs.SourceState.{SourceState}
 use Rattle.sched_defs.specs.Sound.{IsSound}

@@ -2,12 +2,12 @@
 use Rattle.std.specs.Prelude.{◌≡◌, ◌↔◌, ◌+◌, ℕ, List}
 use Rattle.tree_defs.specs.Tree.{Tree, Address}
 use Rattle.embed_defs.specs.Images.{image_map}
-use Rattle.embed_lift_defs.specs.Lift.{IsLift}
+use Rattle.embed_defs.specs.Lift.{IsLift}
 use Rattle.fabric_core.specs.declared.fabric.Fabric.{Ghosts}
 use Rattle.sched_defs.specs.SourceState.{SourceState}
 use Rattle.sched_defs.specs.Sound.{IsSound}
 use Rattle.sched_held.specs.Held.{held_at}
-use Rattle.sched_nodes.specs.Agreement.{AreStates}
+use Rattle.sched_core.specs.Agreement.{AreStates}
 use Rattle.sched_core.specs.Origins.{Origin}
 use Rattle.sched_core.specs.Standing.{StandForOne}
 use Rattle.sched_core.specs.declared.own.Own.{Own}

@@ -1,8 +1,8 @@
 -- What events leave in a fabric into which a policy's tree is laid.
 use Rattle.std.specs.Prelude.{◌≡◌, ◌+◌, ◌⊎◌, Option, None, Some, option_map, List, ◌++◌}
-use Rattle.fabric_defs.specs.Family.{SameQueues}
+use Rattle.target_defs.specs.Family.{SameQueues}
 use Rattle.embed_defs.specs.Images.{image_map}
-use Rattle.embed_lift_defs.specs.Lift.{IsLift}
+use Rattle.embed_defs.specs.Lift.{IsLift}
 use Rattle.policy_defs.specs.Policy.{Policy}
 use Rattle.sched_defs.specs.SourceState.{start}
 use Rattle.sched_defs.specs.Events.{Event, Outcome, after, outcomes, pushed_in, asked_in}

@@ -3,10 +3,10 @@ use Rattle.std.specs.Prelude.{◌≡◌, ◌+◌, ℕ, List, [], length, slice_g
 use Rattle.tree_defs.specs.Tree.{Tree, Address, LeadsToLeaf, SameShape}
 use Rattle.tree_defs.specs.SourceTree.{SourceTree, push, pop, IsWellFormed}
 use Rattle.tree_core.specs.Paths.{Way}
-use Rattle.fabric_defs.specs.Family.{Family, IsLeafAddress}
+use Rattle.target_defs.specs.Family.{Family, IsLeafAddress}
 use Rattle.embed_defs.specs.Images.{image_map}
-use Rattle.embed_lift_defs.specs.Lift.{IsLift}
-use Rattle.embed_lift_defs.specs.GoodMaps.{IsGoodMap}
+use Rattle.embed_defs.specs.Lift.{IsLift}
+use Rattle.embed_defs.specs.GoodMaps.{IsGoodMap}
 use Rattle.embed_core.specs.declared.lane.Lane.{Lane}
 use Rattle.embed_core.specs.Lanes.{IsLaneTo}
 use Rattle.policy_defs.specs.Policy.{Policy, class_at, no_marks}

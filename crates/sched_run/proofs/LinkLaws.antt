@@ -1,8 +1,8 @@
 -- The departures and arrivals of a link, turn by turn.
 use Rattle.std.proofs.Common.{◌≡◌, ◌≤◌, ◌<◌, ◌*◌, ℕ, zero, suc, ◌+◌, ◌-◌, max, Bool, true, false, Option, None, Some, List, [], ◌∷◌, ◌++◌, refl, sym, ap, ◌∙◌, subst, arith, append_assoc, append-nil}
 use Rattle.std.specs.Prelude.{IfSome, option_map}
-use Rattle.link_defs.specs.Link.{IsRate, send_time}
-use Rattle.link_defs.proofs.LinkLaws.{send_time-least}
+use Rattle.sched_defs.specs.SendTime.{IsRate, send_time}
+use Rattle.sched_defs.proofs.SendTimes.{send_time-least}
 use Rattle.tree_defs.specs.SourceTree.{size}
 use Rattle.packet_defs.specs.declared.packet.Packet.{Packet}
 use Rattle.packet_defs.specs.declared.packet.Departed.{Departed}

@@ -1,6 +1,6 @@
 -- What the lines of a script ask for, and what paces a run.
 use Rattle.std.specs.Prelude.{◌≤◌, ℕ, map}
-use Rattle.link_defs.specs.Link.{IsRate}
+use Rattle.sched_defs.specs.SendTime.{IsRate}
 use Rattle.events_core.specs.Script.{most_count}
 use Rattle.events_core.specs.Steps.{counts_of}
 use Rattle.events_core.specs.declared.step.Step as line

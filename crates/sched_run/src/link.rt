@@ -1,6 +1,6 @@
 //! The departures and arrivals that a link paces.
 ghost use Rattle.std.specs.Prelude.{◌≡◌, ◌≤◌, ◌<◌, ◌+◌, ◌^◌, ◌==◌, if◌then◌else◌, max, IfSome};
-ghost use Rattle.link_defs.specs.Link.{IsRate, send_time};
+ghost use Rattle.sched_defs.specs.SendTime.{IsRate, send_time};
 ghost use Rattle.sched_defs.specs.Link.{is_due};
 
 use crate::recorder::Recorder;
@@ -49,7 +49,7 @@ impl<'a, C: Scheduler + Drop, N: NodeNames, W: Recorder> Run<'a, C, N, W> {
     ghost use Rattle.std.specs.Prelude.{◌≡◌, ◌≤◌, ◌<◌, ◌+◌, ◌^◌, ℕ, false, not, if◌then◌else◌, is_some, length, IfErr, IfOk, IfSome, OnOk, OnErr};
     ghost use Rattle.pcap_defs.specs.Record.{most_captured};
     ghost use Rattle.outside_core.specs.Kept.{KeepsSink, HasCause, HasSinkCause};
-    ghost use Rattle.link_defs.specs.Link.{IsRate};
+    ghost use Rattle.sched_defs.specs.SendTime.{IsRate};
     ghost use Rattle.tree_defs.specs.SourceTree.{size};
     ghost use Rattle.sched_defs.specs.Link.{send_until, link_turn};
     ghost use Rattle.sched_defs.specs.Numbered.{IsSendable, IsHeldBelow};

@@ -28,7 +28,7 @@ use Rattle.sched_defs.specs.Numbered.{IsSendable}
 use Rattle.sched_defs.proofs.Runs.{sound_after}
 use Rattle.rank_defs.proofs.SameStates.{same-trans}
 use Rattle.embed_defs.specs.Images.{image_map}
-use Rattle.embed_lift_defs.specs.Lift.{IsLift}
+use Rattle.embed_defs.specs.Lift.{IsLift}
 use Rattle.fabric_core.specs.declared.fabric.Fabric.{Ghosts}
 use Rattle.sched_core.specs.Standing.{StandForOne}
 use Rattle.sched_core.specs.Own.{policy_in}

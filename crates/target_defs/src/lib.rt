@@ -1,20 +1,7 @@
-//! What a target is: a complete tree with an arity for each level, and further levels above it. Begin with
-//! specs/Target.antt.
+//! What a target is: a complete tree with an arity for each level, further levels above it, and the queues at its
+//! nodes. Begin with specs/Target.antt and specs/Family.antt.
 #![tactic(auto)]
 
-ghost use Rattle.target_defs.specs.Laws.{HeightsGiveTheLowestLevels, AllLevelsAreTheTarget, HeightsAreInRange};
+mod laws;
 
-/// Counted from the leaves, the arities of a target are those of its lowest levels, and above them of the further ones.
-pub fn heights_give_the_lowest_levels()
-    ensures { HeightsGiveTheLowestLevels }
-{}
-
-/// As many of a target's lowest levels as it has are the target.
-pub fn all_levels_are_the_target()
-    ensures { AllLevelsAreTheTarget }
-{}
-
-/// The nodes of each height of a target have from 2 to 64 children.
-pub fn heights_are_in_range()
-    ensures { HeightsAreInRange }
-{}
+pub use laws::{all_levels_are_the_target, heights_are_in_range, heights_give_the_lowest_levels};

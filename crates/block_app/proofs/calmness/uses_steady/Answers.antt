@@ -1,7 +1,7 @@
 use Rattle.std.proofs.Common.{◌∙◌, sym, codes}
 use Rattle.std.proofs.lemmas.Slice.Eq.{bytes_eq-Decides}
 use Rattle.policy_core.specs.Numbering.{address_at}
-use Rattle.policy_core.proofs.Numbers.{address-undone}
+use Rattle.policy_core.proofs.NumberedAddresses.{address-undone}
 use Rattle.block_app.proofs.CalmNodes.{leaf_steady, inner_steady}
 use Rattle.block_app.proofs.calmness.uses_steady.Goals as goal
 

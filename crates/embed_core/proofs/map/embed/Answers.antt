@@ -5,8 +5,8 @@ use Rattle.embed_defs.specs.Embedding.{IsEmbedding, HasEmbedding}
 use Rattle.embed_defs.specs.Need.{HasHeight}
 use Rattle.embed_defs.specs.Canonical.{canonical}
 use Rattle.embed_defs.specs.Images.{image_map}
-use Rattle.embed_defs.proofs.Laws.{embeddings_need_room-holds, canonical_placements_are_embeddings-holds}
-use Rattle.embed_lift_defs.proofs.CanonicalMaps.{canonical_maps_are_good}
+use Rattle.embed_defs.proofs.EmbeddingLaws.{embeddings_need_room-holds, canonical_placements_are_embeddings-holds}
+use Rattle.embed_defs.proofs.CanonicalMaps.{canonical_maps_are_good}
 use Rattle.embed_core.specs.Range.{levels_of}
 use Rattle.embed_core.proofs.ChildNeeds.{same-nodes}
 use Rattle.embed_core.proofs.TargetArities.{wide, own_levels}

@@ -1,4 +1,4 @@
-use Rattle.policy_core.proofs.Numbers.{IsNumber, number-undone}
+use Rattle.policy_core.proofs.NumberedAddresses.{IsNumber, number-undone}
 use Rattle.policy_defs.specs.Numbers.{number_at}
 use Rattle.policy_core.proofs.laws.addresses_undo_numbers.Goals as goal
 

@@ -1,5 +1,5 @@
 use Rattle.policy_core.specs.Numbering.{address_at}
-use Rattle.policy_core.proofs.Numbers.{IsAddress, address-undone}
+use Rattle.policy_core.proofs.NumberedAddresses.{IsAddress, address-undone}
 use Rattle.policy_core.proofs.laws.numbers_undo_addresses.Goals as goal
 
 pub returns : goal.returns

@@ -4,7 +4,7 @@ use Rattle.tree_defs.specs.Topology.{Topology, topology_of, complete}
 use Rattle.tree_core.specs.Shape.{topology}
 use Rattle.embed_defs.specs.Embedding.{IsEmbedding}
 use Rattle.embed_defs.specs.Images.{image_map}
-use Rattle.embed_given.proofs.ComposedImages.{placed-topology}
+use Rattle.mapcheck_core.proofs.ComposedImages.{placed-topology}
 use Rattle.mapcheck_core.specs.GivenMaps.{IsWithinLimits, IsGivenFor, image_of}
 use Rattle.replay_app.specs.Targets.{IsPlacement}
 use Rattle.report_core.specs.declared.fault.FaultKind.TheVariants as kind

@@ -4,7 +4,7 @@ use Rattle.std.proofs.lemmas.Result.{err_from_is_err_and}
 use Rattle.report_core.proofs.WholeTexts.{cut_part, cut_end, whole_end}
 use Rattle.sched_packets.specs.OneLink.{left_of, captures_of, there}
 use Rattle.sched_run.proofs.JoinedEvents.{made_all}
-use Rattle.sched_forward.specs.JoinedRecords.{records_heard}
+use Rattle.sched_capture.specs.JoinedRecords.{records_heard}
 use Rattle.sched_capture.specs.Forwards.{forward_ending, forward_events}
 use Rattle.sched_capture.proofs.FromStart.{stand_at_start}
 use Rattle.sched_capture.proofs.ForwardRuns.{stops, forwards}

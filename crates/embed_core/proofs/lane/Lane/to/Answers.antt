@@ -3,7 +3,7 @@ use Rattle.std.proofs.lemmas.List.{with_items_is}
 use Rattle.std.proofs.lemmas.List.FromFn.{length-range_with_len}
 use Rattle.std.specs.List.{range_with_len}
 use Rattle.std.specs.Vec.{with_items}
-use Rattle.embed_lift_defs.specs.Lift.{lift_ranks}
+use Rattle.embed_defs.specs.Lift.{lift_ranks}
 use Rattle.embed_core.proofs.lane.Lane.to.Goals as goal
 
 pub lift-requires-clause-whole : goal.lift-requires-clause-whole

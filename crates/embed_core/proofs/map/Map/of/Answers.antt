@@ -2,9 +2,9 @@ use Rattle.tree_defs.specs.Topology.{complete}
 use Rattle.tree_core.specs.Shape.{topology}
 use Rattle.embed_defs.specs.Embedding.{IsEmbedding}
 use Rattle.embed_defs.specs.Images.{image_map}
-use Rattle.embed_map_defs.specs.Preorder.{image_in, HoldsImages}
-use Rattle.embed_map_defs.proofs.ComposedMaps.{trees_of_images_embed}
-use Rattle.embed_lift_defs.proofs.EmbeddedMaps.{embeddings_are_good_maps}
+use Rattle.embed_defs.specs.Preorder.{image_in, HoldsImages}
+use Rattle.embed_defs.proofs.ComposedMaps.{trees_of_images_embed}
+use Rattle.embed_defs.proofs.EmbeddedMaps.{embeddings_are_good_maps}
 use Rattle.embed_core.proofs.PreorderMaps.{holds-images}
 use Rattle.embed_core.proofs.map.Map.of.Goals as goal
 

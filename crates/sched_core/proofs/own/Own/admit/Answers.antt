@@ -6,7 +6,7 @@ use Rattle.policy_defs.specs.Policy.{Policy}
 use Rattle.sched_defs.specs.Visits.{after_pushes, ranks_pushed}
 use Rattle.sched_defs.specs.SourceState.{class_of, way_in, arrival_ranks}
 use Rattle.sched_defs.proofs.Soundness.{leads_in}
-use Rattle.sched_nodes.specs.Agreement.{policy_of, AreStates}
+use Rattle.sched_core.specs.Agreement.{policy_of, AreStates}
 use Rattle.sched_core.specs.Arrivals.{leaf_number}
 use Rattle.sched_core.specs.Own.{policy_in, AreFilled}
 use Rattle.sched_core.proofs.Filling.{count-within, count-few, filled-pushed}

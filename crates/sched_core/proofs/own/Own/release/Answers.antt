@@ -6,7 +6,7 @@ use Rattle.policy_defs.specs.Numbers.{number_at}
 use Rattle.sched_defs.specs.Visits.{after_pops}
 use Rattle.sched_defs.specs.SourceState.{way_out}
 use Rattle.sched_defs.specs.Laws.{LeavesItsLeaf}
-use Rattle.sched_nodes.specs.Agreement.{policy_of, AreStates}
+use Rattle.sched_core.specs.Agreement.{policy_of, AreStates}
 use Rattle.sched_core.specs.Arrivals.{leaf_number}
 use Rattle.sched_core.specs.Own.{policy_in}
 use Rattle.sched_core.proofs.Filling.{count-within, count-some, filled-left}

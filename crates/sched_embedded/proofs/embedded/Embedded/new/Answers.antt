@@ -3,9 +3,9 @@ use Rattle.tree_defs.specs.Tree.{Tree, Address}
 use Rattle.tree_defs.specs.Topology.{topology_of}
 use Rattle.tree_defs.specs.SourceTree.{empty_tree}
 use Rattle.embed_defs.specs.Images.{image_map}
-use Rattle.embed_lift_defs.specs.GoodMaps.{IsGoodMap}
-use Rattle.embed_lift_defs.specs.Lift.{IsLift}
-use Rattle.embed_lift_defs.proofs.EmbeddedMaps.{embeddings_are_good_maps as good_map}
+use Rattle.embed_defs.specs.GoodMaps.{IsGoodMap}
+use Rattle.embed_defs.specs.Lift.{IsLift}
+use Rattle.embed_defs.proofs.EmbeddedMaps.{embeddings_are_good_maps as good_map}
 use Rattle.policy_defs.specs.Policy.{Policy}
 use Rattle.sched_core.specs.Own.{policy_in}
 use Rattle.sched_embedded.specs.Laid.{HasLanes}

@@ -3,10 +3,10 @@ use Rattle.std.proofs.lemmas.Option.{slice_get_read}
 use Rattle.std.specs.Prelude.{slice_get}
 use Rattle.tree_defs.specs.Tree.{Tree, Address, LeadsToLeaf}
 use Rattle.tree_defs.specs.SourceTree.{SourceTree, push}
-use Rattle.fabric_defs.specs.Family.{AreRanks}
+use Rattle.target_defs.specs.Family.{AreRanks}
 use Rattle.embed_defs.specs.Images.{image_map}
-use Rattle.embed_lift_defs.specs.Lift.{IsLift}
-use Rattle.embed_lift_defs.specs.Spilling.{push_spills}
+use Rattle.embed_defs.specs.Lift.{IsLift}
+use Rattle.embed_defs.specs.Spilling.{push_spills}
 use Rattle.embed_core.specs.Lanes.{IsLaneTo}
 use Rattle.policy_defs.specs.Policy.{Policy}
 use Rattle.sched_defs.specs.SourceState.{class_of, arrival_ranks, is_full}

@@ -1,8 +1,8 @@
 use Rattle.std.proofs.Common.{◌≡◌, None, refl, sym, ap, ◌∙◌, subst, arith}
 use Rattle.tree_defs.specs.SourceTree.{SourceTree, pop}
-use Rattle.fabric_defs.specs.Family.{Family}
+use Rattle.target_defs.specs.Family.{Family}
 use Rattle.embed_defs.specs.Images.{image_map}
-use Rattle.embed_lift_defs.specs.Lift.{IsLift}
+use Rattle.embed_defs.specs.Lift.{IsLift}
 use Rattle.policy_defs.specs.Policy.{Policy}
 use Rattle.sched_defs.specs.SourceState.{departed}
 use Rattle.sched_defs.proofs.Leaving.{pop_size}

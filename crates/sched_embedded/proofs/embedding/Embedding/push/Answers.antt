@@ -1,11 +1,11 @@
 use Rattle.std.proofs.Common.{◌≡◌, ◌+◌, ◌<◌, length, List, ℕ, map, sym, ap, ◌∙◌, subst}
 use Rattle.std.specs.Prelude.{slice_index}
 use Rattle.std.specs.List.{AllByRecursion}
-use Rattle.fabric_defs.specs.Family.{AreRanks, push_along}
-use Rattle.fabric_defs.specs.Spills.{spills_along}
+use Rattle.target_defs.specs.Family.{AreRanks, push_along}
+use Rattle.target_defs.specs.Spills.{spills_along}
 use Rattle.embed_defs.specs.Images.{image_map}
-use Rattle.embed_lift_defs.specs.Lift.{lift_ranks}
-use Rattle.embed_lift_defs.specs.GoodMaps.{IsGoodMap}
+use Rattle.embed_defs.specs.Lift.{lift_ranks}
+use Rattle.embed_defs.specs.GoodMaps.{IsGoodMap}
 use Rattle.embed_core.proofs.LaneLifts.{lane-lift, lane-within}
 use Rattle.rank_core.proofs.Lists.{refilled}
 use Rattle.sched_core.specs.Spills.{raised}

@@ -1,5 +1,0 @@
-use Rattle.embed_defs.proofs.Laws.{canonical_placements_are_embeddings-holds}
-use Rattle.embed_defs.proofs.canonical_placements_are_embeddings.Goals as goal
-
-pub returns : goal.returns
-returns c = record { law = canonical_placements_are_embeddings-holds }

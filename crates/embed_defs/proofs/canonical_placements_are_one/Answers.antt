@@ -1,5 +1,0 @@
-use Rattle.embed_defs.proofs.Laws.{canonical_placements_are_one-holds}
-use Rattle.embed_defs.proofs.canonical_placements_are_one.Goals as goal
-
-pub returns : goal.returns
-returns c = record { law = canonical_placements_are_one-holds }

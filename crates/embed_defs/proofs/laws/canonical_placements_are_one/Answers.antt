@@ -1,0 +1,5 @@
+use Rattle.embed_defs.proofs.EmbeddingLaws.{canonical_placements_are_one-holds}
+use Rattle.embed_defs.proofs.laws.canonical_placements_are_one.Goals as goal
+
+pub returns : goal.returns
+returns c = record { law = canonical_placements_are_one-holds }

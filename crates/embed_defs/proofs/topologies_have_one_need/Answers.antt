@@ -1,5 +1,0 @@
-use Rattle.embed_defs.proofs.Laws.{topologies_have_one_need-holds}
-use Rattle.embed_defs.proofs.topologies_have_one_need.Goals as goal
-
-pub returns : goal.returns
-returns c = record { law = topologies_have_one_need-holds }

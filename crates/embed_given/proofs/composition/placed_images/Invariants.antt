@@ -1,6 +1,0 @@
-use Rattle.std.proofs.Common.{◌≡◌, map, take}
-use Rattle.embed_defs.specs.Images.{image_map}
-use Rattle.embed_given.proofs.composition.placed_images.Given as goal
-
-abbrev pub invariant-loop-image : goal.invariant-loop-image
-invariant-loop-image l = l.placed ≡ map (image_map l.placement) (take l.image-index l.images)

@@ -1,5 +1,0 @@
-use Rattle.embed_lift_defs.proofs.CanonicalMaps.{canonical_maps_are_good as holds}
-use Rattle.embed_lift_defs.proofs.canonical_maps_are_good.Goals as goal
-
-pub returns : goal.returns
-returns c = record { law = holds }

@@ -1,5 +1,0 @@
-use Rattle.embed_lift_defs.proofs.SpillsOfLifts.{lift_of_is_the_lift as holds}
-use Rattle.embed_lift_defs.proofs.lift_of_is_the_lift.Goals as goal
-
-pub returns : goal.returns
-returns c = record { law = holds }

@@ -1,5 +1,0 @@
-use Rattle.embed_lift_defs.proofs.PathsReadBack.{nodes_have_images_of_their_own as holds}
-use Rattle.embed_lift_defs.proofs.nodes_have_images_of_their_own.Goals as goal
-
-pub returns : goal.returns
-returns c = record { law = holds }

@@ -1,5 +1,0 @@
-use Rattle.embed_lift_defs.proofs.PathsReadBack.{picked_ranks_are_those_lifted as holds}
-use Rattle.embed_lift_defs.proofs.picked_ranks_are_those_lifted.Goals as goal
-
-pub returns : goal.returns
-returns c = record { law = holds }

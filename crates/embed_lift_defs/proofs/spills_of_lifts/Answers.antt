@@ -1,5 +1,0 @@
-use Rattle.embed_lift_defs.proofs.SpillsOfLifts.{spills_of_lifts as holds}
-use Rattle.embed_lift_defs.proofs.spills_of_lifts.Goals as goal
-
-pub returns : goal.returns
-returns c = record { law = holds }

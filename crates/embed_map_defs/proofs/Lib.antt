@@ -1,3 +1,0 @@
-pub mod ComposedMaps
-pub mod TreesOfImages
-pub mod PreorderTrees

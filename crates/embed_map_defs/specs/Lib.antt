@@ -1,2 +1,0 @@
-pub mod Preorder
-pub mod Laws

@@ -1,2 +1,0 @@
-pub mod Family
-pub mod Spills

@@ -1,0 +1,6 @@
+use Rattle.std.proofs.Common.{◌≡◌, map, take}
+use Rattle.embed_defs.specs.Images.{image_map}
+use Rattle.mapcheck_core.proofs.composition.placed_images.Given as goal
+
+abbrev pub invariant-loop-image : goal.invariant-loop-image
+invariant-loop-image l = l.placed ≡ map (image_map l.placement) (take l.image-index l.images)

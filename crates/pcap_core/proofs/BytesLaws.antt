@@ -1,0 +1,71 @@
+-- The bytes that are written spell what they are written for.
+use Rattle.std.proofs.Common.{◌<◌, ◌%◌, ◌^◌, ℕ, false, None, List, [], ◌∷◌, ◌++◌, length, refl, sym, ap, ◌∙◌, arith, append_assoc, append-nil}
+use Rattle.std.specs.Prelude.{All}
+use Rattle.std.proofs.lemmas.List.Elements.{All-head, All-tail}
+use Rattle.byteorder.specs.Numbers.{little_number-reads_back}
+use Rattle.pcap_defs.specs.Header.{IsHeader}
+use Rattle.pcap_defs.specs.Record.{Record, IsSpelling, AreSpellings}
+use Rattle.pcap_defs.proofs.ReadingLaws.{reads_captures}
+use Rattle.pcap_core.specs.Bytes.{long_bytes, header_bytes, record_bytes, records_bytes, file_bytes, head_with}
+use Rattle.pcap_core.specs.Laws.{IsWritable, AreCaptures, AreReadBack, RecordsFollow}
+
+-- the header's bytes are a header of this link type
+pub header_bytes-says : (link : ℕ) → link < 2 ^ 16 → IsHeader (head_with link) (header_bytes link)
+header_bytes-says link fits =
+    let read = little_number-reads_back 4 link [] (omega arith) in
+    record { whole = refl; magic = refl; major = refl; link = ap (λ n. n % 2 ^ 16) read ∙ omega arith }
+
+-- a record's bytes spell it
+pub record_bytes-spell : (r : Record) → IsWritable r → IsSpelling false r (record_bytes r.seconds r.fraction r.original r.captured)
+record_bytes-spell r fits =
+    let captured = length r.captured in
+    record {
+      seconds = little_number-reads_back 4 r.seconds (long_bytes r.fraction ++ long_bytes (length r.captured) ++ long_bytes r.original ++ r.captured) (omega arith);
+      fraction = little_number-reads_back 4 r.fraction (long_bytes (length r.captured) ++ long_bytes r.original ++ r.captured) (omega arith);
+      counted = little_number-reads_back 4 (length r.captured) (long_bytes r.original ++ r.captured) (omega arith);
+      original = little_number-reads_back 4 r.original r.captured (omega arith);
+      captured = refl;
+      whole = omega arith;
+      short = fits.captured;
+    }
+
+-- records' bytes spell them one after another
+pub records_bytes-spell : (records : List Record) → All IsWritable records → AreSpellings false records (records_bytes records)
+records_bytes-spell [] fit = refl
+records_bytes-spell (r ∷ records) fit = (
+  record_bytes r.seconds r.fraction r.original r.captured,
+  records_bytes records,
+  refl,
+  record_bytes-spell r (All-head IsWritable r records fit),
+  records_bytes-spell records (All-tail IsWritable r records fit),
+)
+
+-- what is written is a whole capture
+pub are_captures : AreCaptures
+are_captures link records fits fit few = record {
+  header = header_bytes link;
+  after = records_bytes records;
+  file_is = refl;
+  header_is = header_bytes-says link fits;
+  records_are = record {
+    body = records_bytes records;
+    rest = [];
+    bytes_are = sym (append-nil (records_bytes records));
+    body_is = records_bytes-spell records fit;
+    few = few;
+    ends = refl;
+  };
+}
+
+-- and is read as one
+pub are_read_back : AreReadBack
+are_read_back link records fits fit few =
+    (reads_captures (head_with link) records None (file_bytes link records)).0 (are_captures link records fits fit few)
+
+-- the bytes of records in a row
+pub records_follow : RecordsFollow
+records_follow [] others = refl
+records_follow (r ∷ first) others =
+    let one = record_bytes r.seconds r.fraction r.original r.captured in
+    ap (λ xs. record_bytes r.seconds r.fraction r.original r.captured ++ xs) (records_follow first others)
+    ∙ sym (append_assoc one (records_bytes first) (records_bytes others))

@@ -1,5 +1,0 @@
-use Rattle.pcapout_core.proofs.BytesLaws.{records_follow}
-use Rattle.pcapout_core.proofs.laws.bytes_of_more_records_follow.Goals as goal
-
-pub returns : goal.returns
-returns c = records_follow

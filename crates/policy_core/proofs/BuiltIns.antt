@@ -1,0 +1,58 @@
+-- A policy that accepted statements give uses the names of the built-in transactions for these alone.
+use Rattle.std.proofs.Common.{◌≡◌, ℕ, zero, suc, List, ◌∷◌, [], sym, ap, ◌∙◌, subst, Option, Some, None}
+use Rattle.tree_defs.specs.Tree.{Tree, leaf as leaf_of, inner, Trees, none, more, Address}
+use Rattle.rank_defs.specs.Programs.{Program}
+use Rattle.rank_defs.specs.Builtins.{builtin}
+use Rattle.policy_text_defs.specs.declared.attribute.Attrs.{Attrs}
+use Rattle.policy_text_defs.specs.Sense.{Sense, Entry, version, transaction, keep, each, push, pop, class, leaf, node}
+use Rattle.policy_defs.specs.Policy.{Node, node_at, node_below}
+use Rattle.policy_defs.specs.BuiltIn.{AreBuiltIn}
+use Rattle.policy_rules.specs.Names.{Name}
+use Rattle.policy_rules.specs.Programs.{body_named, or_written}
+use Rattle.policy_rules.specs.Resolved.{Resolved, IsResolved, IsNodeOf, IsLeafOf, IsInnerOf, IsTreeIn, AreTreesIn, names_of}
+use Rattle.policy_core.proofs.PlacePrograms.{none-some, some-same}
+
+-- if a node uses this name, it has this program
+abbrev HasIfNamed : Node → Type 0
+HasIfNamed n = (p : Program) → builtin n.using ≡ Some p → n.program ≡ p
+
+named-node : (es : List Entry) (n : Node) (name used : Name) (a : Attrs) (limit : Option ℕ) → IsNodeOf es n name used a limit → HasIfNamed n
+named-node es n name used a limit said p is =
+    sym (some-same (sym (ap (λ (o : Option Program). or_written o (body_named es used)) (ap builtin (sym said.using_is) ∙ is)) ∙ said.program_is))
+
+named-leaf : (es : List Entry) (n : Node) (s : Sense) → IsLeafOf es n s → HasIfNamed n
+named-leaf es n (version v) said = absurd said
+named-leaf es n (transaction t) said = absurd said
+named-leaf es n (keep m s) said = absurd said
+named-leaf es n (each m s) said = absurd said
+named-leaf es n (push m t) said = absurd said
+named-leaf es n (pop m t) said = absurd said
+named-leaf es n (class m a cs) said = absurd said
+named-leaf es n (leaf m u a l ns) said = named-node es n m u a l said
+named-leaf es n (node m u a ns) said = absurd said
+
+named-inner : (es : List Entry) (n : Node) (names : List Name) (s : Sense) → IsInnerOf es n names s → HasIfNamed n
+named-inner es n names (version v) said = absurd said
+named-inner es n names (transaction t) said = absurd said
+named-inner es n names (keep m s) said = absurd said
+named-inner es n names (each m s) said = absurd said
+named-inner es n names (push m t) said = absurd said
+named-inner es n names (pop m t) said = absurd said
+named-inner es n names (class m a cs) said = absurd said
+named-inner es n names (leaf m u a l ns) said = absurd said
+named-inner es n names (node m u a ns) said = named-node es n m u a None said.0
+
+mutual
+  named-at : (es : List Entry) (tree : Tree Node) (a : Address) (n : Node) → IsTreeIn es tree → node_at tree a ≡ Some n → HasIfNamed n
+  named-at es (leaf_of m) [] n said at = subst HasIfNamed (some-same at) (named-leaf es m said.1.1 said.4)
+  named-at es (leaf_of m) (i ∷ a) n said at = absurd (none-some at)
+  named-at es (inner m ts) [] n said at = subst HasIfNamed (some-same at) (named-inner es m (names_of ts) said.0.1.1 said.0.4)
+  named-at es (inner m ts) (i ∷ a) n said at = named-below es ts i a n said.1 at
+
+  named-below : (es : List Entry) (ts : Trees Node) (i : ℕ) (a : Address) (n : Node) → AreTreesIn es ts → node_below ts i a ≡ Some n → HasIfNamed n
+  named-below es none i a n said at = absurd (none-some at)
+  named-below es (more t ts) zero a n said at = named-at es t a n said.0 at
+  named-below es (more t ts) (suc i) a n said at = named-below es ts i a n said.1 at
+
+pub built-in : (es : List Entry) (r : Resolved) → IsResolved es r → AreBuiltIn r.policy
+built-in es r resolved a n p at is = named-at es r.policy.tree a n resolved.tree at p is

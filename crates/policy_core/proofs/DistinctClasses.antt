@@ -1,0 +1,59 @@
+-- Where no name is declared again, the classes are apart.
+use Rattle.std.proofs.Common.{◌≡◌, ℕ, zero, suc, ◌<◌, ◌∙◌, true, false, ◌||◌, cond, List, [], ◌∷◌, length, get_or, refl, ap, arith, inl, inr}
+use Rattle.std.proofs.lemmas.Bool.{eqb-true, cases_Bool}
+use Rattle.std.proofs.lemmas.List.Sums.{sum_by-cons}
+use Rattle.std.specs.List.{IsDistinct, AllByRecursion}
+use Rattle.std.specs.Option.{option_map_or}
+use Rattle.std.specs.Str.{bytes_eq}
+use Rattle.policy_text_defs.specs.Sense.{Sense, Entry, version, transaction, keep, each, push, pop, class, leaf, node}
+use Rattle.policy_rules.specs.Names.{Name, has, times, is_once, declared, class_name}
+use Rattle.policy_rules.specs.Clauses.{NoLine, is_declared, IsAgain, is_stray}
+use Rattle.policy_rules.specs.Entries.{AreRising}
+use Rattle.policy_rules.proofs.Spaces.{declared-distinct}
+use Rattle.policy_core.proofs.AcceptedStatements.{holds}
+
+-- a class that isn't declared again is new
+new-class : (earlier : List Entry) (s : Sense) → is_declared earlier s ≡ false → option_map_or (has (declared class_name earlier)) (class_name s) false ≡ false
+new-class earlier (version v) new = refl
+new-class earlier (transaction t) new = refl
+new-class earlier (keep m s) new = refl
+new-class earlier (each m s) new = refl
+new-class earlier (push m t) new = refl
+new-class earlier (pop m t) new = refl
+new-class earlier (class m a cs) new = new
+new-class earlier (leaf m u a l ns) new = refl
+new-class earlier (node m u a ns) new = refl
+
+pub distinct-classes : (es : List Entry) → AreRising es → NoLine (IsAgain es) es → IsDistinct bytes_eq (declared class_name es)
+distinct-classes es rising fine = declared-distinct class_name es rising new-class fine
+
+-- ---- classes that aren't stray are listed
+-- one for the same name
+abbrev is : Name → Name → ℕ
+is c y = cond (bytes_eq c y) 1 0
+
+some-counted : (a : Name) (names : List Name) → 0 < times names a → has names a ≡ true
+some-counted a [] h = absurd (omega arith)
+some-counted a (x ∷ xs) h = elim (cases_Bool (bytes_eq a x)) [
+  | inl same ↦ ap (λ b. b || has xs a) same
+  | inr other ↦ (
+      let none : is a x ≡ 0 = ap (λ b. cond b 1 0) other in
+      let r : has xs a ≡ true = some-counted a xs (omega (arith, h, none, sum_by-cons (is a) x xs)) in
+      ap (λ b. b || has xs a) other ∙ r)
+]
+
+once-there : (a : Name) (names : List Name) → is_once names a ≡ true → has names a ≡ true
+once-there a names once = some-counted a names (omega (arith, eqb-true (times names a) 1 once))
+
+pub classes-listed : (all : List Name) (es : List Entry) → AllByRecursion (λ (e : Entry). is_stray all e.1 ≡ true → ⊥) es → (k : ℕ) (d : Name) → k < length (declared class_name es) → has all (get_or (declared class_name es) k d) ≡ true
+classes-listed all [] fine k d l = absurd (omega arith)
+classes-listed all ((n, version v) ∷ es) fine k d l = classes-listed all es fine.1 k d l
+classes-listed all ((n, transaction t) ∷ es) fine k d l = classes-listed all es fine.1 k d l
+classes-listed all ((n, keep m s) ∷ es) fine k d l = classes-listed all es fine.1 k d l
+classes-listed all ((n, each m s) ∷ es) fine k d l = classes-listed all es fine.1 k d l
+classes-listed all ((n, push m t) ∷ es) fine k d l = classes-listed all es fine.1 k d l
+classes-listed all ((n, pop m t) ∷ es) fine k d l = classes-listed all es fine.1 k d l
+classes-listed all ((n, class m a cs) ∷ es) fine zero d l = once-there m all (holds (is_once all m) fine.0)
+classes-listed all ((n, class m a cs) ∷ es) fine (suc k) d l = classes-listed all es fine.1 k d (omega arith)
+classes-listed all ((n, leaf m u a o ns) ∷ es) fine k d l = classes-listed all es fine.1 k d l
+classes-listed all ((n, node m u a ns) ∷ es) fine k d l = classes-listed all es fine.1 k d l

@@ -1,0 +1,6 @@
+use Rattle.std.proofs.Common.{◌≡◌, take, map}
+use Rattle.policy_rules.specs.Programs.{place}
+use Rattle.policy_core.proofs.graphs.numbers.Given as goal
+
+abbrev pub invariant-loop-name : goal.invariant-loop-name
+invariant-loop-name l = l.numbers.items ≡ map (place l.nodes) (take l.name-index l.names)

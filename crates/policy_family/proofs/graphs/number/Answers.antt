@@ -1,6 +1,0 @@
-use Rattle.std.proofs.Common.{sym, ◌∙◌}
-use Rattle.policy_family.proofs.Places.{not-found}
-use Rattle.policy_family.proofs.graphs.number.Goals as goal
-
-pub unreachable-requires : goal.unreachable-requires
-unreachable-requires c = not-found c.args.nodes.now c.args.name.now (sym c.place.ensures ∙ c.in-None.is) c.requires.declared

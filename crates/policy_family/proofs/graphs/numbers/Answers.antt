@@ -1,9 +1,0 @@
-use Rattle.std.proofs.Common.{◌≡◌, true, subst, sym, List, ℕ}
-use Rattle.policy_rules.specs.Names.{has}
-use Rattle.policy_family.proofs.Places.{all-at}
-use Rattle.policy_family.proofs.graphs.numbers.Goals as goal
-
-pub number-requires-clause-declared : goal.number-requires-clause-declared
-number-requires-clause-declared c =
-    subst (λ (a : List ℕ). has c.args.nodes.now a ≡ true) (sym c.as_str.ensures)
-    (all-at (has c.args.nodes.now) c.args.names.now c.loop-name.name-index c.name-item.result c.requires.declared c.loop-name-test.true c.name-item.is)

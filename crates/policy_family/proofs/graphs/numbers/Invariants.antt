@@ -1,6 +1,0 @@
-use Rattle.std.proofs.Common.{◌≡◌, take, map}
-use Rattle.policy_rules.specs.Programs.{place}
-use Rattle.policy_family.proofs.graphs.numbers.Given as goal
-
-abbrev pub invariant-loop-name : goal.invariant-loop-name
-invariant-loop-name l = l.numbers.items ≡ map (place l.nodes) (take l.name-index l.names)

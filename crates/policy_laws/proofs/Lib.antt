@@ -1,9 +1,0 @@
-pub mod Statements
-pub mod OneTree
-pub mod NameWays
-pub mod OnePlace
-pub mod OnePolicy
-pub mod TextAnswers
-pub mod FaultlessStatements
-pub mod GraphTrees
-pub mod SomePolicy

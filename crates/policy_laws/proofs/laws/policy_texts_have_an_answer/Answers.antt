@@ -1,5 +1,0 @@
-use Rattle.policy_laws.proofs.TextAnswers.{an_answer}
-use Rattle.policy_laws.proofs.laws.policy_texts_have_an_answer.Goals as goal
-
-pub returns : goal.returns
-returns c = record { law = an_answer }

@@ -1,5 +1,0 @@
-use Rattle.policy_laws.proofs.SomePolicy.{a_policy}
-use Rattle.policy_laws.proofs.laws.statements_give_a_policy.Goals as goal
-
-pub returns : goal.returns
-returns c = record { law = a_policy }

@@ -1,6 +1,0 @@
-use Rattle.std.proofs.Common.{take}
-use Rattle.policy_places.specs.Homes.{ArePut}
-use Rattle.policy_places.proofs.homes.put.Given as goal
-
-abbrev pub invariant-loop-name : goal.invariant-loop-name
-invariant-loop-name l = ArePut l.classes (take l.name-index l.listed) l.leaf l.fn.leaves l.leaves

@@ -1,5 +1,0 @@
-use Rattle.policy_places.proofs.ResolvedTrees.{node-tree}
-use Rattle.policy_places.proofs.laws.graphs_give_the_tree.Goals as goal
-
-pub returns : goal.returns
-returns c = record { law = node-tree }

@@ -1,0 +1,68 @@
+//! The leaf of each class, and the class for all packets.
+ghost use Rattle.std.specs.Prelude.{◌≡◌, List, true, OnOk, IfErr};
+ghost use Rattle.policy_text_defs.specs.Sense.{sense_of};
+ghost use Rattle.policy_rules.specs.Entries.{entries_of, AreRising};
+ghost use Rattle.policy_rules.specs.Names.{Name, listed, leaf_classes};
+ghost use Rattle.policy_rules.specs.Clauses.{IsFirstLine, NoLine, IsStray, is_stray, has_catch_all};
+ghost use Rattle.policy_rules.specs.Accepted.{AreShallow, IsFault};
+ghost use Rattle.policy_statements.specs.Names.{IsTallyOf};
+
+use crate::tallies::tally_classes;
+use crate::tally::Tally;
+use policy_rules::PolicyFault;
+use policy_text_defs::Statement;
+use std::alloc::Global;
+
+/// Whether a statement declares a class that isn't listed once.
+fn is_stray(tally: &Tally, statement: &Statement) -> bool
+    ensures { (all : List Name) → IsTallyOf tally.now all → result ≡ is_stray all (sense_of statement.now) }
+{
+    match statement {
+        Statement::Class(name, _, _) => !tally.is_once(name.as_str()),
+        _ => false,
+    }
+}
+
+/// The first line whose class isn't listed once.
+fn first_stray(lines: &[(u32, Statement)], tally: &Tally) -> Option<u32>
+    requires rising { AreRising (entries_of lines.now) }
+    requires tally { IsTallyOf tally.now (listed leaf_classes (entries_of lines.now)) }
+    ensures first { IsFirstLine (IsStray (entries_of lines.now)) (entries_of lines.now) result }
+{
+    for (line, statement) in lines {
+        if is_stray(tally, statement) {
+            return Some(*line);
+        }
+    }
+    None
+}
+
+/// Whether there is a class, and the last has no condition.
+fn has_catch_all(lines: &[(u32, Statement)]) -> bool
+    ensures { result ≡ has_catch_all (entries_of lines.now) }
+{
+    let mut found = false;
+    for (_, statement) in lines {
+        if let Statement::Class(_, _, conditions) = statement {
+            found = conditions.is_empty();
+        }
+    }
+    found
+}
+
+/// Refuses a class that leaves don't list exactly once, and then a policy whose last class has a condition or that has no class.
+pub fn check_leaves(alloc: Global, lines: &[(u32, Statement)]) -> Result<(), PolicyFault>
+    requires rising { AreRising (entries_of lines.now) }
+    ensures leaves { OnOk result (NoLine (IsStray (entries_of lines.now)) (entries_of lines.now)) }
+    ensures catch_all { OnOk result (has_catch_all (entries_of lines.now) ≡ true) }
+    ensures fault { IfErr result (λ f. AreShallow (entries_of lines.now) → IsFault (entries_of lines.now) f) }
+{
+    let tally = tally_classes(alloc, lines)?;
+    if let Some(line) = first_stray(lines, &tally) {
+        return Err(PolicyFault::ClassLeaf(line));
+    }
+    if !has_catch_all(lines) {
+        return Err(PolicyFault::NoCatchAll);
+    }
+    Ok(())
+}

@@ -1,0 +1,199 @@
+-- A step of one node on the way.
+use Rattle.std.proofs.Common.{◌≡◌, ◌<◌, ◌≤◌, ℕ, List, [], ◌∷◌, ◌++◌, length, Some, sym, ap, ◌∙◌, subst, arith, append-nil, refl}
+use Rattle.std.proofs.lemmas.Option.{slice_get-get_or}
+use Rattle.std.proofs.lemmas.List.{take-append-drop, drop_all}
+use Rattle.std.specs.Prelude.{◌↔◌, slice_get, slice_set, slice_index, slice_index_or}
+use Rattle.tree_defs.specs.Tree.{Tree, leaf, inner, Address, LeadsToLeaf, subtree}
+use Rattle.rank_defs.specs.declared.environment.Env.{Env}
+use Rattle.rank_defs.specs.declared.environment.Who.{Who}
+use Rattle.rank_defs.specs.declared.environment.Who.TheVariants.{Child, Flow}
+use Rattle.rank_defs.specs.Programs.{Program, max_rank}
+use Rattle.rank_defs.specs.States.{State, SameState}
+use Rattle.rank_defs.specs.Shapes.{IsStateInRange}
+use Rattle.rank_defs.specs.Steps.{push_rank, after_push, after_pop}
+use Rattle.rank_defs.proofs.SameStates.{same-trans, push_step-same, after_push-same, after_pop-same}
+use Rattle.rank_core.specs.declared.node.NodeState.{NodeState}
+use Rattle.rank_core.specs.Node.{state_of, children_of, HasRoom}
+use Rattle.policy_defs.specs.Policy.{Node, Class, Marks}
+use Rattle.policy_defs.specs.Accepted.{AreMarksInRange}
+use Rattle.policy_core.specs.Numbering.{address_at}
+use Rattle.policy_core.specs.Parts.{told}
+use Rattle.sched_defs.specs.Visits.{States, Visit, env_for, rank_at, with_state, after_pushes, after_pops}
+use Rattle.sched_core.specs.declared.passage.Passage.{Passage}
+use Rattle.sched_core.specs.declared.waypoint.Waypoint.{Waypoint}
+use Rattle.sched_core.specs.Kept.{part_at, Keeps, IsStationOf, AreStations, HaveValues, HasRoomAt}
+use Rattle.sched_core.specs.Waypoints.{marks_on, rank_told, IsWaypoint}
+use Rattle.sched_core.specs.Ways.{IsReady, tree_for, class_for, place, ahead, part, who_on, stop, HasRoomAtLeaf, ForValues, ValuesBecome, KeepsRoom}
+use Rattle.sched_core.proofs.TreeParts.{IsNext, next, node-of_part, part-down}
+use Rattle.sched_core.proofs.Levels.{there-at, leads-at, number-of, ahead-next}
+use Rattle.sched_core.proofs.RanksTold.{told-low, told-rank, told-after, no_lines-after}
+use Rattle.sched_core.proofs.StateUpdates.{stations-set, values-set, values-same, room-set}
+
+pub marks-of_class : (t : Tree Node) (c : Class) → marks_on t [] c ≡ c.marks
+marks-of_class (leaf n) c = refl
+marks-of_class (inner n ts) c = refl
+
+-- what is known of the node at a level: what is kept of it, and that a state is held at its number
+pub record IsHere (e : Passage) (level : ℕ) (s : Waypoint) (states : List NodeState) : Type 0 where
+  pub ready : IsReady e
+  pub short : level ≤ length (class_for e).leaf
+  pub waypoint : IsWaypoint (tree_for e) (class_for e) level s
+  pub kept : AreStations (tree_for e) states
+  pub within : s.node < length states
+
+-- what is known of a step there: this state is held, and the program makes it for whom and with what the visit says
+pub record IsStep (e : Passage) (level : ℕ) (s : Waypoint) (states : List NodeState) (x : NodeState) (p : Program) (w : Who) (n : Env) : Type 0 where
+  pub here : IsHere e level s states
+  pub held : slice_get states s.node ≡ Some x
+  pub program : p ≡ (stop e level).program
+  pub who : w ≡ (stop e level).who
+  pub env : n ≡ (stop e level).env
+
+-- ---- where the digits are those of the class
+module _ {e : Passage} {digits : List ℕ} {level : ℕ} (ready : IsReady e) (to : digits ≡ (class_for e).leaf) where
+  pub here-at : {states : List NodeState} (d : Waypoint) → level ≤ length digits → AreStations (tree_for e) states → IsHere e level (slice_index_or e.waypoints.now level d) states
+  here-at {states} d low kept =
+      let s : Waypoint = slice_index_or e.waypoints.now level d in
+      let short : level ≤ length (class_for e).leaf = omega (arith, low, ap length to) in
+      let waypoint : IsWaypoint (tree_for e) (class_for e) level s = ready.waypoints.each level _ (slice_get-get_or e.waypoints.now level d (omega (arith, short, ready.waypoints.count))) in
+      record {
+        ready = ready;
+        short = short;
+        waypoint = waypoint;
+        kept = kept;
+        within = omega (arith, waypoint.node, (number-of (tree_for e) (class_for e).leaf ready.leads level short).within, kept.count);
+      }
+
+  -- above the leaf the step is made for the child to which the next digit leads
+  pub child-at : level < length digits → Child (slice_index_or digits level 0) ≡ (stop e level).who
+  child-at low =
+      ap (λ (ds : List ℕ). Child (slice_index_or ds level 0)) to
+      ∙ ap (λ (ds : List ℕ). who_on ds e.packet.now) (sym (ahead-next (tree_for e) (class_for e).leaf ready.leads level (omega (arith, low, ap length to))))
+
+  -- and at the leaf for the packet's flow
+  pub flow-at : length digits ≤ level → Flow e.packet.now.flow ≡ (stop e level).who
+  flow-at high = ap (λ (ds : List ℕ). who_on ds e.packet.now) (sym (drop_all level (class_for e).leaf (omega (arith, high, ap length to))))
+
+-- ---- the node at a level
+module _ {e : Passage} {level : ℕ} {s : Waypoint} {states : List NodeState} (h : IsHere e level s states) where
+  abbrev v : Visit
+  v = stop e level
+
+  abbrev marks : Marks
+  marks = marks_on (part e level) (ahead e level) (class_for e)
+
+  there : subtree (tree_for e) (place e level) ≡ Some (part e level)
+  there = there-at (tree_for e) (class_for e).leaf h.ready.leads level h.short
+
+  back : address_at (tree_for e) s.node ≡ place e level
+  back = ap (address_at (tree_for e)) h.waypoint.node ∙ (number-of (tree_for e) (class_for e).leaf h.ready.leads level h.short).address
+
+  next-on : (i : ℕ) (digits : List ℕ) → ahead e level ≡ i ∷ digits → IsNext (part e level) i digits
+  next-on i digits is = next (part e level) i digits (subst (LeadsToLeaf (part e level)) is (leads-at (tree_for e) (class_for e).leaf h.ready.leads level h.short))
+
+  -- ---- the marks that are told there
+  range-on : (digits : List ℕ) → ahead e level ≡ digits → AreMarksInRange (marks_on (part e level) digits (class_for e))
+  range-on [] is = subst AreMarksInRange (sym (marks-of_class (part e level) (class_for e))) h.ready.marks
+  range-on (i ∷ digits) is =
+      let n : IsNext (part e level) i digits = next-on i digits is in
+      subst AreMarksInRange (sym (n.marks (class_for e)))
+      (h.ready.accepted.nodes (place e level ++ i ∷ []) _ (node-of_part (tree_for e) (place e level ++ i ∷ []) n.child (part-down (tree_for e) (place e level) (i ∷ []) (part e level) there ∙ n.there))).marks
+
+  pub range-here : AreMarksInRange (told s.marks)
+  range-here = subst AreMarksInRange (sym h.waypoint.marks) (range-on (ahead e level) refl)
+
+  pub step-here : (d : NodeState) {p : Program} {w : Who} {n : Env} → p ≡ s.checked.now → w ≡ v.who → n ≡ env_for e.packet.now e.moment (told s.marks) → IsStep e level s states (slice_index_or states s.node d) p w n
+  step-here d is-program is-who is-env = record {
+    here = h;
+    held = slice_get-get_or states s.node d h.within;
+    program = is-program ∙ h.waypoint.program;
+    who = is-who;
+    env = is-env ∙ ap (env_for e.packet.now e.moment) h.waypoint.marks;
+  }
+
+  -- ---- where the step changes no variable, all values stay
+  unchanged-here : (f : State → State) → ((x : State) → SameState x (f x)) → ValuesBecome e states states (λ values. with_state values (place e level) (f (values (place e level))))
+  unchanged-here f same values = values-same (tree_for e) states values (place e level) (f (values (place e level))) (same (values (place e level)))
+
+  -- so it is where marks tell the rank
+  module _ {r : ℕ} (is : s.told ≡ Some r) where
+    is-told : rank_told v.program.push marks ≡ Some r
+    is-told =
+        ap (λ (p : Program). rank_told p.push marks) (sym h.waypoint.program)
+        ∙ ap (λ (m : Marks). rank_told s.checked.now.push m) (sym h.waypoint.marks)
+        ∙ sym h.waypoint.rank
+        ∙ is
+
+    pub low-here : r ≤ max_rank
+    low-here = told-low v.program e.packet.now e.moment marks (range-on (ahead e level) refl) r is-told
+
+    pub told-here : ForValues e states (λ values. r ≡ rank_at values v)
+    told-here values _ = sym (told-rank v.program e.packet.now e.moment marks (range-on (ahead e level) refl) r is-told v.who (values (place e level)))
+
+    pub stays-pushed : ValuesBecome e states states (after_pushes (v ∷ []))
+    stays-pushed = unchanged-here (after_push v.program v.who v.env) (told-after v.program e.packet.now e.moment marks (range-on (ahead e level) refl) r is-told v.who)
+
+  -- and where a pop step has no lines
+  pub stays-popped : {p : Program} (ranks : List ℕ) → p ≡ s.checked.now → p.pop ≡ [] → ValuesBecome e states states (after_pops (v ∷ []) ranks)
+  stays-popped ranks is none = unchanged-here (after_pop v.program v.who v.env (slice_index ranks 0))
+      (no_lines-after v.program v.who v.env (slice_index ranks 0) (ap (λ (q : Program). q.pop) (sym (is ∙ h.waypoint.program)) ∙ none))
+
+-- ---- the step that is made there
+module _ {e : Passage} {level : ℕ} {s : Waypoint} {states : List NodeState} {x : NodeState} {p : Program} {w : Who} {n : Env} (made : IsStep e level s states x p w n) where
+  keeps-here : Keeps (tree_for e) states (place e level) x
+  keeps-here = ap (slice_get states) (sym made.here.waypoint.node) ∙ made.held
+
+  station : IsStationOf (part e level) x
+  station = made.here.kept.each (place e level) (part e level) x (there made.here) keeps-here
+
+  values-here : (values : States) → HaveValues (tree_for e) states values → SameState (state_of x) (values (place e level))
+  values-here values are = are (place e level) x (part e level, there made.here) keeps-here
+
+  pub in_range-here : IsStateInRange p (state_of x)
+  in_range-here = subst (λ (q : Program). IsStateInRange q (state_of x)) (sym made.program) station.in_range
+
+  room-on : (digits : List ℕ) → ahead e level ≡ digits → HasRoomAtLeaf e states → HasRoom x (who_on digits e.packet.now)
+  room-on [] is room =
+      let whole : (class_for e).leaf ≡ place e level = sym (take-append-drop level (class_for e).leaf) ∙ ap (λ (ds : List ℕ). place e level ++ ds) is ∙ append-nil (place e level) in
+      subst (λ (a : Address). HasRoomAt (tree_for e) states a (Flow e.packet.now.flow)) whole room x keeps-here
+  room-on (i ∷ digits) is room = station.room i (next-on made.here i digits is).within
+
+  pub room-here : HasRoomAtLeaf e states → HasRoom x w
+  room-here room = subst (λ (u : Who). HasRoom x u) (sym made.who) (room-on (ahead e level) refl room)
+
+  pub rank-here : {r : ℕ} → r ≡ push_rank p w n (state_of x) → ForValues e states (λ values. r ≡ rank_at values (stop e level))
+  rank-here is values are =
+      let v : Visit = stop e level in
+      is ∙ ap (λ m. m.rank) (push_step-same p w n (state_of x) (values (place e level)) (values-here values are))
+      ∙ ap (λ q. push_rank q w n (values (place e level))) made.program
+      ∙ ap (λ u. push_rank v.program u n (values (place e level))) made.who
+      ∙ ap (λ m. push_rank v.program v.who m (values (place e level))) made.env
+
+  -- ---- another state is held after it
+  module _ (x' : NodeState) where
+    pub stations-here : IsStateInRange p (state_of x') → children_of x' ≡ children_of x → ((who : Who) → HasRoom x' who ↔ HasRoom x who) → AreStations (tree_for e) (slice_set states s.node x')
+    stations-here in_range children room = stations-set (tree_for e) states s.node x'
+        (subst (λ (a : Address). IsStationOf (part_at (tree_for e) a) x') (sym (back made.here)) (record {
+          in_range = subst (λ (q : Program). IsStateInRange q (state_of x')) made.program in_range;
+          children = children ∙ station.children;
+          room = λ i belongs. (room (Child i)).1 (station.room i belongs);
+        })) made.here.kept
+
+    pub still-room : ((who : Who) → HasRoom x' who ↔ HasRoom x who) → KeepsRoom e states (slice_set states s.node x')
+    still-room room a who = room-set (tree_for e) states s.node x' x made.held a who (room who).1
+
+    set-here : (f : Program → Who → Env → State → State) → ((a b : State) → SameState a b → SameState (f p w n a) (f p w n b)) → SameState (state_of x') (f p w n (state_of x))
+        → ValuesBecome e states (slice_set states s.node x') (λ values. with_state values (place e level) (f (stop e level).program (stop e level).who (stop e level).env (values (place e level))))
+    set-here f same after values are =
+        let v : Visit = stop e level in
+        let old : State = values (place e level) in
+        let is : f p w n old ≡ f v.program v.who v.env old = ap (λ q. f q w n old) made.program ∙ ap (λ u. f v.program u n old) made.who ∙ ap (λ m. f v.program v.who m old) made.env in
+        let now : SameState (state_of x') (f v.program v.who v.env old) = subst (λ (y : State). SameState (state_of x') y) is (same-trans _ _ _ after (same (state_of x) old (values-here values are))) in
+        subst (λ (a : Address). HaveValues (tree_for e) (slice_set states s.node x') (with_state values a (f v.program v.who v.env old))) (back made.here)
+        (values-set (tree_for e) states s.node x' values (f v.program v.who v.env old) (omega (arith, made.here.within, made.here.kept.count)) now are)
+
+    pub pushed-here : SameState (state_of x') (after_push p w n (state_of x)) → ValuesBecome e states (slice_set states s.node x') (after_pushes (stop e level ∷ []))
+    pushed-here = set-here after_push (after_push-same p w n)
+
+    pub popped-here : (ranks : List ℕ) → SameState (state_of x') (after_pop p w n (slice_index ranks 0) (state_of x)) → ValuesBecome e states (slice_set states s.node x') (after_pops (stop e level ∷ []) ranks)
+    popped-here ranks = set-here (λ q u m. after_pop q u m (slice_index ranks 0)) (after_pop-same p w n (slice_index ranks 0))

@@ -1,0 +1,52 @@
+-- Room that is made at one node.
+use Rattle.std.proofs.Common.{◌≡◌, ◌<◌, ℕ, List, length, Some, sym, ap, ◌∙◌, subst, get_or}
+use Rattle.std.specs.Prelude.{slice_get, slice_set}
+use Rattle.std.proofs.lemmas.Option.{slice_get-get_or}
+use Rattle.tree_defs.specs.Tree.{Tree, Address, LeadsToLeaf, nodes}
+use Rattle.rank_defs.specs.declared.environment.FlowKey.{FlowKey}
+use Rattle.rank_defs.specs.declared.environment.Who.{Who}
+use Rattle.rank_defs.specs.declared.environment.Who.TheVariants.{Child, Flow}
+use Rattle.rank_defs.specs.States.{SameState}
+use Rattle.rank_defs.proofs.SameStates.{same-sym, same-trans, in_range-same}
+use Rattle.rank_core.specs.declared.node.NodeState.{NodeState}
+use Rattle.rank_core.specs.Node.{state_of, children_of, BelongsTo, HasRoom}
+use Rattle.policy_defs.specs.Policy.{Node}
+use Rattle.policy_defs.specs.Numbers.{number_at}
+use Rattle.policy_core.specs.Numbering.{address_at}
+use Rattle.policy_core.proofs.NumberedAddresses.{address-undone}
+use Rattle.sched_defs.specs.Visits.{States}
+use Rattle.sched_core.specs.Kept.{part_at, IsStationOf, AreStations, HaveValues, HasRoomAt}
+use Rattle.sched_core.proofs.TreeParts.{part-is}
+use Rattle.sched_core.proofs.StateUpdates.{set-cases, stations-set, room-set}
+use Rattle.sched_core.proofs.ClassLeaves.{leaf-arity}
+
+module _ (tree : Tree Node) (states : List NodeState) (k : ℕ) (x : NodeState) (within : k < nodes tree) (short : k < length states) (kept : AreStations tree states) (read : x ≡ get_or states k x) where
+  held : slice_get states k ≡ Some x
+  held = slice_get-get_or states k x short ∙ ap Some (sym read)
+
+  station : IsStationOf (part_at tree (address_at tree k)) x
+  station = kept.each (address_at tree k) _ x (part-is tree (address_at tree k) (address-undone tree k within).there) (ap (slice_get states) (address-undone tree k within).number ∙ held)
+
+  pub flow-belongs : (f : FlowKey) → LeadsToLeaf tree (address_at tree k) → BelongsTo (children_of x) (Flow f)
+  flow-belongs f leads = subst (λ o. BelongsTo o (Flow f)) (sym (station.children ∙ leaf-arity tree (address_at tree k) leads)) tt
+
+  module _ (x' : NodeState) (same : SameState (state_of x') (state_of x)) (room : (who : Who) → HasRoom x who → HasRoom x' who) where
+    pub stations-reserved : children_of x' ≡ children_of x → AreStations tree (slice_set states k x')
+    stations-reserved children = stations-set tree states k x' (record {
+      in_range = in_range-same _ (state_of x) (state_of x') (same-sym _ _ same) station.in_range;
+      children = children ∙ station.children;
+      room = λ i belongs. room (Child i) (station.room i belongs);
+    }) kept
+
+    pub values-reserved : (values : States) → HaveValues tree states values → HaveValues tree (slice_set states k x') values
+    values-reserved values h a y p keeps = set-cases states k (number_at tree a) x' y keeps
+        (λ here is. subst (λ (z : NodeState). SameState (state_of z) (values a)) (sym is) (same-trans _ _ _ same (h a x p (ap (slice_get states) here ∙ held))))
+        (λ _ old. h a y p old)
+
+    pub room-reserved : (a : Address) (who : Who) → HasRoomAt tree states a who → HasRoomAt tree (slice_set states k x') a who
+    room-reserved a who = room-set tree states k x' x held a who (room who)
+
+    pub room-made : (a : Address) (who : Who) → number_at tree a ≡ k → HasRoom x' who → HasRoomAt tree (slice_set states k x') a who
+    room-made a who at made y keeps = set-cases states k (number_at tree a) x' y keeps
+        (λ _ is. subst (λ (z : NodeState). HasRoom z who) (sym is) made)
+        (λ apart _. absurd (apart at))

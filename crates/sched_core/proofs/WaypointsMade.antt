@@ -1,0 +1,132 @@
+-- The nodes on the ways of classes, taken from a policy one after another.
+use Rattle.std.proofs.Common.{◌≡◌, ◌<◌, ◌≤◌, ℕ, zero, suc, ◌+◌, List, [], ◌∷◌, ◌++◌, length, map, Some, None, refl, sym, ap, ◌∙◌, subst, arith, take, drop, get_or}
+use Rattle.std.specs.Prelude.{slice_get, slice_index_or, option_map, Vec}
+use Rattle.std.specs.List.{AllByRecursion}
+use Rattle.std.specs.declared.alloc.Global.{Global}
+use Rattle.std.proofs.lemmas.List.{length-append, drop_all}
+use Rattle.std.proofs.lemmas.Option.{slice_get-map, slice_get-get_or}
+use Rattle.tree_defs.specs.Tree.{Tree, leaf, inner, Address, IsAddressOf, LeadsToLeaf, nodes}
+use Rattle.policy_defs.specs.Policy.{Policy, Node, Class as Aimed, Marks as Told, node_at}
+use Rattle.policy_defs.specs.Accepted.{IsAccepted, IsClassReady}
+use Rattle.policy_defs.specs.Numbers.{number_at}
+use Rattle.policy_core.specs.declared.parts.Class.{Class}
+use Rattle.policy_core.specs.declared.parts.Marks.{Marks}
+use Rattle.policy_core.specs.Numbering.{address_at, HasAt}
+use Rattle.policy_core.specs.Parts.{class_in, told}
+use Rattle.sched_core.specs.declared.waypoint.Waypoint.{Waypoint}
+use Rattle.sched_core.specs.Kept.{part_at}
+use Rattle.sched_core.specs.Waypoints.{marks_on, rank_told, IsWaypoint, AreWaypoints}
+use Rattle.sched_core.proofs.TreeParts.{some-is, some-and, node-of_part}
+use Rattle.sched_core.proofs.FirstStates.{last-cases}
+use Rattle.sched_core.proofs.NodeSteps.{marks-of_class}
+use Rattle.sched_core.proofs.Levels.{there-at, number-of, ahead-next, place-next, next-at, child-at}
+
+-- those of the first levels
+pub record HaveStops (tree : Tree Node) (c : Aimed) (waypoints : List Waypoint) (n : ℕ) : Type 0 where
+  pub count : length waypoints ≡ n
+  pub each : (level : ℕ) (s : Waypoint) → slice_get waypoints level ≡ Some s → IsWaypoint tree c level s
+
+pub waypoints-begun : (tree : Tree Node) (c : Aimed) (waypoints : List Waypoint) → waypoints ≡ [] → HaveStops tree c waypoints 0
+waypoints-begun tree c [] e = record { count = refl; each = λ level s at. (let f : None ≡ Some s = at in cc) }
+waypoints-begun tree c (s ∷ waypoints) e = cc
+
+pub waypoints-more : (tree : Tree Node) (c : Aimed) (waypoints more : List Waypoint) (n : ℕ) (s : Waypoint) → HaveStops tree c waypoints n → more ≡ waypoints ++ s ∷ [] → IsWaypoint tree c n s → HaveStops tree c more (n + 1)
+waypoints-more tree c waypoints more n s h is stop = record { count = ap length is ∙ length-append waypoints (s ∷ []) ∙ ap (λ m. m + 1) h.count; each = each }
+  where
+    each : (level : ℕ) (x : Waypoint) → slice_get more level ≡ Some x → IsWaypoint tree c level x
+    each level x at = last-cases waypoints level s x (ap (λ (l : List Waypoint). slice_get l level) (sym is) ∙ at) (h.each level x)
+        (λ last same. subst (λ (j : ℕ). IsWaypoint tree c j x) (sym (last ∙ h.count)) (subst (λ (z : Waypoint). IsWaypoint tree c n z) same stop))
+
+pub waypoints-whole : (tree : Tree Node) (c : Aimed) (waypoints : List Waypoint) (n : ℕ) → HaveStops tree c waypoints (n + 1) → n ≡ length c.leaf → AreWaypoints tree c waypoints
+waypoints-whole tree c waypoints n h is = record { count = h.count ∙ ap (λ m. m + 1) is; each = h.each }
+
+pub root-number : (tree : Tree Node) → 0 ≡ number_at tree []
+root-number (leaf n) = refl
+root-number (inner n ts) = refl
+
+-- what is known of a node that is reached at a level of a class's way
+pub record IsReached (tree : Tree Node) (c : Aimed) (level node : ℕ) : Type 0 where
+  pub leads : LeadsToLeaf tree c.leaf
+  pub short : level ≤ length c.leaf
+  pub number : node ≡ number_at tree (take level c.leaf)
+
+pub reached : {tree : Tree Node} (c : Aimed) {digits : List ℕ} {level node : ℕ} → LeadsToLeaf tree c.leaf → digits ≡ c.leaf → level ≤ length digits → node ≡ number_at tree (take level digits) → IsReached tree c level node
+reached {tree} c {digits} {level} leads to short number = record {
+  leads = leads;
+  short = omega (arith, short, ap length to);
+  number = number ∙ ap (λ (ds : List ℕ). number_at tree (take level ds)) to;
+}
+
+module _ {tree : Tree Node} {c : Aimed} {level : ℕ} {node : ℕ} (r : IsReached tree c level node) where
+  pub node-within : node < nodes tree
+  node-within = omega (arith, r.number, (number-of tree c.leaf r.leads level r.short).within)
+
+  back : address_at tree node ≡ take level c.leaf
+  back = ap (address_at tree) r.number ∙ (number-of tree c.leaf r.leads level r.short).address
+
+  -- what is kept of it
+  pub waypoint-made : {s : Waypoint} {m : Marks} → s.node ≡ node → HasAt tree node (λ n. s.checked.now ≡ n.program) → s.marks ≡ m → s.told ≡ rank_told s.checked.now.push (told m)
+      → told m ≡ marks_on (part_at tree (take level c.leaf)) (drop level c.leaf) c → IsWaypoint tree c level s
+  waypoint-made {s} is-node program marks rank on = record {
+    node = is-node ∙ r.number;
+    program = some-and _ _ (λ n. s.checked.now ≡ n.program) (ap (node_at tree) back ∙ node-of_part tree (take level c.leaf) (part_at tree (take level c.leaf)) (there-at tree c.leaf r.leads level r.short)) program;
+    marks = ap told marks ∙ on;
+    rank = rank ∙ ap (λ (k : Marks). rank_told s.checked.now.push (told k)) (sym marks);
+  }
+
+  pub last-marks : length c.leaf ≤ level → c.marks ≡ marks_on (part_at tree (take level c.leaf)) (drop level c.leaf) c
+  last-marks all =
+      let none : drop level c.leaf ≡ [] = drop_all level c.leaf all in
+      sym (ap (λ (ds : Address). marks_on (part_at tree (take level c.leaf)) ds c) none ∙ marks-of_class (part_at tree (take level c.leaf)) c)
+
+  -- ---- and its child on the way, to which the next digit leads
+  module _ {digits : List ℕ} (to : digits ≡ c.leaf) (more : level < length digits) where
+    further : level < length c.leaf
+    further = omega (arith, more, ap length to)
+
+    down : take level c.leaf ++ get_or c.leaf level 0 ∷ [] ≡ address_at tree node ++ slice_index_or digits level 0 ∷ []
+    down = ap (λ (a : Address). a ++ get_or c.leaf level 0 ∷ []) (sym back) ∙ ap (λ (ds : List ℕ). address_at tree node ++ get_or ds level 0 ∷ []) (sym to)
+
+    pub child-there : IsAddressOf tree (address_at tree node ++ slice_index_or digits level 0 ∷ [])
+    child-there = subst (IsAddressOf tree) down (_, child-at tree c.leaf r.leads level further)
+
+    pub child-number : {child : ℕ} → child ≡ number_at tree (address_at tree node ++ slice_index_or digits level 0 ∷ []) → child ≡ number_at tree (take (level + 1) digits)
+    child-number is = is ∙ ap (number_at tree) (sym down ∙ sym (place-next tree c.leaf r.leads level further)) ∙ ap (λ (ds : List ℕ). number_at tree (take (level + 1) ds)) (sym to)
+
+    pub child-marks : (child : ℕ) {m : Told} → address_at tree child ≡ address_at tree node ++ slice_index_or digits level 0 ∷ [] → HasAt tree child (λ n. m ≡ n.marks) → m ≡ marks_on (part_at tree (take level c.leaf)) (drop level c.leaf) c
+    child-marks child {m} at is =
+        let n = next-at tree c.leaf r.leads level further in
+        some-and _ _ (λ x. m ≡ x.marks) (ap (node_at tree) (at ∙ sym down) ∙ node-of_part tree (take level c.leaf ++ get_or c.leaf level 0 ∷ []) n.child (child-at tree c.leaf r.leads level further)) is
+        ∙ sym (n.marks c)
+        ∙ ap (λ (ds : Address). marks_on (part_at tree (take level c.leaf)) ds c) (sym (ahead-next tree c.leaf r.leads level further))
+
+-- ---- the ways of the first classes
+pub record HaveWays (policy : Policy) (ways : List (Vec Waypoint Global)) (n : ℕ) : Type 0 where
+  pub count : length ways ≡ n
+  pub each : (i : ℕ) (c : Aimed) (w : Vec Waypoint Global) → slice_get policy.classes i ≡ Some c → slice_get ways i ≡ Some w → AreWaypoints policy.tree c w.items
+
+pub ways-begun : (policy : Policy) (ways : List (Vec Waypoint Global)) → ways ≡ [] → HaveWays policy ways 0
+ways-begun policy [] e = record { count = refl; each = λ i c w known at. (let f : None ≡ Some w = at in cc) }
+ways-begun policy (w ∷ ways) e = cc
+
+mapped-at : {X Y : Type 0} (f : X → Y) (P : Y → Type 0) (xs : List X) (i : ℕ) (d : X) → AllByRecursion P (map f xs) → i < length xs → P (f (get_or xs i d))
+mapped-at f P [] i d h l = absurd (omega arith)
+mapped-at f P (x ∷ xs) zero d h l = h.0
+mapped-at f P (x ∷ xs) (suc i) d h l = mapped-at f P xs i d h.1 (omega (arith, l))
+
+-- ---- of the policy's classes, as the code has them
+module _ (policy : Policy) (classes : List Class) (same : map (class_in policy.tree) classes ≡ policy.classes) where
+  pub class-leads : IsAccepted policy → (i : ℕ) (d : Class) → i < length classes → LeadsToLeaf policy.tree (address_at policy.tree (get_or classes i d).leaf)
+  class-leads accepted i d l = (mapped-at (class_in policy.tree) (IsClassReady policy.tree) classes i d (subst (AllByRecursion (IsClassReady policy.tree)) (sym same) accepted.classes) l).leaf_address
+
+  class-known : (i : ℕ) (d : Class) → i < length classes → slice_get policy.classes i ≡ Some (class_in policy.tree (get_or classes i d))
+  class-known i d l = ap (λ (cs : List Aimed). slice_get cs i) (sym same) ∙ slice_get-map (class_in policy.tree) classes i ∙ ap (option_map (class_in policy.tree)) (slice_get-get_or classes i d l)
+
+  pub ways-more : (ways more : List (Vec Waypoint Global)) (n : ℕ) (d : Class) (w : Vec Waypoint Global) → n < length classes → HaveWays policy ways n → more ≡ ways ++ w ∷ [] → AreWaypoints policy.tree (class_in policy.tree (get_or classes n d)) w.items → HaveWays policy more (n + 1)
+  ways-more ways more n d w l h is waypoints = record { count = ap length is ∙ length-append ways (w ∷ []) ∙ ap (λ m. m + 1) h.count; each = each }
+    where
+      each : (i : ℕ) (c : Aimed) (x : Vec Waypoint Global) → slice_get policy.classes i ≡ Some c → slice_get more i ≡ Some x → AreWaypoints policy.tree c x.items
+      each i c x known at = last-cases ways i w x (ap (λ (ws : List (Vec Waypoint Global)). slice_get ws i) (sym is) ∙ at) (h.each i c x known)
+          (λ last same.
+          let is-class : class_in policy.tree (get_or classes n d) ≡ c = some-is (sym (class-known n d l) ∙ ap (slice_get policy.classes) (sym (last ∙ h.count)) ∙ known) in
+          subst (λ (k : Aimed). AreWaypoints policy.tree k x.items) is-class (subst (λ (z : Vec Waypoint Global). AreWaypoints policy.tree (class_in policy.tree (get_or classes n d)) z.items) same waypoints))

@@ -1,0 +1,16 @@
+use Rattle.std.proofs.Common.{◌≡◌, length, take}
+use Rattle.sched_core.specs.Kept.{AreStations}
+use Rattle.sched_core.specs.Ways.{tree_for, AreLowRanks, ForValues, KeepsRoom}
+use Rattle.sched_core.proofs.StepsMade.{HavePushed}
+use Rattle.sched_core.proofs.walk.push_along.Given as goal
+
+abbrev pub invariant-loop-level : goal.invariant-loop-level
+invariant-loop-level l = record {
+  kept : AreStations (tree_for l.passage) l.states;
+  room : KeepsRoom l.passage l.initial.states l.states;
+  digits : l.trace.digits ≡ take l.level l.digits;
+  count : length l.trace.ranks ≡ l.level;
+  low : AreLowRanks l.trace.ranks;
+  spare : l.trace.room ≡ l.initial.trace.room;
+  pushed : ForValues l.passage l.initial.states (λ v. HavePushed l.passage v l.level l.states l.trace.ranks);
+}

@@ -1,0 +1,75 @@
+-- The nodes on the ways of a policy's classes, as they are kept.
+use Rattle.std.specs.Prelude.{◌≡◌, ◌+◌, ℕ, List, [], ◌∷◌, Option, Some, None, length, slice_get, take, drop, Vec}
+use Rattle.std.specs.Coded.{Coded-set, coded_ℕ, coded_option}
+use Rattle.std.specs.declared.alloc.Global.{Global}
+use Rattle.tree_defs.specs.Tree.{Tree, leaf, inner, root_of}
+use Rattle.rank_defs.specs.declared.expression.Var.TheVariants.{Prio, Weight, Slack}
+use Rattle.rank_defs.specs.declared.transaction.Aim.{Aim}
+use Rattle.rank_defs.specs.declared.transaction.Aim.TheVariants.{Rank}
+use Rattle.rank_defs.specs.Formulas.{Formula, variable}
+use Rattle.rank_defs.specs.Programs.{Assignment}
+use Rattle.range_core.specs.Codes.{program_code}
+use Rattle.policy_defs.specs.Policy.{Policy, Node, Class, Marks}
+use Rattle.policy_defs.specs.Numbers.{number_at}
+use Rattle.policy_core.specs.Codes.{marks_code}
+use Rattle.policy_core.specs.Parts.{told}
+use Rattle.sched_defs.specs.Visits.{child_marks}
+use Rattle.sched_core.specs.declared.waypoint.Waypoint.{Waypoint}
+use Rattle.sched_core.specs.Kept.{part_at}
+
+-- the marks that a step is told, if the way of a class goes on along digits from the root of this part
+abbrev pub marks_on : Tree Node → List ℕ → Class → Marks
+marks_on (leaf n) digits c = c.marks
+marks_on (inner n ts) [] c = c.marks
+marks_on (inner n ts) (i ∷ digits) c = child_marks ts i
+
+-- the rank of a push step whose one line gives a mark
+abbrev pub mark_told : Aim → Formula → Marks → Option ℕ
+mark_told Rank (variable Prio) m = Some m.prio
+mark_told Rank (variable Weight) m = Some m.weight
+mark_told Rank (variable Slack) m = Some m.slack
+mark_told aim formula m = None
+
+-- the rank of a push step, where marks alone tell it and the step does nothing else
+abbrev pub rank_told : List Assignment → Marks → Option ℕ
+rank_told [] m = Some 0
+rank_told (a ∷ []) m = mark_told a.aim a.formula m
+rank_told (a ∷ b ∷ rest) m = None
+
+-- what is kept of the node at a level of a class's way, the root's being 0
+pub record IsWaypoint (tree : Tree Node) (c : Class) (level : ℕ) (s : Waypoint) : Type 0 where
+  pub node : s.node ≡ number_at tree (take level c.leaf)
+  pub program : s.checked.now ≡ (root_of (part_at tree (take level c.leaf))).program
+  pub marks : told s.marks ≡ marks_on (part_at tree (take level c.leaf)) (drop level c.leaf) c
+  pub rank : s.told ≡ rank_told s.checked.now.push (told s.marks)
+
+-- one for each node on the way
+pub record AreWaypoints (tree : Tree Node) (c : Class) (waypoints : List Waypoint) : Type 0 where
+  pub count : length waypoints ≡ length c.leaf + 1
+  pub each : (level : ℕ) (s : Waypoint) → slice_get waypoints level ≡ Some s → IsWaypoint tree c level s
+
+-- those of each class
+pub record AreWays (policy : Policy) (ways : List (Vec Waypoint Global)) : Type 0 where
+  pub count : length ways ≡ length policy.classes
+  pub each : (i : ℕ) (c : Class) (w : Vec Waypoint Global) → slice_get policy.classes i ≡ Some c → slice_get ways i ≡ Some w → AreWaypoints policy.tree c w.items
+
+IsWaypoint-prop : (tree : Tree Node) (c : Class) (level : ℕ) (s : Waypoint) → IsProp (IsWaypoint tree c level s)
+IsWaypoint-prop tree c level s a b i = record {
+  node = Coded-set coded_ℕ _ _ a.node b.node i;
+  program = Coded-set program_code _ _ a.program b.program i;
+  marks = Coded-set marks_code _ _ a.marks b.marks i;
+  rank = Coded-set (coded_option coded_ℕ) _ _ a.rank b.rank i;
+}
+
+AreWaypoints-prop : (tree : Tree Node) (c : Class) (waypoints : List Waypoint) → IsProp (AreWaypoints tree c waypoints)
+AreWaypoints-prop tree c waypoints a b i = record {
+  count = Coded-set coded_ℕ _ _ a.count b.count i;
+  each = λ level s at. IsWaypoint-prop tree c level s (a.each level s at) (b.each level s at) i;
+}
+
+-- a proof of it tells no more than that it holds
+pub AreWays-prop : (policy : Policy) (ways : List (Vec Waypoint Global)) → IsProp (AreWays policy ways)
+AreWays-prop policy ways a b i = record {
+  count = Coded-set coded_ℕ _ _ a.count b.count i;
+  each = λ n c w known kept. AreWaypoints-prop policy.tree c w.items (a.each n c w known kept) (b.each n c w known kept) i;
+}

@@ -1,0 +1,78 @@
+-- The way of a packet from the root down to the leaf of its class. The root's level is 0.
+use Rattle.std.specs.Prelude.{◌≤◌, ℕ, List, [], ◌∷◌, take, drop}
+use Rattle.std.specs.List.{AllByRecursion}
+use Rattle.tree_defs.specs.Tree.{Tree, Address, LeadsToLeaf, root_of}
+use Rattle.rank_defs.specs.declared.environment.Who.{Who}
+use Rattle.rank_defs.specs.declared.environment.Who.TheVariants.{Child, Flow}
+use Rattle.rank_defs.specs.Programs.{max_rank}
+use Rattle.rank_defs.specs.Shapes.{max_len}
+use Rattle.rank_core.specs.declared.node.NodeState.{NodeState}
+use Rattle.packet_defs.specs.declared.packet.Packet.{Packet}
+use Rattle.policy_defs.specs.Policy.{Node, Class}
+use Rattle.policy_defs.specs.Accepted.{IsAccepted, AreMarksInRange}
+use Rattle.policy_core.specs.Parts.{class_in}
+use Rattle.sched_defs.specs.Visits.{States, Visit, visit, env_for, visits_from}
+use Rattle.sched_core.specs.declared.passage.Passage.{Passage}
+use Rattle.sched_core.specs.Kept.{part_at, HasRoomAt, HaveValues}
+use Rattle.sched_core.specs.Waypoints.{marks_on, AreWaypoints}
+
+abbrev pub tree_for : Passage → Tree Node
+tree_for e = e.policy.now.policy.tree
+
+abbrev pub class_for : Passage → Class
+class_for e = class_in (tree_for e) e.class.now
+
+-- the address of the node on the way at a level
+abbrev pub place : Passage → ℕ → Address
+place e level = take level (class_for e).leaf
+
+-- the digits along which the way goes on from there
+abbrev pub ahead : Passage → ℕ → List ℕ
+ahead e level = drop level (class_for e).leaf
+
+-- the part of the tree from that node down
+abbrev pub part : Passage → ℕ → Tree Node
+part e level = part_at (tree_for e) (place e level)
+
+-- the policy is accepted, the nodes on the way are those of the class, and the numbers that steps are told are in range
+pub record IsReady (e : Passage) : Type 0 where
+  pub accepted : IsAccepted e.policy.now.policy
+  pub leads : LeadsToLeaf (tree_for e) (class_for e).leaf
+  pub waypoints : AreWaypoints (tree_for e) (class_for e) e.waypoints.now
+  pub marks : AreMarksInRange (class_for e).marks
+  pub len : e.packet.now.len ≤ max_len
+  pub moment : e.moment ≤ max_rank
+
+-- the child or the flow for which a node makes its step, if the way goes on along digits
+abbrev pub who_on : List ℕ → Packet → Who
+who_on [] p = Flow p.flow
+who_on (i ∷ digits) p = Child i
+
+-- the visit to the node at a level
+abbrev pub stop : Passage → ℕ → Visit
+stop e level =
+    visit (place e level) (root_of (part e level)).program (who_on (ahead e level) e.packet.now) (env_for e.packet.now e.moment (marks_on (part e level) (ahead e level) (class_for e)))
+
+-- the visits from there down
+abbrev pub way : Passage → ℕ → List Visit
+way e level = visits_from (part e level) (place e level) (ahead e level) (class_for e) e.packet.now e.moment
+
+-- the leaf has room for the packet's flow
+abbrev pub HasRoomAtLeaf : Passage → List NodeState → Type 0
+HasRoomAtLeaf e states = HasRoomAt (tree_for e) states (class_for e).leaf (Flow e.packet.now.flow)
+
+-- each is at most the greatest rank
+abbrev pub AreLowRanks : List ℕ → Type 0
+AreLowRanks ranks = AllByRecursion (λ r. r ≤ max_rank) ranks
+
+-- P holds of all values that the variables have
+abbrev pub ForValues : Passage → List NodeState → (States → Type 0) → Type 0
+ForValues e states P = (values : States) → HaveValues (tree_for e) states values → P values
+
+-- whatever values the variables had, they have others now
+abbrev pub ValuesBecome : Passage → List NodeState → List NodeState → (States → States) → Type 0
+ValuesBecome e old new f = ForValues e old (λ values. HaveValues (tree_for e) new (f values))
+
+-- where there was room, there is room
+abbrev pub KeepsRoom : Passage → List NodeState → List NodeState → Type 0
+KeepsRoom e old new = (a : Address) (who : Who) → HasRoomAt (tree_for e) old a who → HasRoomAt (tree_for e) new a who

@@ -1,0 +1,151 @@
+//! The steps of the nodes on a packet's way.
+ghost use Rattle.std.specs.Prelude.{◌≡◌, ◌≤◌, ◌<◌, ◌+◌, ◌∷◌, [], length};
+ghost use Rattle.tree_defs.specs.Tree.{depth, nodes};
+ghost use Rattle.rank_defs.specs.Programs.{max_rank};
+ghost use Rattle.sched_defs.specs.Visits.{rank_at, ranks_pushed, after_pushes, after_pops};
+ghost use Rattle.sched_core.specs.Kept.{AreStations};
+ghost use Rattle.sched_core.specs.Ways.{IsReady, tree_for, class_for, stop, way, HasRoomAtLeaf, AreLowRanks, ForValues, ValuesBecome, KeepsRoom};
+
+use crate::passage::Passage;
+use rank_core::{NodeState, Who, run_pop, run_push};
+use tree_core::Taken;
+
+/// The lines of the push step at a level of the way. The answer is the packet's rank there.
+#[inline(never)]
+fn push_lines(states: &mut [NodeState], passage: &Passage, digits: &[u32], level: usize) -> u64
+    requires ready { IsReady passage.now }
+    requires digits { digits.now ≡ (class_for passage.now).leaf }
+    requires level { level ≤ length digits.now }
+    requires kept { AreStations (tree_for passage.now) states.old }
+    requires room { HasRoomAtLeaf passage.now states.old }
+    ensures rank { ForValues passage.now states.old (λ v. result ≡ rank_at v (stop passage.now level)) }
+    ensures values { ValuesBecome passage.now states.old states.new (after_pushes (stop passage.now level ∷ [])) }
+    ensures kept { AreStations (tree_for passage.now) states.new }
+    ensures room { KeepsRoom passage.now states.old states.new }
+    ensures limit { result ≤ max_rank }
+{
+    let waypoint = &passage.waypoints[level];
+    let transaction = waypoint.checked.transaction();
+    let state = &mut states[waypoint.node as usize];
+    let env = passage.env(&waypoint.marks);
+    if level < digits.len() {
+        return run_push(transaction, state, &Who::Child(digits[level]), &env);
+    }
+    run_push(transaction, state, &Who::Flow(passage.packet.flow), &env)
+}
+
+/// The push step at a level of the way. The answer is the packet's rank there. Where the marks alone tell it, as in most nodes,
+/// nothing is looked up for it.
+#[inline(always)]
+fn push_at(states: &mut [NodeState], passage: &Passage, digits: &[u32], level: usize) -> u64
+    requires ready { IsReady passage.now }
+    requires digits { digits.now ≡ (class_for passage.now).leaf }
+    requires level { level ≤ length digits.now }
+    requires kept { AreStations (tree_for passage.now) states.old }
+    requires room { HasRoomAtLeaf passage.now states.old }
+    ensures rank { ForValues passage.now states.old (λ v. result ≡ rank_at v (stop passage.now level)) }
+    ensures values { ValuesBecome passage.now states.old states.new (after_pushes (stop passage.now level ∷ [])) }
+    ensures kept { AreStations (tree_for passage.now) states.new }
+    ensures room { KeepsRoom passage.now states.old states.new }
+    ensures limit { result ≤ max_rank }
+{
+    let waypoint = &passage.waypoints[level];
+    match waypoint.told {
+        Some(rank) => rank,
+        None => push_lines(states, passage, digits, level),
+    }
+}
+
+/// The lines of the pop step at a level of the way, where the packet was taken with a rank.
+#[inline(never)]
+fn pop_lines(states: &mut [NodeState], passage: &Passage, digits: &[u32], level: usize, rank: u64)
+    requires ready { IsReady passage.now }
+    requires digits { digits.now ≡ (class_for passage.now).leaf }
+    requires level { level ≤ length digits.now }
+    requires kept { AreStations (tree_for passage.now) states.old }
+    requires room { HasRoomAtLeaf passage.now states.old }
+    requires limit { rank ≤ max_rank }
+    ensures values { ValuesBecome passage.now states.old states.new (after_pops (stop passage.now level ∷ []) (rank ∷ [])) }
+    ensures kept { AreStations (tree_for passage.now) states.new }
+    ensures room { KeepsRoom passage.now states.old states.new }
+{
+    let waypoint = &passage.waypoints[level];
+    let transaction = waypoint.checked.transaction();
+    let state = &mut states[waypoint.node as usize];
+    let env = passage.env(&waypoint.marks);
+    if level < digits.len() {
+        run_pop(transaction, state, &Who::Child(digits[level]), rank, &env);
+    } else {
+        run_pop(
+            transaction,
+            state,
+            &Who::Flow(passage.packet.flow),
+            rank,
+            &env,
+        );
+    }
+}
+
+/// The pop step at a level of the way, where the packet was taken with a rank. Where the node has no lines, as most have none,
+/// nothing is looked up for it.
+#[inline(always)]
+fn pop_at(states: &mut [NodeState], passage: &Passage, digits: &[u32], level: usize, rank: u64)
+    requires ready { IsReady passage.now }
+    requires digits { digits.now ≡ (class_for passage.now).leaf }
+    requires level { level ≤ length digits.now }
+    requires kept { AreStations (tree_for passage.now) states.old }
+    requires room { HasRoomAtLeaf passage.now states.old }
+    requires limit { rank ≤ max_rank }
+    ensures values { ValuesBecome passage.now states.old states.new (after_pops (stop passage.now level ∷ []) (rank ∷ [])) }
+    ensures kept { AreStations (tree_for passage.now) states.new }
+    ensures room { KeepsRoom passage.now states.old states.new }
+{
+    let waypoint = &passage.waypoints[level];
+    if !waypoint.checked.transaction().pop.is_empty() {
+        pop_lines(states, passage, digits, level, rank);
+    }
+}
+
+/// The push steps from the root down to the leaf. `trace` gets the digits and the ranks.
+pub fn push_along(states: &mut [NodeState], passage: &Passage, trace: &mut Taken)
+    requires ready { IsReady passage.now }
+    requires leaf { passage.now.class.now.leaf < nodes (tree_for passage.now) }
+    requires kept { AreStations (tree_for passage.now) states.old }
+    requires room { HasRoomAtLeaf passage.now states.old }
+    requires levels { depth (tree_for passage.now) ≤ trace.old.room }
+    ensures digits { trace.new.digits ≡ (class_for passage.now).leaf }
+    ensures ranks { ForValues passage.now states.old (λ v. trace.new.ranks ≡ ranks_pushed v (way passage.now 0)) }
+    ensures values { ValuesBecome passage.now states.old states.new (after_pushes (way passage.now 0)) }
+    ensures kept { AreStations (tree_for passage.now) states.new }
+    ensures room { KeepsRoom passage.now states.old states.new }
+    ensures limit { AreLowRanks trace.new.ranks }
+    ensures spare { trace.new.room ≡ trace.old.room }
+{
+    let digits = passage.policy.address(passage.class.leaf);
+    trace.clear();
+    for level in 0..digits.len() {
+        let rank = push_at(states, passage, digits, level);
+        trace.step(digits[level], rank);
+    }
+    let rank = push_at(states, passage, digits, digits.len());
+    trace.last(rank);
+}
+
+/// The pop steps from the root down to the leaf, with the ranks that were taken on these digits.
+pub fn pop_along(states: &mut [NodeState], passage: &Passage, digits: &[u32], ranks: &[u64])
+    requires ready { IsReady passage.now }
+    requires digits { digits.now ≡ (class_for passage.now).leaf }
+    requires kept { AreStations (tree_for passage.now) states.old }
+    requires room { HasRoomAtLeaf passage.now states.old }
+    requires even { length ranks.now ≡ length digits.now + 1 }
+    requires limit { AreLowRanks ranks.now }
+    ensures values { ValuesBecome passage.now states.old states.new (after_pops (way passage.now 0) ranks.now) }
+    ensures kept { AreStations (tree_for passage.now) states.new }
+    ensures room { KeepsRoom passage.now states.old states.new }
+{
+    for level in 0..digits.len() {
+        pop_at(states, passage, digits, level, ranks[level]);
+    }
+    let leaf = digits.len();
+    pop_at(states, passage, digits, leaf, ranks[leaf]);
+}

@@ -1,0 +1,17 @@
+-- The send time is the least that is enough.
+use Rattle.std.proofs.Common.{◌≡◌, ◌+◌, ◌*◌, ◌<◌, arith}
+use Rattle.std.proofs.Math.Nat.{lt_of_mul-lt-mul_right}
+use Rattle.std.proofs.lemmas.Grind.{div_ceil_times}
+use Rattle.sched_defs.specs.SendTime.{send_time, SendTimeIsLeast}
+
+pub send_time-least : SendTimeIsLeast
+send_time-least len rate is =
+    let bounds = div_ceil_times (len * 1000000000) rate is.0 in
+    record {
+      enough = bounds.0;
+      least = λ other enough.
+          let more : (other + 1) * rate ≡ other * rate + rate = grind arith in
+          let below : send_time len rate * rate < (other + 1) * rate = rw more (omega (arith, bounds.1, enough)) in
+          let close = lt_of_mul-lt-mul_right rate below in
+          omega arith;
+    }

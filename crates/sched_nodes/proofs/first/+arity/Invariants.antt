@@ -1,5 +1,0 @@
-use Rattle.std.proofs.Common.{length}
-use Rattle.sched_nodes.proofs.first.+arity.Given as goal
-
-abbrev pub decreases-arity : goal.decreases-arity
-decreases-arity l = length l.address.now

@@ -1,6 +1,0 @@
-use Rattle.tree_core.specs.Shape.{topology}
-use Rattle.embed_core.proofs.MapShapes.{leads-alike}
-use Rattle.target_tests.proofs.embed.lifts_to.Goals as goal
-
-pub lift-requires-clause-leaf : goal.lift-requires-clause-leaf
-lift-requires-clause-leaf c = leads-alike (topology c.args.topo.now) c.args.map.now c.args.taken.now.digits c.requires.shape c.requires.leaf
