@@ -6,7 +6,7 @@ use Rattle.std.specs.Prelude.{slice_index}
 use Rattle.std.specs.List.{AllByRecursion, range_with_len}
 use Rattle.tree_defs.specs.Tree.{Tree, leaf, inner, Trees, none, more, Address, root_of}
 use Rattle.embed_defs.specs.Lift.{lift_ranks, lift_ranks_below}
-use Rattle.embed_core.specs.declared.lane.Lane.{Lane}
+use Rattle.embed_core.specs.declared.lifted_path.LiftedPath.{LiftedPath}
 use Rattle.embed_core.specs.Lanes.{IsLaneTo}
 
 map-replicate : (f : ℕ → ℕ) (n x : ℕ) → map f (replicate n x) ≡ replicate n (f x)
@@ -74,7 +74,7 @@ range-below a zero = tt
 range-below a (suc n) = (omega arith, let h : AreBelow (a + 1 + n) (range_with_len (a + 1) n) = range-below (a + 1) n in let e : a + 1 + n ≡ a + suc n = omega arith in subst (λ (z : ℕ). AreBelow z (range_with_len (a + 1) n)) e h)
 
 -- what a lane lifts is the lift of the map, and its steps are steps of the way
-module _ (images : Tree Address) (address : Address) (lane : Lane) (is : IsLaneTo images address lane) where
+module _ (images : Tree Address) (address : Address) (lane : LiftedPath) (is : IsLaneTo images address lane) where
   pub lane-lift : (ranks : List ℕ) → length ranks ≡ length address + 1 → map (slice_index ranks) lane.steps.items ≡ lift_ranks images address ranks
   lane-lift ranks n =
       ap (map (slice_index ranks)) is.steps

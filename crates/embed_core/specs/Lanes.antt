@@ -4,10 +4,10 @@ use Rattle.std.specs.List.{range_with_len}
 use Rattle.tree_defs.specs.Tree.{Tree, Address}
 use Rattle.embed_defs.specs.Images.{image_map}
 use Rattle.embed_defs.specs.Lift.{lift_ranks}
-use Rattle.embed_core.specs.declared.lane.Lane.{Lane}
+use Rattle.embed_core.specs.declared.lifted_path.LiftedPath.{LiftedPath}
 
 -- it has the leaf's image, and where a lift has a step's rank it has the number of the step
-pub record IsLaneTo (images : Tree Address) (address : Address) (lane : Lane) : Type 0 where
+pub record IsLaneTo (images : Tree Address) (address : Address) (lane : LiftedPath) : Type 0 where
   pub image : lane.image.items ≡ image_map images address
   pub long : length lane.steps.items ≡ length lane.image.items + 1
   pub steps : lane.steps.items ≡ lift_ranks images address (range_with_len 0 (length address + 1))

@@ -3,13 +3,13 @@
 #![tactic(auto)]
 
 mod block;
-mod lane;
+mod lifted_path;
 mod map;
 mod needs;
 mod order;
 mod way;
 
-pub use lane::Lane;
+pub use lifted_path::LiftedPath;
 pub use map::{EmbedFault, Map, embed, least_height, lift, pick};
 pub use target_core::{Target, TargetFault, read_target};
 pub use way::Way;

@@ -4,7 +4,7 @@ use Rattle.std.specs.List.{AllByRecursion}
 use Rattle.std.proofs.lemmas.Bool.{eq-eqb}
 use Rattle.pcap_defs.specs.Packet.{CapturedPacket}
 use Rattle.pcap_defs.specs.Contents.{FaultAt, Contents}
-use Rattle.forward_defs.specs.OneLink.{other_link, of_link, of_one_link, behind_packet}
+use Rattle.forward_defs.specs.SingleLinkType.{other_link, of_link, of_one_link, behind_packet}
 use Rattle.forward_defs.specs.Laws.{OneLinkIsWhole}
 
 behind_one : (t : Bool) → t ≡ true → (n : ℕ) (p : CapturedPacket) (others whole : Contents) → others ≡ whole

@@ -15,7 +15,7 @@ use Rattle.sched_defs.specs.Link.{link_course}
 use Rattle.sched_defs.specs.Packets.{Captured}
 use Rattle.forward_defs.specs.Sendings.{Sending, sendings, up_to_late, has_late}
 use Rattle.forward_defs.specs.Forwarded.{sent_packet, forward_bytes}
-use Rattle.forward_defs.specs.OneLink.{of_one_link}
+use Rattle.forward_defs.specs.SingleLinkType.{of_one_link}
 
 -- a capture of these departures, and of nothing else, without a fault
 abbrev pub holds_sendings : ℕ → Captured → List Sending → FileContents

@@ -1,5 +1,5 @@
 pub mod Sendings
 pub mod Forwarded
-pub mod OneLink
+pub mod SingleLinkType
 pub mod Keeping
 pub mod Laws

@@ -137,7 +137,7 @@ impl<'a> Classifier<'a> {
 
     /// Puts into a packet of its original length the class and the flow that its captured bytes tell.
     #[inline]
-    pub fn sort(&self, link: u16, bytes: &[u8], packet: &mut Packet)
+    pub fn classify(&self, link: u16, bytes: &[u8], packet: &mut Packet)
         ensures { IsSorted (policy_of self.now) (fields_of link bytes.now) packet.old packet.new }
     {
         match link {

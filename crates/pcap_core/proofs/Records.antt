@@ -14,7 +14,7 @@ use Rattle.pcap_defs.proofs.Headers.{head_of-header, head_of-fault}
 use Rattle.pcap_defs.proofs.FrontTests.{front_of-spelled, front_of-fault}
 use Rattle.capture_core.specs.Rest.{TakesFront, IsWhole, LeavesNothing, IsShort}
 use Rattle.capture_core.specs.Passed.{Passes, IsAll}
-use Rattle.pcap_core.specs.declared.preface.Preface.{Preface}
+use Rattle.pcap_core.specs.declared.record_header.RecordHeader.{RecordHeader}
 use Rattle.pcap_core.specs.Rest.{TakesHeader, TakesPreface, TakesRecord}
 use Rattle.pcap_core.specs.Frames.{IsFrameOf, IsFrontFault}
 
@@ -88,7 +88,7 @@ short-passed most n None all cut = tt
 short-passed most n (Some rest) all cut = omega (arith, all, cut)
 
 -- captured bytes that end too soon
-pub data-broken : (head : Head) (n k : ℕ) (p : Preface) (old mid : Option (List ℕ)) → TakesPreface head p old mid → IfSome mid (λ rest. length rest < p.captured)
+pub data-broken : (head : Head) (n k : ℕ) (p : RecordHeader) (old mid : Option (List ℕ)) → TakesPreface head p old mid → IfSome mid (λ rest. length rest < p.captured)
     → n < most_records → k ≡ n + 1 → p.captured ≤ most_captured → IfSome old (λ left. IsRecordFault head.big n left (data_cut k))
 data-broken head n k p None mid taken cut few number short = tt
 data-broken head n k p (Some left) None (front, says, taken) cut few number short = absurd taken
@@ -98,7 +98,7 @@ data-broken head n k p (Some left) (Some rest) (front, says, taken) cut few numb
     (few, number, omega (arith, len, says.whole), omega (arith, counted, says.counted, short), omega (arith, counted, len, says.whole, says.counted, cut))
 
 -- a record in two pieces, and what is told of it
-pub frame-taken : (head : Head) (number : ℕ) (p : Preface) (captured : List ℕ) (old mid new : Option (List ℕ)) → TakesPreface head p old mid → TakesFront mid new captured
+pub frame-taken : (head : Head) (number : ℕ) (p : RecordHeader) (captured : List ℕ) (old mid new : Option (List ℕ)) → TakesPreface head p old mid → TakesFront mid new captured
     → p.captured ≤ most_captured → p.captured ≡ length captured
     → (r : Record) × IsFrameOf head.nano r (record { number = number; moment = p.moment; captured = p.captured; len = p.len }) captured × TakesRecord head.big r old new
 frame-taken head number p captured old mid new (front, says, first) second short counted = (
@@ -115,7 +115,7 @@ passed-taken n (Some mid) (Some new) passed =
     (take n mid, omega (arith, length-take n mid, passed.0), sym (take-append-drop n mid) ∙ ap (λ xs. take n mid ++ xs) (sym passed.1))
 
 -- a record whose captured bytes were passed over
-pub record-passed : (head : Head) (n : ℕ) (p : Preface) (old mid new : Option (List ℕ)) → TakesPreface head p old mid → Passes n mid new → n ≡ p.captured → p.captured ≤ most_captured
+pub record-passed : (head : Head) (n : ℕ) (p : RecordHeader) (old mid new : Option (List ℕ)) → TakesPreface head p old mid → Passes n mid new → n ≡ p.captured → p.captured ≤ most_captured
     → (r : Record) × TakesRecord head.big r old new
 record-passed head n p old mid new taken passed all short =
     let (captured, counted, second) = passed-taken n mid new passed in

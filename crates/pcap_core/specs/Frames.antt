@@ -5,7 +5,7 @@ use Rattle.pcap_defs.specs.Fault.{Fault, data_cut}
 use Rattle.pcap_defs.specs.Number.{long_at}
 use Rattle.pcap_defs.specs.Record.{Record, moment, moment_at, captured_len, record_len, IsRecordFault}
 use Rattle.capture_core.specs.declared.frame.Frame.{Frame}
-use Rattle.pcap_core.specs.declared.preface.Preface.{Preface}
+use Rattle.pcap_core.specs.declared.record_header.RecordHeader.{RecordHeader}
 
 -- The frame is that of the record, and these are the captured bytes.
 pub record IsFrameOf (nano : Bool) (r : Record) (frame : Frame) (bytes : List ℕ) : Type 0 where
@@ -19,7 +19,7 @@ IsFrontFault big n front (data_cut k) = ⊥
 IsFrontFault big n front fault = IsRecordFault big n front fault
 
 -- the sixteen bytes before a record's captured ones say this of them
-pub record IsPreface (head : Head) (p : Preface) (front : List ℕ) : Type 0 where
+pub record IsPreface (head : Head) (p : RecordHeader) (front : List ℕ) : Type 0 where
   pub whole : length front ≡ record_len
   pub moment_is : p.moment ≡ moment_at head.nano (long_at head.big 0 front) (long_at head.big 4 front)
   pub counted : p.captured ≡ captured_len head.big front

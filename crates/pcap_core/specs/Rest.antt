@@ -4,7 +4,7 @@ use Rattle.capture_core.specs.Rest.{TakesFront}
 use Rattle.pcap_defs.specs.declared.head.Head.{Head}
 use Rattle.pcap_defs.specs.Header.{IsHeader}
 use Rattle.pcap_defs.specs.Record.{Record, IsSpelling}
-use Rattle.pcap_core.specs.declared.preface.Preface.{Preface}
+use Rattle.pcap_core.specs.declared.record_header.RecordHeader.{RecordHeader}
 use Rattle.pcap_core.specs.Frames.{IsPreface}
 
 -- what was left is an accepted header that says so, and what is left now
@@ -12,7 +12,7 @@ abbrev pub TakesHeader : Head → Option (List ℕ) → Option (List ℕ) → Ty
 TakesHeader head old new = (header : List ℕ) × IsHeader head header × TakesFront old new header
 
 -- what was left begins with sixteen bytes that say this, and what is left now
-abbrev pub TakesPreface : Head → Preface → Option (List ℕ) → Option (List ℕ) → Type 0
+abbrev pub TakesPreface : Head → RecordHeader → Option (List ℕ) → Option (List ℕ) → Type 0
 TakesPreface head p old new = (front : List ℕ) × IsPreface head p front × TakesFront old new front
 
 -- what was left is the spelling of the record, and what is left now

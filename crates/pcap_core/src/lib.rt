@@ -5,7 +5,7 @@ mod capture;
 mod fault;
 mod header;
 mod laws;
-mod preface;
+mod record_header;
 mod reader;
 mod writing;
 

@@ -13,7 +13,7 @@ ghost use Rattle.pcap_core.specs.Rest.{TakesHeader, TakesPreface, TakesRecord};
 
 use crate::fault::CaptureFault;
 use crate::header::{HEADER_LEN, head_in};
-use crate::preface::{Preface, RECORD_LEN, preface_in};
+use crate::record_header::{RecordHeader, RECORD_LEN, preface_in};
 use capture_core::{Frame, Window};
 use outside_core::Shelf;
 use pcap_defs::Head;
@@ -41,13 +41,13 @@ fn read_head<S: Shelf>(
 
 /// Reads what the next record, behind so many, says of its captured bytes. They are looked at where they lie, if all are held.
 #[inline(always)]
-fn read_preface<S: Shelf>(
+fn read_record_header<S: Shelf>(
     head: Head,
     count: u32,
     window: &mut Window,
     shelf: &mut S,
     scratch: &mut Vec<u8>,
-) -> Result<Option<Preface>, CaptureFault>
+) -> Result<Option<RecordHeader>, CaptureFault>
     requires begun { IsTrue (S.begun shelf.old) }
     ensures told { IfOk result (λ o. IfSome o (λ preface.
         TakesPreface head preface (rest_of (held window.old) (S.left shelf.old))
@@ -107,7 +107,7 @@ fn read_record<S: Shelf>(
     ensures shelf { Serves S.lends S.content S.begun S.faults shelf.old shelf.new }
     ensures cause { IsErrOf result CaptureFault.ReadFault → Rose (S.faults shelf.old) (S.faults shelf.new) }
 {
-    let Some(preface) = read_preface(head, count, window, shelf, into)? else {
+    let Some(preface) = read_record_header(head, count, window, shelf, into)? else {
         return Ok(None);
     };
     window.take_anew(shelf, into, preface.captured as usize)?;
@@ -147,7 +147,7 @@ fn pass_record<S: Shelf>(
     ensures shelf { Serves S.lends S.content S.begun S.faults shelf.old shelf.new }
     ensures cause { IsErrOf result CaptureFault.ReadFault → Rose (S.faults shelf.old) (S.faults shelf.new) }
 {
-    let Some(preface) = read_preface(head, count, window, shelf, scratch)? else {
+    let Some(preface) = read_record_header(head, count, window, shelf, scratch)? else {
         return Ok(false);
     };
     let captured = preface.captured as usize;

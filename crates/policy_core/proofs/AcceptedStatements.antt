@@ -3,7 +3,7 @@ use Rattle.std.proofs.Common.{◌≡◌, ℕ, ◌<◌, Bool, true, false, not, L
 use Rattle.policy_text_defs.specs.Sense.{Entry}
 use Rattle.rank_defs.specs.Checks.{AreChecked}
 use Rattle.policy_rules.specs.Names.{before}
-use Rattle.policy_rules.specs.Clauses.{NoLine, IsUnknown, is_known, IsStray, has_root, has_catch_all}
+use Rattle.policy_rules.specs.Clauses.{NoLine, IsUnknown, is_known, IsNotListedOnce, has_root, has_catch_all}
 use Rattle.policy_rules.specs.Programs.{programs}
 use Rattle.policy_rules.specs.Accepted.{AreAccepted, AreKnown, HaveRoot}
 
@@ -21,7 +21,7 @@ checked-there es accepted = (let r : HaveRoot es = accepted.0.0.0.0.0 in r.0.0.1
 pub known-there : (es : List Entry) → AreAccepted es → NoLine (IsUnknown es) es
 known-there es accepted = (let r : HaveRoot es = accepted.0.0.0.0.0 in let known : AreKnown es = r.0.0.0.0 in known.1)
 
-pub strays-none : (es : List Entry) → AreAccepted es → NoLine (IsStray es) es
+pub strays-none : (es : List Entry) → AreAccepted es → NoLine (IsNotListedOnce es) es
 strays-none es accepted = accepted.0.0.1
 
 pub catch_all-there : (es : List Entry) → AreAccepted es → has_catch_all es ≡ true

@@ -41,7 +41,7 @@ use Rattle.policy_core.proofs.HomeLaws.{length-nodes}
 use Rattle.policy_core.proofs.InverseNumbers.{node-within}
 use Rattle.policy_statements.specs.Known.{known_programs}
 use Rattle.policy_core.proofs.FamilyNames.{named}
-use Rattle.policy_core.specs.declared.parts.Station.{Station}
+use Rattle.policy_core.specs.declared.parts.PolicyNode.{PolicyNode}
 use Rattle.policy_core.specs.declared.parts.Class.{Class}
 use Rattle.policy_core.specs.Numbering.{nodes_from, address_at}
 use Rattle.policy_core.specs.Parts.{resolved, tree_of, node_of, station_at, no_station, class_in, HaveLeaves, HaveStations, HasCatchAll}
@@ -62,14 +62,14 @@ pub homes-count : (es : List Entry) (rows : List Row) (ms : List ℕ) → AreHom
 homes-count es rows ms homes = zip-length es rows (declared class_name es) ms homes ∙ ap length (sym (names-classes es)) ∙ length-map (classes_in es) (λ (d : Declared). d.name)
 
 -- the tree of the nodes, their stations over all programs, a leaf for each class, and the classes
-pub record AreParts (es : List Entry) (tree : Numbered) (ss : List Station) (ps : List Program) (ns : List ℕ) (cs : List Class) : Type 0 where
+pub record AreParts (es : List Entry) (tree : Numbered) (ss : List PolicyNode) (ps : List Program) (ns : List ℕ) (cs : List Class) : Type 0 where
   pub below : IsTreeBelow (graph_of es) (place (declared node_name es) root) tree
   pub stations : nodes_told ps ss ≡ nodes_in es
   pub homes : AreHomes es tree.rows ns
   pub classes : map made cs ≡ made_of (classes_in es) ns
 
 -- what each call makes, put together
-pub parts-made : (es : List Entry) (g : List (List ℕ)) (r : ℕ) (tree : Numbered) (ss : List Station) (ps : List Program) (ns leaves : List ℕ) (cs : List Class) → g ≡ graph_of es → r ≡ place (declared node_name es) root → IsTreeBelow g r tree
+pub parts-made : (es : List Entry) (g : List (List ℕ)) (r : ℕ) (tree : Numbered) (ss : List PolicyNode) (ps : List Program) (ns leaves : List ℕ) (cs : List Class) → g ≡ graph_of es → r ≡ place (declared node_name es) root → IsTreeBelow g r tree
     → ps ≡ known_programs es → nodes_told (known_programs es) ss ≡ nodes_in es → ns ≡ leaves → AreHomes es tree.rows leaves → map made cs ≡ made_of (classes_in es) ns → AreParts es tree ss ps ns cs
 parts-made es g r tree ss ps ns leaves cs graph at below known stations same homes classes = record {
   below = subst (λ (h : List (List ℕ)). IsTreeBelow h (place (declared node_name es) root) tree) graph (subst (λ (n : ℕ). IsTreeBelow g n tree) at below);
@@ -78,7 +78,7 @@ parts-made es g r tree ss ps ns leaves cs graph at below known stations same hom
   classes = classes;
 }
 
-module _ (es : List Entry) (accepted : AreAccepted es) (tree : Numbered) (ss : List Station) (ps : List Program) (ns : List ℕ) (cs : List Class) (parts : AreParts es tree ss ps ns cs) where
+module _ (es : List Entry) (accepted : AreAccepted es) (tree : Numbered) (ss : List PolicyNode) (ps : List Program) (ns : List ℕ) (cs : List Class) (parts : AreParts es tree ss ps ns cs) where
   abbrev below : IsTreeBelow (graph_of es) (place (declared node_name es) root) tree
   below = parts.below
 

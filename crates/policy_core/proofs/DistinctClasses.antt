@@ -7,7 +7,7 @@ use Rattle.std.specs.Option.{option_map_or}
 use Rattle.std.specs.Str.{bytes_eq}
 use Rattle.policy_text_defs.specs.Sense.{Sense, Entry, version, transaction, keep, each, push, pop, class, leaf, node}
 use Rattle.policy_rules.specs.Names.{Name, has, times, is_once, declared, class_name}
-use Rattle.policy_rules.specs.Clauses.{NoLine, is_declared, IsAgain, is_stray}
+use Rattle.policy_rules.specs.Clauses.{NoLine, is_declared, IsRepeated, is_not_listed_once}
 use Rattle.policy_rules.specs.Entries.{AreRising}
 use Rattle.policy_rules.proofs.Spaces.{declared-distinct}
 use Rattle.policy_core.proofs.AcceptedStatements.{holds}
@@ -24,7 +24,7 @@ new-class earlier (class m a cs) new = new
 new-class earlier (leaf m u a l ns) new = refl
 new-class earlier (node m u a ns) new = refl
 
-pub distinct-classes : (es : List Entry) → AreRising es → NoLine (IsAgain es) es → IsDistinct bytes_eq (declared class_name es)
+pub distinct-classes : (es : List Entry) → AreRising es → NoLine (IsRepeated es) es → IsDistinct bytes_eq (declared class_name es)
 distinct-classes es rising fine = declared-distinct class_name es rising new-class fine
 
 -- ---- classes that aren't stray are listed
@@ -45,7 +45,7 @@ some-counted a (x ∷ xs) h = elim (cases_Bool (bytes_eq a x)) [
 once-there : (a : Name) (names : List Name) → is_once names a ≡ true → has names a ≡ true
 once-there a names once = some-counted a names (omega (arith, eqb-true (times names a) 1 once))
 
-pub classes-listed : (all : List Name) (es : List Entry) → AllByRecursion (λ (e : Entry). is_stray all e.1 ≡ true → ⊥) es → (k : ℕ) (d : Name) → k < length (declared class_name es) → has all (get_or (declared class_name es) k d) ≡ true
+pub classes-listed : (all : List Name) (es : List Entry) → AllByRecursion (λ (e : Entry). is_not_listed_once all e.1 ≡ true → ⊥) es → (k : ℕ) (d : Name) → k < length (declared class_name es) → has all (get_or (declared class_name es) k d) ≡ true
 classes-listed all [] fine k d l = absurd (omega arith)
 classes-listed all ((n, version v) ∷ es) fine k d l = classes-listed all es fine.1 k d l
 classes-listed all ((n, transaction t) ∷ es) fine k d l = classes-listed all es fine.1 k d l

@@ -8,7 +8,7 @@ use Rattle.std.specs.Str.{bytes_eq}
 use Rattle.policy_text_defs.specs.Sense.{Sense, Entry, version, transaction, keep, each, push, pop, class, leaf, node, sense_of}
 use Rattle.policy_text_defs.specs.declared.statement.Statement.{Statement}
 use Rattle.policy_rules.specs.Names.{Name, has, node_name, children, declared, before}
-use Rattle.policy_rules.specs.Clauses.{is_declared, is_known, is_beyond, is_transaction_known}
+use Rattle.policy_rules.specs.Clauses.{is_declared, is_known, is_one_too_many, is_transaction_known}
 use Rattle.tree_defs.specs.Tree.{most_nodes}
 use Rattle.policy_rules.specs.Entries.{AreRising, entries_of}
 use Rattle.policy_rules.specs.Accepted.{AreFew}
@@ -45,7 +45,7 @@ children-known es earlier (class n a cs) h = refl
 children-known es earlier (leaf n u a l ns) h = refl
 children-known es earlier (node n u a ns) h = (and_parts (is_transaction_known es u) (list_all (has (declared node_name es)) ns) h).1
 
-room-before : (earlier : List Entry) (s : Sense) → is_beyond earlier s ≡ false → length (declared node_name earlier) ≤ most_nodes → length (declared node_name earlier ++ cons_option (node_name s) []) ≤ most_nodes
+room-before : (earlier : List Entry) (s : Sense) → is_one_too_many earlier s ≡ false → length (declared node_name earlier) ≤ most_nodes → length (declared node_name earlier ++ cons_option (node_name s) []) ≤ most_nodes
 room-before earlier (version v) h few = omega (arith, few, length-append (declared node_name earlier) [])
 room-before earlier (transaction n) h few = omega (arith, few, length-append (declared node_name earlier) [])
 room-before earlier (keep n s) h few = omega (arith, few, length-append (declared node_name earlier) [])

@@ -5,7 +5,7 @@ use Rattle.std.proofs.lemmas.List.{get_or_default}
 use Rattle.rank_defs.specs.Checks.{Entry as Assigning, SomeAt, NoneAt, IsLeastAt, Clashes, IsWide, MayDivideByZero, entries as assignments_of}
 use Rattle.rank_defs.proofs.Faults.{faultless-checked}
 use Rattle.policy_text_defs.specs.Sense.{Entry}
-use Rattle.policy_rules.specs.Clauses.{IsLeastLine, NoLine, IsMisplaced, IsAgain, IsUnknown, IsBeyond, IsOrphan, has_root, IsStray, has_catch_all, IsAhead}
+use Rattle.policy_rules.specs.Clauses.{IsLeastLine, NoLine, IsMisplaced, IsRepeated, IsUnknown, IsOneTooMany, IsOrphan, has_root, IsNotListedOnce, has_catch_all, NeedsVersion2}
 use Rattle.policy_rules.specs.Families.{IsCyclic, IsTooDeep}
 use Rattle.policy_rules.specs.Programs.{programs}
 use Rattle.policy_rules.specs.Accepted.{ArePlaced, AreNew, AreKnown, AreFew, AreComputable, HaveParents, HaveRoot, AreAcyclic, AreShallow, HaveLeaves, HaveCatchAll, IsFault}
@@ -52,13 +52,13 @@ module _ (es : List Entry) (none : (f : PolicyFault) → (f ≡ NoMemory → ⊥
   placed = no-line (IsMisplaced es) es (λ n h. none (Misplaced n) (λ e. cc) h)
 
   new : AreNew es
-  new = (placed, no-line (IsAgain es) es (λ n h. none (Twice n) (λ e. cc) (placed, h)))
+  new = (placed, no-line (IsRepeated es) es (λ n h. none (Twice n) (λ e. cc) (placed, h)))
 
   known : AreKnown es
   known = (new, no-line (IsUnknown es) es (λ n h. none (Unknown n) (λ e. cc) (new, h)))
 
   few : AreFew es
-  few = (known, no-line (IsBeyond es) es (λ n h. none (TooMany n) (λ e. cc) (known, h)))
+  few = (known, no-line (IsOneTooMany es) es (λ n h. none (TooMany n) (λ e. cc) (known, h)))
 
   typed : NoneAt Clashes (assignments_of (programs es))
   typed = none-at Clashes (assignments_of (programs es)) (λ n h. none (TypeClash n) (λ e. cc) (few, h))
@@ -85,10 +85,10 @@ module _ (es : List Entry) (none : (f : PolicyFault) → (f ≡ NoMemory → ⊥
   shallow = (acyclic, no-line (IsTooDeep es) es (λ n h. none (Deep n) (λ e. cc) (acyclic, h)))
 
   leaves : HaveLeaves es
-  leaves = (shallow, no-line (IsStray es) es (λ n h. none (ClassLeaf n) (λ e. cc) (shallow, h)))
+  leaves = (shallow, no-line (IsNotListedOnce es) es (λ n h. none (ClassLeaf n) (λ e. cc) (shallow, h)))
 
   caught : HaveCatchAll es
   caught = (leaves, true-unless (has_catch_all es) (λ h. none NoCatchAll (λ e. cc) (leaves, h)))
 
 pub accepted : FaultlessAreAccepted
-accepted es none = (caught es none, no-line (IsAhead es) es (λ n h. none (OldVersion n) (λ e. cc) (caught es none, h)))
+accepted es none = (caught es none, no-line (NeedsVersion2 es) es (λ n h. none (OldVersion n) (λ e. cc) (caught es none, h)))

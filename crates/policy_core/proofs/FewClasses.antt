@@ -6,13 +6,13 @@ use Rattle.policy_text_defs.specs.declared.condition.Condition.{Condition}
 use Rattle.policy_text_defs.specs.Sense.{Sense, Entry, version, transaction, keep, each, push, pop, class, leaf, node}
 use Rattle.policy_rules.specs.Names.{declared, class_name}
 use Rattle.policy_rules.specs.Entries.{AreRising}
-use Rattle.policy_rules.specs.Clauses.{NoLine, IsBeyond, is_beyond, most_classes, has_catch_all, has_catch_all_behind}
+use Rattle.policy_rules.specs.Clauses.{NoLine, IsOneTooMany, is_one_too_many, most_classes, has_catch_all, has_catch_all_behind}
 use Rattle.policy_rules.specs.Resolved.{Declared, classes_in}
 use Rattle.policy_rules.proofs.Spaces.{declared-few}
 use Rattle.policy_core.specs.Parts.{HasCatchAll}
 
 -- ---- at most so many
-one-more : (earlier : List Entry) (s : Sense) → is_beyond earlier s ≡ false → length (declared class_name earlier) ≤ most_classes → length (declared class_name earlier ++ cons_option (class_name s) []) ≤ most_classes
+one-more : (earlier : List Entry) (s : Sense) → is_one_too_many earlier s ≡ false → length (declared class_name earlier) ≤ most_classes → length (declared class_name earlier ++ cons_option (class_name s) []) ≤ most_classes
 one-more earlier (version v) h few = omega (arith, few, length-append (declared class_name earlier) [])
 one-more earlier (transaction n) h few = omega (arith, few, length-append (declared class_name earlier) [])
 one-more earlier (keep n s) h few = omega (arith, few, length-append (declared class_name earlier) [])
@@ -35,7 +35,7 @@ names-classes ((n, class k a cs) ∷ es) = ap suc (names-classes es)
 names-classes ((n, leaf k u a l ns) ∷ es) = names-classes es
 names-classes ((n, node k u a ns) ∷ es) = names-classes es
 
-pub few-classes : (es : List Entry) → AreRising es → NoLine (IsBeyond es) es → length (classes_in es) ≤ most_classes
+pub few-classes : (es : List Entry) → AreRising es → NoLine (IsOneTooMany es) es → length (classes_in es) ≤ most_classes
 few-classes es rising fine =
     (let few : length (declared class_name es) ≤ most_classes = declared-few class_name es rising most_classes one-more fine in
     omega (arith, few, names-classes es))

@@ -8,7 +8,7 @@ use Rattle.policy_text_defs.specs.declared.statement.Statement.{Statement}
 use Rattle.policy_text_defs.specs.Sense.{Entry}
 use Rattle.policy_defs.specs.Policy.{Node}
 use Rattle.policy_rules.specs.Names.{Name, has, declared, class_name, listed, leaf_classes}
-use Rattle.policy_rules.specs.Clauses.{NoLine, IsAgain, IsStray, is_stray}
+use Rattle.policy_rules.specs.Clauses.{NoLine, IsRepeated, IsNotListedOnce, is_not_listed_once}
 use Rattle.policy_rules.specs.Entries.{entries_of, AreRising}
 use Rattle.policy_rules.specs.Programs.{place}
 use Rattle.policy_rules.specs.Graph.{graph_of, nodes_in}
@@ -37,7 +37,7 @@ home-of es rows places a k size are leaf_place =
       leaf = subst (λ (n : ℕ). IsLeafWith es a n) (sym (are.node leaf_place.number within)) leaf_place.leaf;
     })
 
-pub homes-all : (lines : List (ℕ × Statement)) (rows : List Row) (classes : List Name) (places leaves : List ℕ) (i node : ℕ) → AreRising (entries_of lines) → NoLine (IsAgain (entries_of lines)) (entries_of lines) → NoLine (IsStray (entries_of lines)) (entries_of lines) → classes ≡ declared class_name (entries_of lines)
+pub homes-all : (lines : List (ℕ × Statement)) (rows : List Row) (classes : List Name) (places leaves : List ℕ) (i node : ℕ) → AreRising (entries_of lines) → NoLine (IsRepeated (entries_of lines)) (entries_of lines) → NoLine (IsNotListedOnce (entries_of lines)) (entries_of lines) → classes ≡ declared class_name (entries_of lines)
     → length rows ≡ length (graph_of (entries_of lines)) → ArePlaces rows places → length lines ≤ i → IsPassing lines classes places i node leaves → AreHomes (entries_of lines) rows leaves
 homes-all lines rows classes places leaves i node rising fresh listed_once are size all over passed =
     subst (λ (names : List Name). AllZip (IsHome (entries_of lines) rows) names leaves) are
@@ -47,7 +47,7 @@ homes-all lines rows classes places leaves i node rising fresh listed_once are s
     listed-all k l =
         subst (λ (ls : List (ℕ × Statement)). has (listed leaf_classes (entries_of ls)) (get_or classes k []) ≡ true) (sym (take_all i lines over))
         (subst (λ (names : List Name). has (listed leaf_classes (entries_of lines)) (get_or names k []) ≡ true) (sym are)
-        (classes-listed (listed leaf_classes (entries_of lines)) (entries_of lines) (recursion_from_All (λ (e : Entry). is_stray (listed leaf_classes (entries_of lines)) e.1 ≡ true → ⊥) (entries_of lines) listed_once) k [] (omega (arith, ap length are, l))))
+        (classes-listed (listed leaf_classes (entries_of lines)) (entries_of lines) (recursion_from_All (λ (e : Entry). is_not_listed_once (listed leaf_classes (entries_of lines)) e.1 ≡ true → ⊥) (entries_of lines) listed_once) k [] (omega (arith, ap length are, l))))
 
     each : (k : ℕ) → k < length classes → IsHome (entries_of lines) rows (get_or classes k []) (get_or leaves k 0)
     each k l =

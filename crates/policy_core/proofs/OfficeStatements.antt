@@ -17,7 +17,7 @@ use Rattle.policy_text_defs.specs.Statements.{IsName, unset}
 use Rattle.policy_text_defs.specs.Valid.{IsValid, AreValidAttributes, IsValidCondition}
 use Rattle.policy_text_defs.specs.Sense.{Sense, Entry, version, class, leaf, node}
 use Rattle.policy_rules.specs.Names.{Name, before, listed, children, leaf_classes, node_name}
-use Rattle.policy_rules.specs.Clauses.{NoLine, is_placed, is_declared, is_known, is_beyond, is_orphan, is_stray, has_limit, version_of, root}
+use Rattle.policy_rules.specs.Clauses.{NoLine, is_placed, is_declared, is_known, is_one_too_many, is_orphan, is_not_listed_once, has_limit, version_of, root}
 use Rattle.policy_rules.specs.Families.{ListsChild, NamesLead, IsDescendant, IsCyclic, IsTooDeep}
 use Rattle.policy_core.specs.Office.{exactly, tcp, udp, backup_network, of_weight, of_prio, office_statements, office_lines, OfficeIsAccepted}
 
@@ -127,9 +127,9 @@ office-accepted =
     let placed = no-line (λ e. not (is_placed (before e.0 es) e.1)) es refl in
     let new = no-line (λ e. is_declared (before e.0 es) e.1) es refl in
     let known = no-line (λ e. not (is_known es (before e.0 es) e.1)) es refl in
-    let few = no-line (λ e. is_beyond (before e.0 es) e.1) es refl in
+    let few = no-line (λ e. is_one_too_many (before e.0 es) e.1) es refl in
     let parents = no-line (λ e. is_orphan (listed children es) e.1) es refl in
     let shallow = not-deep level es office-falls (omega arith) in
-    let leaves = no-line (λ e. is_stray (listed leaf_classes es) e.1) es refl in
+    let leaves = no-line (λ e. is_not_listed_once (listed leaf_classes es) e.1) es refl in
     let old = no-line (λ e. version_of es == 1 && has_limit e.1) es refl in
     (((((((((((placed, new), known), few), tt), parents), refl), no-cycle level es office-falls), shallow), leaves), refl), old)

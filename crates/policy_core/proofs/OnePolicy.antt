@@ -8,7 +8,7 @@ use Rattle.policy_text_defs.specs.declared.condition.Condition.{Condition}
 use Rattle.policy_text_defs.specs.Sense.{Sense, Entry, version, transaction, keep, each, push, pop, class, leaf, node}
 use Rattle.policy_defs.specs.Policy.{Node, Class, Marks}
 use Rattle.policy_rules.specs.Names.{Name, has, declared, node_name, class_name, leaf_classes}
-use Rattle.policy_rules.specs.Clauses.{NoLine, IsAgain, IsOrphan, IsStray, root}
+use Rattle.policy_rules.specs.Clauses.{NoLine, IsRepeated, IsOrphan, IsNotListedOnce, root}
 use Rattle.policy_rules.specs.Families.{IsCyclic}
 use Rattle.policy_rules.specs.Accepted.{AreAccepted, HaveRoot, AreAcyclic, AreKnown}
 use Rattle.policy_rules.specs.Resolved.{Resolved, IsTreeIn, ListsClass, IsLeafFor, Declared, classes_in, AreClassesOf}
@@ -23,7 +23,7 @@ use Rattle.policy_core.proofs.OneTree.{one-tree}
 use Rattle.policy_core.proofs.OnePlace.{one-address}
 
 -- ---- what accepted statements have
-new-there : (es : List Entry) → AreAccepted es → NoLine (IsAgain es) es
+new-there : (es : List Entry) → AreAccepted es → NoLine (IsRepeated es) es
 new-there es accepted = (let r : HaveRoot es = accepted.0.0.0.0.0 in let known : AreKnown es = r.0.0.0.0 in known.0.1)
 
 parents-there : (es : List Entry) → AreAccepted es → NoLine (IsOrphan es) es
@@ -56,7 +56,7 @@ lister-classes n c (leaf m u a l ns) h = h.1
 lister-classes n c (node m u a ns) h = absurd h
 
 -- leaves that list one class have one name
-one-name : (es : List Entry) (c : Name) → NoLine (IsStray es) es → has (declared class_name es) c ≡ true → (n m : Name) → Any (λ (e : Entry). ListsClass n c e.1) es → Any (λ (e : Entry). ListsClass m c e.1) es → n ≡ m
+one-name : (es : List Entry) (c : Name) → NoLine (IsNotListedOnce es) es → has (declared class_name es) c ≡ true → (n m : Name) → Any (λ (e : Entry). ListsClass n c e.1) es → Any (λ (e : Entry). ListsClass m c e.1) es → n ≡ m
 one-name es c none there n m (k, e, within_k, is_e, p) (l, f, within_l, is_f, q) = some-same (sym (lister-name n c e.1 p) ∙ ap (λ (g : Entry). node_name g.1) same ∙ lister-name m c f.1 q)
   where
     holds_e : Contains (leaf_classes (get_or es k e).1) c

@@ -6,7 +6,7 @@ use Rattle.policy_text_defs.specs.declared.attribute.Attrs.{Attrs}
 use Rattle.policy_text_defs.specs.Sense.{Sense, Entry, version, transaction, keep, each, push, pop, class, leaf, node}
 use Rattle.policy_defs.specs.Policy.{Node, Marks}
 use Rattle.policy_rules.specs.Names.{Name, node_name, children}
-use Rattle.policy_rules.specs.Clauses.{NoLine, IsAgain}
+use Rattle.policy_rules.specs.Clauses.{NoLine, IsRepeated}
 use Rattle.policy_rules.specs.Entries.{AreRising}
 use Rattle.policy_rules.specs.Resolved.{IsNodeOf, IsLeafOf, IsInnerOf, IsTreeIn, AreTreesIn, names_of}
 use Rattle.policy_core.proofs.PlacePrograms.{some-same}
@@ -90,13 +90,13 @@ leaf-not_inner es n m names (leaf w u a l ns) h k = k
 leaf-not_inner es n m names (node w u a ns) h k = h
 
 -- ---- trees, whose statements are the same all the way down
-module _ (es : List Entry) (rising : AreRising es) (new : NoLine (IsAgain es) es) where
+module _ (es : List Entry) (rising : AreRising es) (new : NoLine (IsRepeated es) es) where
   of-both : (n m : Node) (P Q : Sense → Type 0) → n.name ≡ m.name → ((s : Sense) → P s → node_name s ≡ Some n.name) → ((s : Sense) → Q s → node_name s ≡ Some m.name)
       → Any (λ (e : Entry). P e.1) es → Any (λ (e : Entry). Q e.1) es → (s : Sense) × P s × Q s
   of-both n m P Q same name_p name_q p q = of-one_statement es rising new n.name P Q name_p (λ s h. name_q s h ∙ ap Some (sym same)) p q
 
 mutual
-  pub one-tree : (es : List Entry) → AreRising es → NoLine (IsAgain es) es → (t u : Tree Node) → IsTreeIn es t → IsTreeIn es u → (root_of t).name ≡ (root_of u).name → t ≡ u
+  pub one-tree : (es : List Entry) → AreRising es → NoLine (IsRepeated es) es → (t u : Tree Node) → IsTreeIn es t → IsTreeIn es u → (root_of t).name ≡ (root_of u).name → t ≡ u
   one-tree es rising new (leaf_of n) (leaf_of m) h k same =
       let both : (s : Sense) × IsLeafOf es n s × IsLeafOf es m s = of-both es rising new n m (IsLeafOf es n) (IsLeafOf es m) same (leaf-name es n) (leaf-name es m) h k in
       ap leaf_of (one-leaf es n m both.0 both.1 both.2)
@@ -112,7 +112,7 @@ mutual
       let names : names_of ts ≡ names_of us = inner-children es n (names_of ts) both.0 both.1 ∙ sym (inner-children es m (names_of us) both.0 both.2) in
       ap (λ (x : Node). inner x ts) (one-inner es n m (names_of ts) (names_of us) both.0 both.1 both.2) ∙ ap (inner m) (one-trees es rising new ts us h.1 k.1 names)
 
-  one-trees : (es : List Entry) → AreRising es → NoLine (IsAgain es) es → (ts us : Trees Node) → AreTreesIn es ts → AreTreesIn es us → names_of ts ≡ names_of us → ts ≡ us
+  one-trees : (es : List Entry) → AreRising es → NoLine (IsRepeated es) es → (ts us : Trees Node) → AreTreesIn es ts → AreTreesIn es us → names_of ts ≡ names_of us → ts ≡ us
   one-trees es rising new none none h k same = refl
   one-trees es rising new none (more u us) h k same = (let e : 0 ≡ suc (length (names_of us)) = ap length same in absurd (omega arith))
   one-trees es rising new (more t ts) none h k same = (let e : suc (length (names_of ts)) ≡ 0 = ap length same in absurd (omega arith))

@@ -16,7 +16,7 @@ use Rattle.policy_rules.proofs.Lists.{all-weaker}
 use Rattle.tree_graph.specs.Row.{Row, row, row_at}
 use Rattle.tree_graph.specs.Preorder.{Numbered}
 use Rattle.tree_graph.proofs.GrowthLemmas.{length-rows}
-use Rattle.policy_core.specs.declared.parts.Station.{Station}
+use Rattle.policy_core.specs.declared.parts.PolicyNode.{PolicyNode}
 use Rattle.policy_core.specs.declared.parts.Class.{Class}
 use Rattle.policy_core.specs.Numbering.{address_at}
 use Rattle.policy_core.specs.Parts.{resolved, tree_of, node_of, station_at, no_station, no_program, told, AreNumbered, IsWhole}
@@ -55,7 +55,7 @@ module _ (tree : Numbered) (h : AreNumbered tree) where
       (subst (λ (w : Address). IsAddressOf tree.topology (w ++ d ∷ [])) (address-same k) p)))
 
 -- ---- the value
-module _ (v : ℕ) (tree : Numbered) (ss : List Station) (ps : List Program) (cs : List Class) (r : Resolved) (view : resolved v tree ss ps cs ≡ r) (w : IsWhole v tree ss ps cs) where
+module _ (v : ℕ) (tree : Numbered) (ss : List PolicyNode) (ps : List Program) (cs : List Class) (r : Resolved) (view : resolved v tree ss ps cs ≡ r) (w : IsWhole v tree ss ps cs) where
   tree-is : tree_of tree ss ps ≡ r.policy.tree
   tree-is = ap (λ (q : Resolved). q.policy.tree) view
 
@@ -121,29 +121,29 @@ module _ (v : ℕ) (tree : Numbered) (ss : List Station) (ps : List Program) (cs
   leaves-there = all-weaker (λ c. c.leaf < length tree.rows) (λ c. c.leaf < nodes r.policy.tree) cs (λ c l. omega (arith, l, count-is)) w.leaves
 
   -- ---- in the terms of the code
-  pub own-station : (k : ℕ) (s : Station) (all : List Station) → all ≡ ss → s ≡ station_at all (row_at tree.rows k).node → s ≡ station_at ss (row_at tree.rows k).node
-  own-station k s all same is = is ∙ ap (λ (l : List Station). station_at l (row_at tree.rows k).node) same
+  pub own-station : (k : ℕ) (s : PolicyNode) (all : List PolicyNode) → all ≡ ss → s ≡ station_at all (row_at tree.rows k).node → s ≡ station_at ss (row_at tree.rows k).node
+  own-station k s all same is = is ∙ ap (λ (l : List PolicyNode). station_at l (row_at tree.rows k).node) same
 
-  pub program-within : (k : ℕ) (s : Station) (all : List Program) → k < nodes r.policy.tree → s ≡ station_at ss (row_at tree.rows k).node → all ≡ ps → s.program < length all
-  program-within k s all l own same = omega (arith, program-there k l, ap (λ (x : Station). x.program) own, ap length same)
+  pub program-within : (k : ℕ) (s : PolicyNode) (all : List Program) → k < nodes r.policy.tree → s ≡ station_at ss (row_at tree.rows k).node → all ≡ ps → s.program < length all
+  program-within k s all l own same = omega (arith, program-there k l, ap (λ (x : PolicyNode). x.program) own, ap length same)
 
-  pub program-is : (k : ℕ) (s : Station) (p : Program) (all : List Program) → k < nodes r.policy.tree → s ≡ station_at ss (row_at tree.rows k).node → all ≡ ps → p ≡ get_or all s.program p
+  pub program-is : (k : ℕ) (s : PolicyNode) (p : Program) (all : List Program) → k < nodes r.policy.tree → s ≡ station_at ss (row_at tree.rows k).node → all ≡ ps → p ≡ get_or all s.program p
       → IsSomeAnd (node_at r.policy.tree (address_at r.policy.tree k)) (λ n. p ≡ n.program)
   program-is k s p all l own same read =
       some-and _ _ (λ n. p ≡ n.program) (node-is k l)
-      (read ∙ get_or_default all s.program p no_program (program-within k s all l own same) ∙ ap (λ (x : List Program). get_or x s.program no_program) same ∙ ap (λ (x : Station). get_or ps x.program no_program) own)
+      (read ∙ get_or_default all s.program p no_program (program-within k s all l own same) ∙ ap (λ (x : List Program). get_or x s.program no_program) same ∙ ap (λ (x : PolicyNode). get_or ps x.program no_program) own)
 
-  pub marks-are : (k : ℕ) (s : Station) → k < nodes r.policy.tree → s ≡ station_at ss (row_at tree.rows k).node → IsSomeAnd (node_at r.policy.tree (address_at r.policy.tree k)) (λ n. told s.marks ≡ n.marks)
-  marks-are k s l own = some-and _ _ (λ n. told s.marks ≡ n.marks) (node-is k l) (ap (λ (x : Station). told x.marks) own)
+  pub marks-are : (k : ℕ) (s : PolicyNode) → k < nodes r.policy.tree → s ≡ station_at ss (row_at tree.rows k).node → IsSomeAnd (node_at r.policy.tree (address_at r.policy.tree k)) (λ n. told s.marks ≡ n.marks)
+  marks-are k s l own = some-and _ _ (λ n. told s.marks ≡ n.marks) (node-is k l) (ap (λ (x : PolicyNode). told x.marks) own)
 
-  pub limit-is : (k : ℕ) (s : Station) → k < nodes r.policy.tree → s ≡ station_at ss (row_at tree.rows k).node → IsSomeAnd (node_at r.policy.tree (address_at r.policy.tree k)) (λ n. s.limit ≡ n.limit)
-  limit-is k s l own = some-and _ _ (λ n. s.limit ≡ n.limit) (node-is k l) (ap (λ (x : Station). x.limit) own)
+  pub limit-is : (k : ℕ) (s : PolicyNode) → k < nodes r.policy.tree → s ≡ station_at ss (row_at tree.rows k).node → IsSomeAnd (node_at r.policy.tree (address_at r.policy.tree k)) (λ n. s.limit ≡ n.limit)
+  limit-is k s l own = some-and _ _ (λ n. s.limit ≡ n.limit) (node-is k l) (ap (λ (x : PolicyNode). x.limit) own)
 
-  pub using-is : (k : ℕ) (s : Station) (used : List ℕ) → k < nodes r.policy.tree → s ≡ station_at ss (row_at tree.rows k).node → used ≡ s.using → IsSomeAnd (node_at r.policy.tree (address_at r.policy.tree k)) (λ n. used ≡ n.using)
-  using-is k s used l own is = some-and _ _ (λ n. used ≡ n.using) (node-is k l) (is ∙ ap (λ (x : Station). x.using) own)
+  pub using-is : (k : ℕ) (s : PolicyNode) (used : List ℕ) → k < nodes r.policy.tree → s ≡ station_at ss (row_at tree.rows k).node → used ≡ s.using → IsSomeAnd (node_at r.policy.tree (address_at r.policy.tree k)) (λ n. used ≡ n.using)
+  using-is k s used l own is = some-and _ _ (λ n. used ≡ n.using) (node-is k l) (is ∙ ap (λ (x : PolicyNode). x.using) own)
 
-  pub name-is : (k : ℕ) (s : Station) (name : List ℕ) → k < nodes r.policy.tree → s ≡ station_at ss (row_at tree.rows k).node → name ≡ s.name → IsSomeAnd (node_at r.policy.tree (address_at r.policy.tree k)) (λ n. name ≡ n.name)
-  name-is k s name l own is = some-and _ _ (λ n. name ≡ n.name) (node-is k l) (is ∙ ap (λ (x : Station). x.name) own)
+  pub name-is : (k : ℕ) (s : PolicyNode) (name : List ℕ) → k < nodes r.policy.tree → s ≡ station_at ss (row_at tree.rows k).node → name ≡ s.name → IsSomeAnd (node_at r.policy.tree (address_at r.policy.tree k)) (λ n. name ≡ n.name)
+  name-is k s name l own is = some-and _ _ (λ n. name ≡ n.name) (node-is k l) (is ∙ ap (λ (x : PolicyNode). x.name) own)
 
-  pub name-length : (k : ℕ) (s : Station) (name : List ℕ) → k < nodes r.policy.tree → s ≡ station_at ss (row_at tree.rows k).node → name ≡ s.name → length name ≤ most_name
-  name-length k s name l own is = omega (arith, name-short k l, ap length is, ap (λ (x : Station). length x.name) own)
+  pub name-length : (k : ℕ) (s : PolicyNode) (name : List ℕ) → k < nodes r.policy.tree → s ≡ station_at ss (row_at tree.rows k).node → name ≡ s.name → length name ≤ most_name
+  name-length k s name l own is = omega (arith, name-short k l, ap length is, ap (λ (x : PolicyNode). length x.name) own)

@@ -8,7 +8,7 @@ use Rattle.std.proofs.lemmas.Slice.Eq.{bytes_eq-Decides}
 use Rattle.std.proofs.Math.Bool.{or-true}
 use Rattle.policy_text_defs.specs.Sense.{Sense, Entry, version, transaction, keep, each, push, pop, class, leaf, node}
 use Rattle.policy_rules.specs.Names.{Name, has, declared, node_name, before}
-use Rattle.policy_rules.specs.Clauses.{NoLine, IsAgain, is_declared}
+use Rattle.policy_rules.specs.Clauses.{NoLine, IsRepeated, is_declared}
 use Rattle.policy_rules.specs.Entries.{AreRising}
 use Rattle.policy_core.proofs.PlacePrograms.{none-some, some-same}
 use Rattle.policy_rules.proofs.EarlierLines.{before-take}
@@ -36,7 +36,7 @@ declares-again earlier (leaf m u c l ns) a is there = ap (has (declared node_nam
 declares-again earlier (node m u c ns) a is there = ap (has (declared node_name earlier)) (some-same is) ∙ there
 
 -- of two statements the later one declares another name
-module _ (es : List Entry) (rising : AreRising es) (new : NoLine (IsAgain es) es) where
+module _ (es : List Entry) (rising : AreRising es) (new : NoLine (IsRepeated es) es) where
   apart : (i j : ℕ) (d : Entry) (a : Name) → i < j → j < length es → node_name (get_or es i d).1 ≡ Some a → node_name (get_or es j d).1 ≡ Some a → ⊥
   apart i j d a below within first second =
       let front : node_name (get_or (take j es) i d).1 ≡ Some a = subst (λ (e : Entry). node_name e.1 ≡ Some a) (sym (get_or-take j es i d below)) first in
@@ -56,7 +56,7 @@ pub at-one_place : (es : List Entry) (i j : ℕ) (e f : Entry) → i ≡ j → i
 at-one_place es i j e f same within is_e is_f = sym is_e ∙ get_or_default es i e f within ∙ ap (λ k. get_or es k f) same ∙ is_f
 
 -- two statements that declare one node or leaf are one
-pub one-statement : (es : List Entry) → AreRising es → NoLine (IsAgain es) es → (i j : ℕ) (e f : Entry) (a : Name)
+pub one-statement : (es : List Entry) → AreRising es → NoLine (IsRepeated es) es → (i j : ℕ) (e f : Entry) (a : Name)
     → i < length es → j < length es → get_or es i e ≡ e → get_or es j f ≡ f → node_name e.1 ≡ Some a → node_name f.1 ≡ Some a → e ≡ f
 one-statement es rising new i j e f a within_i within_j is_e is_f first second =
     at-one_place es i j e f
@@ -66,7 +66,7 @@ one-statement es rising new i j e f a within_i within_j is_e is_f first second =
     within_i is_e is_f
 
 -- a fact of one statement and a fact of another are facts of one, if both statements declare one node or leaf
-pub of-one_statement : (es : List Entry) → AreRising es → NoLine (IsAgain es) es → (a : Name) (P Q : Sense → Type 0)
+pub of-one_statement : (es : List Entry) → AreRising es → NoLine (IsRepeated es) es → (a : Name) (P Q : Sense → Type 0)
     → ((s : Sense) → P s → node_name s ≡ Some a) → ((s : Sense) → Q s → node_name s ≡ Some a)
     → Any (λ (e : Entry). P e.1) es → Any (λ (e : Entry). Q e.1) es → (s : Sense) × P s × Q s
 of-one_statement es rising new a P Q name_p name_q (i, e, within_i, is_e, p) (j, f, within_j, is_f, q) =

@@ -12,12 +12,12 @@ use Rattle.policy_rules.specs.Programs.{program_named}
 use Rattle.policy_rules.specs.Graph.{node_in, said}
 use Rattle.policy_rules.specs.Resolved.{Declared}
 use Rattle.policy_statements.specs.Known.{known_programs}
-use Rattle.policy_core.specs.declared.parts.Station.{Station}
+use Rattle.policy_core.specs.declared.parts.PolicyNode.{PolicyNode}
 use Rattle.policy_core.specs.declared.parts.Class.{Class}
 use Rattle.policy_core.specs.Parts.{told, node_of, no_program, HavePrograms}
 
 -- the nodes of stations
-abbrev pub nodes_told : List Program → List Station → List Node
+abbrev pub nodes_told : List Program → List PolicyNode → List Node
 nodes_told programs stations = map (node_of programs) stations
 
 -- the place of the program that a name means
@@ -26,12 +26,12 @@ pub record IsPlaceOf (es : List Entry) (used : Name) (place : ℕ) : Type 0 wher
   pub program_is : slice_index_or (known_programs es) place no_program ≡ unwrap_or (program_named es used) fifo
 
 -- the station has a program, and is what is said of the node
-pub record IsStationOf (es : List Entry) (name used : Name) (a : Attrs) (limit : Option ℕ) (s : Station) : Type 0 where
+pub record IsStationOf (es : List Entry) (name used : Name) (a : Attrs) (limit : Option ℕ) (s : PolicyNode) : Type 0 where
   pub within : s.program < length (known_programs es)
   pub node_is : node_of (known_programs es) s ≡ said es name used a limit
 
 -- the stations got one more, where the statement declares a node or leaf
-pub record AreMore (es : List Entry) (s : Sense) (old new : List Station) : Type 0 where
+pub record AreMore (es : List Entry) (s : Sense) (old new : List PolicyNode) : Type 0 where
   pub nodes : nodes_told (known_programs es) new ≡ nodes_told (known_programs es) old ++ cons_option (node_in es s) []
   pub programs : HavePrograms new (known_programs es)
 

@@ -12,7 +12,7 @@ use Rattle.policy_rules.specs.Resolved.{Resolved}
 use Rattle.tree_graph.specs.Row.{row_at}
 use Rattle.tree_graph.specs.Preorder.{Numbered, IsNumberedBy}
 use Rattle.policy_core.specs.declared.parts.Marks.{Marks}
-use Rattle.policy_core.specs.declared.parts.Station.{Station}
+use Rattle.policy_core.specs.declared.parts.PolicyNode.{PolicyNode}
 use Rattle.policy_core.specs.declared.parts.Class.{Class}
 use Rattle.policy_core.specs.Numbering.{nodes_from, address_at}
 
@@ -20,28 +20,28 @@ abbrev pub told : Marks → Told
 told m = record { prio = m.prio; weight = m.weight; slack = m.slack }
 
 -- what stands past the end of a list
-abbrev pub no_station : Station
+abbrev pub no_station : PolicyNode
 no_station = record { name = []; using = []; program = 0; marks = record { prio = 0; weight = 1; slack = 0 }; limit = None }
 
 abbrev pub no_program : Program
 no_program = record { keeps = []; eaches = []; push = []; pop = [] }
 
-abbrev pub station_at : List Station → ℕ → Station
+abbrev pub station_at : List PolicyNode → ℕ → PolicyNode
 station_at stations i = slice_index_or stations i no_station
 
 -- a station, with its transaction
-abbrev pub node_of : List Program → Station → Node
+abbrev pub node_of : List Program → PolicyNode → Node
 node_of programs s = record { name = s.name; using = s.using; program = slice_index_or programs s.program no_program; marks = told s.marks; limit = s.limit }
 
 -- at each node the station that its row names
-abbrev pub tree_of : Numbered → List Station → List Program → Tree Node
+abbrev pub tree_of : Numbered → List PolicyNode → List Program → Tree Node
 tree_of tree stations programs = nodes_from (λ n. node_of programs (station_at stations (row_at tree.rows n).node)) 0 tree.topology
 
 -- a class, with the address of its leaf
 abbrev pub class_in : Tree Node → Class → Aimed
 class_in tree c = record { marks = told c.marks; leaf = address_at tree c.leaf }
 
-abbrev pub resolved : ℕ → Numbered → List Station → List Program → List Class → Resolved
+abbrev pub resolved : ℕ → Numbered → List PolicyNode → List Program → List Class → Resolved
 resolved version tree stations programs classes = record {
   policy = record { version = version; tree = tree_of tree stations programs; classes = map (class_in (tree_of tree stations programs)) classes };
   conditions = map (λ c. c.conditions) classes;
@@ -52,11 +52,11 @@ abbrev pub AreNumbered : Numbered → Type 0
 AreNumbered tree = (t : Tree ℕ) × IsNumberedBy t tree.rows tree.topology
 
 -- each node of the tree is the place of a station
-abbrev pub HaveStations : Numbered → List Station → Type 0
+abbrev pub HaveStations : Numbered → List PolicyNode → Type 0
 HaveStations tree stations = AllByRecursion (λ r. r.node < length stations) tree.rows
 
 -- each station has the place of a transaction
-abbrev pub HavePrograms : List Station → List Program → Type 0
+abbrev pub HavePrograms : List PolicyNode → List Program → Type 0
 HavePrograms stations programs = AllByRecursion (λ s. s.program < length programs) stations
 
 -- the leaf of each class is the number of a node
@@ -67,7 +67,7 @@ HaveLeaves tree classes = AllByRecursion (λ c. c.leaf < length tree.rows) class
 abbrev pub HasCatchAll : List (List Condition) → Type 0
 HasCatchAll conditions = (others : List (List Condition)) × (conditions ≡ others ++ [] ∷ [])
 
-pub record IsWhole (version : ℕ) (tree : Numbered) (ss : List Station) (ps : List Program) (cs : List Class) : Type 0 where
+pub record IsWhole (version : ℕ) (tree : Numbered) (ss : List PolicyNode) (ps : List Program) (cs : List Class) : Type 0 where
   pub numbered : AreNumbered tree
   pub few_nodes : length tree.rows ≤ most_nodes
   pub stations : HaveStations tree ss

@@ -1,4 +1,4 @@
--- Stations and nodes of worked policies.
+-- NodeStates and nodes of worked policies.
 use Rattle.std.specs.Prelude.{◌≡◌, refl, ℕ, Some, None, List, [], ◌∷◌, codes}
 use Rattle.tree_defs.specs.Tree.{leaf}
 use Rattle.rank_defs.specs.Programs.{Program}
@@ -6,7 +6,7 @@ use Rattle.rank_defs.specs.Builtins.{fifo, shortest}
 use Rattle.policy_defs.specs.Policy.{Node, one_leaf}
 use Rattle.tree_graph.specs.Preorder.{Numbered, numbered, rows}
 use Rattle.policy_core.specs.declared.parts.Marks.{Marks}
-use Rattle.policy_core.specs.declared.parts.Station.{Station}
+use Rattle.policy_core.specs.declared.parts.PolicyNode.{PolicyNode}
 use Rattle.policy_core.specs.Parts.{told, node_of, resolved}
 
 abbrev pub plain : Marks
@@ -16,7 +16,7 @@ abbrev pub urgent : Marks
 urgent = record { prio = 7; weight = 2; slack = 500 }
 
 -- a station without a limit: its name, the name of its transaction and that one's place
-abbrev pub station : List ℕ → List ℕ → ℕ → Marks → Station
+abbrev pub station : List ℕ → List ℕ → ℕ → Marks → PolicyNode
 station name used program marks = record { name = name; using = used; program = program; marks = marks; limit = None }
 
 -- a node without a limit: its name, the name of its transaction and that one's program

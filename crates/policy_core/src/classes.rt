@@ -1,12 +1,12 @@
 //! The classes that statements declare.
 ghost use Rattle.std.specs.Prelude.{◌≡◌, ◌≤◌, length, map, IfOk};
-ghost use Rattle.policy_rules.specs.Clauses.{NoLine, IsBeyond};
+ghost use Rattle.policy_rules.specs.Clauses.{NoLine, IsOneTooMany};
 ghost use Rattle.policy_rules.specs.Entries.{entries_of, AreRising};
 ghost use Rattle.policy_rules.specs.Resolved.{classes_in, marks_of};
 ghost use Rattle.policy_core.specs.Made.{made, made_of};
 
 use crate::parts::Class;
-use crate::stations::marks;
+use crate::nodes::marks;
 use list_core::List;
 use policy_text_defs::{Attrs, Condition, Statement};
 use std::alloc::{AllocError, Global};

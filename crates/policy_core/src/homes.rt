@@ -2,7 +2,7 @@
 ghost use Rattle.std.specs.Prelude.{◌≡◌, ℕ, ◌<◌, length, IfOk};
 ghost use Rattle.policy_rules.specs.Names.{declared, class_name};
 ghost use Rattle.policy_rules.specs.Entries.{entries_of, AreRising};
-ghost use Rattle.policy_rules.specs.Clauses.{NoLine, IsAgain, IsStray};
+ghost use Rattle.policy_rules.specs.Clauses.{NoLine, IsRepeated, IsNotListedOnce};
 ghost use Rattle.policy_rules.specs.Graph.{graph_of};
 ghost use Rattle.tree_graph.specs.Descent.{times};
 ghost use Rattle.tree_graph.specs.Row.{nodes_of};
@@ -35,8 +35,8 @@ pub fn leaves(
     tree: &Preorder,
 ) -> Result<Vec<u32>, AllocError>
     requires rising { AreRising (entries_of lines.now) }
-    requires apart { NoLine (IsAgain (entries_of lines.now)) (entries_of lines.now) }
-    requires listed { NoLine (IsStray (entries_of lines.now)) (entries_of lines.now) }
+    requires apart { NoLine (IsRepeated (entries_of lines.now)) (entries_of lines.now) }
+    requires listed { NoLine (IsNotListedOnce (entries_of lines.now)) (entries_of lines.now) }
     requires classes { classes.now ≡ declared class_name (entries_of lines.now) }
     requires count { length tree.now.rows ≡ length (graph_of (entries_of lines.now)) }
     requires once { (a : ℕ) → a < length tree.now.rows → times a (nodes_of tree.now.rows) ≡ 1 }

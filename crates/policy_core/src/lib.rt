@@ -14,7 +14,7 @@ mod parts;
 mod place_laws;
 mod policy;
 mod resolution;
-mod stations;
+mod nodes;
 mod text_laws;
 
 pub use family_laws::{families_are_forests, families_are_shallow};
@@ -26,7 +26,7 @@ pub use laws::{
     the_office_is_accepted,
 };
 pub use numbers::places;
-pub use parts::{Class, Marks, Station};
+pub use parts::{Class, Marks, PolicyNode};
 pub use place_laws::{graphs_give_the_tree, homes_give_the_classes, resolved_policies_are_accepted};
 pub use policy::Policy;
 pub use policy_rules::PolicyFault;

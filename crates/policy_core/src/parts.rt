@@ -13,7 +13,7 @@ pub struct Marks {
 /// A node or a leaf: its name, the name of its transaction and its place among the checked ones, its marks, and the most
 /// packets that it holds, where it is a leaf with a limit.
 #[derive(Drop)]
-pub struct Station {
+pub struct PolicyNode {
     pub name: Name,
     pub using: Name,
     pub program: usize,

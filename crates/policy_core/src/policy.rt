@@ -13,7 +13,7 @@ ghost use Rattle.policy_core.specs.Parts.{resolved, told, class_in, AreNumbered,
 ghost use Rattle.tree_graph.specs.Row.{row_at};
 ghost use Rattle.policy_rules.specs.Clauses.{most_classes};
 
-use crate::parts::{Class, Marks, Station};
+use crate::parts::{Class, Marks, PolicyNode};
 use list_core::List;
 use policy_defs::NodeNames;
 use range_core::Checked;
@@ -26,7 +26,7 @@ use tree_graph::Preorder;
 pub struct Policy {
     version: u32,
     tree: Preorder,
-    stations: List<Station>,
+    stations: List<PolicyNode>,
     programs: List<Checked>,
     classes: List<Class>,
 }
@@ -50,7 +50,7 @@ impl Policy {
     pub fn new(
         version: u32,
         tree: Preorder,
-        stations: List<Station>,
+        stations: List<PolicyNode>,
         programs: List<Checked>,
         classes: List<Class>,
     ) -> Policy
@@ -204,7 +204,7 @@ impl NodeNames for Policy {
 }
 
 /// The station of a node of the tree.
-fn station_of<'a>(tree: &Preorder, stations: &'a [Station], node: u32) -> &'a Station
+fn station_of<'a>(tree: &Preorder, stations: &'a [PolicyNode], node: u32) -> &'a PolicyNode
     requires there { node < length tree.now.rows }
     requires stations { HaveStations tree.now stations.now }
     ensures { result.now ≡ station_at stations.entry.now (row_at tree.now.rows node).node }

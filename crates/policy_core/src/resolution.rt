@@ -11,7 +11,7 @@ ghost use Rattle.policy_core.specs.PlaceLaws.{AreValid};
 
 use crate::classes::classes;
 use crate::policy::Policy;
-use crate::stations::stations;
+use crate::nodes::stations;
 use list_core::List;
 use policy_statements::{Spaces, declarations};
 use crate::faults::check_family;

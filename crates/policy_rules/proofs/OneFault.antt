@@ -6,7 +6,7 @@ use Rattle.rank_defs.specs.Programs.{Program}
 use Rattle.rank_defs.proofs.Faults.{checked-faultless, least-unique}
 use Rattle.policy_text_defs.specs.Sense.{Entry}
 use Rattle.policy_rules.specs.Accepted.{IsFault}
-use Rattle.policy_rules.specs.Clauses.{IsLeastLine, NoLine, IsMisplaced, IsAgain, IsUnknown, IsBeyond, IsOrphan, has_root, IsStray, has_catch_all, IsAhead}
+use Rattle.policy_rules.specs.Clauses.{IsLeastLine, NoLine, IsMisplaced, IsRepeated, IsUnknown, IsOneTooMany, IsOrphan, has_root, IsNotListedOnce, has_catch_all, NeedsVersion2}
 use Rattle.policy_rules.specs.Families.{IsCyclic, IsTooDeep}
 use Rattle.policy_rules.specs.Laws.{HaveOneFault, AcceptedHaveNoFault}
 use Rattle.policy_rules.specs.Programs.{programs}
@@ -134,13 +134,13 @@ more_whole earlier holds fault = next earlier (holds ≡ true) (AsWhole holds fa
 abbrev clauses : List Entry → Clauses
 clauses entries =
     let placed = first (NoLine (IsMisplaced entries) entries) (AtLine (IsMisplaced entries) entries Misplaced) (line-sharp (IsMisplaced entries) entries Misplaced) in
-    let known = more (more placed (IsAgain entries) entries Twice) (IsUnknown entries) entries Unknown in
-    let few = more known (IsBeyond entries) entries TooMany in
+    let known = more (more placed (IsRepeated entries) entries Twice) (IsUnknown entries) entries Unknown in
+    let few = more known (IsOneTooMany entries) entries TooMany in
     let computable = next few (AreChecked (programs entries)) (ProgramsFail (programs entries)) (programs-sharp (programs entries)) in
     let with_root = more_whole (more computable (IsOrphan entries) entries Parents) (has_root entries) NoRoot in
     let shallow = more (more with_root (IsCyclic entries) entries Cycle) (IsTooDeep entries) entries Deep in
-    let caught = more_whole (more shallow (IsStray entries) entries ClassLeaf) (has_catch_all entries) NoCatchAll in
-    more caught (IsAhead entries) entries OldVersion
+    let caught = more_whole (more shallow (IsNotListedOnce entries) entries ClassLeaf) (has_catch_all entries) NoCatchAll in
+    more caught (NeedsVersion2 entries) entries OldVersion
 
 -- a fault is that of the first clause to fail
 fault-first : (entries : List Entry) (f : PolicyFault) → f ≢ NoMemory → IsFault entries f → FailFirst (clauses entries) f

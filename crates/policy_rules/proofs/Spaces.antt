@@ -9,7 +9,7 @@ use Rattle.std.proofs.lemmas.List.{append-nil, take_more}
 use Rattle.std.proofs.lemmas.Map.Keys.{IsDistinct-push}
 use Rattle.policy_text_defs.specs.Sense.{Sense, Entry, version}
 use Rattle.policy_rules.specs.Names.{Name, has, declared}
-use Rattle.policy_rules.specs.Clauses.{NoLine, IsAgain, IsBeyond, is_declared, is_beyond}
+use Rattle.policy_rules.specs.Clauses.{NoLine, IsRepeated, IsOneTooMany, is_declared, is_one_too_many}
 use Rattle.policy_rules.specs.Entries.{AreRising}
 use Rattle.policy_rules.proofs.EarlierLines.{passes-at}
 use Rattle.policy_rules.proofs.Lines.{declared-push}
@@ -32,7 +32,7 @@ module _ (space : Sense → Option Name) (es : List Entry) (rising : AreRising e
       let next : suc i ≡ i + 1 = omega arith in
       ap (λ k. declared space (take k es)) next ∙ ap (declared space) (take_more es i no-entry within) ∙ declared-push space (take i es) (get_or es i no-entry)
 
-  module _ (new : (earlier : List Entry) (s : Sense) → is_declared earlier s ≡ false → option_map_or (has (declared space earlier)) (space s) false ≡ false) (fine : NoLine (IsAgain es) es) where
+  module _ (new : (earlier : List Entry) (s : Sense) → is_declared earlier s ≡ false → option_map_or (has (declared space earlier)) (space s) false ≡ false) (fine : NoLine (IsRepeated es) es) where
     distinct-front : (i : ℕ) → i ≤ length es → IsDistinct bytes_eq (declared space (take i es))
     distinct-front zero l = distinct-none
     distinct-front (suc i) l =
@@ -43,12 +43,12 @@ module _ (space : Sense → Option Name) (es : List Entry) (rising : AreRising e
     pub declared-distinct : IsDistinct bytes_eq (declared space es)
     declared-distinct = subst (λ (ls : List Entry). IsDistinct bytes_eq (declared space ls)) (take-length es) (distinct-front (length es) (omega arith))
 
-  module _ (most : ℕ) (room : (earlier : List Entry) (s : Sense) → is_beyond earlier s ≡ false → length (declared space earlier) ≤ most → length (declared space earlier ++ cons_option (space s) []) ≤ most) (fine : NoLine (IsBeyond es) es) where
+  module _ (most : ℕ) (room : (earlier : List Entry) (s : Sense) → is_one_too_many earlier s ≡ false → length (declared space earlier) ≤ most → length (declared space earlier ++ cons_option (space s) []) ≤ most) (fine : NoLine (IsOneTooMany es) es) where
     few-front : (i : ℕ) → i ≤ length es → length (declared space (take i es)) ≤ most
     few-front zero l = omega arith
     few-front (suc i) l =
         subst (λ (ns : List Name). length ns ≤ most) (sym (names-more i (omega arith)))
-        (room (take i es) (get_or es i no-entry).1 (passes-at es rising is_beyond fine i no-entry (omega arith)) (few-front i (omega arith)))
+        (room (take i es) (get_or es i no-entry).1 (passes-at es rising is_one_too_many fine i no-entry (omega arith)) (few-front i (omega arith)))
 
     -- a space that no statement goes beyond has few names
     pub declared-few : length (declared space es) ≤ most

@@ -61,8 +61,8 @@ is_declared earlier (class n a cs) = has (declared class_name earlier) n
 is_declared earlier (leaf n u a l ns) = has (declared node_name earlier) n
 is_declared earlier (node n u a ns) = has (declared node_name earlier) n
 
-abbrev pub IsAgain : List Entry → Entry → Type 0
-IsAgain entries e = IsTrue (is_declared (before e.0 entries) e.1)
+abbrev pub IsRepeated : List Entry → Entry → Type 0
+IsRepeated entries e = IsTrue (is_declared (before e.0 entries) e.1)
 
 -- ---- 3: a name that is declared nowhere
 -- each word of an expression is a number of the packet, its class or its way, or one of these variables
@@ -107,19 +107,19 @@ abbrev pub assignments_in : List Entry → ℕ
 assignments_in body = length (filter (λ e. is_assignment e.1) body)
 
 -- as many were declared before as there may be
-abbrev pub is_beyond : List Entry → Sense → Bool
-is_beyond earlier (version v) = false
-is_beyond earlier (transaction n) = length (declared transaction_name earlier) == most_transactions
-is_beyond earlier (keep n s) = length (declared variable_name (open_body earlier)) == most_variables
-is_beyond earlier (each n s) = length (declared variable_name (open_body earlier)) == most_variables
-is_beyond earlier (push n t) = assignments_in (open_body earlier) == most_assignments
-is_beyond earlier (pop n t) = assignments_in (open_body earlier) == most_assignments
-is_beyond earlier (class n a cs) = length (declared class_name earlier) == most_classes
-is_beyond earlier (leaf n u a l ns) = length (declared node_name earlier) == most_nodes
-is_beyond earlier (node n u a ns) = length (declared node_name earlier) == most_nodes
+abbrev pub is_one_too_many : List Entry → Sense → Bool
+is_one_too_many earlier (version v) = false
+is_one_too_many earlier (transaction n) = length (declared transaction_name earlier) == most_transactions
+is_one_too_many earlier (keep n s) = length (declared variable_name (open_body earlier)) == most_variables
+is_one_too_many earlier (each n s) = length (declared variable_name (open_body earlier)) == most_variables
+is_one_too_many earlier (push n t) = assignments_in (open_body earlier) == most_assignments
+is_one_too_many earlier (pop n t) = assignments_in (open_body earlier) == most_assignments
+is_one_too_many earlier (class n a cs) = length (declared class_name earlier) == most_classes
+is_one_too_many earlier (leaf n u a l ns) = length (declared node_name earlier) == most_nodes
+is_one_too_many earlier (node n u a ns) = length (declared node_name earlier) == most_nodes
 
-abbrev pub IsBeyond : List Entry → Entry → Type 0
-IsBeyond entries e = IsTrue (is_beyond (before e.0 entries) e.1)
+abbrev pub IsOneTooMany : List Entry → Entry → Type 0
+IsOneTooMany entries e = IsTrue (is_one_too_many (before e.0 entries) e.1)
 
 -- ---- 8 and 9: parents, and the root
 abbrev pub root : Name
@@ -137,11 +137,11 @@ has_root entries = has (declared node_name entries) root
 
 -- ---- 12 and 13: the leaf of a class, and the class for all packets
 -- a class is not listed by leaves exactly once
-abbrev pub is_stray : List Name → Sense → Bool
-is_stray all s = option_map_or (λ n. not (is_once all n)) (class_name s) false
+abbrev pub is_not_listed_once : List Name → Sense → Bool
+is_not_listed_once all s = option_map_or (λ n. not (is_once all n)) (class_name s) false
 
-abbrev pub IsStray : List Entry → Entry → Type 0
-IsStray entries e = IsTrue (is_stray (listed leaf_classes entries) e.1)
+abbrev pub IsNotListedOnce : List Entry → Entry → Type 0
+IsNotListedOnce entries e = IsTrue (is_not_listed_once (listed leaf_classes entries) e.1)
 
 -- whether the last class, if there is one, has no condition; `found` is what was seen so far
 abbrev pub has_catch_all_behind : Bool → List Entry → Bool
@@ -163,5 +163,5 @@ abbrev pub has_limit : Sense → Bool
 has_limit (leaf n u a (Some l) ns) = true
 has_limit s = false
 
-abbrev pub IsAhead : List Entry → Entry → Type 0
-IsAhead entries e = IsTrue (version_of entries == 1 && has_limit e.1)
+abbrev pub NeedsVersion2 : List Entry → Entry → Type 0
+NeedsVersion2 entries e = IsTrue (version_of entries == 1 && has_limit e.1)

@@ -8,7 +8,7 @@ use Rattle.policy_text_defs.specs.declared.attribute.Attrs.{Attrs}
 use Rattle.policy_text_defs.specs.Phrase.{number, word, two}
 use Rattle.policy_text_defs.specs.Sense.{Sense, Entry, entry, numbered, version, transaction, keep, each, push, pop, class, leaf, node}
 use Rattle.policy_rules.specs.Names.{before, listed, leaf_classes}
-use Rattle.policy_rules.specs.Clauses.{is_placed, is_declared, is_known, is_beyond, is_stray, has_root, has_catch_all, version_of, IsAhead}
+use Rattle.policy_rules.specs.Clauses.{is_placed, is_declared, is_known, is_one_too_many, is_not_listed_once, has_root, has_catch_all, version_of, NeedsVersion2}
 use Rattle.policy_rules.specs.Programs.{programs}
 
 abbrev pub nothing_set : Attrs
@@ -79,36 +79,36 @@ abbrev so_many : ℕ → Sense → List Entry
 so_many n s = replicate n (entry 1 s)
 
 -- the 256th class has room, and no class behind it
-pub is_beyond-classes : map (λ n. is_beyond (so_many n a_class) a_class) (255 ∷ 256 ∷ []) ≡ false ∷ true ∷ []
-is_beyond-classes = refl
+pub is_one_too_many-classes : map (λ n. is_one_too_many (so_many n a_class) a_class) (255 ∷ 256 ∷ []) ≡ false ∷ true ∷ []
+is_one_too_many-classes = refl
 
 -- nodes and leaves are counted together
-pub is_beyond-nodes_and_leaves : map (λ s. map (λ n. is_beyond (so_many 1000 a_leaf ++ so_many n a_node) s) (23 ∷ 24 ∷ [])) (a_leaf ∷ a_node ∷ []) ≡ replicate 2 (false ∷ true ∷ [])
-is_beyond-nodes_and_leaves = refl
+pub is_one_too_many-nodes_and_leaves : map (λ s. map (λ n. is_one_too_many (so_many 1000 a_leaf ++ so_many n a_node) s) (23 ∷ 24 ∷ [])) (a_leaf ∷ a_node ∷ []) ≡ replicate 2 (false ∷ true ∷ [])
+is_one_too_many-nodes_and_leaves = refl
 
 -- classes and nodes are not
-pub is_beyond-each_its_own : map (is_beyond (so_many 256 a_class ++ so_many 64 a_transaction)) (a_node ∷ a_leaf ∷ version 1 ∷ a_keep ∷ a_push ∷ []) ≡ replicate 5 false
-is_beyond-each_its_own = refl
+pub is_one_too_many-each_its_own : map (is_one_too_many (so_many 256 a_class ++ so_many 64 a_transaction)) (a_node ∷ a_leaf ∷ version 1 ∷ a_keep ∷ a_push ∷ []) ≡ replicate 5 false
+is_one_too_many-each_its_own = refl
 
-pub is_beyond-transactions : map (λ n. is_beyond (so_many n a_transaction) a_transaction) (63 ∷ 64 ∷ []) ≡ false ∷ true ∷ []
-is_beyond-transactions = refl
+pub is_one_too_many-transactions : map (λ n. is_one_too_many (so_many n a_transaction) a_transaction) (63 ∷ 64 ∷ []) ≡ false ∷ true ∷ []
+is_one_too_many-transactions = refl
 
 -- both kinds of variables are counted together, and those of an earlier transaction aren't
-pub is_beyond-variables : map (λ s. map (λ n. is_beyond (so_many 1 a_transaction ++ so_many 8 a_keep ++ so_many n an_each) s) (7 ∷ 8 ∷ [])) (a_keep ∷ an_each ∷ []) ≡ replicate 2 (false ∷ true ∷ [])
-is_beyond-variables = refl
+pub is_one_too_many-variables : map (λ s. map (λ n. is_one_too_many (so_many 1 a_transaction ++ so_many 8 a_keep ++ so_many n an_each) s) (7 ∷ 8 ∷ [])) (a_keep ∷ an_each ∷ []) ≡ replicate 2 (false ∷ true ∷ [])
+is_one_too_many-variables = refl
 
-pub is_beyond-variables_of_another : is_beyond (so_many 1 a_transaction ++ so_many 16 a_keep ++ so_many 1 a_transaction) a_keep ≡ false
-is_beyond-variables_of_another = refl
+pub is_one_too_many-variables_of_another : is_one_too_many (so_many 1 a_transaction ++ so_many 16 a_keep ++ so_many 1 a_transaction) a_keep ≡ false
+is_one_too_many-variables_of_another = refl
 
 -- so are push and pop lines
-pub is_beyond-assignments : map (λ s. map (λ n. is_beyond (so_many 1 a_transaction ++ so_many 40 a_push ++ so_many n a_pop) s) (23 ∷ 24 ∷ [])) (a_push ∷ a_pop ∷ []) ≡ replicate 2 (false ∷ true ∷ [])
-is_beyond-assignments = refl
+pub is_one_too_many-assignments : map (λ s. map (λ n. is_one_too_many (so_many 1 a_transaction ++ so_many 40 a_push ++ so_many n a_pop) s) (23 ∷ 24 ∷ [])) (a_push ∷ a_pop ∷ []) ≡ replicate 2 (false ∷ true ∷ [])
+is_one_too_many-assignments = refl
 
-pub is_beyond-assignments_of_another : is_beyond (so_many 1 a_transaction ++ so_many 64 a_push ++ so_many 1 a_transaction) a_push ≡ false
-is_beyond-assignments_of_another = refl
+pub is_one_too_many-assignments_of_another : is_one_too_many (so_many 1 a_transaction ++ so_many 64 a_push ++ so_many 1 a_transaction) a_push ≡ false
+is_one_too_many-assignments_of_another = refl
 
-pub is_stray-listed_once : is_stray (listed leaf_classes counting) (class (codes "all") nothing_set []) ≡ false
-is_stray-listed_once = refl
+pub is_not_listed_once-listed_once : is_not_listed_once (listed leaf_classes counting) (class (codes "all") nothing_set []) ≡ false
+is_not_listed_once-listed_once = refl
 
 pub has_root-counting : has_root counting ≡ true
 has_root-counting = refl
@@ -123,11 +123,11 @@ limited v = numbered 1 (version v ∷ class (codes "all") nothing_set [] ∷ lea
 pub version_of-limited : version_of (limited 2) ≡ 2
 version_of-limited = refl
 
-pub IsAhead-a_limit_in_version_1 : IsAhead (limited 1) (entry 3 (leaf (codes "root") (codes "fifo") nothing_set (Some 10) (codes "all" ∷ [])))
-IsAhead-a_limit_in_version_1 = refl
+pub NeedsVersion2-a_limit_in_version_1 : NeedsVersion2 (limited 1) (entry 3 (leaf (codes "root") (codes "fifo") nothing_set (Some 10) (codes "all" ∷ [])))
+NeedsVersion2-a_limit_in_version_1 = refl
 
-pub IsAhead-a_limit_in_version_2 : ¬ IsAhead (limited 2) (entry 3 (leaf (codes "root") (codes "fifo") nothing_set (Some 10) (codes "all" ∷ [])))
-IsAhead-a_limit_in_version_2 h = cc
+pub NeedsVersion2-a_limit_in_version_2 : ¬ NeedsVersion2 (limited 2) (entry 3 (leaf (codes "root") (codes "fifo") nothing_set (Some 10) (codes "all" ∷ [])))
+NeedsVersion2-a_limit_in_version_2 h = cc
 
-pub IsAhead-a_leaf_without_a_limit : ¬ IsAhead counting (entry 3 (leaf (codes "root") (codes "count") nothing_set None (codes "all" ∷ [])))
-IsAhead-a_leaf_without_a_limit h = cc
+pub NeedsVersion2-a_leaf_without_a_limit : ¬ NeedsVersion2 counting (entry 3 (leaf (codes "root") (codes "count") nothing_set None (codes "all" ∷ [])))
+NeedsVersion2-a_leaf_without_a_limit h = cc

@@ -16,7 +16,7 @@ use Rattle.policy_text_defs.specs.declared.condition.FieldName.TheVariants.{Dscp
 use Rattle.policy_text_defs.specs.Phrase.{Phrase, number, word, two}
 use Rattle.policy_text_defs.specs.Sense.{Sense, Entry, entry, numbered, version, transaction, keep, push, class, leaf, node}
 use Rattle.policy_rules.specs.Names.{Name, node_name, before, listed, children, leaf_classes}
-use Rattle.policy_rules.specs.Clauses.{IsLeastLine, NoLine, is_placed, is_declared, is_known, is_beyond, is_orphan, is_stray, has_root, has_catch_all, root, IsAgain, IsUnknown, IsBeyond, IsOrphan, IsAhead}
+use Rattle.policy_rules.specs.Clauses.{IsLeastLine, NoLine, is_placed, is_declared, is_known, is_one_too_many, is_orphan, is_not_listed_once, has_root, has_catch_all, root, IsRepeated, IsUnknown, IsOneTooMany, IsOrphan, NeedsVersion2}
 use Rattle.policy_rules.specs.Families.{ListsChild, NamesLead, IsCyclic, IsTooDeep}
 use Rattle.policy_rules.specs.Accepted.{AreFew, AreShallow, IsFault}
 use Rattle.policy_rules.specs.Programs.{programs}
@@ -54,13 +54,13 @@ abbrev unknown : List Entry → Entry → Bool
 unknown es e = not (is_known es (before e.0 es) e.1)
 
 abbrev beyond : List Entry → Entry → Bool
-beyond es e = is_beyond (before e.0 es) e.1
+beyond es e = is_one_too_many (before e.0 es) e.1
 
 abbrev orphan : List Entry → Entry → Bool
 orphan es e = is_orphan (listed children es) e.1
 
 abbrev stray : List Entry → Entry → Bool
-stray es e = is_stray (listed leaf_classes es) e.1
+stray es e = is_not_listed_once (listed leaf_classes es) e.1
 
 abbrev none : (List Entry → Entry → Bool) → List Entry → Bool
 none test es = list_all (λ e. not (test es e)) es
@@ -91,7 +91,7 @@ variables (suc n) first rest = keep (first ∷ []) (record { low = 0; high = 9; 
 abbrev misplaced_and_again : List Entry
 misplaced_and_again = numbered 1 (version 1 ∷ all_packets ∷ all_packets ∷ version 1 ∷ [])
 
-pub misplaced_before_again : IsFault misplaced_and_again (Misplaced 4) × IsAgain misplaced_and_again (entry 3 all_packets)
+pub misplaced_before_again : IsFault misplaced_and_again (Misplaced 4) × IsRepeated misplaced_and_again (entry 3 all_packets)
 misplaced_before_again = (least_passes (misplaced misplaced_and_again) misplaced_and_again 3 (entry 4 (version 1)) (omega arith) refl refl refl, refl)
 
 -- ---- 2 before 3: a class that isn't there on line 2, and a name comes again on line 4
@@ -105,7 +105,7 @@ again_before_unknown = ((none_passes (misplaced again_and_unknown) again_and_unk
 abbrev unknown_and_beyond : List Entry
 unknown_and_beyond = numbered 1 (version 1 ∷ transaction (codes "t") ∷ variables 17 97 (push (codes "rank") (word (codes "zz")) ∷ []))
 
-pub unknown_before_beyond : IsFault unknown_and_beyond (Unknown 20) × IsBeyond unknown_and_beyond (entry 19 (keep (113 ∷ []) (record { low = 0; high = 9; first = 0 })))
+pub unknown_before_beyond : IsFault unknown_and_beyond (Unknown 20) × IsOneTooMany unknown_and_beyond (entry 19 (keep (113 ∷ []) (record { low = 0; high = 9; first = 0 })))
 unknown_before_beyond = (((none_passes (misplaced unknown_and_beyond) unknown_and_beyond refl, none_passes (again unknown_and_beyond) unknown_and_beyond refl), least_passes (unknown unknown_and_beyond) unknown_and_beyond 19 (entry 20 (push (codes "rank") (word (codes "zz")))) (omega arith) refl refl refl), refl)
 
 -- ---- 4 before 8: a node that no other lists on line 2, and the seventeenth variable on line 20
@@ -260,5 +260,5 @@ stray_before_no_catch_all = ((are_shallow stray_and_no_catch_all (are_few stray_
 abbrev no_catch_all_and_ahead : List Entry
 no_catch_all_and_ahead = numbered 1 (version 1 ∷ some_packets ∷ leaf root (codes "fifo") nothing_set (Some 10) (codes "all" ∷ []) ∷ [])
 
-pub no_catch_all_before_ahead : IsFault no_catch_all_and_ahead NoCatchAll × IsAhead no_catch_all_and_ahead (entry 3 (leaf root (codes "fifo") nothing_set (Some 10) (codes "all" ∷ [])))
+pub no_catch_all_before_ahead : IsFault no_catch_all_and_ahead NoCatchAll × NeedsVersion2 no_catch_all_and_ahead (entry 3 (leaf root (codes "fifo") nothing_set (Some 10) (codes "all" ∷ [])))
 no_catch_all_before_ahead = (((are_shallow no_catch_all_and_ahead (are_few no_catch_all_and_ahead refl refl refl refl) tt refl refl refl, none_passes (stray no_catch_all_and_ahead) no_catch_all_and_ahead refl), refl), refl)

@@ -11,7 +11,7 @@ use Rattle.std.proofs.lemmas.List.Sums.{sum_by-append, sum_by-cons, get_or-le-su
 use Rattle.std.proofs.lemmas.Slice.Eq.{bytes_eq-Decides}
 use Rattle.policy_text_defs.specs.Sense.{Sense, Entry, version, transaction, keep, each, push, pop, class, leaf, node}
 use Rattle.policy_rules.specs.Names.{Name, has, times, is_once, declared, listed, class_name, node_name, children, leaf_classes}
-use Rattle.policy_rules.specs.Clauses.{root, NoLine, IsOrphan, IsStray}
+use Rattle.policy_rules.specs.Clauses.{root, NoLine, IsOrphan, IsNotListedOnce}
 use Rattle.policy_rules.specs.Resolved.{ListsClass}
 
 Any-cons : {X : Type 0} (P : X → Type 0) (x : X) (xs : List X) → Any P xs → Any P (x ∷ xs)
@@ -99,19 +99,19 @@ not-not false h = absurd (h refl)
 
 -- ---- classes
 -- where no class is stray, each declared class is listed once
-pub class-once : (entries : List Entry) (a : Name) → NoLine (IsStray entries) entries → has (declared class_name entries) a ≡ true → is_once (listed leaf_classes entries) a ≡ true
+pub class-once : (entries : List Entry) (a : Name) → NoLine (IsNotListedOnce entries) entries → has (declared class_name entries) a ≡ true → is_once (listed leaf_classes entries) a ≡ true
 class-once entries a none there = at (declaring class_name entries a there)
   where
     at : Any (λ e. class_name e.1 ≡ Some a) entries → is_once (listed leaf_classes entries) a ≡ true
     at (k, e, within, is, named) = not-not (is_once (listed leaf_classes entries) a) (λ stray. none k e within
-        (subst (λ (f : Entry). IsStray entries f) (sym is) (ap (λ o. option_map_or (λ n. not (is_once (listed leaf_classes entries) n)) o false) named ∙ stray)))
+        (subst (λ (f : Entry). IsNotListedOnce entries f) (sym is) (ap (λ o. option_map_or (λ n. not (is_once (listed leaf_classes entries) n)) o false) named ∙ stray)))
 
 -- by some leaf
-pub class-leaf : (entries : List Entry) (a : Name) → NoLine (IsStray entries) entries → has (declared class_name entries) a ≡ true → Any (λ e. Contains (leaf_classes e.1) a) entries
+pub class-leaf : (entries : List Entry) (a : Name) → NoLine (IsNotListedOnce entries) entries → has (declared class_name entries) a ≡ true → Any (λ e. Contains (leaf_classes e.1) a) entries
 class-leaf entries a none there = lister leaf_classes entries a (class-once entries a none there)
 
 -- and by no second one
-pub class-one_leaf : (entries : List Entry) (a : Name) → NoLine (IsStray entries) entries → has (declared class_name entries) a ≡ true
+pub class-one_leaf : (entries : List Entry) (a : Name) → NoLine (IsNotListedOnce entries) entries → has (declared class_name entries) a ≡ true
     → (i j : ℕ) (d : Entry) → i < length entries → j < length entries → Contains (leaf_classes (get_or entries i d).1) a → Contains (leaf_classes (get_or entries j d).1) a → i ≡ j
 class-one_leaf entries a none there = one_lister leaf_classes entries a (class-once entries a none there)
 

@@ -12,7 +12,7 @@ use Rattle.rank_defs.specs.Builtins.{Builtin, builtin, builtins, same_name}
 use Rattle.policy_text_defs.specs.Sense.{Sense, Entry, version, transaction, keep, each, push, pop, class, leaf, node}
 use Rattle.policy_rules.specs.Names.{Name, has, declared, transaction_name}
 use Rattle.policy_rules.specs.Bodies.{Body, bodies}
-use Rattle.policy_rules.specs.Clauses.{is_beyond, is_transaction_known, most_transactions}
+use Rattle.policy_rules.specs.Clauses.{is_one_too_many, is_transaction_known, most_transactions}
 use Rattle.policy_rules.specs.Accepted.{AreFew}
 use Rattle.policy_rules.specs.Entries.{AreRising}
 use Rattle.policy_rules.specs.Programs.{program_in, programs, body_named, or_written, program_named}
@@ -87,7 +87,7 @@ behind_six es i = (let six : i + 6 ≡ suc (suc (suc (suc (suc (suc i))))) = ome
 room : (n : ℕ) → n ≤ most_transactions → nat_eq n most_transactions ≡ false → n + 1 ≤ most_transactions
 room n few other = (let differs : n ≢ most_transactions = eqb-false n most_transactions other in omega (arith, few, differs))
 
-few_push : (pre : List Entry) (s : Sense) → is_beyond pre s ≡ false → length (declared transaction_name pre) ≤ most_transactions → length (declared transaction_name pre ++ cons_option (transaction_name s) []) ≤ most_transactions
+few_push : (pre : List Entry) (s : Sense) → is_one_too_many pre s ≡ false → length (declared transaction_name pre) ≤ most_transactions → length (declared transaction_name pre ++ cons_option (transaction_name s) []) ≤ most_transactions
 few_push pre (transaction a) beyond few = subst (λ (k : ℕ). k ≤ most_transactions) (sym (length-append (declared transaction_name pre) (a ∷ []))) (room (length (declared transaction_name pre)) few beyond)
 few_push pre (version v) beyond few = subst (λ (l : List Name). length l ≤ most_transactions) (sym (append-nil (declared transaction_name pre))) few
 few_push pre (keep a r) beyond few = subst (λ (l : List Name). length l ≤ most_transactions) (sym (append-nil (declared transaction_name pre))) few

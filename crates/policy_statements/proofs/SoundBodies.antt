@@ -9,7 +9,7 @@ use Rattle.std.proofs.lemmas.List.Elements.{filter_map-append}
 use Rattle.policy_text_defs.specs.Sense.{Sense, Entry, version, transaction, keep, each, push, pop, class, leaf, node}
 use Rattle.policy_rules.specs.Names.{Name, has, declared, keep_name, each_name, variable_name}
 use Rattle.policy_rules.specs.Bodies.{is_transaction, is_body, open_body}
-use Rattle.policy_rules.specs.Clauses.{is_declared, is_beyond, most_variables}
+use Rattle.policy_rules.specs.Clauses.{is_declared, is_one_too_many, most_variables}
 use Rattle.policy_rules.proofs.Lines.{declared-push}
 use Rattle.policy_statements.specs.Bodies.{with_names, IsSoundLine, AreSoundBehind, IsSoundBody}
 
@@ -172,7 +172,7 @@ short : (n m : ℕ) → n ≤ m → n ≢ m → n + 1 ≤ m
 short n m le other = omega (arith, le, other)
 
 -- where a line isn't one too many, there is room for its variable
-room : (earlier : List Entry) (e : Entry) → AreBody earlier → length (declared variable_name earlier) ≤ most_variables → is_body e.1 ≡ true → is_beyond earlier e.1 ≡ false
+room : (earlier : List Entry) (e : Entry) → AreBody earlier → length (declared variable_name earlier) ≤ most_variables → is_body e.1 ≡ true → is_one_too_many earlier e.1 ≡ false
     → length (declared variable_name earlier ++ cons_option (variable_name e.1) []) ≤ most_variables
 room earlier (n, keep b s) all few is beyond =
     let other : length (declared variable_name earlier) ≢ most_variables = eqb-false _ _ (ap (λ (l : List Entry). nat_eq (length (declared variable_name l)) most_variables) (sym (open_own earlier all)) ∙ beyond) in

@@ -9,7 +9,7 @@ use Rattle.policy_text_defs.specs.Sense.{Sense, Entry, version, transaction, kee
 use Rattle.policy_text_defs.specs.Valid.{IsValid}
 use Rattle.policy_rules.specs.Names.{before}
 use Rattle.policy_rules.specs.Bodies.{is_body, open_body, opened, bodies}
-use Rattle.policy_rules.specs.Clauses.{is_declared, is_known, is_beyond}
+use Rattle.policy_rules.specs.Clauses.{is_declared, is_known, is_one_too_many}
 use Rattle.policy_rules.specs.Accepted.{AreFew}
 use Rattle.policy_rules.specs.Entries.{AreRising}
 use Rattle.policy_rules.proofs.EarlierLines.{before-take}
@@ -43,7 +43,7 @@ module _ (a b : List Entry) (same : open_body a ≡ open_body b) where
   known_alike es (leaf n u c l ns) is = absurd (true≢false (sym is))
   known_alike es (node n u c ns) is = absurd (true≢false (sym is))
 
-  beyond_alike : (s : Sense) → is_body s ≡ true → is_beyond b s ≡ is_beyond a s
+  beyond_alike : (s : Sense) → is_body s ≡ true → is_one_too_many b s ≡ is_one_too_many a s
   beyond_alike (keep n s) is = rw same refl
   beyond_alike (each n s) is = rw same refl
   beyond_alike (push n t) is = rw same refl
@@ -76,7 +76,7 @@ module _ (es pre rest : List Entry) (e : Entry) (is : es ≡ pre ++ e ∷ rest) 
         body = body;
         new = declared_alike pre earlier same e.1 body ∙ ap (λ (l : List Entry). is_declared l e.1) (sym (before_is rising)) ∙ false_from_ne_true _ (here (λ f. ¬ (is_declared (before f.0 es) f.1 ≡ true)) few.0.0.1);
         known = known_alike pre earlier same es e.1 body ∙ ap (λ (l : List Entry). is_known es l e.1) (sym (before_is rising)) ∙ not_false (is_known es (before e.0 es) e.1) (here (λ f. ¬ (not (is_known es (before f.0 es) f.1) ≡ true)) few.0.1);
-        few = beyond_alike pre earlier same e.1 body ∙ ap (λ (l : List Entry). is_beyond l e.1) (sym (before_is rising)) ∙ false_from_ne_true _ (here (λ f. ¬ (is_beyond (before f.0 es) f.1 ≡ true)) few.1);
+        few = beyond_alike pre earlier same e.1 body ∙ ap (λ (l : List Entry). is_one_too_many l e.1) (sym (before_is rising)) ∙ false_from_ne_true _ (here (λ f. ¬ (is_one_too_many (before f.0 es) f.1 ≡ true)) few.1);
         valid = here (λ f. IsValid f.1) valid;
       }
     where

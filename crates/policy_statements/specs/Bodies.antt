@@ -6,7 +6,7 @@ use Rattle.policy_text_defs.specs.Sense.{Sense, Entry}
 use Rattle.policy_text_defs.specs.Valid.{IsValid}
 use Rattle.policy_rules.specs.Names.{Name}
 use Rattle.policy_rules.specs.Bodies.{is_body, opened}
-use Rattle.policy_rules.specs.Clauses.{is_declared, is_known, is_beyond}
+use Rattle.policy_rules.specs.Clauses.{is_declared, is_known, is_one_too_many}
 use Rattle.policy_rules.specs.Programs.{keep_span, each_span, push_in, pop_in, program_in}
 use Rattle.policy_statements.specs.Names.{with_name}
 
@@ -20,7 +20,7 @@ pub record IsSoundLine (earlier : List Entry) (e : Entry) : Type 0 where
   pub body : is_body e.1 ≡ true
   pub new : is_declared earlier e.1 ≡ false
   pub known : is_known [] earlier e.1 ≡ true
-  pub few : is_beyond earlier e.1 ≡ false
+  pub few : is_one_too_many earlier e.1 ≡ false
   pub valid : IsValid e.1
 
 abbrev pub AreSoundBehind : List Entry → List Entry → Type 0

@@ -3,7 +3,7 @@ ghost use Rattle.std.specs.Prelude.{◌≡◌, List, true, OnOk, IfErr};
 ghost use Rattle.policy_text_defs.specs.Sense.{sense_of};
 ghost use Rattle.policy_rules.specs.Entries.{entries_of, AreRising};
 ghost use Rattle.policy_rules.specs.Names.{Name, listed, leaf_classes};
-ghost use Rattle.policy_rules.specs.Clauses.{IsFirstLine, NoLine, IsStray, is_stray, has_catch_all};
+ghost use Rattle.policy_rules.specs.Clauses.{IsFirstLine, NoLine, IsNotListedOnce, is_not_listed_once, has_catch_all};
 ghost use Rattle.policy_rules.specs.Accepted.{AreShallow, IsFault};
 ghost use Rattle.policy_statements.specs.Names.{IsTallyOf};
 
@@ -14,8 +14,8 @@ use policy_text_defs::Statement;
 use std::alloc::Global;
 
 /// Whether a statement declares a class that isn't listed once.
-fn is_stray(tally: &Tally, statement: &Statement) -> bool
-    ensures { (all : List Name) → IsTallyOf tally.now all → result ≡ is_stray all (sense_of statement.now) }
+fn is_not_listed_once(tally: &Tally, statement: &Statement) -> bool
+    ensures { (all : List Name) → IsTallyOf tally.now all → result ≡ is_not_listed_once all (sense_of statement.now) }
 {
     match statement {
         Statement::Class(name, _, _) => !tally.is_once(name.as_str()),
@@ -27,10 +27,10 @@ fn is_stray(tally: &Tally, statement: &Statement) -> bool
 fn first_stray(lines: &[(u32, Statement)], tally: &Tally) -> Option<u32>
     requires rising { AreRising (entries_of lines.now) }
     requires tally { IsTallyOf tally.now (listed leaf_classes (entries_of lines.now)) }
-    ensures first { IsFirstLine (IsStray (entries_of lines.now)) (entries_of lines.now) result }
+    ensures first { IsFirstLine (IsNotListedOnce (entries_of lines.now)) (entries_of lines.now) result }
 {
     for (line, statement) in lines {
-        if is_stray(tally, statement) {
+        if is_not_listed_once(tally, statement) {
             return Some(*line);
         }
     }
@@ -53,7 +53,7 @@ fn has_catch_all(lines: &[(u32, Statement)]) -> bool
 /// Refuses a class that leaves don't list exactly once, and then a policy whose last class has a condition or that has no class.
 pub fn check_leaves(alloc: Global, lines: &[(u32, Statement)]) -> Result<(), PolicyFault>
     requires rising { AreRising (entries_of lines.now) }
-    ensures leaves { OnOk result (NoLine (IsStray (entries_of lines.now)) (entries_of lines.now)) }
+    ensures leaves { OnOk result (NoLine (IsNotListedOnce (entries_of lines.now)) (entries_of lines.now)) }
     ensures catch_all { OnOk result (has_catch_all (entries_of lines.now) ≡ true) }
     ensures fault { IfErr result (λ f. AreShallow (entries_of lines.now) → IsFault (entries_of lines.now) f) }
 {

@@ -2,7 +2,7 @@
 ghost use Rattle.std.specs.Prelude.{◌≡◌, OnOk, IfErr};
 ghost use Rattle.policy_text_defs.specs.Sense.{sense_of};
 ghost use Rattle.policy_rules.specs.Entries.{entries_of, AreRising};
-ghost use Rattle.policy_rules.specs.Clauses.{IsFirstLine, NoLine, IsAhead, has_limit, version_of};
+ghost use Rattle.policy_rules.specs.Clauses.{IsFirstLine, NoLine, NeedsVersion2, has_limit, version_of};
 ghost use Rattle.policy_rules.specs.Accepted.{HaveCatchAll, IsFault};
 
 use policy_rules::PolicyFault;
@@ -28,7 +28,7 @@ fn has_limit(statement: &Statement) -> bool
 /// The first line with a limit, in version 1.
 fn first_ahead(lines: &[(u32, Statement)]) -> Option<u32>
     requires rising { AreRising (entries_of lines.now) }
-    ensures first { IsFirstLine (IsAhead (entries_of lines.now)) (entries_of lines.now) result }
+    ensures first { IsFirstLine (NeedsVersion2 (entries_of lines.now)) (entries_of lines.now) result }
 {
     if version(lines) != 1 {
         return None;
@@ -44,7 +44,7 @@ fn first_ahead(lines: &[(u32, Statement)]) -> Option<u32>
 /// Refuses a limit in a policy of version 1.
 pub fn check_limits(lines: &[(u32, Statement)]) -> Result<(), PolicyFault>
     requires rising { AreRising (entries_of lines.now) }
-    ensures limits { OnOk result (NoLine (IsAhead (entries_of lines.now)) (entries_of lines.now)) }
+    ensures limits { OnOk result (NoLine (NeedsVersion2 (entries_of lines.now)) (entries_of lines.now)) }
     ensures fault { IfErr result (λ f. HaveCatchAll (entries_of lines.now) → IsFault (entries_of lines.now) f) }
 {
     match first_ahead(lines) {

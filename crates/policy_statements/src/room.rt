@@ -1,7 +1,7 @@
 //! How many transactions, classes and nodes a policy has room for.
 ghost use Rattle.std.specs.Prelude.{◌≡◌, ◌+◌, [], List, true, not, ◌==◌};
 ghost use Rattle.policy_text_defs.specs.Sense.{Entry, sense_of};
-ghost use Rattle.policy_rules.specs.Clauses.{IsFirstLine, IsBeyond, is_beyond};
+ghost use Rattle.policy_rules.specs.Clauses.{IsFirstLine, IsOneTooMany, is_one_too_many};
 ghost use Rattle.policy_rules.specs.Entries.{entries_of, AreRising};
 ghost use Rattle.policy_statements.specs.Kept.{IsRoom, IsRoomAfter};
 
@@ -55,7 +55,7 @@ impl Room {
 
     /// Gives a statement its room. False where there is none.
     fn admit(&mut self, statement: &Statement) -> bool
-        ensures beyond { (earlier : List Entry) → IsRoom earlier self.old → not result ≡ is_beyond earlier (sense_of statement.now) }
+        ensures beyond { (earlier : List Entry) → IsRoom earlier self.old → not result ≡ is_one_too_many earlier (sense_of statement.now) }
         ensures room { result ≡ true → IsRoomAfter self.old (sense_of statement.now) self.new }
     {
         match statement {
@@ -76,7 +76,7 @@ impl Room {
 /// The line of the first statement that is one too many.
 pub fn first_beyond(lines: &[(u32, Statement)]) -> Option<u32>
     requires rising { AreRising (entries_of lines.now) }
-    ensures { IsFirstLine (IsBeyond (entries_of lines.now)) (entries_of lines.now) result }
+    ensures { IsFirstLine (IsOneTooMany (entries_of lines.now)) (entries_of lines.now) result }
 {
     let mut room = Room::new();
     for (line, statement) in lines {

@@ -11,7 +11,7 @@ use Rattle.pcapng_defs.specs.NgContents.{in_file}
 use Rattle.capture_core.specs.Captures.{Opens}
 use Rattle.policy_rules.specs.Resolved.{Resolved}
 use Rattle.sched_defs.specs.declared.ending.Ending.{Ending}
-use Rattle.sched_packets.specs.OneLink.{EachFileOf, one_link_in, link_in}
+use Rattle.sched_packets.specs.SingleLinkType.{EachFileOf, one_link_in, link_in}
 use Rattle.sched_capture.specs.Answers.{IsRefusalPart}
 use Rattle.sched_capture.specs.Forwards.{forward_over, forward_answer}
 use Rattle.sched_capture.proofs.Refusals.{nothing_part}

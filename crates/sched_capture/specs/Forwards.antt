@@ -15,11 +15,11 @@ use Rattle.sched_defs.specs.Packets.{Left, Captured, captured_from}
 use Rattle.pcap_core.specs.Bytes.{records_bytes}
 use Rattle.forward_defs.specs.Sendings.{sendings, up_to_late, has_late}
 use Rattle.forward_defs.specs.Forwarded.{sent_record, forward_bytes}
-use Rattle.forward_defs.specs.OneLink.{other_link}
+use Rattle.forward_defs.specs.SingleLinkType.{other_link}
 use Rattle.sched_embedded.specs.Laid.{Laid}
 use Rattle.sched_embedded.specs.Fabrics.{FabricRun}
 use Rattle.sched_packets.specs.Arrivals.{left_in}
-use Rattle.sched_packets.specs.OneLink.{one_link_in, link_in}
+use Rattle.sched_packets.specs.SingleLinkType.{one_link_in, link_in}
 use Rattle.sched_capture.specs.declared.departures.ForwardEnding.{ForwardEnding}
 use Rattle.sched_capture.specs.declared.departures.ForwardEnding.TheVariants.{Whole, BadCapture, OtherLink, Late}
 

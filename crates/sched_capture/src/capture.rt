@@ -7,9 +7,9 @@ ghost use Rattle.report_defs.specs.Report.{fault_line};
 ghost use Rattle.pcapng_defs.specs.NgContents.{in_file};
 ghost use Rattle.sched_packets.specs.Arrivals.{Begins};
 ghost use Rattle.capture_core.specs.Captures.{Opens};
-ghost use Rattle.sched_packets.specs.AnyArrivals.{resolved_of, policy_of, given_by, contents_of, left_of, IsReady};
+ghost use Rattle.sched_packets.specs.CapturePackets.{resolved_of, policy_of, given_by, contents_of, left_of, IsReady};
 ghost use Rattle.sched_defs.specs.SourceState.{start};
-ghost use Rattle.sched_core.specs.Own.{policy_in};
+ghost use Rattle.sched_core.specs.PolicyState.{policy_in};
 ghost use Rattle.sched_core.specs.Direct.{DirectStands};
 ghost use Rattle.sched_run.specs.Frames.{IsSet};
 ghost use Rattle.sched_run.specs.Steps.{pace_of, IsBounded, IsNoPastLast, CanEndSo};
@@ -22,7 +22,7 @@ use policy_core::Policy;
 use report_core::{FaultKind, Report, write_fault};
 use sched_core::{Direct, Scheduler};
 use sched_defs::{Ending, Halt};
-use sched_packets::AnyArrivals;
+use sched_packets::CapturePackets;
 use sched_run::{Pace, Recorder, Run};
 use std::alloc::{AllocError, Global};
 use tap_core::{Named, Tap, Watching};
@@ -53,7 +53,7 @@ pub fn begin<'a, S: Shelf, K: Sink>(
     capture: &str,
     shelf: &mut S,
     sink: &mut K,
-) -> Result<AnyArrivals<'a, S>, Result<Ending, Stop>>
+) -> Result<CapturePackets<'a, S>, Result<Ending, Stop>>
     requires lent { IsTrue (S.lends shelf.old capture.now) }
 
     ensures opens { IfOk result (λ a. IfSome (S.content shelf.old capture.now) (λ file.
@@ -75,7 +75,7 @@ pub fn begin<'a, S: Shelf, K: Sink>(
     ensures cause { IfErr result (λ answer. IfErr answer (λ stop.
         HasCause stop S.faults shelf.old shelf.new K.faults sink.old sink.new)) }
 {
-    match AnyArrivals::open(alloc, policy, shelf, capture) {
+    match CapturePackets::open(alloc, policy, shelf, capture) {
         Ok(packets) => Ok(packets),
         Err(Halt::Fault(code, place)) => Err(refuse(alloc, sink, code, place)),
         Err(Halt::Source) => Err(Err(Stop::Source)),
@@ -113,7 +113,7 @@ fn direct_packets<S: Shelf, K: Sink>(
     alloc: Global,
     policy: &Policy,
     pace: Pace<'_>,
-    packets: &mut AnyArrivals<'_, S>,
+    packets: &mut CapturePackets<'_, S>,
     shelf: &mut S,
     sink: &mut K,
 ) -> Result<Ending, Stop>

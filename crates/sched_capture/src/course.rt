@@ -4,7 +4,7 @@ ghost use Rattle.outside_core.specs.Kept.{KeepsSink, HasCause};
 ghost use Rattle.outside_core.specs.Written.{Appended, AppendedPrefix};
 ghost use Rattle.sched_defs.specs.SourceState.{start};
 ghost use Rattle.sched_defs.specs.Events.{outcomes};
-ghost use Rattle.sched_packets.specs.AnyArrivals.{policy_of, given_by, left_of, IsReady};
+ghost use Rattle.sched_packets.specs.CapturePackets.{policy_of, given_by, left_of, IsReady};
 ghost use Rattle.sched_run.specs.Courses.{course_of};
 ghost use Rattle.sched_run.specs.Frames.{IsSet, Continues};
 ghost use Rattle.sched_run.specs.Steps.{pace_of, IsBounded, CanEndSo};
@@ -18,7 +18,7 @@ use policy_core::Policy;
 use report_core::Report;
 use sched_core::Scheduler;
 use sched_defs::Ending;
-use sched_packets::AnyArrivals;
+use sched_packets::CapturePackets;
 use sched_run::{Pace, Recorder, Run};
 use tap_core::{Tap, Watching};
 
@@ -29,7 +29,7 @@ pub fn run_over<C: Scheduler + Drop, S: Shelf, K: Sink, T: Tap>(
     run: &mut Run<'_, C, Policy, Report>,
     under: &mut C::Under,
     pace: Pace<'_>,
-    packets: &mut AnyArrivals<'_, S>,
+    packets: &mut CapturePackets<'_, S>,
     shelf: &mut S,
     sink: &mut K,
     watch: &mut Watching<T>,

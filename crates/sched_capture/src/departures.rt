@@ -16,9 +16,9 @@ ghost use Rattle.sched_defs.specs.Packets.{Captured, StaysKnown};
 ghost use Rattle.pcap_core.specs.Bytes.{header_bytes};
 ghost use Rattle.pcapng_defs.specs.NgContents.{in_file};
 ghost use Rattle.sched_packets.specs.Arrivals.{Begins, AreCapturedIn};
-ghost use Rattle.sched_packets.specs.AnyArrivals as any;
-ghost use Rattle.sched_packets.specs.OneLink.{resolved_of, policy_of, link_of, given_by, left_of, captures_of, IsReady};
-ghost use Rattle.sched_packets.specs.OneLink.{EachFileOf, one_link_in, link_in};
+ghost use Rattle.sched_packets.specs.CapturePackets as any;
+ghost use Rattle.sched_packets.specs.SingleLinkType.{resolved_of, policy_of, link_of, given_by, left_of, captures_of, IsReady};
+ghost use Rattle.sched_packets.specs.SingleLinkType.{EachFileOf, one_link_in, link_in};
 ghost use Rattle.sched_run.specs.Frames.{IsSet, Continues};
 ghost use Rattle.sched_run.specs.Stages.{IsFresh};
 ghost use Rattle.sched_run.specs.Played.{HasMade, HasMadeSome};
@@ -37,7 +37,7 @@ use policy_core::Policy;
 use sched_core::Scheduler;
 use sched_defs::{Ending, Halt};
 use crate::forwarding::Forwarding;
-use sched_packets::{AnyArrivals, OTHER_LINK, OneLink};
+use sched_packets::{CapturePackets, OTHER_LINK, SingleLinkType};
 use sched_run::{Recorder, Run};
 use std::alloc::Global;
 use tap_core::{Named, OrderTap, Watching};
@@ -81,10 +81,10 @@ fn refusal_of(ending: Ending) -> ForwardEnding
 /// the run's answer, as in `begin`.
 fn begin_packets<'a, S: Shelf, K: Sink>(
     alloc: Global,
-    arrivals: AnyArrivals<'a, S>,
+    arrivals: CapturePackets<'a, S>,
     shelf: &mut S,
     sink: &mut K,
-) -> Result<OneLink<'a, S>, Result<Ending, Stop>>
+) -> Result<SingleLinkType<'a, S>, Result<Ending, Stop>>
     requires none_given { any.given_by arrivals ≡ 0 }
     requires ready { any.IsReady arrivals (S.begun shelf.old) }
 
@@ -108,7 +108,7 @@ fn begin_packets<'a, S: Shelf, K: Sink>(
     ensures cause { IfErr result (λ answer. IfErr answer (λ stop.
         HasCause stop S.faults shelf.old shelf.new K.faults sink.old sink.new)) }
 {
-    match OneLink::start(arrivals, shelf) {
+    match SingleLinkType::start(arrivals, shelf) {
         Ok(packets) => Ok(packets),
         Err(Halt::Fault(code, place)) => Err(refuse(alloc, sink, code, place)),
         Err(Halt::Source) => Err(Err(Stop::Source)),
@@ -124,7 +124,7 @@ fn begin_one_link<'a, S: Shelf, K: Sink>(
     capture: &str,
     shelf: &mut S,
     sink: &mut K,
-) -> Result<OneLink<'a, S>, Result<Ending, Stop>>
+) -> Result<SingleLinkType<'a, S>, Result<Ending, Stop>>
     requires lent { IsTrue (S.lends shelf.old capture.now) }
 
     ensures begins { IfOk result (λ o. IfSome (S.content shelf.old capture.now) (λ file.
@@ -159,7 +159,7 @@ fn forward_over<C: Scheduler + Drop, S: Shelf, K: Sink>(
     run: &mut Run<'_, C, Policy, Forwarding>,
     under: &mut C::Under,
     rate: u64,
-    packets: &mut OneLink<'_, S>,
+    packets: &mut SingleLinkType<'_, S>,
     shelf: &mut S,
     sink: &mut K,
     watch: &mut Watching<OrderTap>,
@@ -221,7 +221,7 @@ fn forward_records<S: Shelf, K: Sink, F: Fabric>(
     policy: &Policy,
     placement: Placement,
     rate: u64,
-    packets: &mut OneLink<'_, S>,
+    packets: &mut SingleLinkType<'_, S>,
     shelf: &mut S,
     sink: &mut K,
     fabric: &mut F,
@@ -267,7 +267,7 @@ fn forward_packets<S: Shelf, K: Sink, F: Fabric>(
     policy: &Policy,
     placement: Placement,
     rate: u64,
-    packets: &mut OneLink<'_, S>,
+    packets: &mut SingleLinkType<'_, S>,
     shelf: &mut S,
     sink: &mut K,
     fabric: &mut F,

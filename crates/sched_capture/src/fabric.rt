@@ -11,10 +11,10 @@ ghost use Rattle.embed_defs.specs.Embedding.{IsEmbedding};
 ghost use Rattle.target_defs.specs.Family.{SameQueues};
 ghost use Rattle.sched_defs.specs.SourceState.{start};
 ghost use Rattle.sched_defs.specs.Events.{Event, outcomes};
-ghost use Rattle.sched_packets.specs.AnyArrivals.{policy_of, given_by, left_of, IsReady};
+ghost use Rattle.sched_packets.specs.CapturePackets.{policy_of, given_by, left_of, IsReady};
 ghost use Rattle.sched_run.specs.Courses.{course_of};
 ghost use Rattle.sched_run.specs.Shown.{shown_in};
-ghost use Rattle.sched_core.specs.Own.{policy_in};
+ghost use Rattle.sched_core.specs.PolicyState.{policy_in};
 ghost use Rattle.sched_run.specs.Frames.{IsSet};
 ghost use Rattle.sched_run.specs.Stages.{IsFresh};
 ghost use Rattle.sched_run.specs.Steps.{pace_of, IsBounded, CanEndSo};
@@ -35,7 +35,7 @@ use report_core::Report;
 use sched_core::Scheduler;
 use sched_defs::Ending;
 use sched_embedded::Embedded;
-use sched_packets::AnyArrivals;
+use sched_packets::CapturePackets;
 use sched_run::{Pace, Recorder, Run};
 use std::alloc::{AllocError, Global};
 use tap_core::{Tap, Watching};
@@ -121,7 +121,7 @@ fn replay_packets<S: Shelf, K: Sink, F: Fabric, T: Tap>(
     policy: &Policy,
     placement: Placement,
     pace: Pace<'_>,
-    packets: &mut AnyArrivals<'_, S>,
+    packets: &mut CapturePackets<'_, S>,
     shelf: &mut S,
     sink: &mut K,
     fabric: &mut F,

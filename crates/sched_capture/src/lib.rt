@@ -20,5 +20,5 @@ pub use laws::{alike_files_have_equal_answers, forwards_are_read_back};
 pub use load::{LoadCounts, LoadSize, soak};
 pub use outside_core::Stop;
 pub use sched_defs::Ending;
-pub use sched_packets::AnyArrivals;
+pub use sched_packets::CapturePackets;
 pub use task::Task;

@@ -25,7 +25,7 @@ use Rattle.sched_defs.specs.SourceState.{SourceState, start, class_of, arrival_r
 use Rattle.sched_defs.specs.Sound.{IsSound}
 use Rattle.sched_defs.proofs.Soundness.{class_is_ready, leads_in}
 use Rattle.sched_core.specs.Arrivals.{leaf_number}
-use Rattle.sched_core.specs.Own.{AreFilled}
+use Rattle.sched_core.specs.PolicyState.{AreFilled}
 
 -- ---- the packets at a leaf are among all
 mutual

@@ -19,8 +19,8 @@ use Rattle.policy_defs.specs.Accepted.{AreMarksInRange}
 use Rattle.policy_core.specs.Numbering.{address_at}
 use Rattle.policy_core.specs.Parts.{told}
 use Rattle.sched_defs.specs.Visits.{States, Visit, env_for, rank_at, with_state, after_pushes, after_pops}
-use Rattle.sched_core.specs.declared.passage.Passage.{Passage}
-use Rattle.sched_core.specs.declared.waypoint.Waypoint.{Waypoint}
+use Rattle.sched_core.specs.declared.packet_path.PacketPath.{PacketPath}
+use Rattle.sched_core.specs.declared.path_node.PathNode.{PathNode}
 use Rattle.sched_core.specs.Kept.{part_at, Keeps, IsStationOf, AreStations, HaveValues, HasRoomAt}
 use Rattle.sched_core.specs.Waypoints.{marks_on, rank_told, IsWaypoint}
 use Rattle.sched_core.specs.Ways.{IsReady, tree_for, class_for, place, ahead, part, who_on, stop, HasRoomAtLeaf, ForValues, ValuesBecome, KeepsRoom}
@@ -34,7 +34,7 @@ marks-of_class (leaf n) c = refl
 marks-of_class (inner n ts) c = refl
 
 -- what is known of the node at a level: what is kept of it, and that a state is held at its number
-pub record IsHere (e : Passage) (level : ℕ) (s : Waypoint) (states : List NodeState) : Type 0 where
+pub record IsHere (e : PacketPath) (level : ℕ) (s : PathNode) (states : List NodeState) : Type 0 where
   pub ready : IsReady e
   pub short : level ≤ length (class_for e).leaf
   pub waypoint : IsWaypoint (tree_for e) (class_for e) level s
@@ -42,7 +42,7 @@ pub record IsHere (e : Passage) (level : ℕ) (s : Waypoint) (states : List Node
   pub within : s.node < length states
 
 -- what is known of a step there: this state is held, and the program makes it for whom and with what the visit says
-pub record IsStep (e : Passage) (level : ℕ) (s : Waypoint) (states : List NodeState) (x : NodeState) (p : Program) (w : Who) (n : Env) : Type 0 where
+pub record IsStep (e : PacketPath) (level : ℕ) (s : PathNode) (states : List NodeState) (x : NodeState) (p : Program) (w : Who) (n : Env) : Type 0 where
   pub here : IsHere e level s states
   pub held : slice_get states s.node ≡ Some x
   pub program : p ≡ (stop e level).program
@@ -50,10 +50,10 @@ pub record IsStep (e : Passage) (level : ℕ) (s : Waypoint) (states : List Node
   pub env : n ≡ (stop e level).env
 
 -- ---- where the digits are those of the class
-module _ {e : Passage} {digits : List ℕ} {level : ℕ} (ready : IsReady e) (to : digits ≡ (class_for e).leaf) where
-  pub here-at : {states : List NodeState} (d : Waypoint) → level ≤ length digits → AreStations (tree_for e) states → IsHere e level (slice_index_or e.waypoints.now level d) states
+module _ {e : PacketPath} {digits : List ℕ} {level : ℕ} (ready : IsReady e) (to : digits ≡ (class_for e).leaf) where
+  pub here-at : {states : List NodeState} (d : PathNode) → level ≤ length digits → AreStations (tree_for e) states → IsHere e level (slice_index_or e.waypoints.now level d) states
   here-at {states} d low kept =
-      let s : Waypoint = slice_index_or e.waypoints.now level d in
+      let s : PathNode = slice_index_or e.waypoints.now level d in
       let short : level ≤ length (class_for e).leaf = omega (arith, low, ap length to) in
       let waypoint : IsWaypoint (tree_for e) (class_for e) level s = ready.waypoints.each level _ (slice_get-get_or e.waypoints.now level d (omega (arith, short, ready.waypoints.count))) in
       record {
@@ -75,7 +75,7 @@ module _ {e : Passage} {digits : List ℕ} {level : ℕ} (ready : IsReady e) (to
   flow-at high = ap (λ (ds : List ℕ). who_on ds e.packet.now) (sym (drop_all level (class_for e).leaf (omega (arith, high, ap length to))))
 
 -- ---- the node at a level
-module _ {e : Passage} {level : ℕ} {s : Waypoint} {states : List NodeState} (h : IsHere e level s states) where
+module _ {e : PacketPath} {level : ℕ} {s : PathNode} {states : List NodeState} (h : IsHere e level s states) where
   abbrev v : Visit
   v = stop e level
 
@@ -139,7 +139,7 @@ module _ {e : Passage} {level : ℕ} {s : Waypoint} {states : List NodeState} (h
       (no_lines-after v.program v.who v.env (slice_index ranks 0) (ap (λ (q : Program). q.pop) (sym (is ∙ h.waypoint.program)) ∙ none))
 
 -- ---- the step that is made there
-module _ {e : Passage} {level : ℕ} {s : Waypoint} {states : List NodeState} {x : NodeState} {p : Program} {w : Who} {n : Env} (made : IsStep e level s states x p w n) where
+module _ {e : PacketPath} {level : ℕ} {s : PathNode} {states : List NodeState} {x : NodeState} {p : Program} {w : Who} {n : Env} (made : IsStep e level s states x p w n) where
   keeps-here : Keeps (tree_for e) states (place e level) x
   keeps-here = ap (slice_get states) (sym made.here.waypoint.node) ∙ made.held
 

@@ -9,7 +9,7 @@ use Rattle.sched_defs.specs.Sound.{IsSound, IsAtItsLeaf}
 use Rattle.sched_defs.specs.Laws.{LeavesItsLeaf}
 use Rattle.sched_defs.proofs.Soundness.{popped_is_held}
 use Rattle.sched_defs.proofs.Leaving.{pop_leaves}
-use Rattle.sched_core.specs.Own.{PopsNext}
+use Rattle.sched_core.specs.PolicyState.{PopsNext}
 
 module _ (policy : Policy) (s : SourceState) (number : ℕ) (digits ranks : List ℕ) (next : PopsNext s number digits ranks) where
   abbrev pub taken : Popping SourceTree

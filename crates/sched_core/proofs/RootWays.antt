@@ -14,8 +14,8 @@ use Rattle.sched_defs.specs.Visits.{visits_from}
 use Rattle.sched_defs.specs.SourceState.{class_of}
 use Rattle.sched_defs.specs.Sound.{IsKnown}
 use Rattle.sched_defs.proofs.Visits.{class_ready}
-use Rattle.sched_core.specs.declared.passage.Passage.{Passage}
-use Rattle.sched_core.specs.declared.waypoint.Waypoint.{Waypoint}
+use Rattle.sched_core.specs.declared.packet_path.PacketPath.{PacketPath}
+use Rattle.sched_core.specs.declared.path_node.PathNode.{PathNode}
 use Rattle.sched_core.specs.Kept.{part_at, HasRoomAt}
 use Rattle.sched_core.specs.Waypoints.{AreWaypoints, AreWays}
 use Rattle.sched_core.specs.Ways.{IsReady, tree_for, class_for}
@@ -32,18 +32,18 @@ module _ (policy : Policy) (p : Packet) (known : IsKnown policy p) where
       let there : slice_get policy.classes p.class ≡ Some (get_or policy.classes p.class no_class) = slice_get-get_or policy.classes p.class no_class known.class in
       there ∙ ap Some (sym (ap (λ (o : Option Class). unwrap_or o no_class) there))
 
-  waypoints-there : (ways : List (Vec Waypoint Global)) (w : Vec Waypoint Global) → AreWays policy ways → w ≡ get_or ways p.class w → AreWaypoints policy.tree (class_of policy p) w.items
+  waypoints-there : (ways : List (Vec PathNode Global)) (w : Vec PathNode Global) → AreWays policy ways → w ≡ get_or ways p.class w → AreWaypoints policy.tree (class_of policy p) w.items
   waypoints-there ways w h is = h.each p.class (class_of policy p) w class-there (slice_get-get_or ways p.class w (omega (arith, known.class, h.count)) ∙ ap Some (sym is))
 
-pub ready : (e : Passage) → class_for e ≡ class_of e.policy.now.policy e.packet.now → IsAccepted e.policy.now.policy → IsKnown e.policy.now.policy e.packet.now → e.moment ≤ max_rank
-    → (ways : List (Vec Waypoint Global)) (w : Vec Waypoint Global) → AreWays e.policy.now.policy ways → w ≡ get_or ways e.packet.now.class w → e.waypoints.now ≡ w.items → IsReady e
+pub ready : (e : PacketPath) → class_for e ≡ class_of e.policy.now.policy e.packet.now → IsAccepted e.policy.now.policy → IsKnown e.policy.now.policy e.packet.now → e.moment ≤ max_rank
+    → (ways : List (Vec PathNode Global)) (w : Vec PathNode Global) → AreWays e.policy.now.policy ways → w ≡ get_or ways e.packet.now.class w → e.waypoints.now ≡ w.items → IsReady e
 ready e is accepted known moment ways w h at waypoints =
     let prepared : IsClassReady (tree_for e) (class_of e.policy.now.policy e.packet.now) = prepared e.policy.now.policy e.packet.now known accepted in
     record {
       accepted = accepted;
       leads = subst (λ (c : Class). LeadsToLeaf (tree_for e) c.leaf) (sym is) prepared.leaf_address;
       waypoints = subst (λ (c : Class). AreWaypoints (tree_for e) c e.waypoints.now) (sym is)
-          (subst (λ (ss : List Waypoint). AreWaypoints (tree_for e) (class_of e.policy.now.policy e.packet.now) ss) (sym waypoints) (waypoints-there e.policy.now.policy e.packet.now known ways w h at));
+          (subst (λ (ss : List PathNode). AreWaypoints (tree_for e) (class_of e.policy.now.policy e.packet.now) ss) (sym waypoints) (waypoints-there e.policy.now.policy e.packet.now known ways w h at));
       marks = subst (λ (c : Class). AreMarksInRange c.marks) (sym is) prepared.marks;
       len = known.len;
       moment = moment;

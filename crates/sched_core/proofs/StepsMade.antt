@@ -4,25 +4,25 @@ use Rattle.std.proofs.lemmas.List.{drop_more}
 use Rattle.rank_defs.specs.Steps.{after_push}
 use Rattle.rank_core.specs.declared.node.NodeState.{NodeState}
 use Rattle.sched_defs.specs.Visits.{States, Visit, rank_at, ranks_pushed, after_pushes, after_pops}
-use Rattle.sched_core.specs.declared.passage.Passage.{Passage}
+use Rattle.sched_core.specs.declared.packet_path.PacketPath.{PacketPath}
 use Rattle.sched_core.specs.Kept.{HaveValues}
 use Rattle.sched_core.specs.Ways.{IsReady, tree_for, class_for, stop, way}
 use Rattle.sched_core.proofs.WayVisits.{way-next, way-ends, ranks-next}
 
 -- after the push steps above a level, which gave these ranks
-pub record HavePushed (e : Passage) (values : States) (level : ℕ) (states : List NodeState) (ranks : List ℕ) : Type 0 where
+pub record HavePushed (e : PacketPath) (values : States) (level : ℕ) (states : List NodeState) (ranks : List ℕ) : Type 0 where
   pub now : States
   pub are : HaveValues (tree_for e) states now
   pub all : ranks ++ ranks_pushed now (way e level) ≡ ranks_pushed values (way e 0)
   pub after : after_pushes (way e level) now ≡ after_pushes (way e 0) values
 
 -- after the pop steps above a level, with the first of these ranks
-pub record HavePopped (e : Passage) (values : States) (ranks : List ℕ) (level : ℕ) (states : List NodeState) : Type 0 where
+pub record HavePopped (e : PacketPath) (values : States) (ranks : List ℕ) (level : ℕ) (states : List NodeState) : Type 0 where
   pub now : States
   pub are : HaveValues (tree_for e) states now
   pub after : after_pops (way e level) (drop level ranks) now ≡ after_pops (way e 0) ranks values
 
-module _ (e : Passage) (values : States) where
+module _ (e : PacketPath) (values : States) where
   pub pushed-begun : (states : List NodeState) (ranks : List ℕ) → ranks ≡ [] → HaveValues (tree_for e) states values → HavePushed e values 0 states ranks
   pushed-begun states ranks none h = record { now = values; are = h; all = ap (λ (rs : List ℕ). rs ++ ranks_pushed values (way e 0)) none; after = refl }
 

@@ -8,7 +8,7 @@ use Rattle.packet_defs.specs.declared.packet.Packet.{Packet}
 use Rattle.policy_defs.specs.Policy.{Node, Class}
 use Rattle.policy_rules.proofs.Lists.{all-weaker}
 use Rattle.sched_defs.specs.Visits.{States, Visit, visit, env_for, visits_from, visits_below, with_state, rank_at, ranks_pushed}
-use Rattle.sched_core.specs.declared.passage.Passage.{Passage}
+use Rattle.sched_core.specs.declared.packet_path.PacketPath.{PacketPath}
 use Rattle.sched_core.specs.Waypoints.{marks_on}
 use Rattle.sched_core.specs.Ways.{IsReady, tree_for, class_for, place, ahead, part, who_on, stop, way}
 use Rattle.sched_core.proofs.TreeParts.{ends}
@@ -43,7 +43,7 @@ pub all-more : (P : ℕ → Type 0) (xs : List ℕ) (x : ℕ) → AllByRecursion
 all-more P [] x h k = (k, tt)
 all-more P (y ∷ xs) x h k = (h.0, all-more P xs x h.1 k)
 
-module _ (e : Passage) (ready : IsReady e) where
+module _ (e : PacketPath) (ready : IsReady e) where
   abbrev digits : List ℕ
   digits = (class_for e).leaf
 

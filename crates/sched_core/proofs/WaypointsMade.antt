@@ -13,7 +13,7 @@ use Rattle.policy_core.specs.declared.parts.Class.{Class}
 use Rattle.policy_core.specs.declared.parts.Marks.{Marks}
 use Rattle.policy_core.specs.Numbering.{address_at, HasAt}
 use Rattle.policy_core.specs.Parts.{class_in, told}
-use Rattle.sched_core.specs.declared.waypoint.Waypoint.{Waypoint}
+use Rattle.sched_core.specs.declared.path_node.PathNode.{PathNode}
 use Rattle.sched_core.specs.Kept.{part_at}
 use Rattle.sched_core.specs.Waypoints.{marks_on, rank_told, IsWaypoint, AreWaypoints}
 use Rattle.sched_core.proofs.TreeParts.{some-is, some-and, node-of_part}
@@ -22,22 +22,22 @@ use Rattle.sched_core.proofs.NodeSteps.{marks-of_class}
 use Rattle.sched_core.proofs.Levels.{there-at, number-of, ahead-next, place-next, next-at, child-at}
 
 -- those of the first levels
-pub record HaveStops (tree : Tree Node) (c : Aimed) (waypoints : List Waypoint) (n : ℕ) : Type 0 where
+pub record HaveStops (tree : Tree Node) (c : Aimed) (waypoints : List PathNode) (n : ℕ) : Type 0 where
   pub count : length waypoints ≡ n
-  pub each : (level : ℕ) (s : Waypoint) → slice_get waypoints level ≡ Some s → IsWaypoint tree c level s
+  pub each : (level : ℕ) (s : PathNode) → slice_get waypoints level ≡ Some s → IsWaypoint tree c level s
 
-pub waypoints-begun : (tree : Tree Node) (c : Aimed) (waypoints : List Waypoint) → waypoints ≡ [] → HaveStops tree c waypoints 0
+pub waypoints-begun : (tree : Tree Node) (c : Aimed) (waypoints : List PathNode) → waypoints ≡ [] → HaveStops tree c waypoints 0
 waypoints-begun tree c [] e = record { count = refl; each = λ level s at. (let f : None ≡ Some s = at in cc) }
 waypoints-begun tree c (s ∷ waypoints) e = cc
 
-pub waypoints-more : (tree : Tree Node) (c : Aimed) (waypoints more : List Waypoint) (n : ℕ) (s : Waypoint) → HaveStops tree c waypoints n → more ≡ waypoints ++ s ∷ [] → IsWaypoint tree c n s → HaveStops tree c more (n + 1)
+pub waypoints-more : (tree : Tree Node) (c : Aimed) (waypoints more : List PathNode) (n : ℕ) (s : PathNode) → HaveStops tree c waypoints n → more ≡ waypoints ++ s ∷ [] → IsWaypoint tree c n s → HaveStops tree c more (n + 1)
 waypoints-more tree c waypoints more n s h is stop = record { count = ap length is ∙ length-append waypoints (s ∷ []) ∙ ap (λ m. m + 1) h.count; each = each }
   where
-    each : (level : ℕ) (x : Waypoint) → slice_get more level ≡ Some x → IsWaypoint tree c level x
-    each level x at = last-cases waypoints level s x (ap (λ (l : List Waypoint). slice_get l level) (sym is) ∙ at) (h.each level x)
-        (λ last same. subst (λ (j : ℕ). IsWaypoint tree c j x) (sym (last ∙ h.count)) (subst (λ (z : Waypoint). IsWaypoint tree c n z) same stop))
+    each : (level : ℕ) (x : PathNode) → slice_get more level ≡ Some x → IsWaypoint tree c level x
+    each level x at = last-cases waypoints level s x (ap (λ (l : List PathNode). slice_get l level) (sym is) ∙ at) (h.each level x)
+        (λ last same. subst (λ (j : ℕ). IsWaypoint tree c j x) (sym (last ∙ h.count)) (subst (λ (z : PathNode). IsWaypoint tree c n z) same stop))
 
-pub waypoints-whole : (tree : Tree Node) (c : Aimed) (waypoints : List Waypoint) (n : ℕ) → HaveStops tree c waypoints (n + 1) → n ≡ length c.leaf → AreWaypoints tree c waypoints
+pub waypoints-whole : (tree : Tree Node) (c : Aimed) (waypoints : List PathNode) (n : ℕ) → HaveStops tree c waypoints (n + 1) → n ≡ length c.leaf → AreWaypoints tree c waypoints
 waypoints-whole tree c waypoints n h is = record { count = h.count ∙ ap (λ m. m + 1) is; each = h.each }
 
 pub root-number : (tree : Tree Node) → 0 ≡ number_at tree []
@@ -65,7 +65,7 @@ module _ {tree : Tree Node} {c : Aimed} {level : ℕ} {node : ℕ} (r : IsReache
   back = ap (address_at tree) r.number ∙ (number-of tree c.leaf r.leads level r.short).address
 
   -- what is kept of it
-  pub waypoint-made : {s : Waypoint} {m : Marks} → s.node ≡ node → HasAt tree node (λ n. s.checked.now ≡ n.program) → s.marks ≡ m → s.told ≡ rank_told s.checked.now.push (told m)
+  pub waypoint-made : {s : PathNode} {m : Marks} → s.node ≡ node → HasAt tree node (λ n. s.checked.now ≡ n.program) → s.marks ≡ m → s.told ≡ rank_told s.checked.now.push (told m)
       → told m ≡ marks_on (part_at tree (take level c.leaf)) (drop level c.leaf) c → IsWaypoint tree c level s
   waypoint-made {s} is-node program marks rank on = record {
     node = is-node ∙ r.number;
@@ -101,11 +101,11 @@ module _ {tree : Tree Node} {c : Aimed} {level : ℕ} {node : ℕ} (r : IsReache
         ∙ ap (λ (ds : Address). marks_on (part_at tree (take level c.leaf)) ds c) (sym (ahead-next tree c.leaf r.leads level further))
 
 -- ---- the ways of the first classes
-pub record HaveWays (policy : Policy) (ways : List (Vec Waypoint Global)) (n : ℕ) : Type 0 where
+pub record HaveWays (policy : Policy) (ways : List (Vec PathNode Global)) (n : ℕ) : Type 0 where
   pub count : length ways ≡ n
-  pub each : (i : ℕ) (c : Aimed) (w : Vec Waypoint Global) → slice_get policy.classes i ≡ Some c → slice_get ways i ≡ Some w → AreWaypoints policy.tree c w.items
+  pub each : (i : ℕ) (c : Aimed) (w : Vec PathNode Global) → slice_get policy.classes i ≡ Some c → slice_get ways i ≡ Some w → AreWaypoints policy.tree c w.items
 
-pub ways-begun : (policy : Policy) (ways : List (Vec Waypoint Global)) → ways ≡ [] → HaveWays policy ways 0
+pub ways-begun : (policy : Policy) (ways : List (Vec PathNode Global)) → ways ≡ [] → HaveWays policy ways 0
 ways-begun policy [] e = record { count = refl; each = λ i c w known at. (let f : None ≡ Some w = at in cc) }
 ways-begun policy (w ∷ ways) e = cc
 
@@ -122,11 +122,11 @@ module _ (policy : Policy) (classes : List Class) (same : map (class_in policy.t
   class-known : (i : ℕ) (d : Class) → i < length classes → slice_get policy.classes i ≡ Some (class_in policy.tree (get_or classes i d))
   class-known i d l = ap (λ (cs : List Aimed). slice_get cs i) (sym same) ∙ slice_get-map (class_in policy.tree) classes i ∙ ap (option_map (class_in policy.tree)) (slice_get-get_or classes i d l)
 
-  pub ways-more : (ways more : List (Vec Waypoint Global)) (n : ℕ) (d : Class) (w : Vec Waypoint Global) → n < length classes → HaveWays policy ways n → more ≡ ways ++ w ∷ [] → AreWaypoints policy.tree (class_in policy.tree (get_or classes n d)) w.items → HaveWays policy more (n + 1)
+  pub ways-more : (ways more : List (Vec PathNode Global)) (n : ℕ) (d : Class) (w : Vec PathNode Global) → n < length classes → HaveWays policy ways n → more ≡ ways ++ w ∷ [] → AreWaypoints policy.tree (class_in policy.tree (get_or classes n d)) w.items → HaveWays policy more (n + 1)
   ways-more ways more n d w l h is waypoints = record { count = ap length is ∙ length-append ways (w ∷ []) ∙ ap (λ m. m + 1) h.count; each = each }
     where
-      each : (i : ℕ) (c : Aimed) (x : Vec Waypoint Global) → slice_get policy.classes i ≡ Some c → slice_get more i ≡ Some x → AreWaypoints policy.tree c x.items
-      each i c x known at = last-cases ways i w x (ap (λ (ws : List (Vec Waypoint Global)). slice_get ws i) (sym is) ∙ at) (h.each i c x known)
+      each : (i : ℕ) (c : Aimed) (x : Vec PathNode Global) → slice_get policy.classes i ≡ Some c → slice_get more i ≡ Some x → AreWaypoints policy.tree c x.items
+      each i c x known at = last-cases ways i w x (ap (λ (ws : List (Vec PathNode Global)). slice_get ws i) (sym is) ∙ at) (h.each i c x known)
           (λ last same.
           let is-class : class_in policy.tree (get_or classes n d) ≡ c = some-is (sym (class-known n d l) ∙ ap (slice_get policy.classes) (sym (last ∙ h.count)) ∙ known) in
-          subst (λ (k : Aimed). AreWaypoints policy.tree k x.items) is-class (subst (λ (z : Vec Waypoint Global). AreWaypoints policy.tree (class_in policy.tree (get_or classes n d)) z.items) same waypoints))
+          subst (λ (k : Aimed). AreWaypoints policy.tree k x.items) is-class (subst (λ (z : Vec PathNode Global). AreWaypoints policy.tree (class_in policy.tree (get_or classes n d)) z.items) same waypoints))

@@ -4,24 +4,24 @@ use Rattle.packet_defs.specs.declared.packet.Packet.{Packet}
 use Rattle.policy_defs.specs.Policy.{Policy}
 use Rattle.sched_defs.specs.Visits.{States}
 use Rattle.sched_defs.specs.SourceState.{class_of}
-use Rattle.sched_core.specs.declared.stations.Stations.{Stations}
+use Rattle.sched_core.specs.declared.node_states.NodeStates.{NodeStates}
 use Rattle.sched_core.specs.Kept.{HaveValues, HasRoomAt}
 
-abbrev pub policy_of : Stations → Policy
+abbrev pub policy_of : NodeStates → Policy
 policy_of s = s.policy.now.policy
 
 -- the variables of each node have these values
-abbrev pub AreStates : Stations → States → Type 0
+abbrev pub AreStates : NodeStates → States → Type 0
 AreStates s values = HaveValues (policy_of s).tree s.states.items values
 
 -- the leaf of a packet's class has room for the packet's flow
-abbrev pub HasFlowRoom : Stations → Packet → Type 0
+abbrev pub HasFlowRoom : NodeStates → Packet → Type 0
 HasFlowRoom s p = HasRoomAt (policy_of s).tree s.states.items (class_of (policy_of s) p).leaf (Flow p.flow)
 
 -- P holds of all values that the variables have
-abbrev pub ForStates : Stations → (States → Type 0) → Type 0
+abbrev pub ForStates : NodeStates → (States → Type 0) → Type 0
 ForStates s P = (values : States) → AreStates s values → P values
 
 -- whatever values the variables had, they have others now
-abbrev pub StatesBecome : Stations → Stations → (States → States) → Type 0
+abbrev pub StatesBecome : NodeStates → NodeStates → (States → States) → Type 0
 StatesBecome old new f = ForStates old (λ values. AreStates new (f values))

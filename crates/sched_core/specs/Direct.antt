@@ -3,7 +3,7 @@ use Rattle.std.specs.Prelude.{◌≡◌}
 use Rattle.tree_core.specs.TreeContents.{TreeContents}
 use Rattle.sched_defs.specs.SourceState.{SourceState}
 use Rattle.sched_core.specs.declared.direct.Direct.{Direct}
-use Rattle.sched_core.specs.Own.{IsOwn}
+use Rattle.sched_core.specs.PolicyState.{IsOwn}
 
 -- the queues are those of the tree under it, which was pushed once for each packet that was pushed
 pub record DirectStands (c : Direct) (under : TreeContents) (s : SourceState) : Type 0 where

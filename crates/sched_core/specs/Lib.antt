@@ -3,7 +3,7 @@ pub mod Origins
 pub mod Spills
 pub mod Arrivals
 pub mod Departures
-pub mod Own
+pub mod PolicyState
 pub mod Direct
 pub mod Kept
 pub mod Waypoints

@@ -8,7 +8,7 @@ use Rattle.rank_defs.specs.Builtins.{strict, stfq}
 use Rattle.packet_defs.specs.declared.packet.Packet.{Packet}
 use Rattle.policy_rules.specs.Resolved.{Resolved}
 use Rattle.tree_graph.specs.Preorder.{Numbered, numbered, rows, three_levels}
-use Rattle.policy_core.specs.declared.parts.Station.{Station}
+use Rattle.policy_core.specs.declared.parts.PolicyNode.{PolicyNode}
 use Rattle.policy_core.specs.declared.parts.Class.{Class}
 use Rattle.policy_core.specs.Parts.{resolved}
 use Rattle.policy_core.specs.Samples.{plain, urgent, station, node}
@@ -19,7 +19,7 @@ two_programs = stfq ∷ strict ∷ []
 abbrev pub tree : Numbered
 tree = numbered (rows 0 [] three_levels) (topology_of three_levels)
 
-abbrev pub stations : List Station
+abbrev pub stations : List PolicyNode
 stations = station (codes "left") (codes "stfq") 0 urgent ∷ station (codes "right") (codes "strict") 1 plain ∷ station (codes "root") (codes "stfq") 0 plain ∷ station (codes "deep") (codes "stfq") 0 plain ∷ []
 
 abbrev pub classes : List Class

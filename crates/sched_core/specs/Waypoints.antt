@@ -14,7 +14,7 @@ use Rattle.policy_defs.specs.Numbers.{number_at}
 use Rattle.policy_core.specs.Codes.{marks_code}
 use Rattle.policy_core.specs.Parts.{told}
 use Rattle.sched_defs.specs.Visits.{child_marks}
-use Rattle.sched_core.specs.declared.waypoint.Waypoint.{Waypoint}
+use Rattle.sched_core.specs.declared.path_node.PathNode.{PathNode}
 use Rattle.sched_core.specs.Kept.{part_at}
 
 -- the marks that a step is told, if the way of a class goes on along digits from the root of this part
@@ -37,23 +37,23 @@ rank_told (a ∷ []) m = mark_told a.aim a.formula m
 rank_told (a ∷ b ∷ rest) m = None
 
 -- what is kept of the node at a level of a class's way, the root's being 0
-pub record IsWaypoint (tree : Tree Node) (c : Class) (level : ℕ) (s : Waypoint) : Type 0 where
+pub record IsWaypoint (tree : Tree Node) (c : Class) (level : ℕ) (s : PathNode) : Type 0 where
   pub node : s.node ≡ number_at tree (take level c.leaf)
   pub program : s.checked.now ≡ (root_of (part_at tree (take level c.leaf))).program
   pub marks : told s.marks ≡ marks_on (part_at tree (take level c.leaf)) (drop level c.leaf) c
   pub rank : s.told ≡ rank_told s.checked.now.push (told s.marks)
 
 -- one for each node on the way
-pub record AreWaypoints (tree : Tree Node) (c : Class) (waypoints : List Waypoint) : Type 0 where
+pub record AreWaypoints (tree : Tree Node) (c : Class) (waypoints : List PathNode) : Type 0 where
   pub count : length waypoints ≡ length c.leaf + 1
-  pub each : (level : ℕ) (s : Waypoint) → slice_get waypoints level ≡ Some s → IsWaypoint tree c level s
+  pub each : (level : ℕ) (s : PathNode) → slice_get waypoints level ≡ Some s → IsWaypoint tree c level s
 
 -- those of each class
-pub record AreWays (policy : Policy) (ways : List (Vec Waypoint Global)) : Type 0 where
+pub record AreWays (policy : Policy) (ways : List (Vec PathNode Global)) : Type 0 where
   pub count : length ways ≡ length policy.classes
-  pub each : (i : ℕ) (c : Class) (w : Vec Waypoint Global) → slice_get policy.classes i ≡ Some c → slice_get ways i ≡ Some w → AreWaypoints policy.tree c w.items
+  pub each : (i : ℕ) (c : Class) (w : Vec PathNode Global) → slice_get policy.classes i ≡ Some c → slice_get ways i ≡ Some w → AreWaypoints policy.tree c w.items
 
-IsWaypoint-prop : (tree : Tree Node) (c : Class) (level : ℕ) (s : Waypoint) → IsProp (IsWaypoint tree c level s)
+IsWaypoint-prop : (tree : Tree Node) (c : Class) (level : ℕ) (s : PathNode) → IsProp (IsWaypoint tree c level s)
 IsWaypoint-prop tree c level s a b i = record {
   node = Coded-set coded_ℕ _ _ a.node b.node i;
   program = Coded-set program_code _ _ a.program b.program i;
@@ -61,14 +61,14 @@ IsWaypoint-prop tree c level s a b i = record {
   rank = Coded-set (coded_option coded_ℕ) _ _ a.rank b.rank i;
 }
 
-AreWaypoints-prop : (tree : Tree Node) (c : Class) (waypoints : List Waypoint) → IsProp (AreWaypoints tree c waypoints)
+AreWaypoints-prop : (tree : Tree Node) (c : Class) (waypoints : List PathNode) → IsProp (AreWaypoints tree c waypoints)
 AreWaypoints-prop tree c waypoints a b i = record {
   count = Coded-set coded_ℕ _ _ a.count b.count i;
   each = λ level s at. IsWaypoint-prop tree c level s (a.each level s at) (b.each level s at) i;
 }
 
 -- a proof of it tells no more than that it holds
-pub AreWays-prop : (policy : Policy) (ways : List (Vec Waypoint Global)) → IsProp (AreWays policy ways)
+pub AreWays-prop : (policy : Policy) (ways : List (Vec PathNode Global)) → IsProp (AreWays policy ways)
 AreWays-prop policy ways a b i = record {
   count = Coded-set coded_ℕ _ _ a.count b.count i;
   each = λ n c w known kept. AreWaypoints-prop policy.tree c w.items (a.each n c w known kept) (b.each n c w known kept) i;

@@ -12,30 +12,30 @@ use Rattle.policy_defs.specs.Policy.{Node, Class}
 use Rattle.policy_defs.specs.Accepted.{IsAccepted, AreMarksInRange}
 use Rattle.policy_core.specs.Parts.{class_in}
 use Rattle.sched_defs.specs.Visits.{States, Visit, visit, env_for, visits_from}
-use Rattle.sched_core.specs.declared.passage.Passage.{Passage}
+use Rattle.sched_core.specs.declared.packet_path.PacketPath.{PacketPath}
 use Rattle.sched_core.specs.Kept.{part_at, HasRoomAt, HaveValues}
 use Rattle.sched_core.specs.Waypoints.{marks_on, AreWaypoints}
 
-abbrev pub tree_for : Passage → Tree Node
+abbrev pub tree_for : PacketPath → Tree Node
 tree_for e = e.policy.now.policy.tree
 
-abbrev pub class_for : Passage → Class
+abbrev pub class_for : PacketPath → Class
 class_for e = class_in (tree_for e) e.class.now
 
 -- the address of the node on the way at a level
-abbrev pub place : Passage → ℕ → Address
+abbrev pub place : PacketPath → ℕ → Address
 place e level = take level (class_for e).leaf
 
 -- the digits along which the way goes on from there
-abbrev pub ahead : Passage → ℕ → List ℕ
+abbrev pub ahead : PacketPath → ℕ → List ℕ
 ahead e level = drop level (class_for e).leaf
 
 -- the part of the tree from that node down
-abbrev pub part : Passage → ℕ → Tree Node
+abbrev pub part : PacketPath → ℕ → Tree Node
 part e level = part_at (tree_for e) (place e level)
 
 -- the policy is accepted, the nodes on the way are those of the class, and the numbers that steps are told are in range
-pub record IsReady (e : Passage) : Type 0 where
+pub record IsReady (e : PacketPath) : Type 0 where
   pub accepted : IsAccepted e.policy.now.policy
   pub leads : LeadsToLeaf (tree_for e) (class_for e).leaf
   pub waypoints : AreWaypoints (tree_for e) (class_for e) e.waypoints.now
@@ -49,16 +49,16 @@ who_on [] p = Flow p.flow
 who_on (i ∷ digits) p = Child i
 
 -- the visit to the node at a level
-abbrev pub stop : Passage → ℕ → Visit
+abbrev pub stop : PacketPath → ℕ → Visit
 stop e level =
     visit (place e level) (root_of (part e level)).program (who_on (ahead e level) e.packet.now) (env_for e.packet.now e.moment (marks_on (part e level) (ahead e level) (class_for e)))
 
 -- the visits from there down
-abbrev pub way : Passage → ℕ → List Visit
+abbrev pub way : PacketPath → ℕ → List Visit
 way e level = visits_from (part e level) (place e level) (ahead e level) (class_for e) e.packet.now e.moment
 
 -- the leaf has room for the packet's flow
-abbrev pub HasRoomAtLeaf : Passage → List NodeState → Type 0
+abbrev pub HasRoomAtLeaf : PacketPath → List NodeState → Type 0
 HasRoomAtLeaf e states = HasRoomAt (tree_for e) states (class_for e).leaf (Flow e.packet.now.flow)
 
 -- each is at most the greatest rank
@@ -66,13 +66,13 @@ abbrev pub AreLowRanks : List ℕ → Type 0
 AreLowRanks ranks = AllByRecursion (λ r. r ≤ max_rank) ranks
 
 -- P holds of all values that the variables have
-abbrev pub ForValues : Passage → List NodeState → (States → Type 0) → Type 0
+abbrev pub ForValues : PacketPath → List NodeState → (States → Type 0) → Type 0
 ForValues e states P = (values : States) → HaveValues (tree_for e) states values → P values
 
 -- whatever values the variables had, they have others now
-abbrev pub ValuesBecome : Passage → List NodeState → List NodeState → (States → States) → Type 0
+abbrev pub ValuesBecome : PacketPath → List NodeState → List NodeState → (States → States) → Type 0
 ValuesBecome e old new f = ForValues e old (λ values. HaveValues (tree_for e) new (f values))
 
 -- where there was room, there is room
-abbrev pub KeepsRoom : Passage → List NodeState → List NodeState → Type 0
+abbrev pub KeepsRoom : PacketPath → List NodeState → List NodeState → Type 0
 KeepsRoom e old new = (a : Address) (who : Who) → HasRoomAt (tree_for e) old a who → HasRoomAt (tree_for e) new a who

@@ -2,7 +2,7 @@
 ghost use Rattle.std.specs.Prelude.{◌≡◌, IfOk};
 ghost use Rattle.sched_defs.specs.SourceState.{start};
 
-use crate::own::Own;
+use crate::policy_state::PolicyState;
 use crate::scheduler::{Arrival, Scheduler};
 use packet_defs::{Departed, Packet};
 use policy_core::Policy;
@@ -12,11 +12,11 @@ use tree_core::{SourceTree, Taken};
 /// A scheduler over the source tree itself.
 #[derive(Drop)]
 pub struct Direct<'a> {
-    own: Own<'a>,
+    own: PolicyState<'a>,
 }
 
 impl<'a> Direct<'a> {
-    ghost use Rattle.sched_core.specs.Own.{policy_in};
+    ghost use Rattle.sched_core.specs.PolicyState.{policy_in};
     ghost use Rattle.sched_core.specs.Direct.{DirectStands};
 
     /// A scheduler that saw no event yet, and the empty tree of the policy's topology. The error is want of memory.
@@ -26,7 +26,7 @@ impl<'a> Direct<'a> {
         ensures pushes { IfOk result (λ r. r.0.own.pushes ≡ 0) }
         ensures departures { IfOk result (λ r. r.0.own.departures ≡ 0) }
     {
-        let own = Own::new(alloc, policy)?;
+        let own = PolicyState::new(alloc, policy)?;
         let tree = SourceTree::new(alloc, policy.topo())?;
         Ok((Direct { own }, tree))
     }
@@ -36,7 +36,7 @@ impl<'a> Scheduler for Direct<'a> {
     type Under = SourceTree;
 
     ghost use Rattle.std.specs.Prelude.{None};
-    ghost use Rattle.sched_core.specs.Own.{policy_in};
+    ghost use Rattle.sched_core.specs.PolicyState.{policy_in};
     ghost use Rattle.sched_core.specs.Direct.{DirectStands};
 
     ghost stands = { DirectStands };
@@ -59,7 +59,7 @@ impl<'a> Scheduler for Direct<'a> {
         trace: &mut Taken,
     ) -> Result<Arrival, AllocError> {
         if self.own.is_full(packet) {
-            return Ok(Arrival::Dropped(self.own.turn_away(packet)));
+            return Ok(Arrival::Dropped(self.own.drop_packet(packet)));
         }
         under.reserve(self.own.address(packet))?;
         let leaf = self.own.admit(packet, trace)?;
@@ -71,7 +71,7 @@ impl<'a> Scheduler for Direct<'a> {
     fn depart(&mut self, under: &mut SourceTree, trace: &mut Taken) -> Option<Departed> {
         match under.pop(trace) {
             None => {
-                self.own.find_none();
+                self.own.count_empty_departure();
                 None
             }
             Some(number) => Some(self.own.release(number, trace.digits(), trace.ranks())),

@@ -4,14 +4,14 @@
 
 mod direct;
 mod first;
-mod own;
-mod passage;
+mod policy_state;
+mod packet_path;
 mod scheduler;
-mod stations;
+mod node_states;
 mod walk;
-mod waypoint;
+mod path_node;
 
 pub use direct::Direct;
-pub use own::Own;
+pub use policy_state::PolicyState;
 pub use scheduler::{Arrival, Scheduler};
-pub use stations::Stations;
+pub use node_states::NodeStates;

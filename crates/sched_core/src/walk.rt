@@ -6,13 +6,13 @@ ghost use Rattle.sched_defs.specs.Visits.{rank_at, ranks_pushed, after_pushes, a
 ghost use Rattle.sched_core.specs.Kept.{AreStations};
 ghost use Rattle.sched_core.specs.Ways.{IsReady, tree_for, class_for, stop, way, HasRoomAtLeaf, AreLowRanks, ForValues, ValuesBecome, KeepsRoom};
 
-use crate::passage::Passage;
+use crate::packet_path::PacketPath;
 use rank_core::{NodeState, Who, run_pop, run_push};
 use tree_core::Taken;
 
 /// The lines of the push step at a level of the way. The answer is the packet's rank there.
 #[inline(never)]
-fn push_lines(states: &mut [NodeState], passage: &Passage, digits: &[u32], level: usize) -> u64
+fn push_lines(states: &mut [NodeState], passage: &PacketPath, digits: &[u32], level: usize) -> u64
     requires ready { IsReady passage.now }
     requires digits { digits.now ≡ (class_for passage.now).leaf }
     requires level { level ≤ length digits.now }
@@ -37,7 +37,7 @@ fn push_lines(states: &mut [NodeState], passage: &Passage, digits: &[u32], level
 /// The push step at a level of the way. The answer is the packet's rank there. Where the marks alone tell it, as in most nodes,
 /// nothing is looked up for it.
 #[inline(always)]
-fn push_at(states: &mut [NodeState], passage: &Passage, digits: &[u32], level: usize) -> u64
+fn push_at(states: &mut [NodeState], passage: &PacketPath, digits: &[u32], level: usize) -> u64
     requires ready { IsReady passage.now }
     requires digits { digits.now ≡ (class_for passage.now).leaf }
     requires level { level ≤ length digits.now }
@@ -58,7 +58,7 @@ fn push_at(states: &mut [NodeState], passage: &Passage, digits: &[u32], level: u
 
 /// The lines of the pop step at a level of the way, where the packet was taken with a rank.
 #[inline(never)]
-fn pop_lines(states: &mut [NodeState], passage: &Passage, digits: &[u32], level: usize, rank: u64)
+fn pop_lines(states: &mut [NodeState], passage: &PacketPath, digits: &[u32], level: usize, rank: u64)
     requires ready { IsReady passage.now }
     requires digits { digits.now ≡ (class_for passage.now).leaf }
     requires level { level ≤ length digits.now }
@@ -89,7 +89,7 @@ fn pop_lines(states: &mut [NodeState], passage: &Passage, digits: &[u32], level:
 /// The pop step at a level of the way, where the packet was taken with a rank. Where the node has no lines, as most have none,
 /// nothing is looked up for it.
 #[inline(always)]
-fn pop_at(states: &mut [NodeState], passage: &Passage, digits: &[u32], level: usize, rank: u64)
+fn pop_at(states: &mut [NodeState], passage: &PacketPath, digits: &[u32], level: usize, rank: u64)
     requires ready { IsReady passage.now }
     requires digits { digits.now ≡ (class_for passage.now).leaf }
     requires level { level ≤ length digits.now }
@@ -107,7 +107,7 @@ fn pop_at(states: &mut [NodeState], passage: &Passage, digits: &[u32], level: us
 }
 
 /// The push steps from the root down to the leaf. `trace` gets the digits and the ranks.
-pub fn push_along(states: &mut [NodeState], passage: &Passage, trace: &mut Taken)
+pub fn push_along(states: &mut [NodeState], passage: &PacketPath, trace: &mut Taken)
     requires ready { IsReady passage.now }
     requires leaf { passage.now.class.now.leaf < nodes (tree_for passage.now) }
     requires kept { AreStations (tree_for passage.now) states.old }
@@ -132,7 +132,7 @@ pub fn push_along(states: &mut [NodeState], passage: &Passage, trace: &mut Taken
 }
 
 /// The pop steps from the root down to the leaf, with the ranks that were taken on these digits.
-pub fn pop_along(states: &mut [NodeState], passage: &Passage, digits: &[u32], ranks: &[u64])
+pub fn pop_along(states: &mut [NodeState], passage: &PacketPath, digits: &[u32], ranks: &[u64])
     requires ready { IsReady passage.now }
     requires digits { digits.now ≡ (class_for passage.now).leaf }
     requires kept { AreStations (tree_for passage.now) states.old }

@@ -8,13 +8,13 @@ use Rattle.tree_defs.specs.Tree.{Tree, Address, LeadsToLeaf, SameShape}
 use Rattle.tree_defs.specs.Topology.{topology_of}
 use Rattle.policy_defs.specs.Policy.{Policy, Node, Class, no_marks}
 use Rattle.policy_defs.specs.Accepted.{IsAccepted, IsClassReady}
-use Rattle.embed_core.specs.declared.lane.Lane.{Lane}
+use Rattle.embed_core.specs.declared.lifted_path.LiftedPath.{LiftedPath}
 use Rattle.sched_embedded.specs.Laid.{leaf_of}
 use Rattle.sched_embedded.proofs.MapShapes.{same_leaves, topology-same}
 
 -- what holds of each lane holds with one more
-pub one_more : (P : ℕ → Lane → Type 0) (lanes : List Lane) (lane : Lane) → ((n : ℕ) (x : Lane) → slice_get lanes n ≡ Some x → P n x) → P (length lanes) lane
-    → (n : ℕ) (x : Lane) → slice_get (lanes ++ lane ∷ []) n ≡ Some x → P n x
+pub one_more : (P : ℕ → LiftedPath → Type 0) (lanes : List LiftedPath) (lane : LiftedPath) → ((n : ℕ) (x : LiftedPath) → slice_get lanes n ≡ Some x → P n x) → P (length lanes) lane
+    → (n : ℕ) (x : LiftedPath) → slice_get (lanes ++ lane ∷ []) n ≡ Some x → P n x
 one_more P [] lane each here zero x e = let q : lane ≡ x = cc in subst (P 0) q here
 one_more P [] lane each here (suc n) x e = cc
 one_more P (y ∷ lanes) lane each here zero x e = each 0 x e

@@ -10,7 +10,7 @@ use Rattle.sched_defs.specs.SourceState.{SourceState, departed, leaver}
 use Rattle.sched_defs.specs.Sound.{IsSound}
 use Rattle.sched_defs.proofs.Leaving.{pop_size}
 use Rattle.sched_core.specs.Departures.{IsTaken}
-use Rattle.sched_core.specs.Own.{PopsNext}
+use Rattle.sched_core.specs.PolicyState.{PopsNext}
 use Rattle.sched_core.proofs.PoppedPackets.{is_held, leaver-popped, departed-popped, taken}
 use Rattle.sched_embedded.specs.Laid.{Laid, PopsTo}
 

@@ -1,7 +1,7 @@
 -- What a scheduler counts of its packets follows from the packets that it holds.
 use Rattle.std.proofs.Common.{◌≡◌, ℕ, Some, ap, sym, ◌∙◌, arith}
 use Rattle.fabric_core.specs.declared.fabric.Fabric.{Ghosts}
-use Rattle.sched_core.specs.Own.{policy_in}
+use Rattle.sched_core.specs.PolicyState.{policy_in}
 use Rattle.sched_embedded.specs.Embedded.{EmbeddedStands, HasFivePoints, FivePointsStand}
 use Rattle.sched_embedded.proofs.LeafCounts.{same_filled, same_size}
 

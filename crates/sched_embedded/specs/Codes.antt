@@ -6,7 +6,7 @@ use base.Stored.{coded_unit}
 use Rattle.tree_defs.specs.Tree.{Tree, Address}
 use Rattle.tree_defs.specs.Topology.{Topology}
 use Rattle.tree_defs.specs.Codes.{tree_code}
-use Rattle.embed_core.specs.declared.lane.Lane.{Lane}
+use Rattle.embed_core.specs.declared.lifted_path.LiftedPath.{LiftedPath}
 use Rattle.embed_core.specs.Lanes.{IsLaneTo}
 use Rattle.policy_defs.specs.Policy.{Policy}
 use Rattle.sched_embedded.specs.Laid.{Laid, HasLanes, leaf_of}
@@ -17,14 +17,14 @@ laid_code = code_by (Tree Address × List ℕ) (coded× (tree_code (coded_list c
 pub one_way_to_be_the_same : (t u : Topology) → IsProp (t ≡ u)
 one_way_to_be_the_same t u = Coded-set (tree_code coded_unit) t u
 
-IsLaneTo-prop : (images : Tree Address) (address : Address) (lane : Lane) → IsProp (IsLaneTo images address lane)
+IsLaneTo-prop : (images : Tree Address) (address : Address) (lane : LiftedPath) → IsProp (IsLaneTo images address lane)
 IsLaneTo-prop images address lane a b i = record {
   image = Coded-set (coded_list coded_ℕ) _ _ a.image b.image i;
   long = Coded-set coded_ℕ _ _ a.long b.long i;
   steps = Coded-set (coded_list coded_ℕ) _ _ a.steps b.steps i;
 }
 
-pub one_way_to_have_lanes : (images : Tree Address) (policy : Policy) (lanes : List Lane) → IsProp (HasLanes images policy lanes)
+pub one_way_to_have_lanes : (images : Tree Address) (policy : Policy) (lanes : List LiftedPath) → IsProp (HasLanes images policy lanes)
 one_way_to_have_lanes images policy lanes a b i = record {
   whole = Coded-set coded_ℕ _ _ a.whole b.whole i;
   each = λ n lane at. IsLaneTo-prop images (leaf_of policy n) lane (a.each n lane at) (b.each n lane at) i;

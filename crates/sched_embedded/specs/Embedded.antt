@@ -10,8 +10,8 @@ use Rattle.sched_held.specs.Held.{held_at}
 use Rattle.sched_core.specs.Agreement.{AreStates}
 use Rattle.sched_core.specs.Origins.{Origin}
 use Rattle.sched_core.specs.Standing.{StandForOne}
-use Rattle.sched_core.specs.declared.own.Own.{Own}
-use Rattle.sched_core.specs.Own.{IsOwn, policy_in}
+use Rattle.sched_core.specs.declared.policy_state.PolicyState.{PolicyState}
+use Rattle.sched_core.specs.PolicyState.{IsOwn, policy_in}
 use Rattle.sched_embedded.specs.declared.embedded.Embedded.{Embedded}
 
 -- where the queues stand in the target
@@ -33,7 +33,7 @@ pub record EmbeddedStands {F : Type 0} (fabrics : Ghosts F) (c : Embedded F) (fa
 
 -- ---- five points
 -- the node states, the held packets and the latest timestamp
-pub record IsKept (own : Own) (s : SourceState) : Type 0 where
+pub record IsKept (own : PolicyState) (s : SourceState) : Type 0 where
   pub nodes : AreStates own.stations s.nodes
   pub held : (n : ℕ) → held_at own.held n ≡ s.held n
   pub now : s.now ≡ own.moment

@@ -7,7 +7,7 @@ use Rattle.target_defs.specs.Family.{Family, IsLeafAddress}
 use Rattle.embed_defs.specs.Images.{image_map}
 use Rattle.embed_defs.specs.Lift.{IsLift}
 use Rattle.embed_defs.specs.GoodMaps.{IsGoodMap}
-use Rattle.embed_core.specs.declared.lane.Lane.{Lane}
+use Rattle.embed_core.specs.declared.lifted_path.LiftedPath.{LiftedPath}
 use Rattle.embed_core.specs.Lanes.{IsLaneTo}
 use Rattle.policy_defs.specs.Policy.{Policy, class_at, no_marks}
 
@@ -22,7 +22,7 @@ pub record IsLaid (images : Tree Address) (arities : List ℕ) : Type 0 where
   pub leaves : (a : Address) → LeadsToLeaf images a → IsLeafAddress arities (image_map images a)
 
 -- a lane to a leaf
-pub record IsLane (l : Laid) (lane : Lane) : Type 0 where
+pub record IsLane (l : Laid) (lane : LiftedPath) : Type 0 where
   pub address : Address
   pub leaf : LeadsToLeaf l.images address
   pub leads : IsLaneTo l.images address lane
@@ -32,9 +32,9 @@ abbrev pub leaf_of : Policy → ℕ → Address
 leaf_of policy n = (unwrap_or (class_at policy n) (record { marks = no_marks; leaf = [] })).leaf
 
 -- a lane to the leaf of each class
-pub record HasLanes (images : Tree Address) (policy : Policy) (lanes : List Lane) : Type 0 where
+pub record HasLanes (images : Tree Address) (policy : Policy) (lanes : List LiftedPath) : Type 0 where
   pub whole : length lanes ≡ length policy.classes
-  pub each : (n : ℕ) (lane : Lane) → slice_get lanes n ≡ Some lane → IsLaneTo images (leaf_of policy n) lane
+  pub each : (n : ℕ) (lane : LiftedPath) → slice_get lanes n ≡ Some lane → IsLaneTo images (leaf_of policy n) lane
 
 -- there is room for the digits and for the ranks on the way to a leaf
 pub record HasRoomForOne (images : Tree Address) (arities : List ℕ) (digits ranks : ℕ) : Type 0 where

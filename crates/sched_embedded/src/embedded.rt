@@ -9,15 +9,15 @@ ghost use Rattle.embed_defs.specs.Embedding.{IsEmbedding};
 ghost use Rattle.embed_defs.specs.GoodMaps.{IsGoodMap};
 ghost use Rattle.sched_embedded.specs.Laid.{HasLanes};
 ghost use Rattle.sched_defs.specs.SourceState.{start};
-ghost use Rattle.sched_core.specs.Own.{policy_in};
+ghost use Rattle.sched_core.specs.PolicyState.{policy_in};
 ghost use Rattle.sched_embedded.specs.Codes.{one_way_to_be_the_same, one_way_to_have_lanes};
 
 use crate::embedding::Embedding;
-use embed_core::{Lane, Map};
+use embed_core::{LiftedPath, Map};
 use fabric_core::Fabric;
 use packet_defs::{Departed, Packet};
 use policy_core::Policy;
-use sched_core::{Arrival, Own, Scheduler};
+use sched_core::{Arrival, PolicyState, Scheduler};
 use std::alloc::{AllocError, Global};
 use std::marker::PhantomData;
 use target_core::Target;
@@ -26,9 +26,9 @@ use tree_core::Taken;
 /// A scheduler over the queues of a fabric.
 #[derive(Drop)]
 pub struct Embedded<'a, F> {
-    own: Own<'a>,
+    own: PolicyState<'a>,
     embedding: Embedding,
-    lanes: Vec<Lane>,
+    lanes: Vec<LiftedPath>,
     pushes_before: u64,
     pops_before: u64,
     fabric: PhantomData<F>,
@@ -66,7 +66,7 @@ impl<'a, F: Fabric> Embedded<'a, F> {
         ensures popped { F.popped fabric.new ≡ F.popped fabric.old }
         ensures spilled { F.spilled fabric.new ≡ F.spilled fabric.old }
     {
-        let own = Own::new(alloc, policy)?;
+        let own = PolicyState::new(alloc, policy)?;
         let lanes = class_lanes(alloc, policy, &map, target.arities.len())?;
         let embedding = Embedding::new(alloc, map, target)?;
         fabric.configure(embedding.arities())?;
@@ -87,14 +87,14 @@ fn class_lanes(
     policy: &Policy,
     map: &Map,
     height: usize,
-) -> Result<Vec<Lane>, AllocError>
+) -> Result<Vec<LiftedPath>, AllocError>
     requires good { IsGoodMap height map.now }
     requires shape { SameShape (topology_of policy.now.policy.tree) map.now }
     ensures lanes { IfOk result (λ v. HasLanes map.now policy.now.policy v.items) }
 {
     let mut lanes = Vec::new(alloc);
     for class in policy.classes() {
-        lanes.push(Lane::to(alloc, map, policy.address(class.leaf), height)?)?;
+        lanes.push(LiftedPath::to(alloc, map, policy.address(class.leaf), height)?)?;
     }
     Ok(lanes)
 }
@@ -125,7 +125,7 @@ impl<'a, F: Fabric> Scheduler for Embedded<'a, F> {
         trace: &mut Taken,
     ) -> Result<Arrival, AllocError> {
         if self.own.is_full(packet) {
-            return Ok(Arrival::Dropped(self.own.turn_away(packet)));
+            return Ok(Arrival::Dropped(self.own.drop_packet(packet)));
         }
         let class = packet.class as usize;
         under.reserve(self.embedding.image(&self.lanes[class]))?;
@@ -138,7 +138,7 @@ impl<'a, F: Fabric> Scheduler for Embedded<'a, F> {
     #[inline(always)]
     fn depart(&mut self, under: &mut F, trace: &mut Taken) -> Option<Departed> {
         let Some(number) = self.embedding.pop(under, trace) else {
-            self.own.find_none();
+            self.own.count_empty_departure();
             return None;
         };
         Some(self.own.release(number, trace.digits(), trace.ranks()))

@@ -9,7 +9,7 @@ ghost use Rattle.embed_core.specs.Lanes.{IsLaneTo};
 ghost use Rattle.sched_core.specs.Spills.{raised};
 ghost use Rattle.sched_embedded.specs.Laid.{IsLaid, IsLane, IsLiftOfOne, ForEachLifted, EachLiftBecomes, EachLiftPops, push_on};
 
-use embed_core::{Lane, Map, pick};
+use embed_core::{LiftedPath, Map, pick};
 use fabric_core::Fabric;
 use list_core::List;
 use std::alloc::{AllocError, Global};
@@ -67,7 +67,7 @@ impl Embedding {
 
     /// The image of the leaf to which a lane leads.
     #[inline(always)]
-    pub fn image<'a>(&self, lane: &'a Lane) -> &'a [u32]
+    pub fn image<'a>(&self, lane: &'a LiftedPath) -> &'a [u32]
         requires lane { IsLane self.now lane.now }
         ensures image { result.now ≡ lane.now.image.items }
         ensures leaf { IsLeafAddress self.now.arities result.now }
@@ -79,7 +79,7 @@ impl Embedding {
 
     /// Pushes a packet's number along the image of a way to a leaf, with the lifted ranks. Takes no memory.
     #[inline(always)]
-    pub fn push<F: Fabric>(&mut self, fabric: &mut F, lane: &Lane, way: &Taken, number: u64)
+    pub fn push<F: Fabric>(&mut self, fabric: &mut F, lane: &LiftedPath, way: &Taken, number: u64)
         requires lane { IsLaneTo self.old.images way.now.digits lane.now }
         requires arities { F.shape fabric.old ≡ self.old.arities }
         requires leaf { LeadsToLeaf self.old.images way.now.digits }

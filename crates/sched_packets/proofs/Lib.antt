@@ -1,5 +1,5 @@
 pub mod RecordPackets
 pub mod CapturedBytes
 pub mod PacketsLeft
-pub mod OneLinkPackets
+pub mod SingleLinkTypePackets
 pub mod Fronts

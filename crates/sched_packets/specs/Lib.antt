@@ -3,5 +3,5 @@ pub mod Halts
 pub mod NextPacket
 pub mod Arrivals
 pub mod CapturedBytes
-pub mod AnyArrivals
-pub mod OneLink
+pub mod CapturePackets
+pub mod SingleLinkType

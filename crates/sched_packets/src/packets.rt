@@ -36,5 +36,5 @@ pub(crate) fn put_packet(
 {
     let frame = &read.frame;
     put_frame(frame.number, frame.len, frame.moment, packet);
-    classifier.sort(read.link, bytes, packet);
+    classifier.classify(read.link, bytes, packet);
 }

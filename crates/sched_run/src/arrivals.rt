@@ -27,7 +27,7 @@ impl<'a, C: Scheduler + Drop, N: NodeNames, W: Recorder> Run<'a, C, N, W> {
 
     /// Makes the arrival of a packet with these captured bytes, with its line, counts it, and shows it to the taps that watch.
     #[inline(always)]
-    pub(crate) fn admit<K: Sink, T: Tap>(
+    pub(crate) fn make_arrival<K: Sink, T: Tap>(
         &mut self,
         under: &mut C::Under,
         sink: &mut K,
@@ -61,7 +61,7 @@ impl<'a, C: Scheduler + Drop, N: NodeNames, W: Recorder> Run<'a, C, N, W> {
         ensures live { OnOk result (W.live self.new.recorder) }
     {
         let event = self.tally.event();
-        let arrival = self.arrive_line(under, sink, event, packet, captured)?;
+        let arrival = self.record_arrival(under, sink, event, packet, captured)?;
         self.tally.count(arrival);
         show_arrival(watch, packet, arrival);
         Ok(())
@@ -108,7 +108,7 @@ impl<'a, C: Scheduler + Drop, N: NodeNames, W: Recorder> Run<'a, C, N, W> {
         let mut packet = BLANK;
         match packets.next(source, &mut packet) {
             Ok(true) => {
-                self.admit(under, sink, watch, &packet, packets.captured())?;
+                self.make_arrival(under, sink, watch, &packet, packets.captured())?;
                 Ok(None)
             }
             Ok(false) => Ok(Some(Ending::PastLast(self.tally.event()))),

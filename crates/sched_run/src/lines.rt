@@ -34,7 +34,7 @@ pub(crate) struct Departure {
 
 /// Makes a departure, and records it. Takes no memory.
 #[inline(always)]
-pub(crate) fn depart_at<C: Scheduler, N: NodeNames, W: Recorder, K: Sink>(
+pub(crate) fn record_departure<C: Scheduler, N: NodeNames, W: Recorder, K: Sink>(
     names: &N,
     scheduler: &mut C,
     under: &mut C::Under,
@@ -127,7 +127,7 @@ pub fn depart_line<C: Scheduler, N: NodeNames, K: Sink>(
     ensures asked { AsksOnce C.Scheduler scheduler.old under.old scheduler.new under.new }
 {
     let departure = Departure { event, start: None };
-    depart_at(names, scheduler, under, trace, report, sink, departure)
+    record_departure(names, scheduler, under, trace, report, sink, departure)
 }
 
 impl<'a, C: Scheduler + Drop, N: NodeNames, W: Recorder> Run<'a, C, N, W> {
@@ -145,7 +145,7 @@ impl<'a, C: Scheduler + Drop, N: NodeNames, W: Recorder> Run<'a, C, N, W> {
 
     /// Makes an arrival, and records it. The answer is what became of the packet.
     #[inline(always)]
-    pub(crate) fn arrive_line<K: Sink>(
+    pub(crate) fn record_arrival<K: Sink>(
         &mut self,
         under: &mut C::Under,
         sink: &mut K,
@@ -225,7 +225,7 @@ impl<'a, C: Scheduler + Drop, N: NodeNames, W: Recorder> Run<'a, C, N, W> {
         ensures live { OnOk result (W.live self.new.recorder) }
     {
         let event = self.tally.event();
-        let departed = depart_at(
+        let departed = record_departure(
             self.names,
             &mut self.scheduler,
             under,

@@ -170,7 +170,7 @@ impl<'a, C: Scheduler + Drop, N: NodeNames, W: Recorder> Run<'a, C, N, W> {
             return Ok(true);
         }
         idle_at(link, self.scheduler.held(), moment);
-        self.admit(under, sink, watch, packet, captured)?;
+        self.make_arrival(under, sink, watch, packet, captured)?;
         Ok(false)
     }
 

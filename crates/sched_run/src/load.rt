@@ -61,7 +61,7 @@ impl<'a, C: Scheduler + Drop, N: NodeNames, W: Recorder> Run<'a, C, N, W> {
         ensures live { OnOk result (W.live self.new.recorder) }
     {
         match drawing.draw() {
-            Some(packet) => self.admit(under, sink, watch, &packet, &[]),
+            Some(packet) => self.make_arrival(under, sink, watch, &packet, &[]),
             None => {
                 self.depart_next(under, sink, watch, None)?;
                 Ok(())

@@ -10,7 +10,7 @@ use Rattle.sched_defs.specs.Events.{Arrive, after}
 use Rattle.target_core.specs.declared.target.Target.{Target}
 use Rattle.embed_core.specs.Range.{levels_of}
 use Rattle.fabric_core.specs.declared.fabric.Fabric.{Ghosts}
-use Rattle.sched_core.specs.Own.{policy_in}
+use Rattle.sched_core.specs.PolicyState.{policy_in}
 use Rattle.sched_embedded.specs.declared.embedded.Embedded.{Embedded}
 use Rattle.sched_embedded.specs.Embedded.{EmbeddedStands, origin_of}
 

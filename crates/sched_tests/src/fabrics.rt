@@ -10,7 +10,7 @@ ghost use Rattle.packet_defs.specs.declared.packet.Packet.{Packet as Known};
 ghost use Rattle.sched_defs.specs.SourceState.{SourceState, start, is_full};
 ghost use Rattle.sched_defs.specs.Events.{Arrive, CanMake, after};
 ghost use Rattle.sched_core.specs.Standing.{StandForOne};
-ghost use Rattle.sched_core.specs.Own.{policy_in};
+ghost use Rattle.sched_core.specs.PolicyState.{policy_in};
 ghost use Rattle.embed_core.specs.Range.{levels_of};
 ghost use Rattle.sched_embedded.specs.Embedded.{EmbeddedStands, origin_of};
 ghost use Rattle.sched_tests.specs.Filled.{IsFilled, IsPlain};

@@ -2,7 +2,7 @@
 use outside_core::MemShelf;
 use policy_core::{Policy, resolve};
 use policy_text::parse;
-use sched_packets::{AnyArrivals, Halt, OneLink, Packets};
+use sched_packets::{CapturePackets, Halt, SingleLinkType, Packets};
 use std::alloc::{AllocError, Global};
 use std::test::Fail;
 
@@ -56,8 +56,8 @@ fn pass_of_one_link(
     policy: &Policy,
     shelf: &mut MemShelf,
 ) -> Result<[bool; 2], Halt> {
-    let arrivals = AnyArrivals::open(alloc, policy, shelf, "c")?;
-    let mut packets = OneLink::start(arrivals, shelf)?;
+    let arrivals = CapturePackets::open(alloc, policy, shelf, "c")?;
+    let mut packets = SingleLinkType::start(arrivals, shelf)?;
     pass_two(&mut packets, shelf)
 }
 

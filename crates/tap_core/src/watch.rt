@@ -85,7 +85,7 @@ pub fn keep_named<T: Tap>(taps: &mut Vec<T>, named: Named)
 }
 
 /// Shows a departure to one tap.
-fn see_one<T: Tap>(tap: &mut T, packet: &Departed) -> Seen
+fn show_departure_to<T: Tap>(tap: &mut T, packet: &Departed) -> Seen
     ensures after { entry (T.kind_of tap.new) (T.state_of tap.new)
         ≡ stepped (departed packet.now) (entry (T.kind_of tap.old) (T.state_of tap.old)) }
     ensures done { (result ≡ Seen.Done) ↔ IsTrue (full (entry (T.kind_of tap.new) (T.state_of tap.new))) }
@@ -94,7 +94,7 @@ fn see_one<T: Tap>(tap: &mut T, packet: &Departed) -> Seen
 }
 
 /// Shows a drop to one tap.
-fn lose_one<T: Tap>(tap: &mut T, packet: &Dropped)
+fn show_drop_to<T: Tap>(tap: &mut T, packet: &Dropped)
     ensures after { entry (T.kind_of tap.new) (T.state_of tap.new)
         ≡ stepped (dropped packet.now) (entry (T.kind_of tap.old) (T.state_of tap.old)) }
 {
@@ -102,7 +102,7 @@ fn lose_one<T: Tap>(tap: &mut T, packet: &Dropped)
 }
 
 /// Appends the line of a tap.
-fn say_one<T: Tap>(tap: &T, into: &mut Vec<u8>) -> Result<(), AllocError>
+fn append_line_of<T: Tap>(tap: &T, into: &mut Vec<u8>) -> Result<(), AllocError>
     ensures { OnOk result (into.new.items ≡ into.old.items ++ line (T.kind_of tap.now) (T.state_of tap.now)) }
 {
     tap.say(into)
@@ -113,7 +113,7 @@ fn line_of<T: Tap>(alloc: Global, tap: &T) -> Result<Vec<u8>, AllocError>
     ensures { IfOk result (λ said. said.items ≡ line (T.kind_of tap.now) (T.state_of tap.now)) }
 {
     let mut said = Vec::new(alloc);
-    say_one(tap, &mut said)?;
+    append_line_of(tap, &mut said)?;
     Ok(said)
 }
 
@@ -145,7 +145,7 @@ pub fn show_dropped<T: Tap>(taps: &mut [T], packet: &Dropped)
         → Tracks (map (stepped (dropped packet.now)) all) slots (entries T.kind_of T.state_of taps.new) }
 {
     for tap in taps.iter_mut() {
-        lose_one(tap, packet);
+        show_drop_to(tap, packet);
     }
 }
 
@@ -171,7 +171,7 @@ pub fn show_departed<T: Tap>(
             let Some(tap) = taps.get_mut(i) else {
                 return Ok(());
             };
-            match see_one(tap, packet) {
+            match show_departure_to(tap, packet) {
                 Seen::More => i += 1,
                 Seen::Done => {
                     *slot = Some(line_of(alloc, tap)?);
@@ -202,7 +202,7 @@ pub fn lines<T: Tap>(
                 let Some(tap) = taps.get(i) else {
                     return Ok(text);
                 };
-                say_one(tap, &mut text)?;
+                append_line_of(tap, &mut text)?;
                 i += 1;
             }
         }

@@ -1,6 +1,6 @@
 use Rattle.std.proofs.lemmas.Result.{err_from_is_err_and}
 use Rattle.report_core.proofs.WholeTexts.{nothing_written}
-use Rattle.sched_packets.specs.AnyArrivals.{left_of}
+use Rattle.sched_packets.specs.CapturePackets.{left_of}
 use Rattle.sched_run.specs.Steps.{pace_of}
 use Rattle.sched_capture.specs.Answers.{answer_of}
 use Rattle.sched_capture.proofs.FromStart.{stand_at_start, ending_told, text_told, part_told, state_told, amid_told, watched_told, unmoved}

@@ -1,5 +1,5 @@
 use Rattle.outside_core.proofs.KeptLaws.{sink-then}
-use Rattle.sched_packets.specs.OneLink.{left_of, link_of, captures_of}
+use Rattle.sched_packets.specs.SingleLinkType.{left_of, link_of, captures_of}
 use Rattle.sched_capture.proofs.ForwardFiles.{cut_header, cut_records, all_records, cause_behind}
 use Rattle.sched_capture.proofs.departures.forward_packets.Goals as goal
 

@@ -1,6 +1,6 @@
 use Rattle.std.proofs.Common.{arith}
 use Rattle.std.proofs.lemmas.Result.{IfOk-weaker}
-use Rattle.sched_packets.specs.AnyArrivals.{left_of}
+use Rattle.sched_packets.specs.CapturePackets.{left_of}
 use Rattle.sched_run.specs.Steps.{pace_of, IsNoPastLast, CanEndSo}
 use Rattle.sched_capture.proofs.FileRuns.{can_end, ending_of, text_of_file, part_of_file, watched_of_file, unwatched, sink_rose, source_rose}
 use Rattle.sched_capture.proofs.Refusals.{part_of_report}

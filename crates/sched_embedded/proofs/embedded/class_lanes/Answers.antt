@@ -2,7 +2,7 @@ use Rattle.std.proofs.Common.{◌≡◌, ℕ, ◌+◌, ◌∷◌, [], List, leng
 use Rattle.std.proofs.lemmas.List.{length-append, length-map}
 use Rattle.std.specs.Prelude.{slice_get}
 use Rattle.tree_defs.specs.Tree.{Address, LeadsToLeaf}
-use Rattle.embed_core.specs.declared.lane.Lane.{Lane}
+use Rattle.embed_core.specs.declared.lifted_path.LiftedPath.{LiftedPath}
 use Rattle.embed_core.specs.Lanes.{IsLaneTo}
 use Rattle.sched_embedded.specs.Laid.{leaf_of}
 use Rattle.sched_embedded.proofs.ClassLanes.{one_more, leaf-told, leaf-leads}
@@ -15,15 +15,15 @@ to-requires-clause-leaf c =
 
 pub loop-class-preserved : goal.loop-class-preserved
 loop-class-preserved c =
-    let lanes : List Lane = c.loop-class.lanes.items in
-    let lane : Lane = c.in_ok-to.field-0 in
+    let lanes : List LiftedPath = c.loop-class.lanes.items in
+    let lane : LiftedPath = c.in_ok-to.field-0 in
     let told : leaf_of c.args.policy.now.policy c.loop-class.class-index ≡ c.address.result.now
     = leaf-told _ c.args.policy.now.policy c.classes-class-items.result.now c.loop-class.class-index c.class-item.result c.classes-class-items.ensures.classes c.loop-class-test.true c.class-item.is ∙ sym c.address.ensures.address in
     let there : IsLaneTo c.args.map.now (leaf_of c.args.policy.now.policy (length lanes)) lane
     = subst (λ (z : Address). IsLaneTo c.args.map.now z lane) (sym (ap (leaf_of c.args.policy.now.policy) c.loop-class.invariant.many ∙ told)) c.in_ok-to.ensures.lane in
     record {
       many = ap length c.in_ok-push.ensures.items ∙ length-append lanes (lane ∷ []) ∙ ap (λ (n : ℕ). n + 1) c.loop-class.invariant.many;
-      each = λ n x e. one_more (λ m. IsLaneTo c.args.map.now (leaf_of c.args.policy.now.policy m)) lanes lane c.loop-class.invariant.each there n x (subst (λ (z : List Lane). slice_get z n ≡ Some x) c.in_ok-push.ensures.items e);
+      each = λ n x e. one_more (λ m. IsLaneTo c.args.map.now (leaf_of c.args.policy.now.policy m)) lanes lane c.loop-class.invariant.each there n x (subst (λ (z : List LiftedPath). slice_get z n ≡ Some x) c.in_ok-push.ensures.items e);
     }
 
 pub returns : goal.returns

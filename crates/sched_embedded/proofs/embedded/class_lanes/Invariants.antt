@@ -1,6 +1,6 @@
 use Rattle.std.proofs.Common.{◌≡◌, ℕ, length, Some}
 use Rattle.std.specs.Prelude.{slice_get}
-use Rattle.embed_core.specs.declared.lane.Lane.{Lane}
+use Rattle.embed_core.specs.declared.lifted_path.LiftedPath.{LiftedPath}
 use Rattle.embed_core.specs.Lanes.{IsLaneTo}
 use Rattle.sched_embedded.specs.Laid.{leaf_of}
 use Rattle.sched_embedded.proofs.embedded.class_lanes.Given as goal
@@ -8,5 +8,5 @@ use Rattle.sched_embedded.proofs.embedded.class_lanes.Given as goal
 abbrev pub invariant-loop-class : goal.invariant-loop-class
 invariant-loop-class l = record {
   many : length l.lanes.items ≡ l.class-index;
-  each : (n : ℕ) (lane : Lane) → slice_get l.lanes.items n ≡ Some lane → IsLaneTo l.map (leaf_of l.policy.policy n) lane;
+  each : (n : ℕ) (lane : LiftedPath) → slice_get l.lanes.items n ≡ Some lane → IsLaneTo l.map (leaf_of l.policy.policy n) lane;
 }

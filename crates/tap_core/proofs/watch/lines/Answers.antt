@@ -3,7 +3,7 @@ use Rattle.std.specs.Prelude.{slice_get}
 use Rattle.tap_core.proofs.SlotLaws.{slot_at}
 use Rattle.tap_core.proofs.Passes.{past_line, past_waiting, lines_find, lines_at_end}
 use Rattle.tap_core.proofs.watch.lines.Goals as goal
-use Rattle.tap_core.proofs.watch.lines.Goals.{in-Some+in_ok-extend_from_slice-in-Some, in-None+in-Some-get+in_ok-say_one-in-None}
+use Rattle.tap_core.proofs.watch.lines.Goals.{in-Some+in_ok-extend_from_slice-in-Some, in-None+in-Some-get+in_ok-append_line_of-in-None}
 
 pub loop-slot-preserved : goal.loop-slot-preserved
 loop-slot-preserved g c =
@@ -11,10 +11,10 @@ loop-slot-preserved g c =
       | in-Some+in_ok-extend_from_slice-in-Some w ↦
           let at : slice_get c.args.slots.now c.loop-slot.slot-index ≡ Some (Some w.in-Some.said) = slot_at c.args.slots.now _ c.slot-item.result (search rules) c.slot-item.is ∙ ap Some w.in-Some.is
           in rw (w.text-is, w.i-is) (past_line _ _ _ _ _ _ _ _ w.in-Some.said c.loop-slot.invariant at (w.in_ok-extend_from_slice-in-Some.ensures.items ∙ ap (λ s. c.loop-slot.text.items ++ s) w.deref.ensures.value))
-      | in-None+in-Some-get+in_ok-say_one-in-None w ↦
+      | in-None+in-Some-get+in_ok-append_line_of-in-None w ↦
           let at : slice_get c.args.slots.now c.loop-slot.slot-index ≡ Some None = slot_at c.args.slots.now _ c.slot-item.result (search rules) c.slot-item.is ∙ ap Some w.in-None.is
           in let inside : c.loop-slot.i < length c.args.taps.now = search rules
-          in rw (w.text-is, w.i-is) (past_waiting _ _ _ _ _ _ _ _ w.in-Some-get.tap.now c.loop-slot.invariant at inside w.in-Some-get.ensures.lookup.1 w.in_ok-say_one-in-None.ensures)
+          in rw (w.text-is, w.i-is) (past_waiting _ _ _ _ _ _ _ _ w.in-Some-get.tap.now c.loop-slot.invariant at inside w.in-Some-get.ensures.lookup.1 w.in_ok-append_line_of-in-None.ensures)
     ]
 
 pub returns-in_default : goal.returns-in_default

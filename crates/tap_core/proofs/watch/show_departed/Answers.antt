@@ -12,11 +12,11 @@ loop-slot-preserved g c =
       | then-is_none+in-Some+in-More w ↦
           let at : slice_get c.loop-slot.slots c.loop-slot.slot-index ≡ Some None = none_at c.loop-slot.slots _ c.slot-item.result (search rules) c.slot-item.is (search rules)
           in let inside : c.loop-slot.i < length c.loop-slot.taps.items = search rules
-          in rw (w.slots-is, set-get_or, w.taps-is, w.i-is) (pass_more _ _ _ _ _ _ _ _ _ _ w.in-Some.tap.now c.loop-slot.invariant at inside w.in-Some.ensures.value w.see_one.ensures.after (grind arith))
+          in rw (w.slots-is, set-get_or, w.taps-is, w.i-is) (pass_more _ _ _ _ _ _ _ _ _ _ w.in-Some.tap.now c.loop-slot.invariant at inside w.in-Some.ensures.value w.show_departure_to.ensures.after (grind arith))
       | then-is_none+in-Some+in-Done+in_ok-line_of-in-Done w ↦
           let at : slice_get c.loop-slot.slots c.loop-slot.slot-index ≡ Some None = none_at c.loop-slot.slots _ c.slot-item.result (search rules) c.slot-item.is (search rules)
           in let inside : c.loop-slot.i < length c.loop-slot.taps.items = search rules
-          in rw (w.slots-is, w.taps-is, w.i-is, w.remove.ensures.items) (pass_done _ _ _ _ _ _ _ _ _ _ w.in-Some.tap.now w.in_ok-line_of-in-Done.field-0 c.loop-slot.invariant at inside w.in-Some.ensures.value w.see_one.ensures.after (grind arith) (grind arith) w.in_ok-line_of-in-Done.ensures)
+          in rw (w.slots-is, w.taps-is, w.i-is, w.remove.ensures.items) (pass_done _ _ _ _ _ _ _ _ _ _ w.in-Some.tap.now w.in_ok-line_of-in-Done.field-0 c.loop-slot.invariant at inside w.in-Some.ensures.value w.show_departure_to.ensures.after (grind arith) (grind arith) w.in_ok-line_of-in-Done.ensures)
       | else-is_none w ↦
           let at = said_at c.loop-slot.slots _ c.slot-item.result (search rules) c.slot-item.is (search rules)
           in rw (w.slots-is, set-get_or, w.taps-is, w.i-is) (pass_said _ _ _ _ _ _ _ _ _ at.0 c.loop-slot.invariant at.1)

@@ -5,7 +5,7 @@ use Rattle.policy_defs.specs.Policy.{Policy}
 use Rattle.sched_defs.specs.SourceState.{class_of}
 use Rattle.sched_defs.proofs.Soundness.{leads_in}
 use Rattle.sched_defs.proofs.Leaving.{arrives_at_a_leaf}
-use Rattle.sched_core.specs.Own.{policy_in}
+use Rattle.sched_core.specs.PolicyState.{policy_in}
 use Rattle.sched_core.proofs.direct.DirectScheduler.arrive.Goals as goal
 
 pub reserve-requires : goal.reserve-requires

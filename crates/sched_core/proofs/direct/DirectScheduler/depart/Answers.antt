@@ -6,7 +6,7 @@ use Rattle.tree_defs.proofs.Shapes.{topology_of-same, depth-topology}
 use Rattle.policy_defs.specs.Policy.{Policy}
 use Rattle.sched_defs.specs.SourceState.{leaver}
 use Rattle.sched_defs.proofs.Leaving.{pop_size, leaver-none}
-use Rattle.sched_core.specs.Own.{policy_in}
+use Rattle.sched_core.specs.PolicyState.{policy_in}
 use Rattle.sched_core.proofs.direct.DirectScheduler.depart.Goals as goal
 
 pub pop-requires : goal.pop-requires
@@ -37,9 +37,9 @@ returns-in-None-clause-state c = λ s sound stood.
     let empty : size s.tree ≡ 0 = ap (λ (t : SourceTree). size t) stood.tree ∙ c.in-None.ensures.empty.0 refl in
     let nothing : pop s.tree ≡ None = (pop_size policy s sound).1 empty in
     rw nothing record {
-      own = c.find_none.ensures.state s stood.own;
+      own = c.count_empty_departure.ensures.state s stood.own;
       tree = stood.tree ∙ ap (λ g. g.tree) (sym c.in-None.ensures.unchanged);
-      pushes = c.pop.ensures.pushes ∙ stood.pushes ∙ sym c.find_none.ensures.pushes;
+      pushes = c.pop.ensures.pushes ∙ stood.pushes ∙ sym c.count_empty_departure.ensures.pushes;
     }
 
 pub returns-in-None-clause-value : goal.returns-in-None-clause-value

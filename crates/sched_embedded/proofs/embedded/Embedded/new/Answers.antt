@@ -7,7 +7,7 @@ use Rattle.embed_defs.specs.GoodMaps.{IsGoodMap}
 use Rattle.embed_defs.specs.Lift.{IsLift}
 use Rattle.embed_defs.proofs.EmbeddedMaps.{embeddings_are_good_maps as good_map}
 use Rattle.policy_defs.specs.Policy.{Policy}
-use Rattle.sched_core.specs.Own.{policy_in}
+use Rattle.sched_core.specs.PolicyState.{policy_in}
 use Rattle.sched_embedded.specs.Laid.{HasLanes}
 use Rattle.sched_embedded.proofs.MapShapes.{topology-same, embedding-laid, empty-lifted}
 use Rattle.sched_embedded.proofs.embedded.Embedded.new.Goals as goal

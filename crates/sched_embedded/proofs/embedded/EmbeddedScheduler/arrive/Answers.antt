@@ -11,7 +11,7 @@ use Rattle.embed_core.specs.Lanes.{IsLaneTo}
 use Rattle.policy_defs.specs.Policy.{Policy}
 use Rattle.sched_defs.specs.SourceState.{class_of, arrival_ranks, is_full}
 use Rattle.sched_defs.proofs.Leaving.{arrives_at_a_leaf}
-use Rattle.sched_core.specs.Own.{policy_in}
+use Rattle.sched_core.specs.PolicyState.{policy_in}
 use Rattle.sched_core.specs.Spills.{raised}
 use Rattle.sched_embedded.specs.Laid.{Laid, HoldsLift}
 use Rattle.sched_embedded.proofs.MapShapes.{same_leaves, sound-shape, sound-holds}

@@ -6,7 +6,7 @@ use Rattle.embed_defs.specs.Lift.{IsLift}
 use Rattle.policy_defs.specs.Policy.{Policy}
 use Rattle.sched_defs.specs.SourceState.{departed}
 use Rattle.sched_defs.proofs.Leaving.{pop_size}
-use Rattle.sched_core.specs.Own.{policy_in}
+use Rattle.sched_core.specs.PolicyState.{policy_in}
 use Rattle.sched_embedded.specs.Laid.{Laid, PopsTo}
 use Rattle.sched_embedded.proofs.MapShapes.{same_depth, sound-holds}
 use Rattle.sched_embedded.proofs.LiftMoves.{lift-same}
@@ -43,12 +43,12 @@ returns-in_default-clause-state g c = λ s sound stood.
     let after : Family = g.F.Fabric.queues c.pop.new.fabric in
     let nothing : pop s.tree ≡ None = c.in_default.ensures.none s.tree (sound-holds policy s l (g.F.Fabric.queues c.args.under.now) sound c.args.self.now.shape stood.lifted) in
     rw nothing record {
-      own = c.find_none.ensures.state s stood.own;
+      own = c.count_empty_departure.ensures.state s stood.own;
       shape = c.pop.ensures.shape ∙ stood.shape ∙ ap (λ (z : Laid). z.arities) (sym c.pop.ensures.embedding);
       lifted = subst (λ (z : Laid). IsLift s.tree (image_map z.images) after) (sym c.pop.ensures.embedding)
           (lift-same s.tree (image_map l.images) (g.F.Fabric.queues c.args.under.now) after c.in_default.ensures.stay stood.lifted);
-      pushes = omega (arith, c.pop.ensures.pushed, stood.pushes, c.find_none.ensures.pushes);
-      pops = omega (arith, c.pop.ensures.popped, stood.pops, c.find_none.ensures.departures);
+      pushes = omega (arith, c.pop.ensures.pushed, stood.pushes, c.count_empty_departure.ensures.pushes);
+      pops = omega (arith, c.pop.ensures.popped, stood.pops, c.count_empty_departure.ensures.departures);
     }
 
 pub returns-in_default-clause-value : goal.returns-in_default-clause-value

@@ -9,15 +9,15 @@ use Rattle.sched_run.proofs.HeardLaws.{heard-joined, heard_gives, makes_so, stop
 use Rattle.sched_defs.specs.Events.{Arrive}
 use Rattle.sched_run.proofs.run.Run.arrive_next.Goals as goal
 
-pub admit-requires-clause-stands : goal.admit-requires-clause-stands
-admit-requires-clause-stands g c =
+pub make_arrival-requires-clause-stands : goal.make_arrival-requires-clause-stands
+make_arrival-requires-clause-stands g c =
     let one = c.requires.stands in
     let number = c.in-Ok-true.ensures.number c.in-Ok-true.field-0-test in
     let sendable = subst (λ (q : Policy). IsSendable q c.next.new.packet) c.requires.packets (c.in-Ok-true.ensures.sendable c.in-Ok-true.field-0-test) in
     record { state = one.state; sound = one.sound; stood = one.stood; has = can_arrive (g.C.Scheduler.policy c.args.self.now.scheduler) one.state c.next.new.packet _ number sendable one.has }
 
-pub returns-in_err-admit-in-Ok-true-clause-err : goal.returns-in_err-admit-in-Ok-true-clause-err
-returns-in_err-admit-in-Ok-true-clause-err g c =
+pub returns-in_err-make_arrival-in-Ok-true-clause-err : goal.returns-in_err-make_arrival-in-Ok-true-clause-err
+returns-in_err-make_arrival-in-Ok-true-clause-err g c =
     let p = err_from_is_err_and c.from_residual.result c.from_residual.ensures.1 in
     let number = c.in-Ok-true.ensures.number c.in-Ok-true.field-0-test in
     let sendable = subst (λ (q : Policy). IsSendable q c.next.new.packet) c.requires.packets (c.in-Ok-true.ensures.sendable c.in-Ok-true.field-0-test) in
@@ -27,11 +27,11 @@ returns-in_err-admit-in-Ok-true-clause-err g c =
       count = omega arith;
       first = one_first _ _ (c.next.new.packet ∷ []) (c.in-Ok-true.ensures.came c.in-Ok-true.field-0-test);
       stop = stops_so g.C.Scheduler (heard_gives g.W.Recorder (IsCapturedAs c.next.new.packet c.captured.result.now) (g.P.Packets.captures c.args.packets.now c.args.source.now) (λ bytes are. known bytes are ∙ sym c.captured.ensures)) (g.C.Scheduler.policy c.args.self.now.scheduler)
-          (Arrive c.next.new.packet ∷ []) _ _ _ _ (c.in_err-admit-in-Ok-true.ensures.err _ (record { numbered = (number, tt); sendable = (sendable, tt) }));
+          (Arrive c.next.new.packet ∷ []) _ _ _ _ (c.in_err-make_arrival-in-Ok-true.ensures.err _ (record { numbered = (number, tt); sendable = (sendable, tt) }));
     })
 
-pub returns-in_ok-admit-in-Ok-true-clause-ok : goal.returns-in_ok-admit-in-Ok-true-clause-ok
-returns-in_ok-admit-in-Ok-true-clause-ok g c =
+pub returns-in_ok-make_arrival-in-Ok-true-clause-ok : goal.returns-in_ok-make_arrival-in-Ok-true-clause-ok
+returns-in_ok-make_arrival-in-Ok-true-clause-ok g c =
     let number = c.in-Ok-true.ensures.number c.in-Ok-true.field-0-test in
     let sendable = subst (λ (q : Policy). IsSendable q c.next.new.packet) c.requires.packets (c.in-Ok-true.ensures.sendable c.in-Ok-true.field-0-test) in
     let given = rw c.in-Ok-true.field-0-test at c.in-Ok-true.ensures.given in
@@ -41,7 +41,7 @@ returns-in_ok-admit-in-Ok-true-clause-ok g c =
       count = refl;
       came = c.in-Ok-true.ensures.came c.in-Ok-true.field-0-test;
       made = makes_so g.C.Scheduler (heard_gives g.W.Recorder (IsCapturedAs c.next.new.packet c.captured.result.now) (g.P.Packets.captures c.args.packets.now c.args.source.now) (λ bytes are. known bytes are ∙ sym c.captured.ensures)) (g.C.Scheduler.policy c.args.self.now.scheduler)
-          (Arrive c.next.new.packet ∷ []) _ _ (rw given (c.in_ok-admit-in-Ok-true.ensures.ok _ (record { numbered = (number, tt); sendable = (sendable, tt) })));
+          (Arrive c.next.new.packet ∷ []) _ _ (rw given (c.in_ok-make_arrival-in-Ok-true.ensures.ok _ (record { numbered = (number, tt); sendable = (sendable, tt) })));
     }
 
 pub returns-in-Ok-false-clause-ok : goal.returns-in-Ok-false-clause-ok

@@ -9,8 +9,8 @@ use Rattle.sched_run.specs.Heard.{heard_without, any_bytes, no_bytes, IsCaptured
 use Rattle.sched_run.proofs.HeardLaws.{heard_gives, makes_so, stops_so}
 use Rattle.sched_run.proofs.run.Run.play_drawn.Goals as goal
 
-pub admit-requires-clause-stands : goal.admit-requires-clause-stands
-admit-requires-clause-stands g c =
+pub make_arrival-requires-clause-stands : goal.make_arrival-requires-clause-stands
+make_arrival-requires-clause-stands g c =
     let one = c.requires.stands in
     record {
       state = one.state;
@@ -24,22 +24,22 @@ returns-in-Some-clause-ok g c =
     let policy = g.C.Scheduler.policy c.args.self.now.scheduler in
     let sight = sight_of g.T.Tap.kind_of g.T.Tap.state_of in
     let is = c.in-Some.ensures.event in
-    subst (λ (e : Event). OnOk c.admit.result ((given : ℕ) → c.args.drawing.now.number ≡ given + 1 → Makes g.C.Scheduler (heard_without g.W.Recorder) policy (e ∷ [])
+    subst (λ (e : Event). OnOk c.make_arrival.result ((given : ℕ) → c.args.drawing.now.number ≡ given + 1 → Makes g.C.Scheduler (heard_without g.W.Recorder) policy (e ∷ [])
     (stage_of c.args.self.now c.args.under.now (g.K.Sink.written c.args.sink.now) given (sight c.args.watch.now))
-    (stage_of c.admit.new.self c.admit.new.under (g.K.Sink.written c.admit.new.sink) (given + arrivals_in (e ∷ [])) (sight c.admit.new.watch)))) is
-    (on_ok_weaker c.admit.result (λ all given number. makes_so g.C.Scheduler (heard_gives g.W.Recorder (IsCapturedAs c.in-Some.packet []) no_bytes (λ bytes none. none c.in-Some.packet.number)) policy (Arrive c.in-Some.packet ∷ []) _ _ (all given (subst (λ (e : Event). AreNext policy given (packets_in (e ∷ []))) (sym is)
-    (event_next policy c.args.drawing.now given c.requires.classes (omega (arith, c.requires.early)) number)))) c.admit.ensures.ok)
+    (stage_of c.make_arrival.new.self c.make_arrival.new.under (g.K.Sink.written c.make_arrival.new.sink) (given + arrivals_in (e ∷ [])) (sight c.make_arrival.new.watch)))) is
+    (on_ok_weaker c.make_arrival.result (λ all given number. makes_so g.C.Scheduler (heard_gives g.W.Recorder (IsCapturedAs c.in-Some.packet []) no_bytes (λ bytes none. none c.in-Some.packet.number)) policy (Arrive c.in-Some.packet ∷ []) _ _ (all given (subst (λ (e : Event). AreNext policy given (packets_in (e ∷ []))) (sym is)
+    (event_next policy c.args.drawing.now given c.requires.classes (omega (arith, c.requires.early)) number)))) c.make_arrival.ensures.ok)
 
 pub returns-in-Some-clause-err : goal.returns-in-Some-clause-err
 returns-in-Some-clause-err g c =
     let policy = g.C.Scheduler.policy c.args.self.now.scheduler in
     let sight = sight_of g.T.Tap.kind_of g.T.Tap.state_of in
     let is = c.in-Some.ensures.event in
-    subst (λ (e : Event). OnErr c.admit.result ((given : ℕ) → c.args.drawing.now.number ≡ given + 1 → Stops g.C.Scheduler (heard_without g.W.Recorder) policy (e ∷ [])
+    subst (λ (e : Event). OnErr c.make_arrival.result ((given : ℕ) → c.args.drawing.now.number ≡ given + 1 → Stops g.C.Scheduler (heard_without g.W.Recorder) policy (e ∷ [])
     (stage_of c.args.self.now c.args.under.now (g.K.Sink.written c.args.sink.now) given (sight c.args.watch.now))
-    c.admit.new.self.scheduler c.admit.new.under (g.K.Sink.written c.admit.new.sink))) is
-    (on_err_weaker c.admit.result (λ all given number. stops_so g.C.Scheduler (heard_gives g.W.Recorder (IsCapturedAs c.in-Some.packet []) no_bytes (λ bytes none. none c.in-Some.packet.number)) policy (Arrive c.in-Some.packet ∷ []) _ _ _ _ (all given (subst (λ (e : Event). AreNext policy given (packets_in (e ∷ []))) (sym is)
-    (event_next policy c.args.drawing.now given c.requires.classes (omega (arith, c.requires.early)) number)))) c.admit.ensures.err)
+    c.make_arrival.new.self.scheduler c.make_arrival.new.under (g.K.Sink.written c.make_arrival.new.sink))) is
+    (on_err_weaker c.make_arrival.result (λ all given number. stops_so g.C.Scheduler (heard_gives g.W.Recorder (IsCapturedAs c.in-Some.packet []) no_bytes (λ bytes none. none c.in-Some.packet.number)) policy (Arrive c.in-Some.packet ∷ []) _ _ _ _ (all given (subst (λ (e : Event). AreNext policy given (packets_in (e ∷ []))) (sym is)
+    (event_next policy c.args.drawing.now given c.requires.classes (omega (arith, c.requires.early)) number)))) c.make_arrival.ensures.err)
 
 pub returns-in_err-depart_next-in-None-clause-err : goal.returns-in_err-depart_next-in-None-clause-err
 returns-in_err-depart_next-in-None-clause-err g c =

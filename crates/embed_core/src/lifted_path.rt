@@ -1,0 +1,77 @@
+//! Ways down to leaves that are laid into a target beforehand.
+ghost use Rattle.std.specs.Prelude.{◌≡◌, ◌+◌, ◌<◌, length, map, slice_index, IfOk};
+ghost use Rattle.std.specs.List.{AllByRecursion};
+ghost use Rattle.tree_defs.specs.Tree.{LeadsToLeaf};
+ghost use Rattle.embed_defs.specs.GoodMaps.{IsGoodMap};
+ghost use Rattle.embed_core.specs.Lanes.{IsLaneTo};
+
+use crate::map::{Map, lift};
+use crate::way::Way;
+use std::alloc::{AllocError, Global};
+
+/// The image of a leaf, and for each rank that a lift has along it the step of the way to the leaf whose rank that is.
+#[derive(Drop)]
+pub struct LiftedPath {
+    image: Vec<u32>,
+    steps: Vec<u64>,
+}
+
+impl LiftedPath {
+    /// The lane to the leaf at an address, in a target of this height. The error is want of memory.
+    pub fn to(alloc: Global, map: &Map, address: &[u32], height: usize) -> Result<LiftedPath, AllocError>
+        requires leaf { LeadsToLeaf map.now address.now }
+        requires good { IsGoodMap height map.now }
+        ensures lane { IfOk result (IsLaneTo map.now address.now) }
+    {
+        let mut image = vec![in alloc; 0; height]?;
+        let mut steps = vec![in alloc; 0; height + 1]?;
+        lift(map, &Steps { address }, &mut image, &mut steps);
+        Ok(LiftedPath { image, steps })
+    }
+
+    /// The leaf's image.
+    pub fn image(&self) -> &[u32]
+        ensures image { result.now ≡ self.now.image.items }
+    {
+        &self.image
+    }
+
+    /// Sets `lifted` to the lift of ranks on the way to the leaf.
+    pub fn lift(&self, ranks: &[u64], lifted: &mut [u64])
+        requires within { AllByRecursion (λ step. step < length ranks.now) self.now.steps.items }
+        requires long { length lifted.old ≡ length self.now.steps.items }
+        ensures lifted { lifted.new ≡ map (slice_index ranks.now) self.now.steps.items }
+    {
+        let steps = self.steps.as_slice();
+        for place in 0..lifted.len() {
+            lifted[place] = ranks[steps[place] as usize];
+        }
+    }
+}
+
+/// The way to a leaf with the number of each step as its rank.
+#[derive(Drop)]
+struct Steps<'a> {
+    address: &'a [u32],
+}
+
+impl<'a> Way for Steps<'a> {
+    ghost use Rattle.std.specs.Prelude.{◌+◌, length};
+    ghost use Rattle.std.specs.List.{range_with_len};
+
+    ghost digits = { λ steps. steps.address.now };
+
+    ghost ranks = { λ steps. range_with_len 0 (length steps.address.now + 1) };
+
+    fn steps(&self) -> usize {
+        self.address.len()
+    }
+
+    fn digit(&self, step: usize) -> u32 {
+        self.address[step]
+    }
+
+    fn rank(&self, step: usize) -> u64 {
+        step as u64
+    }
+}

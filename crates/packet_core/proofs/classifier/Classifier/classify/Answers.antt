@@ -1,0 +1,15 @@
+use Rattle.std.proofs.Common.{sym, ◌∙◌, subst}
+use Rattle.packet_defs.specs.declared.fields.Fields.{Fields}
+use Rattle.packet_core.specs.Classes.{IsSorted}
+use Rattle.packet_core.specs.Classifier.{policy_of}
+use Rattle.packet_core.proofs.FieldsThere.{raw-ipv4, frame-link}
+use Rattle.packet_core.proofs.classifier.Classifier.classify.Goals as goal
+
+pub returns-in-1 : goal.returns-in-1
+returns-in-1 c =
+    subst (λ (f : Fields). IsSorted (policy_of c.args.self.now) f c.args.packet.now c.put_ethernet.new.packet) (sym (frame-link c.args.link c.args.bytes.now c.in-1.is)) c.put_ethernet.ensures
+
+pub returns-in-101 : goal.returns-in-101
+returns-in-101 c =
+    subst (λ (f : Fields). IsSorted (policy_of c.args.self.now) f c.args.packet.now c.put.new.packet)
+    (c.ipv4_fields.ensures ∙ sym (raw-ipv4 c.args.link c.args.bytes.now c.in-101.is (sym c.is_ipv4.ensures ∙ c.if-is_ipv4.true))) c.put.ensures

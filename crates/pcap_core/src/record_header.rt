@@ -1,0 +1,70 @@
+//! The sixteen bytes count a record's captured ones.
+ghost use Rattle.std.specs.Prelude.{◌≡◌, ◌≤◌, ◌<◌, ◌+◌, ◌*◌, ◌^◌, length, IfOk, IfErr, IsSomeAnd};
+ghost use Rattle.pcap_defs.specs.Number.{long_at};
+ghost use Rattle.pcap_defs.specs.Record.{captured_len, moment_at, most_captured, most_records};
+ghost use Rattle.pcap_core.specs.Faults.{fault_in};
+ghost use Rattle.pcap_core.specs.Frames.{IsFrontFault};
+
+use crate::fault::CaptureFault;
+use capture_core::read_long;
+use pcap_defs::Head;
+
+/// The bytes of a record count its captured ones.
+pub const RECORD_LEN: usize = 16;
+
+/// The most bytes that a record may capture.
+const MOST_CAPTURED: u32 = 262_144;
+
+/// What a record says of its captured bytes.
+#[derive(Clone, Copy)]
+pub struct RecordHeader {
+    pub moment: u64,
+    pub captured: u32,
+    pub len: u32,
+}
+
+/// The moment in nanoseconds of a record that begins so.
+#[inline(always)]
+fn moment(head: Head, bytes: &[u8]) -> u64
+    requires { 16 ≤ length bytes.now }
+    ensures value { result ≡ moment_at head.nano (long_at head.big 0 bytes.now) (long_at head.big 4 bytes.now) }
+    ensures bound { result < 2 ^ 62 }
+{
+    let seconds = u64::from(read_long(head.big, bytes, 0));
+    let fraction = u64::from(read_long(head.big, bytes, 4));
+    seconds * 1_000_000_000 + if head.nano { fraction } else { fraction * 1000 }
+}
+
+/// What a record says that begins so, behind some records. These are its first bytes, up to the
+/// sixteenth.
+#[inline(always)]
+pub fn preface_in(head: Head, count: u32, bytes: &[u8]) -> Result<RecordHeader, CaptureFault>
+    requires some { 0 < length bytes.now }
+    requires bound { length bytes.now ≤ 16 }
+    ensures whole { IfOk result (λ p. length bytes.now ≡ 16) }
+    ensures few { IfOk result (λ p. count < most_records) }
+    ensures moment { IfOk result (λ p.
+        p.moment ≡ moment_at head.nano (long_at head.big 0 bytes.now) (long_at head.big 4 bytes.now)) }
+    ensures moment_bound { IfOk result (λ p. p.moment < 2 ^ 62) }
+    ensures captured { IfOk result (λ p. p.captured ≡ captured_len head.big bytes.now) }
+    ensures short { IfOk result (λ p. p.captured ≤ most_captured) }
+    ensures len { IfOk result (λ p. p.len ≡ long_at head.big 12 bytes.now) }
+    ensures fault { IfErr result (λ e. IsSomeAnd (fault_in e) (IsFrontFault head.big count bytes.now)) }
+{
+    let number = u64::from(count) + 1;
+    if count == u32::MAX {
+        return Err(CaptureFault::TooMany);
+    }
+    if bytes.len() < RECORD_LEN {
+        return Err(CaptureFault::RecordCut(number));
+    }
+    let captured = read_long(head.big, bytes, 8);
+    if captured > MOST_CAPTURED {
+        return Err(CaptureFault::RecordLong(number));
+    }
+    Ok(RecordHeader {
+        moment: moment(head, bytes),
+        captured,
+        len: read_long(head.big, bytes, 12),
+    })
+}

@@ -1,0 +1,26 @@
+use Rattle.std.proofs.Common.{◌∙◌, ◌++◌, ap, sym, List, []}
+use Rattle.std.specs.List.{cons_option}
+use Rattle.policy_text_defs.specs.Sense.{sense_of}
+use Rattle.policy_defs.specs.Policy.{Node}
+use Rattle.policy_rules.specs.Names.{before}
+use Rattle.policy_rules.specs.Entries.{entries_of}
+use Rattle.policy_rules.specs.Graph.{node_in}
+use Rattle.policy_core.specs.Made.{AreMore}
+use Rattle.policy_rules.proofs.Lines.{given-more}
+use Rattle.policy_core.proofs.StatementUses.{known-here}
+use Rattle.policy_core.proofs.nodes.stations.Goals as goal
+
+pub loop-statement-preserved : goal.loop-statement-preserved
+loop-statement-preserved c =
+    let es = entries_of c.args.lines.now in
+    let l = c.loop-statement-item.result in
+    let i = c.loop-statement.statement-index in
+    let more : AreMore es (sense_of l.1) c.loop-statement.stations c.add_station.new.stations =
+    c.in_ok-add_station.ensures.added es c.requires.rising c.requires.few c.requires.transactions (before l.0 es)
+    (known-here c.args.lines.now i l c.requires.few.0.1 c.loop-statement-test.true c.loop-statement-item.is) c.loop-statement.invariant.programs in
+    record {
+      nodes = more.nodes
+          ∙ ap (λ (ns : List Node). ns ++ cons_option (node_in es (sense_of l.1)) []) c.loop-statement.invariant.nodes
+          ∙ sym (given-more (node_in es) c.args.lines.now i l c.loop-statement-test.true c.loop-statement-item.is);
+      programs = more.programs;
+    }

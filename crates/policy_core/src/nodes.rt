@@ -1,0 +1,98 @@
+//! The stations of the nodes and leaves that statements declare.
+ghost use Rattle.std.specs.Prelude.{◌≡◌, true, List, IfOk, OnOk};
+ghost use Rattle.policy_text_defs.specs.Sense.{Entry, sense_of};
+ghost use Rattle.policy_rules.specs.Accepted.{AreFew};
+ghost use Rattle.policy_rules.specs.Clauses.{is_known, is_transaction_known};
+ghost use Rattle.policy_rules.specs.Entries.{entries_of, AreRising};
+ghost use Rattle.policy_rules.specs.Graph.{nodes_in};
+ghost use Rattle.policy_rules.specs.Names.{declared, transaction_name};
+ghost use Rattle.policy_rules.specs.Resolved.{marks_of};
+ghost use Rattle.policy_statements.specs.Known.{known_programs, WhereDeclared};
+ghost use Rattle.policy_core.specs.Made.{nodes_told, IsPlaceOf, IsStationOf, AreMore};
+ghost use Rattle.policy_core.specs.Parts.{HavePrograms, told};
+
+use crate::parts::{Marks, PolicyNode};
+use list_core::{List, Name};
+use policy_statements::Names;
+use policy_statements::program_place;
+use policy_text_defs::{Attrs, Statement};
+use std::alloc::{AllocError, Global};
+
+/// The marks that attributes set. The others are 0, 1 and 0.
+pub(crate) fn marks(attrs: &Attrs) -> Marks
+    ensures { told result ≡ marks_of attrs.now }
+{
+    Marks {
+        prio: attrs.prio.unwrap_or(0),
+        weight: attrs.weight.unwrap_or(1),
+        slack: attrs.slack.unwrap_or(0),
+    }
+}
+
+/// The place of the program that a name means.
+fn program(transactions: &Names<'_>, used: &str) -> usize
+    ensures program { WhereDeclared transactions.now (λ es. is_transaction_known es used.now ≡ true → IsPlaceOf es used.now result) }
+{
+    program_place(transactions, used).unwrap_or(0)
+}
+
+/// The station of a node or leaf.
+fn station(
+    alloc: Global,
+    transactions: &Names<'_>,
+    name: &Name,
+    used: &Name,
+    attrs: &Attrs,
+    limit: Option<u32>,
+) -> Result<PolicyNode, AllocError>
+    ensures station { WhereDeclared transactions.now (λ es. is_transaction_known es used.now ≡ true
+        → IfOk result (IsStationOf es name.now used.now attrs.now limit)) }
+{
+    Ok(PolicyNode {
+        name: Name::new(alloc, name.as_str())?,
+        using: Name::new(alloc, used.as_str())?,
+        program: program(transactions, used.as_str()),
+        marks: marks(attrs),
+        limit,
+    })
+}
+
+/// Adds the station of a statement that declares a node or leaf.
+fn add_station(
+    alloc: Global,
+    stations: &mut List<PolicyNode>,
+    transactions: &Names<'_>,
+    statement: &Statement,
+) -> Result<(), AllocError>
+    ensures added { WhereDeclared transactions.now (λ es. (earlier : List Entry) → is_known es earlier (sense_of statement.now) ≡ true
+        → HavePrograms stations.old (known_programs es) → OnOk result (AreMore es (sense_of statement.now) stations.old stations.new)) }
+{
+    match statement {
+        Statement::Leaf(name, used, attrs, limit, _) => {
+            stations.push(station(alloc, transactions, name, used, attrs, *limit)?)
+        }
+        Statement::Node(name, used, attrs, _) => {
+            stations.push(station(alloc, transactions, name, used, attrs, None)?)
+        }
+        _ => Ok(()),
+    }
+}
+
+/// The stations of all nodes and leaves, in the order of their statements. The error is want of memory.
+pub(crate) fn stations(
+    alloc: Global,
+    lines: &[(u32, Statement)],
+    transactions: &Names<'_>,
+) -> Result<List<PolicyNode>, AllocError>
+    requires rising { AreRising (entries_of lines.now) }
+    requires few { AreFew (entries_of lines.now) }
+    requires transactions { transactions.now ≡ declared transaction_name (entries_of lines.now) }
+    ensures nodes { IfOk result (λ all. nodes_told (known_programs (entries_of lines.now)) all ≡ nodes_in (entries_of lines.now)) }
+    ensures programs { IfOk result (λ all. HavePrograms all (known_programs (entries_of lines.now))) }
+{
+    let mut stations = List::from_vec(Vec::new(alloc));
+    for (_, statement) in lines {
+        add_station(alloc, &mut stations, transactions, statement)?;
+    }
+    Ok(stations)
+}

@@ -1,0 +1,22 @@
+use Rattle.std.proofs.Common.{sym, subst, get_or}
+use Rattle.tree_defs.specs.Tree.{LeadsToLeaf}
+use Rattle.policy_core.specs.declared.parts.Class.{Class}
+use Rattle.policy_core.specs.Numbering.{address_at}
+use Rattle.policy_core.specs.Parts.{class_in}
+use Rattle.sched_core.specs.Waypoints.{AreWaypoints}
+use Rattle.sched_core.proofs.WaypointsMade.{class-leads, ways-more}
+use Rattle.sched_core.proofs.path_node.all_waypoints.Goals as goal
+
+pub waypoints_of-requires-clause-leads : goal.waypoints_of-requires-clause-leads
+waypoints_of-requires-clause-leads c =
+    let policy = c.args.policy.now.policy in
+    let leads : LeadsToLeaf policy.tree (address_at policy.tree (get_or c.classes-classes.result.now c.loop-class.class-index c.class-item.result).leaf)
+    = class-leads policy c.classes-classes.result.now c.classes-classes.ensures.classes c.classes-classes.ensures.accepted c.loop-class.class-index c.class-item.result c.loop-class-test.true in
+    subst (λ (k : Class). LeadsToLeaf policy.tree (address_at policy.tree k.leaf)) (sym c.class-item.is) leads
+
+pub loop-class-preserved : goal.loop-class-preserved
+loop-class-preserved c =
+    let policy = c.args.policy.now.policy in
+    ways-more policy c.classes-classes.result.now c.classes-classes.ensures.classes c.loop-class.ways.items c.push.new.self.items c.loop-class.class-index c.class-item.result c.in_ok-waypoints_of.field-0
+    c.loop-class-test.true c.loop-class.invariant c.in_ok-push.ensures.items
+    (subst (λ (k : Class). AreWaypoints policy.tree (class_in policy.tree k) c.in_ok-waypoints_of.field-0.items) c.class-item.is c.in_ok-waypoints_of.ensures)

@@ -1,0 +1,11 @@
+use Rattle.std.proofs.Common.{◌≡◌, take}
+use Rattle.policy_defs.specs.Numbers.{number_at}
+use Rattle.policy_core.specs.Parts.{class_in}
+use Rattle.sched_core.proofs.WaypointsMade.{HaveStops}
+use Rattle.sched_core.proofs.path_node.waypoints_of.Given as goal
+
+abbrev pub invariant-loop-digit : goal.invariant-loop-digit
+invariant-loop-digit l = record {
+  node : l.node ≡ number_at l.policy.policy.tree (take l.digit-index l.digits);
+  waypoints : HaveStops l.policy.policy.tree (class_in l.policy.policy.tree l.class) l.waypoints.items l.digit-index;
+}

@@ -1,0 +1,87 @@
+use Rattle.std.proofs.Common.{◌≡◌, ℕ, None, Option, Some, is_some, if◌then◌else◌, ◌==◌, true≢false, sym, ap, ◌∙◌, subst, List, refl, arith}
+use Rattle.tree_defs.proofs.WellFormedLaws.{size-pop}
+use Rattle.packet_defs.specs.declared.packet.Packet.{Packet}
+use Rattle.policy_defs.specs.Policy.{Policy}
+use Rattle.policy_defs.specs.Numbers.{number_at}
+use Rattle.sched_defs.specs.Visits.{after_pops}
+use Rattle.sched_defs.specs.SourceState.{way_out}
+use Rattle.sched_defs.specs.Laws.{LeavesItsLeaf}
+use Rattle.sched_core.specs.Agreement.{policy_of, AreStates}
+use Rattle.sched_core.specs.Arrivals.{leaf_number}
+use Rattle.sched_core.specs.PolicyState.{policy_in}
+use Rattle.sched_core.proofs.Filling.{count-within, count-some, filled-left}
+use Rattle.sched_core.proofs.PoppedPackets.{taken, is_held, leaves, leaver-popped, departed-popped}
+use Rattle.sched_core.proofs.policy_state.PolicyState.release.Goals as goal
+
+pub unreachable-requires : goal.unreachable-requires
+unreachable-requires c =
+    let r = c.requires.stands in
+    let held = is_held (policy_in c.args.self.now) r.state c.args.number c.args.digits.now c.args.ranks.now r.has r.sound in
+    let none : None ≡ Some held.0 = sym c.if-not-take.ensures.value ∙ r.stood.held c.args.number ∙ held.1 in
+    absurd (true≢false (sym (ap is_some none)))
+
+pub pop_steps-requires-clause-leaf_address : goal.pop_steps-requires-clause-leaf_address
+pop_steps-requires-clause-leaf_address c =
+    let r = c.requires.stands in
+    (leaves (policy_in c.args.self.now) r.state c.args.number c.args.digits.now c.args.ranks.now r.has r.sound c.take.new.packet (sym (r.stood.held c.args.number) ∙ c.if-not-take.ensures.value)).leaf_is
+
+pub pop_steps-requires-clause-even : goal.pop_steps-requires-clause-even
+pop_steps-requires-clause-even c =
+    let r = c.requires.stands in
+    (leaves (policy_in c.args.self.now) r.state c.args.number c.args.digits.now c.args.ranks.now r.has r.sound c.take.new.packet (sym (r.stood.held c.args.number) ∙ c.if-not-take.ensures.value)).ranks.count
+
+pub pop_steps-requires-clause-limit : goal.pop_steps-requires-clause-limit
+pop_steps-requires-clause-limit c =
+    let r = c.requires.stands in
+    (leaves (policy_in c.args.self.now) r.state c.args.number c.args.digits.now c.args.ranks.now r.has r.sound c.take.new.packet (sym (r.stood.held c.args.number) ∙ c.if-not-take.ensures.value)).ranks.low
+
+pub index_mut-requires : goal.index_mut-requires
+index_mut-requires c =
+    let policy : Policy = policy_in c.args.self.now in
+    let r = c.requires.stands in
+    let p : Packet = c.take.new.packet in
+    let held : r.state.held c.args.number ≡ Some p = sym (r.stood.held c.args.number) ∙ c.if-not-take.ensures.value in
+    let is : c.leaf-leaf.result ≡ leaf_number policy p = c.leaf-leaf.ensures.number ∙ ap (λ (z : Policy). leaf_number z p) c.pop_steps.ensures.policy in
+    let within = count-within policy c.requires.accepted p (r.sound.known c.args.number p held).class c.args.self.now.filled.items r.state r.stood.filled c.leaf-leaf.result is in
+    omega (arith, within, c.args.self.now.filled.ok)
+
+pub overflow_sub-index_mut : goal.overflow_sub-index_mut
+overflow_sub-index_mut c =
+    let policy : Policy = policy_in c.args.self.now in
+    let r = c.requires.stands in
+    let p : Packet = c.take.new.packet in
+    let held : r.state.held c.args.number ≡ Some p = sym (r.stood.held c.args.number) ∙ c.if-not-take.ensures.value in
+    let is : c.leaf-leaf.result ≡ leaf_number policy p = c.leaf-leaf.ensures.number ∙ ap (λ (z : Policy). leaf_number z p) c.pop_steps.ensures.policy in
+    let some = count-some policy c.requires.accepted p (r.sound.known c.args.number p held).class c.args.self.now.filled.items r.state r.stood.filled c.leaf-leaf.result is c.index_mut.result.now c.index_mut.ensures.value
+    (taken policy r.state c.args.number c.args.digits.now c.args.ranks.now r.has) r.has.popped
+    (leaves policy r.state c.args.number c.args.digits.now c.args.ranks.now r.has r.sound p held).leaf_is in
+    omega (arith, some)
+
+pub returns-clause-state : goal.returns-clause-state
+returns-clause-state c = λ s sound own next.
+    let policy : Policy = policy_in c.args.self.now in
+    let p : Packet = c.take.new.packet in
+    let held : s.held c.args.number ≡ Some p = sym (own.held c.args.number) ∙ c.if-not-take.ensures.value in
+    let is : c.leaf-leaf.result ≡ leaf_number policy p = c.leaf-leaf.ensures.number ∙ ap (λ (z : Policy). leaf_number z p) c.pop_steps.ensures.policy in
+    rw (departed-popped policy s c.args.number c.args.digits.now c.args.ranks.now next p held) record {
+      nodes = subst (λ (m : ℕ). AreStates c.pop_steps.new.self (after_pops (way_out policy p c.args.digits.now m) c.args.ranks.now s.nodes)) (sym own.now)
+          (c.pop_steps.ensures.states s.nodes own.nodes);
+      held = λ n. c.take.ensures.rest n ∙ ap (λ (o : Option Packet). if n == c.args.number then None else o) (own.held n);
+      filled = filled-left policy c.requires.accepted p (sound.known c.args.number p held).class c.args.self.now.filled.items s own.filled c.leaf-leaf.result is c.index_mut.result.now c.index_mut.ensures.value
+          (taken policy s c.args.number c.args.digits.now c.args.ranks.now next) next.popped
+          (leaves policy s c.args.number c.args.digits.now c.args.ranks.now next sound p held).leaf_is
+          (policy_of c.pop_steps.new.self) c.pop_steps.ensures.policy;
+      few = omega (arith, own.few, size-pop s.tree (taken policy s c.args.number c.args.digits.now c.args.ranks.now next) next.popped);
+      now = own.now;
+    }
+
+pub returns-clause-value : goal.returns-clause-value
+returns-clause-value c = λ s sound own next.
+    let policy : Policy = policy_in c.args.self.now in
+    let p : Packet = c.take.new.packet in
+    let held : s.held c.args.number ≡ Some p = sym (own.held c.args.number) ∙ c.if-not-take.ensures.value in
+    let l : LeavesItsLeaf policy s (record { packet = p; digits = c.args.digits.now; ranks = c.args.ranks.now }) = leaves policy s c.args.number c.args.digits.now c.args.ranks.now next sound p held in
+    let number : p.number ≡ c.args.number = sound.numbered c.args.number p held in
+    let leaf : number_at policy.tree c.args.digits.now ≡ c.leaf-leaf.result
+    = ap (λ (a : List ℕ). number_at policy.tree a) l.leaf_is ∙ ap (λ (z : Policy). leaf_number z p) (sym c.pop_steps.ensures.policy) ∙ sym c.leaf-leaf.ensures.number in
+    rw (leaver-popped policy s c.args.number c.args.digits.now c.args.ranks.now next p held, number, leaf) refl

@@ -1,0 +1,113 @@
+//! The stations of a policy.
+ghost use Rattle.std.specs.Prelude.{◌≡◌, ◌≤◌, ◌<◌, ◌+◌, length, IfOk, OnOk};
+ghost use Rattle.tree_defs.specs.Tree.{depth};
+ghost use Rattle.rank_defs.specs.Programs.{max_rank};
+ghost use Rattle.packet_defs.specs.declared.packet.Packet.{Packet as Known};
+ghost use Rattle.sched_defs.specs.Visits.{States, ranks_pushed, after_pushes, after_pops};
+ghost use Rattle.sched_defs.specs.SourceState.{first_states, class_of, way_in, way_out};
+ghost use Rattle.sched_defs.specs.Sound.{IsKnown};
+ghost use Rattle.sched_core.specs.Kept.{AreStations, AreStations-prop};
+ghost use Rattle.sched_core.specs.Waypoints.{AreWays, AreWays-prop};
+
+use crate::first::first_states;
+use crate::packet_path::PacketPath;
+use crate::walk::{pop_along, push_along};
+use crate::path_node::{PathNode, all_waypoints};
+use packet_defs::Packet;
+use policy_core::Policy;
+use rank_core::{NodeState, Who};
+use std::alloc::{AllocError, Global};
+use tree_core::Taken;
+
+/// The variables of a policy's nodes and leaves, with room for flows at the leaves, and the nodes on the way of each class.
+#[derive(Drop)]
+pub struct NodeStates<'a> {
+    policy: &'a Policy,
+    states: Vec<NodeState>,
+    ways: Vec<Vec<PathNode<'a>>>,
+    ghost kept: { AreStations policy.now.policy.tree states.items } by { AreStations-prop policy.now.policy.tree states.items },
+    ghost known: { AreWays policy.now.policy ways.items } by { AreWays-prop policy.now.policy ways.items },
+}
+
+impl<'a> NodeStates<'a> {
+    ghost use Rattle.sched_core.specs.Agreement.{policy_of, AreStates, HasFlowRoom, ForStates, StatesBecome};
+    ghost use Rattle.sched_core.specs.Ways.{AreLowRanks};
+
+    /// All variables hold their first values. The error is want of memory.
+    pub fn new(alloc: Global, policy: &'a Policy) -> Result<NodeStates<'a>, AllocError>
+        ensures policy { IfOk result (λ s. policy_of s ≡ policy.now.policy) }
+        ensures first { IfOk result (λ s. AreStates s (first_states policy.now.policy.tree)) }
+    {
+        Ok(NodeStates {
+            policy,
+            states: first_states(alloc, policy)?,
+            ways: all_waypoints(alloc, policy)?,
+        })
+    }
+
+    pub fn policy(&self) -> &'a Policy
+        ensures policy { result.now.policy ≡ policy_of self.now }
+    {
+        self.policy
+    }
+
+    /// Makes room for a packet's flow at the leaf of its class. The error is want of memory.
+    pub fn reserve(&mut self, packet: &Packet) -> Result<(), AllocError>
+        requires class { packet.now.class < length (policy_of self.old).classes }
+        ensures room { OnOk result (HasFlowRoom self.new packet.now) }
+        ensures states { (values : States) → AreStates self.old values → AreStates self.new values }
+        ensures kept { (other : Known) → HasFlowRoom self.old other → HasFlowRoom self.new other }
+        ensures policy { policy_of self.new ≡ policy_of self.old }
+    {
+        let leaf = self.policy.classes()[packet.class as usize].leaf;
+        self.states[leaf as usize].reserve(&Who::Flow(packet.flow))
+    }
+
+    /// Runs the push steps from the root to the leaf of a packet's class, and sets `trace` to the digits and the ranks. `moment`
+    /// is what the steps are told as `now`, in nanoseconds. Takes no memory.
+    pub fn push_steps(&mut self, packet: &Packet, moment: u64, trace: &mut Taken)
+        requires known { IsKnown (policy_of self.old) packet.now }
+        requires moment { moment ≤ max_rank }
+        requires room { HasFlowRoom self.old packet.now }
+        requires levels { depth (policy_of self.old).tree ≤ trace.old.room }
+        ensures digits { trace.new.digits ≡ (class_of (policy_of self.old) packet.now).leaf }
+        ensures ranks { ForStates self.old (λ v. trace.new.ranks ≡ ranks_pushed v (way_in (policy_of self.old) packet.now moment)) }
+        ensures states { StatesBecome self.old self.new (after_pushes (way_in (policy_of self.old) packet.now moment)) }
+        ensures limit { AreLowRanks trace.new.ranks }
+        ensures kept { (other : Known) → HasFlowRoom self.old other → HasFlowRoom self.new other }
+        ensures policy { policy_of self.new ≡ policy_of self.old }
+        ensures spare { trace.new.room ≡ trace.old.room }
+    {
+        let passage = PacketPath {
+            policy: self.policy,
+            class: &self.policy.classes()[packet.class as usize],
+            waypoints: self.ways[packet.class as usize].as_slice(),
+            packet,
+            moment,
+        };
+        push_along(self.states.as_mut_slice(), &passage, trace);
+    }
+
+    /// Runs the pop steps from the root to the leaf of a packet's class, with the ranks that were taken on these digits. `moment`
+    /// is what the steps are told as `now`, in nanoseconds. Takes no memory.
+    pub fn pop_steps(&mut self, packet: &Packet, digits: &[u32], ranks: &[u64], moment: u64)
+        requires known { IsKnown (policy_of self.old) packet.now }
+        requires moment { moment ≤ max_rank }
+        requires room { HasFlowRoom self.old packet.now }
+        requires leaf_address { digits.now ≡ (class_of (policy_of self.old) packet.now).leaf }
+        requires even { length ranks.now ≡ length digits.now + 1 }
+        requires limit { AreLowRanks ranks.now }
+        ensures states { StatesBecome self.old self.new (after_pops (way_out (policy_of self.old) packet.now digits.now moment) ranks.now) }
+        ensures kept { (other : Known) → HasFlowRoom self.old other → HasFlowRoom self.new other }
+        ensures policy { policy_of self.new ≡ policy_of self.old }
+    {
+        let passage = PacketPath {
+            policy: self.policy,
+            class: &self.policy.classes()[packet.class as usize],
+            waypoints: self.ways[packet.class as usize].as_slice(),
+            packet,
+            moment,
+        };
+        pop_along(self.states.as_mut_slice(), &passage, digits, ranks);
+    }
+}

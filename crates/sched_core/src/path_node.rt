@@ -1,0 +1,92 @@
+//! The nodes on the way of each class.
+ghost use Rattle.std.specs.Prelude.{◌≡◌, ◌<◌, IfOk};
+ghost use Rattle.tree_defs.specs.Tree.{LeadsToLeaf, nodes};
+ghost use Rattle.rank_defs.specs.Programs.{program_of};
+ghost use Rattle.policy_core.specs.Numbering.{address_at, HasAt};
+ghost use Rattle.policy_core.specs.Parts.{class_in, told};
+ghost use Rattle.sched_core.specs.Waypoints.{rank_told, AreWaypoints, AreWays};
+
+use policy_core::{Class, Marks, Policy};
+use range_core::Checked;
+use rank_core::{Aim, Expr, Transaction, Var};
+use std::alloc::{AllocError, Global};
+
+/// A node on the way of a class: its number, its transaction, the marks that its steps are told, and the rank that its push
+/// step gives, where these marks alone tell it and the step does nothing else.
+#[derive(Drop)]
+pub struct PathNode<'a> {
+    pub node: u32,
+    pub checked: &'a Checked,
+    pub marks: Marks,
+    pub told: Option<u64>,
+}
+
+/// The rank that a push step gives, where marks alone tell it and the step does nothing else: 0 where it has no lines.
+fn rank_told(transaction: &Transaction, marks: &Marks) -> Option<u64>
+    ensures { result ≡ rank_told (program_of transaction.now).push (told marks.now) }
+{
+    match transaction.push.as_slice() {
+        [] => Some(0),
+        [assign] => match (assign.aim, &assign.value) {
+            (Aim::Rank, Expr::Var(Var::Prio)) => Some(u64::from(marks.prio)),
+            (Aim::Rank, Expr::Var(Var::Weight)) => Some(u64::from(marks.weight)),
+            (Aim::Rank, Expr::Var(Var::Slack)) => Some(marks.slack),
+            _ => None,
+        },
+        _ => None,
+    }
+}
+
+/// The waypoint of a node whose steps are told these marks.
+fn waypoint_at<'a>(policy: &'a Policy, node: u32, marks: Marks) -> PathNode<'a>
+    requires there { node < nodes policy.now.policy.tree }
+    ensures node { result.node ≡ node }
+    ensures program { HasAt policy.now.policy.tree node (λ n. result.checked.now ≡ n.program) }
+    ensures marks { result.marks ≡ marks }
+    ensures told { result.told ≡ rank_told result.checked.now.push (told marks) }
+{
+    let checked = policy.checked(node);
+    PathNode {
+        node,
+        checked,
+        marks,
+        told: rank_told(checked.transaction(), &marks),
+    }
+}
+
+/// The nodes on the way of a class, from the root down.
+fn waypoints_of<'a>(
+    alloc: Global,
+    policy: &'a Policy,
+    class: &Class,
+) -> Result<Vec<PathNode<'a>>, AllocError>
+    requires there { class.now.leaf < nodes policy.now.policy.tree }
+    requires leads { LeadsToLeaf policy.now.policy.tree (address_at policy.now.policy.tree class.now.leaf) }
+    ensures { IfOk result (λ waypoints. AreWaypoints policy.now.policy.tree (class_in policy.now.policy.tree class.now) waypoints.items) }
+{
+    let digits = policy.address(class.leaf);
+    let mut waypoints = Vec::with_capacity(alloc, digits.len() + 1)?;
+    let mut node = 0;
+    for digit in digits {
+        let child = policy.child(node, *digit);
+        waypoints.push(waypoint_at(policy, node, policy.attrs(child)))?;
+        node = child;
+    }
+    waypoints.push(waypoint_at(policy, node, class.marks))?;
+    Ok(waypoints)
+}
+
+/// The nodes on the ways of all classes, by the classes' numbers.
+pub fn all_waypoints<'a>(
+    alloc: Global,
+    policy: &'a Policy,
+) -> Result<Vec<Vec<PathNode<'a>>>, AllocError>
+    ensures { IfOk result (λ ways. AreWays policy.now.policy ways.items) }
+{
+    let classes = policy.classes();
+    let mut ways = Vec::with_capacity(alloc, classes.len())?;
+    for class in classes {
+        ways.push(waypoints_of(alloc, policy, class)?)?;
+    }
+    Ok(ways)
+}

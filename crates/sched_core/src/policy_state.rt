@@ -1,0 +1,191 @@
+//! What each scheduler keeps itself.
+ghost use Rattle.std.specs.Prelude.{◌≡◌, ◌<◌, ◌≤◌, ◌+◌, ◌^◌, ℕ, Some, is_ok, if◌then◌else◌, OnOk, OnErr, IfOk};
+ghost use Rattle.std.proofs.Props.{props};
+ghost use Rattle.tree_defs.specs.Tree.{depth};
+ghost use Rattle.tree_defs.specs.SourceTree.{size};
+ghost use Rattle.packet_defs.specs.declared.packet.Packet.{Packet as Known};
+ghost use Rattle.policy_defs.specs.Accepted.{IsAccepted};
+ghost use Rattle.sched_defs.specs.SourceState.{SourceState, start, class_of, arrival_ranks, is_full, dropped, pushed, departed};
+ghost use Rattle.sched_defs.specs.Sound.{IsKnown};
+ghost use Rattle.sched_defs.specs.Events.{CanArrive};
+ghost use Rattle.sched_core.specs.Agreement.{HasFlowRoom};
+ghost use Rattle.sched_core.specs.Arrivals.{leaf_number};
+ghost use Rattle.sched_core.specs.Departures.{next_departed};
+ghost use Rattle.sched_held.specs.Held.{held_at};
+
+use packet_defs::{Departed, Packet};
+use policy_core::Policy;
+use sched_defs::BLANK;
+use sched_held::Held;
+use crate::node_states::NodeStates;
+use std::alloc::{AllocError, Global};
+use tree_core::Taken;
+
+/// What a scheduler keeps itself, whatever holds its queues: the nodes' variables, the held packets, how many of them stand at
+/// each leaf (by the numbers of nodes), and the greatest moment.
+/// The flow of each held packet has room at its leaf, so a departure takes no memory.
+#[derive(Drop)]
+pub struct PolicyState<'a> {
+    stations: NodeStates<'a>,
+    held: Held,
+    filled: Vec<u64>,
+    moment: u64,
+    pushes: u64,
+    departures: u64,
+    ghost room: { (n : ℕ) (p : Known) → held_at held n ≡ Some p → HasFlowRoom stations p } by { Prim.hlevel props },
+}
+
+impl<'a> PolicyState<'a> {
+    ghost use Rattle.sched_core.specs.PolicyState.{policy_in, IsOwn, IsOfOne, IsOfEach, IsOfEachPopping, PopsNext};
+
+    /// No packet came yet. The error is want of memory.
+    pub fn new(alloc: Global, policy: &'a Policy) -> Result<PolicyState<'a>, AllocError>
+        ensures start { IfOk result (λ own. IsOwn own (start policy.now.policy)) }
+        ensures policy { IfOk result (λ own. policy_in own ≡ policy.now.policy) }
+        ensures pushes { IfOk result (λ own. own.pushes ≡ 0) }
+        ensures departures { IfOk result (λ own. own.departures ≡ 0) }
+    {
+        Ok(PolicyState {
+            stations: NodeStates::new(alloc, policy)?,
+            held: Held::new(alloc),
+            filled: vec![in alloc; 0; policy.count() as usize]?,
+            moment: 0,
+            pushes: 0,
+            departures: 0,
+        })
+    }
+
+    /// The number of the leaf of a packet's class.
+    #[inline(always)]
+    fn leaf(&self, packet: &Packet) -> u32
+        requires known { IsKnown (policy_in self.now) packet.now }
+        ensures number { result ≡ leaf_number (policy_in self.now) packet.now }
+    {
+        self.stations.policy().classes()[packet.class as usize].leaf
+    }
+
+    /// The address of the leaf of a packet's class.
+    #[inline(always)]
+    pub fn address(&self, packet: &Packet) -> &[u32]
+        requires known { IsKnown (policy_in self.now) packet.now }
+        ensures address { result.now ≡ (class_of (policy_in self.now) packet.now).leaf }
+    {
+        let policy = self.stations.policy();
+        policy.address(policy.classes()[packet.class as usize].leaf)
+    }
+
+    /// Whether the leaf of a packet's class has a limit and holds that many packets.
+    #[inline(always)]
+    pub fn is_full(&self, packet: &Packet) -> bool
+        requires accepted { IsAccepted (policy_in self.now) }
+        requires stands { IsOfOne self.now (λ _. IsKnown (policy_in self.now) packet.now) }
+        ensures full { IsOfEach self.now (λ s. result ≡ is_full (policy_in self.now) packet.now s) }
+    {
+        let leaf = self.leaf(packet);
+        match self.stations.policy().limit(leaf) {
+            None => false,
+            Some(limit) => self.filled[leaf as usize] == u64::from(limit),
+        }
+    }
+
+    /// Turns a packet away: nothing but the greatest moment may change. The answer is the number of its leaf.
+    pub fn drop_packet(&mut self, packet: &Packet) -> u32
+        requires known { IsKnown (policy_in self.old) packet.now }
+        ensures state { (s : SourceState) → IsOwn self.old s → IsOwn self.new (dropped packet.now s) }
+        ensures leaf { result ≡ leaf_number (policy_in self.old) packet.now }
+        ensures pushes { self.new.pushes ≡ self.old.pushes }
+        ensures departures { self.new.departures ≡ self.old.departures }
+        ensures policy { policy_in self.new ≡ policy_in self.old }
+    {
+        self.moment = self.moment.max(packet.moment);
+        self.leaf(packet)
+    }
+
+    /// Takes in a packet: the push steps run on its way, and `trace` gets the digits and the ranks. The answer is the number of
+    /// its leaf. The error is want of memory.
+    #[inline(always)]
+    pub fn admit(&mut self, packet: &Packet, trace: &mut Taken) -> Result<u32, AllocError>
+        requires accepted { IsAccepted (policy_in self.old) }
+        requires stands { IsOfOne self.old (λ s. CanArrive (policy_in self.old) s packet.now) }
+        requires room { depth (policy_in self.old).tree ≤ trace.old.room }
+        requires few { self.old.pushes < 2 ^ 61 }
+
+        ensures ok { OnOk result (IsOfEach self.old (λ s. IsOwn self.new (pushed (policy_in self.old) packet.now s))) }
+        ensures leaf { IfOk result (λ leaf. leaf ≡ leaf_number (policy_in self.old) packet.now) }
+        ensures digits { OnOk result (trace.new.digits ≡ (class_of (policy_in self.old) packet.now).leaf) }
+        ensures ranks { OnOk result (IsOfEach self.old (λ s. trace.new.ranks ≡ arrival_ranks (policy_in self.old) packet.now s)) }
+        ensures err { OnErr result (IsOfEach self.old (λ s. IsOwn self.new s)) }
+        ensures trace { OnErr result (trace.new ≡ trace.old) }
+        ensures room { trace.new.room ≡ trace.old.room }
+        ensures pushes { self.new.pushes ≡ (if is_ok result then self.old.pushes + 1 else self.old.pushes) }
+        ensures departures { self.new.departures ≡ self.old.departures }
+        ensures policy { policy_in self.new ≡ policy_in self.old }
+    {
+        self.stations.reserve(packet)?;
+        self.held.put(packet)?;
+        let moment = self.moment.max(packet.moment);
+        self.stations.push_steps(packet, moment, trace);
+        self.moment = moment;
+        let leaf = self.leaf(packet);
+        self.filled[leaf as usize] += 1;
+        self.pushes += 1;
+        Ok(leaf)
+    }
+
+    /// Lets go of the packet that was popped with these digits and ranks: the pop steps run on its way. Takes no memory.
+    #[inline(always)]
+    pub fn release(&mut self, number: u64, digits: &[u32], ranks: &[u64]) -> Departed
+        requires accepted { IsAccepted (policy_in self.old) }
+        requires stands { IsOfOne self.old (λ s. PopsNext s number digits.now ranks.now) }
+        requires few { self.old.departures < 2 ^ 61 }
+
+        ensures state { IsOfEachPopping self.old number digits.now ranks.now (λ s. IsOwn self.new (departed (policy_in self.old) s)) }
+        ensures value { IsOfEachPopping self.old number digits.now ranks.now (λ s. next_departed (policy_in self.old) s ≡ Some result) }
+        ensures pushes { self.new.pushes ≡ self.old.pushes }
+        ensures departures { self.new.departures ≡ self.old.departures + 1 }
+        ensures policy { policy_in self.new ≡ policy_in self.old }
+    {
+        self.departures += 1;
+        let mut packet = BLANK;
+        if !self.held.take(number, &mut packet) {
+            unreachable!()
+        }
+        self.stations.pop_steps(&packet, digits, ranks, self.moment);
+        let leaf = self.leaf(&packet);
+        self.filled[leaf as usize] -= 1;
+        Departed {
+            packet: number,
+            class: packet.class,
+            leaf,
+            len: packet.len,
+        }
+    }
+
+    /// Counts a departure of nothing.
+    #[inline(always)]
+    pub fn count_empty_departure(&mut self)
+        requires few { self.old.departures < 2 ^ 61 }
+        ensures state { (s : SourceState) → IsOwn self.old s → IsOwn self.new s }
+        ensures pushes { self.new.pushes ≡ self.old.pushes }
+        ensures departures { self.new.departures ≡ self.old.departures + 1 }
+        ensures policy { policy_in self.new ≡ policy_in self.old }
+    {
+        self.departures += 1;
+    }
+
+    /// How many packets are held.
+    #[inline(always)]
+    pub fn held(&self) -> u64
+        ensures { IsOfEach self.now (λ s. result ≡ size s.tree) }
+    {
+        self.held.len()
+    }
+
+    /// The greatest moment of the packets so far, in nanoseconds.
+    #[inline(always)]
+    pub fn now(&self) -> u64
+        ensures { (s : SourceState) → IsOwn self.now s → result ≡ s.now }
+    {
+        self.moment
+    }
+}

@@ -1,0 +1,55 @@
+-- What the packets of a capture stand for, whatever its format.
+use Rattle.std.specs.Prelude.{ℕ, Bool, Option, option_map, List, IsSome, IsTrue}
+use Rattle.pcap_defs.specs.Contents.{Contents}
+use Rattle.pcap_core.specs.Readers.{head_of, is_live, records_given}
+use Rattle.pcap_core.specs.Left.{contents_left}
+use Rattle.pcapng_core.specs.Readers as blocks
+use Rattle.pcapng_core.specs.Left as blocks_left
+use Rattle.policy_defs.specs.Policy.{Policy}
+use Rattle.policy_rules.specs.Resolved.{Resolved}
+use Rattle.sched_defs.specs.Packets.{Left, Captured, AreThere}
+use Rattle.sched_packets.specs.Arrivals as one
+use Rattle.sched_packets.specs.Arrivals.{left_in, AreCaptured}
+use Rattle.sched_packets.specs.CapturedBytes as bytes
+use Rattle.sched_packets.specs.declared.capture_packets.CapturePackets.{CapturePackets}
+use Rattle.sched_packets.specs.declared.capture_packets.CapturePackets.TheVariants.{Classic, Blocks}
+
+-- the policy that gives each packet its class
+abbrev pub resolved_of : {S : Type 0} → CapturePackets S → Resolved
+resolved_of (Classic arrivals) = one.resolved_of arrivals
+resolved_of (Blocks arrivals) = one.resolved_of arrivals
+
+abbrev pub policy_of : {S : Type 0} → CapturePackets S → Policy
+policy_of arrivals = (resolved_of arrivals).policy
+
+-- how many packets came
+abbrev pub given_by : {S : Type 0} → CapturePackets S → ℕ
+given_by (Classic arrivals) = one.given_by records_given arrivals
+given_by (Blocks arrivals) = one.given_by blocks.packets_given arrivals
+
+-- the captured bytes of the packet that came last
+abbrev pub captured_by : {S : Type 0} → CapturePackets S → List ℕ
+captured_by (Classic arrivals) = one.captured_by arrivals
+captured_by (Blocks arrivals) = one.captured_by arrivals
+
+-- what is left of the capture, where the shelf tells what is left of the file
+abbrev pub contents_of : {S : Type 0} → CapturePackets S → Option (List ℕ) → Option Contents
+contents_of (Classic arrivals) told = one.contents_of contents_left arrivals told
+contents_of (Blocks arrivals) told = one.contents_of blocks_left.contents_left arrivals told
+
+-- the packets that are left to come
+abbrev pub left_of : {S : Type 0} → CapturePackets S → Option (List ℕ) → Option Left
+left_of arrivals told = option_map (left_in (resolved_of arrivals) (given_by arrivals)) (contents_of arrivals told)
+
+-- these are their captured bytes
+abbrev pub captures_of : {S : Type 0} → CapturePackets S → Option (List ℕ) → Captured → Type 0
+captures_of arrivals told bytes = AreCaptured (contents_of arrivals told) (given_by arrivals) bytes
+
+-- where it is told what is left, there are such bytes
+pub there : {S : Type 0} (arrivals : CapturePackets S) (told : Option (List ℕ)) → AreThere (left_of arrivals told) (captures_of arrivals told)
+there arrivals told = bytes.there (resolved_of arrivals) (given_by arrivals) (contents_of arrivals told)
+
+-- the reader can go on, no more packets came than may come, and the file is still begun
+abbrev pub IsReady : {S : Type 0} → CapturePackets S → Bool → Type 0
+IsReady (Classic arrivals) begun = one.IsReady (λ r. IsSome (head_of r) × IsTrue (is_live r)) records_given arrivals begun
+IsReady (Blocks arrivals) begun = one.IsReady (λ r. IsTrue (blocks.is_live r)) blocks.packets_given arrivals begun
