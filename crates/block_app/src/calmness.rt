@@ -22,7 +22,8 @@ fn is_steady(transaction: &str) -> bool
 /// Whether a leaf serves first in first out, or an inner node by a steady transaction.
 fn uses_steady(policy: &Policy, node: u32) -> bool
     requires there { node < nodes policy.now.policy.tree }
-    ensures steady { IsTrue result ↔ UsesSteadyAt policy.now.policy.tree (address_at policy.now.policy.tree node) }
+    ensures steady { IsTrue result ↔ UsesSteadyAt policy.now.policy.tree
+        (address_at policy.now.policy.tree node) }
     ensures built_in { AreBuiltIn policy.now.policy }
 {
     let transaction = policy.using(node);
@@ -57,7 +58,8 @@ fn children_at(topo: &Topo, address: &[u32]) -> u32
 fn digit_at(policy: &Policy, map: &Map, node: u32, index: u32) -> u32
     requires map { IsMapOf policy.now.policy.tree map.now }
     requires there { node < nodes policy.now.policy.tree }
-    requires child { IsAddressOf policy.now.policy.tree (address_at policy.now.policy.tree node ++ index ∷ []) }
+    requires child { IsAddressOf policy.now.policy.tree (address_at policy.now.policy.tree node ++
+        index ∷ []) }
     ensures { result ≡ digit_at map.now (address_at policy.now.policy.tree node) index }
 {
     let child = policy.child(node, index);
@@ -74,7 +76,8 @@ fn digit_at(policy: &Policy, map: &Map, node: u32, index: u32) -> u32
 fn has_own_digit(policy: &Policy, map: &Map, node: u32, index: u32) -> bool
     requires map { IsMapOf policy.now.policy.tree map.now }
     requires there { node < nodes policy.now.policy.tree }
-    requires child { IsAddressOf policy.now.policy.tree (address_at policy.now.policy.tree node ++ index ∷ []) }
+    requires child { IsAddressOf policy.now.policy.tree (address_at policy.now.policy.tree node ++
+        index ∷ []) }
     ensures { IsTrue result ↔ HasOwnDigit map.now (address_at policy.now.policy.tree node) index }
 {
     let digit = digit_at(policy, map, node, index);

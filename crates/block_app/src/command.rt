@@ -52,14 +52,17 @@ pub fn block_run<S: Shelf, K: Sink>(
     // Where contents are told: the answer is written whole with its status, or a first part of it with
     // 8, 9 or 10; the fabric is as it was, or holds what the run leaves, or a first part of it; and of
     // the taps those are left that a run leaves.
-    ensures answer { WhereTold (S.content shelf.old) (block_file_words (block_form_in words.now)) (λ contents.
+    ensures answer { WhereTold (S.content shelf.old) (block_file_words (block_form_in words.now))
+        (λ contents.
         IsGiven (IsBlockOutput (block_form_in words.now) contents (entries kind_of state_of taps.old.items)) result
         (K.written sink.old) (K.written sink.new)) }
-    ensures fabric { WhereTold (S.content shelf.old) (block_file_words (block_form_in words.now)) (λ contents.
+    ensures fabric { WhereTold (S.content shelf.old) (block_file_words (block_form_in words.now))
+        (λ contents.
         HoldsLeft ⟦<BlockFabric as Fabric>⟧
         (IsBlockOutput (block_form_in words.now) contents (entries kind_of state_of taps.old.items)) result
         fabric.old fabric.new) }
-    ensures taps { WhereTold (S.content shelf.old) (block_file_words (block_form_in words.now)) (λ contents.
+    ensures taps { WhereTold (S.content shelf.old) (block_file_words (block_form_in words.now))
+        (λ contents.
         AreBlockTapsLeft (block_form_in words.now) contents result
         (entries kind_of state_of taps.old.items) (entries kind_of state_of taps.new.items)) }
 
@@ -68,7 +71,8 @@ pub fn block_run<S: Shelf, K: Sink>(
     ensures no_form { result ≡ 2 → block_form_in words.now ≡ shared no_form }
     ensures told_so { block_form_in words.now ≡ shared no_form → IsOneOf (2 ∷ 9 ∷ 10 ∷ []) result }
     ensures refused { IsRefusal result → IsAsItWas ⟦<BlockFabric as Fabric>⟧ fabric.old fabric.new }
-    ensures untouched { UsesNoBlocks (block_form_in words.now) → IsAsItWas ⟦<BlockFabric as Fabric>⟧ fabric.old fabric.new }
+    ensures untouched { UsesNoBlocks (block_form_in words.now) →
+        IsAsItWas ⟦<BlockFabric as Fabric>⟧ fabric.old fabric.new }
     ensures unwatched { IsRefusal result
         → entries kind_of state_of taps.new.items ≡ entries kind_of state_of taps.old.items }
     ensures unshown { ShowsNoTaps (block_form_in words.now)

@@ -32,8 +32,10 @@ fn put_line(into: &mut Vec<u8>, spills: u128) -> Result<(), AllocError>
 
 /// Writes the line of a count of spills.
 fn write_spills<K: Sink>(alloc: Global, spills: u128, sink: &mut K) -> Result<(), Stop>
-    ensures text { OnOk result (Appended (K.written sink.old) (K.written sink.new) (spills_line spills)) }
-    ensures part { OnErr result (AppendedPrefix (K.written sink.old) (K.written sink.new) (spills_line spills)) }
+    ensures text { OnOk result (Appended (K.written sink.old) (K.written sink.new)
+        (spills_line spills)) }
+    ensures part { OnErr result (AppendedPrefix (K.written sink.old) (K.written sink.new)
+        (spills_line spills)) }
     ensures sink_cause { IsErrOf result Stop.Sink → Rose (K.faults sink.old) (K.faults sink.new) }
     ensures sink_later { K.faults sink.old ≤ K.faults sink.new }
     ensures reads_nothing { IsErrOf result Stop.Source → ⊥ }
@@ -79,7 +81,8 @@ pub fn run_counted<S: Shelf, K: Sink>(
     ensures no_form { result ≡ 2 → form_in words.now ≡ no_form }
     ensures told_so { form_in words.now ≡ no_form → IsOneOf (2 ∷ 9 ∷ 10 ∷ []) result }
     ensures refused { IsRefusal result → IsAsItWas ⟦<BlockFabric as Fabric>⟧ fabric.old fabric.new }
-    ensures untouched { UsesNoFabric (form_in words.now) → IsAsItWas ⟦<BlockFabric as Fabric>⟧ fabric.old fabric.new }
+    ensures untouched { UsesNoFabric (form_in words.now) → IsAsItWas ⟦<BlockFabric as Fabric>⟧
+        fabric.old fabric.new }
     ensures unwatched { IsRefusal result
         → entries kind_of state_of taps.new.items ≡ entries kind_of state_of taps.old.items }
     ensures unshown { UsesNoTaps (form_in words.now)

@@ -20,8 +20,10 @@ use std::alloc::Global;
 /// Writes the line of an answer.
 fn write_line<K: Sink>(alloc: Global, is_calm: bool, sink: &mut K) -> Result<Status, Stop>
     ensures status { IfOk result (λ s. s ≡ Status.Done) }
-    ensures text { OnOk result (Appended (K.written sink.old) (K.written sink.new) (calm_line is_calm)) }
-    ensures part { OnErr result (AppendedPrefix (K.written sink.old) (K.written sink.new) (calm_line is_calm)) }
+    ensures text { OnOk result (Appended (K.written sink.old) (K.written sink.new)
+        (calm_line is_calm)) }
+    ensures part { OnErr result (AppendedPrefix (K.written sink.old) (K.written sink.new)
+        (calm_line is_calm)) }
     ensures sink_cause { IsErrOf result Stop.Sink → Rose (K.faults sink.old) (K.faults sink.new) }
     ensures sink_later { K.faults sink.old ≤ K.faults sink.new }
     ensures reads_nothing { IsErrOf result Stop.Source → ⊥ }
@@ -40,7 +42,8 @@ fn tell_placed<K: Sink>(
 ) -> Result<Status, Stop>
     requires range { IsInRange target.now.arities target.now.above }
 
-    ensures answer { IsTold (BehindTarget policy.now target.now) result (K.written sink.old) (K.written sink.new) }
+    ensures answer { IsTold (BehindTarget policy.now target.now) result (K.written sink.old)
+        (K.written sink.new) }
     ensures statuses { IfOk result (λ s. IsOneOf (5 ∷ 0 ∷ []) (status_code s)) }
     ensures sink_cause { IsErrOf result Stop.Sink → Rose (K.faults sink.old) (K.faults sink.new) }
     ensures sink_later { K.faults sink.old ≤ K.faults sink.new }
@@ -66,7 +69,8 @@ fn tell_target<S: Shelf, K: Sink>(
     ensures answer { WhereTold (S.content shelf.old) (name.now ∷ []) (λ contents.
         IsTold (BehindPolicy policy.now (contents name.now)) result (K.written sink.old) (K.written sink.new)) }
     ensures statuses { IfOk result (λ s. IsOneOf (4 ∷ 5 ∷ 0 ∷ []) (status_code s)) }
-    ensures shelf_cause { IsErrOf result Stop.Source → Rose (S.faults shelf.old) (S.faults shelf.new) }
+    ensures shelf_cause { IsErrOf result Stop.Source → Rose (S.faults shelf.old)
+        (S.faults shelf.new) }
     ensures sink_cause { IsErrOf result Stop.Sink → Rose (K.faults sink.old) (K.faults sink.new) }
     ensures sink_later { K.faults sink.old ≤ K.faults sink.new }
 {
@@ -85,11 +89,13 @@ pub fn tell_files<S: Shelf, K: Sink>(
 ) -> Result<Status, Stop>
     requires lent { AreLent (S.lends shelf.old) (files.now.policy.now ∷ files.now.target.now ∷ []) }
 
-    ensures answer { WhereTold (S.content shelf.old) (files.now.policy.now ∷ files.now.target.now ∷ []) (λ contents.
+    ensures answer { WhereTold (S.content shelf.old) (files.now.policy.now ∷ files.now.target.now ∷
+        []) (λ contents.
         IsTold (IsCalmTold (contents files.now.policy.now) (contents files.now.target.now)) result
         (K.written sink.old) (K.written sink.new)) }
     ensures statuses { IfOk result (λ s. IsOneOf (3 ∷ 4 ∷ 5 ∷ 0 ∷ []) (status_code s)) }
-    ensures shelf_cause { IsErrOf result Stop.Source → Rose (S.faults shelf.old) (S.faults shelf.new) }
+    ensures shelf_cause { IsErrOf result Stop.Source → Rose (S.faults shelf.old)
+        (S.faults shelf.new) }
     ensures sink_cause { IsErrOf result Stop.Sink → Rose (K.faults sink.old) (K.faults sink.new) }
     ensures sink_later { K.faults sink.old ≤ K.faults sink.new }
 {

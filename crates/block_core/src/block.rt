@@ -237,12 +237,15 @@ fn join_flow(
     requires store_room { deque_len store.old < deque_capacity store.old }
     requires heads_room { heap_len heads.old < heap_capacity heads.old }
     ensures items { deque_items store.new ≡ deque_items store.old ++ entry ∷ [] }
-    ensures store_room { (deque_len store.new ≡ deque_len store.old + 1) × (deque_capacity store.old ≤ deque_capacity store.new) }
+    ensures store_room { (deque_len store.new ≡ deque_len store.old + 1) ×
+        (deque_capacity store.old ≤ deque_capacity store.new) }
     ensures heads { (f : Waiting → ℕ) →
         weight f (held (heap_items heads.new)) + weight f (head_of (deque_items store.old)) ≡
         weight f (held (heap_items heads.old)) + weight f (head_of (deque_items store.old ++ entry ∷ [])) }
-    ensures order { IsHeap heap_order (heap_items heads.old) → IsHeap heap_order (heap_items heads.new) }
-    ensures heads_room { (heap_len heads.new ≤ heap_len heads.old + 1) × (heap_capacity heads.old ≤ heap_capacity heads.new) }
+    ensures order { IsHeap heap_order (heap_items heads.old) →
+        IsHeap heap_order (heap_items heads.new) }
+    ensures heads_room { (heap_len heads.new ≤ heap_len heads.old + 1) ×
+        (heap_capacity heads.old ≤ heap_capacity heads.new) }
 {
     let leads = store.is_empty();
     store.push_back_reserved(entry);
@@ -256,11 +259,14 @@ fn join_flow(
 fn leave_flow(store: &mut VecDeque<Waiting>, heads: &mut BinaryHeap<Reverse<Waiting>>)
     requires heads_room { heap_len heads.old < heap_capacity heads.old }
     ensures items { deque_items store.new ≡ drop 1 (deque_items store.old) }
-    ensures store_room { (deque_len store.new ≤ deque_len store.old) × (deque_capacity store.new ≡ deque_capacity store.old) }
+    ensures store_room { (deque_len store.new ≤ deque_len store.old) ×
+        (deque_capacity store.new ≡ deque_capacity store.old) }
     ensures heads { (f : Waiting → ℕ) →
         weight f (held (heap_items heads.new)) ≡ weight f (held (heap_items heads.old)) + weight f (head_of (drop 1 (deque_items store.old))) }
-    ensures order { IsHeap heap_order (heap_items heads.old) → IsHeap heap_order (heap_items heads.new) }
-    ensures heads_room { (heap_len heads.new ≤ heap_len heads.old + 1) × (heap_capacity heads.old ≤ heap_capacity heads.new) }
+    ensures order { IsHeap heap_order (heap_items heads.old) →
+        IsHeap heap_order (heap_items heads.new) }
+    ensures heads_room { (heap_len heads.new ≤ heap_len heads.old + 1) ×
+        (heap_capacity heads.old ≤ heap_capacity heads.new) }
 {
     let _ = store.pop_front();
     if let Some(next) = store.front() {
@@ -302,7 +308,8 @@ fn reserve_each(stores: &mut Vec<VecDeque<Waiting>>, more: usize) -> Result<(), 
     ensures count { length stores.new.items ≡ length stores.old.items }
     ensures items { map deque_items stores.new.items ≡ map deque_items stores.old.items }
     ensures room { OnOk result (HasSpare more (rooms stores.new.items)) }
-    ensures kept { (n : ℕ) → HasSpare n (rooms stores.old.items) → HasSpare n (rooms stores.new.items) }
+    ensures kept { (n : ℕ) → HasSpare n (rooms stores.old.items) →
+        HasSpare n (rooms stores.new.items) }
 {
     for flow in 0..stores.len() {
         stores[flow].reserve(more)?;

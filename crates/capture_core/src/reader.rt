@@ -62,7 +62,8 @@ pub trait CaptureReader {
 
         ensures begun { IsTrue (S.begun shelf.new) }
         ensures kept { KeepsShelf S.lends S.content S.faults shelf.old shelf.new }
-        ensures cause { IsErrOf result Unread.Source → Rose (S.faults shelf.old) (S.faults shelf.new) };
+        ensures cause { IsErrOf result Unread.Source → Rose (S.faults shelf.old)
+            (S.faults shelf.new) };
 
     /// Reads the next packet, and puts its captured bytes into `into`, in place of what it held.
     fn next<S: Shelf>(
@@ -83,36 +84,44 @@ pub trait CaptureReader {
 
         ensures number { IfOk result (λ o. IfSome o (λ f. f.frame.number ≡ given self.old + 1)) }
         ensures few { IfOk result (λ o. IfSome o (λ f. f.frame.number ≤ most_records)) }
-        ensures captured { IfOk result (λ o. IfSome o (λ f. f.frame.captured ≡ length into.new.items)) }
+        ensures captured { IfOk result (λ o. IfSome o (λ f. f.frame.captured ≡
+            length into.new.items)) }
         ensures short { IfOk result (λ o. IfSome o (λ f. f.frame.captured ≤ most_captured)) }
         ensures moment { IfOk result (λ o. IfSome o (λ f. f.frame.moment < 2 ^ 62)) }
-        ensures given { IfOk result (λ o. given self.new ≡ given self.old + (if is_some o then 1 else 0)) }
+        ensures given { IfOk result (λ o. given self.new ≡ given self.old +
+            (if is_some o then 1 else 0)) }
         ensures ready { OnOk result (ready self.new) }
         ensures live { IsTrue (is_live self.new) ↔ IsOk result }
 
         ensures begun { IsTrue (S.begun shelf.new) }
         ensures kept { KeepsShelf S.lends S.content S.faults shelf.old shelf.new }
-        ensures cause { IsErrOf result Unread.Source → Rose (S.faults shelf.old) (S.faults shelf.new) };
+        ensures cause { IsErrOf result Unread.Source → Rose (S.faults shelf.old)
+            (S.faults shelf.new) };
 
     /// Passes over the next packet, and answers whether there was one. What `scratch` held is lost.
     fn pass<S: Shelf>(&mut self, shelf: &mut S, scratch: &mut Vec<u8>) -> Result<bool, Unread>
         requires ready { ready self.old }
         requires begun { IsTrue (S.begun shelf.old) }
 
-        ensures comes { IfOk result (λ some. some ≡ true → IsOneLess (left self.old (S.left shelf.old))
+        ensures comes { IfOk result (λ some. some ≡ true → IsOneLess
+            (left self.old (S.left shelf.old))
             (left self.new (S.left shelf.new))) }
-        ensures ended { IfOk result (λ some. some ≡ false → IsAt None (left self.old (S.left shelf.old))) }
-        ensures over { IfOk result (λ some. some ≡ false → LeavesNone (left self.old (S.left shelf.old))
+        ensures ended { IfOk result (λ some. some ≡ false → IsAt None
+            (left self.old (S.left shelf.old))) }
+        ensures over { IfOk result (λ some. some ≡ false → LeavesNone
+            (left self.old (S.left shelf.old))
             (left self.new (S.left shelf.new))) }
         ensures fault { IfErr result (λ e. IfSome (fault_told e) (λ fault.
             IsAt (Some fault) (left self.old (S.left shelf.old)))) }
 
-        ensures given { IfOk result (λ some. given self.new ≡ given self.old + (if some then 1 else 0)) }
+        ensures given { IfOk result (λ some. given self.new ≡ given self.old +
+            (if some then 1 else 0)) }
         ensures few { IfOk result (λ some. some ≡ true → given self.new ≤ most_records) }
         ensures ready { OnOk result (ready self.new) }
         ensures live { IsTrue (is_live self.new) ↔ IsOk result }
 
         ensures begun { IsTrue (S.begun shelf.new) }
         ensures kept { KeepsShelf S.lends S.content S.faults shelf.old shelf.new }
-        ensures cause { IsErrOf result Unread.Source → Rose (S.faults shelf.old) (S.faults shelf.new) };
+        ensures cause { IsErrOf result Unread.Source → Rose (S.faults shelf.old)
+            (S.faults shelf.new) };
 }

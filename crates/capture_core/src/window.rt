@@ -125,10 +125,12 @@ impl Window {
     /// Appends held bytes until there are `most`, as far as there are any.
     fn copy(&mut self, into: &mut Vec<u8>, most: usize) -> Result<(), AllocError>
         requires { vec_len into.old ≤ most }
-        ensures moved { OnOk result (into.new.items ++ held self.new ≡ into.old.items ++ held self.old) }
+        ensures moved { OnOk result (into.new.items ++ held self.new ≡
+            into.old.items ++ held self.old) }
         ensures count { OnOk result (length into.new.items
             ≡ min most (length into.old.items + length (held self.old))) }
-        ensures err { OnErr result (into.new.items ++ held self.new ≡ into.old.items ++ held self.old) }
+        ensures err { OnErr result (into.new.items ++ held self.new ≡
+            into.old.items ++ held self.old) }
     {
         let count = (self.end - self.at).min(most - into.len());
         into.extend_from_slice(&self.buffer[self.at..self.at + count])?;
@@ -145,7 +147,8 @@ impl Window {
     ) -> Result<(), Stop>
         requires room { vec_len into.old < most }
         requires begun { IsTrue (S.begun shelf.old) }
-        ensures taken { OnOk result (TakesFront (rest_of (into.old.items ++ held self.old) (S.left shelf.old))
+        ensures taken { OnOk result (TakesFront (rest_of (into.old.items ++ held self.old)
+            (S.left shelf.old))
             (rest_of (into.new.items ++ held self.new) (S.left shelf.new)) []) }
         ensures bound { OnOk result (vec_len into.new ≤ most) }
         ensures grows { OnOk result (vec_len into.old ≤ vec_len into.new) }
@@ -171,10 +174,12 @@ impl Window {
     ) -> Result<(), Stop>
         requires room { vec_len into.old ≤ most }
         requires begun { IsTrue (S.begun shelf.old) }
-        ensures taken { OnOk result (TakesFront (rest_of (into.old.items ++ held self.old) (S.left shelf.old))
+        ensures taken { OnOk result (TakesFront (rest_of (into.old.items ++ held self.old)
+            (S.left shelf.old))
             (rest_of (held self.new) (S.left shelf.new)) into.new.items) }
         ensures bound { OnOk result (vec_len into.new ≤ most) }
-        ensures short { OnOk result (IsShort (rest_of (into.old.items ++ held self.old) (S.left shelf.old)) into.new.items most) }
+        ensures short { OnOk result (IsShort (rest_of (into.old.items ++ held self.old)
+            (S.left shelf.old)) into.new.items most) }
         ensures shelf { Serves S.lends S.content S.begun S.faults shelf.old shelf.new }
         ensures cause { IfErr result (λ stop. HasSourceCause stop S.faults shelf.old shelf.new) }
     {
@@ -201,7 +206,8 @@ impl Window {
         ensures taken { OnOk result (TakesFront (rest_of (held self.old) (S.left shelf.old))
             (rest_of (held self.new) (S.left shelf.new)) into.new.items) }
         ensures bound { OnOk result (vec_len into.new ≤ most) }
-        ensures short { OnOk result (IsShort (rest_of (held self.old) (S.left shelf.old)) into.new.items most) }
+        ensures short { OnOk result (IsShort (rest_of (held self.old) (S.left shelf.old))
+            into.new.items most) }
         ensures shelf { Serves S.lends S.content S.begun S.faults shelf.old shelf.new }
         ensures cause { IfErr result (λ stop. HasSourceCause stop S.faults shelf.old shelf.new) }
     {
@@ -247,7 +253,8 @@ impl Window {
         ensures passed { IfOk result (λ n. Passes n (rest_of (held self.old) (S.left shelf.old))
             (rest_of (held self.new) (S.left shelf.new))) }
         ensures bound { IfOk result (λ n. n ≤ most) }
-        ensures end { IfOk result (λ n. n ≡ 0 → IsWhole (rest_of (held self.old) (S.left shelf.old))) }
+        ensures end { IfOk result (λ n. n ≡ 0 → IsWhole (rest_of (held self.old)
+            (S.left shelf.old))) }
         ensures shelf { Serves S.lends S.content S.begun S.faults shelf.old shelf.new }
         ensures cause { IfErr result (λ stop. HasSourceCause stop S.faults shelf.old shelf.new) }
     {
@@ -261,7 +268,8 @@ impl Window {
         ensures passed { IfOk result (λ n. Passes n (rest_of (held self.old) (S.left shelf.old))
             (rest_of (held self.new) (S.left shelf.new))) }
         ensures bound { IfOk result (λ n. n ≤ count) }
-        ensures end { IfOk result (λ n. n < count → IsAll n (rest_of (held self.old) (S.left shelf.old))) }
+        ensures end { IfOk result (λ n. n < count → IsAll n (rest_of (held self.old)
+            (S.left shelf.old))) }
         ensures shelf { Serves S.lends S.content S.begun S.faults shelf.old shelf.new }
         ensures cause { IfErr result (λ stop. HasSourceCause stop S.faults shelf.old shelf.new) }
     {

@@ -35,7 +35,8 @@ pub fn block_start(
     requires child { IsAmong child (children (trees_of siblings.now) 0) }
     requires fits { FitsBelow (levels_of target.now) (needs_at (trees_of siblings.now)) height }
     requires range { IsInRange target.now.arities target.now.above }
-    ensures start { IfOk result (λ v. v.items ≡ start_digits (levels_of target.now) height (trees_of siblings.now) child) }
+    ensures start { IfOk result (λ v. v.items ≡ start_digits (levels_of target.now) height
+        (trees_of siblings.now) child) }
 {
     let mut start = vec![in alloc; 0; height]?;
     for (index, sibling) in siblings.iter().enumerate() {

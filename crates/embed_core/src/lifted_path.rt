@@ -18,7 +18,12 @@ pub struct LiftedPath {
 
 impl LiftedPath {
     /// The lane to the leaf at an address, in a target of this height. The error is want of memory.
-    pub fn to(alloc: Global, map: &Map, address: &[u32], height: usize) -> Result<LiftedPath, AllocError>
+    pub fn to(
+        alloc: Global,
+        map: &Map,
+        address: &[u32],
+        height: usize,
+    ) -> Result<LiftedPath, AllocError>
         requires leaf { LeadsToLeaf map.now address.now }
         requires good { IsGoodMap height map.now }
         ensures lane { IfOk result (IsLaneTo map.now address.now) }

@@ -88,7 +88,8 @@ impl Map {
         requires images { length images.now ≡ nodes (topology topo.now) }
         requires embedding { IsEmbedding (topology topo.now) (complete target.now.arities)
             (image_in (topology topo.now) images.now) }
-        ensures images { IfOk result (HoldsImages (topology topo.now) (image_in (topology topo.now) images.now)) }
+        ensures images { IfOk result (HoldsImages (topology topo.now)
+            (image_in (topology topo.now) images.now)) }
         ensures shape { IfOk result (λ map. SameShape (topology topo.now) map) }
         ensures good { IfOk result (λ map. IsGoodMap (length target.now.arities) map) }
         ensures embedding { IfOk result (λ map.
@@ -108,7 +109,8 @@ impl Map {
         requires few { nodes (topology topo.now) ≤ most_nodes }
         requires images { nodes (topology topo.now) ≤ length images.now }
         ensures map { IfOk result (λ first. first.0 ≡ tree_in (topology topo.now) images.now) }
-        ensures left { IfOk result (λ first. first.1.now ≡ drop (nodes (topology topo.now)) images.now) }
+        ensures left { IfOk result (λ first. first.1.now ≡ drop (nodes (topology topo.now))
+            images.now) }
     {
         let image = images[0].as_slice().to_vec(alloc)?;
         let mut left = &images[1..];
@@ -176,7 +178,8 @@ impl Map {
         requires within { step ≤ length (W.digits way.now) }
         requires ranks { length ranks.old + length (root_of self.now) ≡ length digits.old + 1 }
         ensures digits { digits.new ≡ image_map self.now (drop step (W.digits way.now)) }
-        ensures ranks { ranks.new ≡ lift_ranks self.now (drop step (W.digits way.now)) (drop step (W.ranks way.now)) }
+        ensures ranks { ranks.new ≡ lift_ranks self.now (drop step (W.digits way.now))
+            (drop step (W.ranks way.now)) }
     {
         let rank = way.rank(step);
         if step < way.steps() {
@@ -222,7 +225,8 @@ impl Map {
         requires room { HasHeight height needs.now }
         requires range { IsInRange target.now.arities target.now.above }
         requires few { nodes needs.now ≤ most_nodes }
-        ensures canonical { IfOk result (λ map. map ≡ canonical (levels_of target.now) height image.items needs.now) }
+        ensures canonical { IfOk result (λ map. map ≡ canonical (levels_of target.now) height
+            image.items needs.now) }
     {
         let siblings = needs.children();
         let mut children = Vec::new(alloc);
@@ -277,11 +281,14 @@ pub fn embed(alloc: Global, topo: &Topo, target: &Target) -> Result<Map, EmbedFa
     requires branched { IsBranched (topology topo.now) }
     requires few { nodes (topology topo.now) ≤ most_nodes }
     requires range { IsInRange target.now.arities target.now.above }
-    ensures canonical { IfOk result (λ map. IsCanonical (levels_of target.now) (length target.now.arities) (topology topo.now) map) }
+    ensures canonical { IfOk result (λ map. IsCanonical (levels_of target.now)
+        (length target.now.arities) (topology topo.now) map) }
     ensures shape { IfOk result (λ map. SameShape (topology topo.now) map) }
     ensures good { IfOk result (λ map. IsGoodMap (length target.now.arities) map) }
-    ensures embedding { IfOk result (λ map. IsEmbedding (topology topo.now) (complete target.now.arities) (image_map map)) }
-    ensures none { result ≡ Err EmbedFault.NoEmbedding → HasEmbedding (topology topo.now) (complete target.now.arities) → ⊥ }
+    ensures embedding { IfOk result (λ map. IsEmbedding (topology topo.now)
+        (complete target.now.arities) (image_map map)) }
+    ensures none { result ≡ Err EmbedFault.NoEmbedding → HasEmbedding (topology topo.now)
+        (complete target.now.arities) → ⊥ }
 {
     let needs = Needs::of(alloc, topo, target)?;
     let height = target.height();
@@ -297,8 +304,10 @@ pub fn least_height(alloc: Global, topo: &Topo, target: &Target) -> Result<u32, 
     requires branched { IsBranched (topology topo.now) }
     requires few { nodes (topology topo.now) ≤ most_nodes }
     requires range { IsInRange target.now.arities target.now.above }
-    ensures need { IfOk result (λ height. IsNeed (levels_of target.now) (topology topo.now) height) }
-    ensures least { IfOk result (λ height. IsLeast (FitsInLevels target.now (topology topo.now)) height) }
+    ensures need { IfOk result (λ height. IsNeed (levels_of target.now) (topology topo.now)
+        height) }
+    ensures least { IfOk result (λ height. IsLeast (FitsInLevels target.now (topology topo.now))
+        height) }
 {
     let needs = Needs::of(alloc, topo, target)?;
     Ok(needs.need())

@@ -46,7 +46,8 @@ impl Needs {
         requires branched { IsBranched (topology topo.now) }
         requires few { nodes (topology topo.now) ≤ most_nodes }
         requires range { IsInRange target.now.arities target.now.above }
-        ensures needs { IfOk result (λ needs. AreNeedsOf (levels_of target.now) (topology topo.now) needs) }
+        ensures needs { IfOk result (λ needs. AreNeedsOf (levels_of target.now) (topology topo.now)
+            needs) }
     {
         match topo {
             Topo::Leaf => Ok(Needs {

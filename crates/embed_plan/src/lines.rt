@@ -40,7 +40,8 @@ pub fn put_map(
     source: &[u32],
     image: &[u32],
 ) -> Result<(), AllocError>
-    ensures { OnOk result (into.new.items ≡ into.old.items ++ map_line name.now source.now image.now) }
+    ensures { OnOk result (into.new.items ≡ into.old.items ++ map_line name.now source.now
+        image.now) }
 {
     into.extend_from_slice(b"map ")?;
     into.extend_from_slice(name.as_bytes())?;

@@ -31,7 +31,8 @@ fn put_maps(into: &mut Vec<u8>, policy: &Policy, map: &Map) -> Result<(), AllocE
 /// nodes where the target has. The error is want of memory.
 pub fn plan(alloc: Global, policy: &Policy, target: &Target) -> Result<PlanText, AllocError>
     requires range { IsInRange target.now.arities target.now.above }
-    ensures plan { IfOk result (λ p. IsPlan policy.now.policy target.now.arities target.now.above p.fits p.text.items) }
+    ensures plan { IfOk result (λ p. IsPlan policy.now.policy target.now.arities target.now.above
+        p.fits p.text.items) }
 {
     let mut text = Vec::new(alloc);
     put_least(&mut text, least_height(alloc, policy.topo(), target)?)?;

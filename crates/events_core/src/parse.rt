@@ -48,7 +48,8 @@ fn next_step(
 /// The script of a text that isn't too long.
 fn read_lines(alloc: Global, text: &[u8]) -> Result<Script, ScriptFault>
     requires { length text.now ≤ most_bytes }
-    ensures { MatchResult result (IsScript text.now) (λ f. (f ≡ NoMemory) ⊎ IsFirstFault text.now f) }
+    ensures { MatchResult result (IsScript text.now) (λ f. (f ≡ NoMemory) ⊎ IsFirstFault text.now
+        f) }
 {
     let mut steps = List::from_vec(Vec::new(alloc));
     let mut counted = 0;
@@ -73,8 +74,10 @@ pub fn parse_events(alloc: Global, text: &[u8]) -> Result<Script, ScriptFault>
     ensures too_long { (result ≡ Err TooLong) ↔ (most_bytes < length text.now) }
     ensures line { (n : ℕ) → result ≡ Err (Line n) → IsFirstFault text.now (Line n) }
     ensures too_many { (n : ℕ) → result ≡ Err (TooMany n) → IsFirstFault text.now (TooMany n) }
-    ensures accepted { ForScript text.now (λ steps. MatchResult result (λ s. s ≡ steps) (λ f. f ≡ NoMemory)) }
-    ensures refused { ForFirstFault text.now (λ fault. MatchResult result (λ _. ⊥) (λ f. (f ≡ fault) ⊎ (f ≡ NoMemory))) }
+    ensures accepted { ForScript text.now (λ steps. MatchResult result (λ s. s ≡ steps) (λ f. f ≡
+        NoMemory)) }
+    ensures refused { ForFirstFault text.now (λ fault. MatchResult result (λ _. ⊥) (λ f.
+        (f ≡ fault) ⊎ (f ≡ NoMemory))) }
 {
     if text.len() > MOST_BYTES {
         return Err(ScriptFault::TooLong);

@@ -58,12 +58,14 @@ pub trait Fabric {
         requires ranks { AreRanks ranks.now }
         requires room { HasRoomAlong (room self.old) digits.now }
         requires few { pushed self.old < 2 ^ 62 }
-        ensures queues { SameQueues (queues self.new) (push_along digits.now ranks.now item (queues self.old)) }
+        ensures queues { SameQueues (queues self.new) (push_along digits.now ranks.now item
+            (queues self.old)) }
         ensures less_room { SameRoom (room self.new) (less_room_along digits.now (room self.old)) }
         ensures shape { shape self.new ≡ shape self.old }
         ensures pushed { pushed self.new ≡ pushed self.old + 1 }
         ensures popped { popped self.new ≡ popped self.old }
-        ensures spilled { spilled self.new ≡ option_map (λ n. n + spills_along digits.now ranks.now (queues self.old)) (spilled self.old) };
+        ensures spilled { spilled self.new ≡ option_map (λ n. n +
+            spills_along digits.now ranks.now (queues self.old)) (spilled self.old) };
 
     /// Pops the root's queue, then the queue that each taken digit names, down to an item. The
     /// slices get the digits and the ranks taken.
@@ -72,7 +74,8 @@ pub trait Fabric {
         requires ranks { length ranks.old ≡ length (shape self.old) + 1 }
         requires few { popped self.old < 2 ^ 62 }
         ensures none { IsNone result ↔ (queues self.old [] ≡ []) }
-        ensures taken { IfSome result (λ item. PopsFrom (shape self.old) (queues self.old) item digits.new ranks.new (queues self.new)) }
+        ensures taken { IfSome result (λ item. PopsFrom (shape self.old) (queues self.old) item
+            digits.new ranks.new (queues self.new)) }
         ensures queues_stay { IfNone result (SameQueues (queues self.new) (queues self.old)) }
         ensures digits_stay { IfNone result (digits.new ≡ digits.old) }
         ensures ranks_stay { IfNone result (ranks.new ≡ ranks.old) }

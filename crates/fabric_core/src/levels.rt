@@ -19,7 +19,8 @@ pub fn empty_queues<Q: NodeQueue + Drop>(
     ensures small { IfOk result (λ v. length v.items < 2 ^ 32) }
     ensures entries { IfOk result (λ v. AllByRecursion (λ q. q ≡ []) (map Q.entries v.items)) }
     ensures pushes { IfOk result (λ v. AllByRecursion (λ n. n ≡ 0) (map Q.pushes v.items)) }
-    ensures flows { Q.tells ≡ true → IfOk result (λ v. HasFlows arities.now (flows_at arities.now (map Q.flows v.items) 0 1 0)) }
+    ensures flows { Q.tells ≡ true → IfOk result (λ v. HasFlows arities.now
+        (flows_at arities.now (map Q.flows v.items) 0 1 0)) }
 {
     let mut queues = Vec::new(alloc);
     let mut spot = Spot::root();
@@ -46,7 +47,8 @@ fn add_level<Q: NodeQueue + Drop>(
         OnOk result (AllByRecursion (λ n. n ≡ 0) (map Q.pushes queues.new.items)) }
     ensures kept { (j : ℕ) → j < length queues.old.items →
         OnOk result (slice_index_or (map Q.flows queues.new.items) j 0 ≡ slice_index_or (map Q.flows queues.old.items) j 0) }
-    ensures flows { Q.tells ≡ true → (j : ℕ) → length queues.old.items ≤ j → j < length queues.new.items →
+    ensures flows { Q.tells ≡ true → (j : ℕ) → length queues.old.items ≤ j →
+        j < length queues.new.items →
         OnOk result (slice_index_or (map Q.flows queues.new.items) j 0 ≡ count) }
 {
     for _ in 0..width {

@@ -21,7 +21,8 @@ pub fn reserve_along<Q: NodeQueue>(
     requires leaf { IsLeafAddress arities.now digits.now }
     requires nodes { nodes arities.now ≡ length queues.old }
     requires small { length queues.old < 2 ^ 32 }
-    ensures room { OnOk result (HasRoomAlong (room_at arities.now (map Q.spare queues.new) 0 1 0) digits.now) }
+    ensures room { OnOk result (HasRoomAlong (room_at arities.now (map Q.spare queues.new) 0 1 0)
+        digits.now) }
     ensures kept { ArrayKeepsRoom arities.now (map Q.spare queues.old) (map Q.spare queues.new) }
     ensures entries { map Q.entries queues.new ≡ map Q.entries queues.old }
     ensures pushes { map Q.pushes queues.new ≡ map Q.pushes queues.old }
@@ -51,10 +52,12 @@ pub fn push_along<Q: NodeQueue>(
     requires small { length queues.old < 2 ^ 32 }
     requires room { HasRoomAlong (room_at arities.now (map Q.spare queues.old) 0 1 0) digits.now }
     requires few { AllByRecursion (λ n. n < 2 ^ 62) (map Q.pushes queues.old) }
-    ensures entries { map Q.entries queues.new ≡ array_push arities.now (map Q.entries queues.old) 0 1 0 digits.now ranks.now item }
+    ensures entries { map Q.entries queues.new ≡ array_push arities.now (map Q.entries queues.old) 0
+        1 0 digits.now ranks.now item }
     ensures pushes { (n : ℕ) →
         AllByRecursion (λ k. k ≤ n) (map Q.pushes queues.old) → AllByRecursion (λ k. k ≤ n + 1) (map Q.pushes queues.new) }
-    ensures less_room { ArrayTakesRoom arities.now digits.now (map Q.spare queues.old) (map Q.spare queues.new) }
+    ensures less_room { ArrayTakesRoom arities.now digits.now (map Q.spare queues.old)
+        (map Q.spare queues.new) }
     ensures flows { map Q.flows queues.new ≡ map Q.flows queues.old }
     ensures spilled { HasFlows arities.now (flows_at arities.now (map Q.flows queues.old) 0 1 0) →
         IsFlow arities.now (queues_at arities.now (map Q.entries queues.old) 0 1 0) →
@@ -86,7 +89,8 @@ pub fn pop_along<Q: NodeQueue>(
     requires small { length queues.old < 2 ^ 32 }
     requires flow { IsFlow arities.now (queues_at arities.now (map Q.entries queues.old) 0 1 0) }
     requires some { queues_at arities.now (map Q.entries queues.old) 0 1 0 [] ≢ [] }
-    ensures popped { ArrayPops arities.now (map Q.entries queues.old) result digits.new ranks.new (map Q.entries queues.new) }
+    ensures popped { ArrayPops arities.now (map Q.entries queues.old) result digits.new ranks.new
+        (map Q.entries queues.new) }
     ensures pushes { map Q.pushes queues.new ≡ map Q.pushes queues.old }
     ensures kept { ArrayKeepsRoom arities.now (map Q.spare queues.old) (map Q.spare queues.new) }
     ensures flows { map Q.flows queues.new ≡ map Q.flows queues.old }

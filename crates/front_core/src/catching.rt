@@ -55,10 +55,12 @@ impl<K: Sink + Drop> Catching<K> {
 
     /// Sends the bytes on that are kept back.
     pub fn release(&mut self) -> Result<(), SinkError>
-        ensures told { Appended (told (K.written self.old.below) (kept_of self.old)) (told (K.written self.new.below) (kept_of self.new)) [] }
+        ensures told { Appended (told (K.written self.old.below) (kept_of self.old))
+            (told (K.written self.new.below) (kept_of self.new)) [] }
         ensures none { OnOk result (kept_of self.new ≡ []) }
         ensures later { K.faults self.old.below ≤ K.faults self.new.below }
-        ensures cause { IsErrOf result SinkError.Failed → Rose (K.faults self.old.below) (K.faults self.new.below) }
+        ensures cause { IsErrOf result SinkError.Failed → Rose (K.faults self.old.below)
+            (K.faults self.new.below) }
     {
         while self.sent < self.held.len() {
             let count = self.below.write(bytes_from(&self.held, self.sent))?;
@@ -85,11 +87,14 @@ impl<K: Sink + Drop> Catching<K> {
         requires none { kept_of self.old ≡ [] }
         ensures least { IfOk result (λ n. 0 < n) }
         ensures bound { IfOk result (λ n. n ≤ length piece.now) }
-        ensures appended { IfOk result (λ n. Appended (K.written self.old.below) (K.written self.new.below) (take n piece.now)) }
-        ensures refused { OnErr result (Appended (K.written self.old.below) (K.written self.new.below) []) }
+        ensures appended { IfOk result (λ n. Appended (K.written self.old.below)
+            (K.written self.new.below) (take n piece.now)) }
+        ensures refused { OnErr result (Appended (K.written self.old.below)
+            (K.written self.new.below) []) }
         ensures kept { kept_of self.new ≡ [] }
         ensures later { K.faults self.old.below ≤ K.faults self.new.below }
-        ensures cause { IsErrOf result SinkError.Failed → Rose (K.faults self.old.below) (K.faults self.new.below) }
+        ensures cause { IsErrOf result SinkError.Failed → Rose (K.faults self.old.below)
+            (K.faults self.new.below) }
     {
         let count = self.below.write(piece)?;
         self.begins_line = !self.catches_first_alone && piece[count - 1] == b'\n';
@@ -116,10 +121,13 @@ impl<K: Sink + Drop> Catching<K> {
         requires none { kept_of self.old ≡ [] }
         ensures least { IfOk result (λ n. 0 < n) }
         ensures bound { IfOk result (λ n. n ≤ length piece.now) }
-        ensures appended { IfOk result (λ n. Appended (told (K.written self.old.below) []) (told (K.written self.new.below) (kept_of self.new)) (take n piece.now)) }
-        ensures refused { OnErr result (Appended (told (K.written self.old.below) []) (told (K.written self.new.below) (kept_of self.new)) []) }
+        ensures appended { IfOk result (λ n. Appended (told (K.written self.old.below) [])
+            (told (K.written self.new.below) (kept_of self.new)) (take n piece.now)) }
+        ensures refused { OnErr result (Appended (told (K.written self.old.below) [])
+            (told (K.written self.new.below) (kept_of self.new)) []) }
         ensures later { K.faults self.old.below ≤ K.faults self.new.below }
-        ensures cause { IsErrOf result SinkError.Failed → Rose (K.faults self.old.below) (K.faults self.new.below) }
+        ensures cause { IsErrOf result SinkError.Failed → Rose (K.faults self.old.below)
+            (K.faults self.new.below) }
     {
         let most = self.count_before(piece);
         let count = self.send(bytes_to(piece, most))?;
@@ -133,10 +141,13 @@ impl<K: Sink + Drop> Catching<K> {
         requires none { kept_of self.old ≡ [] }
         ensures least { IfOk result (λ n. 0 < n) }
         ensures bound { IfOk result (λ n. n ≤ length piece.now) }
-        ensures appended { IfOk result (λ n. Appended (told (K.written self.old.below) []) (told (K.written self.new.below) (kept_of self.new)) (take n piece.now)) }
-        ensures refused { OnErr result (Appended (told (K.written self.old.below) []) (told (K.written self.new.below) (kept_of self.new)) []) }
+        ensures appended { IfOk result (λ n. Appended (told (K.written self.old.below) [])
+            (told (K.written self.new.below) (kept_of self.new)) (take n piece.now)) }
+        ensures refused { OnErr result (Appended (told (K.written self.old.below) [])
+            (told (K.written self.new.below) (kept_of self.new)) []) }
         ensures later { K.faults self.old.below ≤ K.faults self.new.below }
-        ensures cause { IsErrOf result SinkError.Failed → Rose (K.faults self.old.below) (K.faults self.new.below) }
+        ensures cause { IsErrOf result SinkError.Failed → Rose (K.faults self.old.below)
+            (K.faults self.new.below) }
     {
         if self.begins_line && is_fault_line(piece) {
             self.keep(piece);

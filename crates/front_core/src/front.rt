@@ -8,8 +8,8 @@ ghost use Rattle.replay_app.specs.Words.{AreLent, WhereTold, file_words};
 ghost use Rattle.front_core.specs.Catching.{told, kept_of};
 ghost use Rattle.front_core.specs.Front.{form_asked};
 
-use fabric_core::Fabric;
 use crate::catching::Catching;
+use fabric_core::Fabric;
 use front_defs::{Options, words_of};
 use outside_core::{Shelf, Sink};
 use replay_app::run;
@@ -33,7 +33,8 @@ pub fn front_run<S: Shelf, K: Sink, F: Fabric>(
     requires pushes { F.pushed fabric.old < 2 ^ 61 }
     requires pops { F.popped fabric.old < 2 ^ 61 }
 
-    ensures answer { WhereTold (S.content shelf.old) (file_words (form_asked options.now)) (λ contents.
+    ensures answer { WhereTold (S.content shelf.old) (file_words (form_asked options.now))
+        (λ contents.
         Answers (form_asked options.now) contents (entries kind_of state_of taps.old.items) result
         (K.written sink.old) (K.written sink.new)) }
     ensures statuses { CanEnd (form_asked options.now) result }
@@ -59,7 +60,8 @@ pub fn front_caught<S: Shelf, K: Sink + Drop, F: Fabric>(
     requires pushes { F.pushed fabric.old < 2 ^ 61 }
     requires pops { F.popped fabric.old < 2 ^ 61 }
 
-    ensures answer { WhereTold (S.content shelf.old) (file_words (form_asked options.now)) (λ contents.
+    ensures answer { WhereTold (S.content shelf.old) (file_words (form_asked options.now))
+        (λ contents.
         Answers (form_asked options.now) contents (entries kind_of state_of taps.old.items) result
         (told (K.written sink.old.below) (kept_of sink.old))
         (told (K.written sink.new.below) (kept_of sink.new))) }

@@ -1,9 +1,9 @@
 //! Messages for mistakes of the command line.
+use crate::mistake::Mistake;
+use crate::names::{COMMANDS, OPTIONS, TAPS, argument_of, form_of};
 use crate::near::nearest;
 use crate::say::{say, say_around, say_names, say_number};
 use front_defs::{Command, RateFault};
-use crate::mistake::Mistake;
-use crate::names::{COMMANDS, OPTIONS, TAPS, argument_of, form_of};
 use std::alloc::{AllocError, Global};
 
 /// Why a word is no rate.

@@ -22,7 +22,8 @@ pub struct Options<'a> {
 
 /// Appends a word.
 fn put(alloc: Global, words: &mut Vec<String>, word: &str) -> Result<(), AllocError>
-    ensures { OnOk result (map string_bytes words.new.items ≡ map string_bytes words.old.items ++ word.now ∷ []) }
+    ensures { OnOk result (map string_bytes words.new.items ≡
+        map string_bytes words.old.items ++ word.now ∷ []) }
 {
     words.push(String::from_str(alloc, word)?)?;
     Ok(())
@@ -30,7 +31,8 @@ fn put(alloc: Global, words: &mut Vec<String>, word: &str) -> Result<(), AllocEr
 
 /// Appends each of the names.
 fn put_names(alloc: Global, words: &mut Vec<String>, list: &[&str]) -> Result<(), AllocError>
-    ensures { OnOk result (map string_bytes words.new.items ≡ map string_bytes words.old.items ++ names list.now) }
+    ensures { OnOk result (map string_bytes words.new.items ≡
+        map string_bytes words.old.items ++ names list.now) }
 {
     let [name, more @ ..] = list else {
         return Ok(());
@@ -41,7 +43,8 @@ fn put_names(alloc: Global, words: &mut Vec<String>, list: &[&str]) -> Result<()
 
 /// Appends a pair of words for each tap.
 fn put_taps(alloc: Global, words: &mut Vec<String>, taps: &[&str]) -> Result<(), AllocError>
-    ensures { OnOk result (map string_bytes words.new.items ≡ map string_bytes words.old.items ++ tap_words (names taps.now)) }
+    ensures { OnOk result (map string_bytes words.new.items ≡
+        map string_bytes words.old.items ++ tap_words (names taps.now)) }
 {
     let [tap, more @ ..] = taps else {
         return Ok(());
@@ -53,7 +56,8 @@ fn put_taps(alloc: Global, words: &mut Vec<String>, taps: &[&str]) -> Result<(),
 
 /// Appends the digits of a rate, if there is one.
 fn put_rate(alloc: Global, words: &mut Vec<String>, rate: Option<u64>) -> Result<(), AllocError>
-    ensures { OnOk result (map string_bytes words.new.items ≡ map string_bytes words.old.items ++ rate_words rate) }
+    ensures { OnOk result (map string_bytes words.new.items ≡
+        map string_bytes words.old.items ++ rate_words rate) }
 {
     let Some(rate) = rate else {
         return Ok(());

@@ -77,7 +77,8 @@ fn rate_of_digits(whole: &[u8], part: &[u8], unit: Unit) -> Result<u64, RateFaul
     requires places { length part.now ≤ most_digits }
     requires scale { (1 ≤ unit.scale) × (unit.scale ≤ 10 ^ 12) }
     requires parts { (1 ≤ unit.parts) × (unit.parts ≤ 8) }
-    ensures value { result ≡ rate_of_digits (number_of whole.now) (number_of part.now) (length part.now) unit }
+    ensures value { result ≡ rate_of_digits (number_of whole.now) (number_of part.now)
+        (length part.now) unit }
     ensures range { IfOk result IsRate }
 {
     let (Some(number), Some(fraction)) = (decimal(whole), decimal(part)) else {
@@ -91,7 +92,12 @@ fn rate_of_digits(whole: &[u8], part: &[u8], unit: Unit) -> Result<u64, RateFaul
 
 /// The rate of digits, of digits behind a point, and of a unit's name.
 fn rate_written(whole: &[u8], part: &[u8], unit: &[u8]) -> Result<u64, RateFault>
-    ensures value { result ≡ rate_written (record { whole = whole.now; part = part.now; unit = unit.now }) }
+    ensures value { result ≡ rate_written (record {
+      whole = whole.now;
+      part = part.now;
+      unit =
+          unit.now;
+    }) }
     ensures range { IfOk result IsRate }
 {
     if part.len() > MOST_DIGITS {

@@ -8,4 +8,3 @@ mod outside;
 mod queues;
 mod report;
 mod trees;
-

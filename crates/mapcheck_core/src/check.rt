@@ -51,7 +51,8 @@ fn lower(least: Option<u32>, line: u32) -> u32
 fn least_line(topo: &Topo, middle: &Topo, given: &Given, demand: Demand) -> Option<u32>
     requires few { nodes (topology topo.now) ≤ most_nodes }
     requires given { IsGivenFor (topology topo.now) given.now }
-    ensures { IsLeast (breaks_at demand (topology topo.now) (topology middle.now) given.now) given.now.lines
+    ensures { IsLeast (breaks_at demand (topology topo.now) (topology middle.now) given.now)
+        given.now.lines
         (nodes (topology topo.now)) result }
 {
     let lines = given.lines.as_slice();
@@ -129,8 +130,10 @@ pub fn check_map(topo: &Topo, middle: &Topo, given: &Given) -> Result<(), MapFau
     requires topo { IsWithinLimits (topology topo.now) }
     requires middle { IsWithinLimits (topology middle.now) }
     requires given { IsGivenFor (topology topo.now) given.now }
-    ensures embedding { IsOk result ↔ IsEmbedding (topology topo.now) (topology middle.now) (image_of (topology topo.now) given.now) }
-    ensures fault { (f : Fault) → (result ≡ Err f) ↔ Breaks (topology topo.now) (topology middle.now) given.now f }
+    ensures embedding { IsOk result ↔ IsEmbedding (topology topo.now) (topology middle.now)
+        (image_of (topology topo.now) given.now) }
+    ensures fault { (f : Fault) → (result ≡ Err f) ↔ Breaks (topology topo.now)
+        (topology middle.now) given.now f }
 {
     match first_fault(topo, middle, given) {
         Some(fault) => Err(fault),

@@ -10,9 +10,9 @@ ghost use Rattle.embed_defs.specs.GoodMaps.{IsGoodMap};
 ghost use Rattle.mapcheck_core.specs.GivenMaps.{IsWithinLimits, IsGivenFor, image_of};
 ghost use Rattle.mapcheck_core.specs.Composition.{IsComposed};
 
+use crate::given::Given;
 use embed_core::{Map, Target};
 use list_core::List;
-use crate::given::Given;
 use std::alloc::{AllocError, Global};
 use tree_core::Topo;
 
@@ -48,7 +48,8 @@ pub fn compose(
     requires given { IsGivenFor (topology topo.now) given.now }
     requires embedding { IsEmbedding (topology topo.now) (topology_of placement.now)
         (image_of (topology topo.now) given.now) }
-    requires placement { IsEmbedding (topology_of placement.now) (complete target.now.arities) (image_map placement.now) }
+    requires placement { IsEmbedding (topology_of placement.now) (complete target.now.arities)
+        (image_map placement.now) }
     ensures composed { IfOk result (λ map.
         IsComposed (topology topo.now) (image_of (topology topo.now) given.now) placement.now map) }
     ensures shape { IfOk result (λ map. SameShape (topology topo.now) map) }

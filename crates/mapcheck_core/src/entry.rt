@@ -59,7 +59,8 @@ fn entry_named<'a>(
     items: &[Item<'_>],
     line: u32,
 ) -> Result<Entry<'a>, Refusal>
-    ensures ok { IfOk result (λ e. map_line line (text keyword.now ∷ text word.now ∷ glyphs_of items.now)
+    ensures ok { IfOk result (λ e. map_line line (text keyword.now ∷ text word.now ∷ glyphs_of
+        items.now)
         ≡ Some (line_of_entry e ∷ [])) }
     ensures none { result ≡ Err Refusal.NoForm
         → map_line line (text keyword.now ∷ text word.now ∷ glyphs_of items.now) ≡ None }
@@ -81,8 +82,10 @@ fn entry_behind<'a>(
     items: &[Item<'a>],
     line: u32,
 ) -> Result<Entry<'a>, Refusal>
-    ensures ok { IfOk result (λ e. map_line line (text keyword.now ∷ glyphs_of items.now) ≡ Some (line_of_entry e ∷ [])) }
-    ensures none { result ≡ Err Refusal.NoForm → map_line line (text keyword.now ∷ glyphs_of items.now) ≡ None }
+    ensures ok { IfOk result (λ e. map_line line (text keyword.now ∷ glyphs_of items.now) ≡
+        Some (line_of_entry e ∷ [])) }
+    ensures none { result ≡ Err Refusal.NoForm → map_line line
+        (text keyword.now ∷ glyphs_of items.now) ≡ None }
 {
     match items {
         [Item::Word(word), rest @ ..] => entry_named(alloc, keyword, word, rest, line),
@@ -111,7 +114,8 @@ pub(crate) fn read_entry<'a>(
     line: u32,
 ) -> Result<Option<Entry<'a>>, Refusal>
     requires { clean ≡ is_clean_text statement.now }
-    ensures ok { IfOk result (λ e. MapGives line statement.now (option_to_list (option_map line_of_entry e))) }
+    ensures ok { IfOk result (λ e. MapGives line statement.now
+        (option_to_list (option_map line_of_entry e))) }
     ensures none { result ≡ Err Refusal.NoForm → InNoForm MapGives line statement.now }
 {
     if !clean {

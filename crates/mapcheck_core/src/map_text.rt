@@ -30,8 +30,10 @@ fn next_entry<'a>(
     number: u32,
 ) -> Result<Option<Entry<'a>>, MapFault>
     requires { clean ≡ is_clean_text statement.now }
-    ensures ok { IfOk result (λ e. MapGives number statement.now (option_to_list (option_map line_of_entry e))) }
-    ensures fault { IfErr result (λ f. (f ≡ NoMemory) ⊎ ((f ≡ Line number) × InNoForm MapGives number statement.now)) }
+    ensures ok { IfOk result (λ e. MapGives number statement.now
+        (option_to_list (option_map line_of_entry e))) }
+    ensures fault { IfErr result (λ f. (f ≡ NoMemory) ⊎ ((f ≡ Line number) ×
+        InNoForm MapGives number statement.now)) }
 {
     match read_entry(alloc, statement, clean, number) {
         Ok(entry) => Ok(entry),
@@ -159,7 +161,8 @@ fn images_of(alloc: Global, entries: &[Entry<'_>], names: &[Name]) -> Result<Giv
 /// The map that lines give, which are all in form.
 fn map_of(alloc: Global, entries: &[Entry<'_>], names: &[Name]) -> Result<Given, MapFault>
     requires few { length names.now ≤ most_nodes }
-    ensures { (result ≡ answer_of names.now (map line_of_entry entries.now)) ⊎ (result ≡ Err NoMemory) }
+    ensures { (result ≡ answer_of names.now (map line_of_entry entries.now)) ⊎ (result ≡
+        Err NoMemory) }
 {
     if let Some(line) = unknown_line(alloc, entries, names)? {
         return Err(MapFault::Unknown(line));
@@ -179,7 +182,8 @@ fn map_of(alloc: Global, entries: &[Entry<'_>], names: &[Name]) -> Result<Given,
 pub fn read_map(alloc: Global, text: &[u8], names: &List<Name>) -> Result<Given, MapFault>
     requires few { length names.now ≤ most_nodes }
     ensures answer { (result ≡ Err NoMemory) ⊎ IsMapAnswer text.now names.now result }
-    ensures only { ForMapAnswer text.now names.now (λ answer. (result ≡ answer) ⊎ (result ≡ Err NoMemory)) }
+    ensures only { ForMapAnswer text.now names.now (λ answer.
+        (result ≡ answer) ⊎ (result ≡ Err NoMemory)) }
     ensures too_long { (result ≡ Err TooLong) ↔ (most_map_bytes < length text.now) }
     ensures given { IfOk result (λ g. Fits names.now g) }
 {

@@ -8,7 +8,8 @@ use tree_core::Topo;
 
 /// The part of a topology whose root is at an address, if a node is there.
 fn part<'a>(topo: &'a Topo, address: &[u32]) -> Option<&'a Topo>
-    ensures { option_map (λ part. topology part.now) result ≡ subtree (topology topo.now) address.now }
+    ensures { option_map (λ part. topology part.now) result ≡
+        subtree (topology topo.now) address.now }
 {
     match address {
         [] => Some(topo),

@@ -155,8 +155,10 @@ pub fn read_tree(alloc: Global, text: &[u8]) -> Result<Topo, TreeFault>
     ensures tree { IfOk result (λ t. IsTreeText text.now (topology t)) }
     ensures limits { IfOk result (λ t. IsWithinLimits (topology t)) }
     ensures fault { IfErr result (λ f. (f ≡ NoMemory) ⊎ IsTreeFault text.now f) }
-    ensures accepted { ForTree text.now (λ t. MatchResult result (λ r. topology r ≡ t) (λ f. f ≡ NoMemory)) }
-    ensures refused { ForTreeFault text.now (λ fault. MatchResult result (λ _. ⊥) (λ f. (f ≡ fault) ⊎ (f ≡ NoMemory))) }
+    ensures accepted { ForTree text.now (λ t. MatchResult result (λ r. topology r ≡ t) (λ f. f ≡
+        NoMemory)) }
+    ensures refused { ForTreeFault text.now (λ fault. MatchResult result (λ _. ⊥) (λ f.
+        (f ≡ fault) ⊎ (f ≡ NoMemory))) }
     ensures too_long { (result ≡ Err TooLong) ↔ (most_tree_bytes < length text.now) }
 {
     if text.len() > MOST_TREE_BYTES {

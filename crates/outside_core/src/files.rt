@@ -21,7 +21,8 @@ fn named_place(files: &[(String, Vec<u8>)], name: &str) -> Option<usize>
 /// The place of the first file of this name.
 #[tactic(auto, using(crate::proofs::StoredLemmas::content_where_found, crate::proofs::StoredLemmas::no_content_where_not_found))]
 pub fn place_of(files: &[(String, Vec<u8>)], name: &str) -> Option<usize>
-    ensures found { IfSome result (λ place. first_content (files_of files.now) name.now ≡ Some (content_at files.now place)) }
+    ensures found { IfSome result (λ place. first_content (files_of files.now) name.now ≡
+        Some (content_at files.now place)) }
     ensures not_found { IfNone result (first_content (files_of files.now) name.now ≡ None) }
 {
     named_place(files, name)

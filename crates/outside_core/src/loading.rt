@@ -50,18 +50,23 @@ pub fn load<S: Shelf>(
     requires lent { IsTrue (S.lends shelf.old name.now) }
     requires short { most < 2 ^ 32 }
 
-    ensures whole { IfOk result (λ v. IfSome (S.content shelf.old name.now) (λ bytes. v.items ≡ bytes)) }
+    ensures whole { IfOk result (λ v. IfSome (S.content shelf.old name.now) (λ bytes. v.items ≡
+        bytes)) }
     ensures bound { IfOk result (λ v. vec_len v ≤ most) }
-    ensures end { OnOk result (IfSome (S.content shelf.old name.now) (λ _. S.left shelf.new ≡ Some [])) }
+    ensures end { OnOk result (IfSome (S.content shelf.old name.now) (λ _. S.left shelf.new ≡
+        Some [])) }
 
-    ensures too_long { IsErrOf result LoadError.TooLong → IfSome (S.content shelf.old name.now) (λ bytes. most < length bytes) }
+    ensures too_long { IsErrOf result LoadError.TooLong → IfSome (S.content shelf.old name.now)
+        (λ bytes. most < length bytes) }
 
     // One byte more than `most` was read.
-    ensures read { IsErrOf result LoadError.TooLong → IfSome (S.content shelf.old name.now) (λ bytes.
+    ensures read { IsErrOf result LoadError.TooLong → IfSome (S.content shelf.old name.now)
+        (λ bytes.
         S.left shelf.new ≡ Some (drop (most + 1) bytes)) }
 
     ensures kept { KeepsShelf S.lends S.content S.faults shelf.old shelf.new }
-    ensures cause { IsErrOf result LoadError.Failed → Rose (S.faults shelf.old) (S.faults shelf.new) }
+    ensures cause { IsErrOf result LoadError.Failed → Rose (S.faults shelf.old)
+        (S.faults shelf.new) }
 {
     shelf.begin(name)?;
     let mut text = Vec::new(alloc);

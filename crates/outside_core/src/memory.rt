@@ -64,11 +64,13 @@ impl Shelf for MemShelf {
 
     fn begin(&mut self, name: &str) -> Result<(), ShelfError>
         ensures begun { OnOk result (IsTrue (is_begun self.new)) }
-        ensures whole { OnOk result (Some (bytes_left self.new) ≡ first_content (held_files self.old) name.now) }
+        ensures whole { OnOk result (Some (bytes_left self.new) ≡
+            first_content (held_files self.old) name.now) }
         ensures refused { OnErr result (IsFalse (is_begun self.new)) }
 
         // It fails exactly where it is told to, and at a name that isn't held.
-        ensures fails { IsOk result ↔ (IsFalse (fails_next self.old) × IsSome (first_content (held_files self.old) name.now)) }
+        ensures fails { IsOk result ↔ (IsFalse (fails_next self.old) ×
+            IsSome (first_content (held_files self.old) name.now)) }
         ensures no_memory_never { IsErrOf result ShelfError.NoMemory → ⊥ }
 
         ensures later { faults_met self.old ≤ faults_met self.new }
@@ -92,8 +94,10 @@ impl Shelf for MemShelf {
     fn read(&mut self, buf: &mut [u8]) -> Result<usize, ShelfError>
         requires started { IsTrue (is_begun self.old) }
 
-        ensures count { IfOk result (λ n. n ≡ min (length (bytes_left self.old)) (min (length buf.old) (greatest_read self.old))) }
-        ensures taken { IfOk result (λ n. Takes (Some (bytes_left self.old)) (Some (bytes_left self.new)) buf.new n) }
+        ensures count { IfOk result (λ n. n ≡ min (length (bytes_left self.old))
+            (min (length buf.old) (greatest_read self.old))) }
+        ensures taken { IfOk result (λ n. Takes (Some (bytes_left self.old))
+            (Some (bytes_left self.new)) buf.new n) }
         ensures refused { OnErr result (bytes_left self.new ≡ bytes_left self.old) }
         ensures begun { IsTrue (is_begun self.new) }
 
@@ -184,12 +188,15 @@ impl Sink for MemSink {
     fn write(&mut self, piece: &[u8]) -> Result<usize, SinkError>
         requires some { 0 < length piece.now }
 
-        ensures count { IfOk result (λ n. n ≡ min (min (length piece.now) (greatest_write self.old)) (room_left self.old)) }
-        ensures appended { IfOk result (λ n. sink_bytes self.new ≡ sink_bytes self.old ++ take n piece.now) }
+        ensures count { IfOk result (λ n. n ≡ min (min (length piece.now) (greatest_write self.old))
+            (room_left self.old)) }
+        ensures appended { IfOk result (λ n. sink_bytes self.new ≡
+            sink_bytes self.old ++ take n piece.now) }
         ensures refused { OnErr result (sink_bytes self.new ≡ sink_bytes self.old) }
 
         // It fails exactly where it is told to, and where no room is left.
-        ensures fails { IsOk result ↔ (IsFalse (write_fails_next self.old) × (0 < room_left self.old)) }
+        ensures fails { IsOk result ↔ (IsFalse (write_fails_next self.old) ×
+            (0 < room_left self.old)) }
 
         ensures later { write_faults self.old ≤ write_faults self.new }
         ensures faults { CountsFaults result (write_faults self.old) (write_faults self.new) }

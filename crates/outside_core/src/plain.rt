@@ -60,7 +60,8 @@ impl Shelf for PlainShelf {
         requires started { IsTrue (is_begun self.old) }
 
         ensures count { result ≡ Ok (min (length (bytes_left self.old)) (length buf.old)) }
-        ensures taken { IfOk result (λ n. Takes (Some (bytes_left self.old)) (Some (bytes_left self.new)) buf.new n) }
+        ensures taken { IfOk result (λ n. Takes (Some (bytes_left self.old))
+            (Some (bytes_left self.new)) buf.new n) }
         ensures begun { IsTrue (is_begun self.new) }
         ensures held { held_files self.new ≡ held_files self.old }
     {
@@ -120,7 +121,8 @@ impl Sink for PlainSink {
         requires some { 0 < length piece.now }
 
         ensures all { result ≡ Ok (length piece.now) }
-        ensures kept { kept_bytes self.new ≡ take (sink_room self.old) (kept_bytes self.old ++ piece.now) }
+        ensures kept { kept_bytes self.new ≡ take (sink_room self.old)
+            (kept_bytes self.old ++ piece.now) }
 
         // It tells its bytes as long as all that was written is kept.
         ensures whole { IsTrue (is_whole self.new) ↔

@@ -38,7 +38,8 @@ pub trait Shelf {
 
         ensures files { KeepsFiles lends content self.old self.new }
         ensures later { faults self.old ≤ faults self.new }
-        ensures cause { IsErrOf result ShelfError.Failed → Rose (faults self.old) (faults self.new) };
+        ensures cause { IsErrOf result ShelfError.Failed → Rose (faults self.old)
+            (faults self.new) };
 
     /// Reads the next bytes of the begun file into the front of the buffer.
     fn read(&mut self, buf: &mut [u8]) -> Result<usize, ShelfError>
@@ -53,5 +54,6 @@ pub trait Shelf {
         ensures begun { IsTrue (begun self.new) }
         ensures files { KeepsFiles lends content self.old self.new }
         ensures later { faults self.old ≤ faults self.new }
-        ensures cause { IsErrOf result ShelfError.Failed → Rose (faults self.old) (faults self.new) };
+        ensures cause { IsErrOf result ShelfError.Failed → Rose (faults self.old)
+            (faults self.new) };
 }

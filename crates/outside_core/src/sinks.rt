@@ -23,17 +23,20 @@ pub trait Sink {
 
         ensures least { IfOk result (λ n. 0 < n) }
         ensures bound { IfOk result (λ n. n ≤ length piece.now) }
-        ensures appended { IfOk result (λ n. Appended (written self.old) (written self.new) (take n piece.now)) }
+        ensures appended { IfOk result (λ n. Appended (written self.old) (written self.new)
+            (take n piece.now)) }
         ensures refused { OnErr result (Appended (written self.old) (written self.new) []) }
 
         ensures later { faults self.old ≤ faults self.new }
-        ensures cause { IsErrOf result SinkError.Failed → Rose (faults self.old) (faults self.new) };
+        ensures cause { IsErrOf result SinkError.Failed → Rose (faults self.old)
+            (faults self.new) };
 }
 
 /// Writes all the bytes, in as many writes as it takes.
 pub fn write_all<K: Sink>(sink: &mut K, bytes: &[u8]) -> Result<(), SinkError>
     ensures appended { OnOk result (Appended (K.written sink.old) (K.written sink.new) bytes.now) }
-    ensures refused { OnErr result (AppendedPrefix (K.written sink.old) (K.written sink.new) bytes.now) }
+    ensures refused { OnErr result (AppendedPrefix (K.written sink.old) (K.written sink.new)
+        bytes.now) }
 
     ensures later { K.faults sink.old ≤ K.faults sink.new }
     ensures cause { IsErrOf result SinkError.Failed → Rose (K.faults sink.old) (K.faults sink.new) }

@@ -23,7 +23,8 @@ fn place_met(classes: &[Prepared], numbers: &[u64; COUNT]) -> Option<usize>
 
 /// The place of the first class that is met, where there is one.
 fn first_met(classes: &[Prepared], numbers: &[u64; COUNT]) -> usize
-    ensures { (place : ℕ) → position (prepared.is_met numbers.now) classes.now ≡ Some place → result ≡ place }
+    ensures { (place : ℕ) → position (prepared.is_met numbers.now) classes.now ≡ Some place →
+        result ≡ place }
 {
     match place_met(classes, numbers) {
         Some(place) => place,
@@ -66,7 +67,8 @@ impl<'a> Classifier<'a> {
     /// The first class all of whose conditions a packet of this original length meets.
     #[inline(always)]
     fn class_of(&self, fields: &Fields, len: u32) -> u32
-        ensures class { class_of (conditions_of (policy_of self.now).conditions) fields.now len ≡ Some result }
+        ensures class { class_of (conditions_of (policy_of self.now).conditions) fields.now len ≡
+            Some result }
         ensures there { result < length (policy_of self.now).policy.classes }
     {
         first_met(&self.classes, &numbers_of(fields, len)) as u32
@@ -85,7 +87,8 @@ impl<'a> Classifier<'a> {
     #[inline(always)]
     fn put_ipv4(&self, vlan: Option<u16>, bytes: &[u8], at: usize, packet: &mut Packet)
         requires { at < 2 ^ 32 }
-        ensures { IsSorted (policy_of self.now) (record (ipv4_at at bytes.now) { vlan = vlan }) packet.old packet.new }
+        ensures { IsSorted (policy_of self.now) (record (ipv4_at at bytes.now) { vlan = vlan })
+            packet.old packet.new }
     {
         if is_ipv4(bytes, at) {
             let fields = ipv4_fields(bytes, at);
@@ -105,7 +108,8 @@ impl<'a> Classifier<'a> {
     #[inline(always)]
     fn put_ipv6(&self, vlan: Option<u16>, bytes: &[u8], at: usize, packet: &mut Packet)
         requires { at < 2 ^ 32 }
-        ensures { IsSorted (policy_of self.now) (record (ipv6_at at bytes.now) { vlan = vlan }) packet.old packet.new }
+        ensures { IsSorted (policy_of self.now) (record (ipv6_at at bytes.now) { vlan = vlan })
+            packet.old packet.new }
     {
         if is_ipv6(bytes, at) {
             let fields = ipv6_fields(bytes, at);

@@ -22,7 +22,8 @@ pub(crate) struct Prepared {
 fn prefix(place: usize, address: u32, bits: u32) -> Bounds
     requires { place < 9 }
     ensures place { result.place ≡ place }
-    ensures agree { (other : ℕ) → (nat_le result.low other && nat_le other result.high) ≡ agree bits address other }
+    ensures agree { (other : ℕ) → (nat_le result.low other && nat_le other result.high) ≡
+        agree bits address other }
     ensures few { result.high < 2 ^ 33 }
 {
     let others = 32u32.saturating_sub(bits);
@@ -36,7 +37,8 @@ fn prefix(place: usize, address: u32, bits: u32) -> Bounds
 
 /// The field is from a least number to a greatest.
 fn within(field: FieldName, low: u32, high: u32) -> Bounds
-    ensures { (fields : Fields) (n : ℕ) → holds (numbers_of fields n) result ≡ meets fields n (in_range (field_of field) low high) }
+    ensures { (fields : Fields) (n : ℕ) → holds (numbers_of fields n) result ≡
+        meets fields n (in_range (field_of field) low high) }
 {
     Bounds {
         place: place_of(field),
@@ -47,7 +49,8 @@ fn within(field: FieldName, low: u32, high: u32) -> Bounds
 
 /// The version is this one.
 fn version(number: u8) -> Bounds
-    ensures { (fields : Fields) (n : ℕ) → holds (numbers_of fields n) result ≡ has_version number fields }
+    ensures { (fields : Fields) (n : ℕ) → holds (numbers_of fields n) result ≡
+        has_version number fields }
 {
     Bounds {
         place: VERSION,
@@ -58,7 +61,8 @@ fn version(number: u8) -> Bounds
 
 /// A condition as bounds of a number.
 fn bound_of(condition: Condition) -> Bounds
-    ensures { (fields : Fields) (n : ℕ) → holds (numbers_of fields n) result ≡ meets fields n (condition_of condition) }
+    ensures { (fields : Fields) (n : ℕ) → holds (numbers_of fields n) result ≡
+        meets fields n (condition_of condition) }
 {
     match condition {
         Condition::Field(field, low, high) => return within(field, low, high),

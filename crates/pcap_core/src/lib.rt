@@ -5,8 +5,8 @@ mod capture;
 mod fault;
 mod header;
 mod laws;
-mod record_header;
 mod reader;
+mod record_header;
 mod writing;
 
 pub use capture_core::Frame;

@@ -13,7 +13,7 @@ ghost use Rattle.pcap_core.specs.Rest.{TakesHeader, TakesPreface, TakesRecord};
 
 use crate::fault::CaptureFault;
 use crate::header::{HEADER_LEN, head_in};
-use crate::record_header::{RecordHeader, RECORD_LEN, preface_in};
+use crate::record_header::{RECORD_LEN, RecordHeader, preface_in};
 use capture_core::{Frame, Window};
 use outside_core::Shelf;
 use pcap_defs::Head;
@@ -32,7 +32,8 @@ fn read_head<S: Shelf>(
     ensures fault { IfErr result (λ e. IfSome (fault_in e) (λ fault.
         IfSome (rest_of (held window.old) (S.left shelf.old)) (λ file. IsHeaderFault file fault))) }
     ensures shelf { Serves S.lends S.content S.begun S.faults shelf.old shelf.new }
-    ensures cause { IsErrOf result CaptureFault.ReadFault → Rose (S.faults shelf.old) (S.faults shelf.new) }
+    ensures cause { IsErrOf result CaptureFault.ReadFault → Rose (S.faults shelf.old)
+        (S.faults shelf.new) }
 {
     let mut bytes = Vec::new(alloc);
     window.take_anew(shelf, &mut bytes, HEADER_LEN)?;
@@ -57,13 +58,15 @@ fn read_record_header<S: Shelf>(
     ensures short { IfOk result (λ o. IfSome o (λ preface. preface.captured ≤ most_captured)) }
     ensures ended { IfOk result (λ o.
         IfNone o (IsWhole (rest_of (held window.old) (S.left shelf.old)))) }
-    ensures over { IfOk result (λ o. IfNone o (LeavesNothing (rest_of (held window.old) (S.left shelf.old))
+    ensures over { IfOk result (λ o. IfNone o (LeavesNothing
+        (rest_of (held window.old) (S.left shelf.old))
         (rest_of (held window.new) (S.left shelf.new)))) }
     ensures fault { IfErr result (λ e. IfSome (fault_in e) (λ fault.
         IfSome (rest_of (held window.old) (S.left shelf.old)) (λ left.
         IsRecordFault head.big count left fault))) }
     ensures shelf { Serves S.lends S.content S.begun S.faults shelf.old shelf.new }
-    ensures cause { IsErrOf result CaptureFault.ReadFault → Rose (S.faults shelf.old) (S.faults shelf.new) }
+    ensures cause { IsErrOf result CaptureFault.ReadFault → Rose (S.faults shelf.old)
+        (S.faults shelf.new) }
 {
     let front = window.front();
     if front.len() >= RECORD_LEN {
@@ -95,17 +98,20 @@ fn read_record<S: Shelf>(
     ensures number { IfOk result (λ o. IfSome o (λ frame. frame.number ≡ count + 1)) }
     ensures few { IfOk result (λ o. IfSome o (λ frame. count < most_records)) }
     ensures moment { IfOk result (λ o. IfSome o (λ frame. frame.moment < 2 ^ 62)) }
-    ensures captured { IfOk result (λ o. IfSome o (λ frame. frame.captured ≡ length into.new.items)) }
+    ensures captured { IfOk result (λ o. IfSome o (λ frame. frame.captured ≡
+        length into.new.items)) }
     ensures short { IfOk result (λ o. IfSome o (λ frame. frame.captured ≤ most_captured)) }
     ensures ended { IfOk result (λ o.
         IfNone o (IsWhole (rest_of (held window.old) (S.left shelf.old)))) }
-    ensures over { IfOk result (λ o. IfNone o (LeavesNothing (rest_of (held window.old) (S.left shelf.old))
+    ensures over { IfOk result (λ o. IfNone o (LeavesNothing
+        (rest_of (held window.old) (S.left shelf.old))
         (rest_of (held window.new) (S.left shelf.new)))) }
     ensures fault { IfErr result (λ e. IfSome (fault_in e) (λ fault.
         IfSome (rest_of (held window.old) (S.left shelf.old)) (λ left.
         IsRecordFault head.big count left fault))) }
     ensures shelf { Serves S.lends S.content S.begun S.faults shelf.old shelf.new }
-    ensures cause { IsErrOf result CaptureFault.ReadFault → Rose (S.faults shelf.old) (S.faults shelf.new) }
+    ensures cause { IsErrOf result CaptureFault.ReadFault → Rose (S.faults shelf.old)
+        (S.faults shelf.new) }
 {
     let Some(preface) = read_record_header(head, count, window, shelf, into)? else {
         return Ok(None);
@@ -145,7 +151,8 @@ fn pass_record<S: Shelf>(
         IfSome (rest_of (held window.old) (S.left shelf.old)) (λ left.
         IsRecordFault head.big count left fault))) }
     ensures shelf { Serves S.lends S.content S.begun S.faults shelf.old shelf.new }
-    ensures cause { IsErrOf result CaptureFault.ReadFault → Rose (S.faults shelf.old) (S.faults shelf.new) }
+    ensures cause { IsErrOf result CaptureFault.ReadFault → Rose (S.faults shelf.old)
+        (S.faults shelf.new) }
 {
     let Some(preface) = read_record_header(head, count, window, shelf, scratch)? else {
         return Ok(false);
@@ -244,7 +251,8 @@ impl Reader {
 
         ensures begun { IsTrue (S.begun shelf.new) }
         ensures kept { KeepsShelf S.lends S.content S.faults shelf.old shelf.new }
-        ensures cause { IsErrOf result CaptureFault.ReadFault → Rose (S.faults shelf.old) (S.faults shelf.new) }
+        ensures cause { IsErrOf result CaptureFault.ReadFault →
+            Rose (S.faults shelf.old) (S.faults shelf.new) }
     {
         match read_head(self.alloc, &mut self.window, shelf) {
             Ok(head) => {
@@ -274,9 +282,11 @@ impl Reader {
             (r : Record) × IsFrameOf (is_nano self.old) r frame into.new.items
             × TakesRecord (is_big self.old) r (rest_left self.old (S.left shelf.old))
             (rest_left self.new (S.left shelf.new)))) }
-        ensures number { IfOk result (λ o. IfSome o (λ frame. frame.number ≡ records_given self.old + 1)) }
+        ensures number { IfOk result (λ o. IfSome o (λ frame. frame.number ≡
+            records_given self.old + 1)) }
         ensures few { IfOk result (λ o. IfSome o (λ frame. frame.number ≤ most_records)) }
-        ensures captured { IfOk result (λ o. IfSome o (λ frame. frame.captured ≡ length into.new.items)) }
+        ensures captured { IfOk result (λ o. IfSome o (λ frame. frame.captured ≡
+            length into.new.items)) }
         ensures short { IfOk result (λ o. IfSome o (λ frame. frame.captured ≤ most_captured)) }
         ensures moment { IfOk result (λ o. IfSome o (λ frame. frame.moment < 2 ^ 62)) }
 
@@ -302,7 +312,8 @@ impl Reader {
         ensures bounded { length (bytes_held self.new) ≤ most_held }
         ensures begun { IsTrue (S.begun shelf.new) }
         ensures kept { KeepsShelf S.lends S.content S.faults shelf.old shelf.new }
-        ensures cause { IsErrOf result CaptureFault.ReadFault → Rose (S.faults shelf.old) (S.faults shelf.new) }
+        ensures cause { IsErrOf result CaptureFault.ReadFault →
+            Rose (S.faults shelf.old) (S.faults shelf.new) }
     {
         let Some(head) = self.head else {
             unreachable!()
@@ -337,7 +348,8 @@ impl Reader {
         ensures few { IfOk result (λ some. some ≡ true → records_given self.new ≤ most_records) }
 
         // There is no record exactly where nothing is left, and then nothing is left for a later call.
-        ensures ended { IfOk result (λ some. some ≡ false → IsWhole (rest_left self.old (S.left shelf.old))) }
+        ensures ended { IfOk result (λ some. some ≡ false → IsWhole
+            (rest_left self.old (S.left shelf.old))) }
         ensures over { IfOk result (λ some. some ≡ false → LeavesNothing
             (rest_left self.old (S.left shelf.old)) (rest_left self.new (S.left shelf.new))) }
         ensures ends { IfSome (rest_left self.old (S.left shelf.old)) (λ left.
@@ -357,7 +369,8 @@ impl Reader {
         ensures bounded { length (bytes_held self.new) ≤ most_held }
         ensures begun { IsTrue (S.begun shelf.new) }
         ensures kept { KeepsShelf S.lends S.content S.faults shelf.old shelf.new }
-        ensures cause { IsErrOf result CaptureFault.ReadFault → Rose (S.faults shelf.old) (S.faults shelf.new) }
+        ensures cause { IsErrOf result CaptureFault.ReadFault →
+            Rose (S.faults shelf.old) (S.faults shelf.new) }
     {
         let Some(head) = self.head else {
             unreachable!()

@@ -27,7 +27,8 @@ pub struct RecordHeader {
 #[inline(always)]
 fn moment(head: Head, bytes: &[u8]) -> u64
     requires { 16 ≤ length bytes.now }
-    ensures value { result ≡ moment_at head.nano (long_at head.big 0 bytes.now) (long_at head.big 4 bytes.now) }
+    ensures value { result ≡ moment_at head.nano (long_at head.big 0 bytes.now)
+        (long_at head.big 4 bytes.now) }
     ensures bound { result < 2 ^ 62 }
 {
     let seconds = u64::from(read_long(head.big, bytes, 0));
@@ -49,7 +50,8 @@ pub fn preface_in(head: Head, count: u32, bytes: &[u8]) -> Result<RecordHeader, 
     ensures captured { IfOk result (λ p. p.captured ≡ captured_len head.big bytes.now) }
     ensures short { IfOk result (λ p. p.captured ≤ most_captured) }
     ensures len { IfOk result (λ p. p.len ≡ long_at head.big 12 bytes.now) }
-    ensures fault { IfErr result (λ e. IsSomeAnd (fault_in e) (IsFrontFault head.big count bytes.now)) }
+    ensures fault { IfErr result (λ e. IsSomeAnd (fault_in e)
+        (IsFrontFault head.big count bytes.now)) }
 {
     let number = u64::from(count) + 1;
     if count == u32::MAX {

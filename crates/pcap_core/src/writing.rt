@@ -47,8 +47,10 @@ pub fn record_front(seconds: u32, nanos: u32, captured: u32, len: u32) -> [u8; 1
 
 /// Writes the file header of a capture with this link type.
 pub fn put_head<K: Sink>(sink: &mut K, link: u16) -> Result<(), SinkError>
-    ensures bytes { OnOk result (Appended (K.written sink.old) (K.written sink.new) (header_bytes link)) }
-    ensures part { OnErr result (AppendedPrefix (K.written sink.old) (K.written sink.new) (header_bytes link)) }
+    ensures bytes { OnOk result (Appended (K.written sink.old) (K.written sink.new)
+        (header_bytes link)) }
+    ensures part { OnErr result (AppendedPrefix (K.written sink.old) (K.written sink.new)
+        (header_bytes link)) }
     ensures kept { KeepsSink K.written K.faults sink.old sink.new }
     ensures cause { IsErrOf result SinkError.Failed → Rose (K.faults sink.old) (K.faults sink.new) }
 {
@@ -66,8 +68,10 @@ pub fn put_record<K: Sink>(
     requires fraction { nanos < 10 ^ 9 }
     requires short { length bytes.now ≤ most_captured }
 
-    ensures bytes { OnOk result (Appended (K.written sink.old) (K.written sink.new) (record_bytes seconds nanos len bytes.now)) }
-    ensures part { OnErr result (AppendedPrefix (K.written sink.old) (K.written sink.new) (record_bytes seconds nanos len bytes.now)) }
+    ensures bytes { OnOk result (Appended (K.written sink.old) (K.written sink.new)
+        (record_bytes seconds nanos len bytes.now)) }
+    ensures part { OnErr result (AppendedPrefix (K.written sink.old) (K.written sink.new)
+        (record_bytes seconds nanos len bytes.now)) }
     ensures kept { KeepsSink K.written K.faults sink.old sink.new }
     ensures cause { IsErrOf result SinkError.Failed → Rose (K.faults sink.old) (K.faults sink.new) }
 {

@@ -85,7 +85,8 @@ fn packet_within(packet: Packet, at: u32, total: u32, number: u64) -> Body
 /// What a section header is that begins so.
 fn section_in(carry: &Carry, start: Start, front: &[u8]) -> Body
     requires { length front.now ≡ 16 }
-    ensures { result ≡ body_said (carried_of carry.now) start.big start.total front.now Kind.Section }
+    ensures { result ≡ body_said (carried_of carry.now) start.big start.total front.now
+        Kind.Section }
 {
     if read_short(start.big, front, 12) == MAJOR_VERSION {
         Body::Section
@@ -97,7 +98,8 @@ fn section_in(carry: &Carry, start: Start, front: &[u8]) -> Body
 /// What an interface block is that begins so.
 fn interface_in(carry: &Carry, start: Start, front: &[u8]) -> Body
     requires { length front.now ≡ 16 }
-    ensures { result ≡ body_said (carried_of carry.now) start.big start.total front.now Kind.Interface }
+    ensures { result ≡ body_said (carried_of carry.now) start.big start.total front.now
+        Kind.Interface }
 {
     if carry.described.len() == MOST_INTERFACES {
         Body::Faulty(NgFault::Interfaces(carry.number()))
@@ -169,7 +171,8 @@ fn simple_in(carry: &Carry, start: Start, front: &[u8]) -> Body
 /// What a block is that begins so.
 pub fn body_in(carry: &Carry, start: Start, front: &[u8]) -> Body
     requires { length front.now ≡ Bodies.front_len start.kind }
-    ensures said { result ≡ body_said (carried_of carry.now) start.big start.total front.now start.kind }
+    ensures said { result ≡ body_said (carried_of carry.now) start.big start.total front.now
+        start.kind }
     ensures early { IsEarly result }
     ensures short { IsShortBody result }
 {

@@ -56,7 +56,8 @@ impl Carry {
         ensures past { IfOk result (λ packet.
             went (carried_of self.old) big unit body ≡ Some (packet, carried_of self.new)) }
         ensures faulty { IfErr result (λ e. IfSome (fault_in e) (λ fault. body ≡ Body.Faulty e)) }
-        ensures stays { IfErr result (λ e. (carried_of self.new).blocks ≡ (carried_of self.old).blocks) }
+        ensures stays { IfErr result (λ e. (carried_of self.new).blocks ≡
+            (carried_of self.old).blocks) }
         ensures cause { IfErr result (λ e. e ≡ NgFault.ReadFault → body ≡ Body.Faulty e) }
     {
         let mut given = None;

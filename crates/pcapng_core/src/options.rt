@@ -78,9 +78,11 @@ fn read_option<S: Shelf>(
     requires some { 4 ≤ count }
     requires begun { IsTrue (S.begun shelf.old) }
     ensures bound { IfOk result (λ step. GoesDown count step) }
-    ensures passed { IfOk result (λ step. Passes (count - step_rest step) (rest_of (held window.old) (S.left shelf.old))
+    ensures passed { IfOk result (λ step. Passes (count - step_rest step)
+        (rest_of (held window.old) (S.left shelf.old))
         (rest_of (held window.new) (S.left shelf.new))) }
-    ensures step { IfOk result (λ step. StandsAt big count (rest_of (held window.old) (S.left shelf.old)) step) }
+    ensures step { IfOk result (λ step. StandsAt big count (rest_of (held window.old)
+        (S.left shelf.old)) step) }
     ensures shelf { Serves S.lends S.content S.begun S.faults shelf.old shelf.new }
     ensures cause { IfErr result (λ stop. HasSourceCause stop S.faults shelf.old shelf.new) }
 {
@@ -116,9 +118,11 @@ pub fn read_unit<S: Shelf>(
 ) -> Result<(Unit, usize), Stop>
     requires begun { IsTrue (S.begun shelf.old) }
     ensures bound { IfOk result (λ told. told.1 ≤ count) }
-    ensures passed { IfOk result (λ told. Passes (count - told.1) (rest_of (held window.old) (S.left shelf.old))
+    ensures passed { IfOk result (λ told. Passes (count - told.1)
+        (rest_of (held window.old) (S.left shelf.old))
         (rest_of (held window.new) (S.left shelf.new))) }
-    ensures unit { IfOk result (λ told. IsUnitOf big count (rest_of (held window.old) (S.left shelf.old)) told.0) }
+    ensures unit { IfOk result (λ told. IsUnitOf big count (rest_of (held window.old)
+        (S.left shelf.old)) told.0) }
     ensures shelf { Serves S.lends S.content S.begun S.faults shelf.old shelf.new }
     ensures cause { IfErr result (λ stop. HasSourceCause stop S.faults shelf.old shelf.new) }
 {

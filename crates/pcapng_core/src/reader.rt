@@ -43,18 +43,22 @@ fn read_start<S: Shelf>(
         IfSome (rest_of (held window.old) (S.left shelf.old)) (IsStart (carried_of carry.now) s))) }
     ensures fits { IfOk result (λ o. IfSome o (λ s. fits_kind (kind_said s.kind) s.total ≡ true)) }
     ensures few { IfOk result (λ o. IfSome o (λ s. (carried_of carry.now).blocks ≢ most_blocks)) }
-    ensures first { IfOk result (λ o. IfSome o (λ s. (carried_of carry.now).blocks ≡ 0 → s.kind ≡ Kind.Section)) }
+    ensures first { IfOk result (λ o. IfSome o (λ s. (carried_of carry.now).blocks ≡ 0 →
+        s.kind ≡ Kind.Section)) }
     ensures taken { IfOk result (λ o. TakesFront (rest_of (held window.old) (S.left shelf.old))
         (rest_of (held window.new) (S.left shelf.new)) front.new.items) }
     ensures twelve { IfOk result (λ o. IfSome o (λ s. length front.new.items ≡ block_len)) }
-    ensures ended { IfOk result (λ o. IfNone o (IsWhole (rest_of (held window.old) (S.left shelf.old)))) }
-    ensures over { IfOk result (λ o. IfNone o (LeavesNothing (rest_of (held window.old) (S.left shelf.old))
+    ensures ended { IfOk result (λ o. IfNone o (IsWhole (rest_of (held window.old)
+        (S.left shelf.old)))) }
+    ensures over { IfOk result (λ o. IfNone o (LeavesNothing
+        (rest_of (held window.old) (S.left shelf.old))
         (rest_of (held window.new) (S.left shelf.new)))) }
     ensures came { IfOk result (λ o. IfNone o ((carried_of carry.now).blocks ≢ 0)) }
     ensures fault { IfErr result (λ e. IfSome (fault_in e) (λ fault.
         IfSome (rest_of (held window.old) (S.left shelf.old)) (λ left. front_of (carried_of carry.now) left ≡ broken fault))) }
     ensures shelf { Serves S.lends S.content S.begun S.faults shelf.old shelf.new }
-    ensures cause { IsErrOf result NgFault.ReadFault → Rose (S.faults shelf.old) (S.faults shelf.new) }
+    ensures cause { IsErrOf result NgFault.ReadFault → Rose (S.faults shelf.old)
+        (S.faults shelf.new) }
 {
     front.clear();
     window.take(shelf, front, START_LEN)?;
@@ -74,19 +78,22 @@ fn read_front<S: Shelf>(
 ) -> Result<Body, NgFault>
     requires begun { IsTrue (S.begun shelf.old) }
     requires twelve { length front.old.items ≡ block_len }
-    ensures taken { IfOk result (λ body. TakesFront (rest_of (front.old.items ++ held window.old) (S.left shelf.old))
+    ensures taken { IfOk result (λ body. TakesFront (rest_of (front.old.items ++ held window.old)
+        (S.left shelf.old))
         (rest_of (held window.new) (S.left shelf.new)) front.new.items) }
     ensures front { IfOk result (λ body. length front.new.items ≡ Bodies.front_len start.kind) }
     ensures body { IfOk result (λ body.
         body ≡ body_said (carried_of carry.now) start.big start.total front.new.items start.kind) }
     ensures early { IfOk result IsEarly }
     ensures short { IfOk result IsShortBody }
-    ensures cut { IfErr result (λ e. IfSome (fault_in e) (λ fault. fault ≡ block_cut ((carried_of carry.now).blocks + 1))) }
+    ensures cut { IfErr result (λ e. IfSome (fault_in e) (λ fault. fault ≡
+        block_cut ((carried_of carry.now).blocks + 1))) }
     ensures fault { IfErr result (λ e. IfSome (fault_in e) (λ fault.
         IfSome (rest_of (front.old.items ++ held window.old) (S.left shelf.old)) (λ left.
         length left < Bodies.front_len start.kind))) }
     ensures shelf { Serves S.lends S.content S.begun S.faults shelf.old shelf.new }
-    ensures cause { IsErrOf result NgFault.ReadFault → Rose (S.faults shelf.old) (S.faults shelf.new) }
+    ensures cause { IsErrOf result NgFault.ReadFault → Rose (S.faults shelf.old)
+        (S.faults shelf.new) }
 {
     let most = front_len(start.kind);
     window.take(shelf, front, most)?;
@@ -105,11 +112,13 @@ fn pass_gap<S: Shelf>(
     count: usize,
 ) -> Result<Option<Unit>, Stop>
     requires begun { IsTrue (S.begun shelf.old) }
-    ensures passed { IfOk result (λ o. IfSome o (λ unit. Passes count (rest_of (held window.old) (S.left shelf.old))
+    ensures passed { IfOk result (λ o. IfSome o (λ unit. Passes count
+        (rest_of (held window.old) (S.left shelf.old))
         (rest_of (held window.new) (S.left shelf.new)))) }
     ensures unit { IfOk result (λ o. IfSome o (λ unit. start.kind ≡ Kind.Interface
         → IsUnitOf start.big count (rest_of (held window.old) (S.left shelf.old)) unit)) }
-    ensures cut { IfOk result (λ o. IfNone o (IfSome (rest_of (held window.old) (S.left shelf.old)) (λ left. length left < count))) }
+    ensures cut { IfOk result (λ o. IfNone o (IfSome (rest_of (held window.old) (S.left shelf.old))
+        (λ left. length left < count))) }
     ensures shelf { Serves S.lends S.content S.begun S.faults shelf.old shelf.new }
     ensures cause { IfErr result (λ stop. HasSourceCause stop S.faults shelf.old shelf.new) }
 {
@@ -147,13 +156,15 @@ fn read_behind<S: Shelf>(
 ) -> Result<Unit, NgFault>
     requires begun { IsTrue (S.begun shelf.old) }
     requires room { HasRoom start (length front.old.items) captured }
-    ensures read { IfOk result (λ unit. ReadsTo start (length front.old.items) captured into.new.items unit
+    ensures read { IfOk result (λ unit. ReadsTo start (length front.old.items) captured
+        into.new.items unit
         (rest_of (front.old.items ++ held window.old) (S.left shelf.old)) (rest_of (held window.new) (S.left shelf.new))) }
     ensures captured { IfOk result (λ unit. length into.new.items ≡ captured) }
     ensures fault { IfErr result (λ e. IfSome (fault_in e) (λ fault.
         IfSome (rest_of (front.old.items ++ held window.old) (S.left shelf.old)) (λ left. IsEndFault start number left fault))) }
     ensures shelf { Serves S.lends S.content S.begun S.faults shelf.old shelf.new }
-    ensures cause { IsErrOf result NgFault.ReadFault → Rose (S.faults shelf.old) (S.faults shelf.new) }
+    ensures cause { IsErrOf result NgFault.ReadFault → Rose (S.faults shelf.old)
+        (S.faults shelf.new) }
 {
     let total = start.total as usize;
     into.clear();
@@ -251,21 +262,27 @@ impl NgReader {
     /// Reads the next block.
     fn read_block<S: Shelf>(&mut self, shelf: &mut S, into: &mut Vec<u8>) -> Result<Block, NgFault>
         requires begun { IsTrue (S.begun shelf.old) }
-        ensures found { IfOk result (λ block. block ≢ Block.End → TakesBlock (carry_of self.old) (block_packet block into.new.items) (carry_of self.new)
+        ensures found { IfOk result (λ block. block ≢ Block.End →
+            TakesBlock (carry_of self.old) (block_packet block into.new.items) (carry_of self.new)
             (rest_left self.old (S.left shelf.old)) (rest_left self.new (S.left shelf.new))) }
-        ensures counted { IfOk result (λ block. block ≢ Block.End → (carry_of self.new).blocks ≡ (carry_of self.old).blocks + 1) }
+        ensures counted { IfOk result (λ block. block ≢ Block.End →
+            (carry_of self.new).blocks ≡ (carry_of self.old).blocks + 1) }
         ensures bounded { IfOk result (λ block. IsBoundedBlock block (length into.new.items)) }
-        ensures ended { IfOk result (λ block. block ≡ Block.End → IsWhole (rest_left self.old (S.left shelf.old))) }
+        ensures ended { IfOk result (λ block. block ≡ Block.End →
+            IsWhole (rest_left self.old (S.left shelf.old))) }
         ensures over { IfOk result (λ block. block ≡ Block.End → LeavesNothing
             (rest_left self.old (S.left shelf.old)) (rest_left self.new (S.left shelf.new))) }
-        ensures same { IfOk result (λ block. block ≡ Block.End → (carry_of self.new ≡ carry_of self.old) × ((carry_of self.old).blocks ≢ 0)) }
+        ensures same { IfOk result (λ block. block ≡ Block.End →
+            (carry_of self.new ≡ carry_of self.old) × ((carry_of self.old).blocks ≢ 0)) }
         ensures fault { IfErr result (λ e. IfSome (fault_in e) (λ fault.
             IfSome (rest_left self.old (S.left shelf.old)) (λ left. front_of (carry_of self.old) left ≡ broken fault))) }
-        ensures first { IfOk result (λ block. (carry_of self.old).blocks ≡ 0 → block ≡ Block.Other) }
+        ensures first { IfOk result (λ block. (carry_of self.old).blocks ≡ 0 →
+            block ≡ Block.Other) }
         ensures given { packets_given self.new ≡ packets_given self.old }
         ensures live { is_live self.new ≡ is_live self.old }
         ensures shelf { Serves S.lends S.content S.begun S.faults shelf.old shelf.new }
-        ensures cause { IsErrOf result NgFault.ReadFault → Rose (S.faults shelf.old) (S.faults shelf.new) }
+        ensures cause { IsErrOf result NgFault.ReadFault → Rose (S.faults shelf.old)
+            (S.faults shelf.new) }
     {
         let Some(start) = read_start(&self.carry, &mut self.window, shelf, &mut self.front)? else {
             return Ok(Block::End);
@@ -293,21 +310,27 @@ impl NgReader {
         into: &mut Vec<u8>,
     ) -> Result<Option<Packet>, NgFault>
         requires begun { IsTrue (S.begun shelf.old) }
-        ensures found { IfOk result (λ o. IfSome o (λ packet. GoesOn (carry_of self.old) (packet_told packet into.new.items ∷ [])
+        ensures found { IfOk result (λ o. IfSome o (λ packet.
+            GoesOn (carry_of self.old) (packet_told packet into.new.items ∷ [])
             (carry_of self.new) (rest_left self.old (S.left shelf.old)) (rest_left self.new (S.left shelf.new)))) }
-        ensures counted { IfOk result (λ o. IfSome o (λ packet. (carry_of self.old).blocks < (carry_of self.new).blocks)) }
-        ensures bounded { IfOk result (λ o. IfSome o (λ packet. IsBoundedPacket packet (length into.new.items))) }
-        ensures ended { IfOk result (λ o. IfNone o (IfSome (rest_left self.old (S.left shelf.old)) (IsOver (carry_of self.old) None))) }
+        ensures counted { IfOk result (λ o. IfSome o (λ packet. (carry_of self.old).blocks <
+            (carry_of self.new).blocks)) }
+        ensures bounded { IfOk result (λ o. IfSome o (λ packet.
+            IsBoundedPacket packet (length into.new.items))) }
+        ensures ended { IfOk result (λ o. IfNone o (IfSome (rest_left self.old (S.left shelf.old))
+            (IsOver (carry_of self.old) None))) }
         ensures over { IfOk result (λ o. IfNone o (LeavesNothing
             (rest_left self.old (S.left shelf.old)) (rest_left self.new (S.left shelf.new)))) }
-        ensures stays { IfOk result (λ o. IfNone o ((carry_of self.old).blocks ≤ (carry_of self.new).blocks)) }
+        ensures stays { IfOk result (λ o. IfNone o ((carry_of self.old).blocks ≤
+            (carry_of self.new).blocks)) }
         ensures came { IfOk result (λ o. IfNone o ((carry_of self.new).blocks ≢ 0)) }
         ensures fault { IfErr result (λ e. IfSome (fault_in e) (λ fault.
             IfSome (rest_left self.old (S.left shelf.old)) (IsOver (carry_of self.old) (Some fault)))) }
         ensures given { packets_given self.new ≡ packets_given self.old }
         ensures live { is_live self.new ≡ is_live self.old }
         ensures shelf { Serves S.lends S.content S.begun S.faults shelf.old shelf.new }
-        ensures cause { IsErrOf result NgFault.ReadFault → Rose (S.faults shelf.old) (S.faults shelf.new) }
+        ensures cause { IsErrOf result NgFault.ReadFault → Rose (S.faults shelf.old)
+            (S.faults shelf.new) }
     {
         loop {
             match self.read_block(shelf, into)? {
@@ -337,7 +360,8 @@ impl NgReader {
 
         ensures begun { IsTrue (S.begun shelf.new) }
         ensures kept { KeepsShelf S.lends S.content S.faults shelf.old shelf.new }
-        ensures cause { IsErrOf result NgFault.ReadFault → Rose (S.faults shelf.old) (S.faults shelf.new) }
+        ensures cause { IsErrOf result NgFault.ReadFault → Rose (S.faults shelf.old)
+            (S.faults shelf.new) }
     {
         let mut into = Vec::new(self.alloc);
         match self.read_block(shelf, &mut into) {
@@ -359,16 +383,20 @@ impl NgReader {
         requires begun { IsTrue (S.begun shelf.old) }
 
         // What is read of what was left is the packet, and then what is read of what is left now.
-        ensures found { IfOk result (λ o. IfSome o (λ f. GoesOn (carry_of self.old) (packet_of f into.new.items ∷ [])
+        ensures found { IfOk result (λ o. IfSome o (λ f. GoesOn (carry_of self.old)
+            (packet_of f into.new.items ∷ [])
             (carry_of self.new) (rest_left self.old (S.left shelf.old)) (rest_left self.new (S.left shelf.new)))) }
-        ensures number { IfOk result (λ o. IfSome o (λ f. f.frame.number ≡ packets_given self.old + 1)) }
+        ensures number { IfOk result (λ o. IfSome o (λ f. f.frame.number ≡ packets_given self.old +
+            1)) }
         ensures few { IfOk result (λ o. IfSome o (λ f. f.frame.number ≤ most_blocks)) }
-        ensures captured { IfOk result (λ o. IfSome o (λ f. f.frame.captured ≡ length into.new.items)) }
+        ensures captured { IfOk result (λ o. IfSome o (λ f. f.frame.captured ≡
+            length into.new.items)) }
         ensures short { IfOk result (λ o. IfSome o (λ f. f.frame.captured ≤ most_captured)) }
         ensures moment { IfOk result (λ o. IfSome o (λ f. f.frame.moment ≤ max_rank)) }
 
         // There is no packet only where none is left, nor a fault, and then nothing is left for a later call.
-        ensures ended { IfOk result (λ o. IfNone o (IfSome (rest_left self.old (S.left shelf.old)) (IsOver (carry_of self.old) None))) }
+        ensures ended { IfOk result (λ o. IfNone o (IfSome (rest_left self.old (S.left shelf.old))
+            (IsOver (carry_of self.old) None))) }
         ensures over { IfOk result (λ o. IfNone o (LeavesNothing
             (rest_left self.old (S.left shelf.old)) (rest_left self.new (S.left shelf.new)))) }
         ensures came { IfOk result (λ o. IfNone o ((carry_of self.new).blocks ≢ 0)) }
@@ -383,7 +411,8 @@ impl NgReader {
         ensures bounded { length (bytes_held self.new) ≤ most_held }
         ensures begun { IsTrue (S.begun shelf.new) }
         ensures kept { KeepsShelf S.lends S.content S.faults shelf.old shelf.new }
-        ensures cause { IsErrOf result NgFault.ReadFault → Rose (S.faults shelf.old) (S.faults shelf.new) }
+        ensures cause { IsErrOf result NgFault.ReadFault → Rose (S.faults shelf.old)
+            (S.faults shelf.new) }
     {
         match self.read_packet(shelf, into) {
             Ok(Some(packet)) => {

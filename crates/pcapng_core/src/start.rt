@@ -110,8 +110,10 @@ pub fn start_in(carry: &Carry, bytes: &[u8]) -> Result<Start, NgFault>
     requires bound { length bytes.now ≤ 12 }
     ensures start { IfOk result (λ s. IsStart (carried_of carry.now) s bytes.now) }
     ensures first { IfOk result (λ s. (carried_of carry.now).blocks ≡ 0 → s.kind ≡ Kind.Section) }
-    ensures fault { IfErr result (λ e. IsSomeAnd (fault_in e) (IsBlockFault (carried_of carry.now) bytes.now)) }
-    ensures cut { IfErr result (λ e. IfSome (fault_in e) (λ fault. code fault ≡ 11 → length bytes.now < 12)) }
+    ensures fault { IfErr result (λ e. IsSomeAnd (fault_in e)
+        (IsBlockFault (carried_of carry.now) bytes.now)) }
+    ensures cut { IfErr result (λ e. IfSome (fault_in e) (λ fault. code fault ≡ 11 →
+        length bytes.now < 12)) }
 {
     let number = carry.number();
     if carry.blocks == u32::MAX {

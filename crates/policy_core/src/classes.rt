@@ -5,8 +5,8 @@ ghost use Rattle.policy_rules.specs.Entries.{entries_of, AreRising};
 ghost use Rattle.policy_rules.specs.Resolved.{classes_in, marks_of};
 ghost use Rattle.policy_core.specs.Made.{made, made_of};
 
-use crate::parts::Class;
 use crate::nodes::marks;
+use crate::parts::Class;
 use list_core::List;
 use policy_text_defs::{Attrs, Condition, Statement};
 use std::alloc::{AllocError, Global};
@@ -17,7 +17,12 @@ fn class(
     conditions: &[Condition],
     leaf: u32,
 ) -> Result<Class, AllocError>
-    ensures { IfOk result (λ c. made c ≡ record { marks = marks_of attrs.now; conditions = conditions.now; leaf = leaf }) }
+    ensures { IfOk result (λ c. made c ≡ record {
+      marks = marks_of attrs.now;
+      conditions =
+          conditions.now;
+      leaf = leaf;
+    }) }
 {
     Ok(Class {
         marks: marks(attrs),
@@ -33,7 +38,8 @@ pub(crate) fn classes(
     leaves: &[u32],
 ) -> Result<List<Class>, AllocError>
     requires len { length leaves.now ≡ length (classes_in (entries_of lines.now)) }
-    ensures classes { IfOk result (λ all. map made all ≡ made_of (classes_in (entries_of lines.now)) leaves.now) }
+    ensures classes { IfOk result (λ all. map made all ≡ made_of (classes_in (entries_of lines.now))
+        leaves.now) }
 {
     let mut classes = List::from_vec(Vec::new(alloc));
     for (_, statement) in lines {

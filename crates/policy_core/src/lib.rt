@@ -8,13 +8,13 @@ mod faults;
 mod graphs;
 mod homes;
 mod laws;
+mod nodes;
 mod numbers;
 mod office;
 mod parts;
 mod place_laws;
 mod policy;
 mod resolution;
-mod nodes;
 mod text_laws;
 
 pub use family_laws::{families_are_forests, families_are_shallow};
@@ -27,7 +27,9 @@ pub use laws::{
 };
 pub use numbers::places;
 pub use parts::{Class, Marks, PolicyNode};
-pub use place_laws::{graphs_give_the_tree, homes_give_the_classes, resolved_policies_are_accepted};
+pub use place_laws::{
+    graphs_give_the_tree, homes_give_the_classes, resolved_policies_are_accepted,
+};
 pub use policy::Policy;
 pub use policy_rules::PolicyFault;
 pub use resolution::resolve;

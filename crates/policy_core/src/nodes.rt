@@ -13,8 +13,7 @@ ghost use Rattle.policy_core.specs.Parts.{HavePrograms, told};
 
 use crate::parts::{Marks, PolicyNode};
 use list_core::{List, Name};
-use policy_statements::Names;
-use policy_statements::program_place;
+use policy_statements::{Names, program_place};
 use policy_text_defs::{Attrs, Statement};
 use std::alloc::{AllocError, Global};
 
@@ -31,7 +30,8 @@ pub(crate) fn marks(attrs: &Attrs) -> Marks
 
 /// The place of the program that a name means.
 fn program(transactions: &Names<'_>, used: &str) -> usize
-    ensures program { WhereDeclared transactions.now (λ es. is_transaction_known es used.now ≡ true → IsPlaceOf es used.now result) }
+    ensures program { WhereDeclared transactions.now (λ es. is_transaction_known es used.now ≡
+        true → IsPlaceOf es used.now result) }
 {
     program_place(transactions, used).unwrap_or(0)
 }
@@ -64,7 +64,8 @@ fn add_station(
     transactions: &Names<'_>,
     statement: &Statement,
 ) -> Result<(), AllocError>
-    ensures added { WhereDeclared transactions.now (λ es. (earlier : List Entry) → is_known es earlier (sense_of statement.now) ≡ true
+    ensures added { WhereDeclared transactions.now (λ es. (earlier : List Entry) →
+        is_known es earlier (sense_of statement.now) ≡ true
         → HavePrograms stations.old (known_programs es) → OnOk result (AreMore es (sense_of statement.now) stations.old stations.new)) }
 {
     match statement {
@@ -87,8 +88,10 @@ pub(crate) fn stations(
     requires rising { AreRising (entries_of lines.now) }
     requires few { AreFew (entries_of lines.now) }
     requires transactions { transactions.now ≡ declared transaction_name (entries_of lines.now) }
-    ensures nodes { IfOk result (λ all. nodes_told (known_programs (entries_of lines.now)) all ≡ nodes_in (entries_of lines.now)) }
-    ensures programs { IfOk result (λ all. HavePrograms all (known_programs (entries_of lines.now))) }
+    ensures nodes { IfOk result (λ all. nodes_told (known_programs (entries_of lines.now)) all ≡
+        nodes_in (entries_of lines.now)) }
+    ensures programs { IfOk result (λ all. HavePrograms all (known_programs
+        (entries_of lines.now))) }
 {
     let mut stations = List::from_vec(Vec::new(alloc));
     for (_, statement) in lines {

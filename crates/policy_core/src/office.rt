@@ -46,7 +46,8 @@ fn add_class(
     name: &str,
     conditions: &[Condition],
 ) -> Result<(), AllocError>
-    ensures { OnOk result (map sense_of all.new ≡ map sense_of all.old ++ class name.now unset conditions.now ∷ []) }
+    ensures { OnOk result (map sense_of all.new ≡ map sense_of all.old ++ class name.now unset
+        conditions.now ∷ []) }
 {
     let name = Name::new(alloc, name)?;
     let conditions = List::from_vec(Vec::from_slice(alloc, conditions)?);
@@ -61,7 +62,8 @@ fn add_leaf(
     used: &str,
     weight: Option<u32>,
 ) -> Result<(), AllocError>
-    ensures { OnOk result (map sense_of all.new ≡ map sense_of all.old ++ leaf name.now used.now (of_weight weight) None (name.now ∷ []) ∷ []) }
+    ensures { OnOk result (map sense_of all.new ≡ map sense_of all.old ++ leaf name.now used.now
+        (of_weight weight) None (name.now ∷ []) ∷ []) }
 {
     let classes = names(alloc, &[name])?;
     let name = Name::new(alloc, name)?;

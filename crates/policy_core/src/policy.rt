@@ -130,7 +130,8 @@ impl Policy {
 
     pub fn is_leaf(&self, node: u32) -> bool
         requires there { node < nodes self.now.policy.tree }
-        ensures leaf { IsTrue result ↔ LeadsToLeaf self.now.policy.tree (address_at self.now.policy.tree node) }
+        ensures leaf { IsTrue result ↔ LeadsToLeaf self.now.policy.tree
+            (address_at self.now.policy.tree node) }
     {
         self.tree.is_leaf(node)
     }
@@ -138,9 +139,12 @@ impl Policy {
     /// The number of a node's child at a digit.
     pub fn child(&self, node: u32, digit: u32) -> u32
         requires there { node < nodes self.now.policy.tree }
-        requires child { IsAddressOf self.now.policy.tree (address_at self.now.policy.tree node ++ digit ∷ []) }
-        ensures child { result ≡ number_at self.now.policy.tree (address_at self.now.policy.tree node ++ digit ∷ []) }
-        ensures address { address_at self.now.policy.tree result ≡ address_at self.now.policy.tree node ++ digit ∷ [] }
+        requires child { IsAddressOf self.now.policy.tree (address_at self.now.policy.tree node ++
+            digit ∷ []) }
+        ensures child { result ≡ number_at self.now.policy.tree
+            (address_at self.now.policy.tree node ++ digit ∷ []) }
+        ensures address { address_at self.now.policy.tree result ≡
+            address_at self.now.policy.tree node ++ digit ∷ [] }
         ensures within { result < nodes self.now.policy.tree }
     {
         self.tree.child(node, digit)

@@ -10,16 +10,16 @@ ghost use Rattle.policy_statements.specs.Kept.{AreSpaces};
 ghost use Rattle.policy_core.specs.PlaceLaws.{AreValid};
 
 use crate::classes::classes;
-use crate::policy::Policy;
-use crate::nodes::stations;
-use list_core::List;
-use policy_statements::{Spaces, declarations};
 use crate::faults::check_family;
 use crate::graphs::graph;
-use policy_statements::{check_leaves, check_limits, check_parents, version};
 use crate::homes::leaves;
-use policy_statements::checked_transactions;
+use crate::nodes::stations;
+use crate::policy::Policy;
+use list_core::List;
 use policy_rules::PolicyFault;
+use policy_statements::{
+    Spaces, check_leaves, check_limits, check_parents, checked_transactions, declarations, version,
+};
 use policy_text::Lines;
 use policy_text_defs::Statement;
 use range_core::Checked;

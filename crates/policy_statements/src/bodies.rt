@@ -44,8 +44,10 @@ fn add_begun(
     statement: &Statement,
     behind: &[(u32, Statement)],
 ) -> Result<(), AllocError>
-    requires { AllByRecursion (λ b. IsSoundBody b.lines) (opened (sense_of statement.now) (entries_of behind.now)) }
-    ensures { OnOk result (AreMore (programs_begun (sense_of statement.now) (entries_of behind.now)) transactions.old transactions.new) }
+    requires { AllByRecursion (λ b. IsSoundBody b.lines) (opened (sense_of statement.now)
+        (entries_of behind.now)) }
+    ensures { OnOk result (AreMore (programs_begun (sense_of statement.now) (entries_of behind.now))
+        transactions.old transactions.new) }
 {
     match statement {
         Statement::Transaction(_) => transactions.push(transaction(alloc, body(behind))?),
@@ -62,7 +64,8 @@ pub fn add_written(
     requires rising { AreRising (entries_of lines.now) }
     requires few { AreFew (entries_of lines.now) }
     requires valid { All (λ e. IsValid e.1) (entries_of lines.now) }
-    ensures { OnOk result (AreMore (programs (entries_of lines.now)) transactions.old transactions.new) }
+    ensures { OnOk result (AreMore (programs (entries_of lines.now)) transactions.old
+        transactions.new) }
 {
     for (place, (_, statement)) in lines.iter().enumerate() {
         add_begun(alloc, transactions, statement, &lines[place + 1..])?;

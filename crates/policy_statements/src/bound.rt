@@ -36,8 +36,10 @@ impl<'a> Variables<'a> {
         body: &'a [(u32, Statement)],
     ) -> Result<Variables<'a>, AllocError>
         requires { IsSoundBody (entries_of body.now) }
-        ensures keeps { IfOk result (λ v. v.keeps ≡ declared keep_name (entries_of body.entry.now)) }
-        ensures eaches { IfOk result (λ v. v.eaches ≡ declared each_name (entries_of body.entry.now)) }
+        ensures keeps { IfOk result (λ v. v.keeps ≡ declared keep_name
+            (entries_of body.entry.now)) }
+        ensures eaches { IfOk result (λ v. v.eaches ≡ declared each_name
+            (entries_of body.entry.now)) }
         ensures few_keeps { IfOk result (λ v. length v.keeps ≤ most_variables) }
         ensures few_eaches { IfOk result (λ v. length v.eaches ≤ most_variables) }
     {
@@ -49,8 +51,10 @@ impl<'a> Variables<'a> {
     }
 
     fn declare(&mut self, statement: &'a Statement) -> Result<(), AllocError>
-        ensures keeps { OnOk result (self.new.keeps ≡ with_names self.old.keeps (keep_name (sense_of statement.entry.now))) }
-        ensures eaches { OnOk result (self.new.eaches ≡ with_names self.old.eaches (each_name (sense_of statement.entry.now))) }
+        ensures keeps { OnOk result (self.new.keeps ≡ with_names self.old.keeps
+            (keep_name (sense_of statement.entry.now))) }
+        ensures eaches { OnOk result (self.new.eaches ≡ with_names self.old.eaches
+            (each_name (sense_of statement.entry.now))) }
     {
         match statement {
             Statement::Keep(name, _) => {

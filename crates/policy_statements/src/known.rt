@@ -9,11 +9,11 @@ ghost use Rattle.policy_rules.specs.Clauses.{IsFirstLine, IsUnknown, is_known, a
 ghost use Rattle.policy_rules.specs.Entries.{entries_of, AreRising};
 ghost use Rattle.policy_statements.specs.Kept.{AreSpaces, AreVariables};
 
+use crate::names::Names;
 use crate::spaces::Spaces;
 use crate::variables::variables_after;
 use crate::words::is_builtin;
 use list_core::Name;
-use crate::names::Names;
 use policy_text_defs::{Statement, Term, is_variable};
 use std::alloc::{AllocError, Global};
 
@@ -54,14 +54,16 @@ fn are_among(names: &[Name], declared: &Names) -> bool
 
 /// Whether a transaction is built in or declared.
 fn is_transaction_known(spaces: &Spaces, name: &str) -> bool
-    ensures { (entries : List Entry) → AreSpaces entries spaces.now → result ≡ is_transaction_known entries name.now }
+    ensures { (entries : List Entry) → AreSpaces entries spaces.now →
+        result ≡ is_transaction_known entries name.now }
 {
     is_builtin(name) || spaces.transactions.contains(name)
 }
 
 /// Whether all names that a statement uses are declared.
 fn is_known(spaces: &Spaces, variables: &Names, statement: &Statement) -> bool
-    ensures { (entries earlier : List Entry) → AreSpaces entries spaces.now → AreVariables earlier variables.now
+    ensures { (entries earlier : List Entry) → AreSpaces entries spaces.now →
+        AreVariables earlier variables.now
         → result ≡ is_known entries earlier (sense_of statement.now) }
 {
     match statement {

@@ -15,7 +15,8 @@ use std::alloc::Global;
 
 /// Whether a statement declares a class that isn't listed once.
 fn is_not_listed_once(tally: &Tally, statement: &Statement) -> bool
-    ensures { (all : List Name) → IsTallyOf tally.now all → result ≡ is_not_listed_once all (sense_of statement.now) }
+    ensures { (all : List Name) → IsTallyOf tally.now all → result ≡
+        is_not_listed_once all (sense_of statement.now) }
 {
     match statement {
         Statement::Class(name, _, _) => !tally.is_once(name.as_str()),
@@ -27,7 +28,8 @@ fn is_not_listed_once(tally: &Tally, statement: &Statement) -> bool
 fn first_stray(lines: &[(u32, Statement)], tally: &Tally) -> Option<u32>
     requires rising { AreRising (entries_of lines.now) }
     requires tally { IsTallyOf tally.now (listed leaf_classes (entries_of lines.now)) }
-    ensures first { IsFirstLine (IsNotListedOnce (entries_of lines.now)) (entries_of lines.now) result }
+    ensures first { IsFirstLine (IsNotListedOnce (entries_of lines.now)) (entries_of lines.now)
+        result }
 {
     for (line, statement) in lines {
         if is_not_listed_once(tally, statement) {
@@ -53,9 +55,11 @@ fn has_catch_all(lines: &[(u32, Statement)]) -> bool
 /// Refuses a class that leaves don't list exactly once, and then a policy whose last class has a condition or that has no class.
 pub fn check_leaves(alloc: Global, lines: &[(u32, Statement)]) -> Result<(), PolicyFault>
     requires rising { AreRising (entries_of lines.now) }
-    ensures leaves { OnOk result (NoLine (IsNotListedOnce (entries_of lines.now)) (entries_of lines.now)) }
+    ensures leaves { OnOk result (NoLine (IsNotListedOnce (entries_of lines.now))
+        (entries_of lines.now)) }
     ensures catch_all { OnOk result (has_catch_all (entries_of lines.now) ≡ true) }
-    ensures fault { IfErr result (λ f. AreShallow (entries_of lines.now) → IsFault (entries_of lines.now) f) }
+    ensures fault { IfErr result (λ f. AreShallow (entries_of lines.now) →
+        IsFault (entries_of lines.now) f) }
 {
     let tally = tally_classes(alloc, lines)?;
     if let Some(line) = first_stray(lines, &tally) {

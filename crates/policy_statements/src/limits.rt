@@ -28,7 +28,8 @@ fn has_limit(statement: &Statement) -> bool
 /// The first line with a limit, in version 1.
 fn first_ahead(lines: &[(u32, Statement)]) -> Option<u32>
     requires rising { AreRising (entries_of lines.now) }
-    ensures first { IsFirstLine (NeedsVersion2 (entries_of lines.now)) (entries_of lines.now) result }
+    ensures first { IsFirstLine (NeedsVersion2 (entries_of lines.now)) (entries_of lines.now)
+        result }
 {
     if version(lines) != 1 {
         return None;
@@ -44,8 +45,10 @@ fn first_ahead(lines: &[(u32, Statement)]) -> Option<u32>
 /// Refuses a limit in a policy of version 1.
 pub fn check_limits(lines: &[(u32, Statement)]) -> Result<(), PolicyFault>
     requires rising { AreRising (entries_of lines.now) }
-    ensures limits { OnOk result (NoLine (NeedsVersion2 (entries_of lines.now)) (entries_of lines.now)) }
-    ensures fault { IfErr result (λ f. HaveCatchAll (entries_of lines.now) → IsFault (entries_of lines.now) f) }
+    ensures limits { OnOk result (NoLine (NeedsVersion2 (entries_of lines.now))
+        (entries_of lines.now)) }
+    ensures fault { IfErr result (λ f. HaveCatchAll (entries_of lines.now) →
+        IsFault (entries_of lines.now) f) }
 {
     match first_ahead(lines) {
         Some(line) => Err(PolicyFault::OldVersion(line)),

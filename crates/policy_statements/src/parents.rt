@@ -16,7 +16,8 @@ use std::alloc::Global;
 
 /// Whether a statement declares a node or leaf that isn't the root and isn't listed once.
 fn is_orphan(tally: &Tally, statement: &Statement) -> bool
-    ensures { (all : List Name) → IsTallyOf tally.now all → result ≡ is_orphan all (sense_of statement.now) }
+    ensures { (all : List Name) → IsTallyOf tally.now all → result ≡
+        is_orphan all (sense_of statement.now) }
 {
     match statement {
         Statement::Leaf(name, ..) | Statement::Node(name, ..) => {
@@ -60,9 +61,11 @@ fn has_root(lines: &[(u32, Statement)]) -> bool
 /// Refuses a node or leaf other than `root` that isn't listed as a child exactly once, and then the want of a root.
 pub fn check_parents(alloc: Global, lines: &[(u32, Statement)]) -> Result<(), PolicyFault>
     requires rising { AreRising (entries_of lines.now) }
-    ensures parents { OnOk result (NoLine (IsOrphan (entries_of lines.now)) (entries_of lines.now)) }
+    ensures parents { OnOk result (NoLine (IsOrphan (entries_of lines.now))
+        (entries_of lines.now)) }
     ensures root { OnOk result (has_root (entries_of lines.now) ≡ true) }
-    ensures fault { IfErr result (λ f. AreComputable (entries_of lines.now) → IsFault (entries_of lines.now) f) }
+    ensures fault { IfErr result (λ f. AreComputable (entries_of lines.now) →
+        IsFault (entries_of lines.now) f) }
 {
     let tally = tally_children(alloc, lines)?;
     if let Some(line) = first_orphan(lines, &tally) {

@@ -7,8 +7,8 @@ ghost use Rattle.policy_rules.specs.Clauses.{is_transaction_known};
 ghost use Rattle.policy_rules.specs.Programs.{program_named};
 ghost use Rattle.policy_statements.specs.Known.{WhereDeclared, program_at};
 
-use list_core::List;
 use crate::names::Names;
+use list_core::List;
 use policy_rules::BUILTINS;
 use rank_core::builtin;
 use rank_defs::Transaction;
@@ -37,8 +37,10 @@ fn builtin_place(name: &str) -> Option<usize>
 /// The place of the transaction with this name among all, as `checked_transactions` lists them. `transactions` are the
 /// names of those that are written, in the order of their lines.
 pub fn program_place(transactions: &Names<'_>, name: &str) -> Option<usize>
-    ensures place { WhereDeclared transactions.now (λ es. program_at es result ≡ program_named es name.now) }
-    ensures known { WhereDeclared transactions.now (λ es. is_some result ≡ is_transaction_known es name.now) }
+    ensures place { WhereDeclared transactions.now (λ es. program_at es result ≡
+        program_named es name.now) }
+    ensures known { WhereDeclared transactions.now (λ es. is_some result ≡
+        is_transaction_known es name.now) }
 {
     match builtin_place(name) {
         Some(place) => Some(place),

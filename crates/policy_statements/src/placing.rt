@@ -9,7 +9,8 @@ use policy_text_defs::Statement;
 
 /// Whether a statement may stand behind the last one, or first where there is none.
 fn is_placed(last: Option<&Statement>, statement: &Statement) -> bool
-    ensures { result ≡ is_placed_behind (option_map (λ s. sense_of s.now) last.entry) (sense_of statement.now) }
+    ensures { result ≡ is_placed_behind (option_map (λ s. sense_of s.now) last.entry)
+        (sense_of statement.now) }
 {
     let Some(last) = last else {
         return matches!(statement, Statement::Version(_));

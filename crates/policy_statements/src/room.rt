@@ -55,7 +55,8 @@ impl Room {
 
     /// Gives a statement its room. False where there is none.
     fn admit(&mut self, statement: &Statement) -> bool
-        ensures beyond { (earlier : List Entry) → IsRoom earlier self.old → not result ≡ is_one_too_many earlier (sense_of statement.now) }
+        ensures beyond { (earlier : List Entry) → IsRoom earlier self.old →
+            not result ≡ is_one_too_many earlier (sense_of statement.now) }
         ensures room { result ≡ true → IsRoomAfter self.old (sense_of statement.now) self.new }
     {
         match statement {

@@ -7,9 +7,9 @@ ghost use Rattle.policy_rules.specs.Codes.{code_of};
 ghost use Rattle.policy_rules.specs.Entries.{entries_of, AreRising};
 ghost use Rattle.policy_statements.specs.Kept.{AreSpaces, AreSpacesAfter, AreVariables};
 
+use crate::names::Names;
 use crate::variables::variables_after;
 use crate::words::is_builtin;
-use crate::names::Names;
 use policy_rules::PolicyFault;
 use policy_text_defs::Statement;
 use std::alloc::{AllocError, Global};
@@ -35,7 +35,8 @@ impl<'a> Spaces<'a> {
 
     /// Whether the statement's name is taken.
     fn is_declared(&self, variables: &Names, statement: &Statement) -> bool
-        ensures { (earlier : List Entry) → AreSpaces earlier self.now → AreVariables earlier variables.now
+        ensures { (earlier : List Entry) → AreSpaces earlier self.now →
+            AreVariables earlier variables.now
             → result ≡ is_declared earlier (sense_of statement.now) }
     {
         match statement {

@@ -4,14 +4,15 @@ ghost use Rattle.policy_rules.specs.Entries.{entries_of};
 ghost use Rattle.policy_rules.specs.Names.{Name as Bytes, listed, children, leaf_classes};
 ghost use Rattle.policy_statements.specs.Names.{IsTallyOf};
 
-use list_core::Name;
 use crate::tally::Tally;
+use list_core::Name;
 use policy_text_defs::Statement;
 use std::alloc::{AllocError, Global};
 
 /// Counts the names of one list. The error is want of memory.
 fn tally_names<'a>(tally: &mut Tally<'a>, names: &'a [Name]) -> Result<(), AllocError>
-    ensures more { (all : List Bytes) → IsTallyOf tally.old all → OnOk result (IsTallyOf tally.new (all ++ names.entry.now)) }
+    ensures more { (all : List Bytes) → IsTallyOf tally.old all →
+        OnOk result (IsTallyOf tally.new (all ++ names.entry.now)) }
 {
     for name in names {
         tally.add(name.as_str())?;
@@ -40,7 +41,8 @@ pub fn tally_classes<'a>(
     alloc: Global,
     lines: &'a [(u32, Statement)],
 ) -> Result<Tally<'a>, AllocError>
-    ensures tally { IfOk result (λ t. IsTallyOf t (listed leaf_classes (entries_of lines.entry.now))) }
+    ensures tally { IfOk result (λ t. IsTallyOf t (listed leaf_classes
+        (entries_of lines.entry.now))) }
 {
     let mut tally = Tally::new(alloc);
     for (_, statement) in lines {

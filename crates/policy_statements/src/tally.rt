@@ -25,7 +25,8 @@ impl<'a> Tally<'a> {
 
     /// One more name came. The error is want of memory, and leaves what came before.
     pub fn add(&mut self, name: &'a str) -> Result<(), AllocError>
-        ensures tally { (all : List Bytes) → IsTallyOf self.old all → OnOk result (IsTallyOf self.new (all ++ name.entry.now ∷ [])) }
+        ensures tally { (all : List Bytes) → IsTallyOf self.old all →
+            OnOk result (IsTallyOf self.new (all ++ name.entry.now ∷ [])) }
         ensures seen { OnErr result (self.new.seen ≡ self.old.seen) }
         ensures again { OnErr result (self.new.again ≡ self.old.again) }
     {

@@ -18,7 +18,8 @@ use std::alloc::{AllocError, Global};
 fn expression(alloc: Global, variables: &Variables<'_>, term: &Term) -> Result<Expr, AllocError>
     requires few_keeps { length variables.now.keeps ≤ most_variables }
     requires few_eaches { length variables.now.eaches ≤ most_variables }
-    ensures { IfOk result (λ e. formula_of e ≡ formula_in variables.now.keeps variables.now.eaches (phrase_of term.now)) }
+    ensures { IfOk result (λ e. formula_of e ≡ formula_in variables.now.keeps variables.now.eaches
+        (phrase_of term.now)) }
 {
     match term {
         Term::Number(n) => Ok(Expr::Number(*n)),

@@ -49,7 +49,8 @@ impl<'a> Cursor<'a> {
 
     #[tactic(auto, unfolding(policy_text_defs::specs::StatementReading::bounded))]
     fn range(&mut self, field: FieldName, low: u64) -> Result<Condition, Refusal>
-        ensures { Reads same (forms.range_from field low) result self.old.rest.now self.new.rest.now }
+        ensures { Reads same (forms.range_from field low) result self.old.rest.now
+            self.new.rest.now }
     {
         let high = self.upper(low)?;
         if low > high || high > field.most() as u64 {

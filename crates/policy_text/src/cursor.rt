@@ -67,7 +67,8 @@ impl<'a> Cursor<'a> {
 
     /// Takes a mark where it stands first.
     pub fn takes_mark(&mut self, mark: Mark) -> bool
-        ensures { TakesIf (λ g. spec.unit_if (spec.is_sign mark g)) result self.old.rest.now self.new.rest.now }
+        ensures { TakesIf (λ g. spec.unit_if (spec.is_sign mark g)) result self.old.rest.now
+            self.new.rest.now }
     {
         match self.rest {
             [first, rest @ ..] if is_mark(first, mark) => {
@@ -112,7 +113,8 @@ impl<'a> Cursor<'a> {
     /// A number that is at most `most`.
     #[tactic(auto, unfolding(policy_text_defs::specs::StatementReading::within))]
     pub fn number_to(&mut self, most: u32) -> Result<u32, Refusal>
-        ensures reads { Reads same (forms.number_to most) result self.old.rest.now self.new.rest.now }
+        ensures reads { Reads same (forms.number_to most) result self.old.rest.now
+            self.new.rest.now }
         ensures low { IfOk result (λ n. n ≤ most) }
     {
         let number = self.number()?;

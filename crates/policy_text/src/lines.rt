@@ -21,7 +21,8 @@ impl Lines {
     pub fn of(alloc: Global, statements: List<Statement>) -> Result<Lines, AllocError>
         requires written { All (λ s. IsWritten (sense_of s)) statements }
         requires few { length statements < 2 ^ 32 }
-        ensures { IfOk result (λ lines. map entry_of lines.held ≡ numbered 1 (map sense_of statements)) }
+        ensures { IfOk result (λ lines. map entry_of lines.held ≡
+            numbered 1 (map sense_of statements)) }
     {
         let mut held = List::from_vec(Vec::new(alloc));
         let mut number = 0;

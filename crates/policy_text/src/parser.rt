@@ -15,7 +15,8 @@ use text_core::{Item, Mark, Refusal};
 
 #[tactic(auto, unfolding(policy_text_defs::specs::Reading::limited))]
 fn pair(alloc: Global, op: Op, left: Part, right: Part) -> Result<Part, Refusal>
-    ensures { Makes phrase_of_part (spec.limited (two op (phrase_of left.term) (phrase_of right.term))) result }
+    ensures { Makes phrase_of_part (spec.limited (two op (phrase_of left.term)
+        (phrase_of right.term))) result }
 {
     let depth = left.depth.max(right.depth) + 1;
     if depth > MAX_DEPTH {
@@ -43,7 +44,8 @@ fn negated(alloc: Global, part: Part) -> Result<Part, Refusal>
 
 #[tactic(auto, unfolding(policy_text_defs::specs::Reading::limited))]
 fn chosen(alloc: Global, test: Part, then: Part, other: Part) -> Result<Part, Refusal>
-    ensures { Makes phrase_of_part (spec.limited (choice (phrase_of test.term) (phrase_of then.term) (phrase_of other.term))) result }
+    ensures { Makes phrase_of_part (spec.limited (choice (phrase_of test.term) (phrase_of then.term)
+        (phrase_of other.term))) result }
 {
     let depth = test.depth.max(then.depth.max(other.depth)) + 1;
     if depth > MAX_DEPTH {
@@ -76,7 +78,8 @@ fn operand(alloc: Global, word: &[u8]) -> Result<Part, Refusal>
 #[tactic(auto, using(policy_text_defs::proofs::ChainLemmas::inside_more))]
 #[cycle(expression)]
 fn inside(alloc: Global, cursor: &mut Cursor<'_>, room: u32) -> Result<Part, Refusal>
-    ensures { Reads phrase_of_part (spec.inside room) result cursor.old.rest.now cursor.new.rest.now }
+    ensures { Reads phrase_of_part (spec.inside room) result cursor.old.rest.now
+        cursor.new.rest.now }
 {
     if room == 0 {
         return Err(Refusal::NoForm);
@@ -88,7 +91,8 @@ fn inside(alloc: Global, cursor: &mut Cursor<'_>, room: u32) -> Result<Part, Ref
 #[tactic(auto, unfolding(policy_text_defs::specs::Reading::argument))]
 #[cycle(expression)]
 fn argument(alloc: Global, cursor: &mut Cursor<'_>, room: u32, mark: Mark) -> Result<Part, Refusal>
-    ensures { Reads phrase_of_part (spec.argument (spec.inside room) mark) result cursor.old.rest.now cursor.new.rest.now }
+    ensures { Reads phrase_of_part (spec.argument (spec.inside room) mark) result
+        cursor.old.rest.now cursor.new.rest.now }
 {
     let part = inside(alloc, cursor, room)?;
     cursor.mark(mark)?;
@@ -99,7 +103,8 @@ fn argument(alloc: Global, cursor: &mut Cursor<'_>, room: u32, mark: Mark) -> Re
 #[tactic(auto, unfolding(policy_text_defs::specs::Reading::call))]
 #[cycle(expression)]
 fn call(alloc: Global, cursor: &mut Cursor<'_>, room: u32, op: Op) -> Result<Part, Refusal>
-    ensures { Reads phrase_of_part (spec.call (spec.inside room) op) result cursor.old.rest.now cursor.new.rest.now }
+    ensures { Reads phrase_of_part (spec.call (spec.inside room) op) result cursor.old.rest.now
+        cursor.new.rest.now }
 {
     cursor.mark(Mark::Open)?;
     let first = argument(alloc, cursor, room, Mark::Comma)?;
@@ -111,7 +116,8 @@ fn call(alloc: Global, cursor: &mut Cursor<'_>, room: u32, op: Op) -> Result<Par
 #[tactic(auto, unfolding(policy_text_defs::specs::Reading::opposite))]
 #[cycle(expression)]
 fn opposite(alloc: Global, cursor: &mut Cursor<'_>, room: u32) -> Result<Part, Refusal>
-    ensures { Reads phrase_of_part (spec.opposite (spec.inside room)) result cursor.old.rest.now cursor.new.rest.now }
+    ensures { Reads phrase_of_part (spec.opposite (spec.inside room)) result cursor.old.rest.now
+        cursor.new.rest.now }
 {
     cursor.mark(Mark::Open)?;
     let part = argument(alloc, cursor, room, Mark::Close)?;
@@ -122,7 +128,8 @@ fn opposite(alloc: Global, cursor: &mut Cursor<'_>, room: u32) -> Result<Part, R
 #[tactic(auto, unfolding(policy_text_defs::specs::Reading::alternative))]
 #[cycle(expression)]
 fn alternative(alloc: Global, cursor: &mut Cursor<'_>, room: u32) -> Result<Part, Refusal>
-    ensures { Reads phrase_of_part (spec.alternative (spec.inside room)) result cursor.old.rest.now cursor.new.rest.now }
+    ensures { Reads phrase_of_part (spec.alternative (spec.inside room)) result cursor.old.rest.now
+        cursor.new.rest.now }
 {
     cursor.mark(Mark::Open)?;
     let test = argument(alloc, cursor, room, Mark::Comma)?;
@@ -138,7 +145,8 @@ fn word_atom(
     room: u32,
     word: &[u8],
 ) -> Result<Part, Refusal>
-    ensures { Reads phrase_of_part (spec.word_at (spec.inside room) word.now (function_of word.now)) result
+    ensures { Reads phrase_of_part (spec.word_at (spec.inside room) word.now (function_of word.now))
+        result
         cursor.old.rest.now cursor.new.rest.now }
 {
     match Function::of(word) {
@@ -168,7 +176,8 @@ fn atom(alloc: Global, cursor: &mut Cursor<'_>, room: u32) -> Result<Part, Refus
 #[tactic(auto, unfolding(policy_text_defs::specs::Reading::product), using(policy_text_defs::proofs::ChainLemmas::chain_ends))]
 #[cycle(expression)]
 fn product(alloc: Global, cursor: &mut Cursor<'_>, room: u32) -> Result<Part, Refusal>
-    ensures { Reads phrase_of_part (spec.product (spec.atom room)) result cursor.old.rest.now cursor.new.rest.now }
+    ensures { Reads phrase_of_part (spec.product (spec.atom room)) result cursor.old.rest.now
+        cursor.new.rest.now }
 {
     let mut left = atom(alloc, cursor, room)?;
     while let Some(op) = cursor.product_operator() {
@@ -181,7 +190,8 @@ fn product(alloc: Global, cursor: &mut Cursor<'_>, room: u32) -> Result<Part, Re
 #[tactic(auto, unfolding(policy_text_defs::specs::Reading::sum), using(policy_text_defs::proofs::ChainLemmas::chain_ends))]
 #[cycle(expression)]
 fn sum(alloc: Global, cursor: &mut Cursor<'_>, room: u32) -> Result<Part, Refusal>
-    ensures { Reads phrase_of_part (spec.sum (spec.atom room)) result cursor.old.rest.now cursor.new.rest.now }
+    ensures { Reads phrase_of_part (spec.sum (spec.atom room)) result cursor.old.rest.now
+        cursor.new.rest.now }
 {
     let mut left = product(alloc, cursor, room)?;
     while let Some(op) = cursor.sum_operator() {
@@ -195,7 +205,8 @@ fn sum(alloc: Global, cursor: &mut Cursor<'_>, room: u32) -> Result<Part, Refusa
 #[tactic(auto, unfolding(policy_text_defs::specs::Reading::expression))]
 #[cycle(expression)]
 pub fn expression(alloc: Global, cursor: &mut Cursor<'_>, room: u32) -> Result<Part, Refusal>
-    ensures { Reads phrase_of_part (spec.expression (spec.atom room)) result cursor.old.rest.now cursor.new.rest.now }
+    ensures { Reads phrase_of_part (spec.expression (spec.atom room)) result cursor.old.rest.now
+        cursor.new.rest.now }
 {
     let left = sum(alloc, cursor, room)?;
     let Some(op) = cursor.relation() else {

@@ -18,7 +18,8 @@ use std::alloc::{AllocError, Global};
 
 /// Appends the canonical line of a statement.
 fn put_line(into: &mut Vec<u8>, statement: &Statement) -> Result<(), AllocError>
-    ensures { OnOk result (into.new.items ≡ into.old.items ++ (statement_text (sense_of statement.now) ++ codes "\n")) }
+    ensures { OnOk result (into.new.items ≡ into.old.items ++
+        (statement_text (sense_of statement.now) ++ codes "\n")) }
 {
     put_statement(into, statement)?;
     into.extend_from_slice(b"\n")
@@ -26,7 +27,8 @@ fn put_line(into: &mut Vec<u8>, statement: &Statement) -> Result<(), AllocError>
 
 /// Appends the canonical lines of statements.
 fn put_lines(into: &mut Vec<u8>, entries: &[(u32, Statement)]) -> Result<(), AllocError>
-    ensures { OnOk result (into.new.items ≡ into.old.items ++ canonical_text (map sense_at entries.now)) }
+    ensures { OnOk result (into.new.items ≡ into.old.items ++ canonical_text
+        (map sense_at entries.now)) }
 {
     for (_, statement) in entries {
         put_line(into, statement)?;

@@ -138,7 +138,8 @@ fn names(alloc: Global, cursor: &mut Cursor<'_>) -> Result<List<Name>, Refusal>
 
 #[tactic(auto, unfolding(policy_text_defs::specs::StatementReading::version_by))]
 fn version(cursor: &mut Cursor<'_>) -> Result<Statement, Refusal>
-    ensures { Reads sense_of (forms.rest_by (Some keyword.Policy)) result cursor.old.rest.now cursor.new.rest.now }
+    ensures { Reads sense_of (forms.rest_by (Some keyword.Policy)) result cursor.old.rest.now
+        cursor.new.rest.now }
 {
     let version = cursor.number()?;
     if version < FIRST_VERSION || version > LAST_VERSION {

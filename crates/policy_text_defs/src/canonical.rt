@@ -21,5 +21,6 @@ pub fn canonical_text_reads_back()
 /// A line has at most one statement, and a text one list of them.
 pub fn texts_have_one_list_of_statements()
     ensures line { (line : List ℕ) (s t : Sense) → Carries line s → Carries line t → s ≡ t }
-    ensures text { (text : List ℕ) (es fs : List Entry) → HasEntries text es → HasEntries text fs → es ≡ fs }
+    ensures text { (text : List ℕ) (es fs : List Entry) → HasEntries text es → HasEntries text fs →
+        es ≡ fs }
 {}

@@ -73,9 +73,11 @@ fn hold(transactions: List<Transaction>) -> Result<List<Checked>, AllocError>
 /// fault. On refusal the list is given up.
 pub fn check(transactions: List<Transaction>) -> Result<List<Checked>, RangeFault>
     requires shaped { AllByRecursion IsShaped (map program_of transactions) }
-    ensures clash { Refuses result RangeFault.TypeClash (ClashesFirstAt (map program_of transactions)) }
+    ensures clash { Refuses result RangeFault.TypeClash (ClashesFirstAt
+        (map program_of transactions)) }
     ensures wide { Refuses result RangeFault.Wide (IsWideFirstAt (map program_of transactions)) }
-    ensures zero { Refuses result RangeFault.DivZero (DividesByZeroFirstAt (map program_of transactions)) }
+    ensures zero { Refuses result RangeFault.DivZero (DividesByZeroFirstAt
+        (map program_of transactions)) }
     ensures memory { result ≡ Err RangeFault.NoMemory → AreChecked (map program_of transactions) }
     ensures checked { OnOk result (AreChecked (map program_of transactions)) }
     ensures tame { OnOk result (AllByRecursion IsAlwaysTame (map program_of transactions)) }

@@ -58,7 +58,8 @@ fn hull(a: i128, b: i128, c: i128, d: i128) -> Option<Range>
 
 /// 128 bits hold each product where the interval is narrow.
 fn product(r: Range, s: Range) -> Option<Range>
-    ensures { SomeIff result (IsNarrow (corners (λ x y. x *ℤ y) r s)) (corners (λ x y. x *ℤ y) r s) }
+    ensures { SomeIff result (IsNarrow (corners (λ x y. x *ℤ y) r s))
+        (corners (λ x y. x *ℤ y) r s) }
 {
     let a = r.low.checked_mul(s.low)?;
     let b = r.low.checked_mul(s.high)?;
@@ -109,7 +110,8 @@ fn ratio(r: Range, s: Range) -> Option<Range>
 fn sum(r: Range, s: Range) -> Option<Range>
     requires left { IsProper r }
     requires right { IsProper s }
-    ensures { SomeIff result (IsNarrow (range (r.low +ℤ s.low) (r.high +ℤ s.high))) (range (r.low +ℤ s.low) (r.high +ℤ s.high)) }
+    ensures { SomeIff result (IsNarrow (range (r.low +ℤ s.low) (r.high +ℤ s.high)))
+        (range (r.low +ℤ s.low) (r.high +ℤ s.high)) }
 {
     let low = r.low + s.low;
     let high = r.high + s.high;
@@ -119,7 +121,8 @@ fn sum(r: Range, s: Range) -> Option<Range>
 fn difference(r: Range, s: Range) -> Option<Range>
     requires left { IsProper r }
     requires right { IsProper s }
-    ensures { SomeIff result (IsNarrow (range (r.low -ℤ s.high) (r.high -ℤ s.low))) (range (r.low -ℤ s.high) (r.high -ℤ s.low)) }
+    ensures { SomeIff result (IsNarrow (range (r.low -ℤ s.high) (r.high -ℤ s.low)))
+        (range (r.low -ℤ s.high) (r.high -ℤ s.low)) }
 {
     let low = r.low - s.high;
     let high = r.high - s.low;

@@ -44,7 +44,8 @@ impl Lines {
 
     /// Those of two lists, one after the other.
     fn and(self, other: Lines) -> Lines
-        ensures { (xs ys : List Entry) → AreLeast xs self → AreLeast ys other → AreLeast (xs ++ ys) result }
+        ensures { (xs ys : List Entry) → AreLeast xs self → AreLeast ys other →
+            AreLeast (xs ++ ys) result }
     {
         Lines {
             clash: lesser(self.clash, other.clash),
@@ -93,7 +94,8 @@ fn lines_of(transaction: &Transaction, assign: &Assign) -> Lines
 
 fn lines_of_each(transaction: &Transaction, assigns: &[Assign]) -> Lines
     requires { IsShaped (program_of transaction.now) }
-    ensures { AreLeast (map (entry (program_of transaction.now)) (map assignment_of assigns.now)) result }
+    ensures { AreLeast (map (entry (program_of transaction.now)) (map assignment_of assigns.now))
+        result }
 {
     let mut lines = Lines::none();
     for assign in assigns {
@@ -104,7 +106,8 @@ fn lines_of_each(transaction: &Transaction, assigns: &[Assign]) -> Lines
 
 fn lines_of_both(transaction: &Transaction) -> Lines
     requires { IsShaped (program_of transaction.now) }
-    ensures { AreLeast (map (entry (program_of transaction.now)) (assignments (program_of transaction.now))) result }
+    ensures { AreLeast (map (entry (program_of transaction.now))
+        (assignments (program_of transaction.now))) result }
 {
     let push = lines_of_each(transaction, transaction.push.as_slice());
     let pop = lines_of_each(transaction, transaction.pop.as_slice());
@@ -126,9 +129,11 @@ fn lines_of_all(transactions: &[Transaction]) -> Lines
 /// divisors.
 pub fn first_fault(transactions: &[Transaction]) -> Option<RangeFault>
     requires { AllByRecursion IsShaped (map program_of transactions.now) }
-    ensures clash { Finds result RangeFault.TypeClash (ClashesFirstAt (map program_of transactions.now)) }
+    ensures clash { Finds result RangeFault.TypeClash (ClashesFirstAt
+        (map program_of transactions.now)) }
     ensures wide { Finds result RangeFault.Wide (IsWideFirstAt (map program_of transactions.now)) }
-    ensures zero { Finds result RangeFault.DivZero (DividesByZeroFirstAt (map program_of transactions.now)) }
+    ensures zero { Finds result RangeFault.DivZero (DividesByZeroFirstAt
+        (map program_of transactions.now)) }
     ensures checked { result ≡ None → AreChecked (map program_of transactions.now) }
     ensures memory { result ≢ Some RangeFault.NoMemory }
 {

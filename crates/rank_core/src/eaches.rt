@@ -50,7 +50,8 @@ pub(crate) fn of_flows(alloc: Global, first: &[u64]) -> Eaches
 pub(crate) fn reserve(eaches: &mut Eaches, who: &Who, first: &[u64]) -> Result<(), AllocError>
     requires { BelongsTo (children eaches.old) who.now }
     ensures room { OnOk result (IsSome (kept eaches.new who.now)) }
-    ensures same { (w : Who) → kept_or first.now (kept eaches.new w) ≡ kept_or first.now (kept eaches.old w) }
+    ensures same { (w : Who) → kept_or first.now (kept eaches.new w) ≡
+        kept_or first.now (kept eaches.old w) }
     ensures stays { IsSome (kept eaches.old who.now) → IsSome (kept eaches.new who.now) }
     ensures others { (w : Who) → w ≢ who.now → kept eaches.new w ≡ kept eaches.old w }
     ensures err { OnErr result ((w : Who) → kept eaches.new w ≡ kept eaches.old w) }
@@ -80,7 +81,8 @@ pub(crate) fn run_for(
     requires checked { AreCheckedIn transaction.now assigns.now }
     requires fits { AreShapedIn transaction.now assigns.now }
     requires room { IsSome (kept eaches.old who.now) }
-    requires range { IsMemoryInRange (program_of transaction.now) (memory_at rank keeps.old eaches.old who.now) }
+    requires range { IsMemoryInRange (program_of transaction.now)
+        (memory_at rank keeps.old eaches.old who.now) }
     ensures ran { memory_at result keeps.new eaches.new who.now ≡
         run_of transaction.now env.entry.now assigns.now (memory_at rank keeps.old eaches.old who.now) }
     ensures room { IsSome (kept eaches.new who.now) }
@@ -121,7 +123,8 @@ fn run_for_child(
         (memory_at rank keeps.old (Eaches.Children values.old) (Who.Child child)) }
     ensures ran { memory_at result keeps.new (Eaches.Children values.new) (Who.Child child) ≡
         run_of transaction.now env.entry.now assigns.now (memory_at rank keeps.old (Eaches.Children values.old) (Who.Child child)) }
-    ensures others { (i : ℕ) → i ≢ child → slice_get values.new.items i ≡ slice_get values.old.items i }
+    ensures others { (i : ℕ) → i ≢ child → slice_get values.new.items i ≡
+        slice_get values.old.items i }
     ensures count { length values.new.items ≡ length values.old.items }
 {
     let values = values[child as usize].as_mut_slice();

@@ -90,10 +90,12 @@ pub(crate) fn operand(e: &Expr, transaction: &Transaction, scope: &Scope<'_>) ->
     requires counts { sort_of (formula_of e.now) ≡ counts }
     requires safe { IsSafe (declared (program_of transaction.now)) (formula_of e.now) }
     requires variables { AreDeclared (program_of transaction.now) (formula_of e.now) }
-    requires inside { AreInside (declared (program_of transaction.now)) (variable_in scope.now.env.now (memory_of scope.now)) }
+    requires inside { AreInside (declared (program_of transaction.now))
+        (variable_in scope.now.env.now (memory_of scope.now)) }
     requires keeps { length scope.now.keeps.now ≡ length transaction.now.keeps }
     requires eaches { length scope.now.eaches.now ≡ length transaction.now.eaches }
-    ensures { value_of (variable_in scope.now.env.now (memory_of scope.now)) (formula_of e.now) ≡ num result }
+    ensures { value_of (variable_in scope.now.env.now (memory_of scope.now)) (formula_of e.now) ≡
+        num result }
 {
     match e {
         Expr::Number(n) => i128::from(*n),
@@ -108,10 +110,12 @@ pub(crate) fn number(e: &Expr, transaction: &Transaction, scope: &Scope<'_>) -> 
     requires counts { sort_of (formula_of e.now) ≡ counts }
     requires safe { IsSafe (declared (program_of transaction.now)) (formula_of e.now) }
     requires variables { AreDeclared (program_of transaction.now) (formula_of e.now) }
-    requires inside { AreInside (declared (program_of transaction.now)) (variable_in scope.now.env.now (memory_of scope.now)) }
+    requires inside { AreInside (declared (program_of transaction.now))
+        (variable_in scope.now.env.now (memory_of scope.now)) }
     requires keeps { length scope.now.keeps.now ≡ length transaction.now.keeps }
     requires eaches { length scope.now.eaches.now ≡ length transaction.now.eaches }
-    ensures { value_of (variable_in scope.now.env.now (memory_of scope.now)) (formula_of e.now) ≡ num result }
+    ensures { value_of (variable_in scope.now.env.now (memory_of scope.now)) (formula_of e.now) ≡
+        num result }
 {
     match e {
         Expr::Number(n) => i128::from(*n),
@@ -137,10 +141,12 @@ fn truth(e: &Expr, transaction: &Transaction, scope: &Scope<'_>) -> bool
     requires tells { sort_of (formula_of e.now) ≡ tells }
     requires safe { IsSafe (declared (program_of transaction.now)) (formula_of e.now) }
     requires variables { AreDeclared (program_of transaction.now) (formula_of e.now) }
-    requires inside { AreInside (declared (program_of transaction.now)) (variable_in scope.now.env.now (memory_of scope.now)) }
+    requires inside { AreInside (declared (program_of transaction.now))
+        (variable_in scope.now.env.now (memory_of scope.now)) }
     requires keeps { length scope.now.keeps.now ≡ length transaction.now.keeps }
     requires eaches { length scope.now.eaches.now ≡ length transaction.now.eaches }
-    ensures { value_of (variable_in scope.now.env.now (memory_of scope.now)) (formula_of e.now) ≡ truth result }
+    ensures { value_of (variable_in scope.now.env.now (memory_of scope.now)) (formula_of e.now) ≡
+        truth result }
 {
     match e {
         Expr::Two(op, a, b) => match op {
@@ -164,7 +170,8 @@ pub(crate) fn narrow(e: &Expr, transaction: &Transaction, scope: &Scope<'_>) -> 
     requires variables { AreDeclared (program_of transaction.now) (formula_of e.now) }
     requires keeps { length scope.now.keeps.now ≡ length transaction.now.keeps }
     requires eaches { length scope.now.eaches.now ≡ length transaction.now.eaches }
-    ensures { IfSome result (λ v. value_of (variable_in scope.now.env.now (memory_of scope.now)) (formula_of e.now) ≡ num (pos v)) }
+    ensures { IfSome result (λ v. value_of (variable_in scope.now.env.now (memory_of scope.now))
+        (formula_of e.now) ≡ num (pos v)) }
 {
     match e {
         Expr::Two(op, a, b) => narrowed(
@@ -181,7 +188,8 @@ fn leaf(e: &Expr, transaction: &Transaction, scope: &Scope<'_>) -> Option<u64>
     requires variables { AreDeclared (program_of transaction.now) (formula_of e.now) }
     requires keeps { length scope.now.keeps.now ≡ length transaction.now.keeps }
     requires eaches { length scope.now.eaches.now ≡ length transaction.now.eaches }
-    ensures { IfSome result (λ v. value_of (variable_in scope.now.env.now (memory_of scope.now)) (formula_of e.now) ≡ num (pos v)) }
+    ensures { IfSome result (λ v. value_of (variable_in scope.now.env.now (memory_of scope.now))
+        (formula_of e.now) ≡ num (pos v)) }
 {
     match e {
         Expr::Number(n) => Some(*n),
@@ -195,7 +203,8 @@ fn part(e: &Expr, transaction: &Transaction, scope: &Scope<'_>) -> Option<u64>
     requires variables { AreDeclared (program_of transaction.now) (formula_of e.now) }
     requires keeps { length scope.now.keeps.now ≡ length transaction.now.keeps }
     requires eaches { length scope.now.eaches.now ≡ length transaction.now.eaches }
-    ensures { IfSome result (λ v. value_of (variable_in scope.now.env.now (memory_of scope.now)) (formula_of e.now) ≡ num (pos v)) }
+    ensures { IfSome result (λ v. value_of (variable_in scope.now.env.now (memory_of scope.now))
+        (formula_of e.now) ≡ num (pos v)) }
 {
     match e {
         Expr::Two(..) => share(e, scope),
@@ -206,7 +215,8 @@ fn part(e: &Expr, transaction: &Transaction, scope: &Scope<'_>) -> Option<u64>
 /// The value of `len * N / weight`.
 #[inline(always)]
 fn share(e: &Expr, scope: &Scope<'_>) -> Option<u64>
-    ensures { IfSome result (λ v. value_of (variable_in scope.now.env.now (memory_of scope.now)) (formula_of e.now) ≡ num (pos v)) }
+    ensures { IfSome result (λ v. value_of (variable_in scope.now.env.now (memory_of scope.now))
+        (formula_of e.now) ≡ num (pos v)) }
 {
     let Expr::Two(Op::Div, product, weight) = e else {
         return None;

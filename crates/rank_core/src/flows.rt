@@ -61,8 +61,10 @@ impl FlowTable {
         ensures room { OnOk result (IsSome (numbers_of self.new flow.now)) }
         ensures same { (f : FlowKey) →
             kept_or first.now (numbers_of self.new f) ≡ kept_or first.now (numbers_of self.old f) }
-        ensures stays { IsSome (numbers_of self.old flow.now) → IsSome (numbers_of self.new flow.now) }
-        ensures others { (f : FlowKey) → f ≢ flow.now → numbers_of self.new f ≡ numbers_of self.old f }
+        ensures stays { IsSome (numbers_of self.old flow.now) →
+            IsSome (numbers_of self.new flow.now) }
+        ensures others { (f : FlowKey) → f ≢ flow.now → numbers_of self.new f ≡
+            numbers_of self.old f }
         ensures err { OnErr result ((f : FlowKey) → numbers_of self.new f ≡ numbers_of self.old f) }
     {
         let key = key_of(flow);
@@ -93,7 +95,8 @@ impl FlowTable {
         ensures ran { memory result keeps.new (kept_or [] (numbers_of self.new flow.now)) ≡
             run_of transaction.now env.entry.now assigns.now (memory rank keeps.old (kept_or [] (numbers_of self.old flow.now))) }
         ensures room { IsSome (numbers_of self.new flow.now) }
-        ensures others { (f : FlowKey) → f ≢ flow.now → numbers_of self.new f ≡ numbers_of self.old f }
+        ensures others { (f : FlowKey) → f ≢ flow.now → numbers_of self.new f ≡
+            numbers_of self.old f }
     {
         match self.values.get_mut(&key_of(flow)) {
             Some(numbers) => run(

@@ -41,7 +41,8 @@ impl NodeState {
     ) -> Result<NodeState, AllocError>
         requires { IsShaped (program_of transaction.now) }
         ensures first { IfOk result (λ n. HasState n (first_state (program_of transaction.now))) }
-        ensures in_range { IfOk result (λ n. IsStateInRange (program_of transaction.now) (state_of n)) }
+        ensures in_range { IfOk result (λ n. IsStateInRange (program_of transaction.now)
+            (state_of n)) }
         ensures children { IfOk result (λ n. children_of n ≡ Some children) }
         ensures room { IfOk result (λ n. (i : ℕ) → i < children → HasRoom n (Who.Child i)) }
     {
@@ -59,7 +60,8 @@ impl NodeState {
     pub fn leaf(alloc: Global, transaction: &Transaction) -> Result<NodeState, AllocError>
         requires { IsShaped (program_of transaction.now) }
         ensures first { IfOk result (λ n. HasState n (first_state (program_of transaction.now))) }
-        ensures in_range { IfOk result (λ n. IsStateInRange (program_of transaction.now) (state_of n)) }
+        ensures in_range { IfOk result (λ n. IsStateInRange (program_of transaction.now)
+            (state_of n)) }
         ensures leaf { IfOk result (λ n. children_of n ≡ None) }
     {
         let firsts = first_values(alloc, transaction.eaches.as_slice())?;
@@ -78,8 +80,10 @@ impl NodeState {
         ensures room { OnOk result (HasRoom self.new who.now) }
         ensures same { SameState (state_of self.new) (state_of self.old) }
         ensures kept { (other : Who) → HasRoom self.old other → HasRoom self.new other }
-        ensures others { (other : Who) → other ≢ who.now → HasRoom self.new other → HasRoom self.old other }
-        ensures err { OnErr result ((other : Who) → HasRoom self.new other → HasRoom self.old other) }
+        ensures others { (other : Who) → other ≢ who.now → HasRoom self.new other →
+            HasRoom self.old other }
+        ensures err { OnErr result ((other : Who) → HasRoom self.new other →
+            HasRoom self.old other) }
         ensures children { children_of self.new ≡ children_of self.old }
     {
         reserve(&mut self.eaches, who, self.firsts.as_slice())
@@ -107,7 +111,8 @@ fn told_by(var: Var, env: &Env) -> Option<u64>
 #[inline]
 fn told_rank(assigns: &[Assign], env: &Env) -> Option<u64>
     requires told { IsEnvInRange env.now }
-    ensures rank { IfSome result (λ r. (t : Transaction) (m : Memory) → run_of t env.entry.now assigns.now m ≡ record m { rank = r }) }
+    ensures rank { IfSome result (λ r. (t : Transaction) (m : Memory) →
+        run_of t env.entry.now assigns.now m ≡ record m { rank = r }) }
 {
     let [assign] = assigns else {
         return None;
@@ -123,7 +128,8 @@ fn told_rank(assigns: &[Assign], env: &Env) -> Option<u64>
 fn kept_in(assigns: &[Assign]) -> Option<u32>
     ensures step { IfSome result (λ k. (t : Transaction) (env : Env) (m : Memory) →
         run_of t env assigns.now m ≡ write (Aim.Keep k) (clamped (target (program_of t) (Aim.Keep k)) (num (pos m.rank))) m) }
-    ensures there { IfSome result (λ k. (t : Transaction) → AreShapedIn t assigns.now → k < length t.keeps) }
+    ensures there { IfSome result (λ k. (t : Transaction) → AreShapedIn t assigns.now →
+        k < length t.keeps) }
 {
     let [assign] = assigns else {
         return None;
@@ -166,7 +172,8 @@ fn run_at(
     requires room { HasRoom state.old who.now }
     requires told { IsEnvInRange env.now }
     requires rank { rank ≤ max_rank }
-    ensures rank { result ≡ (step_of transaction.now assigns.now who.now env.entry.now rank state.old).rank }
+    ensures rank { result ≡ (step_of transaction.now assigns.now who.now env.entry.now rank
+        state.old).rank }
     ensures after { HasState state.new
         (put_back who.now (step_of transaction.now assigns.now who.now env.entry.now rank state.old) (state_of state.old)) }
     ensures room { (w : Who) → HasRoom state.new w ↔ HasRoom state.old w }
@@ -201,7 +208,8 @@ fn run_lines(
     requires room { HasRoom state.old who.now }
     requires told { IsEnvInRange env.now }
     requires rank { rank ≤ max_rank }
-    ensures rank { result ≡ (step_of transaction.now assigns.now who.now env.entry.now rank state.old).rank }
+    ensures rank { result ≡ (step_of transaction.now assigns.now who.now env.entry.now rank
+        state.old).rank }
     ensures after { HasState state.new
         (put_back who.now (step_of transaction.now assigns.now who.now env.entry.now rank state.old) (state_of state.old)) }
     ensures room { (w : Who) → HasRoom state.new w ↔ HasRoom state.old w }
@@ -226,9 +234,11 @@ pub fn run_push(transaction: &Transaction, state: &mut NodeState, who: &Who, env
     requires in_range { IsStateInRange (program_of transaction.now) (state_of state.old) }
     requires room { HasRoom state.old who.now }
     requires told { IsEnvInRange env.now }
-    ensures rank { result ≡ push_rank (program_of transaction.now) who.now env.entry.now (state_of state.old) }
+    ensures rank { result ≡ push_rank (program_of transaction.now) who.now env.entry.now
+        (state_of state.old) }
     ensures rank_limit { result ≤ max_rank }
-    ensures after { HasState state.new (after_push (program_of transaction.now) who.now env.entry.now (state_of state.old)) }
+    ensures after { HasState state.new (after_push (program_of transaction.now) who.now
+        env.entry.now (state_of state.old)) }
     ensures in_range { IsStateInRange (program_of transaction.now) (state_of state.new) }
     ensures room { (w : Who) → HasRoom state.new w ↔ HasRoom state.old w }
     ensures children { children_of state.new ≡ children_of state.old }
@@ -244,7 +254,8 @@ pub fn run_pop(transaction: &Transaction, state: &mut NodeState, who: &Who, rank
     requires room { HasRoom state.old who.now }
     requires told { IsEnvInRange env.now }
     requires rank { rank ≤ max_rank }
-    ensures after { HasState state.new (after_pop (program_of transaction.now) who.now env.entry.now rank (state_of state.old)) }
+    ensures after { HasState state.new (after_pop (program_of transaction.now) who.now env.entry.now
+        rank (state_of state.old)) }
     ensures in_range { IsStateInRange (program_of transaction.now) (state_of state.new) }
     ensures room { (w : Who) → HasRoom state.new w ↔ HasRoom state.old w }
     ensures children { children_of state.new ≡ children_of state.old }

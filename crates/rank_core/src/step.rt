@@ -33,7 +33,8 @@ pub(crate) fn run(
     requires told { IsEnvInRange env.now }
     requires checked { AreCheckedIn transaction.now assigns.now }
     requires fits { AreShapedIn transaction.now assigns.now }
-    requires range { IsMemoryInRange (program_of transaction.now) (memory rank keeps.old eaches.old) }
+    requires range { IsMemoryInRange (program_of transaction.now)
+        (memory rank keeps.old eaches.old) }
     ensures { memory result keeps.new eaches.new ≡
         run_of transaction.now env.entry.now assigns.now (memory rank keeps.old eaches.old) }
 {
@@ -56,7 +57,8 @@ fn perform(
     requires told { IsEnvInRange env.now }
     requires checked { IsCheckedAssignment (program_of transaction.now) (assignment_of assign.now) }
     requires fits { IsShapedAssignment (program_of transaction.now) (assignment_of assign.now) }
-    requires range { IsMemoryInRange (program_of transaction.now) (memory rank keeps.old eaches.old) }
+    requires range { IsMemoryInRange (program_of transaction.now)
+        (memory rank keeps.old eaches.old) }
     ensures { memory result keeps.new eaches.new ≡
         assigned (program_of transaction.now) env.entry.now (memory rank keeps.old eaches.old) (assignment_of assign.now) }
 {
@@ -89,7 +91,8 @@ fn written(
     requires told { IsEnvInRange env.now }
     requires checked { IsCheckedAssignment (program_of transaction.now) (assignment_of assign.now) }
     requires fits { IsShapedAssignment (program_of transaction.now) (assignment_of assign.now) }
-    requires range { IsMemoryInRange (program_of transaction.now) (memory rank keeps.now eaches.now) }
+    requires range { IsMemoryInRange (program_of transaction.now)
+        (memory rank keeps.now eaches.now) }
     requires span { span.now.low ≤ span.now.high }
     ensures { result ≡ clamped_to span.now
         (value_of (variable_in env.entry.now (memory rank keeps.now eaches.now)) (formula_of assign.now.value)) }
@@ -120,7 +123,8 @@ fn written_wide(
     requires told { IsEnvInRange env.now }
     requires checked { IsCheckedAssignment (program_of transaction.now) (assignment_of assign.now) }
     requires fits { IsShapedAssignment (program_of transaction.now) (assignment_of assign.now) }
-    requires range { IsMemoryInRange (program_of transaction.now) (memory rank keeps.now eaches.now) }
+    requires range { IsMemoryInRange (program_of transaction.now)
+        (memory rank keeps.now eaches.now) }
     requires span { span.now.low ≤ span.now.high }
     ensures { result ≡ clamped_to span.now
         (value_of (variable_in env.entry.now (memory rank keeps.now eaches.now)) (formula_of assign.now.value)) }

@@ -49,15 +49,19 @@ fn answer<S: Shelf, K: Sink, F: Fabric, T: Tap>(
         IsLeftOf F.Fabric (form_in words.now) contents result fabric.old fabric.new
         (entries T.kind_of T.state_of taps.old.items) (entries T.kind_of T.state_of taps.new.items)) }
     ensures fewer { vec_len taps.new ≤ vec_len taps.old }
-    ensures statuses { IfOk result (λ s. IsOneOf (statuses_of (form_in words.now)) (status_code s)) }
-    ensures refused { IfOk result (λ s. IsRefusal (status_code s) → IsAsItWas F.Fabric fabric.old fabric.new) }
-    ensures untouched { UsesNoFabric (form_in words.now) → IsAsItWas F.Fabric fabric.old fabric.new }
+    ensures statuses { IfOk result (λ s. IsOneOf (statuses_of (form_in words.now))
+        (status_code s)) }
+    ensures refused { IfOk result (λ s. IsRefusal (status_code s) →
+        IsAsItWas F.Fabric fabric.old fabric.new) }
+    ensures untouched { UsesNoFabric (form_in words.now) → IsAsItWas F.Fabric fabric.old
+        fabric.new }
     ensures unwatched { IfOk result (λ s. IsRefusal (status_code s)
         → entries T.kind_of T.state_of taps.new.items ≡ entries T.kind_of T.state_of taps.old.items) }
     ensures unshown { UsesNoTaps (form_in words.now)
         → entries T.kind_of T.state_of taps.new.items ≡ entries T.kind_of T.state_of taps.old.items }
     ensures no_files { file_words (form_in words.now) ≡ [] → IsErrOf result Stop.Source → ⊥ }
-    ensures shelf_cause { IsErrOf result Stop.Source → Rose (S.faults shelf.old) (S.faults shelf.new) }
+    ensures shelf_cause { IsErrOf result Stop.Source → Rose (S.faults shelf.old)
+        (S.faults shelf.new) }
     ensures sink_cause { IsErrOf result Stop.Sink → Rose (K.faults sink.old) (K.faults sink.new) }
     ensures sink_later { K.faults sink.old ≤ K.faults sink.new }
 {
@@ -112,7 +116,8 @@ pub fn run<S: Shelf, K: Sink, F: Fabric>(
     ensures no_form { result ≡ 2 → form_in words.now ≡ no_form }
     ensures told_so { form_in words.now ≡ no_form → IsOneOf (2 ∷ 9 ∷ 10 ∷ []) result }
     ensures refused { IsRefusal result → IsAsItWas F.Fabric fabric.old fabric.new }
-    ensures untouched { UsesNoFabric (form_in words.now) → IsAsItWas F.Fabric fabric.old fabric.new }
+    ensures untouched { UsesNoFabric (form_in words.now) → IsAsItWas F.Fabric fabric.old
+        fabric.new }
     ensures unwatched { IsRefusal result
         → entries kind_of state_of taps.new.items ≡ entries kind_of state_of taps.old.items }
     ensures unshown { UsesNoTaps (form_in words.now)

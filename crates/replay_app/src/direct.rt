@@ -43,7 +43,8 @@ fn direct_capture<S: Shelf, K: Sink>(
         Appended (K.written sink.old) (K.written sink.new) (paced_answer policy.now (pace_of task.now.pace) file).text)) }
     ensures part { OnErr result (IfSome (S.content shelf.old task.now.capture.now) (λ file.
         AppendedPrefix (K.written sink.old) (K.written sink.new) (paced_answer policy.now (pace_of task.now.pace) file).text)) }
-    ensures shelf_cause { IsErrOf result Stop.Source → Rose (S.faults shelf.old) (S.faults shelf.new) }
+    ensures shelf_cause { IsErrOf result Stop.Source → Rose (S.faults shelf.old)
+        (S.faults shelf.new) }
     ensures sink_cause { IsErrOf result Stop.Sink → Rose (K.faults sink.old) (K.faults sink.new) }
     ensures sink_later { K.faults sink.old ≤ K.faults sink.new }
 {
@@ -58,12 +59,15 @@ fn direct_script<S: Shelf, K: Sink>(
     shelf: &mut S,
     sink: &mut K,
 ) -> Result<Status, Stop>
-    requires lent { AreLent (S.lends shelf.old) (files.now.capture.now ∷ files.now.script.now ∷ []) }
+    requires lent { AreLent (S.lends shelf.old) (files.now.capture.now ∷ files.now.script.now ∷
+        []) }
 
-    ensures answer { WhereTold (S.content shelf.old) (files.now.capture.now ∷ files.now.script.now ∷ []) (λ contents.
+    ensures answer { WhereTold (S.content shelf.old) (files.now.capture.now ∷ files.now.script.now ∷
+        []) (λ contents.
         IsTold (BehindPolicy policy.now (contents files.now.script.now) (contents files.now.capture.now)) result (K.written sink.old) (K.written sink.new)) }
     ensures statuses { IfOk result (λ s. IsOneOf run_statuses (status_code s)) }
-    ensures shelf_cause { IsErrOf result Stop.Source → Rose (S.faults shelf.old) (S.faults shelf.new) }
+    ensures shelf_cause { IsErrOf result Stop.Source → Rose (S.faults shelf.old)
+        (S.faults shelf.new) }
     ensures sink_cause { IsErrOf result Stop.Sink → Rose (K.faults sink.old) (K.faults sink.new) }
     ensures sink_later { K.faults sink.old ≤ K.faults sink.new }
 {
@@ -87,10 +91,13 @@ pub fn direct_files<S: Shelf, K: Sink>(
 ) -> Result<Status, Stop>
     requires lent { AreLent (S.lends shelf.old) (file_words (direct_form files.now)) }
 
-    ensures answer { WhereTold (S.content shelf.old) (file_words (direct_form files.now)) (λ contents.
+    ensures answer { WhereTold (S.content shelf.old) (file_words (direct_form files.now))
+        (λ contents.
         IsTold (IsOutput (direct_form files.now) contents []) result (K.written sink.old) (K.written sink.new)) }
-    ensures statuses { IfOk result (λ s. IsOneOf (statuses_of (direct_form files.now)) (status_code s)) }
-    ensures shelf_cause { IsErrOf result Stop.Source → Rose (S.faults shelf.old) (S.faults shelf.new) }
+    ensures statuses { IfOk result (λ s. IsOneOf (statuses_of (direct_form files.now))
+        (status_code s)) }
+    ensures shelf_cause { IsErrOf result Stop.Source → Rose (S.faults shelf.old)
+        (S.faults shelf.new) }
     ensures sink_cause { IsErrOf result Stop.Sink → Rose (K.faults sink.old) (K.faults sink.new) }
     ensures sink_later { K.faults sink.old ≤ K.faults sink.new }
 {

@@ -34,7 +34,8 @@ pub fn forward_capture<S: Shelf, K: Sink, F: Fabric>(
     requires rate { IsRate rate }
     requires range { IsInRange placement.target.arities placement.target.above }
     requires map_shape { SameShape (topology_of policy.now.policy.tree) placement.map }
-    requires embedding { IsEmbedding (topology_of policy.now.policy.tree) (complete placement.target.arities) (image_map placement.map) }
+    requires embedding { IsEmbedding (topology_of policy.now.policy.tree)
+        (complete placement.target.arities) (image_map placement.map) }
     requires pushes { F.pushed fabric.old < 2 ^ 61 }
     requires pops { F.popped fabric.old < 2 ^ 61 }
 
@@ -43,7 +44,8 @@ pub fn forward_capture<S: Shelf, K: Sink, F: Fabric>(
     ensures left { IfSome (S.content shelf.old capture.now) (λ file.
         HoldsRun F.Fabric (λ a. a ≡ forward_run policy.now (laid_by placement) rate file) result fabric.old fabric.new) }
     ensures statuses { IfOk result (λ s. IsOneOf forward_statuses (status_code s)) }
-    ensures shelf_cause { IsErrOf result Stop.Source → Rose (S.faults shelf.old) (S.faults shelf.new) }
+    ensures shelf_cause { IsErrOf result Stop.Source → Rose (S.faults shelf.old)
+        (S.faults shelf.new) }
     ensures sink_cause { IsErrOf result Stop.Sink → Rose (K.faults sink.old) (K.faults sink.new) }
     ensures sink_later { K.faults sink.old ≤ K.faults sink.new }
 {

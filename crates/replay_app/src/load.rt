@@ -16,9 +16,11 @@ pub fn load_short<S: Shelf>(
     requires lent { IsTrue (S.lends shelf.old name.now) }
     requires short { most < 2 ^ 32 }
 
-    ensures found { IfOk result (λ o. IfSome (S.content shelf.old name.now) (λ bytes. IfSome o (λ v. v.items ≡ bytes))) }
+    ensures found { IfOk result (λ o. IfSome (S.content shelf.old name.now) (λ bytes.
+        IfSome o (λ v. v.items ≡ bytes))) }
     ensures bound { IfOk result (λ o. IfSome o (λ v. length v.items ≤ most)) }
-    ensures too_long { IfOk result (λ o. IfSome (S.content shelf.old name.now) (λ bytes. o ≡ None → most < length bytes)) }
+    ensures too_long { IfOk result (λ o. IfSome (S.content shelf.old name.now) (λ bytes. o ≡ None →
+        most < length bytes)) }
     ensures kept { KeepsShelf S.lends S.content S.faults shelf.old shelf.new }
     ensures cause { IsErrOf result Stop.Source → Rose (S.faults shelf.old) (S.faults shelf.new) }
     ensures writes_nothing { IsErrOf result Stop.Sink → ⊥ }

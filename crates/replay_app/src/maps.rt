@@ -74,7 +74,8 @@ fn map_in(
     requires middle { IsWithinLimits (topology middle.now) }
     ensures read { IfOk result (λ read. IsRead (IsMapRefused policy.now.policy text.now)
         (IsTried policy.now.policy (topology middle.now) text.now) read) }
-    ensures verdict { IfOk result (λ read. IfAccepted read (HasVerdict policy.now.policy (topology middle.now))) }
+    ensures verdict { IfOk result (λ read. IfAccepted read (HasVerdict policy.now.policy
+        (topology middle.now))) }
 {
     let names = names_of(alloc, policy)?;
     match read_map(alloc, text, &names) {
@@ -99,7 +100,8 @@ pub fn read_map_file<S: Shelf>(
 
     ensures read { IfOk result (λ read. IfSome (S.content shelf.old name.now) (λ text.
         IsRead (IsMapRefused policy.now.policy text) (IsTried policy.now.policy (topology middle.now) text) read)) }
-    ensures verdict { IfOk result (λ read. IfAccepted read (HasVerdict policy.now.policy (topology middle.now))) }
+    ensures verdict { IfOk result (λ read. IfAccepted read (HasVerdict policy.now.policy
+        (topology middle.now))) }
     ensures kept { KeepsShelf S.lends S.content S.faults shelf.old shelf.new }
     ensures cause { IsErrOf result Stop.Source → Rose (S.faults shelf.old) (S.faults shelf.new) }
     ensures writes_nothing { IsErrOf result Stop.Sink → ⊥ }

@@ -23,9 +23,11 @@ use std::alloc::Global;
 
 /// Writes a plan.
 fn write_plan<K: Sink>(alloc: Global, plan: &PlanText, sink: &mut K) -> Result<Status, Stop>
-    ensures status { IfOk result (λ s. status_code s ≡ (plan_answer plan.now.fits plan.now.text.items).status) }
+    ensures status { IfOk result (λ s. status_code s ≡ (plan_answer plan.now.fits
+        plan.now.text.items).status) }
     ensures statuses { IfOk result (λ s. IsOneOf (5 ∷ 0 ∷ []) (status_code s)) }
-    ensures text { OnOk result (Appended (K.written sink.old) (K.written sink.new) (plan_answer plan.now.fits plan.now.text.items).text) }
+    ensures text { OnOk result (Appended (K.written sink.old) (K.written sink.new)
+        (plan_answer plan.now.fits plan.now.text.items).text) }
     ensures part { OnErr result (AppendedPrefix (K.written sink.old) (K.written sink.new)
         (plan_answer plan.now.fits plan.now.text.items).text) }
     ensures sink_cause { IsErrOf result Stop.Sink → Rose (K.faults sink.old) (K.faults sink.new) }
@@ -52,7 +54,8 @@ fn plan_target<S: Shelf, K: Sink>(
     ensures answer { WhereTold (S.content shelf.old) (name.now ∷ []) (λ contents.
         IsTold (ForTarget (contents name.now) (IsPlanned policy.now.policy)) result (K.written sink.old) (K.written sink.new)) }
     ensures statuses { IfOk result (λ s. IsOneOf (4 ∷ 5 ∷ 0 ∷ []) (status_code s)) }
-    ensures shelf_cause { IsErrOf result Stop.Source → Rose (S.faults shelf.old) (S.faults shelf.new) }
+    ensures shelf_cause { IsErrOf result Stop.Source → Rose (S.faults shelf.old)
+        (S.faults shelf.new) }
     ensures sink_cause { IsErrOf result Stop.Sink → Rose (K.faults sink.old) (K.faults sink.new) }
     ensures sink_later { K.faults sink.old ≤ K.faults sink.new }
 {
@@ -76,8 +79,10 @@ pub fn plan_files<S: Shelf, K: Sink>(
 
     ensures answer { WhereTold (S.content shelf.old) (file_words (plan_form files.now)) (λ contents.
         IsTold (IsOutput (plan_form files.now) contents []) result (K.written sink.old) (K.written sink.new)) }
-    ensures statuses { IfOk result (λ s. IsOneOf (statuses_of (plan_form files.now)) (status_code s)) }
-    ensures shelf_cause { IsErrOf result Stop.Source → Rose (S.faults shelf.old) (S.faults shelf.new) }
+    ensures statuses { IfOk result (λ s. IsOneOf (statuses_of (plan_form files.now))
+        (status_code s)) }
+    ensures shelf_cause { IsErrOf result Stop.Source → Rose (S.faults shelf.old)
+        (S.faults shelf.new) }
     ensures sink_cause { IsErrOf result Stop.Sink → Rose (K.faults sink.old) (K.faults sink.new) }
     ensures sink_later { K.faults sink.old ≤ K.faults sink.new }
 {

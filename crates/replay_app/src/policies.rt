@@ -23,7 +23,11 @@ pub struct Judged {
 /// How the fault of a text is told. The error is want of memory.
 fn told_of(fault: TextFault) -> Result<Refusal, AllocError>
     ensures memory { OnOk result (fault ≢ TextFault.NoMemory) }
-    ensures told { IfOk result (λ r. r ≡ record { code = text_code fault; place = text_line fault }) }
+    ensures told { IfOk result (λ r. r ≡ record {
+      code = text_code fault;
+      place = text_line
+          fault;
+    }) }
 {
     match fault {
         TextFault::NoMemory => Err(AllocError),
@@ -48,7 +52,8 @@ fn lines_in(alloc: Global, text: &[u8]) -> Result<Read<Lines>, AllocError>
 fn read_lines<S: Shelf>(alloc: Global, shelf: &mut S, name: &str) -> Result<Read<Lines>, Stop>
     requires lent { IsTrue (S.lends shelf.old name.now) }
 
-    ensures read { IfOk result (λ read. IfSome (S.content shelf.old name.now) (λ text. IsTextRead text read)) }
+    ensures read { IfOk result (λ read. IfSome (S.content shelf.old name.now) (λ text.
+        IsTextRead text read)) }
     ensures kept { KeepsShelf S.lends S.content S.faults shelf.old shelf.new }
     ensures cause { IsErrOf result Stop.Source → Rose (S.faults shelf.old) (S.faults shelf.new) }
     ensures writes_nothing { IsErrOf result Stop.Sink → ⊥ }
@@ -90,7 +95,8 @@ fn judge(alloc: Global, read: Read<Lines>) -> Result<Read<Judged>, AllocError>
 pub fn read_policy<S: Shelf>(alloc: Global, shelf: &mut S, name: &str) -> Result<Read<Judged>, Stop>
     requires lent { IsTrue (S.lends shelf.old name.now) }
 
-    ensures read { IfOk result (λ read. IfSome (S.content shelf.old name.now) (λ text. IsPolicyRead text read)) }
+    ensures read { IfOk result (λ read. IfSome (S.content shelf.old name.now) (λ text.
+        IsPolicyRead text read)) }
     ensures kept { KeepsShelf S.lends S.content S.faults shelf.old shelf.new }
     ensures cause { IsErrOf result Stop.Source → Rose (S.faults shelf.old) (S.faults shelf.new) }
     ensures writes_nothing { IsErrOf result Stop.Sink → ⊥ }

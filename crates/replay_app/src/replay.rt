@@ -74,7 +74,8 @@ fn replay_capture<S: Shelf, K: Sink, F: Fabric, T: Tap>(
     requires bounded { IsBounded task.now.pace }
     requires range { IsInRange placement.target.arities placement.target.above }
     requires map_shape { SameShape (topology_of policy.now.policy.tree) placement.map }
-    requires embedding { IsEmbedding (topology_of policy.now.policy.tree) (complete placement.target.arities) (image_map placement.map) }
+    requires embedding { IsEmbedding (topology_of policy.now.policy.tree)
+        (complete placement.target.arities) (image_map placement.map) }
     requires pushes { F.pushed fabric.old < 2 ^ 61 }
     requires pops { F.popped fabric.old < 2 ^ 61 }
 
@@ -85,9 +86,11 @@ fn replay_capture<S: Shelf, K: Sink, F: Fabric, T: Tap>(
         IsLeft F.Fabric (λ a. a ≡ laid_run policy.now (laid_by placement) (pace_of task.now.pace) file
         (watching_in (sight_of T.kind_of T.state_of watch.old))) result fabric.old fabric.new
         (sight_of T.kind_of T.state_of watch.old) (sight_of T.kind_of T.state_of watch.new)) }
-    ensures fewer { AreNoMore (sight_of T.kind_of T.state_of watch.old) (sight_of T.kind_of T.state_of watch.new) }
+    ensures fewer { AreNoMore (sight_of T.kind_of T.state_of watch.old)
+        (sight_of T.kind_of T.state_of watch.new) }
     ensures statuses { IfOk result (λ s. IsOneOf (pace_statuses task.now.pace) (status_code s)) }
-    ensures shelf_cause { IsErrOf result Stop.Source → Rose (S.faults shelf.old) (S.faults shelf.new) }
+    ensures shelf_cause { IsErrOf result Stop.Source → Rose (S.faults shelf.old)
+        (S.faults shelf.new) }
     ensures sink_cause { IsErrOf result Stop.Sink → Rose (K.faults sink.old) (K.faults sink.new) }
     ensures sink_later { K.faults sink.old ≤ K.faults sink.new }
 {
@@ -107,25 +110,31 @@ pub fn replay_script<S: Shelf, K: Sink, F: Fabric, T: Tap>(
     fabric: &mut F,
     watch: &mut Watching<T>,
 ) -> Result<Status, Stop>
-    requires lent { AreLent (S.lends shelf.old) (files.now.capture.now ∷ files.now.script.now ∷ []) }
+    requires lent { AreLent (S.lends shelf.old) (files.now.capture.now ∷ files.now.script.now ∷
+        []) }
     requires range { IsInRange placement.target.arities placement.target.above }
     requires map_shape { SameShape (topology_of policy.now.policy.tree) placement.map }
-    requires embedding { IsEmbedding (topology_of policy.now.policy.tree) (complete placement.target.arities) (image_map placement.map) }
+    requires embedding { IsEmbedding (topology_of policy.now.policy.tree)
+        (complete placement.target.arities) (image_map placement.map) }
     requires pushes { F.pushed fabric.old < 2 ^ 61 }
     requires pops { F.popped fabric.old < 2 ^ 61 }
 
-    ensures answer { WhereTold (S.content shelf.old) (files.now.capture.now ∷ files.now.script.now ∷ []) (λ contents.
+    ensures answer { WhereTold (S.content shelf.old) (files.now.capture.now ∷ files.now.script.now ∷
+        []) (λ contents.
         IsTold (BehindScript (watching_in (sight_of T.kind_of T.state_of watch.old))
         policy.now (laid_by placement) files.now.script.now files.now.capture.now contents)
         result (K.written sink.old) (K.written sink.new)) }
-    ensures left { WhereTold (S.content shelf.old) (files.now.capture.now ∷ files.now.script.now ∷ []) (λ contents.
+    ensures left { WhereTold (S.content shelf.old) (files.now.capture.now ∷ files.now.script.now ∷
+        []) (λ contents.
         IsLeft F.Fabric (BehindScript (watching_in (sight_of T.kind_of T.state_of watch.old))
         policy.now (laid_by placement) files.now.script.now files.now.capture.now contents)
         result fabric.old fabric.new
         (sight_of T.kind_of T.state_of watch.old) (sight_of T.kind_of T.state_of watch.new)) }
-    ensures fewer { AreNoMore (sight_of T.kind_of T.state_of watch.old) (sight_of T.kind_of T.state_of watch.new) }
+    ensures fewer { AreNoMore (sight_of T.kind_of T.state_of watch.old)
+        (sight_of T.kind_of T.state_of watch.new) }
     ensures statuses { IfOk result (λ s. IsOneOf run_statuses (status_code s)) }
-    ensures shelf_cause { IsErrOf result Stop.Source → Rose (S.faults shelf.old) (S.faults shelf.new) }
+    ensures shelf_cause { IsErrOf result Stop.Source → Rose (S.faults shelf.old)
+        (S.faults shelf.new) }
     ensures sink_cause { IsErrOf result Stop.Sink → Rose (K.faults sink.old) (K.faults sink.new) }
     ensures sink_later { K.faults sink.old ≤ K.faults sink.new }
 {
@@ -151,26 +160,33 @@ fn replay_paced<S: Shelf, K: Sink, F: Fabric, T: Tap>(
     fabric: &mut F,
     watch: &mut Watching<T>,
 ) -> Result<Status, Stop>
-    requires lent { AreLent (S.lends shelf.old) (files.now.capture.now ∷ pacing_words (pacing_form files.now.pacing)) }
+    requires lent { AreLent (S.lends shelf.old) (files.now.capture.now ∷ pacing_words
+        (pacing_form files.now.pacing)) }
     requires rate { HasRate files.now.pacing }
     requires range { IsInRange placement.target.arities placement.target.above }
     requires map_shape { SameShape (topology_of policy.now.policy.tree) placement.map }
-    requires embedding { IsEmbedding (topology_of policy.now.policy.tree) (complete placement.target.arities) (image_map placement.map) }
+    requires embedding { IsEmbedding (topology_of policy.now.policy.tree)
+        (complete placement.target.arities) (image_map placement.map) }
     requires pushes { F.pushed fabric.old < 2 ^ 61 }
     requires pops { F.popped fabric.old < 2 ^ 61 }
 
-    ensures answer { WhereTold (S.content shelf.old) (files.now.capture.now ∷ pacing_words (pacing_form files.now.pacing)) (λ contents.
+    ensures answer { WhereTold (S.content shelf.old) (files.now.capture.now ∷ pacing_words
+        (pacing_form files.now.pacing)) (λ contents.
         IsTold (BehindRoom (watching_in (sight_of T.kind_of T.state_of watch.old))
         policy.now (laid_by placement) (pacing_form files.now.pacing) files.now.capture.now contents)
         result (K.written sink.old) (K.written sink.new)) }
-    ensures left { WhereTold (S.content shelf.old) (files.now.capture.now ∷ pacing_words (pacing_form files.now.pacing)) (λ contents.
+    ensures left { WhereTold (S.content shelf.old) (files.now.capture.now ∷ pacing_words
+        (pacing_form files.now.pacing)) (λ contents.
         IsLeft F.Fabric (BehindRoom (watching_in (sight_of T.kind_of T.state_of watch.old))
         policy.now (laid_by placement) (pacing_form files.now.pacing) files.now.capture.now contents)
         result fabric.old fabric.new
         (sight_of T.kind_of T.state_of watch.old) (sight_of T.kind_of T.state_of watch.new)) }
-    ensures fewer { AreNoMore (sight_of T.kind_of T.state_of watch.old) (sight_of T.kind_of T.state_of watch.new) }
-    ensures statuses { IfOk result (λ s. IsOneOf (paced_statuses (pacing_form files.now.pacing)) (status_code s)) }
-    ensures shelf_cause { IsErrOf result Stop.Source → Rose (S.faults shelf.old) (S.faults shelf.new) }
+    ensures fewer { AreNoMore (sight_of T.kind_of T.state_of watch.old)
+        (sight_of T.kind_of T.state_of watch.new) }
+    ensures statuses { IfOk result (λ s. IsOneOf (paced_statuses (pacing_form files.now.pacing))
+        (status_code s)) }
+    ensures shelf_cause { IsErrOf result Stop.Source → Rose (S.faults shelf.old)
+        (S.faults shelf.new) }
     ensures sink_cause { IsErrOf result Stop.Sink → Rose (K.faults sink.old) (K.faults sink.new) }
     ensures sink_later { K.faults sink.old ≤ K.faults sink.new }
 {
@@ -212,27 +228,34 @@ fn replay_placed<S: Shelf, K: Sink, F: Fabric, T: Tap>(
     fabric: &mut F,
     watch: &mut Watching<T>,
 ) -> Result<Status, Stop>
-    requires lent { AreLent (S.lends shelf.old) (files.now.capture.now ∷ pacing_words (pacing_form files.now.pacing)) }
+    requires lent { AreLent (S.lends shelf.old) (files.now.capture.now ∷ pacing_words
+        (pacing_form files.now.pacing)) }
     requires rate { HasRate files.now.pacing }
     requires range { IsInRange target.arities target.above }
     requires pushes { F.pushed fabric.old < 2 ^ 61 }
     requires pops { F.popped fabric.old < 2 ^ 61 }
 
-    ensures answer { WhereTold (S.content shelf.old) (files.now.capture.now ∷ pacing_words (pacing_form files.now.pacing)) (λ contents.
+    ensures answer { WhereTold (S.content shelf.old) (files.now.capture.now ∷ pacing_words
+        (pacing_form files.now.pacing)) (λ contents.
         IsTold (BehindTarget (watching_in (sight_of T.kind_of T.state_of watch.old))
         policy.now target (pacing_form files.now.pacing) files.now.capture.now contents)
         result (K.written sink.old) (K.written sink.new)) }
-    ensures left { WhereTold (S.content shelf.old) (files.now.capture.now ∷ pacing_words (pacing_form files.now.pacing)) (λ contents.
+    ensures left { WhereTold (S.content shelf.old) (files.now.capture.now ∷ pacing_words
+        (pacing_form files.now.pacing)) (λ contents.
         IsLeft F.Fabric (BehindTarget (watching_in (sight_of T.kind_of T.state_of watch.old))
         policy.now target (pacing_form files.now.pacing) files.now.capture.now contents)
         result fabric.old fabric.new
         (sight_of T.kind_of T.state_of watch.old) (sight_of T.kind_of T.state_of watch.new)) }
-    ensures fewer { AreNoMore (sight_of T.kind_of T.state_of watch.old) (sight_of T.kind_of T.state_of watch.new) }
-    ensures statuses { IfOk result (λ s. IsOneOf (5 ∷ paced_statuses (pacing_form files.now.pacing)) (status_code s)) }
-    ensures refused { IfOk result (λ s. IsRefusal (status_code s) → IsAsItWas F.Fabric fabric.old fabric.new) }
+    ensures fewer { AreNoMore (sight_of T.kind_of T.state_of watch.old)
+        (sight_of T.kind_of T.state_of watch.new) }
+    ensures statuses { IfOk result (λ s. IsOneOf (5 ∷ paced_statuses (pacing_form files.now.pacing))
+        (status_code s)) }
+    ensures refused { IfOk result (λ s. IsRefusal (status_code s) →
+        IsAsItWas F.Fabric fabric.old fabric.new) }
     ensures unwatched { IfOk result (λ s. IsRefusal (status_code s)
         → sight_of T.kind_of T.state_of watch.new ≡ sight_of T.kind_of T.state_of watch.old) }
-    ensures shelf_cause { IsErrOf result Stop.Source → Rose (S.faults shelf.old) (S.faults shelf.new) }
+    ensures shelf_cause { IsErrOf result Stop.Source → Rose (S.faults shelf.old)
+        (S.faults shelf.new) }
     ensures sink_cause { IsErrOf result Stop.Sink → Rose (K.faults sink.old) (K.faults sink.new) }
     ensures sink_later { K.faults sink.old ≤ K.faults sink.new }
 {
@@ -256,7 +279,8 @@ fn replay_target<S: Shelf, K: Sink, F: Fabric, T: Tap>(
     fabric: &mut F,
     watch: &mut Watching<T>,
 ) -> Result<Status, Stop>
-    requires lent { AreLent (S.lends shelf.old) (files.now.target.now ∷ files.now.capture.now ∷ pacing_words (pacing_form files.now.pacing)) }
+    requires lent { AreLent (S.lends shelf.old) (files.now.target.now ∷ files.now.capture.now ∷
+        pacing_words (pacing_form files.now.pacing)) }
     requires rate { HasRate files.now.pacing }
     requires pushes { F.pushed fabric.old < 2 ^ 61 }
     requires pops { F.popped fabric.old < 2 ^ 61 }
@@ -272,12 +296,16 @@ fn replay_target<S: Shelf, K: Sink, F: Fabric, T: Tap>(
         policy.now files.now.target.now (pacing_form files.now.pacing) files.now.capture.now contents)
         result fabric.old fabric.new
         (sight_of T.kind_of T.state_of watch.old) (sight_of T.kind_of T.state_of watch.new)) }
-    ensures fewer { AreNoMore (sight_of T.kind_of T.state_of watch.old) (sight_of T.kind_of T.state_of watch.new) }
-    ensures statuses { IfOk result (λ s. IsOneOf (4 ∷ 5 ∷ paced_statuses (pacing_form files.now.pacing)) (status_code s)) }
-    ensures refused { IfOk result (λ s. IsRefusal (status_code s) → IsAsItWas F.Fabric fabric.old fabric.new) }
+    ensures fewer { AreNoMore (sight_of T.kind_of T.state_of watch.old)
+        (sight_of T.kind_of T.state_of watch.new) }
+    ensures statuses { IfOk result (λ s. IsOneOf (4 ∷ 5 ∷ paced_statuses
+        (pacing_form files.now.pacing)) (status_code s)) }
+    ensures refused { IfOk result (λ s. IsRefusal (status_code s) →
+        IsAsItWas F.Fabric fabric.old fabric.new) }
     ensures unwatched { IfOk result (λ s. IsRefusal (status_code s)
         → sight_of T.kind_of T.state_of watch.new ≡ sight_of T.kind_of T.state_of watch.old) }
-    ensures shelf_cause { IsErrOf result Stop.Source → Rose (S.faults shelf.old) (S.faults shelf.new) }
+    ensures shelf_cause { IsErrOf result Stop.Source → Rose (S.faults shelf.old)
+        (S.faults shelf.new) }
     ensures sink_cause { IsErrOf result Stop.Sink → Rose (K.faults sink.old) (K.faults sink.new) }
     ensures sink_later { K.faults sink.old ≤ K.faults sink.new }
 {
@@ -304,7 +332,8 @@ pub fn replay_files<S: Shelf, K: Sink, F: Fabric, T: Tap>(
     requires pushes { F.pushed fabric.old < 2 ^ 61 }
     requires pops { F.popped fabric.old < 2 ^ 61 }
 
-    ensures answer { WhereTold (S.content shelf.old) (file_words (replay_form files.now)) (λ contents.
+    ensures answer { WhereTold (S.content shelf.old) (file_words (replay_form files.now))
+        (λ contents.
         IsTold (BehindWords (watching_in (sight_of T.kind_of T.state_of watch.old))
         files.now.policy.now files.now.target.now (pacing_form files.now.pacing) files.now.capture.now contents)
         result (K.written sink.old) (K.written sink.new)) }
@@ -312,12 +341,16 @@ pub fn replay_files<S: Shelf, K: Sink, F: Fabric, T: Tap>(
         IsLeft F.Fabric (BehindWords (watching_in (sight_of T.kind_of T.state_of watch.old))
         files.now.policy.now files.now.target.now (pacing_form files.now.pacing) files.now.capture.now contents) result fabric.old fabric.new
         (sight_of T.kind_of T.state_of watch.old) (sight_of T.kind_of T.state_of watch.new)) }
-    ensures fewer { AreNoMore (sight_of T.kind_of T.state_of watch.old) (sight_of T.kind_of T.state_of watch.new) }
-    ensures statuses { IfOk result (λ s. IsOneOf (statuses_of (replay_form files.now)) (status_code s)) }
-    ensures refused { IfOk result (λ s. IsRefusal (status_code s) → IsAsItWas F.Fabric fabric.old fabric.new) }
+    ensures fewer { AreNoMore (sight_of T.kind_of T.state_of watch.old)
+        (sight_of T.kind_of T.state_of watch.new) }
+    ensures statuses { IfOk result (λ s. IsOneOf (statuses_of (replay_form files.now))
+        (status_code s)) }
+    ensures refused { IfOk result (λ s. IsRefusal (status_code s) →
+        IsAsItWas F.Fabric fabric.old fabric.new) }
     ensures unwatched { IfOk result (λ s. IsRefusal (status_code s)
         → sight_of T.kind_of T.state_of watch.new ≡ sight_of T.kind_of T.state_of watch.old) }
-    ensures shelf_cause { IsErrOf result Stop.Source → Rose (S.faults shelf.old) (S.faults shelf.new) }
+    ensures shelf_cause { IsErrOf result Stop.Source → Rose (S.faults shelf.old)
+        (S.faults shelf.new) }
     ensures sink_cause { IsErrOf result Stop.Sink → Rose (K.faults sink.old) (K.faults sink.new) }
     ensures sink_later { K.faults sink.old ≤ K.faults sink.new }
 {

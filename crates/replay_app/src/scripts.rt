@@ -29,7 +29,8 @@ fn told_of(fault: ScriptFault) -> Result<Refusal, AllocError>
 
 /// What the text of a script says, or why it is refused. The error is want of memory.
 fn script_in(alloc: Global, text: &[u8]) -> Result<Read<Script>, AllocError>
-    ensures read { IfOk result (λ read. IsRead (IsScriptRefused text.now) (IsScript text.now) read) }
+    ensures read { IfOk result (λ read. IsRead (IsScriptRefused text.now) (IsScript text.now)
+        read) }
     ensures short { IfOk result (λ read. IfAccepted read (λ steps. counts_of steps ≤ most_count)) }
 {
     match parse_events(alloc, text) {

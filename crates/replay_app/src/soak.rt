@@ -47,8 +47,10 @@ fn put_line(into: &mut Vec<u8>, counts: LoadCounts) -> Result<(), AllocError>
 
 /// Writes the line of a load.
 fn write_counts<K: Sink>(alloc: Global, counts: LoadCounts, sink: &mut K) -> Result<(), Stop>
-    ensures text { OnOk result (Appended (K.written sink.old) (K.written sink.new) (soak_line counts)) }
-    ensures part { OnErr result (AppendedPrefix (K.written sink.old) (K.written sink.new) (soak_line counts)) }
+    ensures text { OnOk result (Appended (K.written sink.old) (K.written sink.new)
+        (soak_line counts)) }
+    ensures part { OnErr result (AppendedPrefix (K.written sink.old) (K.written sink.new)
+        (soak_line counts)) }
     ensures sink_cause { IsErrOf result Stop.Sink → Rose (K.faults sink.old) (K.faults sink.new) }
     ensures sink_later { K.faults sink.old ≤ K.faults sink.new }
     ensures reads_nothing { IsErrOf result Stop.Source → ⊥ }
@@ -70,7 +72,8 @@ fn target(alloc: Global) -> Result<Target, AllocError>
 fn placement(alloc: Global, policy: &Policy) -> Result<Placement, AllocError>
     requires office { IsResolved office_lines policy.now }
     ensures target { IfOk result (λ p. p.target ≡ soak_target) }
-    ensures map { IfOk result (λ p. IsPlacement (topology_of policy.now.policy.tree) p.target p.map) }
+    ensures map { IfOk result (λ p. IsPlacement (topology_of policy.now.policy.tree) p.target
+        p.map) }
     ensures shape { IfOk result (λ p. SameShape (topology_of policy.now.policy.tree) p.map) }
 {
     let target = target(alloc)?;

@@ -33,7 +33,8 @@ fn told_of(fault: TargetFault) -> Result<Refusal, AllocError>
 
 /// What the text of a target says, or why it is refused. The error is want of memory.
 fn target_in(alloc: Global, text: &[u8]) -> Result<Read<Target>, AllocError>
-    ensures read { IfOk result (λ read. IsRead (IsTargetRefused text.now) (IsTargetOf text.now) read) }
+    ensures read { IfOk result (λ read. IsRead (IsTargetRefused text.now) (IsTargetOf text.now)
+        read) }
     ensures range { IfOk result (λ read. IfAccepted read (λ t. IsInRange t.arities t.above)) }
 {
     match read_target(alloc, text) {

@@ -31,7 +31,8 @@ fn told_of(fault: TreeFault) -> Result<Refusal, AllocError>
 
 /// The topology that a text gives, or why the text is refused. The error is want of memory.
 fn topology_in(alloc: Global, text: &[u8]) -> Result<Read<Topo>, AllocError>
-    ensures read { IfOk result (λ read. IsRead (IsTreeRefused text.now) (λ t. IsTreeText text.now (topology t)) read) }
+    ensures read { IfOk result (λ read. IsRead (IsTreeRefused text.now) (λ t.
+        IsTreeText text.now (topology t)) read) }
     ensures limits { IfOk result (λ read. IfAccepted read (λ t. IsWithinLimits (topology t))) }
 {
     match read_tree(alloc, text) {

@@ -30,9 +30,8 @@ use crate::topologies::read_topology;
 use crate::words::ViaFiles;
 use crate::writing::{refuse, refuse_behind};
 use embed_core::{EmbedFault, Target, embed};
-use mapcheck_core::compose;
 use fabric_core::Fabric;
-use mapcheck_core::{Given, MapFault};
+use mapcheck_core::{Given, MapFault, compose};
 use outside_core::{Shelf, Sink, Stop};
 use policy_core::Policy;
 use report_core::FaultKind;
@@ -81,7 +80,8 @@ fn refuse_map<K: Sink>(
 ) -> Result<Status, Stop>
     requires nodes { NamesNodes (nodes policy.now.policy.tree) fault }
     ensures status { IfOk result (λ s. s ≡ Status.BadMap) }
-    ensures text { OnOk result (Appended (K.written sink.old) (K.written sink.new) (map_refusal (names_of policy.now.policy) fault).text) }
+    ensures text { OnOk result (Appended (K.written sink.old) (K.written sink.new)
+        (map_refusal (names_of policy.now.policy) fault).text) }
     ensures part { OnErr result (AppendedPrefix (K.written sink.old) (K.written sink.new)
         (map_refusal (names_of policy.now.policy) fault).text) }
     ensures sink_cause { IsErrOf result Stop.Sink → Rose (K.faults sink.old) (K.faults sink.new) }
@@ -106,21 +106,26 @@ fn run_alone<S: Shelf, K: Sink, F: Fabric>(
     sink: &mut K,
     fabric: &mut F,
 ) -> Result<Status, Stop>
-    requires lent { AreLent (S.lends shelf.old) (files.now.capture.now ∷ files.now.script.now ∷ []) }
+    requires lent { AreLent (S.lends shelf.old) (files.now.capture.now ∷ files.now.script.now ∷
+        []) }
     requires range { IsInRange placement.target.arities placement.target.above }
     requires map_shape { SameShape (topology_of policy.now.policy.tree) placement.map }
-    requires embedding { IsEmbedding (topology_of policy.now.policy.tree) (complete placement.target.arities) (image_map placement.map) }
+    requires embedding { IsEmbedding (topology_of policy.now.policy.tree)
+        (complete placement.target.arities) (image_map placement.map) }
     requires pushes { F.pushed fabric.old < 2 ^ 61 }
     requires pops { F.popped fabric.old < 2 ^ 61 }
 
-    ensures answer { WhereTold (S.content shelf.old) (files.now.capture.now ∷ files.now.script.now ∷ []) (λ contents.
+    ensures answer { WhereTold (S.content shelf.old) (files.now.capture.now ∷ files.now.script.now ∷
+        []) (λ contents.
         IsTold (BehindScript [] policy.now (laid_by placement) files.now.script.now files.now.capture.now contents)
         result (K.written sink.old) (K.written sink.new)) }
-    ensures left { WhereTold (S.content shelf.old) (files.now.capture.now ∷ files.now.script.now ∷ []) (λ contents.
+    ensures left { WhereTold (S.content shelf.old) (files.now.capture.now ∷ files.now.script.now ∷
+        []) (λ contents.
         HoldsRun F.Fabric (BehindScript [] policy.now (laid_by placement) files.now.script.now files.now.capture.now contents)
         result fabric.old fabric.new) }
     ensures statuses { IfOk result (λ s. IsOneOf run_statuses (status_code s)) }
-    ensures shelf_cause { IsErrOf result Stop.Source → Rose (S.faults shelf.old) (S.faults shelf.new) }
+    ensures shelf_cause { IsErrOf result Stop.Source → Rose (S.faults shelf.old)
+        (S.faults shelf.new) }
     ensures sink_cause { IsErrOf result Stop.Sink → Rose (K.faults sink.old) (K.faults sink.new) }
     ensures sink_later { K.faults sink.old ≤ K.faults sink.new }
 {
@@ -140,21 +145,27 @@ fn via_placed<S: Shelf, K: Sink, F: Fabric>(
     sink: &mut K,
     fabric: &mut F,
 ) -> Result<Status, Stop>
-    requires lent { AreLent (S.lends shelf.old) (files.now.capture.now ∷ files.now.script.now ∷ []) }
-    requires route { IsRoute route.now.policy.now.policy (topology route.now.middle.now) route.now.given.now }
+    requires lent { AreLent (S.lends shelf.old) (files.now.capture.now ∷ files.now.script.now ∷
+        []) }
+    requires route { IsRoute route.now.policy.now.policy (topology route.now.middle.now)
+        route.now.given.now }
     requires range { IsInRange target.arities target.above }
     requires pushes { F.pushed fabric.old < 2 ^ 61 }
     requires pops { F.popped fabric.old < 2 ^ 61 }
 
-    ensures answer { WhereTold (S.content shelf.old) (files.now.capture.now ∷ files.now.script.now ∷ []) (λ contents.
+    ensures answer { WhereTold (S.content shelf.old) (files.now.capture.now ∷ files.now.script.now ∷
+        []) (λ contents.
         IsTold (AlongTarget route.now.policy.now (topology route.now.middle.now) route.now.given.now target files.now contents)
         result (K.written sink.old) (K.written sink.new)) }
-    ensures left { WhereTold (S.content shelf.old) (files.now.capture.now ∷ files.now.script.now ∷ []) (λ contents.
+    ensures left { WhereTold (S.content shelf.old) (files.now.capture.now ∷ files.now.script.now ∷
+        []) (λ contents.
         HoldsRun F.Fabric (AlongTarget route.now.policy.now (topology route.now.middle.now) route.now.given.now target files.now contents)
         result fabric.old fabric.new) }
     ensures statuses { IfOk result (λ s. IsOneOf (5 ∷ run_statuses) (status_code s)) }
-    ensures refused { IfOk result (λ s. IsRefusal (status_code s) → IsAsItWas F.Fabric fabric.old fabric.new) }
-    ensures shelf_cause { IsErrOf result Stop.Source → Rose (S.faults shelf.old) (S.faults shelf.new) }
+    ensures refused { IfOk result (λ s. IsRefusal (status_code s) →
+        IsAsItWas F.Fabric fabric.old fabric.new) }
+    ensures shelf_cause { IsErrOf result Stop.Source → Rose (S.faults shelf.old)
+        (S.faults shelf.new) }
     ensures sink_cause { IsErrOf result Stop.Sink → Rose (K.faults sink.old) (K.faults sink.new) }
     ensures sink_later { K.faults sink.old ≤ K.faults sink.new }
 {
@@ -182,8 +193,10 @@ fn via_target<S: Shelf, K: Sink, F: Fabric>(
     sink: &mut K,
     fabric: &mut F,
 ) -> Result<Status, Stop>
-    requires lent { AreLent (S.lends shelf.old) (files.now.target.now ∷ files.now.capture.now ∷ files.now.script.now ∷ []) }
-    requires route { IsRoute route.now.policy.now.policy (topology route.now.middle.now) route.now.given.now }
+    requires lent { AreLent (S.lends shelf.old) (files.now.target.now ∷ files.now.capture.now ∷
+        files.now.script.now ∷ []) }
+    requires route { IsRoute route.now.policy.now.policy (topology route.now.middle.now)
+        route.now.given.now }
     requires pushes { F.pushed fabric.old < 2 ^ 61 }
     requires pops { F.popped fabric.old < 2 ^ 61 }
 
@@ -196,8 +209,10 @@ fn via_target<S: Shelf, K: Sink, F: Fabric>(
         HoldsRun F.Fabric (AlongMap route.now.policy.now (topology route.now.middle.now) route.now.given.now files.now contents)
         result fabric.old fabric.new) }
     ensures statuses { IfOk result (λ s. IsOneOf (4 ∷ 5 ∷ run_statuses) (status_code s)) }
-    ensures refused { IfOk result (λ s. IsRefusal (status_code s) → IsAsItWas F.Fabric fabric.old fabric.new) }
-    ensures shelf_cause { IsErrOf result Stop.Source → Rose (S.faults shelf.old) (S.faults shelf.new) }
+    ensures refused { IfOk result (λ s. IsRefusal (status_code s) →
+        IsAsItWas F.Fabric fabric.old fabric.new) }
+    ensures shelf_cause { IsErrOf result Stop.Source → Rose (S.faults shelf.old)
+        (S.faults shelf.new) }
     ensures sink_cause { IsErrOf result Stop.Sink → Rose (K.faults sink.old) (K.faults sink.new) }
     ensures sink_later { K.faults sink.old ≤ K.faults sink.new }
 {
@@ -231,8 +246,10 @@ fn via_map<S: Shelf, K: Sink, F: Fabric>(
         (files.now.map.now ∷ files.now.target.now ∷ files.now.capture.now ∷ files.now.script.now ∷ []) (λ contents.
         HoldsRun F.Fabric (BehindTopology policy.now (topology middle.now) files.now contents) result fabric.old fabric.new) }
     ensures statuses { IfOk result (λ s. IsOneOf (13 ∷ 4 ∷ 5 ∷ run_statuses) (status_code s)) }
-    ensures refused { IfOk result (λ s. IsRefusal (status_code s) → IsAsItWas F.Fabric fabric.old fabric.new) }
-    ensures shelf_cause { IsErrOf result Stop.Source → Rose (S.faults shelf.old) (S.faults shelf.new) }
+    ensures refused { IfOk result (λ s. IsRefusal (status_code s) →
+        IsAsItWas F.Fabric fabric.old fabric.new) }
+    ensures shelf_cause { IsErrOf result Stop.Source → Rose (S.faults shelf.old)
+        (S.faults shelf.new) }
     ensures sink_cause { IsErrOf result Stop.Sink → Rose (K.faults sink.old) (K.faults sink.new) }
     ensures sink_later { K.faults sink.old ≤ K.faults sink.new }
 {
@@ -261,20 +278,25 @@ fn via_topology<S: Shelf, K: Sink, F: Fabric>(
     sink: &mut K,
     fabric: &mut F,
 ) -> Result<Status, Stop>
-    requires lent { AreLent (S.lends shelf.old) (files.now.topology.now ∷ files.now.map.now ∷ files.now.target.now
+    requires lent { AreLent (S.lends shelf.old) (files.now.topology.now ∷ files.now.map.now ∷
+        files.now.target.now
         ∷ files.now.capture.now ∷ files.now.script.now ∷ []) }
     requires pushes { F.pushed fabric.old < 2 ^ 61 }
     requires pops { F.popped fabric.old < 2 ^ 61 }
 
-    ensures answer { WhereTold (S.content shelf.old) (files.now.topology.now ∷ files.now.map.now ∷ files.now.target.now
+    ensures answer { WhereTold (S.content shelf.old) (files.now.topology.now ∷ files.now.map.now ∷
+        files.now.target.now
         ∷ files.now.capture.now ∷ files.now.script.now ∷ []) (λ contents.
         IsTold (AlongPolicy policy.now files.now contents) result (K.written sink.old) (K.written sink.new)) }
-    ensures left { WhereTold (S.content shelf.old) (files.now.topology.now ∷ files.now.map.now ∷ files.now.target.now
+    ensures left { WhereTold (S.content shelf.old) (files.now.topology.now ∷ files.now.map.now ∷
+        files.now.target.now
         ∷ files.now.capture.now ∷ files.now.script.now ∷ []) (λ contents.
         HoldsRun F.Fabric (AlongPolicy policy.now files.now contents) result fabric.old fabric.new) }
     ensures statuses { IfOk result (λ s. IsOneOf (12 ∷ 13 ∷ 4 ∷ 5 ∷ run_statuses) (status_code s)) }
-    ensures refused { IfOk result (λ s. IsRefusal (status_code s) → IsAsItWas F.Fabric fabric.old fabric.new) }
-    ensures shelf_cause { IsErrOf result Stop.Source → Rose (S.faults shelf.old) (S.faults shelf.new) }
+    ensures refused { IfOk result (λ s. IsRefusal (status_code s) →
+        IsAsItWas F.Fabric fabric.old fabric.new) }
+    ensures shelf_cause { IsErrOf result Stop.Source → Rose (S.faults shelf.old)
+        (S.faults shelf.new) }
     ensures sink_cause { IsErrOf result Stop.Sink → Rose (K.faults sink.old) (K.faults sink.new) }
     ensures sink_later { K.faults sink.old ≤ K.faults sink.new }
 {
@@ -301,9 +323,12 @@ pub fn via_files<S: Shelf, K: Sink, F: Fabric>(
         IsTold (IsOutput (via_form files.now) contents []) result (K.written sink.old) (K.written sink.new)) }
     ensures left { WhereTold (S.content shelf.old) (file_words (via_form files.now)) (λ contents.
         HoldsRun F.Fabric (IsOutput (via_form files.now) contents []) result fabric.old fabric.new) }
-    ensures statuses { IfOk result (λ s. IsOneOf (statuses_of (via_form files.now)) (status_code s)) }
-    ensures refused { IfOk result (λ s. IsRefusal (status_code s) → IsAsItWas F.Fabric fabric.old fabric.new) }
-    ensures shelf_cause { IsErrOf result Stop.Source → Rose (S.faults shelf.old) (S.faults shelf.new) }
+    ensures statuses { IfOk result (λ s. IsOneOf (statuses_of (via_form files.now))
+        (status_code s)) }
+    ensures refused { IfOk result (λ s. IsRefusal (status_code s) →
+        IsAsItWas F.Fabric fabric.old fabric.new) }
+    ensures shelf_cause { IsErrOf result Stop.Source → Rose (S.faults shelf.old)
+        (S.faults shelf.new) }
     ensures sink_cause { IsErrOf result Stop.Sink → Rose (K.faults sink.old) (K.faults sink.new) }
     ensures sink_later { K.faults sink.old ≤ K.faults sink.new }
 {

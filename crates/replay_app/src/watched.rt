@@ -33,20 +33,24 @@ pub fn replay_watched<S: Shelf, K: Sink, F: Fabric, T: Tap>(
     requires pushes { F.pushed fabric.old < 2 ^ 61 }
     requires pops { F.popped fabric.old < 2 ^ 61 }
 
-    ensures answer { WhereTold (S.content shelf.old) (file_words (replay_form files.now)) (λ contents.
+    ensures answer { WhereTold (S.content shelf.old) (file_words (replay_form files.now))
+        (λ contents.
         IsTold (IsOutput (replay_form files.now) contents (entries T.kind_of T.state_of taps.old.items)) result
         (K.written sink.old) (K.written sink.new)) }
     ensures left { WhereTold (S.content shelf.old) (file_words (replay_form files.now)) (λ contents.
         IsLeftOf F.Fabric (replay_form files.now) contents result fabric.old fabric.new
         (entries T.kind_of T.state_of taps.old.items) (entries T.kind_of T.state_of taps.new.items)) }
     ensures fewer { vec_len taps.new ≤ vec_len taps.old }
-    ensures statuses { IfOk result (λ s. IsOneOf (statuses_of (replay_form files.now)) (status_code s)) }
-    ensures refused { IfOk result (λ s. IsRefusal (status_code s) → IsAsItWas F.Fabric fabric.old fabric.new) }
+    ensures statuses { IfOk result (λ s. IsOneOf (statuses_of (replay_form files.now))
+        (status_code s)) }
+    ensures refused { IfOk result (λ s. IsRefusal (status_code s) →
+        IsAsItWas F.Fabric fabric.old fabric.new) }
     ensures unwatched { IfOk result (λ s. IsRefusal (status_code s)
         → entries T.kind_of T.state_of taps.new.items ≡ entries T.kind_of T.state_of taps.old.items) }
     ensures unshown { UsesNoTaps (replay_form files.now)
         → entries T.kind_of T.state_of taps.new.items ≡ entries T.kind_of T.state_of taps.old.items }
-    ensures shelf_cause { IsErrOf result Stop.Source → Rose (S.faults shelf.old) (S.faults shelf.new) }
+    ensures shelf_cause { IsErrOf result Stop.Source → Rose (S.faults shelf.old)
+        (S.faults shelf.new) }
     ensures sink_cause { IsErrOf result Stop.Sink → Rose (K.faults sink.old) (K.faults sink.new) }
     ensures sink_later { K.faults sink.old ≤ K.faults sink.new }
 {

@@ -144,7 +144,8 @@ fn last_rate(rate: &str, more: &[String]) -> Option<u64>
 
 /// What paces a run through the fabric, by the first word, the fifth, and those behind it.
 fn pacing_of<'a>(command: &str, fifth: &'a str, more: &[String]) -> Option<Pacing<'a>>
-    ensures pacing { option_map pacing_form result ≡ pacing_by command.now fifth.now (texts more.now) }
+    ensures pacing { option_map pacing_form result ≡ pacing_by command.now fifth.now
+        (texts more.now) }
     ensures range { IfSome result HasRate }
 {
     match command {
@@ -163,7 +164,8 @@ fn via_by<'a>(
     target: &'a str,
     more: &'a [String],
 ) -> Option<ViaFiles<'a>>
-    ensures { MatchOption result (via_by policy.now topology.now map.now target.now (texts more.now) ≡ no_form) (λ files.
+    ensures { MatchOption result (via_by policy.now topology.now map.now target.now
+        (texts more.now) ≡ no_form) (λ files.
         via_by policy.now topology.now map.now target.now (texts more.now) ≡ via_form files) }
 {
     match more {
@@ -182,7 +184,8 @@ fn via_by<'a>(
 /// The command that the words spell, if they are in a form.
 pub fn command_of(words: &[String]) -> Option<Command<'_>>
     ensures range { IfSome result CanRun }
-    ensures form { MatchOption result (form_of (texts words.now) ≡ no_form) (λ c. form_of (texts words.now) ≡ command_form c) }
+    ensures form { MatchOption result (form_of (texts words.now) ≡ no_form) (λ c.
+        form_of (texts words.now) ≡ command_form c) }
 {
     match words {
         [command, policy] => {

@@ -21,8 +21,10 @@ pub fn refuse<K: Sink>(
     cause: Refusal,
 ) -> Result<Status, Stop>
     ensures status { IfOk result (λ s. s ≡ kind_status kind) }
-    ensures text { OnOk result (Appended (K.written sink.old) (K.written sink.new) (refusal kind cause.code cause.place).text) }
-    ensures part { OnErr result (AppendedPrefix (K.written sink.old) (K.written sink.new) (refusal kind cause.code cause.place).text) }
+    ensures text { OnOk result (Appended (K.written sink.old) (K.written sink.new)
+        (refusal kind cause.code cause.place).text) }
+    ensures part { OnErr result (AppendedPrefix (K.written sink.old) (K.written sink.new)
+        (refusal kind cause.code cause.place).text) }
     ensures sink_cause { IsErrOf result Stop.Sink → Rose (K.faults sink.old) (K.faults sink.new) }
     ensures sink_later { K.faults sink.old ≤ K.faults sink.new }
     ensures reads_nothing { IsErrOf result Stop.Source → ⊥ }
@@ -58,7 +60,8 @@ pub fn refuse_behind<K: Sink>(
 /// Writes the whole text.
 pub fn write<K: Sink>(alloc: Global, text: &[u8], sink: &mut K) -> Result<(), Stop>
     ensures text { OnOk result (Appended (K.written sink.old) (K.written sink.new) text.now) }
-    ensures part { OnErr result (AppendedPrefix (K.written sink.old) (K.written sink.new) text.now) }
+    ensures part { OnErr result (AppendedPrefix (K.written sink.old) (K.written sink.new)
+        text.now) }
     ensures sink_cause { IsErrOf result Stop.Sink → Rose (K.faults sink.old) (K.faults sink.new) }
     ensures sink_later { K.faults sink.old ≤ K.faults sink.new }
     ensures reads_nothing { IsErrOf result Stop.Source → ⊥ }

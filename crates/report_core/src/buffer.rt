@@ -35,7 +35,8 @@ impl Model for Buffer {
 /// Writes all the bytes.
 pub fn send<K: Sink>(sink: &mut K, bytes: &[u8]) -> Result<(), WriteFault>
     ensures ok { OnOk result (Appended (K.written sink.old) (K.written sink.new) bytes.now) }
-    ensures cut { OnErr result (IsCut (appended (K.written sink.old) bytes.now) [] (K.written sink.new)) }
+    ensures cut { OnErr result (IsCut (appended (K.written sink.old) bytes.now) []
+        (K.written sink.new)) }
     ensures kept { KeepsSink K.written K.faults sink.old sink.new }
     ensures cause { OnErr result (Rose (K.faults sink.old) (K.faults sink.new)) }
 {
@@ -65,8 +66,10 @@ impl Buffer {
 
     /// Writes all that is held.
     pub fn flush<K: Sink>(&mut self, sink: &mut K) -> Result<(), WriteFault>
-        ensures ok { OnOk result (Appended (appended (K.written sink.old) self.old) (appended (K.written sink.new) self.new) []) }
-        ensures cut { OnErr result (IsCut (appended (K.written sink.old) self.old) [] (K.written sink.new)) }
+        ensures ok { OnOk result (Appended (appended (K.written sink.old) self.old)
+            (appended (K.written sink.new) self.new) []) }
+        ensures cut { OnErr result (IsCut (appended (K.written sink.old) self.old) []
+            (K.written sink.new)) }
         ensures kept { KeepsSink K.written K.faults sink.old sink.new }
         ensures cause { OnErr result (Rose (K.faults sink.old) (K.faults sink.new)) }
         ensures empty { self.new ≡ [] }
@@ -79,8 +82,10 @@ impl Buffer {
     /// Takes bytes of any number, and writes through what doesn't fit.
     #[inline(always)]
     pub fn put_or_send<K: Sink>(&mut self, sink: &mut K, bytes: &[u8]) -> Result<(), WriteFault>
-        ensures ok { OnOk result (Appended (appended (K.written sink.old) self.old) (appended (K.written sink.new) self.new) bytes.now) }
-        ensures cut { OnErr result (IsCut (appended (K.written sink.old) self.old) bytes.now (K.written sink.new)) }
+        ensures ok { OnOk result (Appended (appended (K.written sink.old) self.old)
+            (appended (K.written sink.new) self.new) bytes.now) }
+        ensures cut { OnErr result (IsCut (appended (K.written sink.old) self.old) bytes.now
+            (K.written sink.new)) }
         ensures kept { KeepsSink K.written K.faults sink.old sink.new }
         ensures cause { OnErr result (Rose (K.faults sink.old) (K.faults sink.new)) }
         ensures bounded { length self.new ≤ limit }
@@ -95,8 +100,10 @@ impl Buffer {
     /// Takes bytes of any number once all that is held is written.
     #[cold]
     fn flush_and_put<K: Sink>(&mut self, sink: &mut K, bytes: &[u8]) -> Result<(), WriteFault>
-        ensures ok { OnOk result (Appended (appended (K.written sink.old) self.old) (appended (K.written sink.new) self.new) bytes.now) }
-        ensures cut { OnErr result (IsCut (appended (K.written sink.old) self.old) bytes.now (K.written sink.new)) }
+        ensures ok { OnOk result (Appended (appended (K.written sink.old) self.old)
+            (appended (K.written sink.new) self.new) bytes.now) }
+        ensures cut { OnErr result (IsCut (appended (K.written sink.old) self.old) bytes.now
+            (K.written sink.new)) }
         ensures kept { KeepsSink K.written K.faults sink.old sink.new }
         ensures cause { OnErr result (Rose (K.faults sink.old) (K.faults sink.new)) }
         ensures bounded { length self.new ≤ limit }

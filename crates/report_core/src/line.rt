@@ -26,7 +26,8 @@ fn leaf_before(line: &mut [u8], end: usize, leaf: &str, ranks: &[u64]) -> usize
     requires few { length ranks.now ≤ 65 }
     requires room { 1431 ≤ end }
     requires within { end ≤ length line.old }
-    ensures text { drop result line.new ≡ 32 ∷ leaf.now ++ 32 ∷ ranks_text ranks.now ++ drop end line.old }
+    ensures text { drop result line.new ≡ 32 ∷ leaf.now ++ 32 ∷ ranks_text ranks.now ++ drop end
+        line.old }
     ensures short { end ≤ result + 1431 }
     ensures within { result ≤ length line.new }
 {

@@ -78,8 +78,10 @@ impl Report {
         requires leaf { length leaf.now ≤ most_name }
         requires few { length ranks.now ≤ 65 }
 
-        ensures ok { OnOk result (Tells K.written sink.old self.old sink.new self.new (arrival_line event packet leaf.now ranks.now)) }
-        ensures cut { OnErr result (CutsOff K.written sink.old self.old sink.new (arrival_line event packet leaf.now ranks.now)) }
+        ensures ok { OnOk result (Tells K.written sink.old self.old sink.new self.new
+            (arrival_line event packet leaf.now ranks.now)) }
+        ensures cut { OnErr result (CutsOff K.written sink.old self.old sink.new
+            (arrival_line event packet leaf.now ranks.now)) }
         ensures kept { KeepsSink K.written K.faults sink.old sink.new }
         ensures cause { OnErr result (Rose (K.faults sink.old) (K.faults sink.new)) }
         ensures live { self.new.live ≡ is_ok result }
@@ -107,7 +109,8 @@ impl Report {
 
         ensures ok { OnOk result (Tells K.written sink.old self.old sink.new self.new
             (departure_line event packet leaf.now ranks.now start)) }
-        ensures cut { OnErr result (CutsOff K.written sink.old self.old sink.new (departure_line event packet leaf.now ranks.now start)) }
+        ensures cut { OnErr result (CutsOff K.written sink.old self.old sink.new
+            (departure_line event packet leaf.now ranks.now start)) }
         ensures kept { KeepsSink K.written K.faults sink.old sink.new }
         ensures cause { OnErr result (Rose (K.faults sink.old) (K.faults sink.new)) }
         ensures live { self.new.live ≡ is_ok result }
@@ -122,8 +125,10 @@ impl Report {
     pub fn empty<K: Sink>(&mut self, sink: &mut K, event: u64) -> Result<(), WriteFault>
         requires live { IsTrue self.old.live }
 
-        ensures ok { OnOk result (Tells K.written sink.old self.old sink.new self.new (empty_line event)) }
-        ensures cut { OnErr result (CutsOff K.written sink.old self.old sink.new (empty_line event)) }
+        ensures ok { OnOk result (Tells K.written sink.old self.old sink.new self.new
+            (empty_line event)) }
+        ensures cut { OnErr result (CutsOff K.written sink.old self.old sink.new
+            (empty_line event)) }
         ensures kept { KeepsSink K.written K.faults sink.old sink.new }
         ensures cause { OnErr result (Rose (K.faults sink.old) (K.faults sink.new)) }
         ensures live { self.new.live ≡ is_ok result }
@@ -145,8 +150,10 @@ impl Report {
         requires live { IsTrue self.old.live }
         requires leaf { length leaf.now ≤ most_name }
 
-        ensures ok { OnOk result (Tells K.written sink.old self.old sink.new self.new (drop_line event packet leaf.now)) }
-        ensures cut { OnErr result (CutsOff K.written sink.old self.old sink.new (drop_line event packet leaf.now)) }
+        ensures ok { OnOk result (Tells K.written sink.old self.old sink.new self.new
+            (drop_line event packet leaf.now)) }
+        ensures cut { OnErr result (CutsOff K.written sink.old self.old sink.new
+            (drop_line event packet leaf.now)) }
         ensures kept { KeepsSink K.written K.faults sink.old sink.new }
         ensures cause { OnErr result (Rose (K.faults sink.old) (K.faults sink.new)) }
         ensures live { self.new.live ≡ is_ok result }
@@ -171,8 +178,10 @@ impl Report {
     ) -> Result<(), WriteFault>
         requires live { IsTrue self.old.live }
 
-        ensures ok { OnOk result (Tells K.written sink.old self.old sink.new self.new (end_line pushed popped empty held unsent dropped)) }
-        ensures cut { OnErr result (CutsOff K.written sink.old self.old sink.new (end_line pushed popped empty held unsent dropped)) }
+        ensures ok { OnOk result (Tells K.written sink.old self.old sink.new self.new
+            (end_line pushed popped empty held unsent dropped)) }
+        ensures cut { OnErr result (CutsOff K.written sink.old self.old sink.new
+            (end_line pushed popped empty held unsent dropped)) }
         ensures kept { KeepsSink K.written K.faults sink.old sink.new }
         ensures cause { OnErr result (Rose (K.faults sink.old) (K.faults sink.new)) }
         ensures live { self.new.live ≡ is_ok result }
@@ -193,8 +202,10 @@ impl Report {
     ) -> Result<(), WriteFault>
         requires live { IsTrue self.old.live }
 
-        ensures ok { OnOk result (Tells K.written sink.old self.old sink.new self.new (fault_line (word_of kind) code place)) }
-        ensures cut { OnErr result (CutsOff K.written sink.old self.old sink.new (fault_line (word_of kind) code place)) }
+        ensures ok { OnOk result (Tells K.written sink.old self.old sink.new self.new
+            (fault_line (word_of kind) code place)) }
+        ensures cut { OnErr result (CutsOff K.written sink.old self.old sink.new
+            (fault_line (word_of kind) code place)) }
         ensures kept { KeepsSink K.written K.faults sink.old sink.new }
         ensures cause { OnErr result (Rose (K.faults sink.old) (K.faults sink.new)) }
         ensures live { self.new.live ≡ is_ok result }
@@ -229,7 +240,8 @@ impl Report {
         ensures kept { KeepsSink K.written K.faults sink.old sink.new }
         ensures cause { OnErr result (Rose (K.faults sink.old) (K.faults sink.new)) }
         ensures live { self.new.live ≡ is_ok result }
-        ensures whole { OnOk result (Appended (text_of (K.written sink.old) self.old) (K.written sink.new) []) }
+        ensures whole { OnOk result (Appended (text_of (K.written sink.old) self.old)
+            (K.written sink.new) []) }
         ensures none_left { OnOk result (self.new.unwritten ≡ []) }
     {
         let sent = self.buffer.flush(sink);

@@ -18,8 +18,10 @@ pub fn write_fault<K: Sink>(
     code: u32,
     place: u64,
 ) -> Result<(), Stop>
-    ensures text { OnOk result (Appended (K.written sink.old) (K.written sink.new) (fault_line (word_of kind) code place)) }
-    ensures part { OnErr result (AppendedPrefix (K.written sink.old) (K.written sink.new) (fault_line (word_of kind) code place)) }
+    ensures text { OnOk result (Appended (K.written sink.old) (K.written sink.new)
+        (fault_line (word_of kind) code place)) }
+    ensures part { OnErr result (AppendedPrefix (K.written sink.old) (K.written sink.new)
+        (fault_line (word_of kind) code place)) }
     ensures kept { KeepsSink K.written K.faults sink.old sink.new }
     ensures cause { IfErr result (λ stop. HasSinkCause stop K.faults sink.old sink.new) }
 {

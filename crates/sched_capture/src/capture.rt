@@ -36,8 +36,10 @@ pub(crate) fn refuse<K: Sink>(
     place: u64,
 ) -> Result<Ending, Stop>
     ensures ending { IfOk result (λ e. e ≡ Ending.BadCapture code place) }
-    ensures text { OnOk result (Appended (K.written sink.old) (K.written sink.new) (fault_line (codes "capture") code place)) }
-    ensures part { OnErr result (AppendedPrefix (K.written sink.old) (K.written sink.new) (fault_line (codes "capture") code place)) }
+    ensures text { OnOk result (Appended (K.written sink.old) (K.written sink.new)
+        (fault_line (codes "capture") code place)) }
+    ensures part { OnErr result (AppendedPrefix (K.written sink.old) (K.written sink.new)
+        (fault_line (codes "capture") code place)) }
     ensures kept { KeepsSink K.written K.faults sink.old sink.new }
     ensures cause { IfErr result (λ stop. HasSinkCause stop K.faults sink.old sink.new) }
 {
@@ -65,10 +67,12 @@ pub fn begin<'a, S: Shelf, K: Sink>(
     ensures ready { IfOk result (λ a. IsReady a (S.begun shelf.new)) }
     ensures unwritten { OnOk result (sink.new ≡ sink.old) }
 
-    ensures refused { IfErr result (λ answer. IfOk answer (λ e. IfSome (S.content shelf.old capture.now) (λ file.
+    ensures refused { IfErr result (λ answer. IfOk answer (λ e.
+        IfSome (S.content shelf.old capture.now) (λ file.
         IsRefusal (in_file file) e (K.written sink.old) (K.written sink.new)))) }
     ensures at_capture { IfErr result (λ answer. IfOk answer IsNoPastLast) }
-    ensures part { IfErr result (λ answer. OnErr answer (IfSome (S.content shelf.old capture.now) (λ file.
+    ensures part { IfErr result (λ answer. OnErr answer (IfSome (S.content shelf.old capture.now)
+        (λ file.
         IsRefusalPart (in_file file) (K.written sink.old) (K.written sink.new)))) }
     ensures kept { KeepsSink K.written K.faults sink.old sink.new }
     ensures later { S.faults shelf.old ≤ S.faults shelf.new }
@@ -88,7 +92,8 @@ fn direct_run<'a>(
     alloc: Global,
     policy: &'a Policy,
 ) -> Result<(Run<'a, Direct<'a>, Policy, Report>, SourceTree), AllocError>
-    ensures set { IfOk result (λ r. IsSet ⟦<Direct<'a> as Scheduler>⟧ ⟦<Report as Recorder>⟧ (λ p. p.policy) r.0) }
+    ensures set { IfOk result (λ r. IsSet ⟦<Direct<'a> as Scheduler>⟧ ⟦<Report as Recorder>⟧ (λ p.
+        p.policy) r.0) }
     ensures unwritten { IfOk result (λ r. r.0.recorder.unwritten ≡ []) }
     ensures policy { IfOk result (λ r. policy_in r.0.scheduler.own ≡ policy.now.policy) }
     ensures stands { IfOk result (λ r. DirectStands r.0.scheduler r.1 (start policy.now.policy)) }
@@ -131,7 +136,8 @@ fn direct_packets<S: Shelf, K: Sink>(
         AppendedPrefix (K.written sink.old) (K.written sink.new) (answer_of policy.now.policy (pace_of pace.entry) l.packets l.fault).text)) }
     ensures kept { KeepsSink K.written K.faults sink.old sink.new }
     ensures later { S.faults shelf.old ≤ S.faults shelf.new }
-    ensures cause { IfErr result (λ stop. HasCause stop S.faults shelf.old shelf.new K.faults sink.old sink.new) }
+    ensures cause { IfErr result (λ stop. HasCause stop S.faults shelf.old shelf.new K.faults
+        sink.old sink.new) }
 {
     let (mut run, mut tree) = direct_run(alloc, policy)?;
     let mut watch: Watching<Box<dyn Tap>> = Watching::new(alloc, Named::none(), Vec::new(alloc));
@@ -161,7 +167,8 @@ pub fn direct<S: Shelf, K: Sink>(
     ensures part { OnErr result (IfSome (S.content shelf.old task.now.capture.now) (λ file.
         AppendedPrefix (K.written sink.old) (K.written sink.new) (paced_answer policy.now (pace_of task.now.pace) file).text)) }
     ensures sink_cause { IsErrOf result Stop.Sink → Rose (K.faults sink.old) (K.faults sink.new) }
-    ensures source_cause { IsErrOf result Stop.Source → Rose (S.faults shelf.old) (S.faults shelf.new) }
+    ensures source_cause { IsErrOf result Stop.Source → Rose (S.faults shelf.old)
+        (S.faults shelf.new) }
     ensures kept { KeepsSink K.written K.faults sink.old sink.new }
     ensures later { S.faults shelf.old ≤ S.faults shelf.new }
 {

@@ -64,11 +64,13 @@ pub fn run_over<C: Scheduler + Drop, S: Shelf, K: Sink, T: Tap>(
         Watches (shown_in policy.now.policy (outcomes policy.now.policy
         (course_of policy.now.policy pace.entry l (start policy.now.policy) 1).events (start policy.now.policy)))
         (sight_of T.kind_of T.state_of watch.old) (sight_of T.kind_of T.state_of watch.new))) }
-    ensures fewer { AreNoMore (sight_of T.kind_of T.state_of watch.old) (sight_of T.kind_of T.state_of watch.new) }
+    ensures fewer { AreNoMore (sight_of T.kind_of T.state_of watch.old)
+        (sight_of T.kind_of T.state_of watch.new) }
     ensures kept_run { Continues C.Scheduler run.old run.new }
     ensures kept { KeepsSink K.written K.faults sink.old sink.new }
     ensures later { S.faults shelf.old ≤ S.faults shelf.new }
-    ensures cause { IfErr result (λ stop. HasCause stop S.faults shelf.old shelf.new K.faults sink.old sink.new) }
+    ensures cause { IfErr result (λ stop. HasCause stop S.faults shelf.old shelf.new K.faults
+        sink.old sink.new) }
 {
     watch.begin()?;
     run.play(under, sink, watch, packets, shelf, pace)

@@ -30,13 +30,13 @@ ghost use Rattle.sched_capture.specs.Placements.{laid_by};
 
 use crate::capture::{begin, refuse};
 use crate::fabric::{Placement, run_through};
+use crate::forwarding::Forwarding;
 use fabric_core::Fabric;
 use outside_core::{Shelf, Sink, SinkError, Stop};
 use pcap_core::put_head;
 use policy_core::Policy;
 use sched_core::Scheduler;
 use sched_defs::{Ending, Halt};
-use crate::forwarding::Forwarding;
 use sched_packets::{CapturePackets, OTHER_LINK, SingleLinkType};
 use sched_run::{Recorder, Run};
 use std::alloc::Global;
@@ -88,20 +88,25 @@ fn begin_packets<'a, S: Shelf, K: Sink>(
     requires none_given { any.given_by arrivals ≡ 0 }
     requires ready { any.IsReady arrivals (S.begun shelf.old) }
 
-    ensures begins { IfOk result (λ o. EachFileOf (any.contents_of arrivals.entry (S.left shelf.old)) (λ file.
+    ensures begins { IfOk result (λ o. EachFileOf (any.contents_of arrivals.entry
+        (S.left shelf.old)) (λ file.
         Begins (any.resolved_of arrivals.entry) (one_link_in file) (left_of o (S.left shelf.new)))) }
-    ensures captures { IfOk result (λ o. EachFileOf (any.contents_of arrivals.entry (S.left shelf.old)) (λ file.
+    ensures captures { IfOk result (λ o. EachFileOf (any.contents_of arrivals.entry
+        (S.left shelf.old)) (λ file.
         StaysKnown (AreCapturedIn (one_link_in file)) (captures_of o (S.left shelf.new)))) }
-    ensures link { IfOk result (λ o. EachFileOf (any.contents_of arrivals.entry (S.left shelf.old)) (λ file.
+    ensures link { IfOk result (λ o. EachFileOf (any.contents_of arrivals.entry (S.left shelf.old))
+        (λ file.
         link_of o ≡ link_in file)) }
     ensures policy { IfOk result (λ o. resolved_of o ≡ any.resolved_of arrivals.entry) }
     ensures none_given { IfOk result (λ o. given_by o ≡ 0) }
     ensures ready { IfOk result (λ o. IsReady o (S.begun shelf.new)) }
     ensures unwritten { OnOk result (sink.new ≡ sink.old) }
 
-    ensures refused { IfErr result (λ answer. IfOk answer (λ e. EachFileOf (any.contents_of arrivals.entry (S.left shelf.old)) (λ file.
+    ensures refused { IfErr result (λ answer. IfOk answer (λ e.
+        EachFileOf (any.contents_of arrivals.entry (S.left shelf.old)) (λ file.
         IsRefusal (one_link_in file) e (K.written sink.old) (K.written sink.new)))) }
-    ensures part { IfErr result (λ answer. OnErr answer (EachFileOf (any.contents_of arrivals.entry (S.left shelf.old)) (λ file.
+    ensures part { IfErr result (λ answer. OnErr answer (EachFileOf
+        (any.contents_of arrivals.entry (S.left shelf.old)) (λ file.
         IsRefusalPart (one_link_in file) (K.written sink.old) (K.written sink.new)))) }
     ensures kept { KeepsSink K.written K.faults sink.old sink.new }
     ensures later { S.faults shelf.old ≤ S.faults shelf.new }
@@ -131,15 +136,18 @@ fn begin_one_link<'a, S: Shelf, K: Sink>(
         Begins policy.now (one_link_in (in_file file)) (left_of o (S.left shelf.new)))) }
     ensures captures { IfOk result (λ o. IfSome (S.content shelf.old capture.now) (λ file.
         StaysKnown (AreCapturedIn (one_link_in (in_file file))) (captures_of o (S.left shelf.new)))) }
-    ensures link { IfOk result (λ o. IfSome (S.content shelf.old capture.now) (λ file. link_of o ≡ link_in (in_file file))) }
+    ensures link { IfOk result (λ o. IfSome (S.content shelf.old capture.now) (λ file. link_of o ≡
+        link_in (in_file file))) }
     ensures policy { IfOk result (λ o. resolved_of o ≡ policy.now) }
     ensures none_given { IfOk result (λ o. given_by o ≡ 0) }
     ensures ready { IfOk result (λ o. IsReady o (S.begun shelf.new)) }
     ensures unwritten { OnOk result (sink.new ≡ sink.old) }
 
-    ensures refused { IfErr result (λ answer. IfOk answer (λ e. IfSome (S.content shelf.old capture.now) (λ file.
+    ensures refused { IfErr result (λ answer. IfOk answer (λ e.
+        IfSome (S.content shelf.old capture.now) (λ file.
         IsRefusal (one_link_in (in_file file)) e (K.written sink.old) (K.written sink.new)))) }
-    ensures part { IfErr result (λ answer. OnErr answer (IfSome (S.content shelf.old capture.now) (λ file.
+    ensures part { IfErr result (λ answer. OnErr answer (IfSome (S.content shelf.old capture.now)
+        (λ file.
         IsRefusalPart (one_link_in (in_file file)) (K.written sink.old) (K.written sink.new)))) }
     ensures kept { KeepsSink K.written K.faults sink.old sink.new }
     ensures later { S.faults shelf.old ≤ S.faults shelf.new }
@@ -177,12 +185,15 @@ fn forward_over<C: Scheduler + Drop, S: Shelf, K: Sink>(
     requires no_pushes { C.pushes run.old.scheduler ≡ 0 }
     requires no_departures { C.departures run.old.scheduler ≡ 0 }
 
-    ensures ending { IfOk result (λ e. IfSome (left_of packets.old (S.left shelf.old)) (λ l. (link : ℕ) (captured : Captured) →
+    ensures ending { IfOk result (λ e. IfSome (left_of packets.old (S.left shelf.old)) (λ l.
+        (link : ℕ) (captured : Captured) →
         e ≡ (forward_of policy.now.policy rate link captured l).ending)) }
-    ensures text { OnOk result (IfSome (left_of packets.old (S.left shelf.old)) (λ l. (captured : Captured) →
+    ensures text { OnOk result (IfSome (left_of packets.old (S.left shelf.old)) (λ l.
+        (captured : Captured) →
         captures_of packets.old (S.left shelf.old) captured → Appended (K.written sink.old) (K.written sink.new)
         (sent_bytes captured (outcomes policy.now.policy (forward_events policy.now.policy rate l) (start policy.now.policy))))) }
-    ensures part { OnErr result (IfSome (left_of packets.old (S.left shelf.old)) (λ l. (captured : Captured) →
+    ensures part { OnErr result (IfSome (left_of packets.old (S.left shelf.old)) (λ l.
+        (captured : Captured) →
         captures_of packets.old (S.left shelf.old) captured → AppendedPrefix (K.written sink.old) (K.written sink.new)
         (sent_bytes captured (outcomes policy.now.policy (forward_events policy.now.policy rate l) (start policy.now.policy))))) }
     ensures state { OnOk result (IfSome (left_of packets.old (S.left shelf.old)) (λ l.
@@ -194,7 +205,8 @@ fn forward_over<C: Scheduler + Drop, S: Shelf, K: Sink>(
     ensures kept_run { Continues C.Scheduler run.old run.new }
     ensures kept { KeepsSink K.written K.faults sink.old sink.new }
     ensures later { S.faults shelf.old ≤ S.faults shelf.new }
-    ensures cause { IfErr result (λ stop. HasCause stop S.faults shelf.old shelf.new K.faults sink.old sink.new) }
+    ensures cause { IfErr result (λ stop. HasCause stop S.faults shelf.old shelf.new K.faults
+        sink.old sink.new) }
 {
     let ending = run.play_link(under, sink, watch, packets, shelf, rate)?;
     run.recorder.finish(sink)?;
@@ -203,8 +215,10 @@ fn forward_over<C: Scheduler + Drop, S: Shelf, K: Sink>(
 
 /// Writes the header of a capture with this link type.
 fn write_header<K: Sink>(sink: &mut K, link: u16) -> Result<(), Stop>
-    ensures bytes { OnOk result (Appended (K.written sink.old) (K.written sink.new) (header_bytes link)) }
-    ensures part { OnErr result (AppendedPrefix (K.written sink.old) (K.written sink.new) (header_bytes link)) }
+    ensures bytes { OnOk result (Appended (K.written sink.old) (K.written sink.new)
+        (header_bytes link)) }
+    ensures part { OnErr result (AppendedPrefix (K.written sink.old) (K.written sink.new)
+        (header_bytes link)) }
     ensures kept { KeepsSink K.written K.faults sink.old sink.new }
     ensures cause { IfErr result (λ stop. HasSinkCause stop K.faults sink.old sink.new) }
 {
@@ -229,19 +243,23 @@ fn forward_records<S: Shelf, K: Sink, F: Fabric>(
     requires rate { IsRate rate }
     requires range { IsInRange placement.target.arities placement.target.above }
     requires map_shape { SameShape (topology_of policy.now.policy.tree) placement.map }
-    requires embedding { IsEmbedding (topology_of policy.now.policy.tree) (complete placement.target.arities) (image_map placement.map) }
+    requires embedding { IsEmbedding (topology_of policy.now.policy.tree)
+        (complete placement.target.arities) (image_map placement.map) }
     requires pushes { F.pushed fabric.old < 2 ^ 61 }
     requires pops { F.popped fabric.old < 2 ^ 61 }
     requires packets { policy_of packets.old ≡ policy.now.policy }
     requires none_given { given_by packets.old ≡ 0 }
     requires ready { IsReady packets.old (S.begun shelf.old) }
 
-    ensures ending { IfOk result (λ e. IfSome (left_of packets.old (S.left shelf.old)) (λ l. (link : ℕ) (captured : Captured) →
+    ensures ending { IfOk result (λ e. IfSome (left_of packets.old (S.left shelf.old)) (λ l.
+        (link : ℕ) (captured : Captured) →
         e ≡ (forward_of policy.now.policy rate link captured l).ending)) }
-    ensures text { OnOk result (IfSome (left_of packets.old (S.left shelf.old)) (λ l. (captured : Captured) →
+    ensures text { OnOk result (IfSome (left_of packets.old (S.left shelf.old)) (λ l.
+        (captured : Captured) →
         captures_of packets.old (S.left shelf.old) captured → Appended (K.written sink.old) (K.written sink.new)
         (sent_bytes captured (outcomes policy.now.policy (forward_events policy.now.policy rate l) (start policy.now.policy))))) }
-    ensures part { OnErr result (IfSome (left_of packets.old (S.left shelf.old)) (λ l. (captured : Captured) →
+    ensures part { OnErr result (IfSome (left_of packets.old (S.left shelf.old)) (λ l.
+        (captured : Captured) →
         captures_of packets.old (S.left shelf.old) captured → AppendedPrefix (K.written sink.old) (K.written sink.new)
         (sent_bytes captured (outcomes policy.now.policy (forward_events policy.now.policy rate l) (start policy.now.policy))))) }
     ensures fabric { OnOk result (IfSome (left_of packets.old (S.left shelf.old)) (λ l.
@@ -250,7 +268,8 @@ fn forward_records<S: Shelf, K: Sink, F: Fabric>(
         LeavesPart F.Fabric (Some (forward_through policy.now.policy (laid_by placement) rate l)) fabric.old fabric.new)) }
     ensures kept { KeepsSink K.written K.faults sink.old sink.new }
     ensures later { S.faults shelf.old ≤ S.faults shelf.new }
-    ensures cause { IfErr result (λ stop. HasCause stop S.faults shelf.old shelf.new K.faults sink.old sink.new) }
+    ensures cause { IfErr result (λ stop. HasCause stop S.faults shelf.old shelf.new K.faults
+        sink.old sink.new) }
 {
     let recorder = Forwarding::new(alloc)?;
     let mut run = run_through(alloc, policy, placement, recorder, fabric)?;
@@ -275,19 +294,23 @@ fn forward_packets<S: Shelf, K: Sink, F: Fabric>(
     requires rate { IsRate rate }
     requires range { IsInRange placement.target.arities placement.target.above }
     requires map_shape { SameShape (topology_of policy.now.policy.tree) placement.map }
-    requires embedding { IsEmbedding (topology_of policy.now.policy.tree) (complete placement.target.arities) (image_map placement.map) }
+    requires embedding { IsEmbedding (topology_of policy.now.policy.tree)
+        (complete placement.target.arities) (image_map placement.map) }
     requires pushes { F.pushed fabric.old < 2 ^ 61 }
     requires pops { F.popped fabric.old < 2 ^ 61 }
     requires packets { policy_of packets.old ≡ policy.now.policy }
     requires none_given { given_by packets.old ≡ 0 }
     requires ready { IsReady packets.old (S.begun shelf.old) }
 
-    ensures ending { IfOk result (λ e. IfSome (left_of packets.old (S.left shelf.old)) (λ l. (link : ℕ) (captured : Captured) →
+    ensures ending { IfOk result (λ e. IfSome (left_of packets.old (S.left shelf.old)) (λ l.
+        (link : ℕ) (captured : Captured) →
         e ≡ (forward_of policy.now.policy rate link captured l).ending)) }
-    ensures text { OnOk result (IfSome (left_of packets.old (S.left shelf.old)) (λ l. (captured : Captured) →
+    ensures text { OnOk result (IfSome (left_of packets.old (S.left shelf.old)) (λ l.
+        (captured : Captured) →
         captures_of packets.old (S.left shelf.old) captured → Appended (K.written sink.old) (K.written sink.new)
         (forward_of policy.now.policy rate (link_of packets.old) captured l).text)) }
-    ensures part { OnErr result (IfSome (left_of packets.old (S.left shelf.old)) (λ l. (captured : Captured) →
+    ensures part { OnErr result (IfSome (left_of packets.old (S.left shelf.old)) (λ l.
+        (captured : Captured) →
         captures_of packets.old (S.left shelf.old) captured → AppendedPrefix (K.written sink.old) (K.written sink.new)
         (forward_of policy.now.policy rate (link_of packets.old) captured l).text)) }
     ensures fabric { OnOk result (IfSome (left_of packets.old (S.left shelf.old)) (λ l.
@@ -296,7 +319,8 @@ fn forward_packets<S: Shelf, K: Sink, F: Fabric>(
         LeavesPart F.Fabric (Some (forward_through policy.now.policy (laid_by placement) rate l)) fabric.old fabric.new)) }
     ensures kept { KeepsSink K.written K.faults sink.old sink.new }
     ensures later { S.faults shelf.old ≤ S.faults shelf.new }
-    ensures cause { IfErr result (λ stop. HasCause stop S.faults shelf.old shelf.new K.faults sink.old sink.new) }
+    ensures cause { IfErr result (λ stop. HasCause stop S.faults shelf.old shelf.new K.faults
+        sink.old sink.new) }
 {
     write_header(sink, packets.link())?;
     forward_records(alloc, policy, placement, rate, packets, shelf, sink, fabric)
@@ -321,7 +345,8 @@ pub fn forward<S: Shelf, K: Sink, F: Fabric>(
     requires rate { IsRate rate }
     requires range { IsInRange placement.target.arities placement.target.above }
     requires map_shape { SameShape (topology_of policy.now.policy.tree) placement.map }
-    requires embedding { IsEmbedding (topology_of policy.now.policy.tree) (complete placement.target.arities) (image_map placement.map) }
+    requires embedding { IsEmbedding (topology_of policy.now.policy.tree)
+        (complete placement.target.arities) (image_map placement.map) }
     requires pushes { F.pushed fabric.old < 2 ^ 61 }
     requires pops { F.popped fabric.old < 2 ^ 61 }
 
@@ -338,7 +363,8 @@ pub fn forward<S: Shelf, K: Sink, F: Fabric>(
         LeavesPart F.Fabric (run_of policy.now.policy (laid_by placement) (forward_answer policy.now rate file).events)
         fabric.old fabric.new)) }
     ensures sink_cause { IsErrOf result Stop.Sink → Rose (K.faults sink.old) (K.faults sink.new) }
-    ensures source_cause { IsErrOf result Stop.Source → Rose (S.faults shelf.old) (S.faults shelf.new) }
+    ensures source_cause { IsErrOf result Stop.Source → Rose (S.faults shelf.old)
+        (S.faults shelf.new) }
     ensures kept { KeepsSink K.written K.faults sink.old sink.new }
     ensures later { S.faults shelf.old ≤ S.faults shelf.new }
 {

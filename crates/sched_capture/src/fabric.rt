@@ -56,15 +56,18 @@ fn scheduler_through<'a, F: Fabric>(
 ) -> Result<Embedded<'a, F>, AllocError>
     requires range { IsInRange placement.target.arities placement.target.above }
     requires map_shape { SameShape (topology_of policy.now.policy.tree) placement.map }
-    requires embedding { IsEmbedding (topology_of policy.now.policy.tree) (complete placement.target.arities) (image_map placement.map) }
+    requires embedding { IsEmbedding (topology_of policy.now.policy.tree)
+        (complete placement.target.arities) (image_map placement.map) }
     requires pushes { F.pushed fabric.old < 2 ^ 61 }
     requires pops { F.popped fabric.old < 2 ^ 61 }
 
-    ensures stands { IfOk result (λ c. EmbeddedStands F.Fabric c fabric.new (start policy.now.policy)) }
+    ensures stands { IfOk result (λ c. EmbeddedStands F.Fabric c fabric.new
+        (start policy.now.policy)) }
     ensures policy { IfOk result (λ c. policy_in c.own ≡ policy.now.policy) }
     ensures pushes { IfOk result (λ c. c.own.pushes ≡ 0) }
     ensures departures { IfOk result (λ c. c.own.departures ≡ 0) }
-    ensures origin { IfOk result (λ c. origin_of c ≡ origin_in F.Fabric placement.map placement.target.arities fabric.old) }
+    ensures origin { IfOk result (λ c. origin_of c ≡ origin_in F.Fabric placement.map
+        placement.target.arities fabric.old) }
     ensures shape { OnErr result (F.shape fabric.new ≡ F.shape fabric.old) }
     ensures queues { OnErr result (SameQueues (F.queues fabric.new) (F.queues fabric.old)) }
     ensures pushed { F.pushed fabric.new ≡ F.pushed fabric.old }
@@ -86,19 +89,23 @@ pub(crate) fn run_through<'a, F: Fabric, W: Recorder>(
 ) -> Result<Run<'a, Embedded<'a, F>, Policy, W>, AllocError>
     requires range { IsInRange placement.target.arities placement.target.above }
     requires map_shape { SameShape (topology_of policy.now.policy.tree) placement.map }
-    requires embedding { IsEmbedding (topology_of policy.now.policy.tree) (complete placement.target.arities) (image_map placement.map) }
+    requires embedding { IsEmbedding (topology_of policy.now.policy.tree)
+        (complete placement.target.arities) (image_map placement.map) }
     requires pushes { F.pushed fabric.old < 2 ^ 61 }
     requires pops { F.popped fabric.old < 2 ^ 61 }
     requires live { W.live recorder }
 
-    ensures set { IfOk result (λ run. IsSet ⟦<Embedded<'a, F> as Scheduler>⟧ W.Recorder (λ p. p.policy) run) }
+    ensures set { IfOk result (λ run. IsSet ⟦<Embedded<'a, F> as Scheduler>⟧ W.Recorder (λ p.
+        p.policy) run) }
     ensures recorder { IfOk result (λ run. run.recorder ≡ recorder) }
     ensures fresh { IfOk result (λ run. IsFresh run.tally) }
-    ensures stands { IfOk result (λ run. EmbeddedStands F.Fabric run.scheduler fabric.new (start policy.now.policy)) }
+    ensures stands { IfOk result (λ run. EmbeddedStands F.Fabric run.scheduler fabric.new
+        (start policy.now.policy)) }
     ensures policy { IfOk result (λ run. policy_in run.scheduler.own ≡ policy.now.policy) }
     ensures pushes { IfOk result (λ run. run.scheduler.own.pushes ≡ 0) }
     ensures departures { IfOk result (λ run. run.scheduler.own.departures ≡ 0) }
-    ensures origin { IfOk result (λ run. origin_of run.scheduler ≡ origin_in F.Fabric placement.map placement.target.arities fabric.old) }
+    ensures origin { IfOk result (λ run. origin_of run.scheduler ≡
+        origin_in F.Fabric placement.map placement.target.arities fabric.old) }
     ensures spilled { F.spilled fabric.new ≡ F.spilled fabric.old }
     ensures part { OnErr result ((events : List Event) →
         LeavesPart F.Fabric (Some (record { policy = policy.now.policy; laid = laid_by placement; events = events })) fabric.old fabric.new) }
@@ -133,7 +140,8 @@ fn replay_packets<S: Shelf, K: Sink, F: Fabric, T: Tap>(
     requires bounded { IsBounded pace }
     requires range { IsInRange placement.target.arities placement.target.above }
     requires map_shape { SameShape (topology_of policy.now.policy.tree) placement.map }
-    requires embedding { IsEmbedding (topology_of policy.now.policy.tree) (complete placement.target.arities) (image_map placement.map) }
+    requires embedding { IsEmbedding (topology_of policy.now.policy.tree)
+        (complete placement.target.arities) (image_map placement.map) }
     requires pushes { F.pushed fabric.old < 2 ^ 61 }
     requires pops { F.popped fabric.old < 2 ^ 61 }
 
@@ -152,10 +160,12 @@ fn replay_packets<S: Shelf, K: Sink, F: Fabric, T: Tap>(
         Watches (shown_in policy.now.policy (outcomes policy.now.policy
         (course_of policy.now.policy pace.entry l (start policy.now.policy) 1).events (start policy.now.policy)))
         (sight_of T.kind_of T.state_of watch.old) (sight_of T.kind_of T.state_of watch.new))) }
-    ensures fewer { AreNoMore (sight_of T.kind_of T.state_of watch.old) (sight_of T.kind_of T.state_of watch.new) }
+    ensures fewer { AreNoMore (sight_of T.kind_of T.state_of watch.old)
+        (sight_of T.kind_of T.state_of watch.new) }
     ensures kept { KeepsSink K.written K.faults sink.old sink.new }
     ensures later { S.faults shelf.old ≤ S.faults shelf.new }
-    ensures cause { IfErr result (λ stop. HasCause stop S.faults shelf.old shelf.new K.faults sink.old sink.new) }
+    ensures cause { IfErr result (λ stop. HasCause stop S.faults shelf.old shelf.new K.faults
+        sink.old sink.new) }
 {
     let report = Report::new(alloc)?;
     let mut run = run_through(alloc, policy, placement, report, fabric)?;
@@ -179,7 +189,8 @@ pub fn replay<S: Shelf, K: Sink, F: Fabric, T: Tap>(
     requires bounded { IsBounded task.now.pace }
     requires range { IsInRange placement.target.arities placement.target.above }
     requires map_shape { SameShape (topology_of policy.now.policy.tree) placement.map }
-    requires embedding { IsEmbedding (topology_of policy.now.policy.tree) (complete placement.target.arities) (image_map placement.map) }
+    requires embedding { IsEmbedding (topology_of policy.now.policy.tree)
+        (complete placement.target.arities) (image_map placement.map) }
     requires pushes { F.pushed fabric.old < 2 ^ 61 }
     requires pops { F.popped fabric.old < 2 ^ 61 }
 
@@ -199,9 +210,11 @@ pub fn replay<S: Shelf, K: Sink, F: Fabric, T: Tap>(
     ensures watched { OnOk result (IfSome (S.content shelf.old task.now.capture.now) (λ file.
         HaveWatched (shown_by policy.now.policy (paced_answer policy.now (pace_of task.now.pace) file))
         (sight_of T.kind_of T.state_of watch.old) (sight_of T.kind_of T.state_of watch.new))) }
-    ensures fewer { AreNoMore (sight_of T.kind_of T.state_of watch.old) (sight_of T.kind_of T.state_of watch.new) }
+    ensures fewer { AreNoMore (sight_of T.kind_of T.state_of watch.old)
+        (sight_of T.kind_of T.state_of watch.new) }
     ensures sink_cause { IsErrOf result Stop.Sink → Rose (K.faults sink.old) (K.faults sink.new) }
-    ensures source_cause { IsErrOf result Stop.Source → Rose (S.faults shelf.old) (S.faults shelf.new) }
+    ensures source_cause { IsErrOf result Stop.Source → Rose (S.faults shelf.old)
+        (S.faults shelf.new) }
     ensures kept { KeepsSink K.written K.faults sink.old sink.new }
     ensures later { S.faults shelf.old ≤ S.faults shelf.new }
 {

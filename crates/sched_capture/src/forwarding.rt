@@ -88,7 +88,8 @@ impl Forwarding {
     pub fn finish<K: Sink>(&mut self, sink: &mut K) -> Result<(), WriteFault>
         requires live { IsLive self.old }
 
-        ensures whole { OnOk result (Appended (text_of (K.written sink.old) self.old.gathered) (K.written sink.new) []) }
+        ensures whole { OnOk result (Appended (text_of (K.written sink.old) self.old.gathered)
+            (K.written sink.new) []) }
         ensures cut { OnErr result (CutsOff K.written sink.old self.old.gathered sink.new []) }
         ensures kept { KeepsSink K.written K.faults sink.old sink.new }
         ensures cause { OnErr result (Rose (K.faults sink.old) (K.faults sink.new)) }
@@ -101,7 +102,8 @@ impl Forwarding {
     fn keep(&mut self, number: u64, captured: &[u8]) -> Result<(), AllocError>
         requires short { length captured.now ≤ most_captured }
 
-        ensures ok { OnOk result ((n : ℕ) → bytes_kept self.new n ≡ with_bytes (bytes_kept self.old) number captured.now n) }
+        ensures ok { OnOk result ((n : ℕ) → bytes_kept self.new n ≡
+            with_bytes (bytes_kept self.old) number captured.now n) }
         ensures late { self.new.late ≡ self.old.late }
         ensures whole { self.new.whole ≡ self.old.whole }
         ensures gathered { self.new.gathered ≡ self.old.gathered }
@@ -115,7 +117,8 @@ impl Forwarding {
     fn release(&mut self, number: u64) -> Option<Vec<u8>>
         ensures value { option_map (λ v. v.items) result ≡ bytes_kept self.old number }
         ensures short { IfSome result (λ v. length v.items ≤ most_captured) }
-        ensures rest { (n : ℕ) → bytes_kept self.new n ≡ without_bytes (bytes_kept self.old) number n }
+        ensures rest { (n : ℕ) → bytes_kept self.new n ≡ without_bytes (bytes_kept self.old) number
+            n }
         ensures late { self.new.late ≡ self.old.late }
         ensures whole { self.new.whole ≡ self.old.whole }
         ensures gathered { self.new.gathered ≡ self.old.gathered }

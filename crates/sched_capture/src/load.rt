@@ -94,7 +94,8 @@ pub fn soak<K: Sink, F: Fabric>(
     requires short { load.count ≤ most_load }
     requires range { IsInRange placement.target.arities placement.target.above }
     requires map_shape { SameShape (topology_of policy.now.policy.tree) placement.map }
-    requires embedding { IsEmbedding (topology_of policy.now.policy.tree) (complete placement.target.arities) (image_map placement.map) }
+    requires embedding { IsEmbedding (topology_of policy.now.policy.tree)
+        (complete placement.target.arities) (image_map placement.map) }
     requires pushes { F.pushed fabric.old < 2 ^ 61 }
     requires pops { F.popped fabric.old < 2 ^ 61 }
 

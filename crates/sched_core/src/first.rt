@@ -29,7 +29,8 @@ fn arity(topo: &Topo, address: &[u32]) -> Option<usize>
 fn first_state(alloc: Global, policy: &Policy, node: u32) -> Result<NodeState, AllocError>
     requires there { node < nodes policy.now.policy.tree }
     ensures station { IfOk result (IsStationOf (numbered_part policy.now.policy.tree node)) }
-    ensures first { IfOk result (λ x. HasState x (first_state (root_of (numbered_part policy.now.policy.tree node)).program)) }
+    ensures first { IfOk result (λ x. HasState x (first_state
+        (root_of (numbered_part policy.now.policy.tree node)).program)) }
 {
     let transaction = policy.checked(node).transaction();
     match arity(policy.topo(), policy.address(node)) {
@@ -41,7 +42,8 @@ fn first_state(alloc: Global, policy: &Policy, node: u32) -> Result<NodeState, A
 /// The variables of all nodes, by their numbers.
 pub fn first_states(alloc: Global, policy: &Policy) -> Result<Vec<NodeState>, AllocError>
     ensures kept { IfOk result (λ states. AreStations policy.now.policy.tree states.items) }
-    ensures values { IfOk result (λ states. HaveValues policy.now.policy.tree states.items (first_states policy.now.policy.tree)) }
+    ensures values { IfOk result (λ states. HaveValues policy.now.policy.tree states.items
+        (first_states policy.now.policy.tree)) }
 {
     let count = policy.count();
     let mut states = Vec::with_capacity(alloc, count as usize)?;

@@ -4,14 +4,14 @@
 
 mod direct;
 mod first;
-mod policy_state;
-mod packet_path;
-mod scheduler;
 mod node_states;
-mod walk;
+mod packet_path;
 mod path_node;
+mod policy_state;
+mod scheduler;
+mod walk;
 
 pub use direct::Direct;
+pub use node_states::NodeStates;
 pub use policy_state::PolicyState;
 pub use scheduler::{Arrival, Scheduler};
-pub use node_states::NodeStates;

@@ -11,8 +11,8 @@ ghost use Rattle.sched_core.specs.Waypoints.{AreWays, AreWays-prop};
 
 use crate::first::first_states;
 use crate::packet_path::PacketPath;
-use crate::walk::{pop_along, push_along};
 use crate::path_node::{PathNode, all_waypoints};
+use crate::walk::{pop_along, push_along};
 use packet_defs::Packet;
 use policy_core::Policy;
 use rank_core::{NodeState, Who};
@@ -71,8 +71,10 @@ impl<'a> NodeStates<'a> {
         requires room { HasFlowRoom self.old packet.now }
         requires levels { depth (policy_of self.old).tree ≤ trace.old.room }
         ensures digits { trace.new.digits ≡ (class_of (policy_of self.old) packet.now).leaf }
-        ensures ranks { ForStates self.old (λ v. trace.new.ranks ≡ ranks_pushed v (way_in (policy_of self.old) packet.now moment)) }
-        ensures states { StatesBecome self.old self.new (after_pushes (way_in (policy_of self.old) packet.now moment)) }
+        ensures ranks { ForStates self.old (λ v. trace.new.ranks ≡
+            ranks_pushed v (way_in (policy_of self.old) packet.now moment)) }
+        ensures states { StatesBecome self.old self.new (after_pushes
+            (way_in (policy_of self.old) packet.now moment)) }
         ensures limit { AreLowRanks trace.new.ranks }
         ensures kept { (other : Known) → HasFlowRoom self.old other → HasFlowRoom self.new other }
         ensures policy { policy_of self.new ≡ policy_of self.old }
@@ -97,7 +99,8 @@ impl<'a> NodeStates<'a> {
         requires leaf_address { digits.now ≡ (class_of (policy_of self.old) packet.now).leaf }
         requires even { length ranks.now ≡ length digits.now + 1 }
         requires limit { AreLowRanks ranks.now }
-        ensures states { StatesBecome self.old self.new (after_pops (way_out (policy_of self.old) packet.now digits.now moment) ranks.now) }
+        ensures states { StatesBecome self.old self.new (after_pops
+            (way_out (policy_of self.old) packet.now digits.now moment) ranks.now) }
         ensures kept { (other : Known) → HasFlowRoom self.old other → HasFlowRoom self.new other }
         ensures policy { policy_of self.new ≡ policy_of self.old }
     {

@@ -61,8 +61,10 @@ fn waypoints_of<'a>(
     class: &Class,
 ) -> Result<Vec<PathNode<'a>>, AllocError>
     requires there { class.now.leaf < nodes policy.now.policy.tree }
-    requires leads { LeadsToLeaf policy.now.policy.tree (address_at policy.now.policy.tree class.now.leaf) }
-    ensures { IfOk result (λ waypoints. AreWaypoints policy.now.policy.tree (class_in policy.now.policy.tree class.now) waypoints.items) }
+    requires leads { LeadsToLeaf policy.now.policy.tree (address_at policy.now.policy.tree
+        class.now.leaf) }
+    ensures { IfOk result (λ waypoints. AreWaypoints policy.now.policy.tree
+        (class_in policy.now.policy.tree class.now) waypoints.items) }
 {
     let digits = policy.address(class.leaf);
     let mut waypoints = Vec::with_capacity(alloc, digits.len() + 1)?;

@@ -13,11 +13,11 @@ ghost use Rattle.sched_core.specs.Arrivals.{leaf_number};
 ghost use Rattle.sched_core.specs.Departures.{next_departed};
 ghost use Rattle.sched_held.specs.Held.{held_at};
 
+use crate::node_states::NodeStates;
 use packet_defs::{Departed, Packet};
 use policy_core::Policy;
 use sched_defs::BLANK;
 use sched_held::Held;
-use crate::node_states::NodeStates;
 use std::alloc::{AllocError, Global};
 use tree_core::Taken;
 
@@ -91,7 +91,8 @@ impl<'a> PolicyState<'a> {
     /// Turns a packet away: nothing but the greatest moment may change. The answer is the number of its leaf.
     pub fn drop_packet(&mut self, packet: &Packet) -> u32
         requires known { IsKnown (policy_in self.old) packet.now }
-        ensures state { (s : SourceState) → IsOwn self.old s → IsOwn self.new (dropped packet.now s) }
+        ensures state { (s : SourceState) → IsOwn self.old s →
+            IsOwn self.new (dropped packet.now s) }
         ensures leaf { result ≡ leaf_number (policy_in self.old) packet.now }
         ensures pushes { self.new.pushes ≡ self.old.pushes }
         ensures departures { self.new.departures ≡ self.old.departures }
@@ -110,14 +111,18 @@ impl<'a> PolicyState<'a> {
         requires room { depth (policy_in self.old).tree ≤ trace.old.room }
         requires few { self.old.pushes < 2 ^ 61 }
 
-        ensures ok { OnOk result (IsOfEach self.old (λ s. IsOwn self.new (pushed (policy_in self.old) packet.now s))) }
+        ensures ok { OnOk result (IsOfEach self.old (λ s. IsOwn self.new
+            (pushed (policy_in self.old) packet.now s))) }
         ensures leaf { IfOk result (λ leaf. leaf ≡ leaf_number (policy_in self.old) packet.now) }
-        ensures digits { OnOk result (trace.new.digits ≡ (class_of (policy_in self.old) packet.now).leaf) }
-        ensures ranks { OnOk result (IsOfEach self.old (λ s. trace.new.ranks ≡ arrival_ranks (policy_in self.old) packet.now s)) }
+        ensures digits { OnOk result (trace.new.digits ≡ (class_of (policy_in self.old)
+            packet.now).leaf) }
+        ensures ranks { OnOk result (IsOfEach self.old (λ s. trace.new.ranks ≡
+            arrival_ranks (policy_in self.old) packet.now s)) }
         ensures err { OnErr result (IsOfEach self.old (λ s. IsOwn self.new s)) }
         ensures trace { OnErr result (trace.new ≡ trace.old) }
         ensures room { trace.new.room ≡ trace.old.room }
-        ensures pushes { self.new.pushes ≡ (if is_ok result then self.old.pushes + 1 else self.old.pushes) }
+        ensures pushes { self.new.pushes ≡ (if is_ok result then self.old.pushes +
+            1 else self.old.pushes) }
         ensures departures { self.new.departures ≡ self.old.departures }
         ensures policy { policy_in self.new ≡ policy_in self.old }
     {
@@ -139,8 +144,10 @@ impl<'a> PolicyState<'a> {
         requires stands { IsOfOne self.old (λ s. PopsNext s number digits.now ranks.now) }
         requires few { self.old.departures < 2 ^ 61 }
 
-        ensures state { IsOfEachPopping self.old number digits.now ranks.now (λ s. IsOwn self.new (departed (policy_in self.old) s)) }
-        ensures value { IsOfEachPopping self.old number digits.now ranks.now (λ s. next_departed (policy_in self.old) s ≡ Some result) }
+        ensures state { IsOfEachPopping self.old number digits.now ranks.now (λ s.
+            IsOwn self.new (departed (policy_in self.old) s)) }
+        ensures value { IsOfEachPopping self.old number digits.now ranks.now (λ s.
+            next_departed (policy_in self.old) s ≡ Some result) }
         ensures pushes { self.new.pushes ≡ self.old.pushes }
         ensures departures { self.new.departures ≡ self.old.departures + 1 }
         ensures policy { policy_in self.new ≡ policy_in self.old }

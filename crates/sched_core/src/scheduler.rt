@@ -56,23 +56,30 @@ pub trait Scheduler {
         trace: &mut Taken,
     ) -> Result<Arrival, AllocError>
         requires accepted { IsAccepted (policy self.old) }
-        requires stands { ForOne stands policy self.old under.old (λ p s. CanArrive p s packet.now) }
+        requires stands { ForOne stands policy self.old under.old (λ p s.
+            CanArrive p s packet.now) }
         requires room { depth (policy self.old).tree ≤ trace.old.room }
         requires few { pushes self.old < 2 ^ 61 }
 
-        ensures ok { OnOk result (ForEach stands policy self.old under.old (λ p s. stands self.new under.new (arrived p packet.now s))) }
-        ensures answer { IfOk result (λ a. ForEach stands policy self.old under.old (λ p s. a ≡ arrival_of p packet.now s)) }
-        ensures digits { IfOk result (WherePushed (trace.new.digits ≡ (class_of (policy self.old) packet.now).leaf)) }
+        ensures ok { OnOk result (ForEach stands policy self.old under.old (λ p s.
+            stands self.new under.new (arrived p packet.now s))) }
+        ensures answer { IfOk result (λ a. ForEach stands policy self.old under.old (λ p s. a ≡
+            arrival_of p packet.now s)) }
+        ensures digits { IfOk result (WherePushed (trace.new.digits ≡
+            (class_of (policy self.old) packet.now).leaf)) }
         ensures ranks { IfOk result (WherePushed (
             ForEach stands policy self.old under.old (λ p s. trace.new.ranks ≡ arrival_ranks p packet.now s))) }
         ensures under { IfOk result (WhereDropped (under.new ≡ under.old)) }
-        ensures err { OnErr result (ForEach stands policy self.old under.old (λ _ s. stands self.new under.new s)) }
-        ensures has_room { OnErr result (ForEach stands policy self.old under.old (λ p s. is_full p packet.now s ≡ false)) }
+        ensures err { OnErr result (ForEach stands policy self.old under.old (λ _ s.
+            stands self.new under.new s)) }
+        ensures has_room { OnErr result (ForEach stands policy self.old under.old (λ p s.
+            is_full p packet.now s ≡ false)) }
         ensures trace { WhereNotPushed (trace.new ≡ trace.old) result }
         ensures room { trace.new.room ≡ trace.old.room }
         ensures spilled { OnOk result (ForEach stands policy self.old under.old (λ p s.
             spilled self.new under.new ≡ raised (spilled self.old under.old) (spills_at (origin self.old) p packet.now s))) }
-        ensures spilled_stays { OnErr result (spilled self.new under.new ≡ spilled self.old under.old) }
+        ensures spilled_stays { OnErr result (spilled self.new under.new ≡
+            spilled self.old under.old) }
         ensures pushes { pushes self.new ≡ pushes self.old + pushes_of result }
         ensures departures { departures self.new ≡ departures self.old }
         ensures policy { policy self.new ≡ policy self.old }
@@ -86,10 +93,14 @@ pub trait Scheduler {
         requires room { depth (policy self.old).tree ≤ trace.old.room }
         requires few { departures self.old < 2 ^ 61 }
 
-        ensures state { ForEach stands policy self.old under.old (λ p s. stands self.new under.new (departed p s)) }
-        ensures value { ForEach stands policy self.old under.old (λ p s. result ≡ next_departed p s) }
-        ensures none { ForEach stands policy self.old under.old (λ _ s. IsNone result ↔ (size s.tree ≡ 0)) }
-        ensures taken { ForEach stands policy self.old under.old (λ _ s. IfSome (leaver s) (λ l. IsTaken l trace.new)) }
+        ensures state { ForEach stands policy self.old under.old (λ p s.
+            stands self.new under.new (departed p s)) }
+        ensures value { ForEach stands policy self.old under.old (λ p s. result ≡
+            next_departed p s) }
+        ensures none { ForEach stands policy self.old under.old (λ _ s. IsNone result ↔
+            (size s.tree ≡ 0)) }
+        ensures taken { ForEach stands policy self.old under.old (λ _ s.
+            IfSome (leaver s) (λ l. IsTaken l trace.new)) }
         ensures trace { IfNone result (trace.new ≡ trace.old) }
         ensures room { trace.new.room ≡ trace.old.room }
         ensures spilled { spilled self.new under.new ≡ spilled self.old under.old }
@@ -100,9 +111,11 @@ pub trait Scheduler {
 
     /// How many packets are held.
     fn held(&self) -> u64
-        ensures { (under : Self.Under) → ForEach stands policy self.now under (λ _ s. result ≡ size s.tree) };
+        ensures { (under : Self.Under) → ForEach stands policy self.now under (λ _ s. result ≡
+            size s.tree) };
 
     /// The greatest moment of the packets so far, in nanoseconds.
     fn now(&self) -> u64
-        ensures { (under : Self.Under) → ForEach stands policy self.now under (λ _ s. result ≡ s.now) };
+        ensures { (under : Self.Under) → ForEach stands policy self.now under (λ _ s. result ≡
+            s.now) };
 }

@@ -18,8 +18,10 @@ fn push_lines(states: &mut [NodeState], passage: &PacketPath, digits: &[u32], le
     requires level { level ≤ length digits.now }
     requires kept { AreStations (tree_for passage.now) states.old }
     requires room { HasRoomAtLeaf passage.now states.old }
-    ensures rank { ForValues passage.now states.old (λ v. result ≡ rank_at v (stop passage.now level)) }
-    ensures values { ValuesBecome passage.now states.old states.new (after_pushes (stop passage.now level ∷ [])) }
+    ensures rank { ForValues passage.now states.old (λ v. result ≡
+        rank_at v (stop passage.now level)) }
+    ensures values { ValuesBecome passage.now states.old states.new
+        (after_pushes (stop passage.now level ∷ [])) }
     ensures kept { AreStations (tree_for passage.now) states.new }
     ensures room { KeepsRoom passage.now states.old states.new }
     ensures limit { result ≤ max_rank }
@@ -43,8 +45,10 @@ fn push_at(states: &mut [NodeState], passage: &PacketPath, digits: &[u32], level
     requires level { level ≤ length digits.now }
     requires kept { AreStations (tree_for passage.now) states.old }
     requires room { HasRoomAtLeaf passage.now states.old }
-    ensures rank { ForValues passage.now states.old (λ v. result ≡ rank_at v (stop passage.now level)) }
-    ensures values { ValuesBecome passage.now states.old states.new (after_pushes (stop passage.now level ∷ [])) }
+    ensures rank { ForValues passage.now states.old (λ v. result ≡
+        rank_at v (stop passage.now level)) }
+    ensures values { ValuesBecome passage.now states.old states.new
+        (after_pushes (stop passage.now level ∷ [])) }
     ensures kept { AreStations (tree_for passage.now) states.new }
     ensures room { KeepsRoom passage.now states.old states.new }
     ensures limit { result ≤ max_rank }
@@ -58,14 +62,21 @@ fn push_at(states: &mut [NodeState], passage: &PacketPath, digits: &[u32], level
 
 /// The lines of the pop step at a level of the way, where the packet was taken with a rank.
 #[inline(never)]
-fn pop_lines(states: &mut [NodeState], passage: &PacketPath, digits: &[u32], level: usize, rank: u64)
+fn pop_lines(
+    states: &mut [NodeState],
+    passage: &PacketPath,
+    digits: &[u32],
+    level: usize,
+    rank: u64,
+)
     requires ready { IsReady passage.now }
     requires digits { digits.now ≡ (class_for passage.now).leaf }
     requires level { level ≤ length digits.now }
     requires kept { AreStations (tree_for passage.now) states.old }
     requires room { HasRoomAtLeaf passage.now states.old }
     requires limit { rank ≤ max_rank }
-    ensures values { ValuesBecome passage.now states.old states.new (after_pops (stop passage.now level ∷ []) (rank ∷ [])) }
+    ensures values { ValuesBecome passage.now states.old states.new
+        (after_pops (stop passage.now level ∷ []) (rank ∷ [])) }
     ensures kept { AreStations (tree_for passage.now) states.new }
     ensures room { KeepsRoom passage.now states.old states.new }
 {
@@ -96,7 +107,8 @@ fn pop_at(states: &mut [NodeState], passage: &PacketPath, digits: &[u32], level:
     requires kept { AreStations (tree_for passage.now) states.old }
     requires room { HasRoomAtLeaf passage.now states.old }
     requires limit { rank ≤ max_rank }
-    ensures values { ValuesBecome passage.now states.old states.new (after_pops (stop passage.now level ∷ []) (rank ∷ [])) }
+    ensures values { ValuesBecome passage.now states.old states.new
+        (after_pops (stop passage.now level ∷ []) (rank ∷ [])) }
     ensures kept { AreStations (tree_for passage.now) states.new }
     ensures room { KeepsRoom passage.now states.old states.new }
 {
@@ -114,8 +126,10 @@ pub fn push_along(states: &mut [NodeState], passage: &PacketPath, trace: &mut Ta
     requires room { HasRoomAtLeaf passage.now states.old }
     requires levels { depth (tree_for passage.now) ≤ trace.old.room }
     ensures digits { trace.new.digits ≡ (class_for passage.now).leaf }
-    ensures ranks { ForValues passage.now states.old (λ v. trace.new.ranks ≡ ranks_pushed v (way passage.now 0)) }
-    ensures values { ValuesBecome passage.now states.old states.new (after_pushes (way passage.now 0)) }
+    ensures ranks { ForValues passage.now states.old (λ v. trace.new.ranks ≡
+        ranks_pushed v (way passage.now 0)) }
+    ensures values { ValuesBecome passage.now states.old states.new
+        (after_pushes (way passage.now 0)) }
     ensures kept { AreStations (tree_for passage.now) states.new }
     ensures room { KeepsRoom passage.now states.old states.new }
     ensures limit { AreLowRanks trace.new.ranks }
@@ -139,7 +153,8 @@ pub fn pop_along(states: &mut [NodeState], passage: &PacketPath, digits: &[u32],
     requires room { HasRoomAtLeaf passage.now states.old }
     requires even { length ranks.now ≡ length digits.now + 1 }
     requires limit { AreLowRanks ranks.now }
-    ensures values { ValuesBecome passage.now states.old states.new (after_pops (way passage.now 0) ranks.now) }
+    ensures values { ValuesBecome passage.now states.old states.new
+        (after_pops (way passage.now 0) ranks.now) }
     ensures kept { AreStations (tree_for passage.now) states.new }
     ensures room { KeepsRoom passage.now states.old states.new }
 {

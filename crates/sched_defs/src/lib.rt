@@ -13,5 +13,5 @@ pub use laws::{
     held_packets_stand_in_leaves, links_send_all, links_send_what_is_due,
     packets_keep_to_their_leaves,
 };
-pub use link::{send_time_is_least};
+pub use link::send_time_is_least;
 pub use packets::{BLANK, Halt, Packets};

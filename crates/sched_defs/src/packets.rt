@@ -67,17 +67,25 @@ pub trait Packets {
     fn next(&mut self, source: &mut Self::Source, packet: &mut Packet) -> Result<bool, Halt>
         requires ready { ready self.old source.old }
 
-        ensures number { IfOk result (λ some. some ≡ true → packet.new.number ≡ given self.old + 1) }
-        ensures sendable { IfOk result (λ some. some ≡ true → IsSendable (policy self.old) packet.new) }
-        ensures came { IfOk result (λ some. some ≡ true → Came (left self.old source.old) (left self.new source.new) (packet.new ∷ [])) }
-        ensures bytes { IfOk result (λ some. some ≡ true → IsKnownAs (captures self.old source.old) packet.new.number (captured self.new)) }
-        ensures short { IfOk result (λ some. some ≡ true → length (captured self.new) ≤ most_captured) }
-        ensures known { OnOk result (StaysKnown (captures self.old source.old) (captures self.new source.new)) }
-        ensures none { IfOk result (λ some. some ≡ false → Came (left self.old source.old) (left self.new source.new) []) }
+        ensures number { IfOk result (λ some. some ≡ true → packet.new.number ≡ given self.old +
+            1) }
+        ensures sendable { IfOk result (λ some. some ≡ true →
+            IsSendable (policy self.old) packet.new) }
+        ensures came { IfOk result (λ some. some ≡ true → Came (left self.old source.old)
+            (left self.new source.new) (packet.new ∷ [])) }
+        ensures bytes { IfOk result (λ some. some ≡ true → IsKnownAs (captures self.old source.old)
+            packet.new.number (captured self.new)) }
+        ensures short { IfOk result (λ some. some ≡ true → length (captured self.new) ≤
+            most_captured) }
+        ensures known { OnOk result (StaysKnown (captures self.old source.old)
+            (captures self.new source.new)) }
+        ensures none { IfOk result (λ some. some ≡ false → Came (left self.old source.old)
+            (left self.new source.new) []) }
         ensures over { IfOk result (λ some. some ≡ false → IsOver (left self.new source.new)) }
         ensures fault { IfErr result (λ halt. IsHalt (left self.old source.old) halt) }
 
-        ensures given { IfOk result (λ some. given self.new ≡ given self.old + (if some then 1 else 0)) }
+        ensures given { IfOk result (λ some. given self.new ≡ given self.old +
+            (if some then 1 else 0)) }
         ensures few { OnOk result (given self.new ≤ most_packets) }
         ensures ready { OnOk result (ready self.new source.new) }
         ensures policy { policy self.new ≡ policy self.old }
@@ -89,12 +97,15 @@ pub trait Packets {
     fn pass(&mut self, source: &mut Self::Source) -> Result<bool, Halt>
         requires ready { ready self.old source.old }
 
-        ensures came { IfOk result (λ some. some ≡ true → OneCame (left self.old source.old) (left self.new source.new)) }
-        ensures none { IfOk result (λ some. some ≡ false → Came (left self.old source.old) (left self.new source.new) []) }
+        ensures came { IfOk result (λ some. some ≡ true → OneCame (left self.old source.old)
+            (left self.new source.new)) }
+        ensures none { IfOk result (λ some. some ≡ false → Came (left self.old source.old)
+            (left self.new source.new) []) }
         ensures over { IfOk result (λ some. some ≡ false → IsOver (left self.new source.new)) }
         ensures fault { IfErr result (λ halt. IsHalt (left self.old source.old) halt) }
 
-        ensures given { IfOk result (λ some. given self.new ≡ given self.old + (if some then 1 else 0)) }
+        ensures given { IfOk result (λ some. given self.new ≡ given self.old +
+            (if some then 1 else 0)) }
         ensures few { OnOk result (given self.new ≤ most_packets) }
         ensures ready { OnOk result (ready self.new source.new) }
         ensures policy { policy self.new ≡ policy self.old }

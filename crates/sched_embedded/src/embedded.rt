@@ -51,15 +51,18 @@ impl<'a, F: Fabric> Embedded<'a, F> {
     ) -> Result<Embedded<'a, F>, AllocError>
         requires range { IsInRange target.now.arities target.now.above }
         requires map_shape { SameShape (topology_of policy.now.policy.tree) map }
-        requires embedding { IsEmbedding (topology_of policy.now.policy.tree) (complete target.now.arities) (image_map map) }
+        requires embedding { IsEmbedding (topology_of policy.now.policy.tree)
+            (complete target.now.arities) (image_map map) }
         requires pushes { F.pushed fabric.old < 2 ^ 61 }
         requires pops { F.popped fabric.old < 2 ^ 61 }
 
-        ensures stands { IfOk result (λ c. EmbeddedStands F.Fabric c fabric.new (start policy.now.policy)) }
+        ensures stands { IfOk result (λ c. EmbeddedStands F.Fabric c fabric.new
+            (start policy.now.policy)) }
         ensures policy { IfOk result (λ c. policy_in c.own ≡ policy.now.policy) }
         ensures pushes { IfOk result (λ c. c.own.pushes ≡ 0) }
         ensures departures { IfOk result (λ c. c.own.departures ≡ 0) }
-        ensures origin { IfOk result (λ c. origin_of c ≡ origin_in F.Fabric map target.now.arities fabric.old) }
+        ensures origin { IfOk result (λ c. origin_of c ≡ origin_in F.Fabric map target.now.arities
+            fabric.old) }
         ensures shape { OnErr result (F.shape fabric.new ≡ F.shape fabric.old) }
         ensures queues { OnErr result (SameQueues (F.queues fabric.new) (F.queues fabric.old)) }
         ensures pushed { F.pushed fabric.new ≡ F.pushed fabric.old }

@@ -85,10 +85,12 @@ impl Embedding {
         requires leaf { LeadsToLeaf self.old.images way.now.digits }
         requires one_more { length way.now.ranks ≡ length way.now.digits + 1 }
         requires ranks { AreRanks way.now.ranks }
-        requires room { HasRoomAlong (F.room fabric.old) (image_map self.old.images way.now.digits) }
+        requires room { HasRoomAlong (F.room fabric.old) (image_map self.old.images
+            way.now.digits) }
         requires few { F.pushed fabric.old < 2 ^ 62 }
 
-        ensures lift { EachLiftBecomes self.old (F.queues fabric.old) (F.queues fabric.new) (push_on way.now number) }
+        ensures lift { EachLiftBecomes self.old (F.queues fabric.old) (F.queues fabric.new)
+            (push_on way.now number) }
         ensures embedding { self.new ≡ self.old }
         ensures shape { F.shape fabric.new ≡ F.shape fabric.old }
         ensures pushed { F.pushed fabric.new ≡ F.pushed fabric.old + 1 }
@@ -109,9 +111,11 @@ impl Embedding {
         requires room { depth self.old.images ≤ trace.old.room }
         requires few { F.popped fabric.old < 2 ^ 62 }
 
-        ensures none { IfNone result (ForEachLifted self.old (F.queues fabric.old) (λ t. pop t ≡ None)) }
+        ensures none { IfNone result (ForEachLifted self.old (F.queues fabric.old) (λ t. pop t ≡
+            None)) }
         ensures stay { IfNone result (SameQueues (F.queues fabric.new) (F.queues fabric.old)) }
-        ensures taken { IfSome result (λ number. EachLiftPops self.old (F.queues fabric.old) number trace.new (F.queues fabric.new)) }
+        ensures taken { IfSome result (λ number. EachLiftPops self.old (F.queues fabric.old) number
+            trace.new (F.queues fabric.new)) }
         ensures trace { IfNone result (trace.new ≡ trace.old) }
         ensures room { trace.new.room ≡ trace.old.room }
         ensures embedding { self.new ≡ self.old }

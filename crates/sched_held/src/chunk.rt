@@ -80,7 +80,8 @@ impl Chunk {
     #[inline(always)]
     fn find(&self, number: u64) -> Option<usize>
         ensures within { IfSome result (λ i. i < vec_len self.now.slots) }
-        ensures found { IfSome result (λ i. HoldsAt (λ slot. stands_at (number % 64) slot ≡ true) self.now.slots.items i) }
+        ensures found { IfSome result (λ i. HoldsAt (λ slot. stands_at (number % 64) slot ≡ true)
+            self.now.slots.items i) }
         ensures none { IfNone result (packet_of self.now number ≡ None) }
     {
         let place = (number % WIDTH) as u8;
@@ -118,7 +119,8 @@ impl Chunk {
     #[inline(always)]
     pub(crate) fn take(&mut self, number: u64, packet: &mut Packet) -> bool
         ensures value { packet_of self.old number ≡ (if result then Some packet.new else None) }
-        ensures rest { (n : ℕ) → packet_of self.new n ≡ (if n % 64 == number % 64 then None else packet_of self.old n) }
+        ensures rest { (n : ℕ) → packet_of self.new n ≡ (if n % 64 == number % 64 then None else
+            packet_of self.old n) }
     {
         let Some(i) = self.find(number) else {
             return false;

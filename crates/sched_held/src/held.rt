@@ -42,7 +42,8 @@ impl Held {
     /// A packet more, in the place of one with its number if there is one. The error is want of memory.
     #[inline(always)]
     pub fn put(&mut self, packet: &Packet) -> Result<(), AllocError>
-        ensures ok { OnOk result ((n : ℕ) → held_at self.new n ≡ with_packet (held_at self.old) packet.now n) }
+        ensures ok { OnOk result ((n : ℕ) → held_at self.new n ≡
+            with_packet (held_at self.old) packet.now n) }
         ensures err { OnErr result ((n : ℕ) → held_at self.new n ≡ held_at self.old n) }
     {
         if packet.number < self.window.end() || packet.number > LAST {
@@ -87,7 +88,8 @@ impl Held {
     #[inline(never)]
     fn put_stray(&mut self, packet: &Packet) -> Result<(), AllocError>
         requires before { end_of self.old.window ≤ packet.now.number → 2 ^ 63 ≤ packet.now.number }
-        ensures ok { OnOk result ((n : ℕ) → held_at self.new n ≡ with_packet (held_at self.old) packet.now n) }
+        ensures ok { OnOk result ((n : ℕ) → held_at self.new n ≡
+            with_packet (held_at self.old) packet.now n) }
         ensures err { OnErr result ((n : ℕ) → held_at self.new n ≡ held_at self.old n) }
         ensures end { end_of self.new.window ≡ end_of self.old.window }
         ensures fewer { OnOk result (

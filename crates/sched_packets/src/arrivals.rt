@@ -50,7 +50,8 @@ impl<'a, R: CaptureReader + Drop, S: Shelf> Arrivals<'a, R, S> {
             IfSome (rest_of (held window) (S.left shelf.old)) (λ file. Refuses halt (R.contents file))) }
         ensures begun { IsTrue (S.begun shelf.new) }
         ensures kept { KeepsShelf S.lends S.content S.faults shelf.old shelf.new }
-        ensures cause { IsErrOf result Halt.Source → Rose (S.faults shelf.old) (S.faults shelf.new) }
+        ensures cause { IsErrOf result Halt.Source → Rose (S.faults shelf.old)
+            (S.faults shelf.new) }
     {
         let mut reader = R::over(alloc, window);
         match reader.start(shelf) {
@@ -74,18 +75,23 @@ impl<'a, R: CaptureReader + Drop, S: Shelf> Arrivals<'a, R, S> {
     pub fn next_packet(&mut self, source: &mut S, packet: &mut Packet) -> Result<Option<u16>, Halt>
         requires ready { IsReady R.ready R.given self.old (S.begun source.old) }
 
-        ensures next { IfOk result (λ o. IfSome o (λ link. IsNext (resolved_of self.old) (given_by R.given self.old)
+        ensures next { IfOk result (λ o. IfSome o (λ link. IsNext (resolved_of self.old)
+            (given_by R.given self.old)
             (contents_of R.left self.old (S.left source.old)) (contents_of R.left self.new (S.left source.new))
             link packet.new (captured_by self.new))) }
-        ensures ended { IfOk result (λ o. IfNone o (IsAt None (contents_of R.left self.old (S.left source.old)))) }
-        ensures over { IfOk result (λ o. IfNone o (contents_of R.left self.new (S.left source.new) ≡ Some nothing_left)) }
+        ensures ended { IfOk result (λ o. IfNone o (IsAt None
+            (contents_of R.left self.old (S.left source.old)))) }
+        ensures over { IfOk result (λ o. IfNone o (contents_of R.left self.new (S.left source.new) ≡
+            Some nothing_left)) }
         ensures fault { IfErr result (HaltsAt (contents_of R.left self.old (S.left source.old))) }
 
-        ensures given { IfOk result (λ o. given_by R.given self.new ≡ given_by R.given self.old + (if is_some o then 1 else 0)) }
+        ensures given { IfOk result (λ o. given_by R.given self.new ≡ given_by R.given self.old +
+            (if is_some o then 1 else 0)) }
         ensures ready { OnOk result (IsReady R.ready R.given self.new (S.begun source.new)) }
         ensures policy { resolved_of self.new ≡ resolved_of self.old }
         ensures kept { KeepsShelf S.lends S.content S.faults source.old source.new }
-        ensures cause { IsErrOf result Halt.Source → Rose (S.faults source.old) (S.faults source.new) }
+        ensures cause { IsErrOf result Halt.Source → Rose (S.faults source.old)
+            (S.faults source.new) }
     {
         if self.over {
             return Ok(None);
@@ -110,16 +116,19 @@ impl<'a, R: CaptureReader + Drop, S: Shelf> Arrivals<'a, R, S> {
 
         ensures comes { IfOk result (λ some. some ≡ true → IsOneLess
             (contents_of R.left self.old (S.left source.old)) (contents_of R.left self.new (S.left source.new))) }
-        ensures ended { IfOk result (λ some. some ≡ false → IsAt None (contents_of R.left self.old (S.left source.old))) }
+        ensures ended { IfOk result (λ some. some ≡ false → IsAt None
+            (contents_of R.left self.old (S.left source.old))) }
         ensures over { IfOk result (λ some. some ≡ false →
             contents_of R.left self.new (S.left source.new) ≡ Some nothing_left) }
         ensures fault { IfErr result (HaltsAt (contents_of R.left self.old (S.left source.old))) }
 
-        ensures given { IfOk result (λ some. given_by R.given self.new ≡ given_by R.given self.old + (if some then 1 else 0)) }
+        ensures given { IfOk result (λ some. given_by R.given self.new ≡ given_by R.given self.old +
+            (if some then 1 else 0)) }
         ensures ready { OnOk result (IsReady R.ready R.given self.new (S.begun source.new)) }
         ensures policy { resolved_of self.new ≡ resolved_of self.old }
         ensures kept { KeepsShelf S.lends S.content S.faults source.old source.new }
-        ensures cause { IsErrOf result Halt.Source → Rose (S.faults source.old) (S.faults source.new) }
+        ensures cause { IsErrOf result Halt.Source → Rose (S.faults source.old)
+            (S.faults source.new) }
     {
         if self.over {
             return Ok(false);

@@ -47,9 +47,11 @@ impl<'a, S: Shelf> CapturePackets<'a, S> {
         ensures none_given { IfOk result (λ a. given_by a ≡ 0) }
         ensures ready { IfOk result (λ a. IsReady a (S.begun shelf.new)) }
 
-        ensures refuses { IfErr result (λ halt. IfSome (S.content shelf.old name.now) (λ file. Refuses halt (in_file file))) }
+        ensures refuses { IfErr result (λ halt. IfSome (S.content shelf.old name.now) (λ file.
+            Refuses halt (in_file file))) }
         ensures kept { KeepsShelf S.lends S.content S.faults shelf.old shelf.new }
-        ensures cause { IsErrOf result Halt.Source → Rose (S.faults shelf.old) (S.faults shelf.new) }
+        ensures cause { IsErrOf result Halt.Source → Rose (S.faults shelf.old)
+            (S.faults shelf.new) }
     {
         match shelf.begin(name) {
             Ok(()) => Self::start(alloc, policy, shelf),
@@ -58,7 +60,11 @@ impl<'a, S: Shelf> CapturePackets<'a, S> {
     }
 
     /// Reads the beginning of the begun file. The window that its first bytes fill goes on to the reader.
-    fn start(alloc: Global, policy: &'a Policy, shelf: &mut S) -> Result<CapturePackets<'a, S>, Halt>
+    fn start(
+        alloc: Global,
+        policy: &'a Policy,
+        shelf: &mut S,
+    ) -> Result<CapturePackets<'a, S>, Halt>
         requires begun { IsTrue (S.begun shelf.old) }
 
         ensures opens { IfOk result (λ a. IfSome (S.left shelf.old) (λ file.
@@ -70,7 +76,8 @@ impl<'a, S: Shelf> CapturePackets<'a, S> {
         ensures refuses { IfErr result (λ halt. IfSome (S.left shelf.old) (λ file.
             Refuses halt (in_file file))) }
         ensures kept { KeepsShelf S.lends S.content S.faults shelf.old shelf.new }
-        ensures cause { IsErrOf result Halt.Source → Rose (S.faults shelf.old) (S.faults shelf.new) }
+        ensures cause { IsErrOf result Halt.Source → Rose (S.faults shelf.old)
+            (S.faults shelf.new) }
     {
         let mut window = Window::new(alloc);
         if let Err(stop) = window.hold(shelf, HEADER_LEN) {
@@ -95,18 +102,23 @@ impl<'a, S: Shelf> CapturePackets<'a, S> {
     pub fn next_packet(&mut self, source: &mut S, packet: &mut Packet) -> Result<Option<u16>, Halt>
         requires ready { IsReady self.old (S.begun source.old) }
 
-        ensures next { IfOk result (λ o. IfSome o (λ link. IsNext (resolved_of self.old) (given_by self.old)
+        ensures next { IfOk result (λ o. IfSome o (λ link. IsNext (resolved_of self.old)
+            (given_by self.old)
             (contents_of self.old (S.left source.old)) (contents_of self.new (S.left source.new))
             link packet.new (captured_by self.new))) }
-        ensures ended { IfOk result (λ o. IfNone o (IsAt None (contents_of self.old (S.left source.old)))) }
-        ensures over { IfOk result (λ o. IfNone o (contents_of self.new (S.left source.new) ≡ Some nothing_left)) }
+        ensures ended { IfOk result (λ o. IfNone o (IsAt None
+            (contents_of self.old (S.left source.old)))) }
+        ensures over { IfOk result (λ o. IfNone o (contents_of self.new (S.left source.new) ≡
+            Some nothing_left)) }
         ensures fault { IfErr result (HaltsAt (contents_of self.old (S.left source.old))) }
 
-        ensures given { IfOk result (λ o. given_by self.new ≡ given_by self.old + (if is_some o then 1 else 0)) }
+        ensures given { IfOk result (λ o. given_by self.new ≡ given_by self.old +
+            (if is_some o then 1 else 0)) }
         ensures ready { OnOk result (IsReady self.new (S.begun source.new)) }
         ensures policy { resolved_of self.new ≡ resolved_of self.old }
         ensures kept { KeepsShelf S.lends S.content S.faults source.old source.new }
-        ensures cause { IsErrOf result Halt.Source → Rose (S.faults source.old) (S.faults source.new) }
+        ensures cause { IsErrOf result Halt.Source → Rose (S.faults source.old)
+            (S.faults source.new) }
     {
         match self {
             CapturePackets::Classic(arrivals) => arrivals.next_packet(source, packet),

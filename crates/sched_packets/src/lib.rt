@@ -2,13 +2,13 @@
 //! its flow, and those of them that have the link type of the first. Begin with specs/CapturePackets.antt.
 #![tactic(auto)]
 
-mod capture_packets;
 mod arrivals;
+mod capture_packets;
 mod halts;
-mod single_link_type;
 mod packets;
+mod single_link_type;
 
-pub use capture_packets::CapturePackets;
 pub use arrivals::Arrivals;
-pub use single_link_type::{OTHER_LINK, SingleLinkType};
+pub use capture_packets::CapturePackets;
 pub use sched_defs::{Halt, Packets};
+pub use single_link_type::{OTHER_LINK, SingleLinkType};

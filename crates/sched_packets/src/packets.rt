@@ -29,7 +29,8 @@ pub(crate) fn put_packet(
     bytes: &[u8],
     packet: &mut Packet,
 )
-    ensures packet { packet.new ≡ packet_of (policy_of classifier.now) read.now.frame.number (Captures.packet_of read.now bytes.now) }
+    ensures packet { packet.new ≡ packet_of (policy_of classifier.now) read.now.frame.number
+        (Captures.packet_of read.now bytes.now) }
     ensures known { IsKnown (policy_of classifier.now).policy packet.new }
     ensures number { packet.new.number ≡ read.now.frame.number }
     ensures moment { packet.new.moment ≡ read.now.frame.moment }

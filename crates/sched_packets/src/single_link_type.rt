@@ -28,24 +28,32 @@ impl<'a, S: Shelf> SingleLinkType<'a, S> {
     ghost use Rattle.sched_packets.specs.SingleLinkType.{EachFileOf, one_link_in, link_in};
 
     /// Reads the first packet ahead, if there is one.
-    pub fn start(arrivals: CapturePackets<'a, S>, source: &mut S) -> Result<SingleLinkType<'a, S>, Halt>
+    pub fn start(
+        arrivals: CapturePackets<'a, S>,
+        source: &mut S,
+    ) -> Result<SingleLinkType<'a, S>, Halt>
         requires none_given { any.given_by arrivals ≡ 0 }
         requires ready { any.IsReady arrivals (S.begun source.old) }
 
-        ensures begins { IfOk result (λ o. EachFileOf (any.contents_of arrivals.entry (S.left source.old)) (λ file.
+        ensures begins { IfOk result (λ o. EachFileOf (any.contents_of arrivals.entry
+            (S.left source.old)) (λ file.
             Begins (any.resolved_of arrivals.entry) (one_link_in file) (left_of o (S.left source.new)))) }
-        ensures captures { IfOk result (λ o. EachFileOf (any.contents_of arrivals.entry (S.left source.old)) (λ file.
+        ensures captures { IfOk result (λ o. EachFileOf (any.contents_of arrivals.entry
+            (S.left source.old)) (λ file.
             StaysKnown (AreCapturedIn (one_link_in file)) (captures_of o (S.left source.new)))) }
-        ensures link { IfOk result (λ o. EachFileOf (any.contents_of arrivals.entry (S.left source.old)) (λ file.
+        ensures link { IfOk result (λ o. EachFileOf (any.contents_of arrivals.entry
+            (S.left source.old)) (λ file.
             link_of o ≡ link_in file)) }
         ensures policy { IfOk result (λ o. resolved_of o ≡ any.resolved_of arrivals.entry) }
         ensures none_given { IfOk result (λ o. given_by o ≡ 0) }
         ensures ready { IfOk result (λ o. IsReady o (S.begun source.new)) }
 
-        ensures refuses { IfErr result (λ halt. EachFileOf (any.contents_of arrivals.entry (S.left source.old)) (λ file.
+        ensures refuses { IfErr result (λ halt. EachFileOf (any.contents_of arrivals.entry
+            (S.left source.old)) (λ file.
             Refuses halt (one_link_in file))) }
         ensures kept { KeepsShelf S.lends S.content S.faults source.old source.new }
-        ensures cause { IsErrOf result Halt.Source → Rose (S.faults source.old) (S.faults source.new) }
+        ensures cause { IsErrOf result Halt.Source → Rose (S.faults source.old)
+            (S.faults source.new) }
     {
         let mut arrivals = arrivals;
         let mut first = BLANK;

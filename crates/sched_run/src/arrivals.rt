@@ -37,16 +37,19 @@ impl<'a, C: Scheduler + Drop, N: NodeNames, W: Recorder> Run<'a, C, N, W> {
     ) -> Result<(), Stop>
         requires short { length captured.now ≤ most_captured }
         requires set { IsSet C.Scheduler W.Recorder N.policy self.old }
-        requires stands { Stand C.Scheduler self.old under.old (λ s. CanArrive (C.policy self.old.scheduler) s packet.now) }
+        requires stands { Stand C.Scheduler self.old under.old (λ s.
+            CanArrive (C.policy self.old.scheduler) s packet.now) }
         requires few { C.pushes self.old.scheduler < 2 ^ 61 }
         requires events { self.old.tally.came + self.old.tally.asked < 2 ^ 62 }
         requires dropped { self.old.tally.dropped ≤ self.old.tally.came }
 
-        ensures ok { OnOk result ((given : ℕ) → AreNext (C.policy self.old.scheduler) given (packet.now ∷ []) →
+        ensures ok { OnOk result ((given : ℕ) → AreNext (C.policy self.old.scheduler) given
+            (packet.now ∷ []) →
             Makes C.Scheduler (heard_with W.Recorder packet.now captured.now) (C.policy self.old.scheduler) (Arrive packet.now ∷ [])
             (stage_of self.old under.old (K.written sink.old) given (sight_of T.kind_of T.state_of watch.old))
             (stage_of self.new under.new (K.written sink.new) (given + 1) (sight_of T.kind_of T.state_of watch.new))) }
-        ensures err { OnErr result ((given : ℕ) → AreNext (C.policy self.old.scheduler) given (packet.now ∷ []) →
+        ensures err { OnErr result ((given : ℕ) → AreNext (C.policy self.old.scheduler) given
+            (packet.now ∷ []) →
             Stops C.Scheduler (heard_with W.Recorder packet.now captured.now) (C.policy self.old.scheduler) (Arrive packet.now ∷ [])
             (stage_of self.old under.old (K.written sink.old) given
             (sight_of T.kind_of T.state_of watch.old)) self.new.scheduler under.new (K.written sink.new)) }
@@ -54,7 +57,8 @@ impl<'a, C: Scheduler + Drop, N: NodeNames, W: Recorder> Run<'a, C, N, W> {
         ensures came_stays { OnErr result (self.new.tally.came ≡ self.old.tally.came) }
         ensures asked { self.new.tally.asked ≡ self.old.tally.asked }
         ensures kept { Continues C.Scheduler self.old self.new }
-        ensures fewer { AreNoMore (sight_of T.kind_of T.state_of watch.old) (sight_of T.kind_of T.state_of watch.new) }
+        ensures fewer { AreNoMore (sight_of T.kind_of T.state_of watch.old)
+            (sight_of T.kind_of T.state_of watch.new) }
         ensures kept_sink { KeepsSink K.written K.faults sink.old sink.new }
         ensures cause { IfErr result (λ stop. HasSinkCause stop K.faults sink.old sink.new) }
         ensures over { OnOk result (W.over self.new.recorder ≡ W.over self.old.recorder) }
@@ -80,7 +84,8 @@ impl<'a, C: Scheduler + Drop, N: NodeNames, W: Recorder> Run<'a, C, N, W> {
         requires set { IsSet C.Scheduler W.Recorder N.policy self.old }
         requires packets { P.policy packets.old ≡ C.policy self.old.scheduler }
         requires ready { P.ready packets.old source.old }
-        requires stands { Stand C.Scheduler self.old under.old (λ s. IsHeldBelow (P.given packets.old + 1) s.held) }
+        requires stands { Stand C.Scheduler self.old under.old (λ s.
+            IsHeldBelow (P.given packets.old + 1) s.held) }
         requires counts { HasRoomFor C.Scheduler self.old (P.given packets.old) }
 
         ensures ok { IfOk result (λ e.
@@ -96,10 +101,13 @@ impl<'a, C: Scheduler + Drop, N: NodeNames, W: Recorder> Run<'a, C, N, W> {
             (stage_of self.old under.old (K.written sink.old) (P.given packets.old)
             (sight_of T.kind_of T.state_of watch.old)) self.new.scheduler under.new (K.written sink.new)) }
         ensures kept { Continues C.Scheduler self.old self.new }
-        ensures fewer { AreNoMore (sight_of T.kind_of T.state_of watch.old) (sight_of T.kind_of T.state_of watch.new) }
+        ensures fewer { AreNoMore (sight_of T.kind_of T.state_of watch.old)
+            (sight_of T.kind_of T.state_of watch.new) }
         ensures kept_sink { KeepsSink K.written K.faults sink.old sink.new }
-        ensures kept_packets { KeepsPackets P.Packets packets.old packets.new source.old source.new }
-        ensures cause { IfErr result (λ stop. HasCause stop P.faults source.old source.new K.faults sink.old sink.new) }
+        ensures kept_packets { KeepsPackets P.Packets packets.old packets.new source.old
+            source.new }
+        ensures cause { IfErr result (λ stop. HasCause stop P.faults source.old source.new K.faults
+            sink.old sink.new) }
         ensures further { IfOk result (λ e. GoesOn e (
             IsFurther P.Packets packets.old packets.new source.old source.new self.old.tally self.new.tally)) }
         ensures came { self.new.tally.came ≤ most_packets }
@@ -132,7 +140,8 @@ impl<'a, C: Scheduler + Drop, N: NodeNames, W: Recorder> Run<'a, C, N, W> {
         requires set { IsSet C.Scheduler W.Recorder N.policy self.old }
         requires packets { P.policy packets.old ≡ C.policy self.old.scheduler }
         requires ready { P.ready packets.old source.old }
-        requires stands { Stand C.Scheduler self.old under.old (λ s. IsHeldBelow (P.given packets.old + 1) s.held) }
+        requires stands { Stand C.Scheduler self.old under.old (λ s.
+            IsHeldBelow (P.given packets.old + 1) s.held) }
         requires counts { HasRoomFor C.Scheduler self.old (P.given packets.old) }
 
         ensures ok { IfOk result (λ e.
@@ -148,10 +157,13 @@ impl<'a, C: Scheduler + Drop, N: NodeNames, W: Recorder> Run<'a, C, N, W> {
             (stage_of self.old under.old (K.written sink.old) (P.given packets.old)
             (sight_of T.kind_of T.state_of watch.old)) self.new.scheduler under.new (K.written sink.new)) }
         ensures kept { Continues C.Scheduler self.old self.new }
-        ensures fewer { AreNoMore (sight_of T.kind_of T.state_of watch.old) (sight_of T.kind_of T.state_of watch.new) }
+        ensures fewer { AreNoMore (sight_of T.kind_of T.state_of watch.old)
+            (sight_of T.kind_of T.state_of watch.new) }
         ensures kept_sink { KeepsSink K.written K.faults sink.old sink.new }
-        ensures kept_packets { KeepsPackets P.Packets packets.old packets.new source.old source.new }
-        ensures cause { IfErr result (λ stop. HasCause stop P.faults source.old source.new K.faults sink.old sink.new) }
+        ensures kept_packets { KeepsPackets P.Packets packets.old packets.new source.old
+            source.new }
+        ensures cause { IfErr result (λ stop. HasCause stop P.faults source.old source.new K.faults
+            sink.old sink.new) }
         ensures further { IfOk result (λ e. IfNone e (
             IsFurther P.Packets packets.old packets.new source.old source.new self.old.tally self.new.tally)) }
         ensures came { self.new.tally.came ≤ most_packets }
@@ -179,7 +191,8 @@ impl<'a, C: Scheduler + Drop, N: NodeNames, W: Recorder> Run<'a, C, N, W> {
         requires set { IsSet C.Scheduler W.Recorder N.policy self.old }
         requires packets { P.policy packets.old ≡ C.policy self.old.scheduler }
         requires ready { P.ready packets.old source.old }
-        requires stands { Stand C.Scheduler self.old under.old (λ s. IsHeldBelow (P.given packets.old + 1) s.held) }
+        requires stands { Stand C.Scheduler self.old under.old (λ s.
+            IsHeldBelow (P.given packets.old + 1) s.held) }
         requires counts { HasRoomFor C.Scheduler self.old (P.given packets.old) }
 
         ensures ok { IfOk result (λ e.
@@ -196,10 +209,13 @@ impl<'a, C: Scheduler + Drop, N: NodeNames, W: Recorder> Run<'a, C, N, W> {
             (stage_of self.old under.old (K.written sink.old) (P.given packets.old)
             (sight_of T.kind_of T.state_of watch.old)) self.new.scheduler under.new (K.written sink.new)) }
         ensures kept { Continues C.Scheduler self.old self.new }
-        ensures fewer { AreNoMore (sight_of T.kind_of T.state_of watch.old) (sight_of T.kind_of T.state_of watch.new) }
+        ensures fewer { AreNoMore (sight_of T.kind_of T.state_of watch.old)
+            (sight_of T.kind_of T.state_of watch.new) }
         ensures kept_sink { KeepsSink K.written K.faults sink.old sink.new }
-        ensures kept_packets { KeepsPackets P.Packets packets.old packets.new source.old source.new }
-        ensures cause { IfErr result (λ stop. HasCause stop P.faults source.old source.new K.faults sink.old sink.new) }
+        ensures kept_packets { KeepsPackets P.Packets packets.old packets.new source.old
+            source.new }
+        ensures cause { IfErr result (λ stop. HasCause stop P.faults source.old source.new K.faults
+            sink.old sink.new) }
         ensures further { IfOk result (λ e. IfNone e (
             IsFurther P.Packets packets.old packets.new source.old source.new self.old.tally self.new.tally)) }
         ensures came { self.new.tally.came ≤ most_packets }

@@ -24,7 +24,8 @@ use tap_core::{Tap, Watching};
 fn count_unsent<P: Packets>(packets: &mut P, source: &mut P::Source) -> Result<Ending, Stop>
     requires ready { P.ready packets.old source.old }
 
-    ensures told { IfOk result (λ e. IfSome (P.left packets.old source.old) (λ l. e ≡ at_end l.fault l.packets)) }
+    ensures told { IfOk result (λ e. IfSome (P.left packets.old source.old) (λ l. e ≡
+        at_end l.fault l.packets)) }
     ensures kept { KeepsPackets P.Packets packets.old packets.new source.old source.new }
     ensures cause { IfErr result (λ stop. HasSourceCause stop P.faults source.old source.new) }
 {
@@ -49,8 +50,10 @@ fn last<K: Sink>(
 ) -> Result<(), WriteFault>
     requires live { IsTrue report.old.live }
 
-    ensures ok { OnOk result (Tells K.written sink.old report.old sink.new report.new (totals_line totals ending)) }
-    ensures cut { OnErr result (CutsOff K.written sink.old report.old sink.new (totals_line totals ending)) }
+    ensures ok { OnOk result (Tells K.written sink.old report.old sink.new report.new
+        (totals_line totals ending)) }
+    ensures cut { OnErr result (CutsOff K.written sink.old report.old sink.new
+        (totals_line totals ending)) }
     ensures kept { KeepsSink K.written K.faults sink.old sink.new }
     ensures cause { OnErr result (Rose (K.faults sink.old) (K.faults sink.new)) }
     ensures live { OnOk result (IsTrue report.new.live) }
@@ -81,7 +84,8 @@ fn close<K: Sink>(
 
     ensures ok { OnOk result (
         Appended (text_of (K.written sink.old) report.old) (K.written sink.new) (totals_line totals ending)) }
-    ensures cut { OnErr result (CutsOff K.written sink.old report.old sink.new (totals_line totals ending)) }
+    ensures cut { OnErr result (CutsOff K.written sink.old report.old sink.new
+        (totals_line totals ending)) }
     ensures kept { KeepsSink K.written K.faults sink.old sink.new }
     ensures cause { OnErr result (Rose (K.faults sink.old) (K.faults sink.new)) }
     ensures live { OnOk result (IsTrue report.new.live) }
@@ -137,10 +141,13 @@ impl<'a, C: Scheduler + Drop, N: NodeNames, W: Recorder> Run<'a, C, N, W> {
             (stage_of self.old under.old (K.written sink.old) (P.given packets.old)
             (sight_of T.kind_of T.state_of watch.old)) self.new.scheduler under.new (K.written sink.new)) }
         ensures kept { Continues C.Scheduler self.old self.new }
-        ensures fewer { AreNoMore (sight_of T.kind_of T.state_of watch.old) (sight_of T.kind_of T.state_of watch.new) }
+        ensures fewer { AreNoMore (sight_of T.kind_of T.state_of watch.old)
+            (sight_of T.kind_of T.state_of watch.new) }
         ensures kept_sink { KeepsSink K.written K.faults sink.old sink.new }
-        ensures kept_packets { KeepsPackets P.Packets packets.old packets.new source.old source.new }
-        ensures cause { IfErr result (λ stop. HasCause stop P.faults source.old source.new K.faults sink.old sink.new) }
+        ensures kept_packets { KeepsPackets P.Packets packets.old packets.new source.old
+            source.new }
+        ensures cause { IfErr result (λ stop. HasCause stop P.faults source.old source.new K.faults
+            sink.old sink.new) }
         ensures came { self.new.tally.came ≤ most_packets }
         ensures live { OnOk result (W.live self.new.recorder) }
     {
@@ -188,10 +195,13 @@ impl<'a, C: Scheduler + Drop, N: NodeNames, W: Recorder> Run<'a, C, N, W> {
             (stage_of self.old under.old (K.written sink.old) (P.given packets.old)
             (sight_of T.kind_of T.state_of watch.old)) self.new.scheduler under.new (K.written sink.new)) }
         ensures kept { Continues C.Scheduler self.old self.new }
-        ensures fewer { AreNoMore (sight_of T.kind_of T.state_of watch.old) (sight_of T.kind_of T.state_of watch.new) }
+        ensures fewer { AreNoMore (sight_of T.kind_of T.state_of watch.old)
+            (sight_of T.kind_of T.state_of watch.new) }
         ensures kept_sink { KeepsSink K.written K.faults sink.old sink.new }
-        ensures kept_packets { KeepsPackets P.Packets packets.old packets.new source.old source.new }
-        ensures cause { IfErr result (λ stop. HasCause stop P.faults source.old source.new K.faults sink.old sink.new) }
+        ensures kept_packets { KeepsPackets P.Packets packets.old packets.new source.old
+            source.new }
+        ensures cause { IfErr result (λ stop. HasCause stop P.faults source.old source.new K.faults
+            sink.old sink.new) }
         ensures came { self.new.tally.came ≤ most_packets }
         ensures ends { IfOk result (λ o. IfSome o (CanEndSo pace.entry)) }
         ensures over { IfOk result (λ o. IsNone o → W.over self.new.recorder ≡ true) }
@@ -241,27 +251,34 @@ impl<'a, C: Scheduler + Drop, N: NodeNames> Run<'a, C, N, Report> {
         requires few { P.given packets.old ≤ most_packets }
         requires bounded { IsBounded pace }
 
-        ensures ok { OnOk result (OnCourse C.stands (C.policy self.old.scheduler) self.old.scheduler under.old
+        ensures ok { OnOk result (OnCourse C.stands (C.policy self.old.scheduler) self.old.scheduler
+            under.old
             (P.given packets.old) (P.left packets.old source.old) (course_of (C.policy self.old.scheduler) pace.entry) (λ s run.
             Runs C.Scheduler (C.policy self.old.scheduler) run s self.old.scheduler under.old self.new.scheduler under.new
             (text_of (K.written sink.old) self.old.recorder) (K.written sink.new))) }
-        ensures ending { IfOk result (λ e. OnCourse C.stands (C.policy self.old.scheduler) self.old.scheduler under.old
+        ensures ending { IfOk result (λ e. OnCourse C.stands (C.policy self.old.scheduler)
+            self.old.scheduler under.old
             (P.given packets.old) (P.left packets.old source.old) (course_of (C.policy self.old.scheduler) pace.entry)
             (λ s run. e ≡ run.ending)) }
-        ensures err { OnErr result (OnCourse C.stands (C.policy self.old.scheduler) self.old.scheduler under.old
+        ensures err { OnErr result (OnCourse C.stands (C.policy self.old.scheduler)
+            self.old.scheduler under.old
             (P.given packets.old) (P.left packets.old source.old) (course_of (C.policy self.old.scheduler) pace.entry) (λ s run.
             Breaks C.Scheduler (C.policy self.old.scheduler) run s self.old.scheduler under.old self.new.scheduler under.new
             (text_of (K.written sink.old) self.old.recorder) (K.written sink.new))) }
-        ensures watched { OnOk result (OnCourse C.stands (C.policy self.old.scheduler) self.old.scheduler under.old
+        ensures watched { OnOk result (OnCourse C.stands (C.policy self.old.scheduler)
+            self.old.scheduler under.old
             (P.given packets.old) (P.left packets.old source.old)
             (course_of (C.policy self.old.scheduler) pace.entry) (λ s run.
             Shows (shown_in (C.policy self.old.scheduler) (outcomes (C.policy self.old.scheduler) run.events s))
             (sight_of T.kind_of T.state_of watch.old) (sight_of T.kind_of T.state_of watch.new))) }
         ensures kept { Continues C.Scheduler self.old self.new }
-        ensures fewer { AreNoMore (sight_of T.kind_of T.state_of watch.old) (sight_of T.kind_of T.state_of watch.new) }
+        ensures fewer { AreNoMore (sight_of T.kind_of T.state_of watch.old)
+            (sight_of T.kind_of T.state_of watch.new) }
         ensures kept_sink { KeepsSink K.written K.faults sink.old sink.new }
-        ensures kept_packets { KeepsPackets P.Packets packets.old packets.new source.old source.new }
-        ensures cause { IfErr result (λ stop. HasCause stop P.faults source.old source.new K.faults sink.old sink.new) }
+        ensures kept_packets { KeepsPackets P.Packets packets.old packets.new source.old
+            source.new }
+        ensures cause { IfErr result (λ stop. HasCause stop P.faults source.old source.new K.faults
+            sink.old sink.new) }
         ensures ends { IfOk result (CanEndSo pace.entry) }
         ensures live { OnOk result (IsTrue self.new.recorder.live) }
         ensures none_left { OnOk result (self.new.recorder.unwritten ≡ []) }

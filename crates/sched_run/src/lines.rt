@@ -45,7 +45,8 @@ pub(crate) fn record_departure<C: Scheduler, N: NodeNames, W: Recorder, K: Sink>
 ) -> Result<Option<Departed>, WriteFault>
     requires accepted { IsAccepted (C.policy scheduler.old) }
     requires names { N.policy names.now ≡ C.policy scheduler.old }
-    requires stands { StandForOne C.stands (C.policy scheduler.old) scheduler.old under.old (λ _. Unit {0}) }
+    requires stands { StandForOne C.stands (C.policy scheduler.old) scheduler.old under.old (λ _.
+        Unit {0}) }
     requires room { depth (C.policy scheduler.old).tree ≤ trace.old.room }
     requires few { C.departures scheduler.old < 2 ^ 61 }
     requires live { W.live recorder.old }
@@ -62,10 +63,12 @@ pub(crate) fn record_departure<C: Scheduler, N: NodeNames, W: Recorder, K: Sink>
         IfNone (leaver s) (trace.new ≡ trace.old)) }
     ensures room { trace.new.room ≡ trace.old.room }
 
-    ensures recorded { OnOk result (ForEachState C.stands (C.policy scheduler.old) scheduler.old under.old (λ s.
+    ensures recorded { OnOk result (ForEachState C.stands (C.policy scheduler.old) scheduler.old
+        under.old (λ s.
         (heard_anyway W.Recorder).records recorder.old (K.written sink.old) (C.policy scheduler.old) departure.event
         (outcomes (C.policy scheduler.old) (Depart departure.start ∷ []) s) recorder.new (K.written sink.new))) }
-    ensures cut { OnErr result (ForEachState C.stands (C.policy scheduler.old) scheduler.old under.old (λ s.
+    ensures cut { OnErr result (ForEachState C.stands (C.policy scheduler.old) scheduler.old
+        under.old (λ s.
         (heard_anyway W.Recorder).cuts recorder.old (K.written sink.old) (C.policy scheduler.old) departure.event
         (outcomes (C.policy scheduler.old) (Depart departure.start ∷ []) s) (K.written sink.new))) }
     ensures kept { KeepsSink K.written K.faults sink.old sink.new }
@@ -100,7 +103,8 @@ pub fn depart_line<C: Scheduler, N: NodeNames, K: Sink>(
 ) -> Result<Option<Departed>, WriteFault>
     requires accepted { IsAccepted (C.policy scheduler.old) }
     requires names { N.policy names.now ≡ C.policy scheduler.old }
-    requires stands { StandForOne C.stands (C.policy scheduler.old) scheduler.old under.old (λ _. Unit {0}) }
+    requires stands { StandForOne C.stands (C.policy scheduler.old) scheduler.old under.old (λ _.
+        Unit {0}) }
     requires room { depth (C.policy scheduler.old).tree ≤ trace.old.room }
     requires few { C.departures scheduler.old < 2 ^ 61 }
     requires live { IsTrue report.old.live }
@@ -117,9 +121,11 @@ pub fn depart_line<C: Scheduler, N: NodeNames, K: Sink>(
         IfNone (leaver s) (trace.new ≡ trace.old)) }
     ensures room { trace.new.room ≡ trace.old.room }
 
-    ensures text { OnOk result (ForEachState C.stands (C.policy scheduler.old) scheduler.old under.old (λ s.
+    ensures text { OnOk result (ForEachState C.stands (C.policy scheduler.old) scheduler.old
+        under.old (λ s.
         Tells K.written sink.old report.old sink.new report.new (line_of (C.policy scheduler.old) event (Depart None) s))) }
-    ensures cut { OnErr result (ForEachState C.stands (C.policy scheduler.old) scheduler.old under.old (λ s.
+    ensures cut { OnErr result (ForEachState C.stands (C.policy scheduler.old) scheduler.old
+        under.old (λ s.
         CutsOff K.written sink.old report.old sink.new (line_of (C.policy scheduler.old) event (Depart None) s))) }
     ensures kept { KeepsSink K.written K.faults sink.old sink.new }
     ensures cause { OnErr result (Rose (K.faults sink.old) (K.faults sink.new)) }
@@ -155,7 +161,8 @@ impl<'a, C: Scheduler + Drop, N: NodeNames, W: Recorder> Run<'a, C, N, W> {
     ) -> Result<Arrival, Stop>
         requires short { length captured.now ≤ most_captured }
         requires set { IsSet C.Scheduler W.Recorder N.policy self.old }
-        requires stands { Stand C.Scheduler self.old under.old (λ s. CanArrive (C.policy self.old.scheduler) s packet.now) }
+        requires stands { Stand C.Scheduler self.old under.old (λ s.
+            CanArrive (C.policy self.old.scheduler) s packet.now) }
         requires few { C.pushes self.old.scheduler < 2 ^ 61 }
 
         ensures ok { OnOk result (FromAll C.Scheduler self.old under.old (λ s.
@@ -219,7 +226,8 @@ impl<'a, C: Scheduler + Drop, N: NodeNames, W: Recorder> Run<'a, C, N, W> {
         ensures dropped { self.new.tally.dropped ≡ self.old.tally.dropped }
         ensures asked { OnOk result (self.new.tally.asked ≡ self.old.tally.asked + 1) }
         ensures kept { Continues C.Scheduler self.old self.new }
-        ensures fewer { AreNoMore (sight_of T.kind_of T.state_of watch.old) (sight_of T.kind_of T.state_of watch.new) }
+        ensures fewer { AreNoMore (sight_of T.kind_of T.state_of watch.old)
+            (sight_of T.kind_of T.state_of watch.new) }
         ensures kept_sink { KeepsSink K.written K.faults sink.old sink.new }
         ensures cause { IfErr result (λ stop. HasSinkCause stop K.faults sink.old sink.new) }
         ensures live { OnOk result (W.live self.new.recorder) }

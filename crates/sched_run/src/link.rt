@@ -97,7 +97,8 @@ impl<'a, C: Scheduler + Drop, N: NodeNames, W: Recorder> Run<'a, C, N, W> {
         ensures dropped { self.new.tally.dropped ≡ self.old.tally.dropped }
         ensures few { OnOk result (self.new.tally.asked ≤ 2 ^ 34) }
         ensures kept { Continues C.Scheduler self.old self.new }
-        ensures fewer { AreNoMore (sight_of T.kind_of T.state_of watch.old) (sight_of T.kind_of T.state_of watch.new) }
+        ensures fewer { AreNoMore (sight_of T.kind_of T.state_of watch.old)
+            (sight_of T.kind_of T.state_of watch.new) }
         ensures kept_sink { KeepsSink K.written K.faults sink.old sink.new }
         ensures cause { IfErr result (λ stop. HasSinkCause stop K.faults sink.old sink.new) }
         ensures live { OnOk result (W.live self.new.recorder) }
@@ -159,7 +160,8 @@ impl<'a, C: Scheduler + Drop, N: NodeNames, W: Recorder> Run<'a, C, N, W> {
             self.new.tally.came ≡ (if over then self.old.tally.came else self.old.tally.came + 1)) }
         ensures came_stays { OnErr result (self.new.tally.came ≡ self.old.tally.came) }
         ensures kept { Continues C.Scheduler self.old self.new }
-        ensures fewer { AreNoMore (sight_of T.kind_of T.state_of watch.old) (sight_of T.kind_of T.state_of watch.new) }
+        ensures fewer { AreNoMore (sight_of T.kind_of T.state_of watch.old)
+            (sight_of T.kind_of T.state_of watch.new) }
         ensures kept_sink { KeepsSink K.written K.faults sink.old sink.new }
         ensures cause { IfErr result (λ stop. HasSinkCause stop K.faults sink.old sink.new) }
         ensures live { OnOk result (W.live self.new.recorder) }
@@ -209,10 +211,13 @@ impl<'a, C: Scheduler + Drop, N: NodeNames, W: Recorder> Run<'a, C, N, W> {
             (stage_of self.old under.old (K.written sink.old) (P.given packets.old)
             (sight_of T.kind_of T.state_of watch.old)) self.new.scheduler under.new (K.written sink.new)) }
         ensures kept { Continues C.Scheduler self.old self.new }
-        ensures fewer { AreNoMore (sight_of T.kind_of T.state_of watch.old) (sight_of T.kind_of T.state_of watch.new) }
+        ensures fewer { AreNoMore (sight_of T.kind_of T.state_of watch.old)
+            (sight_of T.kind_of T.state_of watch.new) }
         ensures kept_sink { KeepsSink K.written K.faults sink.old sink.new }
-        ensures kept_packets { KeepsPackets P.Packets packets.old packets.new source.old source.new }
-        ensures cause { IfErr result (λ stop. HasCause stop P.faults source.old source.new K.faults sink.old sink.new) }
+        ensures kept_packets { KeepsPackets P.Packets packets.old packets.new source.old
+            source.new }
+        ensures cause { IfErr result (λ stop. HasCause stop P.faults source.old source.new K.faults
+            sink.old sink.new) }
         ensures came { self.new.tally.came ≤ most_packets }
         ensures ends { IfOk result (λ o. IfSome o IsNoPastLast) }
         ensures over { IfOk result (λ o. W.over self.new.recorder ≡ not (is_some o)) }

@@ -35,7 +35,8 @@ impl<'a, C: Scheduler + Drop, N: NodeNames, W: Recorder> Run<'a, C, N, W> {
         drawing: &mut Drawing,
     ) -> Result<(), Stop>
         requires set { IsSet C.Scheduler W.Recorder N.policy self.old }
-        requires stands { Stand C.Scheduler self.old under.old (λ s. IsHeldBelow drawing.old.number s.held) }
+        requires stands { Stand C.Scheduler self.old under.old (λ s.
+            IsHeldBelow drawing.old.number s.held) }
         requires classes { HasLoadClasses (C.policy self.old.scheduler) }
         requires early { drawing.old.moment < 2 ^ 61 }
         requires few { drawing.old.number < 2 ^ 61 }
@@ -55,7 +56,8 @@ impl<'a, C: Scheduler + Drop, N: NodeNames, W: Recorder> Run<'a, C, N, W> {
             (sight_of T.kind_of T.state_of watch.old)) self.new.scheduler under.new (K.written sink.new)) }
         ensures next { drawing.new ≡ load_next drawing.old }
         ensures kept { Continues C.Scheduler self.old self.new }
-        ensures fewer { AreNoMore (sight_of T.kind_of T.state_of watch.old) (sight_of T.kind_of T.state_of watch.new) }
+        ensures fewer { AreNoMore (sight_of T.kind_of T.state_of watch.old)
+            (sight_of T.kind_of T.state_of watch.new) }
         ensures kept_sink { KeepsSink K.written K.faults sink.old sink.new }
         ensures cause { IfErr result (λ stop. HasSinkCause stop K.faults sink.old sink.new) }
         ensures live { OnOk result (W.live self.new.recorder) }
@@ -96,7 +98,8 @@ impl<'a, C: Scheduler + Drop, N: NodeNames, W: Recorder> Run<'a, C, N, W> {
             (stage_of self.old under.old (K.written sink.old) 0
             (sight_of T.kind_of T.state_of watch.old)) self.new.scheduler under.new (K.written sink.new)) }
         ensures kept { Continues C.Scheduler self.old self.new }
-        ensures fewer { AreNoMore (sight_of T.kind_of T.state_of watch.old) (sight_of T.kind_of T.state_of watch.new) }
+        ensures fewer { AreNoMore (sight_of T.kind_of T.state_of watch.old)
+            (sight_of T.kind_of T.state_of watch.new) }
         ensures kept_sink { KeepsSink K.written K.faults sink.old sink.new }
         ensures cause { IfErr result (λ stop. HasSinkCause stop K.faults sink.old sink.new) }
         ensures live { OnOk result (W.live self.new.recorder) }
@@ -131,12 +134,14 @@ impl<'a, C: Scheduler + Drop, N: NodeNames, W: Recorder> Run<'a, C, N, W> {
             MakesLoad C.Scheduler (heard_without W.Recorder) (C.policy self.old.scheduler) seed count s
             self.old.scheduler under.old self.old.recorder (K.written sink.old)
             self.new.scheduler under.new self.new.recorder (K.written sink.new) t)) }
-        ensures err { OnErr result (ForEachState C.stands (C.policy self.old.scheduler) self.old.scheduler under.old (λ s.
+        ensures err { OnErr result (ForEachState C.stands (C.policy self.old.scheduler)
+            self.old.scheduler under.old (λ s.
             IsHeldBelow 1 s.held → StopsIn C.Scheduler (heard_without W.Recorder) (C.policy self.old.scheduler) 1
             (load_run (C.policy self.old.scheduler) seed count s) s
             self.old.scheduler under.old self.old.recorder (K.written sink.old) self.new.scheduler under.new (K.written sink.new))) }
         ensures kept { Continues C.Scheduler self.old self.new }
-        ensures fewer { AreNoMore (sight_of T.kind_of T.state_of watch.old) (sight_of T.kind_of T.state_of watch.new) }
+        ensures fewer { AreNoMore (sight_of T.kind_of T.state_of watch.old)
+            (sight_of T.kind_of T.state_of watch.new) }
         ensures kept_sink { KeepsSink K.written K.faults sink.old sink.new }
         ensures cause { IfErr result (λ stop. HasSinkCause stop K.faults sink.old sink.new) }
         ensures live { OnOk result (W.live self.new.recorder) }

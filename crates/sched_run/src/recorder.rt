@@ -47,11 +47,13 @@ pub trait Recorder: Drop {
         requires leaf { length leaf.now ≤ 64 }
         requires few { length ranks.now ≤ 65 }
 
-        ensures ok { OnOk result ((bytes : Captured) (policy : Policy) (a : Address) → bytes packet.now.number ≡ captured.now →
+        ensures ok { OnOk result ((bytes : Captured) (policy : Policy) (a : Address) →
+            bytes packet.now.number ≡ captured.now →
             leaf.now ≡ name_at policy a →
             records bytes self.old (K.written sink.old) policy event (events.Arrived packet.now a ranks.now ∷ [])
             self.new (K.written sink.new)) }
-        ensures cut { OnErr result ((bytes : Captured) (policy : Policy) (a : Address) → bytes packet.now.number ≡ captured.now →
+        ensures cut { OnErr result ((bytes : Captured) (policy : Policy) (a : Address) →
+            bytes packet.now.number ≡ captured.now →
             leaf.now ≡ name_at policy a →
             cuts bytes self.old (K.written sink.old) policy event (events.Arrived packet.now a ranks.now ∷ [])
             (K.written sink.new)) }
@@ -72,10 +74,12 @@ pub trait Recorder: Drop {
         requires live { live self.old }
         requires leaf { length leaf.now ≤ 64 }
 
-        ensures ok { OnOk result ((bytes : Captured) (policy : Policy) (a : Address) → leaf.now ≡ name_at policy a →
+        ensures ok { OnOk result ((bytes : Captured) (policy : Policy) (a : Address) →
+            leaf.now ≡ name_at policy a →
             records bytes self.old (K.written sink.old) policy event (events.Dropped packet.now a ∷ [])
             self.new (K.written sink.new)) }
-        ensures cut { OnErr result ((bytes : Captured) (policy : Policy) (a : Address) → leaf.now ≡ name_at policy a →
+        ensures cut { OnErr result ((bytes : Captured) (policy : Policy) (a : Address) →
+            leaf.now ≡ name_at policy a →
             cuts bytes self.old (K.written sink.old) policy event (events.Dropped packet.now a ∷ []) (K.written sink.new)) }
         ensures kept { KeepsSink K.written K.faults sink.old sink.new }
         ensures cause { OnErr result (Rose (K.faults sink.old) (K.faults sink.new)) }
@@ -102,7 +106,8 @@ pub trait Recorder: Drop {
             departed.now ≡ gone policy p a → leaf.now ≡ name_at policy a →
             records bytes self.old (K.written sink.old) policy event (events.Departed p a ranks.now start ∷ [])
             self.new (K.written sink.new)) }
-        ensures cut { OnErr result ((bytes : Captured) (policy : Policy) (p : Packet) (a : Address) →
+        ensures cut { OnErr result ((bytes : Captured) (policy : Policy) (p : Packet)
+            (a : Address) →
             departed.now ≡ gone policy p a → leaf.now ≡ name_at policy a →
             cuts bytes self.old (K.written sink.old) policy event (events.Departed p a ranks.now start ∷ [])
             (K.written sink.new)) }

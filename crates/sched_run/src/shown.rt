@@ -13,7 +13,8 @@ use tap_core::{Dropped, Tap, Watching};
 pub(crate) fn show_arrival<T: Tap>(watch: &mut Watching<T>, packet: &Packet, arrival: Arrival)
     ensures shown { Shows (shown_arrival packet.now arrival)
         (sight_of T.kind_of T.state_of watch.old) (sight_of T.kind_of T.state_of watch.new) }
-    ensures fewer { AreNoMore (sight_of T.kind_of T.state_of watch.old) (sight_of T.kind_of T.state_of watch.new) }
+    ensures fewer { AreNoMore (sight_of T.kind_of T.state_of watch.old)
+        (sight_of T.kind_of T.state_of watch.new) }
 {
     if let Arrival::Dropped(leaf) = arrival {
         watch.dropped(&Dropped {
@@ -33,7 +34,8 @@ pub(crate) fn show_departure<T: Tap>(
 ) -> Result<(), AllocError>
     ensures shown { OnOk result (Shows (shown_departure departed)
         (sight_of T.kind_of T.state_of watch.old) (sight_of T.kind_of T.state_of watch.new)) }
-    ensures fewer { AreNoMore (sight_of T.kind_of T.state_of watch.old) (sight_of T.kind_of T.state_of watch.new) }
+    ensures fewer { AreNoMore (sight_of T.kind_of T.state_of watch.old)
+        (sight_of T.kind_of T.state_of watch.new) }
 {
     match departed {
         Some(departed) => watch.departed(&departed),

@@ -47,7 +47,8 @@ impl<'a, C: Scheduler + Drop, N: NodeNames, W: Recorder> Run<'a, C, N, W> {
             (sight_of T.kind_of T.state_of watch.old)) self.new.scheduler under.new (K.written sink.new)) }
         ensures came { self.new.tally.came ≡ self.old.tally.came }
         ensures kept { Continues C.Scheduler self.old self.new }
-        ensures fewer { AreNoMore (sight_of T.kind_of T.state_of watch.old) (sight_of T.kind_of T.state_of watch.new) }
+        ensures fewer { AreNoMore (sight_of T.kind_of T.state_of watch.old)
+            (sight_of T.kind_of T.state_of watch.new) }
         ensures kept_sink { KeepsSink K.written K.faults sink.old sink.new }
         ensures cause { IfErr result (λ stop. HasSinkCause stop K.faults sink.old sink.new) }
         ensures live { OnOk result (W.live self.new.recorder) }
@@ -71,7 +72,8 @@ impl<'a, C: Scheduler + Drop, N: NodeNames, W: Recorder> Run<'a, C, N, W> {
         requires set { IsSet C.Scheduler W.Recorder N.policy self.old }
         requires packets { P.policy packets.old ≡ C.policy self.old.scheduler }
         requires ready { P.ready packets.old source.old }
-        requires stands { Stand C.Scheduler self.old under.old (IsReady (P.given packets.old) self.old.tally) }
+        requires stands { Stand C.Scheduler self.old under.old
+            (IsReady (P.given packets.old) self.old.tally) }
         requires counts { HasRoomFor C.Scheduler self.old (P.given packets.old) }
         requires short { asked_by (step_of step) ≤ most_count }
 
@@ -88,10 +90,13 @@ impl<'a, C: Scheduler + Drop, N: NodeNames, W: Recorder> Run<'a, C, N, W> {
             (stage_of self.old under.old (K.written sink.old) (P.given packets.old)
             (sight_of T.kind_of T.state_of watch.old)) self.new.scheduler under.new (K.written sink.new)) }
         ensures kept { Continues C.Scheduler self.old self.new }
-        ensures fewer { AreNoMore (sight_of T.kind_of T.state_of watch.old) (sight_of T.kind_of T.state_of watch.new) }
+        ensures fewer { AreNoMore (sight_of T.kind_of T.state_of watch.old)
+            (sight_of T.kind_of T.state_of watch.new) }
         ensures kept_sink { KeepsSink K.written K.faults sink.old sink.new }
-        ensures kept_packets { KeepsPackets P.Packets packets.old packets.new source.old source.new }
-        ensures cause { IfErr result (λ stop. HasCause stop P.faults source.old source.new K.faults sink.old sink.new) }
+        ensures kept_packets { KeepsPackets P.Packets packets.old packets.new source.old
+            source.new }
+        ensures cause { IfErr result (λ stop. HasCause stop P.faults source.old source.new K.faults
+            sink.old sink.new) }
         ensures further { IfOk result (λ e. IfNone e (
             IsFurther P.Packets packets.old packets.new source.old source.new self.old.tally self.new.tally)) }
         ensures came { self.new.tally.came ≤ most_packets }

@@ -62,7 +62,8 @@ const LATE: Packet = Packet {
 
 /// Whether the root is a leaf with a limit.
 fn is_root_limited(policy: &Policy) -> bool
-    ensures limit { IsFalse result → IsSomeAnd (node_at policy.now.policy.tree []) (λ n. n.limit ≡ None) }
+    ensures limit { IsFalse result → IsSomeAnd (node_at policy.now.policy.tree []) (λ n. n.limit ≡
+        None) }
 {
     policy.limit(0).is_some()
 }
@@ -97,7 +98,8 @@ fn arrive_both<C: Scheduler>(
     requires accepted { IsAccepted policy.now.policy }
     requires policy { C.policy scheduler.old ≡ policy.now.policy }
     requires stands { C.stands scheduler.old under.old (start policy.now.policy) }
-    requires can { CanMake policy.now.policy (Arrive first.now ∷ Arrive second.now ∷ []) (start policy.now.policy) }
+    requires can { CanMake policy.now.policy (Arrive first.now ∷ Arrive second.now ∷ [])
+        (start policy.now.policy) }
     requires unlimited { (p : Known) (s : SourceState) → is_full policy.now.policy p s ≡ false }
     requires room { depth policy.now.policy.tree ≤ trace.old.room }
     requires no_pushes { C.pushes scheduler.old ≡ 0 }
@@ -128,9 +130,11 @@ fn fill<'a, F: Fabric>(
     requires range { IsInRange target.now.arities target.now.above }
     requires no_pushes { F.pushed fabric.old ≡ 0 }
     requires no_pops { F.popped fabric.old ≡ 0 }
-    requires can { CanMake policy.now.policy (Arrive first.now ∷ Arrive second.now ∷ []) (start policy.now.policy) }
+    requires can { CanMake policy.now.policy (Arrive first.now ∷ Arrive second.now ∷ [])
+        (start policy.now.policy) }
     requires plain { IsPlain policy.now.policy.tree }
-    ensures { IfOk result (λ c. IsFilled F.Fabric policy.now.policy target.now first.now second.now c fabric.new) }
+    ensures { IfOk result (λ c. IsFilled F.Fabric policy.now.policy target.now first.now second.now
+        c fabric.new) }
 {
     let map = embed(alloc, policy.topo(), target)?;
     let mut scheduler = Embedded::new(alloc, policy, map, target, fabric)?;
@@ -159,7 +163,8 @@ fn depart_three<C: Scheduler>(
     sink: &mut MemSink,
 ) -> Result<(), Fail>
     requires policy { C.policy scheduler.old ≡ policy.now.policy }
-    requires stands { StandForOne C.stands policy.now.policy scheduler.old under.old (λ _. Unit {0}) }
+    requires stands { StandForOne C.stands policy.now.policy scheduler.old under.old (λ _.
+        Unit {0}) }
     requires no_departures { C.departures scheduler.old ≡ 0 }
 {
     let mut trace = Taken::new(alloc, policy.depth())?;

@@ -2,7 +2,7 @@
 use outside_core::MemShelf;
 use policy_core::{Policy, resolve};
 use policy_text::parse;
-use sched_packets::{CapturePackets, Halt, SingleLinkType, Packets};
+use sched_packets::{CapturePackets, Halt, Packets, SingleLinkType};
 use std::alloc::{AllocError, Global};
 use std::test::Fail;
 

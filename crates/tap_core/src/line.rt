@@ -8,7 +8,8 @@ use text_core::put_decimal;
 
 /// Appends the line of a tap: the name of its kind, and its numbers. The error is want of memory.
 pub fn put_line(into: &mut Vec<u8>, name: &str, numbers: &[u64]) -> Result<(), AllocError>
-    ensures ok { OnOk result (into.new.items ≡ into.old.items ++ line_of (words_of name.now numbers.now)) }
+    ensures ok { OnOk result (into.new.items ≡ into.old.items ++ line_of
+        (words_of name.now numbers.now)) }
     ensures err { OnErr result (into.new.items ≡ into.old.items) }
 {
     let mut line = Vec::from_slice(*into.allocator(), b"tap ")?;

@@ -23,17 +23,21 @@ pub trait Tap: Drop {
     /// Takes notice of a packet that left. Takes no memory.
     fn see(&mut self, departed: &Departed) -> Seen
         ensures kind { kind_of self.new ≡ kind_of self.old }
-        ensures state { state_of self.new ≡ departure_step (kind_of self.old) departed.now (state_of self.old) }
-        ensures done { (result ≡ Seen.Done) ↔ IsTrue (is_full (kind_of self.new) (state_of self.new)) };
+        ensures state { state_of self.new ≡ departure_step (kind_of self.old) departed.now
+            (state_of self.old) }
+        ensures done { (result ≡ Seen.Done) ↔ IsTrue (is_full (kind_of self.new)
+            (state_of self.new)) };
 
     /// Takes notice of a packet that was dropped. Takes no memory.
     fn lose(&mut self, dropped: &Dropped)
         ensures kind { kind_of self.new ≡ kind_of self.old }
-        ensures state { state_of self.new ≡ drop_step (kind_of self.old) dropped.now (state_of self.old) };
+        ensures state { state_of self.new ≡ drop_step (kind_of self.old) dropped.now
+            (state_of self.old) };
 
     /// Appends its line. The error is want of memory.
     fn say(&self, into: &mut Vec<u8>) -> Result<(), AllocError>
-        ensures ok { OnOk result (into.new.items ≡ into.old.items ++ line (kind_of self.now) (state_of self.now)) }
+        ensures ok { OnOk result (into.new.items ≡ into.old.items ++ line (kind_of self.now)
+            (state_of self.now)) }
         ensures err { OnErr result (into.new.items ≡ into.old.items) };
 }
 

@@ -88,7 +88,8 @@ pub fn keep_named<T: Tap>(taps: &mut Vec<T>, named: Named)
 fn show_departure_to<T: Tap>(tap: &mut T, packet: &Departed) -> Seen
     ensures after { entry (T.kind_of tap.new) (T.state_of tap.new)
         ≡ stepped (departed packet.now) (entry (T.kind_of tap.old) (T.state_of tap.old)) }
-    ensures done { (result ≡ Seen.Done) ↔ IsTrue (full (entry (T.kind_of tap.new) (T.state_of tap.new))) }
+    ensures done { (result ≡ Seen.Done) ↔
+        IsTrue (full (entry (T.kind_of tap.new) (T.state_of tap.new))) }
 {
     tap.see(packet)
 }
@@ -103,7 +104,8 @@ fn show_drop_to<T: Tap>(tap: &mut T, packet: &Dropped)
 
 /// Appends the line of a tap.
 fn append_line_of<T: Tap>(tap: &T, into: &mut Vec<u8>) -> Result<(), AllocError>
-    ensures { OnOk result (into.new.items ≡ into.old.items ++ line (T.kind_of tap.now) (T.state_of tap.now)) }
+    ensures { OnOk result (into.new.items ≡ into.old.items ++ line (T.kind_of tap.now)
+        (T.state_of tap.now)) }
 {
     tap.say(into)
 }
@@ -131,7 +133,8 @@ fn empty_slots(alloc: Global, count: usize) -> Result<Vec<Option<Vec<u8>>>, Allo
 #[tactic(auto, using(crate::proofs::SlotLaws::slots_at_first, crate::proofs::SlotLaws::all_waiting))]
 pub fn slots<T: Tap>(alloc: Global, taps: &[T]) -> Result<Vec<Option<Vec<u8>>>, AllocError>
     ensures counted { IfOk result (λ slots. waiting slots.items ≡ length taps.now) }
-    ensures tracked { IfOk result (λ slots. Tracks (entries T.kind_of T.state_of taps.now) slots.items
+    ensures tracked { IfOk result (λ slots. Tracks (entries T.kind_of T.state_of taps.now)
+        slots.items
         (entries T.kind_of T.state_of taps.now)) }
 {
     empty_slots(alloc, taps.len())
@@ -141,7 +144,8 @@ pub fn slots<T: Tap>(alloc: Global, taps: &[T]) -> Result<Vec<Option<Vec<u8>>>, 
 pub fn show_dropped<T: Tap>(taps: &mut [T], packet: &Dropped)
     ensures left { entries T.kind_of T.state_of taps.new
         ≡ left_after_one (dropped packet.now) (entries T.kind_of T.state_of taps.old) }
-    ensures tracked { (all : List Entry) (slots : List Slot) → Tracks all slots (entries T.kind_of T.state_of taps.old)
+    ensures tracked { (all : List Entry) (slots : List Slot) →
+        Tracks all slots (entries T.kind_of T.state_of taps.old)
         → Tracks (map (stepped (dropped packet.now)) all) slots (entries T.kind_of T.state_of taps.new) }
 {
     for tap in taps.iter_mut() {
@@ -157,10 +161,12 @@ pub fn show_departed<T: Tap>(
     taps: &mut Vec<T>,
     packet: &Departed,
 ) -> Result<(), AllocError>
-    ensures left { (all : List Entry) → Tracks all slots.old (entries T.kind_of T.state_of taps.old.items)
+    ensures left { (all : List Entry) → Tracks all slots.old
+        (entries T.kind_of T.state_of taps.old.items)
         → OnOk result (entries T.kind_of T.state_of taps.new.items
         ≡ left_after_one (departed packet.now) (entries T.kind_of T.state_of taps.old.items)) }
-    ensures tracked { (all : List Entry) → Tracks all slots.old (entries T.kind_of T.state_of taps.old.items)
+    ensures tracked { (all : List Entry) → Tracks all slots.old
+        (entries T.kind_of T.state_of taps.old.items)
         → OnOk result (Tracks (map (stepped (departed packet.now)) all) slots.new
         (entries T.kind_of T.state_of taps.new.items)) }
     ensures fewer { vec_len taps.new ≤ vec_len taps.old }

@@ -42,8 +42,10 @@ impl<T: Tap> Watching<T> {
 
     /// Begins to watch. Taps whose kind isn't named are dropped. The error is want of memory.
     pub fn begin(&mut self) -> Result<(), AllocError>
-        ensures begun { OnOk result (Begins (sight_of T.kind_of T.state_of self.old) (sight_of T.kind_of T.state_of self.new)) }
-        ensures fewer { AreNoMore (sight_of T.kind_of T.state_of self.old) (sight_of T.kind_of T.state_of self.new) }
+        ensures begun { OnOk result (Begins (sight_of T.kind_of T.state_of self.old)
+            (sight_of T.kind_of T.state_of self.new)) }
+        ensures fewer { AreNoMore (sight_of T.kind_of T.state_of self.old)
+            (sight_of T.kind_of T.state_of self.new) }
     {
         keep_named(&mut self.taps, self.named);
         self.slots = slots(self.alloc, &self.taps)?;
@@ -55,7 +57,8 @@ impl<T: Tap> Watching<T> {
     pub fn departed(&mut self, packet: &Departed) -> Result<(), AllocError>
         ensures shown { OnOk result (Shows (departed packet.now ∷ [])
             (sight_of T.kind_of T.state_of self.old) (sight_of T.kind_of T.state_of self.new)) }
-        ensures fewer { AreNoMore (sight_of T.kind_of T.state_of self.old) (sight_of T.kind_of T.state_of self.new) }
+        ensures fewer { AreNoMore (sight_of T.kind_of T.state_of self.old)
+            (sight_of T.kind_of T.state_of self.new) }
     {
         show_departed(self.alloc, &mut self.slots, &mut self.taps, packet)
     }
@@ -64,7 +67,8 @@ impl<T: Tap> Watching<T> {
     pub fn dropped(&mut self, packet: &Dropped)
         ensures shown { Shows (dropped packet.now ∷ [])
             (sight_of T.kind_of T.state_of self.old) (sight_of T.kind_of T.state_of self.new) }
-        ensures fewer { AreNoMore (sight_of T.kind_of T.state_of self.old) (sight_of T.kind_of T.state_of self.new) }
+        ensures fewer { AreNoMore (sight_of T.kind_of T.state_of self.old)
+            (sight_of T.kind_of T.state_of self.new) }
     {
         show_dropped(&mut self.taps, packet);
     }

@@ -33,7 +33,8 @@ fn first_arity(arities: &[u32]) -> u32
 /// The numbers of an array that each are from 2 to 64.
 fn arities_of(alloc: Global, items: &[Value]) -> Result<List<u32>, TargetFault>
     ensures ok { IfOk result (AreArities (items_view items.now)) }
-    ensures refused { IfErr result (λ fault. fault ≢ TargetFault.NoMemory → IsArrayFault fault (items_view items.now)) }
+    ensures refused { IfErr result (λ fault. fault ≢ TargetFault.NoMemory →
+        IsArrayFault fault (items_view items.now)) }
 {
     let mut arities = Vec::new(alloc);
     for item in items {
@@ -48,8 +49,10 @@ fn arities_of(alloc: Global, items: &[Value]) -> Result<List<u32>, TargetFault>
 /// The target of a table with the key `arities` alone: an array of at most 16 numbers from 2 to 64.
 fn each_arity(alloc: Global, table: &Table) -> Result<Target, TargetFault>
     requires { keys (table_view table.now) ≡ 1 }
-    ensures accepted { IfOk result (λ target. GivesArities (table_view table.now) target.arities target.above) }
-    ensures refused { IfErr result (λ fault. fault ≢ TargetFault.NoMemory → IsKeyFault fault (table_view table.now)) }
+    ensures accepted { IfOk result (λ target. GivesArities (table_view table.now) target.arities
+        target.above) }
+    ensures refused { IfErr result (λ fault. fault ≢ TargetFault.NoMemory →
+        IsKeyFault fault (table_view table.now)) }
 {
     let items = array_at(table, "arities").ok_or(TargetFault::Key)?;
     if items.len() > MOST_HEIGHT {
@@ -63,8 +66,10 @@ fn each_arity(alloc: Global, table: &Table) -> Result<Target, TargetFault>
 /// The target of a table with the keys `arity`, from 2 to 64, and `height`, from 0 to 16, and no other.
 fn one_arity(alloc: Global, table: &Table) -> Result<Target, TargetFault>
     requires { keys (table_view table.now) ≡ 2 }
-    ensures accepted { IfOk result (λ target. GivesArities (table_view table.now) target.arities target.above) }
-    ensures refused { IfErr result (λ fault. fault ≢ TargetFault.NoMemory → IsKeyFault fault (table_view table.now)) }
+    ensures accepted { IfOk result (λ target. GivesArities (table_view table.now) target.arities
+        target.above) }
+    ensures refused { IfErr result (λ fault. fault ≢ TargetFault.NoMemory →
+        IsKeyFault fault (table_view table.now)) }
 {
     let arity = number_at(table, "arity", LEAST_ARITY, MOST_ARITY).ok_or(TargetFault::Key)?;
     let height = number_at(table, "height", 0, MOST_HEIGHT as u32).ok_or(TargetFault::Key)?;
@@ -77,8 +82,10 @@ fn one_arity(alloc: Global, table: &Table) -> Result<Target, TargetFault>
 
 /// The target that a table gives in one of the two forms.
 pub fn target_of(alloc: Global, table: &Table) -> Result<Target, TargetFault>
-    ensures accepted { IfOk result (λ target. GivesArities (table_view table.now) target.arities target.above) }
-    ensures refused { IfErr result (λ fault. fault ≢ TargetFault.NoMemory → IsKeyFault fault (table_view table.now)) }
+    ensures accepted { IfOk result (λ target. GivesArities (table_view table.now) target.arities
+        target.above) }
+    ensures refused { IfErr result (λ fault. fault ≢ TargetFault.NoMemory →
+        IsKeyFault fault (table_view table.now)) }
 {
     match table.len() {
         1 => each_arity(alloc, table),

@@ -19,7 +19,8 @@ pub const MOST_BYTES: usize = 65_536;
 /// The table that a TOML document is.
 fn table_of(alloc: Global, bytes: &[u8]) -> Result<Table, TargetFault>
     ensures toml { IfOk result (λ table. IsToml bytes.now (table_view table)) }
-    ensures refused { IfErr result (λ fault. fault ≢ TargetFault.NoMemory → IsNoToml fault bytes.now) }
+    ensures refused { IfErr result (λ fault. fault ≢ TargetFault.NoMemory →
+        IsNoToml fault bytes.now) }
 {
     match toml::table_from_slice(alloc, bytes) {
         Ok(table) => Ok(table),
@@ -33,7 +34,8 @@ fn table_of(alloc: Global, bytes: &[u8]) -> Result<Table, TargetFault>
 pub fn read_target(alloc: Global, bytes: &[u8]) -> Result<Target, TargetFault>
     ensures accepted { IfOk result (λ target. IsTargetText bytes.now target.arities target.above) }
     ensures range { IfOk result (λ target. IsInRange target.arities target.above) }
-    ensures refused { IfErr result (λ fault. fault ≢ TargetFault.NoMemory → IsRefused bytes.now (code_of fault)) }
+    ensures refused { IfErr result (λ fault. fault ≢ TargetFault.NoMemory →
+        IsRefused bytes.now (code_of fault)) }
 {
     if bytes.len() > MOST_BYTES {
         return Err(TargetFault::TooLong);

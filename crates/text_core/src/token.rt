@@ -136,7 +136,8 @@ pub fn tokens(alloc: Global, line: &[u8]) -> Result<List<Token>, TokenFault>
     ensures ok { IfOk result (λ ts. Stand line.now 0 ts (length line.now)) }
     ensures within { IfOk result (λ ts. All (StandsIn line.now) ts) }
     ensures bad { (p : ℕ) → result ≡ Err (TokenFault.Bad p) → IsFaultOf line.now p }
-    ensures fault { (p : ℕ) → IsFaultOf line.now p → (result ≡ Err (TokenFault.Bad p)) ⊎ (result ≡ Err TokenFault.NoMemory) }
+    ensures fault { (p : ℕ) → IsFaultOf line.now p → (result ≡ Err (TokenFault.Bad p)) ⊎ (result ≡
+        Err TokenFault.NoMemory) }
 {
     let mut found = List::from_vec(Vec::new(alloc));
     let mut at = blanks(line);

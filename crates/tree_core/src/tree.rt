@@ -150,7 +150,8 @@ impl SourceTree {
         requires leaf { LeadsToLeaf self.old.tree (digits_of steps.now) }
         requires room { HasRoom self.old.spare (digits_of steps.now) }
         requires few { self.old.pushes < 2 ^ 62 }
-        ensures tree { self.new.tree ≡ push self.old.tree (digits_of steps.now) (ranks_of steps.now last) value }
+        ensures tree { self.new.tree ≡ push self.old.tree (digits_of steps.now)
+            (ranks_of steps.now last) value }
         ensures pushes { self.new.pushes ≡ self.old.pushes + 1 }
         ensures spare { self.new.spare ≡ without_places self.old.spare (digits_of steps.now) }
     {

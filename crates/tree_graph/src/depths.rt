@@ -10,7 +10,8 @@ const MOST_LEVELS: u32 = 64;
 pub fn depth(parents: &[u32], root: u32, node: u32) -> Option<u32>
     requires within { node < length parents.now }
     requires in_range { All (λ p. p < length parents.now) parents.now }
-    ensures depth { (g : _) → IsForest g root → AreParents g parents.now → IsDepthOf g root node result }
+    ensures depth { (g : _) → IsForest g root → AreParents g parents.now →
+        IsDepthOf g root node result }
 {
     let mut at = node;
     for depth in 0..MOST_LEVELS + 1 {
@@ -26,7 +27,8 @@ pub fn depth(parents: &[u32], root: u32, node: u32) -> Option<u32>
 pub fn first_deep(parents: &[u32], root: u32) -> Option<u32>
     requires in_range { All (λ p. p < length parents.now) parents.now }
     requires small { length parents.now < 2 ^ 32 }
-    ensures first { (g : _) → IsForest g root → AreParents g parents.now → IsFirst (length parents.now) (IsDeep g root) result }
+    ensures first { (g : _) → IsForest g root → AreParents g parents.now →
+        IsFirst (length parents.now) (IsDeep g root) result }
 {
     for node in 0..parents.len() as u32 {
         if depth(parents, root, node).is_none() {

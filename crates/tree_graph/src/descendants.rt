@@ -24,7 +24,8 @@ pub fn below(alloc: Global, graph: &[Vec<u32>], node: u32) -> Result<Vec<bool>, 
     requires within { node < length graph.now }
     requires in_range { AreInRange (lists graph.now) }
     ensures len { IfOk result (λ m. length m.items ≡ length graph.now) }
-    ensures marks { IfOk result (λ m. (j : ℕ) → IsTrue (is_marked m.items j) ↔ IsBelow (lists graph.now) node j) }
+    ensures marks { IfOk result (λ m. (j : ℕ) → IsTrue (is_marked m.items j) ↔
+        IsBelow (lists graph.now) node j) }
 {
     let mut marks = vec![in alloc; false; graph.len()]?;
     let mut work = Vec::new(alloc);

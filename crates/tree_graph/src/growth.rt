@@ -23,7 +23,8 @@ pub fn grow(
     requires small { length graph.now < 2 ^ 32 }
     requires shallow { IsWithin (lists graph.now) node most_levels (length address.old.items) }
     requires room { HasRoom (lists graph.now) node (length places.old.items) (length graph.now) }
-    ensures grown { IfOk result (λ t. HasGrown (lists graph.now) node address.old.items places.old.items places.new.items (topology t)) }
+    ensures grown { IfOk result (λ t. HasGrown (lists graph.now) node address.old.items
+        places.old.items places.new.items (topology t)) }
     ensures address { OnOk result (address.new.items ≡ address.old.items) }
 {
     let number = places.len();

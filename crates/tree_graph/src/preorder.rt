@@ -42,7 +42,8 @@ impl Preorder {
         requires small { length graph.now < 2 ^ 32 }
         ensures tree { IfOk result (λ p. IsTreeBelow (lists graph.now) root p) }
         ensures count { IfOk result (λ p. length p.rows ≡ length graph.now) }
-        ensures once { IfOk result (λ p. (a : ℕ) → a < length graph.now → times a (nodes_of p.rows) ≡ 1) }
+        ensures once { IfOk result (λ p. (a : ℕ) → a < length graph.now →
+            times a (nodes_of p.rows) ≡ 1) }
     {
         let mut address = Vec::new(alloc);
         let mut places = Vec::new(alloc);
@@ -94,7 +95,8 @@ impl Preorder {
     pub fn is_leaf(&self, number: u32) -> bool
         requires there { number < length self.now.rows }
         ensures childless { IsTrue result ↔ ((row_at self.now.rows number).children ≡ []) }
-        ensures leaf_address { IsTrue result ↔ LeadsToLeaf self.now.topology (row_at self.now.rows number).address }
+        ensures leaf_address { IsTrue result ↔ LeadsToLeaf self.now.topology
+            (row_at self.now.rows number).address }
     {
         self.places[number as usize].children().is_empty()
     }
@@ -106,7 +108,8 @@ impl Preorder {
         ensures child { result ≡ slice_index (row_at self.now.rows number).children digit }
         ensures later { number < result }
         ensures within { result < length self.now.rows }
-        ensures address { (row_at self.now.rows result).address ≡ (row_at self.now.rows number).address ++ digit ∷ [] }
+        ensures address { (row_at self.now.rows result).address ≡
+            (row_at self.now.rows number).address ++ digit ∷ [] }
     {
         self.places[number as usize].children()[digit as usize]
     }

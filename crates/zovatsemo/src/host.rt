@@ -3,11 +3,11 @@ use crate::files::{front_of, tell_unread};
 use crate::output::WriterSink;
 use crate::told::tell;
 use fabric_core::FlatFabric;
-use front_core::{front_caught, front_run};
-use front_core::Catching;
+use front_core::{
+    Asked, Catching, Request, ask, fault_in, file_of, front_caught, front_run, help_of,
+    help_of_all, tell_fault, tell_mistake, tell_status,
+};
 use front_defs::{Command, Options};
-use front_core::{fault_in, file_of, help_of, help_of_all, tell_fault, tell_mistake, tell_status};
-use front_core::{Asked, Request, ask};
 use outside_core::{FileShelf, Sink, StdSink};
 use replay_app::{NO_FORM, refuse, stop_status};
 use report_core::FaultKind;

@@ -82,7 +82,8 @@ fn put_condition(into: &mut Vec<u8>, condition: &Condition) -> Result<(), AllocE
 
 /// Appends ` and` and a condition.
 fn put_also(into: &mut Vec<u8>, condition: &Condition) -> Result<(), AllocError>
-    ensures { OnOk result (into.new.items ≡ into.old.items ++ (codes " and " ++ condition_text condition.now)) }
+    ensures { OnOk result (into.new.items ≡ into.old.items ++
+        (codes " and " ++ condition_text condition.now)) }
 {
     into.extend_from_slice(b" and ")?;
     put_condition(into, condition)

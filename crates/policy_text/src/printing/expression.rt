@@ -59,7 +59,8 @@ fn is_infix(term: &Term) -> bool
 /// Appends an operand of an infix operator, in parentheses where it is such an expression itself.
 #[cycle(print)]
 fn put_operand(into: &mut Vec<u8>, term: &Term) -> Result<(), AllocError>
-    ensures { OnOk result (into.new.items ≡ into.old.items ++ wrapped (is_infix (phrase_of term.now)) (term_text (phrase_of term.now))) }
+    ensures { OnOk result (into.new.items ≡ into.old.items ++ wrapped
+        (is_infix (phrase_of term.now)) (term_text (phrase_of term.now))) }
 {
     if !is_infix(term) {
         return put_term(into, term);
@@ -72,7 +73,8 @@ fn put_operand(into: &mut Vec<u8>, term: &Term) -> Result<(), AllocError>
 /// Appends an argument of a function that isn't its first.
 #[cycle(print)]
 fn put_argument(into: &mut Vec<u8>, term: &Term) -> Result<(), AllocError>
-    ensures { OnOk result (into.new.items ≡ into.old.items ++ (codes ", " ++ term_text (phrase_of term.now))) }
+    ensures { OnOk result (into.new.items ≡ into.old.items ++
+        (codes ", " ++ term_text (phrase_of term.now))) }
 {
     into.extend_from_slice(b", ")?;
     put_term(into, term)

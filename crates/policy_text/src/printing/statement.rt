@@ -48,7 +48,8 @@ fn put_prio(into: &mut Vec<u8>, prio: Option<u32>) -> Result<(), AllocError>
 }
 
 fn put_weight(into: &mut Vec<u8>, weight: Option<u32>) -> Result<(), AllocError>
-    ensures { OnOk result (into.new.items ≡ into.old.items ++ attribute_text attribute.Weight weight) }
+    ensures { OnOk result (into.new.items ≡ into.old.items ++ attribute_text attribute.Weight
+        weight) }
 {
     let Some(weight) = weight else {
         return Ok(());
@@ -59,7 +60,8 @@ fn put_weight(into: &mut Vec<u8>, weight: Option<u32>) -> Result<(), AllocError>
 
 /// The slack in nanoseconds.
 fn put_slack(into: &mut Vec<u8>, slack: Option<u64>) -> Result<(), AllocError>
-    ensures { OnOk result (into.new.items ≡ into.old.items ++ attribute_text attribute.Slack slack) }
+    ensures { OnOk result (into.new.items ≡ into.old.items ++ attribute_text attribute.Slack
+        slack) }
 {
     let Some(slack) = slack else {
         return Ok(());
@@ -96,7 +98,8 @@ fn put_declaration(
     name: &Name,
     span: &Span,
 ) -> Result<(), AllocError>
-    ensures { OnOk result (into.new.items ≡ into.old.items ++ declaration_text keyword.now name.now span.now) }
+    ensures { OnOk result (into.new.items ≡ into.old.items ++ declaration_text keyword.now name.now
+        span.now) }
 {
     into.extend_from_slice(keyword)?;
     put_name(into, name)?;
@@ -110,7 +113,8 @@ fn put_assignment(
     name: &Name,
     value: &Term,
 ) -> Result<(), AllocError>
-    ensures { OnOk result (into.new.items ≡ into.old.items ++ assignment_text keyword.now name.now (phrase_of value.now)) }
+    ensures { OnOk result (into.new.items ≡ into.old.items ++ assignment_text keyword.now name.now
+        (phrase_of value.now)) }
 {
     into.extend_from_slice(keyword)?;
     put_name(into, name)?;
@@ -126,7 +130,8 @@ fn put_vertex(
     used: &Name,
     attrs: &Attrs,
 ) -> Result<(), AllocError>
-    ensures { OnOk result (into.new.items ≡ into.old.items ++ vertex_text keyword.now name.now used.now attrs.now) }
+    ensures { OnOk result (into.new.items ≡ into.old.items ++ vertex_text keyword.now name.now
+        used.now attrs.now) }
 {
     into.extend_from_slice(keyword)?;
     put_name(into, name)?;
@@ -137,7 +142,8 @@ fn put_vertex(
 
 /// Appends the canonical line of a statement, without its end.
 pub fn put_statement(into: &mut Vec<u8>, statement: &Statement) -> Result<(), AllocError>
-    ensures { OnOk result (into.new.items ≡ into.old.items ++ statement_text (sense_of statement.now)) }
+    ensures { OnOk result (into.new.items ≡ into.old.items ++ statement_text
+        (sense_of statement.now)) }
 {
     match statement {
         Statement::Version(version) => {
