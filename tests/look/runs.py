@@ -12,7 +12,7 @@ OFFICE = TOP / "examples/office"
 sys.path.insert(0, str(TOP / "tools"))
 sys.dont_write_bytecode = True
 
-from zovatsemo_look import command  # noqa: E402  (its folder is named just above)
+from zovatsemo_look import command, compare as comparing  # noqa: E402  (their folder is named just above)
 
 # Two leaves under strict priority, voice before web; web has room for two packets, and the link sends a byte a
 # nanosecond. Packets 1 to 4 come at moment 0, 5 and 6 at 50, 7 and 8 at 120, 9 and 10 at 1000.
@@ -40,15 +40,25 @@ end pushed 8 popped 8 empty 0 held 0 unsent 0 dropped 2
 """
 
 
-def look(*words):
-    """What tools/look writes for some words, and its status."""
+def run(main, words):
+    """The status of a command for some arguments, what it writes, and its errors."""
     out, errors = io.StringIO(), io.StringIO()
     with contextlib.redirect_stdout(out), contextlib.redirect_stderr(errors):
         try:
-            status = command.main([str(word) for word in words])
+            status = main([str(word) for word in words])
         except SystemExit as ending:
             status = ending.code
     return status, out.getvalue(), errors.getvalue()
+
+
+def look(*words):
+    """The status of tools/look, what it writes, and its errors."""
+    return run(command.main, words)
+
+
+def compare(*words):
+    """The status of tools/compare, what it writes, and its errors."""
+    return run(comparing.main, words)
 
 
 def write(folder, name, text):

@@ -55,7 +55,7 @@ class Long(unittest.TestCase):
                     self.assertLess(seconds, MOST_SECONDS)
                     self.assertLess(memory, MOST_MEMORY)
                 if words == (report,):
-                    self.assertTrue(written.startswith("2000000 events, 1000000 packets, 1000000 departures"))
+                    self.assertTrue(written.startswith("2,000,000 events, 1,000,000 packets, 1,000,000 departures"))
             self.assertTrue(page.read_bytes().startswith(b"\x89PNG"))
 
 
