@@ -84,7 +84,7 @@ class Verdict(unittest.TestCase):
 
     def test_those_that_hold(self):
         status, lines, errors = self.judge(*HOLDS)
-        self.assertEqual((status, lines[0], errors), (0, "none of %d checks failed" % len(HOLDS), ""))
+        self.assertEqual((status, lines[0], errors), (0, "0 of %d checks failed" % len(HOLDS), ""))
 
     def test_those_that_fail_say_what_was_found(self):
         for text, found in FAILS:

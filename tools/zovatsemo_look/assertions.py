@@ -78,7 +78,7 @@ class Metric:
     def text(self, value, is_relative, study):
         """A value as people read it."""
         if self.kind == DELAY:
-            return units.own_unit(study.is_time, value).text(value)
+            return units.delay_unit(None, study.is_time, value).text(value)
         if self.kind == SHARE or is_relative:
             return exact_or_near(value * 100, 3) + "%"
         if self.kind == THROUGHPUT:
@@ -242,7 +242,7 @@ def verdict_of(assertions, studies, class_numbers):
 def verdict_lines(results):
     """The verdict as people read it, failures first."""
     failed = [result for result in results if not result.holds]
-    lines = ["%s of %s failed" % (len(failed) or "none", plural(len(results), "check"))]
+    lines = ["%d of %s failed" % (len(failed), plural(len(results), "check"))]
     width = max(len(result.text) for result in results)
     for result in failed + [result for result in results if result.holds]:
         where = result.where + ": " if result.where else ""

@@ -46,9 +46,10 @@ class Study:
         """The rows of a table: each leaf by name, and all leaves."""
         return [(name, self.row(name)) for name in chosen] + [(measures.ALL, [one.all for one in self.numbers])]
 
-    def greatest_delay(self):
-        """The greatest delay of all runs; 0 if no packet departed."""
-        return max((numbers.all.percentile(100) or 0 for numbers in self.numbers), default=0)
+    def tails(self):
+        """The positive 99th percentiles of the leaves' delays."""
+        found = (one.percentile(99) for numbers in self.numbers for one in numbers.by_name.values())
+        return [delay for delay in found if delay]
 
     def release(self):
         """Lets go of the packets. What the table shows stays known."""
@@ -63,6 +64,7 @@ class Study:
 
 
 def common_unit(studies, asked):
-    """The unit in which the delays of all studies are shown."""
-    greatest = max(study.greatest_delay() for study in studies)
-    return units.delay_unit(asked, studies[0].is_time, greatest)
+    """The unit in which the delays of all studies are shown: that in which the 99th percentile of each leaf is 0.1 or more,
+    so that a leaf with short delays is seen beside one with long ones."""
+    tails = [delay for study in studies for delay in study.tails()]
+    return units.delay_unit(asked, studies[0].is_time, 10 * min(tails, default=0))

@@ -85,8 +85,8 @@ class DelayUnit:
         return "%s %s" % (self.texts([value])[0], self.name if value != 1 or self.name != EVENTS else "event")
 
 
-def delay_unit(asked, is_time, greatest):
-    """The unit to show delays in: the one that is asked for, or the largest in which the greatest delay is 10 or more."""
+def delay_unit(asked, is_time, value):
+    """The unit to show delays in: the one that is asked for, or the largest in which a value is 1 or more."""
     if not is_time:
         if asked not in (None, AUTO):
             raise LookError("--unit %s: the delays are in events, because the departures have no start times or no "
@@ -94,10 +94,5 @@ def delay_unit(asked, is_time, greatest):
         return DelayUnit(EVENTS)
     if asked in NANOSECONDS:
         return DelayUnit(asked, NANOSECONDS[asked])
-    name = next((name for name in ("s", "ms", "us") if greatest >= 10 * NANOSECONDS[name]), "ns")
+    name = next((name for name in ("s", "ms", "us") if value >= NANOSECONDS[name]), "ns")
     return DelayUnit(name, NANOSECONDS[name])
-
-
-def own_unit(is_time, value):
-    """The unit for one delay alone: the largest in which it is 1 or more."""
-    return delay_unit(None, is_time, 10 * value)
