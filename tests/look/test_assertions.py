@@ -1,6 +1,5 @@
 """The grammar of assertions, exact comparisons, and verdicts on reports. tests/look/test_compare.py has those on runs."""
 import fractions
-import tempfile
 import unittest
 
 import runs
@@ -25,7 +24,8 @@ HOLDS = ("web.min == 50ns", "web.median == 0.1us", "web.p99 == 250 ns", "web.p10
 FAILS = (("web.p99 <= 249ns", "250 ns"), ("web.p99 < 0.25us", "250 ns"), ("web.share >= 63%", "about 62.963%"),
          ("all.share < 100%", "100%"), ("web.drops == 0", "2 packets"), ("web.drops <= 33%", "about 33.333%"),
          ("voice.drops != 0", "0 packets"), ("all.throughput >= 4Gbit", "about 3.963 Gbit/s"))
-MALFORMED = (("web.p99", "doesn't read NAME.METRIC OP VALUE"), ("p99 <= 2ms", "doesn't read"), ("web.p99 =< 2ms", "doesn't read"),
+MALFORMED = (("web.p99", "doesn't read NAME.METRIC OP VALUE"), ("p99 <= 2ms", "doesn't read"),
+             ("web.p99 =< 2ms", "doesn't read"),
              ("web.p99 <= ", "doesn't read"), ("", "doesn't read"), ("web.p101 <= 2ms", "there is no metric 'p101'"),
              ("web.p99ms <= 2ms", "doesn't read"), ("web.speed <= 2ms", "there is no metric 'speed'"),
              ("web.p99 <= 2", "p99 needs a unit: ns, us, ms, s or events"), ("web.p99 <= 2m", "p99 has no unit 'm'"),
@@ -66,14 +66,8 @@ class Grammar(unittest.TestCase):
         self.assertEqual(units.decimal(fractions.Fraction(1234567, 1000), 1), "1,234.6")
 
 
-class Verdict(unittest.TestCase):
+class Verdict(runs.Case):
     """Assertions on the run of a link that was worked out by hand, and on one that counts events."""
-
-    def setUp(self):
-        folder = tempfile.TemporaryDirectory()
-        self.addCleanup(folder.cleanup)
-        self.folder = folder.name
-        self.report, self.capture = runs.write_link_run(self.folder)
 
     def judge(self, *texts, report=None, words=()):
         """The status, the verdict's lines and the errors for some assertions."""
@@ -103,7 +97,7 @@ class Verdict(unittest.TestCase):
                 self.assertIn(said, errors)
 
     def test_what_is_not_known_is_an_error(self):
-        report = runs.write(self.folder, "events", EVENTS_REPORT)
+        report = self.write("events", EVENTS_REPORT)
         for text, said in (("one.share > 1%", "share needs the capture"), ("one.bytes > 1", "bytes needs the capture"),
                            ("one.throughput > 1bit", "needs the capture"), ("one.p99 < 1ms", "are in events")):
             with self.subTest(text):
@@ -114,13 +108,13 @@ class Verdict(unittest.TestCase):
         self.assertEqual((status, errors.count("rate by --rate")), (2, 1))
 
     def test_delays_in_events(self):
-        report = runs.write(self.folder, "events", EVENTS_REPORT)
+        report = self.write("events", EVENTS_REPORT)
         status, lines, _ = self.judge("one.max <= 5 events", "one.min == 3events", "one.max < 5 events", report=report)
         self.assertEqual((status, lines[0]), (1, "1 of 3 checks failed"))
         self.assertEqual(lines[1].split(None, 1), ["FAILED", "one.max < 5 events   5 events"])
 
     def test_a_leaf_without_packets_fails_on_its_delay(self):
-        policy = runs.write(self.folder, "policy", "policy 1\nclass a\nleaf web using fifo classes a\n"
+        policy = self.write("policy", "policy 1\nclass a\nleaf web using fifo classes a\n"
                             "leaf voice using fifo classes b\nleaf idle using fifo classes c d\n")
         words = ("--policy", policy)
         status, lines, _ = self.judge("idle.p99 <= 1s", "idle.drops == 0", "idle.share == 0%", words=words)
@@ -132,14 +126,14 @@ class Verdict(unittest.TestCase):
 
     def test_a_run_that_is_not_whole_gets_no_verdict(self):
         for end in ("", "fault capture 6 9\n"):
-            report = runs.write(self.folder, "cut", EVENTS_REPORT.replace(EVENTS_REPORT.splitlines()[-1] + "\n", end))
+            report = self.write("cut", EVENTS_REPORT.replace(EVENTS_REPORT.splitlines()[-1] + "\n", end))
             status, lines, errors = self.judge("one.drops == 1", report=report)
             self.assertEqual((status, lines), (2, []))
             self.assertIn("nothing can be asserted of a run that isn't whole", errors)
 
     def test_runs_against_each_other(self):
-        slower = runs.write(self.folder, "events", EVENTS_REPORT)
-        faster = runs.write(self.folder, "other", EVENTS_REPORT.replace("d 5 1", "d 5 3").replace("d 6 3", "d 6 1"))
+        slower = self.write("events", EVENTS_REPORT)
+        faster = self.write("other", EVENTS_REPORT.replace("d 5 1", "d 5 3").replace("d 6 3", "d 6 1"))
         words = ("--against", faster)
         status, lines, _ = self.judge("A:one.min <= B:one.max", "one.max == 5 events", report=slower, words=words)
         self.assertEqual((status, len(lines)), (0, 4))

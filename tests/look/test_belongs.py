@@ -1,7 +1,5 @@
 """Reports and captures that don't belong together, and files that are of another kind: rejected before anything is shown."""
-import pathlib
 import struct
-import tempfile
 import unittest
 
 import runs
@@ -17,20 +15,8 @@ def classic(*packets):
     return struct.pack("<IHHiIII", 0xA1B23C4D, 2, 4, 0, 0, 0, 1) + b"".join(records)
 
 
-class Belongs(unittest.TestCase):
+class Belongs(runs.Case):
     """What tools/look says of files that don't belong together."""
-
-    def setUp(self):
-        folder = tempfile.TemporaryDirectory()
-        self.addCleanup(folder.cleanup)
-        self.folder = pathlib.Path(folder.name)
-        self.report, self.capture = runs.write_link_run(folder.name)
-
-    def write(self, name, data):
-        """A file with bytes."""
-        path = self.folder / name
-        path.write_bytes(data)
-        return path
 
     def assert_rejected(self, said, *words):
         status, written, errors = runs.look(*words)
@@ -44,9 +30,9 @@ class Belongs(unittest.TestCase):
     def test_a_cut_report_has_at_most_the_packets_of_the_other(self):
         lines = runs.LINK_REPORT.splitlines(True)
         for kept, status in ((6, 2), (len(lines) - 1, 2)):
-            cut = runs.write(self.folder, "cut", "".join(lines[:kept]))
+            cut = self.write("cut", "".join(lines[:kept]))
             self.assertEqual(runs.look(cut, "--against", self.report)[0::2], (status, ""))
-        more = runs.write(self.folder, "more", "".join("a %d %d one 0\n" % (at, at) for at in range(1, 12)))
+        more = self.write("more", "".join("a %d %d one 0\n" % (at, at) for at in range(1, 12)))
         self.assert_rejected("of different captures", more, "--against", self.report)
 
     def test_timestamps_that_do_not_fit_the_events(self):
@@ -77,7 +63,7 @@ class Belongs(unittest.TestCase):
     def test_rates_are_found_from_starts(self):
         path = self.write("two", classic((0, 1000), (0, 1000)))
         for gap, least, most in ((1000, 10 ** 9, 1001001001), (1, 10 ** 12, 10 ** 12), (3, 333333333334, 499999999999)):
-            run = sources.read_run(str(runs.write(self.folder, "busy", BUSY % gap)))
+            run = sources.read_run(str(self.write("busy", BUSY % gap)))
             with open(path, "rb") as stream:
                 pace = belongs.Pace(capture.read_capture(stream, 2, progress.Progress("two", stream)), run)
             self.assertEqual((pace.least, pace.most), (least, most))
@@ -85,8 +71,9 @@ class Belongs(unittest.TestCase):
     def test_bytes_of_taps(self):
         path = self.write("two", classic((0, 1000), (0, 70)))
         for tap, said in (("tap bytes 1 1000", None), ("tap drops 1 70", None),
-                          ("tap bytes 1 999", "would say 1000 bytes, and it says 999"), ("tap drops 1 7", "would say 70 bytes")):
-            report = runs.write(self.folder, "tapped", TAPPED % tap)
+                          ("tap bytes 1 999", "would say 1000 bytes, and it says 999"),
+                          ("tap drops 1 7", "would say 70 bytes")):
+            report = self.write("tapped", TAPPED % tap)
             with self.subTest(tap):
                 if said:
                     self.assert_rejected(said, report, "--capture", path)
@@ -94,8 +81,9 @@ class Belongs(unittest.TestCase):
                     self.assertEqual(runs.look(report, "--capture", path)[0], 0)
 
     def test_a_policy_without_the_leaf(self):
-        policy = runs.write(self.folder, "policy", "policy 1\nclass a\nleaf web using fifo classes a\n")
-        self.assert_rejected("has packets at the leaf voice, and its policy has no such leaf", self.report, "--policy", policy)
+        policy = self.write("policy", "policy 1\nclass a\nleaf web using fifo classes a\n")
+        self.assert_rejected("has packets at the leaf voice, and its policy has no such leaf", self.report, "--policy",
+                             policy)
 
     def test_files_of_another_kind(self):
         for name, data, said in (("text", b"hello\n", "it isn't a report: line 1: this is no line of a report"),

@@ -3,9 +3,7 @@ checkout; the numbers of examples/uplink are those of the README, and the classe
 import csv
 import io
 import json
-import pathlib
 import subprocess
-import tempfile
 import unittest
 
 import runs
@@ -23,13 +21,8 @@ node root using strict children web rest
 """
 
 
-class Compare(unittest.TestCase):
+class Compare(runs.Case):
     """What tools/compare writes, and its status."""
-
-    def setUp(self):
-        folder = tempfile.TemporaryDirectory()
-        self.addCleanup(folder.cleanup)
-        self.folder = pathlib.Path(folder.name)
 
     def test_two_policies(self):
         status, written, errors = runs.compare(STRICT, FIRST, *WORDS)
@@ -83,9 +76,9 @@ class Compare(unittest.TestCase):
         status, written, _ = runs.compare(STRICT, FIRST, *words, "--csv")
         rows = list(csv.DictReader(io.StringIO(written)))
         self.assertEqual((status, len(rows)), (0, 16))
-        row = next(row for row in rows if (row["run"], row["rate_bytes_per_second"], row["leaf"]) == ("B", "1250000", "voice"))
-        self.assertEqual([row[key] for key in ("arrived", "p99", "delay_unit", "share_percent", "throughput_bits_per_second")],
-                         ["24", "146760000", "ns", "1.440144", "144014.401"])
+        row = next(row for row in rows if row["run"] == "B" and row["leaf"] == "voice" and row["median"] == "87160000")
+        keys = ("rate_bytes_per_second", "arrived", "p99", "delay_unit", "share_percent", "throughput_bits_per_second")
+        self.assertEqual([row[key] for key in keys], ["1250000", "24", "146760000", "ns", "1.440144", "144014.401"])
         status, written, _ = runs.compare(STRICT, FIRST, *words, "--json", "--assert", "B:voice.p99 <= 2ms")
         found = json.loads(written)
         self.assertEqual((status, len(found["runs"]), len(found["assertions"])), (1, 4, 2))
@@ -99,7 +92,7 @@ class Compare(unittest.TestCase):
         self.assertRegex(written.splitlines()[0], r", 0 packets unsent, \d+ spills?$")
 
     def test_classes_that_share_a_leaf(self):
-        policy = runs.write(self.folder, "policy", SHARED)
+        policy = self.write("policy", SHARED)
         text = ("small.arrived == 24", "medium.arrived == 120", "large.arrived == 123", "rest.arrived == 144",
                 "small.bytes == 4800", "medium.bytes == 144000", "small.backlog <= 24", "medium.backlog <= 120",
                 "small.max <= 300ms", "medium.drops == 0%")
@@ -108,11 +101,11 @@ class Compare(unittest.TestCase):
         status, written, errors = runs.compare(policy, *WORDS, "--assert", "tiny.p99 < 1s")
         self.assertEqual((status, written), (2, ""))
         self.assertIn("no leaf or class 'tiny'; its leaves are rest, web, all", errors)
-        other = runs.write(self.folder, "other", SHARED.replace("leaf web", "leaf small").replace("children web", "children small"))
+        other = self.write("other", SHARED.replace("leaf web", "leaf small").replace("children web", "children small"))
         self.assertIn("small names two things", runs.compare(other, *WORDS, "--assert", "small.drops == 0")[2])
 
     def test_a_leaf_without_packets(self):
-        policy = runs.write(self.folder, "policy", SHARED.replace("len 0..300", "len 0..3").replace(
+        policy = self.write("policy", SHARED.replace("len 0..300", "len 0..3").replace(
             "classes small medium", "classes medium").replace("leaf web", "leaf tiny using fifo classes small\nleaf web")
             .replace("children web", "children tiny web"))
         status, written, _ = runs.compare(policy, *WORDS, "--assert", "tiny.p99 <= 1s", "--assert", "small.drops == 0")
@@ -122,13 +115,8 @@ class Compare(unittest.TestCase):
         self.assertIn("FAILED  tiny.p99 <= 1s    10 Mbit/s: no packet departed", written)
 
 
-class Rejected(unittest.TestCase):
+class Rejected(runs.Case):
     """Each mistake has one line that names the file, the position and the cause, and status 2."""
-
-    def setUp(self):
-        folder = tempfile.TemporaryDirectory()
-        self.addCleanup(folder.cleanup)
-        self.folder = pathlib.Path(folder.name)
 
     def assert_rejected(self, said, *words):
         status, written, errors = runs.compare(*words)
@@ -141,7 +129,8 @@ class Rejected(unittest.TestCase):
         self.assert_rejected("'10Mb' is no rate", STRICT, *WORDS[:-1], "10Mb")
         self.assert_rejected("names a rate twice", STRICT, *WORDS[:-1], "1Mbit,125000")
         self.assert_rejected("a picture shows one rate", STRICT, *WORDS[:-1], "1Mbit,2Mbit", "--out", "x.svg")
-        self.assert_rejected("there is no leaf 'nobody'; the leaves are: voice, web, backup", STRICT, *WORDS, "--leaf", "nobody")
+        self.assert_rejected("there is no leaf 'nobody'; the leaves are: voice, web, backup", STRICT, *WORDS, "--leaf",
+                             "nobody")
         self.assert_rejected("not allowed with argument", STRICT, *WORDS, "--csv", "--json")
 
     def test_files(self):
@@ -151,17 +140,17 @@ class Rejected(unittest.TestCase):
         self.assert_rejected("there is no folder /no", STRICT, *WORDS, "--out", "/no/x.html")
 
     def test_what_the_program_rejects(self):
-        policy = runs.write(self.folder, "policy", STRICT.read_text().replace("using strict", "using drr"))
+        policy = self.write("policy", STRICT.read_text().replace("using strict", "using drr"))
         self.assert_rejected("%s, line 9: what is used is declared" % policy, policy, *WORDS)
-        target = runs.write(self.folder, "target", "arity = 2\nheight = 0\n")
+        target = self.write("target", "arity = 2\nheight = 0\n")
         self.assert_rejected("%s: " % target, STRICT, "--target", target, *WORDS[2:])
         capture = self.folder / "capture"
         capture.write_bytes((UPLINK / "capture").read_bytes()[:1000])
         self.assert_rejected("%s, record or block 17: " % capture, STRICT, *WORDS[:3], capture, *WORDS[4:])
 
     def test_a_missing_leaf_of_one_policy(self):
-        other = runs.write(self.folder, "one", "policy 1\nclass all\nleaf root using fifo classes all\n")
-        queue = runs.write(self.folder, "queue", "arities = []\n")
+        other = self.write("one", "policy 1\nclass all\nleaf root using fifo classes all\n")
+        queue = self.write("queue", "arities = []\n")
         self.assert_rejected("one has no leaf or class 'voice'; its leaves are root, all", other, "--target", queue,
                              *WORDS[2:], "--assert", "voice.p99 < 1s")
 

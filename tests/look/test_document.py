@@ -63,14 +63,11 @@ def row_of(page, *begin):
     return next(row for row in page.rows if row[:len(begin)] == list(begin))
 
 
-class Document(unittest.TestCase):
+class Document(runs.Case):
     """What is in the page."""
 
     def setUp(self):
-        folder = tempfile.TemporaryDirectory()
-        self.addCleanup(folder.cleanup)
-        self.folder = pathlib.Path(folder.name)
-        self.report, self.capture = runs.write_link_run(folder.name)
+        super().setUp()
         self.out = self.folder / "run.html"
 
     def page(self, *words):

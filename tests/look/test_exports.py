@@ -2,8 +2,6 @@
 import csv
 import io
 import json
-import pathlib
-import tempfile
 import types
 import unittest
 
@@ -19,14 +17,8 @@ leaf web using fifo classes c
 """
 
 
-class Exports(unittest.TestCase):
+class Exports(runs.Case):
     """What tools/look writes with --csv, --json, --unit and --policy."""
-
-    def setUp(self):
-        folder = tempfile.TemporaryDirectory()
-        self.addCleanup(folder.cleanup)
-        self.folder = pathlib.Path(folder.name)
-        self.report, self.capture = runs.write_link_run(folder.name)
 
     def look(self, *words, status=0):
         """What is written for the run of a link."""
@@ -38,8 +30,9 @@ class Exports(unittest.TestCase):
         rows = list(csv.DictReader(io.StringIO(self.look("--csv"))))
         self.assertEqual([row["leaf"] for row in rows], ["web", "voice", "all leaves"])
         self.assertEqual(rows[0], {
-            "run": "A", "input": str(self.report), "rate_bytes_per_second": "", "leaf": "web", "arrived": "6", "departed": "4",
-            "drops": "2", "queued": "0", "bytes": "340", "share_percent": "62.962963", "throughput_bits_per_second": "",
+            "run": "A", "input": str(self.report), "rate_bytes_per_second": "", "leaf": "web", "arrived": "6",
+            "departed": "4", "drops": "2", "queued": "0", "bytes": "340", "share_percent": "62.962963",
+            "throughput_bits_per_second": "",
             "delay_unit": "ns", "min": "50", "median": "100", "p95": "250", "p99": "250", "max": "250", "backlog": "2",
             "overtaken": "3"})
 
@@ -78,10 +71,10 @@ class Exports(unittest.TestCase):
     def test_thousands_are_separated(self):
         self.assertIn(" 4,500 ", runs.look(runs.OFFICE / "report", "--capture", runs.OFFICE / "capture")[1])
         text = "a 1 1 one 0\nend pushed 1 popped 0 empty 0 held 1 unsent 1234567\n"
-        self.assertIn(", 1,234,567 packets unsent", runs.look(runs.write(self.folder, "r", text))[1])
+        self.assertIn(", 1,234,567 packets unsent", runs.look(self.write("r", text))[1])
 
     def test_leaves_without_packets(self):
-        policy = runs.write(self.folder, "policy", POLICY)
+        policy = self.write("policy", POLICY)
         lines = self.look("--policy", policy).splitlines()
         self.assertEqual([line.split()[0] for line in lines[4:]], ["voice", "idle", "web", "all"])
         self.assertEqual(lines[5].split(), "idle 0 0 0 0 0 0.0% - - - - - 0 0".split())
@@ -97,8 +90,8 @@ class Exports(unittest.TestCase):
                           ("spills 4\nspills 4\n", "broken at line 5: a second line of spills"),
                           ("spills 4 5\n", "broken at line 4: a line after the end of the run")):
             with self.subTest(end):
-                self.assertIn(said, runs.look(runs.write(self.folder, "r", text + end))[1])
-        self.assertIn("it isn't a report: line 1", runs.look(runs.write(self.folder, "r", "spills 4\n"))[2])
+                self.assertIn(said, runs.look(self.write("r", text + end))[1])
+        self.assertIn("it isn't a report: line 1", runs.look(self.write("r", "spills 4\n"))[2])
 
 
 if __name__ == "__main__":

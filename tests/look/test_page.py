@@ -125,7 +125,8 @@ class Page(unittest.TestCase):
 
     def test_a_held_packet_ends_with_its_own_run(self):
         short = "a 1 1 one 0\na 2 2 one 0\nd 3 2 one 0\nend pushed 2 popped 1 empty 0 held 1 unsent 0\n"
-        long = "a 1 1 one 0\na 2 2 one 0\nd 3 2 one 0\nd 4 1 one 0\ne 5\ne 6\nend pushed 2 popped 2 empty 2 held 0 unsent 0\n"
+        end = "d 4 1 one 0\ne 5\ne 6\nend pushed 2 popped 2 empty 2 held 0 unsent 0\n"
+        long = "a 1 1 one 0\na 2 2 one 0\nd 3 2 one 0\n" + end
         page = drawn(self.folder, runs.write(self.folder, "report", short), "--against", runs.write(self.folder, "b", long))
         self.assertAlmostEqual(width(page, 1) / width(page, 2), 2, delta=0.01)
         self.assertIn("hatched: queued at the end", legend(page))
@@ -141,8 +142,8 @@ class Page(unittest.TestCase):
         page = drawn(self.folder, runs.write(self.folder, "report", long_report(3001)))
         self.assertEqual(bars(page, r"packet-(\d+)"), [])
         self.assertEqual(images(page), ["density-one"])
-        self.assertIn("every packet counts: the darker a spot, the more packets (logarithmic); each lane reaches up to 1 events",
-                      words(page))
+        self.assertIn("every packet counts: the darker a spot, the more packets (logarithmic); each lane reaches up to 1 "
+                      "events", words(page))
 
     def test_many_drops_are_a_density_too(self):
         lines = "".join("x %d %d one\n" % (at, at) for at in range(1, 6002))

@@ -1,5 +1,4 @@
 """Single pictures: their sizes, formats, axes and scales; throughput and densities against numbers worked out by hand."""
-import pathlib
 import struct
 import tempfile
 import unittest
@@ -19,14 +18,8 @@ def full_report(packets):
     return "".join(lines) + "end pushed %d popped %d empty 0 held 0 unsent 0\n" % (packets, packets)
 
 
-class Panels(unittest.TestCase):
+class Panels(runs.Case):
     """What tools/look draws with --panel and its companions."""
-
-    def setUp(self):
-        folder = tempfile.TemporaryDirectory()
-        self.addCleanup(folder.cleanup)
-        self.folder = pathlib.Path(folder.name)
-        self.report, self.capture = runs.write_link_run(folder.name)
 
     def draw(self, name, *words):
         """The bytes of a picture of the run of a link."""
@@ -65,7 +58,7 @@ class Panels(unittest.TestCase):
 
     def test_no_bar_is_paler_than_another(self):
         from matplotlib import image
-        report = runs.write(self.folder, "full", full_report(50))
+        report = self.write("full", full_report(50))
         for dpi in (110, 150, 300):
             out = self.folder / "p.png"
             self.assertEqual(runs.look(report, "--out", out, "--panel", "packets", "--dpi", dpi)[0], 0)
@@ -77,7 +70,7 @@ class Panels(unittest.TestCase):
 
     def test_queued_packets_are_hatched(self):
         text = "a 1 1 one 0\nend pushed 1 popped 0 empty 0 held 1 unsent 0\n"
-        drawn = test_page.drawn(self.folder, runs.write(self.folder, "queued", text))
+        drawn = test_page.drawn(self.folder, self.write("queued", text))
         self.assertIn("url(#", test_page.style_of(drawn, test_page.bar_of(drawn, 1)))
         self.assertIn("hatched: queued at the end", test_page.legend(drawn))
 
@@ -89,18 +82,18 @@ class Panels(unittest.TestCase):
         self.assertEqual(self.words("--panel", "delay", "--cdf", "--leaf", "voice").count("web"), 0)
 
     def test_lanes_have_one_scale_or_their_own(self):
-        self.assertIn("all lanes have one scale; the greatest of each is at the right", self.words("--panel", "backlog"))
-        self.assertIn("each lane has its own scale; the greatest of each is at the right",
+        self.assertIn("all lanes have one scale; the maximum of each is at the right", self.words("--panel", "backlog"))
+        self.assertIn("each lane has its own scale; the maximum of each is at the right",
                       self.words("--panel", "backlog", "--own-scale"))
         shared, own = (self.draw("p.svg", "--panel", "backlog", *words) for words in ((), ("--own-scale",)))
         self.assertNotEqual(shared, own)
 
     def test_notes_are_at_their_pictures(self):
         lines = "".join("a %d %d one 0\n" % (at, at) for at in range(1, 1502))
-        report = runs.write(self.folder, "many", lines + "end pushed 1501 popped 0 empty 0 held 1501 unsent 0\n")
+        report = self.write("many", lines + "end pushed 1501 popped 0 empty 0 held 1501 unsent 0\n")
         drawn = test_page.drawn(self.folder, report)
         words = [word for word in test_page.words(drawn) if word]
-        self.assertIn("of more than 1,000 steps, each drawn one is the greatest of a stretch",
+        self.assertIn("of more than 1,000 steps, each drawn one is the maximum of a stretch",
                       "\n".join(words[words.index("Backlog: packets queued at each leaf"):][:3]))
 
     def test_what_does_not_go_together(self):

@@ -1,10 +1,8 @@
 """Faults of files, names and streams: each ends with status 2 and one line, and never with a traceback."""
 import os
-import pathlib
 import resource
 import struct
 import subprocess
-import tempfile
 import unittest
 import xml.etree.ElementTree
 
@@ -22,13 +20,8 @@ def limited():
     resource.setrlimit(resource.RLIMIT_AS, (10 ** 9, 10 ** 9))
 
 
-class Streams(unittest.TestCase):
+class Streams(runs.Case):
     """Commands that are run as processes of their own."""
-
-    def setUp(self):
-        folder = tempfile.TemporaryDirectory()
-        self.addCleanup(folder.cleanup)
-        self.folder = pathlib.Path(folder.name)
 
     def run_shell(self, text, *words):
         """The status of a shell's command with some arguments, what it writes, and its errors."""
@@ -36,12 +29,6 @@ class Streams(unittest.TestCase):
                               stderr=subprocess.PIPE, preexec_fn=limited, timeout=60)
         self.assertNotIn(b"Traceback", done.stderr)
         return done.returncode, done.stdout.decode("utf-8", "replace"), done.stderr.decode("utf-8", "replace")
-
-    def write(self, name, data):
-        """A file with bytes or a text."""
-        path = self.folder / name
-        path.write_bytes(data if isinstance(data, bytes) else data.encode())
-        return path
 
     def test_a_record_that_claims_gigabytes(self):
         report = self.write("report", ONE % ("one", 0))
@@ -65,7 +52,8 @@ class Streams(unittest.TestCase):
         for data, said in ((section + interface + packet, "block 3 claims more captured bytes than it has"),
                            (section + struct.pack("<II", 6, 0xFFFFFFF0), "block 2 claims a length of 4,294,967,280 bytes"),
                            (section + interface[:-2], "block 2 is cut, or its two lengths differ"),
-                           (section + packet.replace(b"\xf0\xff\xff\xff", bytes(4)), "block 2 is too short, or names an unknown interface")):
+                           (section + packet.replace(b"\xf0\xff\xff\xff", bytes(4)),
+                            "block 2 is too short, or names an unknown interface")):
             with self.subTest(said):
                 _, _, errors = self.run_shell('"$@"', LOOK, report, "--capture", self.write("capture", data))
                 self.assertIn("it has 0 whole packets (%s), and" % said, errors)
@@ -112,7 +100,8 @@ class Streams(unittest.TestCase):
         for text, status, said in (('"$@" - <&-', 2, "look: standard input is closed, so there is no report to read\n"),
                                    ('"$@" report >&-', 2, "look: standard output is closed\n"),
                                    ('"$@" report >/dev/full', 2, "look: standard output: No space left on device\n"),
-                                   ('{ sleep 0.5; "$@" report; } | :; exit ${PIPESTATUS[0]}', 2, "look: standard output: Broken pipe\n"),
+                                   ('{ sleep 0.5; "$@" report; } | :; exit ${PIPESTATUS[0]}', 2,
+                                    "look: standard output: Broken pipe\n"),
                                    ('"$@" report <&- 2>&-', 0, ""), ('"$@" report <&- >&- 2>&-', 2, ""),
                                    ('"$@" nothing 2>&-', 2, ""), ('"$@" --nothing 2>&-', 2, ""),
                                    ('"$@" report --out p.svg <&- >&-', 0, "")):
@@ -128,7 +117,8 @@ class Streams(unittest.TestCase):
                            ((runs.OFFICE / "capture.pcapng").read_bytes(), "it is pcapng already"),
                            (whole[:20], "it has fewer than 24 bytes"), (whole[:30], "record 1 is cut"),
                            (whole[:-1], "record 8 claims 42 captured bytes, and is cut"),
-                           (HEAD + struct.pack("<IIII", 1, 0, 0xFFFFFFFF, 60), "record 1 claims 4,294,967,295 captured bytes, and at most 262,144 are possible")):
+                           (HEAD + struct.pack("<IIII", 1, 0, 0xFFFFFFFF, 60),
+                            "record 1 claims 4,294,967,295 captured bytes, and at most 262,144 are possible")):
             path = self.write("given", data)
             status, _, errors = self.run_shell('"$@"', MAKE, "made", "--of", path)
             with self.subTest(said):

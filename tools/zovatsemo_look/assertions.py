@@ -26,7 +26,7 @@ METRICS = "min, median, max, pN (a percentile from p0 to p100), share, drops, ba
 GRAMMAR = """assertions:
   NAME.METRIC OP VALUE [UNIT]     voice.p99 <= 2ms    web.share >= 30%    web.drops == 0
   NAME is a leaf or a class of the policy, or `all`. With two runs, A:NAME or B:NAME is that of one run, and a
-  name without A: or B: stands for both. OP is one of <= >= < > == !=. VALUE may be B:NAME.METRIC of the other run.
+  name without A: or B: applies to both. OP is one of <= >= < > == !=. VALUE may be B:NAME.METRIC of the other run.
   METRIC      UNIT                          value
   min, median, max, pN
               ns, us, ms, s, or events      delay; a percentile by nearest rank, such as p99 or p99.9
@@ -137,7 +137,8 @@ class Assertion:
         elif kind == THROUGHPUT:
             scale = units.bits_of(unit)
         else:
-            scale = 1 if unit in ("", *(("bytes", "B") if self.metric.word == "bytes" else ("packets", "packet"))) else None
+            known = ("", "bytes", "B") if self.metric.word == "bytes" else ("", "packets", "packet")
+            scale = 1 if unit in known else None
         if scale is None:
             raise LookError("%s has no unit %s" % (self.metric.word, ascii(unit)) if unit else
                             "%s needs a unit: %s" % (self.metric.word, UNITS_OF[kind]))
@@ -246,7 +247,8 @@ def verdict_lines(results):
     width = max(len(result.text) for result in results)
     for result in failed + [result for result in results if result.holds]:
         where = result.where + ": " if result.where else ""
-        lines.append("%s  %s  %s%s" % ("holds " if result.holds else "FAILED", result.text.ljust(width), where, result.said))
+        word = "holds " if result.holds else "FAILED"
+        lines.append("%s  %s  %s%s" % (word, result.text.ljust(width), where, result.said))
     return lines
 
 

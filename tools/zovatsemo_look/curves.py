@@ -82,7 +82,8 @@ class Throughput:
             pace = belongs.check_rate(page.capture, run, name, page.study.rate)
             rate = page.study.rate or (pace.least if pace.is_tight else None)
             self.sending.append(10 ** 9 / rate / page.scale.divisor if rate else 0)
-            self.ends.append(page.scale.place(run.starts[-1]) + page.capture.lengths[run.order[-1] - 1] * self.sending[-1])
+            last = page.capture.lengths[run.order[-1] - 1] * self.sending[-1]
+            self.ends.append(page.scale.place(run.starts[-1]) + last)
         self.window = round_step(max(*self.ends, page.scale.end) or 1, MOST_WINDOWS)
 
     def title(self):
@@ -91,8 +92,8 @@ class Throughput:
 
     def details(self):
         """How to read it."""
-        found = ["averages over windows of %g %s" % (self.window, self.page.scale.unit)]
-        return found + (["dotted: the link's rate, %s" % units.rate_name(self.page.study.rate)] if self.page.study.rate else [])
+        found, rate = ["averages over windows of %g %s" % (self.window, self.page.scale.unit)], self.page.study.rate
+        return found + (["dotted: the link's rate, %s" % units.rate_name(rate)] if rate else [])
 
     def height(self):
         """Inches."""

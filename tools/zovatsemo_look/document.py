@@ -176,7 +176,7 @@ def write(given, studies, chosen, results, inputs, commands, parts=None):
     parts = parts or [part_of(given, study, chosen, at) for at, study in enumerate(studies)]
     unit = common_unit(studies, given.unit)
     words, names = table.grid(studies, chosen, unit)
-    head = table.head_lines(studies, unit)
+    head = table.head_lines(studies, unit, has_summaries=False)
     body = [verdict_of(results), "<h2>Numbers</h2>", paragraphs(head), table_of(words, names), FIND,
             *(body for body, _ in parts), facts_of(given, inputs, commands)]
     data = json.dumps({"runs": [run for _, runs in parts for run in runs]}, separators=(",", ":"))

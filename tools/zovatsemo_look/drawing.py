@@ -40,13 +40,13 @@ def signs_of(page, shown):
     is_dense = any(isinstance(one, lanes.Packets) and one.is_dense for one in shown)
     if len(page.runs) == 2:
         signs.append(Patch(facecolor="#888888", edgecolor="#888888", label="%s: filled, solid" % LETTERS[0]))
-        signs.append(Patch(facecolor="white", edgecolor="black", linestyle="--", label="%s: hollow or pale, dashed" % LETTERS[1]))
+        signs.append(Patch(facecolor="white", edgecolor="black", linestyle="--",
+                           label="%s: hollow or pale, dashed" % LETTERS[1]))
     if any(run.all.drops for run in page.runs) and lanes.Packets in kinds:
         signs.append(Line2D([], [], color="black", marker="|", markersize=7, linestyle="none", label="dropped"))
     if any(run.all.queued for run in page.runs) and lanes.Packets in kinds:
-        look = {"facecolor": "#888888"} if is_dense else {"facecolor": "white", "edgecolor": "#555555",
-                                                          "hatch": lanes.HATCH}
-        signs.append(Patch(**look, label="grey strip: queued at the end" if is_dense else "hatched: queued at the end"))
+        signs.append(Patch(facecolor="#888888", label="grey strip: queued at the end") if is_dense else
+                     Patch(facecolor="white", edgecolor=GREY, hatch=lanes.HATCH, label="hatched: queued at the end"))
     return signs
 
 

@@ -22,8 +22,8 @@ def points_of(axes):
 
 
 def pale(colour):
-    """A colour mixed with three parts of white."""
-    return tuple(0.75 + part / 4 for part in to_rgb(colour))
+    """A colour mixed with as much white."""
+    return tuple(0.5 + part / 2 for part in to_rgb(colour))
 
 
 class Packets:
@@ -46,7 +46,7 @@ class Packets:
         """How to read it."""
         if not self.is_dense:
             return ["bars that overlap in time lie above each other"]
-        lanes = "each lane reaches up to its own greatest delay" if self.page.look.has_own_scale else (
+        lanes = "each lane reaches up to its own maximum delay" if self.page.look.has_own_scale else (
             "each lane reaches up to %s %s" % (format(self.greatest(self.page.names), ",g"), self.page.scale.unit))
         return ["every packet counts: the darker a spot, the more packets (logarithmic)", lanes]
 
@@ -86,10 +86,11 @@ class Packets:
             is_queued = bool(track.is_queued[packet])
             is_outlined = is_high and (end - begin) * wide >= LEAST_OUTLINED
             hollow = "white" if has_gap or is_queued else pale(colour)
-            bar = Rectangle((begin, bottom + row * height), end - begin, height * (0.9 if has_gap else 1), clip_on=False,
+            bar = Rectangle((begin, bottom + row * height), end - begin, height * (0.9 if has_gap else 1),
                             facecolor=hollow if which or is_queued else colour,
                             edgecolor="black" if is_outlined and not which and not is_queued else colour,
-                            linewidth=(0.5 if is_high else 0.35) if has_gap else 0, antialiased=has_gap, hatch=HATCH if is_queued else None)
+                            linewidth=(0.5 if is_high else 0.35) if has_gap else 0, antialiased=has_gap, clip_on=False,
+                            hatch=HATCH if is_queued else None)
             bar.set_gid(self.page.id_of(which, packet + 1))
             axes.add_patch(bar)
 
@@ -161,9 +162,9 @@ class Backlog:
     def details(self):
         """How to read it."""
         scale = "each lane has its own scale" if self.page.look.has_own_scale else "all lanes have one scale"
-        lines = [scale + "; the greatest of each is at the right"]
+        lines = [scale + "; the maximum of each is at the right"]
         if self.page.is_thinned():
-            lines.append("of more than %s steps, each drawn one is the greatest of a stretch" % format(MOST_STEPS, ","))
+            lines.append("of more than %s steps, each drawn one is the maximum of a stretch" % format(MOST_STEPS, ","))
         return lines
 
     def height(self):

@@ -3,7 +3,7 @@ import array
 import fractions
 
 from zovatsemo_look import units
-from zovatsemo_look.report import IS_DROPPED, IS_QUEUED, Leaf
+from zovatsemo_look.report import IS_DROPPED, Leaf
 
 ALL = "all leaves"
 BILLION = 10 ** 9

@@ -16,6 +16,7 @@ class Parser(argparse.ArgumentParser):
     """A parser of arguments that says in one line what is wrong with them."""
 
     def error(self, message):
+        """Ends with one line."""
         if sys.stderr is not None:
             print("%s: %s; tools/%s --help has the arguments" % (self.prog, shown(message), self.prog), file=sys.stderr)
         sys.exit(guard.TROUBLE)

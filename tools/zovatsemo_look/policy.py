@@ -22,7 +22,8 @@ class Policy:
         """The text of a policy that classifies packets as this one does, and has the leaf `class_N` for class N."""
         leaves = ["class_%d" % at for at in range(len(self.classes))]
         lines = ["leaf %s using fifo classes %s" % pair for pair in zip(leaves, self.classes)]
-        return "\n".join(["policy 1", *self.class_lines, *lines, "node root using fifo children " + " ".join(leaves)]) + "\n"
+        root = "node root using fifo children " + " ".join(leaves)
+        return "\n".join(["policy 1", *self.class_lines, *lines, root]) + "\n"
 
 
 def read_policy(name):

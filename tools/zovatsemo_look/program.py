@@ -91,6 +91,7 @@ def class_numbers(policies, capture_file):
     known = {}
 
     def found(study, which):
+        """The numbers of the classes of one run."""
         policy, run = policies[which], study.runs[which]
         if not study.capture:
             raise LookError("a class that shares its leaf needs the capture")

@@ -125,13 +125,13 @@ def tap_lines(study):
     return [study.mark(which) + line for which, run in enumerate(study.runs) for line in run.taps.values()]
 
 
-def head_lines(studies, unit):
+def head_lines(studies, unit, has_summaries=True):
     """The lines above the table: what the runs are, and what the numbers mean."""
     study = studies[0]
     lines = []
     if len(study.runs) > 1:
         lines += [study.mark(which) + name for which, name in enumerate(study.names)]
-    if len(studies) == 1:
+    if len(studies) == 1 and has_summaries:
         lines += [study.mark(which) + summary(run) for which, run in enumerate(study.runs)]
     lines.append(delay_line(study, unit))
     if len(study.runs) > 1:
