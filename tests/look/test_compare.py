@@ -115,6 +115,16 @@ class Compare(runs.Case):
         self.assertIn("FAILED  tiny.p99 <= 1s    10 Mbit/s: no packet departed", written)
 
 
+    def test_a_capture_without_packets(self):
+        capture = self.write("empty", (UPLINK / "capture").read_bytes()[:24])
+        words = (STRICT, FIRST, *WORDS[:3], capture, *WORDS[4:])
+        status, written, errors = runs.compare(*words, "--assert", "A:voice.p99 <= 2ms", "--assert", "all.drops == 0")
+        self.assertEqual((status, errors), (1, ""))
+        self.assertIn("FAILED  A:voice.p99 <= 2ms  A, 10 Mbit/s: no packet departed", written)
+        for name in ("page.html", "page.svg"):
+            self.assertEqual(runs.compare(*words, "--out", self.folder / name)[::2], (0, ""))
+
+
 class Rejected(runs.Case):
     """Each mistake has one line that names the file, the position and the cause, and status 2."""
 

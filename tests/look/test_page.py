@@ -63,6 +63,12 @@ def long_report(packets):
     return "".join(lines) + "end pushed %d popped %d empty 0 held 0 unsent 0\n" % (packets, packets)
 
 
+def left_of(page):
+    """Where the leftmost word begins, as far as the picture tells."""
+    moved = [(re.search(r"translate\((\S+) ", text.get("transform", "")), text) for text in page.iter(SVG + "text")]
+    return min(float(found.group(1) if found else text.get("x")) for found, text in moved)
+
+
 def images(page):
     """The names of the images on the page, which are densities."""
     return [found.get("id") for found in page.iter(SVG + "image")]
@@ -167,9 +173,7 @@ class Page(unittest.TestCase):
         lines = "".join("a %d %d %s 0\n" % (at, at, name) for at, name in enumerate(names, 1))
         page = drawn(self.folder, runs.write(self.folder, "report", lines + END % (5, 0, 5, 0)))
         self.assertEqual(legend(page), names + ["hatched: queued at the end"])
-        for text in page.iter(SVG + "text"):
-            moved = re.search(r"translate\((\S+) ", text.get("transform", ""))
-            self.assertGreaterEqual(float(moved.group(1) if moved else text.get("x")), 10)
+        self.assertGreaterEqual(left_of(page), 10)
 
     def test_the_page_says_where_a_report_breaks(self):
         report = runs.write(self.folder, "report", "a 1 1 one 0\n")

@@ -41,6 +41,16 @@ class Panels(runs.Case):
                     self.assertLess(high, across)
                     self.assertIn(b"pHYs" + struct.pack(">II", round(dpi / 0.0254), round(dpi / 0.0254)), data)
 
+    def test_long_names_have_room_in_narrow_pictures(self):
+        names = ["W" * 64, "long_" * 12 + "name", "voice"]
+        lines = "".join("a %d %d %s 0\n" % (at, at, name) for at, name in enumerate(names, 1))
+        report = self.write("names", lines + "end pushed 3 popped 0 empty 0 held 3 unsent 0\n")
+        for panel in ("delay", "backlog", "bytes", "packets"):
+            drawn = test_page.drawn(self.folder, report, "--panel", panel, "--width", 2)
+            with self.subTest(panel):
+                self.assertIn("voice", test_page.words(drawn))
+                self.assertGreaterEqual(test_page.left_of(drawn), 5)
+
     def test_the_page_has_its_width_too(self):
         self.assertEqual(struct.unpack(">I", self.draw("p.png", "--width", 7, "--dpi", 100)[16:20])[0], 700)
 

@@ -82,8 +82,8 @@ class Throughput:
             pace = belongs.check_rate(page.capture, run, name, page.study.rate)
             rate = page.study.rate or (pace.least if pace.is_tight else None)
             self.sending.append(10 ** 9 / rate / page.scale.divisor if rate else 0)
-            last = page.capture.lengths[run.order[-1] - 1] * self.sending[-1]
-            self.ends.append(page.scale.place(run.starts[-1]) + last)
+            last = page.capture.lengths[run.order[-1] - 1] * self.sending[-1] if run.order else 0
+            self.ends.append(page.scale.place(run.starts[-1]) + last if run.order else 0)
         self.window = round_step(max(*self.ends, page.scale.end) or 1, MOST_WINDOWS)
 
     def title(self):

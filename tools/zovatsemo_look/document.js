@@ -92,5 +92,8 @@ function showHash() {
   }
 }
 
+if (!document.querySelector('[id*="packet-"]')) {
+  found.textContent = "Enter a number.";
+}
 window.addEventListener("hashchange", showHash);
 showHash();

@@ -20,6 +20,7 @@ from zovatsemo_look.texts import plural  # noqa: E402
 LINE, LEGEND_LINE, NOTE = 0.2, 0.19, 0.16  # inches from one line to the next
 GAP, AXIS = 0.45, 0.46  # inches above a picture for its title, and below one for its axis
 BOLD = 1.15  # times as wide as other letters
+LEAST_AXES = 0.5  # inches that a picture is wide without what is beside it
 HANDLE = 0.6  # inches of a legend's entry beside its words
 SETTINGS = {"svg.fonttype": "none", "svg.hashsalt": "zovatsemo", "pdf.fonttype": 42, "ps.fonttype": 42,
             "axes.spines.top": False, "axes.spines.right": False, "axes.unicode_minus": False, "hatch.linewidth": 0.6}
@@ -160,6 +161,8 @@ def place_axes(page, figure, blocks, top, margins):
     """The pictures under each other. Those with the axis of the run share it, and the last of them has its numbers."""
     width, height = figure.get_size_inches()
     left, right = margins
+    if width - left - right < LEAST_AXES:
+        raise guard.LookError("--width %g leaves no room for pictures beside the names and numbers" % width)
     found, bottom = [], height - top
     shared = [block for block in blocks if block.drawn.has_run_axis]
     for block in blocks:

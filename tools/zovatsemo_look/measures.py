@@ -11,9 +11,11 @@ BITS = 8
 SHOWN = {"min": 0, "median": 50, "p95": 95, "p99": 99, "max": 100}  # the percentiles of the table
 
 
-def is_time(runs, capture):
-    """Whether delays are in nanoseconds: every run was paced by a link, and the timestamps are known."""
-    return bool(capture) and all(run.is_paced for run in runs)
+def is_time(runs, capture, rate):
+    """Whether delays are in nanoseconds: the runs were paced by a link, and the timestamps are known. A run without
+    departures says nothing of that."""
+    is_link = rate is not None or any(run.is_paced for run in runs)
+    return bool(capture) and is_link and all(run.is_paced or not run.order for run in runs)
 
 
 def delays_of(run, capture, in_time):

@@ -11,7 +11,7 @@ from zovatsemo_look.tracks import MOST_STEPS, Scale, Track
 
 MOST_LEAVES = 16
 MOST_BARS = 3000  # of one run; more packets are drawn as a density
-TEXT, SMALL, HEAD = 9, 8, 10.5  # points
+TEXT, SMALL, HEAD, SMALLEST = 9, 8, 10.5, 4  # points
 NARROW, NARROW_TEXT = 5, 7.5  # inches below which a picture has smaller letters, and these in points
 EDGE = 0.15  # inches that are left free at the edges of the page
 WIDEST_NAME = 2.4  # inches; a longer name is written smaller, and on two lines beside its lane
@@ -38,6 +38,13 @@ def inches_of(text, size=TEXT):
     """How wide a text is on the page."""
     font = FontProperties(size=size)
     return max(text_to_path.get_text_width_height_descent(line, font, False)[0] for line in text.split("\n")) / 72
+
+
+def halves(name):
+    """A long name on two lines."""
+    half = name.rfind("_", len(name) // 3, len(name) * 2 // 3)
+    half = half if half > 0 else len(name) // 2
+    return name[:half], name[half:]
 
 
 class Page:
@@ -71,19 +78,20 @@ class Page:
         """The size in which the name of a leaf is written."""
         if inches_of(name, self.text) <= self.widest_name():
             return self.text
-        half = max(inches_of(part, self.text) for part in self.halves(name))
-        return max(3, min(SMALL - 1, self.text * self.widest_name() / half))
-
-    @staticmethod
-    def halves(name):
-        """A long name on two lines."""
-        half = name.rfind("_", len(name) // 3, len(name) * 2 // 3)
-        half = half if half > 0 else len(name) // 2
-        return name[:half], name[half:]
+        half = max(inches_of(part, self.text) for part in halves(name))
+        return min(SMALL - 1, max(SMALLEST, self.text * self.widest_name() / half))
 
     def lane_name(self, name):
-        """The name of a leaf beside its lane."""
-        return name if inches_of(name, self.text) <= self.widest_name() else "\n".join(self.halves(name))
+        """The name of a leaf beside its lane; the end of a line that has no room in the smallest letters is left out."""
+        if inches_of(name, self.text) <= self.widest_name():
+            return name
+        return "\n".join(self.cut(part, self.name_size(name)) for part in halves(name))
+
+    def cut(self, text, size):
+        """A text, or as much of it as has room."""
+        while len(text) > 2 and inches_of(text, size) > 1.02 * self.widest_name():
+            text = text[:-2] + "…"
+        return text
 
     def look_of(self, name):
         """A leaf's colour and marker, the same on every page of these runs."""
@@ -159,6 +167,6 @@ class Page:
         end = end or 1
         axes.set_xlim(-0.006 * end, 1.01 * end)
         axes.set_xlabel(words)
-        bins = max(4, min(9, int(1.4 * self.look.width)))
+        bins = max(2, min(9, round(1.8 * axes.bbox.width / axes.figure.dpi)))
         axes.xaxis.set_major_locator(MaxNLocator(nbins=bins, integer=not self.scale.is_time))
         axes.xaxis.set_major_formatter(StrMethodFormatter("{x:,g}" if self.scale.is_time else "{x:,.0f}"))

@@ -12,7 +12,7 @@ class Study:
 
     def __init__(self, runs, names, capture=None, rate=None, leaves=None):
         self.runs, self.names, self.capture, self.rate = runs, names, capture, rate
-        self.is_time = measures.is_time(runs, capture)
+        self.is_time = measures.is_time(runs, capture, rate)
         self.leaves = leaves or [None] * len(runs)
         self.numbers = [measures.RunNumbers(run, capture, self.is_time, rate) for run in runs]
         for run, known, name in zip(runs, self.leaves, names):

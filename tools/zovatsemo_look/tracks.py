@@ -29,7 +29,7 @@ class Scale:
     @staticmethod
     def end_of(run, capture):
         """The last start or timestamp of a run."""
-        return max(max(run.starts), max(capture.moments[:len(run.arrived)]))
+        return max(max(run.starts, default=0), max(capture.moments[:len(run.arrived)], default=0))
 
     def last(self, run, capture):
         """Where a run ends on this axis."""
