@@ -3,6 +3,7 @@ checkout; the numbers of examples/uplink are those of the README, and the classe
 import csv
 import io
 import json
+import os
 import subprocess
 import unittest
 
@@ -146,6 +147,8 @@ class Rejected(runs.Case):
     def test_files(self):
         self.assert_rejected("compare: no/such: No such file or directory", "no/such", *WORDS)
         self.assert_rejected("/dev/null: it isn't a regular file", "/dev/null", *WORDS)
+        os.mkfifo(self.folder / "pipe")
+        self.assert_rejected("pipe: it isn't a regular file", STRICT, *WORDS[:3], self.folder / "pipe", *WORDS[4:])
         self.assert_rejected("it isn't a policy: it has no line `leaf`", UPLINK / "busy", *WORDS)
         self.assert_rejected("there is no folder /no", STRICT, *WORDS, "--out", "/no/x.html")
 

@@ -45,6 +45,15 @@ class Exports(runs.Case):
         self.assertEqual((run["all"]["leaf"], run["all"]["max"], run["all"]["drops"]), ("all leaves", 250, 2))
         self.assertEqual(run["leaves"][1]["throughput_bits_per_second"], 1467889908.257)
 
+    def test_a_damaged_report_says_so_beside_the_values(self):
+        cut = self.write("cut", runs.LINK_REPORT[:-20])
+        said = "%s: broken at line 19: the report is cut inside this line\n" % cut
+        for form in ("--csv", "--json"):
+            status, written, errors = runs.look(cut, form)
+            self.assertEqual((status, errors), (2, said))
+            self.assertTrue(written)
+        self.assertEqual(json.loads(written)["runs"][0]["error"] + "\n", said)
+
     def test_units(self):
         for unit, web in (("ns", "50 100 250 250 250"), ("us", "0.05 0.10 0.25 0.25 0.25"), ("auto", "50 100 250 250 250"),
                           ("ms", "0.000 0.000 0.000 0.000 0.000"), ("s", "0.000 0.000 0.000 0.000 0.000")):

@@ -53,8 +53,7 @@ def read_study(given):
 
 
 def draw(given, study, chosen, results):
-    """Writes the page or the picture; returns the lines on how a run ended that isn't whole."""
-    endings = table.ending_lines(study.runs, study.names)
+    """Writes the page or the picture."""
     commands = (given.command, given.against_command)
     if given.out.endswith(".html"):
         from zovatsemo_look import document
@@ -62,8 +61,7 @@ def draw(given, study, chosen, results):
     else:
         from zovatsemo_look import drawing
         titles = title.lines_of(commands, study.names, given.capture)
-        drawing.write(given, study, chosen, titles, endings)
-    return "".join(line + "\n" for line in endings)
+        drawing.write(given, study, chosen, titles, table.ending_lines(study.runs, study.names))
 
 
 def look(given, asserted):
@@ -81,9 +79,13 @@ def look(given, asserted):
     said.tell("counting")
     written = options.text_of(given, [study], chosen, results) if is_text else ""
     said.end()
-    drawn = draw(given, study, chosen, results) if given.out else ""
+    if given.out:
+        draw(given, study, chosen, results)
+    endings = "".join(line + "\n" for line in table.ending_lines(study.runs, study.names))
     verdict = options.verdict_text(given, results)
-    guard.write_out(written + ("" if is_text else drawn) + ("\n" + verdict if verdict and is_text else verdict))
+    guard.write_out((written if is_text else endings) + ("\n" + verdict if verdict and is_text else verdict))
+    if endings and (given.csv or given.json):
+        guard.say(endings)
     return guard.TROUBLE if any(run.broken for run in study.runs) else options.status_of(results)
 
 

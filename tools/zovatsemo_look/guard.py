@@ -43,6 +43,13 @@ def write_out(text):
         raise LookError("standard output: %s" % error.strerror)
 
 
+def say(text):
+    """Writes lines to standard error, if there is one."""
+    if sys.stderr is not None:
+        sys.stderr.write(text)
+        sys.stderr.flush()
+
+
 def write_file(name, data):
     """Writes bytes into a file."""
     with open(name, "wb") as stream:
@@ -82,6 +89,5 @@ def run(name, work):
         said = "%s isn't installed; apt-get install %s" % (error.name, PACKAGES[error.name])
     except KeyboardInterrupt:
         said = "interrupted"
-    if sys.stderr is not None:
-        print("%s: %s" % (name, said), file=sys.stderr)
+    say("%s: %s\n" % (name, said))
     return TROUBLE

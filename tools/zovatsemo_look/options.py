@@ -17,8 +17,7 @@ class Parser(argparse.ArgumentParser):
 
     def error(self, message):
         """Ends with one line."""
-        if sys.stderr is not None:
-            print("%s: %s; tools/%s --help has the arguments" % (self.prog, shown(message), self.prog), file=sys.stderr)
+        guard.say("%s: %s; tools/%s --help has the arguments\n" % (self.prog, shown(message), self.prog))
         sys.exit(guard.TROUBLE)
 
 

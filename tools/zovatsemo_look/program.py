@@ -1,6 +1,7 @@
 """Runs the program, and says what it rejected."""
 import os
 import pathlib
+import stat
 import subprocess
 import tempfile
 
@@ -17,10 +18,10 @@ NO_MEANING = ("Status", "Code", "Text that breaks it", "Line written", "Record",
 
 def check_file(name):
     """Rejects what can't be read, and what can be read only once."""
+    if not stat.S_ISREG(os.stat(name).st_mode):
+        raise LookError("%s: it isn't a regular file, and it is read more than once" % shown(name))
     with open(name, "rb"):
         pass
-    if not os.path.isfile(name):
-        raise LookError("%s: it isn't a regular file, and it is read more than once" % shown(name))
     try:
         os.fsencode(name).decode("utf-8")
     except UnicodeDecodeError:
