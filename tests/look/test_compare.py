@@ -45,6 +45,7 @@ class Compare(runs.Case):
         _, looked, _ = runs.look(reports[0], "--against", reports[1], "--capture", UPLINK / "capture", "--rate", "10Mbit")
         _, compared, _ = runs.compare(STRICT, FIRST, *WORDS)
         self.assertEqual(looked.splitlines()[2:], compared.splitlines()[2:])
+        self.assertGreater(len(looked.splitlines()), 20)
 
     def test_a_verdict(self):
         asserted = ("--assert", "A:voice.p99 <= 2ms", "--assert", "web.share >= 30%", "--assert", "B:voice.p99 <= 2ms")
@@ -119,9 +120,13 @@ class Compare(runs.Case):
     def test_a_capture_without_packets(self):
         capture = self.write("empty", (UPLINK / "capture").read_bytes()[:24])
         words = (STRICT, FIRST, *WORDS[:3], capture, *WORDS[4:])
-        status, written, errors = runs.compare(*words, "--assert", "A:voice.p99 <= 2ms", "--assert", "all.drops == 0")
+        asserted = ("A:voice.p99 <= 2ms", "A:web.share <= 50%", "A:all.throughput <= 1Mbit", "all.drops == 0")
+        status, written, errors = runs.compare(*words, *(word for text in asserted for word in ("--assert", text)))
         self.assertEqual((status, errors), (1, ""))
-        self.assertIn("FAILED  A:voice.p99 <= 2ms  A, 10 Mbit/s: no packet departed", written)
+        lines = [line.split(None, 1) for line in written.splitlines()[-6:]]
+        self.assertEqual(lines[0], ["3", "of 5 checks failed"])
+        for (word, said), why in zip(lines[1:4], ("no packet departed", "no packet departed at all", "the run takes no time")):
+            self.assertEqual((word, said.rpartition(": ")[2]), ("FAILED", why))
         for name in ("page.html", "page.svg"):
             self.assertEqual(runs.compare(*words, "--out", self.folder / name)[::2], (0, ""))
 

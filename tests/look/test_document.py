@@ -15,7 +15,7 @@ import runs
 import test_compare
 
 BROWSER = next((path for path in map(shutil.which, ("chromium", "chromium-browser", "google-chrome")) if path), None)
-SECONDS = 60  # for one page
+SECONDS = 180  # for one page
 HOVER = """<script>
 const bar = document.getElementById("r0-packet-3");
 bar.dispatchEvent(new MouseEvent("mouseover", {bubbles: true, clientX: 5, clientY: 5}));

@@ -23,10 +23,10 @@ def limited():
 class Streams(runs.Case):
     """Commands that are run as processes of their own."""
 
-    def run_shell(self, text, *words):
+    def run_shell(self, text, *words, before=None):
         """The status of a shell's command with some arguments, what it writes, and its errors."""
         done = subprocess.run(["bash", "-c", text, "bash", *words], cwd=self.folder, stdout=subprocess.PIPE,
-                              stderr=subprocess.PIPE, preexec_fn=limited, timeout=60)
+                              stderr=subprocess.PIPE, preexec_fn=before, timeout=180)
         self.assertNotIn(b"Traceback", done.stderr)
         return done.returncode, done.stdout.decode("utf-8", "replace"), done.stderr.decode("utf-8", "replace")
 
@@ -38,7 +38,7 @@ class Streams(runs.Case):
             stream.write(huge)
             stream.truncate(len(huge) + 0xFFFFFFFF)
         begun = resource.getrusage(resource.RUSAGE_CHILDREN)
-        status, written, errors = self.run_shell('"$@"', LOOK, report, "--capture", capture)
+        status, written, errors = self.run_shell('"$@"', LOOK, report, "--capture", capture, before=limited)
         used = resource.getrusage(resource.RUSAGE_CHILDREN)
         self.assertEqual((status, written), (2, ""))
         self.assertIn("record 1 claims 4,294,967,295 captured bytes, and at most 262,144 are possible", errors)

@@ -19,6 +19,7 @@ FORM = re.compile(r"\s*%s\s*(<=|>=|==|!=|<|>)\s*([^\s=].*?)\s*" % SUBJECT, re.AS
 OTHER = re.compile(SUBJECT, re.ASCII)
 PERCENTILE = re.compile(r"p([0-9]{1,3}(?:\.[0-9]{1,9})?)")
 DELAY, SHARE, COUNT, DROPS, THROUGHPUT = "delay", "share", "count", "drops", "throughput"
+NOTHING = {DELAY: "no packet departed", SHARE: "no packet departed at all", THROUGHPUT: "the run takes no time"}
 NAMED_DELAYS = {"min": 0, "median": 50, "max": 100}
 COUNTS = ("arrived", "departed", "queued", "bytes", "backlog", "overtaken")
 METRICS = "min, median, max, pN (a percentile from p0 to p100), share, drops, backlog, throughput, arrived, departed, " \
@@ -60,11 +61,12 @@ class Metric:
         """The value, and why there is none. A relative number of drops is that of the packets that arrived."""
         if self.kind == DELAY:
             found = numbers.percentile(self.percent)
-            return found, "no packet departed" if found is None else None
+            return found, NOTHING[DELAY] if found is None else None
         if self.kind == DROPS and is_relative:
             return (fractions.Fraction(numbers.drops, numbers.arrived), None) if numbers.arrived else (
                 None, "no packet arrived")
-        return getattr(numbers, self.word), None
+        found = getattr(numbers, self.word)
+        return found, NOTHING[self.kind] if found is None else None
 
     def missing(self, study):
         """What isn't known of the runs and is needed for this metric; None if nothing is."""

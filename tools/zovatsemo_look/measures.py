@@ -81,13 +81,11 @@ class RunNumbers:
         self.all = self.numbers(run.all, every, self.sent)
 
     def numbers(self, counts, delays, sent):
-        """The numbers of a group of packets."""
+        """The numbers of a group of packets. Of nothing there is no share, and in no time no throughput."""
         if self.sent is None:
             return Numbers(counts, delays, None, None, None)
-        share = fractions.Fraction(sent, self.sent) if self.sent else fractions.Fraction(0)
+        share = fractions.Fraction(sent, self.sent) if self.sent else None
         throughput = fractions.Fraction(sent * BITS * BILLION, self.duration) if self.duration else None
-        if self.duration == 0:
-            throughput = fractions.Fraction(0)
         return Numbers(counts, delays, sent, share, throughput)
 
     def of(self, name):
