@@ -5,9 +5,12 @@ import io
 import json
 import os
 import subprocess
+import types
 import unittest
 
 import runs
+import test_page
+from zovatsemo_look import compare as comparing
 
 UPLINK = runs.TOP / "examples/uplink"
 WORDS = ("--target", UPLINK / "target", "--capture", UPLINK / "capture", "--rate", "10Mbit")
@@ -72,6 +75,24 @@ class Compare(runs.Case):
         self.assertEqual([row[1:3] for row in rows[:3]], [["1", "Mbit/s"], ["10", "Mbit/s"], ["100", "Mbit/s"]])
         self.assertEqual((len(rows), rows[1][13]), (6, "1.160|146.760"))
         self.assertIn("FAILED  A:voice.p99 <= 2ms  A, 1 Mbit/s: 10.8 ms", written)
+
+    def test_a_picture_of_a_sweep(self):
+        out, rates = self.folder / "sweep.svg", "1Mbit,1.1Mbit,10Mbit,1Gbit"
+        self.assertEqual(runs.compare(STRICT, FIRST, *WORDS[:-1], rates, "--out", out)[::2], (0, ""))
+        page = test_page.xml.etree.ElementTree.parse(out).getroot()
+        words = test_page.words(page)
+        for word in ("99th percentile of delays by rate", "rate of the link in Mbit/s", "A: policy %s" % STRICT, "1", "10", "1,000"):
+            self.assertIn(word, words)
+        self.assertNotIn("1.1", words)
+
+    def test_the_points_of_a_sweep(self):
+        from zovatsemo_look import curves, page
+        given = types.SimpleNamespace(block=False, policies=[str(STRICT)], target=str(UPLINK / "target"), out=None,
+                                      capture=str(UPLINK / "capture"))
+        studies = [comparing.Comparison(given).study(rate) for rate in (1250000, 12500000)]
+        drawn = curves.Sweep(page.Page(studies[0], ["voice"], page.Look(9, False, False, False, True, ""), studies))
+        self.assertEqual(drawn.unit.name, "ms")
+        self.assertEqual(list(drawn.points_of("voice", 0)), [(10 ** 7, 10 ** 8), (1.16, 0.115157)])
 
     def test_comma_separated_values_and_json(self):
         words = (*WORDS[:-1], "1Mbit,10Mbit")
@@ -144,7 +165,8 @@ class Rejected(runs.Case):
         self.assert_rejected("at most two are compared", STRICT, STRICT, STRICT, *WORDS)
         self.assert_rejected("'10Mb' is no rate", STRICT, *WORDS[:-1], "10Mb")
         self.assert_rejected("names a rate twice", STRICT, *WORDS[:-1], "1Mbit,125000")
-        self.assert_rejected("a picture shows one rate", STRICT, *WORDS[:-1], "1Mbit,2Mbit", "--out", "x.svg")
+        self.assert_rejected("--panel draws one rate, and --rate names 2", STRICT, *WORDS[:-1], "1Mbit,2Mbit", "--out",
+                             "x.svg", "--panel", "delay")
         self.assert_rejected("there is no leaf 'nobody'; the leaves are: voice, web, backup", STRICT, *WORDS, "--leaf",
                              "nobody")
         self.assert_rejected("not allowed with argument", STRICT, *WORDS, "--csv", "--json")

@@ -61,7 +61,7 @@ def draw(given, study, chosen, results):
     else:
         from zovatsemo_look import drawing
         titles = title.lines_of(commands, study.names, given.capture)
-        drawing.write(given, study, chosen, titles, table.ending_lines(study.runs, study.names))
+        drawing.write(given, [study], chosen, titles, table.ending_lines(study.runs, study.names))
 
 
 def look(given, asserted):

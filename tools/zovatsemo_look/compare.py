@@ -32,8 +32,8 @@ def check_words(words, given):
         words.error("--rate: %s" % error)
     if len(set(rates)) < len(rates):
         words.error("--rate names a rate twice")
-    if len(rates) > 1 and given.out and not given.out.endswith(".html"):
-        words.error("a picture shows one rate; --out FILE.html shows several")
+    if len(rates) > 1 and given.panel:
+        words.error("--panel draws one rate, and --rate names %d" % len(rates))
     return rates
 
 
@@ -68,7 +68,7 @@ class Comparison:
 
 
 def draw(given, comparison, studies, chosen, results, parts):
-    """Writes the page, or the picture of one rate."""
+    """Writes the page, or the picture of one rate or of a sweep."""
     commands = [comparison.command_of(which, study.rate) for study in studies for which in range(len(study.runs))]
     if given.out.endswith(".html"):
         from zovatsemo_look import document
@@ -76,7 +76,9 @@ def draw(given, comparison, studies, chosen, results, parts):
     else:
         from zovatsemo_look import drawing
         titles = title.lines_of(commands, studies[0].names, given.capture)
-        drawing.write(given, studies[0], chosen, titles, [])
+        if len(studies) > 1:  # commands of one rate would say too little
+            titles = [(text, is_head) for text, is_head in titles if is_head]
+        drawing.write(given, studies, chosen, titles, [])
 
 
 def compare(given, rates, asserted):

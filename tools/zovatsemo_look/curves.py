@@ -6,10 +6,12 @@ from matplotlib.ticker import MaxNLocator, PercentFormatter, StrMethodFormatter
 from zovatsemo_look import belongs, units
 from zovatsemo_look.guard import LookError
 from zovatsemo_look.page import GREY
+from zovatsemo_look.study import common_unit
 from zovatsemo_look.tracks import MOST_STEPS, as_numbers, round_step
 
 PERCENTS = (0, 25, 50, 75, 99, 100)  # that a box shows
 MOST_WINDOWS = 60  # of a throughput
+ROOM = 0.4  # inches from one rate's name to the next
 
 
 class Line:
@@ -209,6 +211,71 @@ class Delays:
             axes.set_xlim(-0.1 * least if has_zero else 0.8 * page.scale.amount(min(positive)), 1.3 * most)
             axes.xaxis.set_major_formatter(StrMethodFormatter("{x:,g}"))
             axes.set_xlabel("%s in %s, logarithmic" % (self.word, page.scale.unit))
+
+
+class Sweep:
+    """The 99th percentile of each leaf's delays at each rate of a sweep."""
+
+    is_laned, has_run_axis, percent = False, False, 99
+
+    def __init__(self, page):
+        self.page = page
+        self.unit = common_unit(page.studies, None)
+
+    @staticmethod
+    def title():
+        """What the picture shows."""
+        return "99th percentile of delays by rate"
+
+    @staticmethod
+    def details():
+        """How to read it."""
+        return ["both axes are logarithmic", "a delay of 0 is at the lower end"]
+
+    def height(self):
+        """Inches."""
+        return height_in(self.page)
+
+    @staticmethod
+    def widest():
+        """The widest number of the vertical axis."""
+        return "100,000"
+
+    def points_of(self, name, which):
+        """The rates in bits a second, and the percentiles there, of a leaf in one run of each study."""
+        found = [(8 * study.rate, study.numbers[which].of(name).percentile(self.percent))
+                 for study in self.page.studies if study.has(which, name)]
+        return zip(*sorted((rate, delay / self.unit.divisor) for rate, delay in found if delay is not None))
+
+    def draw(self, axes):
+        """Draws a line for each leaf and run, with a mark at each rate."""
+        page, delays = self.page, [0]
+        for lane, name in page.lanes():
+            for which in range(len(page.runs)):
+                points = list(self.points_of(name, which))
+                if points:
+                    axes.plot(*points, **{**Line(page, lane, name, which).words, "markevery": None})
+                    delays += points[1]
+        least = min((delay for delay in delays if delay), default=1)
+        axes.set_yscale("symlog", linthresh=10 ** numpy.floor(numpy.log10(least)), linscale=0.3)
+        axes.set_ylim(0, 1.5 * max(*delays, least))
+        axes.yaxis.set_major_formatter(StrMethodFormatter("{x:,g}"))
+        axes.set_ylabel("delay in %s" % self.unit.name)
+        self.label_rates(axes)
+
+    def label_rates(self, axes):
+        """Names the rates, as far as their names have room beside each other."""
+        rates = sorted(8 * study.rate for study in self.page.studies)
+        size, unit = next(pair for pair in units.BIT_NAMES if rates[0] >= pair[0])
+        inch = axes.bbox.width / axes.figure.dpi / max(0.01, numpy.log(rates[-1] / rates[0])) * 0.9
+        named = rates[:1]
+        for rate in rates[1:]:
+            if numpy.log(rate / named[-1]) * inch >= ROOM:
+                named.append(rate)
+        axes.set_xscale("log")
+        axes.set_xticks(named, [format(rate / size, ",g") for rate in named])
+        axes.minorticks_off()
+        axes.set_xlabel("rate of the link in %s" % unit)
 
 
 def least_positive(ordered):

@@ -155,6 +155,14 @@ def figures_of(given, study, chosen, prefix, said):
     return figures
 
 
+def sweep_of(given, studies, chosen):
+    """The picture of a sweep."""
+    shared = page.Page(studies[0], chosen, page.look_of(given, True), studies)
+    block = drawing.Block(shared, drawing.SWEEP)
+    drawn = drawing.bytes_of(shared, [block], [], [], "svg", 72, Progress(given.out))
+    return "<figure>\n%s\n%s\n</figure>" % (element("figcaption", block.drawn.title()), svg.inline(drawn, "sweep-"))
+
+
 def part_of(given, study, chosen, number):
     """What the page shows of one study besides the table: its pictures, and its packets."""
     prefix, said = "r%d-" % number, Progress(given.out)
@@ -177,7 +185,8 @@ def write(given, studies, chosen, results, inputs, commands, parts=None):
     unit = common_unit(studies, given.unit)
     words, names = table.grid(studies, chosen, unit)
     head = table.head_lines(studies, unit, has_summaries=False)
-    body = [verdict_of(results), "<h2>Numbers</h2>", paragraphs(head), table_of(words, names), FIND,
+    body = [verdict_of(results), "<h2>Numbers</h2>", paragraphs(head), table_of(words, names),
+            sweep_of(given, studies, chosen) if len(studies) > 1 else "", FIND,
             *(body for body, _ in parts), facts_of(given, inputs, commands)]
     data = json.dumps({"runs": [run for _, runs in parts for run in runs]}, separators=(",", ":"))
     data = re.sub("[<>&\u2028\u2029]", lambda found: "\\u%04x" % ord(found.group()), data)

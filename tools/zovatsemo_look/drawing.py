@@ -28,6 +28,7 @@ UNDATED = {"svg": {"Date": None, "Creator": None}, "png": {"Software": None},
            "pdf": {"CreationDate": None, "Creator": None, "Producer": None}}
 KINDS = {"packets": lanes.Packets, "backlog": lanes.Backlog, "bytes": curves.Served, "throughput": curves.Throughput,
          "delay": curves.Delays}
+SWEEP = "sweep"
 
 
 def kinds_of(study):
@@ -120,7 +121,7 @@ class Block:
     """One picture on the page: what is drawn, the lines of its heading, and how much room it takes."""
 
     def __init__(self, page, kind):
-        self.page, self.kind, self.drawn = page, kind, KINDS[kind](page)
+        self.page, self.kind, self.drawn = page, kind, curves.Sweep(page) if kind == SWEEP else KINDS[kind](page)
         self.details, width = "; ".join(self.drawn.details()), page.look.width - 2 * EDGE
         taken = inches_of(self.drawn.title(), HEAD) + 0.3 + inches_of(self.details, page.small)
         self.is_beside = not page.look.is_single and taken <= width
@@ -223,11 +224,13 @@ def bytes_of(page, blocks, titles, endings, form, dpi, said, margins=None):
     return svg.shortened(drawn.getvalue()) if form == "svg" else drawn.getvalue()
 
 
-def write(given, study, chosen, titles, endings):
-    """Writes the page, or the one picture that is asked for, into a file whose name says in which format."""
-    said, form = Progress(given.out), given.out.rsplit(".", 1)[1]
-    page = Page(study, chosen, look_of(given, bool(given.panel)))
-    blocks = [Block(page, kind) for kind in ([given.panel] if given.panel else kinds_of(study))]
+def write(given, studies, chosen, titles, endings):
+    """Writes the page, the picture of a sweep, or the one picture that is asked for, into a file whose name says in which
+    format."""
+    said, form, study = Progress(given.out), given.out.rsplit(".", 1)[1], studies[0]
+    page = Page(study, chosen, look_of(given, bool(given.panel)), studies)
+    kinds = [SWEEP] if len(studies) > 1 else [given.panel] if given.panel else kinds_of(study)
+    blocks = [Block(page, kind) for kind in kinds]
     try:
         drawn = bytes_of(page, blocks, [] if given.panel else titles, endings, form, given.dpi, said)
     finally:

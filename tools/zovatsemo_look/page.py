@@ -50,8 +50,8 @@ def halves(name):
 class Page:
     """The runs, their leaves and their axis."""
 
-    def __init__(self, study, chosen, look):
-        self.study, self.look = study, look
+    def __init__(self, study, chosen, look, studies=()):
+        self.study, self.look, self.studies = study, look, studies  # the studies are those of a sweep
         self.runs, self.capture = study.runs, study.capture
         self.scale = Scale(study)
         self.tracks = [Track(run, self.capture, self.scale) for run in self.runs]
