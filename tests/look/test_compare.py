@@ -81,7 +81,8 @@ class Compare(runs.Case):
         self.assertEqual(runs.compare(STRICT, FIRST, *WORDS[:-1], rates, "--out", out)[::2], (0, ""))
         page = test_page.xml.etree.ElementTree.parse(out).getroot()
         words = test_page.words(page)
-        for word in ("99th percentile of delays by rate", "rate of the link in Mbit/s", "A: policy %s" % STRICT, "1", "10", "1,000"):
+        for word in ("99th percentile of delays by rate", "rate of the link in Mbit/s", "A: policy %s" % STRICT, "1", "10",
+                     "1,000"):
             self.assertIn(word, words)
         self.assertNotIn("1.1", words)
 
@@ -146,7 +147,8 @@ class Compare(runs.Case):
         self.assertEqual((status, errors), (1, ""))
         lines = [line.split(None, 1) for line in written.splitlines()[-6:]]
         self.assertEqual(lines[0], ["3", "of 5 checks failed"])
-        for (word, said), why in zip(lines[1:4], ("no packet departed", "no packet departed at all", "the run takes no time")):
+        reasons = ("no packet departed", "no packet departed at all", "the run takes no time")
+        for (word, said), why in zip(lines[1:4], reasons):
             self.assertEqual((word, said.rpartition(": ")[2]), ("FAILED", why))
         for name in ("page.html", "page.svg"):
             self.assertEqual(runs.compare(*words, "--out", self.folder / name)[::2], (0, ""))

@@ -1,4 +1,6 @@
 """The arguments of tools/compare, and what they do: runs on a link, beside each other, with a verdict."""
+import shlex
+
 from zovatsemo_look import assertions, belongs, guard, options, policy, program, sources, title, units
 from zovatsemo_look.study import Study, common_unit
 from zovatsemo_look.texts import shown
@@ -64,7 +66,7 @@ class Comparison:
         given = self.given
         words = ["zovatsemo", *(["--block"] if given.block else []), "link", given.policies[which], given.target,
                  given.capture, str(rate)]
-        return shown(" ".join(words))
+        return shown(shlex.join(words))
 
 
 def draw(given, comparison, studies, chosen, results, parts):
