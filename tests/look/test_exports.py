@@ -45,6 +45,12 @@ class Exports(runs.Case):
         self.assertEqual((run["all"]["leaf"], run["all"]["max"], run["all"]["drops"]), ("all leaves", 250, 2))
         self.assertEqual(run["leaves"][1]["throughput_bits_per_second"], 1467889908.257)
 
+    def test_a_verdict_beside_comma_separated_values(self):
+        status, written, errors = runs.look(self.report, "--csv", "--assert", "web.drops == 0", "--assert", "web.arrived == 6")
+        self.assertEqual((status, len(written.splitlines())), (1, 4))
+        self.assertEqual(errors.splitlines(), ["1 of 2 checks failed", "FAILED  web.drops == 0    2 packets",
+                                               "holds   web.arrived == 6  6 packets"])
+
     def test_a_damaged_report_says_so_beside_the_values(self):
         cut = self.write("cut", runs.LINK_REPORT[:-20])
         said = "%s: broken at line 19: the report is cut inside this line\n" % cut

@@ -82,11 +82,10 @@ def look(given, asserted):
     if given.out:
         draw(given, study, chosen, results)
     endings = "".join(line + "\n" for line in table.ending_lines(study.runs, study.names))
-    verdict = options.verdict_text(given, results)
-    guard.write_out((written if is_text else endings) + ("\n" + verdict if verdict and is_text else verdict))
-    if endings and (given.csv or given.json):
+    status = options.finish(given, written if is_text else endings, results)
+    if given.csv or given.json:
         guard.say(endings)
-    return guard.TROUBLE if any(run.broken for run in study.runs) else options.status_of(results)
+    return guard.TROUBLE if any(run.broken for run in study.runs) else status
 
 
 def main(arguments):

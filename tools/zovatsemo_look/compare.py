@@ -103,9 +103,7 @@ def compare(given, rates, asserted):
     written = options.text_of(given, studies, chosen, results)
     if given.out:
         draw(given, comparison, studies, chosen, results, parts)
-    verdict = options.verdict_text(given, results)
-    guard.write_out(written + ("\n" + verdict if verdict else ""))
-    return options.status_of(results)
+    return options.finish(given, written, results)
 
 
 def main(arguments):

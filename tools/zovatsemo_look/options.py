@@ -36,7 +36,7 @@ def add_table_words(words):
     words.add_argument("--unit", choices=[*units.NANOSECONDS, units.AUTO],
                        help="the unit of delays; without it, the table chooses one, and --csv and --json have ns")
     form = words.add_mutually_exclusive_group()
-    form.add_argument("--csv", action="store_true", help="print comma-separated values in place of the table")
+    form.add_argument("--csv", action="store_true", help="print comma-separated values in place of the table; the verdict goes to standard error")
     form.add_argument("--json", action="store_true", help="print JSON in place of the table")
 
 
@@ -95,13 +95,13 @@ def text_of(options, studies, chosen, results):
     return table.text_of(studies, chosen, common_unit(studies, options.unit))
 
 
-def verdict_text(options, results):
-    """The verdict in lines; JSON has it already, and CSV has no room for it."""
-    if not results or options.json or options.csv:
-        return ""
-    return "\n".join(assertions.verdict_lines(results)) + "\n"
-
-
-def status_of(results):
-    """The status that a verdict gives."""
+def finish(options, text, results):
+    """Writes a text and the verdict, and returns the status. JSON has the verdict already, and beside CSV it goes to
+    standard error."""
+    verdict = "\n".join(assertions.verdict_lines(results)) + "\n" if results and not options.json else ""
+    if options.csv:
+        guard.write_out(text)
+        guard.say(verdict)
+    else:
+        guard.write_out(text + ("\n" if text and verdict else "") + verdict)
     return guard.FAILED if any(not result.holds for result in results) else guard.DONE
