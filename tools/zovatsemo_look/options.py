@@ -36,7 +36,8 @@ def add_table_words(words):
     words.add_argument("--unit", choices=[*units.NANOSECONDS, units.AUTO],
                        help="the unit of delays; without it, the table chooses one, and --csv and --json have ns")
     form = words.add_mutually_exclusive_group()
-    form.add_argument("--csv", action="store_true", help="print comma-separated values in place of the table; the verdict goes to standard error")
+    form.add_argument("--csv", action="store_true",
+                      help="print comma-separated values in place of the table; the verdict goes to standard error")
     form.add_argument("--json", action="store_true", help="print JSON in place of the table")
 
 
