@@ -46,7 +46,8 @@ class Exports(runs.Case):
         self.assertEqual(run["leaves"][1]["throughput_bits_per_second"], 1467889908.257)
 
     def test_a_verdict_beside_comma_separated_values(self):
-        status, written, errors = runs.look(self.report, "--csv", "--assert", "web.drops == 0", "--assert", "web.arrived == 6")
+        asserted = ("--assert", "web.drops == 0", "--assert", "web.arrived == 6")
+        status, written, errors = runs.look(self.report, "--csv", *asserted)
         self.assertEqual((status, len(written.splitlines())), (1, 4))
         self.assertEqual(errors.splitlines(), ["1 of 2 checks failed", "FAILED  web.drops == 0    2 packets",
                                                "holds   web.arrived == 6  6 packets"])
