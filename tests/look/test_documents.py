@@ -1,4 +1,5 @@
-"""docs/PICTURES.md: the pictures that its commands draw. What they print is compared by tests/pages.
+"""docs/PICTURES.md: the pictures that its commands draw. What they print is compared by tests/pages. The screenshot is
+taken by hand.
 
 The program is the built one of the repository, or that of the variable ZOVATSEMO.
 """
@@ -18,6 +19,7 @@ import pages  # noqa: E402  (its folder is named just above)
 
 PAGE = runs.TOP / "docs/PICTURES.md"
 PICTURES = runs.TOP / "docs/pictures"
+SCREENSHOT = "page.png"
 PROGRAM = pathlib.Path(os.environ.get("ZOVATSEMO", runs.TOP / pages.PROGRAM))
 
 
@@ -32,7 +34,9 @@ class Documents(unittest.TestCase):
 
     def test_the_pictures(self):
         self.assertTrue(PROGRAM.is_file(), "there is no built program %s" % PROGRAM)
-        kept = sorted(path.name for path in PICTURES.iterdir())
+        kept = sorted(path.name for path in PICTURES.iterdir() if path.name != SCREENSHOT)
+        self.assertIn("(pictures/%s)" % SCREENSHOT, PAGE.read_text())
+        self.assertTrue((PICTURES / SCREENSHOT).read_bytes().startswith(b"\x89PNG"))
         with pages.Copy(PROGRAM) as copy:
             drawn = copy.top / "docs/pictures"
             for path in drawn.iterdir():

@@ -3,6 +3,7 @@ doesn't count."""
 import os
 import pathlib
 import random
+import re
 import subprocess
 import tempfile
 import unittest
@@ -11,7 +12,7 @@ import runs
 
 PACKETS = 1000000
 LEAVES = ("voice", "video", "ssh", "dns", "web", "mail", "backup", "other")
-MOST_SECONDS, MOST_MEMORY = 60, 500 * 10 ** 6
+MOST_SECONDS, MOST_MEMORY, MOST_PAGE = 60, 300 * 10 ** 6, 3 * 10 ** 6
 
 
 def write_long_report(path):
@@ -46,7 +47,7 @@ class Long(unittest.TestCase):
 
     def test_two_million_lines(self):
         with tempfile.TemporaryDirectory() as folder:
-            report, page = pathlib.Path(folder) / "report", pathlib.Path(folder) / "page.png"
+            report, page = pathlib.Path(folder) / "report", pathlib.Path(folder) / "page.html"
             write_long_report(report)
             for words in ((report,), (report, "--out", page)):
                 written, status, seconds, memory = measured(*words)
@@ -55,8 +56,11 @@ class Long(unittest.TestCase):
                     self.assertLess(seconds, MOST_SECONDS)
                     self.assertLess(memory, MOST_MEMORY)
                 if words == (report,):
-                    self.assertTrue(written.startswith("2000000 events, 1000000 packets, 1000000 departures"))
-            self.assertTrue(page.read_bytes().startswith(b"\x89PNG"))
+                    self.assertTrue(written.startswith("2,000,000 events, 1,000,000 packets, 1,000,000 departures"))
+            text = page.read_text()
+            self.assertLess(len(text), MOST_PAGE)
+            self.assertEqual(len(re.findall(r'density-\w+"', text)), len(LEAVES))
+            self.assertIn('"packets":1000000,', text)
 
 
 if __name__ == "__main__":

@@ -63,6 +63,17 @@ def long_report(packets):
     return "".join(lines) + "end pushed %d popped %d empty 0 held 0 unsent 0\n" % (packets, packets)
 
 
+def left_of(page):
+    """Where the leftmost word begins, as far as the picture tells."""
+    moved = [(re.search(r"translate\((\S+) ", text.get("transform", "")), text) for text in page.iter(SVG + "text")]
+    return min(float(found.group(1) if found else text.get("x")) for found, text in moved)
+
+
+def images(page):
+    """The names of the images on the page, which are densities."""
+    return [found.get("id") for found in page.iter(SVG + "image")]
+
+
 END = "end pushed %d popped %d empty 0 held %d unsent 0 dropped %d\n"
 
 
@@ -108,19 +119,23 @@ class Page(unittest.TestCase):
         self.assertEqual(len(group(page, "dropped-web").findall(SVG + "path")), 2)
         self.assertIsNone(group(page, "dropped-voice"))
         self.assertAlmostEqual(width(page, 2) / width(page, 1), 2.5, delta=0.01)
-        self.assertIn("time in ns since the capture's first moment", words(page))
+        self.assertIn("time in ns since the first timestamp", words(page))
 
     def test_two_runs(self):
-        page = drawn(self.folder, runs.OFFICE / "report", "--against", runs.TOP / "examples/one-leaf/report")
+        lines = "".join("a %d %d root 0\n" % (at, at) for at in range(1, 9))
+        other = runs.write(self.folder, "other", lines + "end pushed 8 popped 0 empty 0 held 8 unsent 0\n")
+        page = drawn(self.folder, runs.OFFICE / "report", "--against", other)
         self.assertEqual(sorted(bars(page, r"packet-(\d+)")), list(range(1, 9)))
-        self.assertEqual(sorted(bars(page, r"packet-other-(\d+)")), [1, 2])
+        self.assertEqual(sorted(bars(page, r"packet-other-(\d+)")), list(range(1, 9)))
         self.assertEqual(legend(page)[:7], ["web", "voice", "other", "dns", "backup", "video", "root"])
 
     def test_a_held_packet_ends_with_its_own_run(self):
         short = "a 1 1 one 0\na 2 2 one 0\nd 3 2 one 0\nend pushed 2 popped 1 empty 0 held 1 unsent 0\n"
-        page = drawn(self.folder, runs.write(self.folder, "report", short), "--against", runs.OFFICE / "report")
+        end = "d 4 1 one 0\ne 5\ne 6\nend pushed 2 popped 2 empty 2 held 0 unsent 0\n"
+        long = "a 1 1 one 0\na 2 2 one 0\nd 3 2 one 0\n" + end
+        page = drawn(self.folder, runs.write(self.folder, "report", short), "--against", runs.write(self.folder, "b", long))
         self.assertAlmostEqual(width(page, 1) / width(page, 2), 2, delta=0.01)
-        self.assertIn("pale: held at the end", legend(page))
+        self.assertIn("hatched: queued at the end", legend(page))
 
     def test_chosen_leaves_keep_their_colours(self):
         whole = drawn(self.folder, runs.OFFICE / "report")
@@ -129,19 +144,17 @@ class Page(unittest.TestCase):
         self.assertEqual(sorted(bars(chosen, r"packet-(\d+)")), [1, 2, 4, 6])
         self.assertEqual(*(style_of(page, bar_of(page, 6)) for page in (whole, chosen)))
 
-    def test_many_packets_are_thinned_and_the_page_says_so(self):
-        report = runs.write(self.folder, "report", long_report(6001))
-        page = drawn(self.folder, report)
-        self.assertEqual(len(bars(page, r"packet-(\d+)")), 2001)
-        self.assertIn("of the packets one in 3 is drawn", words(page))
-        page = drawn(self.folder, report, "--against", runs.OFFICE / "report")
-        self.assertIn("of the packets of A one in 3 is drawn, of those of B every one", words(page))
+    def test_many_packets_are_a_density_of_all(self):
+        page = drawn(self.folder, runs.write(self.folder, "report", long_report(3001)))
+        self.assertEqual(bars(page, r"packet-(\d+)"), [])
+        self.assertEqual(images(page), ["density-one"])
+        self.assertIn("every packet counts: the darker a spot, the more packets (logarithmic); each lane reaches up to 1 "
+                      "events", words(page))
 
-    def test_many_drops_are_thinned_too(self):
+    def test_many_drops_are_a_density_too(self):
         lines = "".join("x %d %d one\n" % (at, at) for at in range(1, 6002))
         page = drawn(self.folder, runs.write(self.folder, "report", lines + END % (0, 0, 0, 6001)))
-        self.assertEqual(len(group(page, "dropped-one").findall(SVG + "path")), 2001)
-        self.assertIn("of the packets one in 3 is drawn", words(page))
+        self.assertIn("dropped-one", images(page))
 
     def test_the_title_has_policy_capture_and_command(self):
         commands = ["zovatsemo link a/first b c 9", "zovatsemo direct a/second c d"]
@@ -159,16 +172,14 @@ class Page(unittest.TestCase):
         names = ["_", "_under", "a" * 20, "long_" * 12 + "name", "W" * 64]
         lines = "".join("a %d %d %s 0\n" % (at, at, name) for at, name in enumerate(names, 1))
         page = drawn(self.folder, runs.write(self.folder, "report", lines + END % (5, 0, 5, 0)))
-        self.assertEqual(legend(page), names + ["pale: held at the end"])
-        for text in page.iter(SVG + "text"):
-            moved = re.search(r"translate\((\S+) ", text.get("transform", ""))
-            self.assertGreaterEqual(float(moved.group(1) if moved else text.get("x")), 10)
+        self.assertEqual(legend(page), names + ["hatched: queued at the end"])
+        self.assertGreaterEqual(left_of(page), 10)
 
     def test_the_page_says_where_a_report_breaks(self):
         report = runs.write(self.folder, "report", "a 1 1 one 0\n")
         out = pathlib.Path(self.folder) / "page.svg"
         said = "%s: broken at line 2: the report stops before the end of the run" % report
-        self.assertEqual(runs.look(report, "--out", out), (1, said + "\n", ""))
+        self.assertEqual(runs.look(report, "--out", out), (2, said + "\n", ""))
         self.assertIn(said, words(xml.etree.ElementTree.parse(out).getroot()))
 
     def test_a_page_without_packets(self):

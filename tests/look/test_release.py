@@ -135,6 +135,7 @@ class Archive(unittest.TestCase):
         explained = run(runs.TOP / "tools/explain", "policy", 7)
         self.assertEqual(run(top / "zovatsemo", "--explain", "policy", 7), explained)
         self.assertEqual(run(top / "tools/look", top / "examples/office/report")[0], 0)
+        self.assertEqual(run(top / "tools/compare", "--help")[0], 0)
 
     def test_a_changed_file_is_refused(self):
         stray = self.clone / "stray"

@@ -33,7 +33,9 @@ NOT_RUN = {
     "tools/release ../gate.log": "needs the log of a gate, and this check is a part of it",
     "tests/wrong_bodies/run pifo_core": "proves a crate, and tries its wrong bodies",
     "tests/look/run": "packs the commit of a checkout, which a copy of its files is not; the gate runs it before this check",
-    "apt-get install python3-matplotlib python3-dpkt": "changes the machine; tests/look/run does it where CI=true",
+    "apt-get install python3-matplotlib": "changes the machine; tests/look/run does it where CI=true",
+    "chromium --headless --window-size=1100,1120 --screenshot=docs/pictures/page.png review.html":
+        "needs a browser; tests/look tries the page in one if it is there",
 }
 
 

@@ -1,1 +1,1 @@
-"""Tables and pictures of a run of packets, read from its report. Nothing here is proved."""
+"""Tables, verdicts and pictures of runs, read from their reports. Nothing here is proved."""

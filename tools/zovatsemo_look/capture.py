@@ -1,85 +1,64 @@
-"""The original lengths and moments of a capture's packets.
-
-dpkt tells the header of the file. Its own reader of records hands out no original lengths, and rounds moments, so
-the records are read here.
-"""
+"""The original lengths and timestamps of a capture's packets, classic or pcapng; docs/FORMATS.md has both formats."""
 import array
-import itertools
 import struct
-
-import dpkt.pcap
 
 from zovatsemo_look import pcapng
 
-START, HEAD = 4, 24
-RECORD = 16
+START, HEAD, RECORD = 4, 24, 16  # bytes of a format's mark, of a classic header, of a record before its captured bytes
+MOST_CAPTURED = 262144  # bytes of one packet
+UNITS = {0xA1B2C3D4: 1000, 0xA1B23C4D: 1}  # by magic number: the nanoseconds of a fraction's unit
+ORDERS = {struct.pack(order + "I", magic): (order, unit) for order in "<>" for magic, unit in UNITS.items()}
 BILLION = 10 ** 9
 
 
 class CaptureError(Exception):
-    """The capture isn't one, or isn't that of the run."""
+    """The file isn't a capture, or isn't that of the run."""
 
 
 class Capture:
-    """Of each packet its original length in bytes, and its moment in nanoseconds."""
+    """The original length of each packet in bytes, and its timestamp in nanoseconds."""
 
     def __init__(self):
         self.lengths = array.array("I")
         self.moments = array.array("q")
+        self.end = None  # why reading stopped before the end of the file
 
 
-def head_of(start):
-    """The order of bytes, and how many nanoseconds a fraction counts, by the first bytes of a file."""
-    if len(start) < HEAD:
+def packets(stream, start, capture):
+    """The length and timestamp of each whole packet of a classic capture; `start` has its first bytes."""
+    head = start + stream.read(HEAD - START)
+    if len(head) < HEAD:
         raise CaptureError("it has fewer than %d bytes" % HEAD)
-    for kind, order in ((dpkt.pcap.FileHdr, ">"), (dpkt.pcap.LEFileHdr, "<")):
-        magic = kind(start).magic
-        if magic == dpkt.pcap.TCPDUMP_MAGIC:
-            return order, 1000
-        if magic == dpkt.pcap.TCPDUMP_MAGIC_NANO:
-            return order, 1
-    raise CaptureError("it is no capture of the classic format and no pcapng")
-
-
-def packets(stream, start):
-    """Of each whole packet of a classic capture its original length and its moment; `start` has its first bytes."""
-    order, unit = head_of(start + stream.read(HEAD - START))
-    record = struct.Struct(order + "IIII")
+    if start not in ORDERS:
+        raise CaptureError("it is no capture of the classic format and no pcapng")
+    order, unit = ORDERS[start]
+    record, number = struct.Struct(order + "IIII"), 0
     while True:
+        number += 1
         head = stream.read(RECORD)
-        if len(head) < RECORD:
+        if not head:
             return
-        seconds, fraction, captured, length = record.unpack(head)
-        if len(stream.read(captured)) < captured:
+        seconds, fraction, captured, length = record.unpack(head) if len(head) == RECORD else (0, 0, 0, 0)
+        if captured > MOST_CAPTURED:
+            capture.end = "record %d claims %s captured bytes, and at most %s are possible" % (
+                number, format(captured, ","), format(MOST_CAPTURED, ","))
+            return
+        if len(head) < RECORD or len(stream.read(captured)) < captured:
+            capture.end = "record %d is cut" % number
             return
         yield length, seconds * BILLION + fraction * unit
 
 
 def read_capture(stream, most, progress):
-    """The first packets of a capture, as many as asked for or as there are."""
-    start = stream.read(START)
-    found = pcapng.packets(stream, start) if start == pcapng.SECTION else packets(stream, start)
-    capture = Capture()
-    for number, (length, moment) in enumerate(itertools.islice(found, most)):
-        capture.lengths.append(length)
-        capture.moments.append(moment)
-        if not number & 0xFFFF:
+    """Reads the first packets of a capture, as many as asked for or as there are."""
+    capture, start = Capture(), stream.read(START)
+    found = pcapng.packets(stream, start, capture) if start == pcapng.SECTION else packets(stream, start, capture)
+    lengths, moments = capture.lengths, capture.moments
+    for length, moment in found:
+        lengths.append(length)
+        moments.append(moment)
+        if not len(lengths) & 0xFFFF:
             progress.at(stream)
+        if len(lengths) >= most:
+            break
     return capture
-
-
-def packets_told(run):
-    """How many packets a report speaks of: those that came, and those that weren't sent."""
-    return len(run.arrived) + (run.unsent or 0)
-
-
-def check_capture(capture, run):
-    """Refuses a capture that can't be that of the run."""
-    here, told = len(capture.lengths), packets_told(run)
-    if here < told:
-        raise CaptureError("it has %d whole packets, and the report speaks of %d" % (here, told))
-    if here > told and run.unsent is not None:
-        raise CaptureError("it has more than the %d packets of which the report speaks" % told)
-    for packet, start in zip(run.order, run.starts):
-        if start < capture.moments[packet - 1]:
-            raise CaptureError("packet %d starts before its moment: it isn't the capture of this run" % packet)

@@ -1,75 +1,132 @@
-"""Numbers of a run by leaf: counts, bytes and shares, and how long packets waited."""
+"""Numbers of a run by leaf or by class: counts, bytes, shares, delays, throughput. All are integers or fractions."""
 import array
-import collections
+import fractions
 
-Row = collections.namedtuple("Row", "leaf came left dropped held bytes share least median most95 most99 greatest "
-                                    "backlog overtaken")
-EVENTS, NANOSECONDS = "events", "nanoseconds"
+from zovatsemo_look import units
+from zovatsemo_look.report import IS_DROPPED, Leaf
+
+ALL = "all leaves"
+BILLION = 10 ** 9
+BITS = 8
+SHOWN = {"min": 0, "median": 50, "p95": 95, "p99": 99, "max": 100}  # the percentiles of the table
 
 
-def unit_of(runs, capture):
-    """Waiting is counted in nanoseconds where every run was paced by a link and the moments are known."""
-    return NANOSECONDS if capture and all(run.is_paced for run in runs) else EVENTS
+def is_time(runs, capture, rate):
+    """Whether delays are in nanoseconds: the runs were paced by a link, and the timestamps are known. A run without
+    departures says nothing of that."""
+    is_link = rate is not None or any(run.is_paced for run in runs)
+    return bool(capture) and is_link and all(run.is_paced or not run.order for run in runs)
 
 
-def waits_of(run, capture, unit):
-    """How long each packet that left waited, in the order in which they left."""
-    if unit == NANOSECONDS:
+def delays_of(run, capture, in_time):
+    """The delay of each packet that departed, in the order of departures."""
+    if in_time:
         moments = capture.moments
         return array.array("q", (start - moments[packet - 1] for packet, start in zip(run.order, run.starts)))
     arrived, left = run.arrived, run.left
     return array.array("q", (left[packet - 1] - arrived[packet - 1] for packet in run.order))
 
 
-def by_leaf(run, values):
-    """Values of the packets that left, in their order, split by leaf."""
-    split = [array.array("q") for _ in run.leaves]
-    leaf_of = run.leaf_of
-    for packet, value in zip(run.order, values):
-        split[leaf_of[packet - 1]].append(value)
-    return split
-
-
 def percentile(ordered, percent):
-    """The least value that so many percent of the ordered values don't pass; None where there are none."""
-    return ordered[max(1, (percent * len(ordered) + 99) // 100) - 1] if ordered else None
+    """The nearest rank: the least value that so many percent of the ordered values don't exceed. None if there are
+    none."""
+    if not ordered:
+        return None
+    rank = -(-fractions.Fraction(percent) * len(ordered) // 100)
+    return ordered[max(1, int(rank)) - 1]
 
 
-def bytes_by_leaf(run, capture):
-    """The bytes that left each leaf."""
-    totals = [0] * len(run.leaves)
-    leaf_of, lengths = run.leaf_of, capture.lengths
-    for packet in run.order:
-        totals[leaf_of[packet - 1]] += lengths[packet - 1]
-    return totals
+def share_text(share):
+    """A share in percent with one digit after the point, rounded to the nearest."""
+    return units.decimal(share * 100, 1) + "%"
 
 
-def share(part, whole):
-    """A part in percent with one digit behind the point, rounded to the nearest."""
-    tenths = (2000 * part + whole) // (2 * whole) if whole else 0
-    return "%d.%d%%" % divmod(tenths, 10)
+class Numbers:
+    """The numbers of one leaf or class, or of all."""
+
+    def __init__(self, counts, delays, total_bytes, share, throughput):
+        self.name = counts.name
+        self.arrived, self.departed, self.drops = counts.arrived, counts.departed, counts.drops
+        self.queued, self.backlog, self.overtaken = counts.queued, counts.backlog, counts.overtaken
+        self.delays, self.kept = delays, {}  # in order
+        self.bytes, self.share, self.throughput = total_bytes, share, throughput
+
+    def percentile(self, percent):
+        """A percentile of the delays; None if no packet departed."""
+        return self.kept[percent] if percent in self.kept else percentile(self.delays, percent)
+
+    def release(self):
+        """Keeps the percentiles of the table, and lets go of the delays."""
+        self.kept = {percent: self.percentile(percent) for percent in SHOWN.values()}
+        self.delays = array.array("q")
 
 
-def row_of(leaf, waits, served, total):
-    """A leaf's line of the table, from its counts, its waits and the bytes that left."""
-    ordered = sorted(waits)
-    return Row(leaf.name, leaf.came, leaf.left, leaf.dropped, leaf.held, served,
-               None if served is None else share(served, total),
-               *(percentile(ordered, percent) for percent in (0, 50, 95, 99, 100)), leaf.longest, leaf.overtaken)
+class RunNumbers:
+    """The numbers of one run, by name and of all. `groups` splits the packets by class in place of leaf."""
+
+    def __init__(self, run, capture, in_time, rate=None, groups=None):
+        names, group_of, counts = groups or ([leaf.name for leaf in run.leaves], run.leaf_of, run.leaves)
+        lengths = capture.lengths if capture else None
+        delays, sent = [array.array("q") for _ in names], [0] * len(names)
+        for packet, delay in zip(run.order, delays_of(run, capture, in_time)):
+            group = group_of[packet - 1]
+            delays[group].append(delay)
+            if lengths:
+                sent[group] += lengths[packet - 1]
+        delays = [ordered(values) for values in delays]
+        self.duration = duration_of(run, capture, rate) if in_time and rate else None
+        self.sent = sum(sent) if capture else None
+        self.by_name = {name: self.numbers(*rest) for name, *rest in zip(names, counts, delays, sent)}
+        every = ordered([value for part in delays for value in part])
+        self.all = self.numbers(run.all, every, self.sent)
+
+    def numbers(self, counts, delays, sent):
+        """The numbers of a group of packets. Of nothing there is no share, and in no time no throughput."""
+        if self.sent is None:
+            return Numbers(counts, delays, None, None, None)
+        share = fractions.Fraction(sent, self.sent) if self.sent else None
+        throughput = fractions.Fraction(sent * BITS * BILLION, self.duration) if self.duration else None
+        return Numbers(counts, delays, sent, share, throughput)
+
+    def of(self, name):
+        """The numbers of a name, with zeros if no packet arrived there."""
+        if name not in self.by_name:
+            self.by_name[name] = self.numbers(Leaf(name), array.array("q"), 0)
+        return self.by_name[name]
 
 
-def rows_of(run, capture, unit):
-    """The lines of the leaves by name, in the order in which they came first, and the line of all."""
-    waits = waits_of(run, capture, unit)
-    served = bytes_by_leaf(run, capture) if capture else [None] * len(run.leaves)
-    total = sum(served) if capture else None
-    rows = {leaf.name: row_of(leaf, those, part, total)
-            for leaf, those, part in zip(run.leaves, by_leaf(run, waits), served)}
-    return rows, row_of(run.all, waits, total, total)
+def ordered(values):
+    """Values in order, in as little memory as they need."""
+    return array.array("q", sorted(values))
+
+
+def duration_of(run, capture, rate):
+    """The nanoseconds from the first timestamp until the last packet is sent."""
+    if not len(capture.moments):
+        return 0
+    if not len(run.order):
+        return max(capture.moments[:len(run.arrived)], default=capture.moments[0]) - capture.moments[0]
+    sending = -(-capture.lengths[run.order[-1] - 1] * BILLION // rate)
+    return run.starts[-1] + sending - capture.moments[0]
+
+
+def counts_of(run, names, group_of):
+    """The counts of groups of packets, from the events of a run, as the report's reader makes those of leaves."""
+    counts, next_packet, last = [Leaf(name) for name in names], 0, 0
+    for packet in list(run.order) + [0]:
+        event = run.left[packet - 1] if packet else run.events + 1
+        while next_packet < len(run.arrived) and run.arrived[next_packet] < event:
+            group = counts[group_of[next_packet]]
+            group.drop() if run.left[next_packet] == IS_DROPPED else group.arrive()
+            next_packet += 1
+        if packet:
+            counts[group_of[packet - 1]].depart(packet < last)
+            last = max(last, packet)
+    return counts
 
 
 def places(run):
-    """By packet its place among all departures, from 1; 0 where it didn't leave."""
+    """The position of each packet among all departures, from 1; 0 if it didn't depart."""
     found = array.array("q", bytes(8 * len(run.left)))
     for place, packet in enumerate(run.order, 1):
         found[packet - 1] = place
@@ -78,7 +135,11 @@ def places(run):
 
 def leaf_names(runs):
     """The names of all leaves, those of the first run first."""
-    names = []
-    for run in runs:
-        names.extend(leaf.name for leaf in run.leaves if leaf.name not in names)
-    return names
+    return list(dict.fromkeys(leaf.name for run in runs for leaf in run.leaves))
+
+
+def fault_of(run, name):
+    """Why nothing can be judged about a run; None if it came to its end."""
+    if run.fault:
+        return "%s: the run ended with %s" % (name, run.fault)
+    return "%s: broken at %s" % (name, run.broken) if run.broken else None

@@ -3,6 +3,8 @@ import os
 import sys
 import time
 
+from zovatsemo_look.texts import shown
+
 EVERY = 0.5  # seconds
 
 
@@ -10,8 +12,8 @@ class Progress:
     """Says on standard error how far the work is, where standard error is a terminal."""
 
     def __init__(self, name, stream=None):
-        self.name = name
-        self.is_shown = sys.stderr.isatty()
+        self.name = shown(name)
+        self.is_shown = sys.stderr is not None and sys.stderr.isatty()
         self.size = size_of(stream) if self.is_shown and stream else 0
         self.is_begun = False
         self.next = time.monotonic() + EVERY

@@ -1,27 +1,29 @@
 """What a page is of: policies, capture and commands, as far as they are known."""
-RUNS = "AB"
+from zovatsemo_look.study import LETTERS
+from zovatsemo_look.texts import shown
+
 PLACES = {"direct": {"policy": 1, "capture": 2}, "replay": {"policy": 1, "capture": 3},
-          "link": {"policy": 1, "capture": 3}}  # behind the word of the command
+          "link": {"policy": 1, "capture": 3}}  # words after the name of the command
 
 
 def file_in(command, kind):
-    """The file that a command names as its policy or its capture; None where it names none."""
+    """The file that a command names as its policy or its capture; None if it names none."""
     words = (command or "").split()
     for at, word in enumerate(words):
         if word in PLACES:
-            behind = words[at + PLACES[word][kind]:]
-            return behind[0] if behind else None
+            rest = words[at + PLACES[word][kind]:]
+            return rest[0] if rest else None
     return None
 
 
-def lines_of(commands, files, capture):
-    """The lines of the title, each with whether it is a head. `files` has the name of each report."""
+def lines_of(commands, names, capture):
+    """The lines of the title, each with whether it is a head. `names` has the name of each report or policy."""
     lines = []
-    for which, (command, file) in enumerate(zip(commands, files)):
+    for which, (command, name) in enumerate(zip(commands, names)):
         policy = file_in(command, "policy")
-        mark = RUNS[which] + ": " if len(files) > 1 else ""
-        lines.append((mark + ("policy %s" % policy if policy else "report %s" % file), True))
+        mark = LETTERS[which] + ": " if len(names) > 1 else ""
+        lines.append((mark + ("policy %s" % shown(policy) if policy else "report %s" % name), True))
         if command:
-            lines.append((command, False))
+            lines.append((shown(command), False))
     capture = capture or file_in(commands[0], "capture")
-    return lines + ([("capture %s" % capture, True)] if capture else [])
+    return lines + ([("capture %s" % shown(capture), True)] if capture else [])
