@@ -1,0 +1,34 @@
+-- A call that stops at once for want of memory.
+use Rattle.std.proofs.Common.{rules, ◌≡◌, ℕ, List, Option, inr, ap, subst, ◌∙◌, map, string_bytes, String}
+use Rattle.std.specs.declared.alloc.Global.{Global}
+use Rattle.outside_core.proofs.WrittenLaws.{appended_nothing, prefix_of_nothing}
+use Rattle.front_defs.specs.Options.{words_of}
+use Rattle.front_defs.specs.declared.options.Options.{Options}
+use Rattle.replay_app.specs.Answer.{Answer, IsGiven}
+use Rattle.replay_app.specs.Output.{Answers}
+use Rattle.replay_app.specs.Statuses.{CanEnd, IsStop}
+use Rattle.replay_app.specs.Words.{Form, WhereTold, file_words, form_in, form_of}
+use Rattle.tap_core.specs.Lists.{Entry}
+use Rattle.front_app.specs.Front.{form_asked}
+
+pub no_memory : IsStop 10
+no_memory = search rules
+
+-- nothing is written
+pub given_nothing : (output : Answer → Type 0) (old : Option (List ℕ)) → IsGiven output 10 old old
+given_nothing output old = inr (record { stop = no_memory; part = λ a is. prefix_of_nothing old old a.text (appended_nothing old) })
+
+pub ends_so : (form : Form) → CanEnd form 10
+ends_so form = inr no_memory
+
+-- the words that options give have the form that is asked for
+pub same_form : (words items : List (String Global)) (options : Options) → words ≡ items → map string_bytes items ≡ words_of options → form_in words ≡ form_asked options
+same_form words items options read same = ap form_in read ∙ ap form_of same
+
+-- what is answered to words is answered to their form
+pub answered_so : (content : List ℕ → Option (List ℕ)) (taps : List Entry) (status : ℕ) (old new : Option (List ℕ)) (given asked : Form) → given ≡ asked
+    → WhereTold content (file_words given) (λ contents. Answers given contents taps status old new)
+    → WhereTold content (file_words asked) (λ contents. Answers asked contents taps status old new)
+answered_so content taps status old new given asked same =
+    let P : Form → Type 0 = λ form. WhereTold content (file_words form) (λ contents. Answers form contents taps status old new) in
+    subst P same

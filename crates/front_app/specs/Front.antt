@@ -1,0 +1,7 @@
+-- The form of the replayer's words that options ask for.
+use Rattle.front_defs.specs.Options.{words_of}
+use Rattle.front_defs.specs.declared.options.Options.{Options}
+use Rattle.replay_app.specs.Words.{Form, form_of}
+
+abbrev pub form_asked : Options → Form
+form_asked options = form_of (words_of options)

@@ -1,0 +1,37 @@
+-- The line of a fault, which is kept back.
+use Rattle.std.specs.Prelude.{◌≡◌, refl, ℕ, ◌==◌, nat_le, Bool, true, false, ◌&&◌, ◌||◌, List, [], ◌∷◌, ◌++◌, length, take, min, codes}
+use Rattle.std.specs.List.{prefix_len}
+use Rattle.std.specs.Str.{bytes_eq}
+use Rattle.text_core.specs.Lines.{is_text}
+
+-- the most bytes of the line of a fault
+abbrev pub most_held : ℕ
+most_held = 64
+
+-- one line with its end
+abbrev pub is_one_line : List ℕ → Bool
+is_one_line [] = false
+is_one_line (b ∷ bs) = prefix_len is_text (b ∷ bs) == length bs
+
+abbrev pub begins_fault : List ℕ → Bool
+begins_fault w = bytes_eq (take (min (length w) 6) w) (codes "fault ")
+
+-- a line with its end, short enough, that begins as the line of a fault does
+abbrev pub is_fault_line : List ℕ → Bool
+is_fault_line w = nat_le (length w) most_held && is_one_line w && begins_fault w
+
+-- nothing, or a line of a fault
+abbrev pub is_caught : List ℕ → Bool
+is_caught w = is_fault_line w || length w == 0
+
+a_policys_fault_is_caught : is_fault_line (codes "fault policy 23 4" ++ 10 ∷ []) ≡ true
+a_policys_fault_is_caught = refl
+
+an_event_is_not : is_fault_line (codes "a 1 1 root 0" ++ 10 ∷ []) ≡ false
+an_event_is_not = refl
+
+a_line_without_its_end_is_not : is_fault_line (codes "fault policy 23 4") ≡ false
+a_line_without_its_end_is_not = refl
+
+two_lines_are_not : is_fault_line (codes "fault size 1 0" ++ 10 ∷ codes "fault size 1 0" ++ 10 ∷ []) ≡ false
+two_lines_are_not = refl

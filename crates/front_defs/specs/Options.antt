@@ -1,0 +1,65 @@
+-- What a command line means: the words of the replayer that its options give.
+use Rattle.std.specs.Prelude.{◌≡◌, refl, ℕ, Option, None, Some, List, [], ◌∷◌, ◌++◌, map, codes, decimal}
+use Rattle.std.specs.Borrow.{Bor}
+use Rattle.front_defs.specs.declared.command.Command.{Command}
+use Rattle.front_defs.specs.declared.command.Command.TheVariants as c
+use Rattle.front_defs.specs.declared.options.Options.{Options}
+
+-- the word of a command
+abbrev pub command_word : Command → List ℕ
+command_word c.Check = codes "check"
+command_word c.Plan = codes "plan"
+command_word c.Replay = codes "replay"
+command_word c.Link = codes "link"
+command_word c.Forward = codes "forward"
+command_word c.Direct = codes "direct"
+command_word c.Via = codes "via"
+command_word c.Soak = codes "soak"
+
+-- a rate in bytes a second, in decimal, where there is one
+abbrev pub rate_words : Option ℕ → List (List ℕ)
+rate_words None = []
+rate_words (Some rate) = decimal rate ∷ []
+
+-- a pair of words for each tap
+abbrev pub tap_words : List (List ℕ) → List (List ℕ)
+tap_words [] = []
+tap_words (tap ∷ taps) = codes "tap" ∷ tap ∷ tap_words taps
+
+-- the words of a command, of its files, a rate and taps, in this order
+abbrev pub words_by : Command → List (List ℕ) → Option ℕ → List (List ℕ) → List (List ℕ)
+words_by command files rate taps = command_word command ∷ (files ++ rate_words rate ++ tap_words taps)
+
+-- the texts of names
+abbrev pub names : List (Bor (List ℕ)) → List (List ℕ)
+names list = map (λ name. name.now) list
+
+-- the words of the replayer that options give
+abbrev pub words_of : Options → List (List ℕ)
+words_of o = words_by o.command (names o.files.items) o.rate (names o.taps.items)
+
+check_has_a_policy : words_by c.Check (codes "p" ∷ []) None [] ≡ codes "check" ∷ codes "p" ∷ []
+check_has_a_policy = refl
+
+plan_has_a_target : words_by c.Plan (codes "p" ∷ codes "t" ∷ []) None [] ≡ codes "plan" ∷ codes "p" ∷ codes "t" ∷ []
+plan_has_a_target = refl
+
+link_with_a_rate : words_by c.Link (codes "p" ∷ codes "t" ∷ codes "c" ∷ []) (Some 1250000) [] ≡ codes "link" ∷ codes "p" ∷ codes "t" ∷ codes "c" ∷ decimal 1250000 ∷ []
+link_with_a_rate = refl
+
+forward_with_a_rate : words_by c.Forward (codes "p" ∷ codes "t" ∷ codes "c" ∷ []) (Some 1) [] ≡ codes "forward" ∷ codes "p" ∷ codes "t" ∷ codes "c" ∷ decimal 1 ∷ []
+forward_with_a_rate = refl
+
+taps_are_last : words_by c.Replay (codes "p" ∷ codes "t" ∷ codes "c" ∷ codes "s" ∷ []) None (codes "bytes" ∷ codes "order" ∷ [])
+    ≡ codes "replay" ∷ codes "p" ∷ codes "t" ∷ codes "c" ∷ codes "s" ∷ codes "tap" ∷ codes "bytes" ∷ codes "tap" ∷ codes "order" ∷ []
+taps_are_last = refl
+
+direct_has_no_target : words_by c.Direct (codes "p" ∷ codes "c" ∷ codes "s" ∷ []) None [] ≡ codes "direct" ∷ codes "p" ∷ codes "c" ∷ codes "s" ∷ []
+direct_has_no_target = refl
+
+via_has_six_files : words_by c.Via (codes "p" ∷ codes "g" ∷ codes "m" ∷ codes "t" ∷ codes "c" ∷ codes "s" ∷ []) None []
+    ≡ codes "via" ∷ codes "p" ∷ codes "g" ∷ codes "m" ∷ codes "t" ∷ codes "c" ∷ codes "s" ∷ []
+via_has_six_files = refl
+
+soak_has_two_numbers : words_by c.Soak (codes "7" ∷ codes "200" ∷ []) None [] ≡ codes "soak" ∷ codes "7" ∷ codes "200" ∷ []
+soak_has_two_numbers = refl

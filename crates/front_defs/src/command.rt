@@ -1,0 +1,34 @@
+//! The commands.
+ghost use Rattle.std.specs.Prelude.{◌≡◌};
+ghost use Rattle.front_defs.specs.Options.{command_word};
+
+/// A command.
+#[derive(Clone, Copy, PartialEq, Eq, Debug)]
+pub enum Command {
+    Check,
+    Plan,
+    Replay,
+    Link,
+    Forward,
+    Direct,
+    Via,
+    Soak,
+}
+
+impl Command {
+    /// The word of a command.
+    pub fn word(self) -> &'static str
+        ensures { result.now ≡ command_word self }
+    {
+        match self {
+            Command::Check => "check",
+            Command::Plan => "plan",
+            Command::Replay => "replay",
+            Command::Link => "link",
+            Command::Forward => "forward",
+            Command::Direct => "direct",
+            Command::Via => "via",
+            Command::Soak => "soak",
+        }
+    }
+}

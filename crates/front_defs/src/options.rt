@@ -1,0 +1,75 @@
+//! Options, and the words of the replayer that they give.
+ghost use Rattle.std.specs.Prelude.{◌≡◌, ◌++◌, ◌∷◌, [], IfOk, OnOk, map, string_bytes};
+ghost use Rattle.front_defs.specs.Options.{names, tap_words, rate_words, words_of};
+
+use crate::command::Command;
+use itoa::Buffer;
+use std::alloc::{AllocError, Global};
+
+/// What a command line asks for.
+#[derive(Drop)]
+pub struct Options<'a> {
+    pub command: Command,
+    /// The names of the command's files in their order; of `soak` its two numbers.
+    pub files: Vec<&'a str>,
+    /// The rate of a link, in bytes a second.
+    pub rate: Option<u64>,
+    /// The names of taps.
+    pub taps: Vec<&'a str>,
+    /// Whether standard output has all that the replayer writes, with the line of a fault.
+    pub plain: bool,
+}
+
+/// Appends a word.
+fn put(alloc: Global, words: &mut Vec<String>, word: &str) -> Result<(), AllocError>
+    ensures { OnOk result (map string_bytes words.new.items ≡ map string_bytes words.old.items ++ word.now ∷ []) }
+{
+    words.push(String::from_str(alloc, word)?)?;
+    Ok(())
+}
+
+/// Appends each of the names.
+fn put_names(alloc: Global, words: &mut Vec<String>, list: &[&str]) -> Result<(), AllocError>
+    ensures { OnOk result (map string_bytes words.new.items ≡ map string_bytes words.old.items ++ names list.now) }
+{
+    let [name, more @ ..] = list else {
+        return Ok(());
+    };
+    put(alloc, words, name)?;
+    put_names(alloc, words, more)
+}
+
+/// Appends a pair of words for each tap.
+fn put_taps(alloc: Global, words: &mut Vec<String>, taps: &[&str]) -> Result<(), AllocError>
+    ensures { OnOk result (map string_bytes words.new.items ≡ map string_bytes words.old.items ++ tap_words (names taps.now)) }
+{
+    let [tap, more @ ..] = taps else {
+        return Ok(());
+    };
+    put(alloc, words, "tap")?;
+    put(alloc, words, tap)?;
+    put_taps(alloc, words, more)
+}
+
+/// Appends the digits of a rate, if there is one.
+fn put_rate(alloc: Global, words: &mut Vec<String>, rate: Option<u64>) -> Result<(), AllocError>
+    ensures { OnOk result (map string_bytes words.new.items ≡ map string_bytes words.old.items ++ rate_words rate) }
+{
+    let Some(rate) = rate else {
+        return Ok(());
+    };
+    let mut digits = Buffer::new();
+    put(alloc, words, digits.format(rate))
+}
+
+/// The words of the replayer that options give.
+pub fn words_of(alloc: Global, options: &Options<'_>) -> Result<Vec<String>, AllocError>
+    ensures { IfOk result (λ words. map string_bytes words.items ≡ words_of options.now) }
+{
+    let mut words = Vec::new(alloc);
+    put(alloc, &mut words, options.command.word())?;
+    put_names(alloc, &mut words, &options.files)?;
+    put_rate(alloc, &mut words, options.rate)?;
+    put_taps(alloc, &mut words, &options.taps)?;
+    Ok(words)
+}

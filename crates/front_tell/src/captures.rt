@@ -1,0 +1,33 @@
+//! What a file is that is no capture, or none that is read, by its first bytes.
+
+/// What a file with these first bytes is, and how to make a capture of it.
+pub fn capture_kind(front: &[u8]) -> (&'static str, &'static str) {
+    match front {
+        [] => (
+            "an empty file",
+            "capture at least one packet, or see that the capture was written",
+        ),
+        [0x1f, 0x8b, ..] => ("a gzip file", "gunzip it first"),
+        [0x28, 0xb5, 0x2f, 0xfd, ..] => ("a zstd file", "unzstd it first"),
+        [0xfd, b'7', b'z', b'X', b'Z', ..] => ("an xz file", "unxz it first"),
+        [b'B', b'Z', b'h', ..] => ("a bzip2 file", "bunzip2 it first"),
+        [b'P', b'K', 3, 4, ..] => ("a zip file", "unzip it first"),
+        [0x34, 0xcd, 0xb2, 0xa1, ..] | [0xa1, 0xb2, 0xcd, 0x34, ..] => (
+            "a modified pcap file (magic number 0xA1B2CD34)",
+            "editcap -F pcap FILE OUT makes a pcap file of it",
+        ),
+        [0x0a, 0x0d, 0x0d, 0x0a, ..] => ("a pcapng file", "see that it is whole"),
+        [0xd4, 0xc3, 0xb2, 0xa1, ..]
+        | [0xa1, 0xb2, 0xc3, 0xd4, ..]
+        | [0x4d, 0x3c, 0xb2, 0xa1, ..]
+        | [0xa1, 0xb2, 0x3c, 0x4d, ..] => ("a pcap file", "see that it is whole"),
+        [b's', b'n', b'o', b'o', b'p', ..] => (
+            "a snoop file",
+            "editcap -F pcap FILE OUT makes a pcap file of it",
+        ),
+        _ => (
+            "no capture that is known by its first bytes",
+            "give a pcap or pcapng file",
+        ),
+    }
+}

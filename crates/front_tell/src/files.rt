@@ -1,0 +1,29 @@
+//! Which file a fault is in.
+use front_defs::Command;
+use report_core::FaultKind;
+
+/// The place of the file that a fault is in, among the files of a command, counted from 0.
+pub fn file_of(command: Command, kind: FaultKind) -> Option<usize> {
+    Some(match (kind, command) {
+        (FaultKind::Policy, _) => 0,
+        (FaultKind::Target | FaultKind::Size, Command::Via) => 3,
+        (FaultKind::Target | FaultKind::Size, _) => 1,
+        (FaultKind::Script, Command::Replay) => 3,
+        (FaultKind::Script, Command::Direct) => 2,
+        (FaultKind::Script, Command::Via) => 5,
+        (FaultKind::Capture, Command::Direct) => 1,
+        (FaultKind::Capture, Command::Via) => 4,
+        (FaultKind::Capture, _) => 2,
+        (FaultKind::Tree, _) => 1,
+        (FaultKind::Map, _) => 2,
+        _ => return None,
+    })
+}
+
+/// Whether a fault of this kind is in a text, so that its place is a line.
+pub fn is_text(kind: FaultKind) -> bool {
+    matches!(
+        kind,
+        FaultKind::Policy | FaultKind::Target | FaultKind::Script | FaultKind::Tree | FaultKind::Map
+    )
+}

@@ -1,0 +1,123 @@
+//! The help.
+use front_defs::Command;
+
+/// The help of all commands.
+const HELP: &str = "\
+zovatsemo COMMAND ARGUMENT.. [OPTION]..
+
+check POLICY                                    report the first error of a policy, or print its canonical text
+plan POLICY TARGET                              print where each node of the policy goes in the target
+replay POLICY TARGET CAPTURE SCRIPT [--tap NAME]..
+                                                run a capture through the target's queues, as the script says
+link POLICY TARGET CAPTURE RATE                 run it at the pace of a link of that rate
+forward POLICY TARGET CAPTURE RATE              write the departures of link as a capture for other tools
+direct POLICY CAPTURE SCRIPT                    print what replay prints, computed with the policy's own tree
+via POLICY TOPOLOGY MAP TARGET CAPTURE SCRIPT   print what replay prints, with a map of your own
+soak SEED COUNT                                 run a generated load and print its sums
+
+RATE is 10Mbit, 10gbit, 1.25MB or 125000 (bytes a second). The file - is standard input.
+
+-h, --help [COMMAND]      this text, or that of a command with an example
+-o, --output FILE         write to a file; an input is refused
+-t, --tap NAME            one more line at the end of replay: bytes, order, first or drops
+    --plain               write the line `fault KIND CODE PLACE` too, and no messages
+-q, --quiet               write no messages
+-V, --version             the version
+";
+
+/// The help of `check`.
+const CHECK: &str = "\
+zovatsemo check POLICY
+
+Reports the first error of a policy, with its line, or prints the policy's canonical text.
+
+    zovatsemo check examples/office/policy
+";
+
+/// The help of `plan`.
+const PLAN: &str = "\
+zovatsemo plan POLICY TARGET
+
+Prints where each node of the policy goes in the target. If the target has no room for the policy's tree, it prints how
+high a target would have to be.
+
+    zovatsemo plan examples/office/policy examples/office/target
+";
+
+/// The help of `replay`.
+const REPLAY: &str = "\
+zovatsemo replay POLICY TARGET CAPTURE SCRIPT [--tap NAME]..
+
+Runs the packets of a capture through the target's queues. The script says when packets arrive and depart. Prints a line
+for each event, with the packet and its rank in each queue of the policy. A tap prints one more line at the end; NAME is
+bytes, order, first or drops.
+
+    zovatsemo replay examples/office/policy examples/office/target examples/office/capture examples/office/script
+";
+
+/// The help of `link`.
+const LINK: &str = "\
+zovatsemo link POLICY TARGET CAPTURE RATE
+
+Runs the packets of a capture through the target's queues, at their timestamps. A link of RATE
+takes them out. Prints what `replay` prints, and the time in nanoseconds at which each packet starts on the link.
+
+    zovatsemo link examples/office/policy examples/office/target examples/office/capture 1Mbit
+";
+
+/// The help of `forward`.
+const FORWARD: &str = "\
+zovatsemo forward POLICY TARGET CAPTURE RATE
+
+Writes the departures of `link` as a capture (pcap, in nanoseconds), which Wireshark and other tools can read.
+
+    zovatsemo forward examples/office/policy examples/office/target examples/office/capture 1Mbit -o out.pcap
+";
+
+/// The help of `direct`.
+const DIRECT: &str = "\
+zovatsemo direct POLICY CAPTURE SCRIPT
+
+Prints what `replay` prints, computed with the policy's own tree of queues. It needs no target.
+
+    zovatsemo direct examples/office/policy examples/office/capture examples/office/script
+";
+
+/// The help of `via`.
+const VIA: &str = "\
+zovatsemo via POLICY TOPOLOGY MAP TARGET CAPTURE SCRIPT
+
+Prints what `replay` prints, with a map of your own from the policy's tree into a topology. If the map would change the
+schedule, it names two nodes that break it.
+
+    zovatsemo via examples/office/policy examples/office/topology examples/office/map examples/office/target examples/office/capture examples/office/script
+";
+
+/// The help of `soak`.
+const SOAK: &str = "\
+zovatsemo soak SEED COUNT
+
+Draws COUNT events of a generated load, and runs them through the queues of a built-in target. Prints one line, which is
+the same on every machine for the same SEED and COUNT.
+
+    zovatsemo soak 1 1000
+";
+
+/// The help of all commands.
+pub fn help_of_all() -> &'static str {
+    HELP
+}
+
+/// The help of a command.
+pub fn help_of(command: Command) -> &'static str {
+    match command {
+        Command::Check => CHECK,
+        Command::Plan => PLAN,
+        Command::Replay => REPLAY,
+        Command::Link => LINK,
+        Command::Forward => FORWARD,
+        Command::Direct => DIRECT,
+        Command::Via => VIA,
+        Command::Soak => SOAK,
+    }
+}

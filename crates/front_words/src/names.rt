@@ -1,0 +1,77 @@
+//! The names of commands, of their arguments, and of taps.
+use front_defs::Command;
+
+/// The commands.
+pub const COMMANDS: [&str; 8] = [
+    "check", "plan", "replay", "link", "forward", "direct", "via", "soak",
+];
+
+/// The options.
+pub const OPTIONS: [&str; 6] = [
+    "--help",
+    "--output",
+    "--plain",
+    "--quiet",
+    "--tap",
+    "--version",
+];
+
+/// The kinds of taps.
+pub const TAPS: [&str; 4] = ["bytes", "order", "first", "drops"];
+
+/// The command of this name.
+pub fn command_named(word: &str) -> Option<Command> {
+    Some(match word {
+        "check" => Command::Check,
+        "plan" => Command::Plan,
+        "replay" => Command::Replay,
+        "link" => Command::Link,
+        "forward" => Command::Forward,
+        "direct" => Command::Direct,
+        "via" => Command::Via,
+        "soak" => Command::Soak,
+        _ => return None,
+    })
+}
+
+/// The command's form, as the first line of its help has it.
+pub fn form_of(command: Command) -> &'static str {
+    match command {
+        Command::Check => "check POLICY",
+        Command::Plan => "plan POLICY TARGET",
+        Command::Replay => "replay POLICY TARGET CAPTURE SCRIPT [--tap NAME]..",
+        Command::Link => "link POLICY TARGET CAPTURE RATE",
+        Command::Forward => "forward POLICY TARGET CAPTURE RATE",
+        Command::Direct => "direct POLICY CAPTURE SCRIPT",
+        Command::Via => "via POLICY TOPOLOGY MAP TARGET CAPTURE SCRIPT",
+        Command::Soak => "soak SEED COUNT",
+    }
+}
+
+/// How many arguments a command has.
+pub fn count_of(command: Command) -> usize {
+    match command {
+        Command::Check => 1,
+        Command::Plan | Command::Soak => 2,
+        Command::Direct => 3,
+        Command::Replay | Command::Link | Command::Forward => 4,
+        Command::Via => 6,
+    }
+}
+
+/// The name of a command's argument, counted from 0.
+pub fn argument_of(command: Command, place: usize) -> &'static str {
+    match (command, place) {
+        (Command::Soak, 0) => "SEED",
+        (Command::Soak, _) => "COUNT",
+        (_, 0) => "POLICY",
+        (Command::Via, 1) => "TOPOLOGY",
+        (Command::Via, 2) => "MAP",
+        (Command::Via, 3) => "TARGET",
+        (Command::Via, 4) | (Command::Direct, 1) => "CAPTURE",
+        (Command::Link | Command::Forward, 3) => "RATE",
+        (Command::Plan | Command::Replay | Command::Link | Command::Forward, 1) => "TARGET",
+        (Command::Replay | Command::Link | Command::Forward, 2) => "CAPTURE",
+        _ => "SCRIPT",
+    }
+}

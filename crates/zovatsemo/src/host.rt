@@ -1,0 +1,206 @@
+//! What is around the one call: the words behind the program's name, files, standard output and standard error.
+use crate::files::{front_of, tell_unread};
+use crate::output::WriterSink;
+use crate::told::tell;
+use fabric_core::FlatFabric;
+use front_app::{front_caught, front_run};
+use front_core::Catching;
+use front_defs::{Command, Options};
+use front_tell::{fault_in, file_of, help_of, help_of_all, tell_fault, tell_mistake, tell_status};
+use front_words::{Asked, Request, ask};
+use outside_core::{FileShelf, Sink, StdSink};
+use replay_app::{NO_FORM, refuse, stop_status};
+use report_core::FaultKind;
+use std::alloc::AllocError;
+use std::process::ExitCode;
+use std::{env, fs, io};
+use tap_core::{BytesTap, DropsTap, FirstTap, OrderTap, Tap};
+
+/// The words are in no form.
+const BAD_WORDS: u8 = 2;
+
+/// The output can't be written.
+const NO_OUTPUT: u8 = 9;
+
+/// There was no memory.
+const NO_MEMORY: u8 = 10;
+
+/// The system didn't give the words.
+const NO_WORDS: u8 = 16;
+
+/// How many packet numbers the tap of the first packets keeps.
+const FIRST_LIMIT: u32 = 8;
+
+/// What `--version` says.
+const VERSION: &str = "\
+zovatsemo, a packet scheduler
+proved: each function that the program is built from meets its contract (docs/PROOFS.md)
+";
+
+/// The words behind the program's name.
+fn words_of(rt: &HostRuntime) -> io::Result<Vec<String>> {
+    let mut words = Vec::new(rt.alloc());
+    for word in env::args(rt)?.skip(1) {
+        words.push(word)?;
+    }
+    Ok(words)
+}
+
+/// Says what the line of a fault means.
+fn tell_line(rt: &HostRuntime, options: &Options<'_>, line: &[u8]) -> Result<(), AllocError> {
+    let Some(fault) = fault_in(rt.alloc(), line) else {
+        return Ok(());
+    };
+    let name = match file_of(options.command, fault.kind) {
+        Some(place) if place < options.files.len() => options.files[place],
+        _ => "zovatsemo",
+    };
+    let content = front_of(rt, name)?;
+    tell(rt, &tell_fault(rt.alloc(), fault, name, &content)?);
+    Ok(())
+}
+
+/// Says why a run ended with a status, by the line of a fault, if there is one.
+fn tell_end(
+    rt: &HostRuntime,
+    options: &Options<'_>,
+    status: u8,
+    line: &[u8],
+) -> Result<(), AllocError> {
+    match line {
+        _ if status == 0 => (),
+        [line @ .., b'\n'] => tell_line(rt, options, line)?,
+        _ if status == 8 => tell_unread(rt, &options.files),
+        _ => tell(rt, &tell_status(rt.alloc(), options.command, status)?),
+    }
+    Ok(())
+}
+
+/// Runs what is asked for, and says on standard error what is wrong.
+fn run_told<K: Sink + Drop>(
+    rt: &HostRuntime,
+    request: &Request<'_>,
+    below: K,
+    taps: &mut Vec<Box<dyn Tap>>,
+) -> Result<u8, AllocError> {
+    let alloc = rt.alloc();
+    let options = &request.options;
+    let mut fabric = FlatFabric::new(alloc)?;
+    let mut shelf = FileShelf::new(rt.clone()?);
+    let mut sink = Catching::new(alloc, below, options.command == Command::Forward)?;
+    let status = front_caught(alloc, options, &mut shelf, &mut sink, &mut fabric, taps);
+    let is_done = status == 0 || status == 14 || status == 15;
+    if is_done && sink.release().is_err() {
+        return Ok(NO_OUTPUT);
+    }
+    if !request.quiet {
+        tell_end(rt, options, status, sink.kept())?;
+    }
+    Ok(status)
+}
+
+/// Runs what is asked for, with all that the replayer writes.
+fn run_plain<K: Sink + Drop>(
+    rt: &HostRuntime,
+    options: &Options<'_>,
+    mut sink: K,
+    taps: &mut Vec<Box<dyn Tap>>,
+) -> Result<u8, AllocError> {
+    let alloc = rt.alloc();
+    let mut fabric = FlatFabric::new(alloc)?;
+    let mut shelf = FileShelf::new(rt.clone()?);
+    Ok(front_run(alloc, options, &mut shelf, &mut sink, &mut fabric, taps))
+}
+
+/// Runs what is asked for into an output. There is a tap of each kind.
+fn run_into<K: Sink + Drop>(
+    rt: &HostRuntime,
+    request: &Request<'_>,
+    below: K,
+) -> Result<u8, AllocError> {
+    let alloc = rt.alloc();
+    let mut taps: Vec<Box<dyn Tap>> = Vec::new(alloc);
+    taps.push(Box::new(alloc, BytesTap::new())?)?;
+    taps.push(Box::new(alloc, OrderTap::new())?)?;
+    taps.push(Box::new(alloc, FirstTap::new(alloc, FIRST_LIMIT)?)?)?;
+    taps.push(Box::new(alloc, DropsTap::new())?)?;
+    if request.options.plain {
+        run_plain(rt, &request.options, below, &mut taps)
+    } else {
+        run_told(rt, request, below, &mut taps)
+    }
+}
+
+/// Runs what is asked for into standard output or a file.
+fn run_request(rt: &HostRuntime, request: &Request<'_>) -> Result<u8, AllocError> {
+    let Some(name) = request.output else {
+        return run_into(rt, request, StdSink::new(rt.clone()?));
+    };
+    match fs::create(rt, name) {
+        Ok(file) => run_into(rt, request, WriterSink::new(file)),
+        Err(error) => {
+            let _ = eprintln!(rt;
+                "{name}: error: expected a file that can be written, found: {error}"
+            );
+            Ok(NO_OUTPUT)
+        }
+    }
+}
+
+/// Prints a text.
+fn print(rt: &HostRuntime, text: &str) -> u8 {
+    match print!(rt; "{text}") {
+        Ok(()) => 0,
+        Err(_) => NO_OUTPUT,
+    }
+}
+
+/// Whether the replayer's own line is wanted.
+fn is_plain(words: &[String]) -> bool {
+    words.iter().any(|word| word.as_str() == "--plain")
+}
+
+/// Writes the line of a fault that the replayer writes where words are in no form.
+fn refuse_plain(rt: &HostRuntime) -> Result<u8, AllocError> {
+    let mut sink = StdSink::new(rt.clone()?);
+    match refuse(rt.alloc(), &mut sink, FaultKind::Words, NO_FORM) {
+        Ok(status) => Ok(status.code()),
+        Err(stop) => Ok(stop_status(stop)),
+    }
+}
+
+/// Does what the words ask for, and answers the status with which the program ends.
+fn answer_to(rt: &HostRuntime, words: &[String]) -> Result<u8, AllocError> {
+    match ask(rt.alloc(), words) {
+        Ok(Asked::Help(None)) => Ok(print(rt, help_of_all())),
+        Ok(Asked::Help(Some(command))) => Ok(print(rt, help_of(command))),
+        Ok(Asked::Version) => Ok(print(rt, VERSION)),
+        Ok(Asked::Run(request)) => run_request(rt, &request),
+        Err(_) if is_plain(words) => refuse_plain(rt),
+        Err(mistake) => {
+            tell(rt, &tell_mistake(rt.alloc(), mistake)?);
+            Ok(BAD_WORDS)
+        }
+    }
+}
+
+/// Does what the words behind the program's name ask for.
+pub fn answer(rt: &HostRuntime) -> ExitCode {
+    let words = match words_of(rt) {
+        Ok(words) => words,
+        Err(error) if error.kind() == io::ErrorKind::OutOfMemory => {
+            return ExitCode::from(NO_MEMORY);
+        }
+        Err(_) => {
+            tell(
+                rt,
+                b"zovatsemo: error: expected arguments in UTF-8, found other bytes\n",
+            );
+            return ExitCode::from(NO_WORDS);
+        }
+    };
+    match answer_to(rt, &words) {
+        Ok(status) => ExitCode::from(status),
+        Err(_) => ExitCode::from(NO_MEMORY),
+    }
+}

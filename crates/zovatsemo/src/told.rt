@@ -1,0 +1,8 @@
+//! What goes to standard error.
+use std::io::Write;
+
+/// Writes a text to standard error. Where that fails nothing more is said.
+pub fn tell(rt: &HostRuntime, text: &[u8]) {
+    let mut writer = rt.stderr();
+    let _ = writer.write_all(text);
+}
