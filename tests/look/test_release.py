@@ -16,6 +16,7 @@ import runs
 
 LAST = "examples: 5 passed, 0 failed\npacked: 7 passed, 0 failed\n"  # of the gate's log
 STAND_IN = "/bin/echo"  # a program that needs the C library alone
+PROGRAMS = ("replay_main", "block_app", "zovatsemo")
 FAULTS = {"words": [0], "size": [1], "target": range(1, 5), "script": range(1, 5), "capture": [1, 2, *range(4, 9), *range(11, 20)],
           "policy": [*range(1, 15), *range(21, 25)], "tree": range(1, 4), "map": range(1, 10)}
 
@@ -87,7 +88,7 @@ class Archive(unittest.TestCase):
         for words in (("add", "-A"), ("commit", "-q", "--allow-empty", "-m", "The tools as they are here")):
             subprocess.run(["git", "-c", "user.name=test", "-c", "user.email=test", *words], cwd=cls.clone, check=True)
         cls.log.write_text("57 passed, 0 failed\n" + LAST)
-        for name in ("replay_main", "block_app"):
+        for name in PROGRAMS:
             (cls.clone / "crates" / name / "out").mkdir()
             shutil.copy2(STAND_IN, cls.clone / "crates" / name / "out" / name)
         (cls.folder / "rt").write_text("#!/bin/sh\necho a toolchain\n")
@@ -120,17 +121,18 @@ class Archive(unittest.TestCase):
                      "replay_app"):
             self.assertIn(line, about.splitlines())
         self.assertRegex(about, r"\nneeds        x86_64 Linux with glibc 2\.\d+ or later\n")
-        for name in ("replay_main", "block_app"):
+        for name in PROGRAMS:
             self.assertEqual((top / "bin" / name).read_bytes(), pathlib.Path(STAND_IN).read_bytes())
-        self.assertEqual(run(top / "zovatsemo", "check", "some policy"), (0, "check some policy\n", ""))
+        for words in (["check", "some policy"], ["--plain", "check", "p"], ["--help", "link"], ["link", "--help"], ["relpay"], []):
+            self.assertEqual(run(top / "zovatsemo", *words), (0, " ".join(words) + "\n", ""))
         self.assertEqual(run(top / "zovatsemo", "--block", "calm", "p"), (0, "calm p\n", ""))
         (top / "bin/block_app").unlink()
         self.assertEqual(run(top / "zovatsemo", "--block", "calm", "p")[:2], (127, ""))
-        help_lines = run(top / "zovatsemo", "--help")[1].splitlines()
-        self.assertEqual(help_lines, run(self.clone / "zovatsemo", "--help")[1].splitlines()[:-2])
-        self.assertGreater(len(help_lines), 12)
-        self.assertEqual(run(top / "zovatsemo"), (2, "", "\n".join(help_lines) + "\n"))
-        self.assertTrue(run(top / "zovatsemo", "--help", "link")[1].startswith("link POLICY TARGET CAPTURE RATE\n"))
+        how = {"env": {**os.environ, "POSIXLY_CORRECT": "1"}}  # has the stand-in write the word `--help`
+        told, here = (run(place / "zovatsemo", "--help", **how) for place in (top, self.clone))
+        self.assertEqual(told[1].splitlines(), here[1].splitlines()[:-2])
+        self.assertEqual((told[0], told[2], told[1].splitlines()[0]), (0, "", "--help"))
+        self.assertGreater(len(told[1].splitlines()), 12)
         self.assertIn(commit, run(top / "zovatsemo", "--version")[1])
         explained = run(runs.TOP / "tools/explain", "policy", 7)
         self.assertEqual(run(top / "zovatsemo", "--explain", "policy", 7), explained)

@@ -14,8 +14,9 @@ import subprocess
 import tempfile
 
 TOP = pathlib.Path(__file__).resolve().parent.parent.parent
-PROGRAM = "crates/replay_main/out/replay_main"
-SECOND_PROGRAM = "crates/block_app/out/block_app"
+PROGRAM = "crates/zovatsemo/out/zovatsemo"  # for people; the launcher runs it
+SCRIPT_PROGRAMS = ("crates/replay_main/out/replay_main", "crates/block_app/out/block_app")
+BLOCK_PROGRAM = SCRIPT_PROGRAMS[1]
 MARK, INDENT = "$ ", "    "
 ASK_STATUS = "echo $?"
 TIMEOUT = 900  # seconds for a section
@@ -143,7 +144,8 @@ def link_tools(folder):
 class Copy:
     """A copy of the checkout with the built programs, which is gone in the end.
 
-    The programs are kept there as the gate keeps them, so the launcher runs them.
+    The programs are kept there as the gate keeps them, so the launcher runs them, and they are in bin/ too. The one for
+    people may come from elsewhere.
     """
 
     def __init__(self, program, checkout=TOP):
@@ -154,11 +156,11 @@ class Copy:
         self.top, self.told = self.room / "checkout", self.room / "told"
         self.told.mkdir()
         shutil.copytree(self.checkout, self.top, symlinks=True, ignore=LEFT_OUT)
-        for source, place in ((self.program, PROGRAM), (self.checkout / SECOND_PROGRAM, SECOND_PROGRAM)):
-            if source.is_file():
-                (self.top / place).parent.mkdir(parents=True)
-                shutil.copy(source, self.top / place)
+        for place in (PROGRAM, *SCRIPT_PROGRAMS):
+            (self.top / place).parent.mkdir(parents=True)
+            shutil.copy(self.program if place == PROGRAM else self.checkout / place, self.top / place)
         keep_proved(self.top)
+        shutil.copytree(self.top / "out/proved", self.top / "bin", dirs_exist_ok=True)
         return self
 
     def __exit__(self, *_):
@@ -190,7 +192,7 @@ class Copy:
                 path = pathlib.Path(folder, name)
                 kept = self.checkout / path.relative_to(self.top)
                 is_picture = kept.parent == self.checkout / "docs/pictures"
-                if kept.is_file() and not is_picture and "out" not in path.relative_to(self.top).parts:
+                if kept.is_file() and not is_picture and not {"bin", "out"} & set(path.relative_to(self.top).parts):
                     if path.read_bytes() != kept.read_bytes():
                         yield str(path.relative_to(self.top))
 

@@ -38,12 +38,15 @@ class Check(unittest.TestCase):
         for name in ("zovatsemo", "tools/sources", "tools/usage", "tools/keep_proved"):
             (self.checkout / name).parent.mkdir(exist_ok=True)
             shutil.copy2(pages.TOP / name, self.checkout / name)
-        (self.checkout / "crates.txt").write_text("replay_main:\nblock_app:\n")
-        for name in ("replay_main", "block_app"):
+        (self.checkout / "crates.txt").write_text("replay_main:\nblock_app:\nzovatsemo:\n")
+        for name in ("replay_main", "block_app", "zovatsemo"):
             (self.checkout / "crates" / name / "src").mkdir(parents=True)
             (self.checkout / "crates" / name / "src/main.rt").write_text("fn main() {}\n")
-        (self.checkout / pages.SECOND_PROGRAM).parent.mkdir()
-        shutil.copy2(self.program, self.checkout / pages.SECOND_PROGRAM)
+        for name in pages.SCRIPT_PROGRAMS:
+            path = self.checkout / name
+            path.parent.mkdir()
+            path.write_text("#!/bin/sh\necho %s\n" % path.name)
+            path.chmod(0o755)
 
     def result(self, *lines):
         """Whether a page of these lines is right, and what is said of it."""
@@ -68,13 +71,17 @@ class Check(unittest.TestCase):
         self.assert_right(2, "    $ echo not shown", "    $ echo shown", "    shown", "", "", "Words.")
         self.assert_right(2, "    $ false", "    $ echo $?", "    1", "    ")
         self.assert_right(1, "    $ echo told >&2", "    told")
+        self.assert_right(2, "    $ echo written; echo told >&2; false", "    written", "    told", "    $ echo $?", "    1")
+        self.assert_wrong("line 1, shown:   told", "    $ echo written; echo told >&2", "    told", "    written")
         self.assert_right(2, "    $ printf 'a b\\n' > new.report", "    $ cat new.report", "    a b")
         self.assert_right(1, "    $ wc -c", "    0")
 
     def test_the_launcher_runs_the_programs_that_were_built(self):
         os.utime(self.program, (0, 0))
         self.assert_right(2, "    $ ./zovatsemo check", "    one", "", "    two", "    $ echo $?", "    3")
-        self.assert_right(2, "    $ ./zovatsemo --block check", "    one", "", "    two", "    $ echo $?", "    3")
+        self.assert_right(1, "    $ ./zovatsemo --block check", "    block_app")
+        self.assert_right(2, "    $ bin/zovatsemo check", "    one", "", "    two", "    $ echo $?", "    3")
+        self.assert_right(2, "    $ bin/replay_main check", "    replay_main", "    $ bin/block_app check", "    block_app")
 
     def test_a_wrong_output(self):
         for command, shown, said in (

@@ -41,7 +41,7 @@ class Clone(unittest.TestCase):
 
     @classmethod
     def setUpClass(cls):
-        for name in (pages.PROGRAM, pages.SECOND_PROGRAM):
+        for name in (pages.PROGRAM, *pages.SCRIPT_PROGRAMS):
             if not (pages.TOP / name).is_file():
                 raise AssertionError("there is no program %s" % name)
         folder = tempfile.TemporaryDirectory()
@@ -52,13 +52,13 @@ class Clone(unittest.TestCase):
             copy = shutil.copytree if (pages.TOP / name).is_dir() else shutil.copy2
             copy(pages.TOP / name, cls.clone / name, **({"dirs_exist_ok": True} if copy == shutil.copytree else {}))
         pages.link_tools(cls.path)
-        for name in (pages.PROGRAM, pages.SECOND_PROGRAM):
+        for name in (pages.PROGRAM, *pages.SCRIPT_PROGRAMS):
             (cls.clone / name).parent.mkdir()
             shutil.copy2(pages.TOP / name, cls.clone / name)
         pages.keep_proved(cls.clone, cls.path)
         shutil.rmtree(cls.clone / "bin", ignore_errors=True)
         (cls.clone / "out/proved").rename(cls.clone / "bin")
-        for name in (pages.PROGRAM, pages.SECOND_PROGRAM):
+        for name in (pages.PROGRAM, *pages.SCRIPT_PROGRAMS):
             shutil.rmtree((cls.clone / name).parent)
 
     def assert_at_once(self, text, printed=None):
@@ -82,8 +82,10 @@ class Clone(unittest.TestCase):
             with self.subTest(text):
                 self.assert_at_once(text)
 
-    def test_the_second_program(self):
-        self.assert_at_once("./zovatsemo --block calm examples/uplink/strict examples/uplink/target", "calm yes\n")
+    def test_the_programs_for_scripts(self):
+        self.assert_at_once(FIRST.replace("./zovatsemo", "bin/replay_main"), REPORT)
+        for name in ("./zovatsemo --block", "bin/block_app"):
+            self.assert_at_once(name + " calm examples/uplink/strict examples/uplink/target", "calm yes\n")
 
     def test_help_and_version(self):
         for text in ("./zovatsemo --help", "./zovatsemo --help link", "./zovatsemo --version"):

@@ -1,4 +1,4 @@
-"""The built program, found and run as tests/tools/conformance does, for the other scripts of this folder."""
+"""The built programs, found and run as tests/tools/conformance does, for the other scripts of this folder."""
 import importlib.machinery
 import importlib.util
 import pathlib
@@ -21,11 +21,11 @@ def conformance():
 runner = conformance()
 
 
-def program(name, given, suite=""):
-    """The path of the program of a suite; without one the script of this name ends with status 3."""
-    path = runner.program_for(suite, given)
+def program(name, given, suite="", front=False):
+    """The path of the program of a suite, or of the one for people; without it the script of this name ends with status 3."""
+    path = runner.program_for(suite, given, front)
     if path is None:
-        print("%s: no program; looked for %s" % (name, ", ".join(runner.programs(suite, given))))
+        print("%s: no program; looked for %s" % (name, ", ".join(runner.programs(suite, given, front))))
         sys.exit(3)
     return path
 

@@ -15,8 +15,10 @@ EXAMPLE = built.EXAMPLES / "office"
 FILES = {name: str(EXAMPLE / name) for name in ("policy", "target", "capture", "script")}
 SHARED = ["check {policy}", "plan {policy} {target}", "direct {policy} {capture} {script}", "link {policy} {target} {capture} 1000000000",
           "replay {policy} {target} {capture} {script} tap bytes", "soak 7 200"]
-COMMANDS = {"": [*SHARED, "forward {policy} {target} {capture} 1000000000", "via {policy} {topology} {map} {target} {capture} {script}"],
-            "block": [*SHARED, "calm {policy} {target}"]}
+FIRST = [*SHARED, "forward {policy} {target} {capture} 1000000000", "via {policy} {topology} {map} {target} {capture} {script}"]
+# The programs, each by a suite and whether it is the one for people, and their commands.
+COMMANDS = {("", False): FIRST, ("block", False): [*SHARED, "calm {policy} {target}"],
+            ("", True): [*FIRST, *("--plain " + command for command in FIRST)]}
 
 
 def placed(folder):
@@ -54,9 +56,9 @@ class Faults(unittest.TestCase):
 
     def each(self):
         """Each command of each program."""
-        for suite, commands in COMMANDS.items():
-            program = built.runner.program_for(suite, None)
-            self.assertIsNotNone(program, "no program; looked for %s" % built.runner.programs(suite, None))
+        for (suite, front), commands in COMMANDS.items():
+            program = built.runner.program_for(suite, None, front)
+            self.assertIsNotNone(program, "no program; looked for %s" % built.runner.programs(suite, None, front))
             for command in commands:
                 yield program, [word.format(**self.files) for word in command.split()]
 

@@ -1,6 +1,6 @@
 """The packed programs: what tools/pack writes, what it refuses, and that the gate fails where a byte of them is changed.
 
-The command `echo` stands in for the programs, and a script for the toolchain's command `rt`.
+Common commands stand in for the programs, and a script for the toolchain's command `rt`.
 """
 import json
 import os
@@ -14,9 +14,11 @@ import unittest
 TOP = pathlib.Path(__file__).resolve().parent.parent.parent
 COPIED = ("tools/sources", "tools/keep_proved", "tools/pack", "tools/proved_programs.py", "tests/tools/packed",
           "tests/tools/conformance", ".gitignore", ".gitattributes")
-PROGRAMS = ("replay_main", "block_app")
+# Programs that need the C library alone. With no words but `--plain`, `test` ends with status 0, and without it with 1.
+STAND_INS = {"replay_main": "/bin/true", "block_app": "/bin/echo", "zovatsemo": "/usr/bin/test"}
+PROGRAMS = tuple(STAND_INS)
+CASES = {"plan": ([], ""), "block": (["calm"], "calm\n")}  # of each suite the words and the output
 LINE = "a kit logic 5"
-STAND_IN = "/bin/echo"  # a program that needs the C library alone
 LOG = "7 passed, 0 failed\nplan: 3 passed, 0 failed\nexamples: 2 passed, 0 failed\n"
 LAST = "packed: there is no bin/BUILT\npacked: 0 passed, 1 failed\n"
 
@@ -47,11 +49,11 @@ class Checkout(unittest.TestCase):
         for name in COPIED:
             (self.top / name).parent.mkdir(parents=True, exist_ok=True)
             shutil.copy2(TOP / name, self.top / name)
-        self.write("crates.txt", "# crates\nlow:\nreplay_main: low\nblock_app: low\n")
+        self.write("crates.txt", "# crates\nlow:\nreplay_main: low\nblock_app: low\nzovatsemo: low\n")
         for name in ("low", *PROGRAMS):
             self.write("crates/%s/src/main.rt" % name, "fn main() {}\n")
-        for suite in ("plan", "block"):
-            case = {"name": "one", "suite": suite, "words": [suite], "files": {}, "stdout": {"text": suite + "\n"}, "status": 0}
+        for suite, (words, text) in CASES.items():
+            case = {"name": "one", "suite": suite, "words": words, "files": {}, "stdout": {"text": text}, "status": 0}
             self.write("tests/cases/%s.jsonl" % suite, json.dumps(case) + "\n")
         for name in PROGRAMS:
             self.build(name)
@@ -73,7 +75,7 @@ class Checkout(unittest.TestCase):
     def build(self, name, more=b""):
         """Puts a program where the toolchain leaves it, with some more bytes after its end."""
         self.write("crates/%s/out/%s" % (name, name), "")
-        (self.top / "crates" / name / "out" / name).write_bytes(pathlib.Path(STAND_IN).read_bytes() + more)
+        (self.top / "crates" / name / "out" / name).write_bytes(pathlib.Path(STAND_INS[name]).read_bytes() + more)
 
     def set_toolchain(self, line):
         """Puts a command `rt` on the path that says this line."""
@@ -117,7 +119,7 @@ class Checkout(unittest.TestCase):
     # the gate ----------------------------------------------------------------
 
     def test_packed_programs_pass(self):
-        self.assertEqual(self.packed(), (0, "packed: 7 passed, 0 failed\n"))
+        self.assertEqual(self.packed(), (0, "packed: 9 passed, 0 failed\n"))
 
     def test_a_changed_byte_of_a_program_fails(self):
         for name in PROGRAMS:
@@ -127,7 +129,7 @@ class Checkout(unittest.TestCase):
         self.assertEqual(self.packed()[0], 0)
 
     def test_a_changed_byte_of_a_source_fails(self):
-        for name in ("crates/low/src/main.rt", "crates/block_app/src/main.rt", "crates.txt"):
+        for name in ("crates/low/src/main.rt", "crates/block_app/src/main.rt", "crates/zovatsemo/src/main.rt", "crates.txt"):
             self.change(name)
             self.assert_wrong("other sources")
             self.change(name)
@@ -148,9 +150,11 @@ class Checkout(unittest.TestCase):
         self.assert_wrong("there is no bin/BUILT; tools/pack makes it")
 
     def test_another_program_than_the_one_that_was_built_fails(self):
-        self.build("block_app", b"more")
-        self.keep_proved()
-        self.assert_wrong("bin/block_app isn't byte by byte the program that was built here")
+        for name in PROGRAMS:
+            self.build(name, b"more")
+            self.keep_proved()
+            self.assert_wrong("bin/%s isn't byte by byte the program that was built here" % name)
+            self.build(name)
 
     def test_another_toolchain_has_the_cases_run(self):
         self.build("block_app", b"more")
@@ -160,9 +164,10 @@ class Checkout(unittest.TestCase):
         self.assertEqual(status, 0, told)
         self.assertIn("built by another toolchain (a kit logic 5) than the one here (a later kit)", told)
         self.assertEqual([line for line in told.splitlines() if line.endswith("1 passed, 0 failed")],
-                         ["plan: 1 passed, 0 failed", "block: 1 passed, 0 failed"])
+                         ["plan: 1 passed, 0 failed", "block: 1 passed, 0 failed", "plan: 1 passed, 0 failed"])
         self.write("tests/cases/plan.jsonl", (self.top / "tests/cases/plan.jsonl").read_text().replace('"status": 0', '"status": 1'))
-        self.assert_wrong("bin/replay_main doesn't pass all conformance cases")
+        for name in ("replay_main", "zovatsemo"):
+            self.assert_wrong("bin/%s doesn't pass all conformance cases" % name)
 
     # tools/sources -----------------------------------------------------------
 
@@ -173,14 +178,14 @@ class Checkout(unittest.TestCase):
         os.utime(self.top / "crates/low/src/main.rt", (0, 0))
         for name in ("crates/low/out/main.rt", "crates/low/must-fail/a.edit", "crates/other/src/lib.rt", "notes"):
             self.write(name, "more")
-        self.write("crates.txt", "low:\n\nother: low\nblock_app: low\nreplay_main: low # more\n")
+        self.write("crates.txt", "low:\n\nother: low\nzovatsemo: low\nblock_app: low\nreplay_main: low # more\n")
         self.assertEqual(total(), first)
         seen = {first}
         for name in ("crates/low/src/main.rt~", "crates/low/src/.hidden", "crates/low/specs/two words.antt",
                      "crates/low/proofs/a/b.antt", "crates/low/src/-n"):
             self.write(name, "")
             seen.add(total())
-        self.write("crates.txt", "low: itoa\nblock_app: low\nreplay_main: low\n")
+        self.write("crates.txt", "low: itoa\nblock_app: low\nzovatsemo: low\nreplay_main: low\n")
         seen.add(total())
         (self.top / "crates/low/src/main.rt").rename(self.top / "crates/low/src/lib.rt")
         seen.add(total())
@@ -195,7 +200,7 @@ class Checkout(unittest.TestCase):
         self.assertEqual(self.run_in("tools/sources", "sum")[0], 1)
 
     def test_crates(self):
-        self.assertEqual(self.run_in("tools/sources", "crates"), (0, "low\nreplay_main\nblock_app\n"))
+        self.assertEqual(self.run_in("tools/sources", "crates"), (0, "low\nreplay_main\nblock_app\nzovatsemo\n"))
         self.assertEqual(self.run_in("tools/sources", "programs"), (0, "".join(name + "\n" for name in PROGRAMS)))
         self.assertEqual(self.run_in("tools/sources")[0], 2)
 
@@ -242,8 +247,10 @@ class Checkout(unittest.TestCase):
         self.assert_refused("built from other sources")
 
     def test_a_changed_program_is_not_packed(self):
-        self.change("out/proved/block_app")
-        self.assert_refused("out/proved/block_app isn't the program")
+        for name in PROGRAMS:
+            self.change("out/proved/" + name)
+            self.assert_refused("out/proved/%s isn't the program" % name)
+            self.change("out/proved/" + name)
 
 
 if __name__ == "__main__":

@@ -18,7 +18,9 @@ from pcapng_blocks import block, enhanced, interface, section, simple, unit  # n
 EXAMPLE = built.EXAMPLES / "office"
 FILES = {name: str(EXAMPLE / name) for name in ("policy", "target", "script")}
 SHARED = ["direct {policy} {capture} {script}", "replay {policy} {target} {capture} {script} tap bytes", "link {policy} {target} {capture} 1000000000"]
-COMMANDS = {"": [*SHARED, "forward {policy} {target} {capture} 1000000000"], "block": SHARED}
+FIRST = [*SHARED, "forward {policy} {target} {capture} 1000000000"]
+# The programs, each by a suite and whether it is the one for people, and their commands.
+COMMANDS = {("", False): FIRST, ("block", False): SHARED, ("", True): FIRST}
 WINDOW = 65536  # bytes that a reader holds at most
 MICROSECONDS = 0xA1B2C3D4
 ETHERNET = 1
@@ -86,9 +88,9 @@ class Pipes(unittest.TestCase):
 
     def each(self):
         """Each command of each program, without its capture."""
-        for suite, commands in COMMANDS.items():
-            program = built.runner.program_for(suite, None)
-            self.assertIsNotNone(program, "no program; looked for %s" % built.runner.programs(suite, None))
+        for (suite, front), commands in COMMANDS.items():
+            program = built.runner.program_for(suite, None, front)
+            self.assertIsNotNone(program, "no program; looked for %s" % built.runner.programs(suite, None, front))
             for command in commands:
                 yield [str(program), *command.split()]
 
@@ -97,7 +99,7 @@ class Pipes(unittest.TestCase):
         path = self.folder / "capture"
         path.write_bytes(content)
         done = subprocess.run([word.format(capture=path, **FILES) for word in words], stdin=subprocess.DEVNULL, stdout=subprocess.PIPE,
-                              timeout=60, check=False)
+                              stderr=subprocess.DEVNULL, timeout=60, check=False)
         return done.returncode, done.stdout
 
     def from_pipe(self, words, content, piece):
@@ -105,7 +107,8 @@ class Pipes(unittest.TestCase):
         pipe, into = os.pipe()
         try:
             with open(self.folder / "out", "w+b") as out:
-                process = subprocess.Popen([word.format(capture="/dev/stdin", **FILES) for word in words], stdin=pipe, stdout=out)
+                process = subprocess.Popen([word.format(capture="/dev/stdin", **FILES) for word in words], stdin=pipe, stdout=out,
+                                           stderr=subprocess.DEVNULL)
                 try:
                     feed(process, pipe, into, content, piece)
                 finally:
