@@ -88,8 +88,13 @@ class Clone(unittest.TestCase):
             self.assert_at_once(name + " calm examples/uplink/strict examples/uplink/target", "calm yes\n")
 
     def test_help_and_version(self):
-        for text in ("./zovatsemo --help", "./zovatsemo --help link", "./zovatsemo --version"):
+        for text in ("./zovatsemo --help link", "./zovatsemo link --help", "./zovatsemo --version"):
             self.assert_at_once(text)
+        self.assert_at_once("./zovatsemo --help | grep -o -e '^replay POLICY' -e ' --prove '", "replay POLICY\n --prove \n")
+
+    def test_a_misspelt_command(self):
+        self.assert_at_once("./zovatsemo relpay 2>&1 | grep -o 'did you mean replay'", "did you mean replay\n")
+        self.assert_at_once("./zovatsemo --plain relpay || [ $? -eq 2 ]", "fault words 0 0\n")
 
 
 if __name__ == "__main__":
