@@ -1,9 +1,10 @@
 """Walks what the contract of a public function rests on: definitions, and the declarations of Rust that they speak of.
 
 A part is a piece of a file: in a file of definitions (crates/CRATE/specs/NAME.antt) a definition with its comment; in a
-source (crates/CRATE/src/NAME.rt) the declaration of a type, a trait or a function with its contract, without bodies,
-the model of a type (`impl Model for`), and what a box of a trait stands for. A part rests on all parts that its names may stand for, in its own file and by
-imports. So too much is counted at times, and nothing is left out. What the toolchain and its crates define is outside.
+source (crates/CRATE/src/NAME.rt) the declaration of a type, a trait or a function with its contract, without bodies, the
+model of a type (`impl Model for`), and what a box of a trait stands for. A part rests on all parts that its names may stand
+for, in its own file and by imports. So some lines count too much, and none is left out. What the toolchain and its crates
+define is outside.
 """
 import functools
 import pathlib
@@ -15,7 +16,8 @@ IMPORT = re.compile(r"^\s*(?:pub )?(?:ghost )?use Rattle\.([\w.]+?)(?:\.\{([^}]*
 RUST_USE = re.compile(r"^\s*(?:pub(?:\(\w+\))? )?use ([^;]+);", re.MULTILINE)
 DECLARED = r"(?:pub(?:\(\w+\))? )?(?:const (?=fn))?(fn|struct|enum|trait|type|const) %s\b"
 MODEL, BOXED = r"impl(?:<.*>)? Model for %s\b", r"impl %s for Box<dyn"
-DEFINED = re.compile(r"(?:^|\s)(?:pub|abbrev|record|data) (?!record |data |pub |mutual)([^\s:({]+)|^\s*([^\s:]+) :", re.MULTILINE)
+DEFINED = re.compile(r"(?:^|\s)(?:pub|abbrev|record|data) (?!record |data |pub |mutual)([^\s:({]+)|^\s*([^\s:]+) :",
+                     re.MULTILINE)
 DECLARATIONS, VARIANTS, SPLIT = ("declared", "contracts"), "TheVariants", r"[\s(){};,.\[\]]+"
 
 
@@ -173,9 +175,11 @@ class Walk:
             if names:
                 found += self.imported(part.path, one.module, names)
         if part.path.suffix == ".antt":
-            return found + [other for other, names in definitions_of(part.path) if any(is_used(name, used) for name in names)]
+            return found + [other for other, names in definitions_of(part.path)
+                            if any(is_used(name, used) for name in names)]
         types = {name for name in used if name[:1].isupper()}
-        return found + [other for other in (declaration(part.path, name) for name in types) if other] + self.rust(part, types)
+        own = [declaration(part.path, name) for name in types]
+        return found + [other for other in own if other] + self.rust(part, types)
 
     def imported(self, path, module, names):
         """The parts that names of a module stand for; none if it is outside."""
@@ -223,7 +227,8 @@ class Walk:
         """The declaration that a path of Rust names."""
         crate = path.relative_to(self.crates).parts[0] if parts[0] == "crate" else parts[0]
         source = self.crates / crate / "src"
-        target = source.joinpath(*parts[1:]).with_suffix(".rt") if parts[1:] else public_calls.root_of(crate, self.crates.parent)
+        root = public_calls.root_of(crate, self.crates.parent)
+        target = source.joinpath(*parts[1:]).with_suffix(".rt") if parts[1:] else root
         if target.is_file():
             if declaration(target, name):
                 return declaration(target, name)

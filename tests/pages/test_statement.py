@@ -47,7 +47,8 @@ FILES = {
                                   "-- the sum\nabbrev pub total : ℕ\ntotal = deep\n\n"
                                   "abbrev pub unused : ℕ\nunused = 1\n",
     "crates/low/specs/Handed.antt": "abbrev pub ◌+++◌ : ℕ\na +++ b = a\n",
-    "crates/low/specs/Deep.antt": "use Rattle.low.specs.declared.stores.Store.{Store}\n\nmutual\n  pub deep : ℕ\n\n  pub deeper : ℕ\n",
+    "crates/low/specs/Deep.antt": "use Rattle.low.specs.declared.stores.Store.{Store}\n\n"
+                                  "mutual\n  pub deep : Store\n\n  pub deeper : ℕ\n",
     "crates/low/specs/Other.antt": "abbrev pub half : ℕ\n\nabbrev pub third : ℕ\n",
     "crates/low/specs/Model.antt": "pub record Meant : Type 0 where\n  pub size : ℕ\n",
 }
