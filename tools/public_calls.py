@@ -48,14 +48,10 @@ class Head:
                 self.clauses.append((clause[1], clause[2]))
             elif not self.clauses and line != indent + "{" and not line.strip().startswith("//"):
                 self.signature = (self.signature + " " + line.strip()).strip()
-            if self.ends(line, indent) or depth == 0 and line.endswith(";"):
+            self.is_empty = line == indent + "{}" or not self.clauses and line.endswith(" {}")
+            has_body = line == indent + "{" or not self.clauses and line.endswith(" {")
+            if self.is_empty or has_body or depth == 0 and line.endswith(";"):
                 return
-
-    def ends(self, line, indent):
-        """Whether a body begins on a line."""
-        self.is_empty = line in (indent + "{}", indent + "{ }") or not self.clauses and line.endswith(" {}")
-        begins = line == indent + "{" or not self.clauses and line.endswith(" {")
-        return self.is_empty or begins
 
 
 def first_sentence(lines):
