@@ -1,10 +1,66 @@
-"""The table of docs/PROOFS.md that says what holds of each public call, against the calls in the sources."""
+"""The public calls in the sources against docs/CALLS.md, and against the table in docs/PROOFS.md of calls that can fail."""
 import pathlib
 import re
+import subprocess
+import sys
+import tempfile
 import unittest
 
 TOP = pathlib.Path(__file__).resolve().parent.parent.parent
-SECTION = "## Safe and total\n"
+sys.path.insert(0, str(TOP / "tools"))
+
+import public_calls  # noqa: E402
+
+SECTION = "## Calls that can fail\n"
+SOURCE = """\
+/// Opens a thing. It is
+/// shut by `close`.
+#[inline]
+pub fn open<'a>(
+    name: &'a str,
+    sizes: [u8; 4],
+) -> Result<Thing<'a>, Fault>
+    requires lent { IsLent name }
+    ensures ok { OnOk result (λ thing. record {
+        name = name;
+    }) }
+    // Not a clause: ensures never { }
+    ensures { Second }
+{
+    inner(name)
+}
+
+fn inner() -> Option<u8>
+    ensures hidden { Hidden }
+{
+    None
+}
+
+/// Nothing is open at first.
+pub fn nothing_is_open()
+    ensures { NothingIsOpen }
+{}
+
+impl<'a> Thing<'a> {
+    /// Whether it is shut.
+    pub fn is_shut(&self) -> bool {
+        self.shut
+    }
+
+    fn hidden(&self) {}
+}
+
+impl Hidden {
+    pub fn size(&self) -> u8 { 1 }
+}
+
+pub trait Door: Drop {
+    /// Shuts it.
+    fn close(&mut self) -> Option<u8>
+        requires { IsOpen }
+        requires { IsFree };
+}
+"""
 
 
 def named():
@@ -18,51 +74,77 @@ def named():
     return calls
 
 
-def exported(crate):
-    """The names that a crate's root makes public."""
-    source = TOP / "crates" / crate / "src"
-    text = next(path for path in (source / "lib.rt", source / "main.rt") if path.exists()).read_text()
-    uses = [re.sub(r"\s", "", found) for found in re.findall(r"^pub use ([^;]+);", text, re.MULTILINE)]
-    return {name for use in uses for name in re.findall(r"\w+", use[use.rindex("::"):])}
+def crates():
+    """The crates whose calls are listed, which are all but those of tests."""
+    return [crate for _, found in public_calls.rooms() for crate in found if not crate.endswith("_tests")]
 
 
-def calls_in(text, public):
-    """The public functions of a file, but laws, which take and give nothing, and those of its public types and traits."""
-    owner = in_trait = None
-    for line in text.splitlines():
-        block = re.match(r"(?:impl(?:<.*?>)? (\w+)(?:<.*>)? \{|(pub trait) (\w+))", line)
-        if block:
-            owner, in_trait = block[1] or block[3], block[2]
-        elif line.startswith("}"):
-            owner = None
-        function = re.match(r"( {4})?(pub )?fn (\w+)", line)
-        if function and function[1] and owner in public and (function[2] or in_trait):
-            yield owner + "::" + function[3]
-        elif function and function[2] and not function[1] and function[3] in public and not line.endswith("()"):
-            yield function[3]
+def list_calls(*words):
+    return subprocess.run([TOP / "tools/list_calls", *words], stdout=subprocess.PIPE, text=True)
 
 
-def calls(crate):
-    """The public calls of a crate."""
-    files = sorted((TOP / "crates" / crate / "src").rglob("*.rt"))
-    public = exported(crate)
-    return [call for path in files if not path.stem.endswith("tests") for call in calls_in(path.read_text(), public)]
+class Parser(unittest.TestCase):
+    """The calls of a source of a few lines."""
+
+    def setUp(self):
+        found = list(public_calls.calls_in(SOURCE, {"open", "nothing_is_open", "Thing", "Door"}))
+        self.names, self.calls = [call.name for call in found], {call.name: call for call in found}
+
+    def test_public_calls_are_found_and_no_others(self):
+        self.assertEqual(["open", "nothing_is_open", "Thing::is_shut", "Door::close"], self.names)
+
+    def test_laws_have_an_empty_body_and_a_contract(self):
+        self.assertEqual(["nothing_is_open"], [name for name in self.names if self.calls[name].is_law])
+
+    def test_sentences(self):
+        self.assertEqual("Opens a thing.", self.calls["open"].sentence)
+        self.assertEqual("Shuts it.", self.calls["Door::close"].sentence)
+
+    def test_clauses(self):
+        self.assertEqual((["lent"], ["ok"]), tuple(map(self.calls["open"].named, ("requires", "ensures"))))
+        self.assertEqual((0, 1), tuple(map(self.calls["open"].unnamed, ("requires", "ensures"))))
+        self.assertEqual((2, 0), tuple(map(self.calls["Door::close"].unnamed, ("requires", "ensures"))))
+        self.assertEqual([], self.calls["Thing::is_shut"].clauses)
+
+    def test_results(self):
+        self.assertEqual("Result<Thing<'a>, Fault>", self.calls["open"].result)
+        self.assertEqual("bool", self.calls["Thing::is_shut"].result)
+        self.assertEqual(["open", "Door::close"], [name for name in self.names if self.calls[name].can_fail()])
 
 
-class Calls(unittest.TestCase):
-    def test_each_public_call_is_named(self):
+class Sources(unittest.TestCase):
+    def test_calls_of_functions_types_and_traits_are_found(self):
+        for crate, name in (("outside_core", "load"), ("report_core", "Report::finish"), ("sched_core", "Scheduler::arrive"),
+                            ("tap_core", "Watching::lines"), ("pifo_defs", "nothing_leaves_an_empty_queue")):
+            self.assertIn(name, [call.name for call in public_calls.calls(crate)])
+        self.assertNotIn("Buffer::flush", [call.name for call in public_calls.calls("report_core")])
+        self.assertEqual([], [call.name for call in public_calls.calls("tree_defs") if not call.is_law])
+
+
+class Pages(unittest.TestCase):
+    def test_the_list_is_current(self):
+        done = list_calls("--check")
+        self.assertEqual((0, ""), (done.returncode, done.stdout))
+
+    def test_a_list_that_is_not_current_is_refused(self):
+        with tempfile.TemporaryDirectory() as folder:
+            page = pathlib.Path(folder, "page.md")
+            self.assertEqual(1, list_calls("--check", "--page", page).returncode)
+            self.assertEqual(0, list_calls("--page", page).returncode)
+            self.assertEqual(0, list_calls("--check", "--page", page).returncode)
+            page.write_text(page.read_text().replace("`too_long`, ", "", 1))
+            self.assertEqual(1, list_calls("--check", "--page", page).returncode)
+
+    def test_each_call_that_can_fail_is_in_the_table(self):
         table = named()
-        self.assertIn("replay_app", table)
-        missing = [crate + ": " + call for crate in table for call in calls(crate) if call not in table[crate]]
+        missing = [crate + ": " + call.name for crate in crates() for call in public_calls.calls(crate)
+                   if call.can_fail() and call.name not in table.get(crate, ())]
         self.assertEqual([], missing)
 
-    def test_calls_of_functions_types_and_traits_are_found(self):
-        self.assertIn("load", calls("outside_core"))
-        self.assertIn("Report::finish", calls("report_core"))
-        self.assertIn("Scheduler::arrive", calls("sched_core"))
-        self.assertIn("Watching::lines", calls("tap_core"))
-        self.assertNotIn("Buffer::flush", calls("report_core"))
-        self.assertEqual([], calls("tree_defs"))
+    def test_the_table_names_public_calls(self):
+        known = {crate: {call.name for call in public_calls.calls(crate)} for crate in crates()}
+        strange = [crate + ": " + name for crate, names in named().items() for name in names - known.get(crate, set())]
+        self.assertEqual([], strange)
 
 
 if __name__ == "__main__":
