@@ -3,8 +3,8 @@
 A part is a piece of a file: in a file of definitions (crates/CRATE/specs/NAME.antt) a definition with its comment; in a
 source (crates/CRATE/src/NAME.rt) the declaration of a type, a trait or a function with its contract, without bodies, the
 model of a type (`impl Model for`), and what a box of a trait stands for. A part rests on all parts that its names may stand
-for, in its own file and by imports. So a line may count that isn't
-needed, and each that a name leads to counts. What the toolchain and its crates define is outside.
+for, in its own file and by imports. So a line that isn't needed may count, and each line that a name leads to counts. What
+the toolchain and its crates define is outside.
 """
 import functools
 import pathlib

@@ -63,14 +63,22 @@ pub trait Door: Drop {
 """
 
 
-def named():
-    """The calls that the table names, by crate; a row without a crate belongs to that of the row above."""
+def rows():
+    """The rows of the table: the crate, the calls, and what is said of them. No crate means that of the row above."""
     text = (TOP / "docs/PROOFS.md").read_text()
-    rows = re.findall(r"^\| (\w*) ?\| (`.*?) \|", text[text.index(SECTION):].split("\n## ")[0], re.MULTILINE)
-    calls, crate = {}, None
-    for name, cells in rows:
+    found, crate = [], None
+    for name, cells, said in re.findall(r"^\| (\w*) ?\| (`.*?) \| (.*?) \|", text[text.index(SECTION):].split("\n## ")[0],
+                                        re.MULTILINE):
         crate = name or crate
-        calls.setdefault(crate, set()).update(re.findall(r"`([\w:]+)`", cells))
+        found.append((crate, set(re.findall(r"`([\w:]+)`", cells)), said))
+    return found
+
+
+def named():
+    """The calls that the table names, by crate."""
+    calls = {}
+    for crate, names, _ in rows():
+        calls.setdefault(crate, set()).update(names)
     return calls
 
 
@@ -144,6 +152,14 @@ class Pages(unittest.TestCase):
     def test_the_table_names_public_calls(self):
         known = {crate: {call.name for call in public_calls.calls(crate)} for crate in crates()}
         strange = [crate + ": " + name for crate, names in named().items() for name in names - known.get(crate, set())]
+        self.assertEqual([], strange)
+
+    def test_the_table_names_clauses_of_its_calls(self):
+        strange = []
+        for crate, names, said in rows():
+            known = {clause for call in public_calls.calls(crate) if call.name in names for _, clause in call.clauses}
+            words = set(re.findall(r"(?<!as for )`([a-z]\w*)`", said)) - {name.split("::")[-1] for name in names}
+            strange += ["%s: %s has no clause %s" % (crate, sorted(names)[0], word) for word in words - known]
         self.assertEqual([], strange)
 
 
