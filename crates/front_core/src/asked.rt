@@ -2,7 +2,7 @@
 use crate::mistake::Mistake;
 use crate::names::{TAPS, command_named, count_of};
 use crate::scan::{Scan, tell_apart};
-use front_defs::{Command, Options, rate_in};
+use front_defs::{Command, Options, RateFault, rate_in};
 use std::alloc::Global;
 use std::path::Path;
 use text_core::decimal;
@@ -122,9 +122,15 @@ fn has_rate(command: Command) -> bool {
     command == Command::Link || command == Command::Forward
 }
 
-/// Takes the rate of a link, which is the last argument.
+/// Whether a rate is written as scripts write it, in digits alone.
+fn is_plain_rate(word: &str) -> bool {
+    word.as_bytes().iter().all(|byte| byte.is_ascii_digit())
+}
+
+/// Takes the rate of a link, which is the last argument. Under `--plain` it has no unit.
 fn take_rate<'a>(
     command: Command,
+    plain: bool,
     arguments: &mut Vec<&'a str>,
 ) -> Result<Option<u64>, Mistake<'a>> {
     if !has_rate(command) {
@@ -133,6 +139,9 @@ fn take_rate<'a>(
     let Some(word) = arguments.pop() else {
         return Err(Mistake::Missing(command, 3));
     };
+    if plain && !is_plain_rate(word) {
+        return Err(Mistake::NoRate(command, word, RateFault::NoUnit));
+    }
     match rate_in(word.as_bytes()) {
         Ok(rate) => Ok(Some(rate)),
         Err(fault) => Err(Mistake::NoRate(command, word, fault)),
@@ -151,7 +160,7 @@ fn request_of<'a>(command: Command, mut scan: Scan<'a>) -> Result<Request<'a>, M
     if command == Command::Soak {
         see_load(&scan.arguments)?;
     }
-    let rate = take_rate(command, &mut scan.arguments)?;
+    let rate = take_rate(command, scan.plain, &mut scan.arguments)?;
     see_output(&scan.arguments, scan.output)?;
     let Scan {
         arguments,

@@ -13,11 +13,9 @@ const MOST_SHOWN: usize = 160;
 /// Appends a word, cut after so many bytes that a message stays short.
 pub fn say_short(into: &mut Vec<u8>, word: &str) -> Result<(), AllocError> {
     let bytes = word.as_bytes();
-    if bytes.len() <= MOST_SHOWN {
-        return say(into, word);
-    }
-    into.extend_from_slice(&bytes[..MOST_SHOWN])?;
-    say(into, "..")
+    let shown = bytes.len().min(MOST_SHOWN);
+    into.extend_from_slice(&bytes[..shown])?;
+    say(into, if shown < bytes.len() { ".." } else { "" })
 }
 
 /// Appends a text with one before it and one after it.

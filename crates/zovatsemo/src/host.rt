@@ -4,7 +4,7 @@ use crate::output::{NO_OUTPUT, Output};
 use crate::told::tell;
 use fabric_core::FlatFabric;
 use front_core::{
-    Asked, Catching, Request, ask, fault_in, file_of, front_caught, front_run, help_of,
+    Asked, Catching, Mistake, Request, ask, fault_in, file_of, front_caught, front_run, help_of,
     help_of_all, tell_fault, tell_mistake, tell_status,
 };
 use front_defs::{Command, Options};
@@ -163,6 +163,7 @@ fn answer_to(rt: &HostRuntime, words: &[String]) -> Result<u8, AllocError> {
         Ok(Asked::Help(Some(command))) => Ok(print(rt, help_of(command))),
         Ok(Asked::Version) => Ok(print(rt, VERSION)),
         Ok(Asked::Run(request)) => run_request(rt, &request),
+        Err(Mistake::NoMemory) => Ok(NO_MEMORY),
         Err(_) if is_plain(words) => refuse_plain(rt),
         Err(_) if is_quiet(words) => Ok(BAD_WORDS),
         Err(mistake) => {

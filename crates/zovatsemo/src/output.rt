@@ -1,5 +1,5 @@
 //! The output: standard output, or a new file.
-ghost use Rattle.std.specs.Prelude.{◌≤◌, length, IfOk};
+ghost use Rattle.std.specs.Prelude.{◌≡◌, ◌≤◌, length, IfOk};
 
 use crate::told::tell;
 use front_core::tell_status;
@@ -36,7 +36,8 @@ impl<'a> Output<'a> {
 
     /// Writes some bytes from the front of the piece.
     fn put(&mut self, piece: &[u8]) -> io::Result<usize>
-        ensures { IfOk result (λ n. n ≤ length piece.now) }
+        ensures bound { IfOk result (λ n. n ≤ length piece.now) }
+        ensures faults { self.new.faults ≡ self.old.faults }
     {
         let Some(name) = self.name else {
             return write_flushed(&mut io::writer(&self.rt), piece);
