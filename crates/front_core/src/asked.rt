@@ -2,7 +2,7 @@
 use crate::mistake::Mistake;
 use crate::names::{TAPS, command_named, count_of};
 use crate::scan::{Scan, tell_apart};
-use front_defs::{Command, Options, rate_in};
+use front_defs::{Command, Options, RateFault, rate_in};
 use std::alloc::Global;
 use std::path::Path;
 use text_core::decimal;
@@ -66,65 +66,102 @@ fn see_taps<'a>(taps: &[&'a str]) -> Result<(), Mistake<'a>> {
     Ok(())
 }
 
-/// Takes pairs `tap NAME` out of the arguments of `replay`, where they stand behind the fourth.
+/// Takes pairs `tap NAME` out of the arguments of `replay`, which follow the fourth.
 fn take_pairs<'a>(scan: &mut Scan<'a>) -> Result<(), Mistake<'a>> {
     for _ in 0..scan.arguments.len() {
         let count = scan.arguments.len();
-        if count < 6 || scan.arguments[count - 2] != "tap" {
+        if count < 5 || scan.arguments[4] != "tap" {
             break;
         }
-        let tap = scan.arguments[count - 1];
+        if count < 6 {
+            return Err(Mistake::NoTapName);
+        }
+        let tap = scan.arguments.remove(5);
+        let _ = scan.arguments.remove(4);
         scan.taps.push(tap)?;
-        scan.arguments.truncate(count - 2);
     }
     Ok(())
 }
 
-/// The rate behind the other arguments of a link, which is taken out of them.
+/// The number of the first argument that is missing, after so many. A rate at the end is the last argument.
+fn missing_place(command: Command, arguments: &[&str]) -> usize {
+    match arguments {
+        [.., word] if has_rate(command) && rate_in(word.as_bytes()).is_ok() => arguments.len() - 1,
+        _ => arguments.len(),
+    }
+}
+
+/// Sees that there are as many arguments as a command has, and that none is empty.
+fn see_arguments<'a>(command: Command, arguments: &[&'a str]) -> Result<(), Mistake<'a>> {
+    if let Some(place) = arguments.iter().position(|word| word.is_empty()) {
+        return Err(Mistake::Empty(command, place));
+    }
+    if arguments.len() < count_of(command) {
+        return Err(Mistake::Missing(command, missing_place(command, arguments)));
+    }
+    match arguments.get(count_of(command)) {
+        Some(word) => Err(Mistake::Unexpected(command, word)),
+        None => Ok(()),
+    }
+}
+
+/// Sees that the output isn't one of the files that are read.
+fn see_output<'a>(arguments: &[&'a str], output: Option<&'a str>) -> Result<(), Mistake<'a>> {
+    let Some(output) = output else {
+        return Ok(());
+    };
+    let path = Path::new(output);
+    if arguments.iter().any(|name| Path::new(name) == path) {
+        return Err(Mistake::OverInput(output));
+    }
+    Ok(())
+}
+
+/// Whether a command's last argument is a rate.
+fn has_rate(command: Command) -> bool {
+    command == Command::Link || command == Command::Forward
+}
+
+/// Whether a rate is written as scripts write it, in digits alone.
+fn is_plain_rate(word: &str) -> bool {
+    word.as_bytes().iter().all(|byte| byte.is_ascii_digit())
+}
+
+/// Takes the rate of a link, which is the last argument. Under `--plain` it has no unit.
 fn take_rate<'a>(
     command: Command,
+    plain: bool,
     arguments: &mut Vec<&'a str>,
 ) -> Result<Option<u64>, Mistake<'a>> {
-    if command != Command::Link && command != Command::Forward {
+    if !has_rate(command) {
         return Ok(None);
     }
     let Some(word) = arguments.pop() else {
         return Err(Mistake::Missing(command, 3));
     };
+    if plain && !is_plain_rate(word) {
+        return Err(Mistake::NoRate(command, word, RateFault::NoUnit));
+    }
     match rate_in(word.as_bytes()) {
         Ok(rate) => Ok(Some(rate)),
-        Err(fault) => Err(Mistake::NoRate(word, fault)),
+        Err(fault) => Err(Mistake::NoRate(command, word, fault)),
     }
 }
 
-/// The run that the arguments behind a command ask for.
+/// The run that the arguments of a command ask for.
 fn request_of<'a>(command: Command, mut scan: Scan<'a>) -> Result<Request<'a>, Mistake<'a>> {
     if command == Command::Replay {
         take_pairs(&mut scan)?;
     } else if !scan.taps.is_empty() {
         return Err(Mistake::NoTaps(command));
     }
-    let count = scan.arguments.len();
-    if count < count_of(command) {
-        return Err(Mistake::Missing(command, count));
-    }
-    if let Some(word) = scan.arguments.get(count_of(command)) {
-        return Err(Mistake::Unexpected(command, word));
-    }
+    see_arguments(command, &scan.arguments)?;
     see_taps(&scan.taps)?;
     if command == Command::Soak {
         see_load(&scan.arguments)?;
     }
-    let rate = take_rate(command, &mut scan.arguments)?;
-    if let Some(output) = scan.output {
-        if scan
-            .arguments
-            .iter()
-            .any(|name| Path::new(name) == Path::new(output))
-        {
-            return Err(Mistake::OverInput(output));
-        }
-    }
+    let rate = take_rate(command, scan.plain, &mut scan.arguments)?;
+    see_output(&scan.arguments, scan.output)?;
     let Scan {
         arguments,
         taps,

@@ -46,6 +46,13 @@ impl<K: Sink + Drop> Catching<K> {
         })
     }
 
+    /// The sink below.
+    pub fn below(&self) -> &K
+        ensures { result.now ≡ self.now.below }
+    {
+        &self.below
+    }
+
     /// The bytes that are kept back.
     pub fn kept(&self) -> &[u8]
         ensures { result.now ≡ kept_of self.now }

@@ -21,10 +21,10 @@ fn text_cause(code: u64) -> Cause {
         ),
         22 => made(
             "expected printable ASCII, found another byte",
-            "keep statements in printable ASCII, with spaces and tabs; put other letters behind #",
+            "keep statements in printable ASCII, with spaces and tabs; put other letters after #",
         ),
         23 => made(
-            "expected a statement, found a line that is in no form",
+            "expected a statement, found a line that does not parse",
             "compare the line with its form: a word missing or too many, a number outside its range, a name that is one of the language's words",
         ),
         _ => made(
@@ -73,7 +73,7 @@ fn tree_rule_cause(code: u64) -> Cause {
 fn rule_cause(code: u64) -> Cause {
     match code {
         1 => made(
-            "expected `policy 1` or `policy 2` first and once, and the lines of a transaction right behind its line in their order, found this line",
+            "expected `policy 1` or `policy 2` first and once, and the lines of a transaction right after its line in their order, found this line",
             "put `policy 1` first; move the line to where its kind stands",
         ),
         2 => made(
@@ -130,7 +130,7 @@ fn target_cause(code: u64) -> Cause {
 fn script_cause(code: u64) -> Cause {
     match code {
         1 => made(
-            "expected a step, found a line that is in no form",
+            "expected a step, found a line that does not parse",
             "write `a N`, `d N`, `rest` or `drain`",
         ),
         2 => made(
@@ -152,7 +152,7 @@ fn script_cause(code: u64) -> Cause {
 fn record_cause(code: u64) -> Cause {
     match code {
         1 => made(
-            "expected a capture's header of 24 bytes, found fewer",
+            "expected a capture's header of 24 bytes, found",
             "see that the capture is whole",
         ),
         2 => made(
@@ -176,7 +176,7 @@ fn record_cause(code: u64) -> Cause {
             "see that the capture isn't damaged before this packet",
         ),
         _ => made(
-            "expected the end of the file behind the last packet that there may be, found more",
+            "expected the end of the file after the last packet that there may be, found more",
             "split the capture",
         ),
     }
@@ -214,7 +214,7 @@ fn capture_cause(code: u64) -> Cause {
             "split the capture",
         ),
         18 => made(
-            "expected the end of the file behind the last block that there may be, found more",
+            "expected the end of the file after the last block that there may be, found more",
             "split the capture",
         ),
         19 => made(
@@ -251,7 +251,7 @@ fn map_cause(code: u64) -> Cause {
             "drop comments",
         ),
         2 => made(
-            "expected `map NAME ADDRESS`, found a line that is in no form",
+            "expected `map NAME ADDRESS`, found a line that does not parse",
             "write numbers up to 4,294,967,295 joined by dots, or -",
         ),
         3 => made(
@@ -296,7 +296,7 @@ pub fn cause_of(kind: FaultKind, code: u64) -> Cause {
         FaultKind::Target => target_cause(code),
         FaultKind::Size => made(
             "expected a target with room for the policy's tree, found one that is too small",
-            "`plan` prints the least height that has room",
+            "`plan` prints the minimum height that has room",
         ),
         FaultKind::Script => script_cause(code),
         FaultKind::Capture => capture_cause(code),

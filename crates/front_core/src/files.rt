@@ -20,6 +20,28 @@ pub fn file_of(command: Command, kind: FaultKind) -> Option<usize> {
     })
 }
 
+/// Which of the files of a command is read at this turn. Each script is read before its capture.
+pub fn file_read_at(command: Command, turn: usize) -> usize {
+    match (command, turn) {
+        (Command::Replay, 2) => 3,
+        (Command::Replay, 3) => 2,
+        (Command::Direct, 1) => 2,
+        (Command::Direct, 2) => 1,
+        (Command::Via, 4) => 5,
+        (Command::Via, 5) => 4,
+        _ => turn,
+    }
+}
+
+/// The name of a file, as messages have it.
+pub fn name_shown(name: &str) -> &str {
+    if name == "/dev/stdin" {
+        "standard input"
+    } else {
+        name
+    }
+}
+
 /// Whether a fault of this kind is in a text, so that its place is a line.
 pub fn is_text(kind: FaultKind) -> bool {
     matches!(

@@ -18,7 +18,7 @@ soak SEED COUNT                                 run a generated load and print i
 RATE is 10Mbit, 10gbit, 1.25MB or 125000 (bytes a second). The file - is standard input.
 
 -h, --help [COMMAND]      this text, or that of a command with an example
--o, --output FILE         write to a file; an input is refused
+-o, --output FILE         write to a new file; one that exists is refused
 -t, --tap NAME            one more line at the end of replay: bytes, order, first or drops
     --plain               write the line `fault KIND CODE PLACE` too, and no messages
 -q, --quiet               write no messages

@@ -25,7 +25,7 @@ pub use asked::{Asked, Request, ask};
 pub use captures::capture_kind;
 pub use catching::Catching;
 pub use fault::{Fault, fault_in};
-pub use files::{file_of, is_text};
+pub use files::{file_of, file_read_at, is_text, name_shown};
 pub use front::{front_caught, front_run};
 pub use help::{help_of, help_of_all};
 pub use mistake::Mistake;

@@ -37,16 +37,16 @@ pub fn clean_length(line: &[u8]) -> usize
         .count()
 }
 
-/// The first word of a line, and what is behind it.
+/// The first word of a line, and what follows it.
 pub fn first_word(line: &[u8]) -> (&[u8], &[u8]) {
     let begun = &line[blanks(line)..];
     begun.split_at(word_length(begun))
 }
 
-/// A line without its end, and the bytes behind that, if the line ends before the text does.
+/// A line without its end, and the bytes that follow, if the line ends before the text does.
 fn cut_line(text: &[u8]) -> (&[u8], Option<&[u8]>) {
-    let (line, behind) = text.split_at(line_length(text));
-    match behind {
+    let (line, after) = text.split_at(line_length(text));
+    match after {
         [_, more @ ..] => (line, Some(more)),
         [] => (line, None),
     }
@@ -63,8 +63,8 @@ pub fn line_at(text: &[u8], number: u64) -> Option<&[u8]> {
 
 /// Whether a line of a policy declares a node or leaf that is named `root`.
 fn declares_root(line: &[u8]) -> bool {
-    let (word, behind) = first_word(line);
-    let (name, _) = first_word(behind);
+    let (word, after) = first_word(line);
+    let (name, _) = first_word(after);
     match word {
         b"node" | b"leaf" => matches!(name, b"root"),
         _ => false,

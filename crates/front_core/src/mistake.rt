@@ -13,12 +13,22 @@ pub enum Mistake<'a> {
     UnknownOption(&'a str),
     /// This option needs a value.
     NoValue(&'a str),
+    /// This option needs a value, and a word that begins with `-` follows it.
+    OptionForValue(&'a str, &'a str),
+    /// The value of this option is empty.
+    EmptyValue(&'a str),
+    /// This output is a second one.
+    OutputTwice(&'a str),
     /// The argument of this number, counted from 0, is missing.
     Missing(Command, usize),
+    /// The argument of this number is empty.
+    Empty(Command, usize),
+    /// There is no name of a tap after the word `tap`.
+    NoTapName,
     /// This argument is one too many.
     Unexpected(Command, &'a str),
     /// The argument is no rate.
-    NoRate(&'a str, RateFault),
+    NoRate(Command, &'a str, RateFault),
     /// There is no tap of this name.
     UnknownTap(&'a str),
     /// A tap of this name is named twice.

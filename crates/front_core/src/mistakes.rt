@@ -1,19 +1,55 @@
 //! Messages for mistakes of the command line.
+ghost use Rattle.std.specs.Prelude.{◌≤◌, length};
+
 use crate::mistake::Mistake;
 use crate::names::{COMMANDS, OPTIONS, TAPS, argument_of, form_of};
 use crate::near::nearest;
-use crate::say::{say, say_around, say_names, say_number};
+use crate::say::{say, say_around, say_names, say_short, say_thousands};
 use front_defs::{Command, RateFault};
 use std::alloc::{AllocError, Global};
 
+/// What is said of a rate that is too small or too great.
+const OUT_OF_RANGE: &str = "it isn't from 1 to 1,000,000,000,000 bytes a second";
+
+/// How many digits the bytes begin with.
+fn digits(bytes: &[u8]) -> usize
+    ensures { result ≤ length bytes.now }
+{
+    bytes
+        .iter()
+        .take_while(|byte| byte.is_ascii_digit())
+        .count()
+}
+
+/// Why a word has no number that can be read.
+fn number_reason(word: &[u8]) -> &'static str {
+    let (whole, rest) = word.split_at(digits(word));
+    match rest {
+        [b'.', more @ ..] if whole.is_empty() || digits(more) == 0 => {
+            "digits are missing before or after the point"
+        }
+        _ if whole.is_empty() => "it doesn't begin with a number",
+        _ => OUT_OF_RANGE,
+    }
+}
+
+/// Whether a word begins with a digit or a point.
+fn begins_number(word: &[u8]) -> bool {
+    match word {
+        [first, ..] => first.is_ascii_digit() || *first == b'.',
+        [] => false,
+    }
+}
+
 /// Why a word is no rate.
-fn rate_reason(fault: RateFault) -> &'static str {
+fn rate_reason(word: &[u8], fault: RateFault) -> &'static str {
     match fault {
-        RateFault::NoNumber => "it doesn't begin with a number",
+        RateFault::NoNumber => number_reason(word),
+        RateFault::NoUnit if !begins_number(word) => "it doesn't begin with a number",
         RateFault::NoUnit => "it isn't a number with a unit that is known",
-        RateFault::TooFine => "it has more than twelve digits behind the point",
+        RateFault::TooFine => "it has more than twelve digits after the point",
         RateFault::NotExact => "it isn't a whole number of bytes a second",
-        RateFault::OutOfRange => "it isn't from 1 to 1,000,000,000,000 bytes a second",
+        RateFault::OutOfRange => OUT_OF_RANGE,
     }
 }
 
@@ -42,12 +78,13 @@ fn say_unknown(
     names: &[&'static str],
 ) -> Result<(), AllocError> {
     say_around(into, "expected ", what, ", found ")?;
-    say(into, word)?;
+    say_short(into, word)?;
     say_near(alloc, into, word, names)
 }
 
 /// Says which whole number was expected.
 fn say_no_number(
+    alloc: Global,
     into: &mut Vec<u8>,
     place: usize,
     word: &str,
@@ -55,15 +92,23 @@ fn say_no_number(
 ) -> Result<(), AllocError> {
     let name = argument_of(Command::Soak, place);
     say(into, "expected a whole number from 0 to ")?;
-    say_number(into, most)?;
+    say_thousands(alloc, into, most)?;
     say_around(into, " for ", name, ", found ")?;
-    say(into, word)
+    say_short(into, word)
 }
 
-/// What is said before and behind the word that a mistake names.
+/// What is said before and after the word that a mistake names.
 fn parts_of<'a>(mistake: Mistake<'a>) -> (&'static str, &'a str, &'static str) {
     match mistake {
-        Mistake::NoValue(word) => ("expected a value behind ", word, ", found none"),
+        Mistake::NoValue(word) => ("expected a value after ", word, ", found none"),
+        Mistake::EmptyValue(word) => ("expected a value for ", word, ", found an empty one"),
+        Mistake::OutputTwice(word) => ("expected one output, found ", word, " as a second one"),
+        Mistake::NoTapName => ("expected a name after ", "tap", ", found no more arguments"),
+        Mistake::Empty(command, place) => (
+            "expected ",
+            argument_of(command, place),
+            ", found an empty argument",
+        ),
         Mistake::Missing(command, place) => (
             "expected ",
             argument_of(command, place),
@@ -95,14 +140,21 @@ fn say_mistake(alloc: Global, into: &mut Vec<u8>, mistake: Mistake<'_>) -> Resul
         Mistake::UnknownCommand(word) => say_unknown(alloc, into, "a command", word, &COMMANDS),
         Mistake::UnknownOption(word) => say_unknown(alloc, into, "an option", word, &OPTIONS),
         Mistake::UnknownTap(word) => say_unknown(alloc, into, "a tap", word, &TAPS),
-        Mistake::NoRate(word, fault) => {
-            say_around(into, "expected RATE, found ", word, ": ")?;
-            say(into, rate_reason(fault))
+        Mistake::NoRate(_, word, fault) => {
+            say(into, "expected RATE, found ")?;
+            say_short(into, word)?;
+            say_around(into, ": ", rate_reason(word.as_bytes(), fault), "")
         }
-        Mistake::NoNumber(place, word, most) => say_no_number(into, place, word, most),
+        Mistake::NoNumber(place, word, most) => say_no_number(alloc, into, place, word, most),
+        Mistake::OptionForValue(option, word) => {
+            say_around(into, "expected a value after ", option, ", found ")?;
+            say_short(into, word)
+        }
         _ => {
-            let (before, word, behind) = parts_of(mistake);
-            say_around(into, before, word, behind)
+            let (before, word, after) = parts_of(mistake);
+            say(into, before)?;
+            say_short(into, word)?;
+            say(into, after)
         }
     }
 }
@@ -113,9 +165,22 @@ fn command_in(mistake: Mistake<'_>) -> Option<Command> {
         Mistake::Missing(command, _) | Mistake::Unexpected(command, _) | Mistake::NoTaps(command) =>
             Some(command),
         Mistake::NoNumber(_, _, _) => Some(Command::Soak),
-        Mistake::NoRate(_, _) => Some(Command::Link),
-        Mistake::UnknownTap(_) | Mistake::TapTwice(_) => Some(Command::Replay),
+        Mistake::NoRate(command, _, _) | Mistake::Empty(command, _) => Some(command),
+        Mistake::UnknownTap(_) | Mistake::TapTwice(_) | Mistake::NoTapName => Some(Command::Replay),
         _ => None,
+    }
+}
+
+/// What more is said of a mistake.
+fn more_of(mistake: Mistake<'_>) -> &'static str {
+    match mistake {
+        Mistake::NoRate(_, _, _) => {
+            "  RATE is a number with B, bit or nothing after it for bytes a second, as 10Mbit, 10gbit, 1.25MB or 125000\n"
+        }
+        Mistake::OptionForValue("-o" | "--output", _) => {
+            "  help: write --output=NAME for a name that begins with -\n"
+        }
+        _ => "",
     }
 }
 
@@ -131,11 +196,6 @@ pub fn tell_mistake(alloc: Global, mistake: Mistake<'_>) -> Result<Vec<u8>, Allo
             "\n  zovatsemo --help lists commands and options\n",
         )?,
     }
-    if matches!(mistake, Mistake::NoRate(_, _)) {
-        say(
-            &mut text,
-            "  RATE is a number with B, bit or nothing behind it for bytes a second, as 10Mbit, 10gbit, 1.25MB or 125000\n",
-        )?;
-    }
+    say(&mut text, more_of(mistake))?;
     Ok(text)
 }

@@ -1,5 +1,5 @@
 //! Texts put together.
-use std::alloc::AllocError;
+use std::alloc::{AllocError, Global};
 use text_core::put_decimal;
 
 /// Appends a text.
@@ -7,21 +7,45 @@ pub fn say(into: &mut Vec<u8>, text: &str) -> Result<(), AllocError> {
     into.extend_from_slice(text.as_bytes())
 }
 
-/// Appends a text with one before it and one behind it.
+/// The most bytes of a word that a message repeats.
+const MOST_SHOWN: usize = 160;
+
+/// Appends a word, cut after so many bytes that a message stays short.
+pub fn say_short(into: &mut Vec<u8>, word: &str) -> Result<(), AllocError> {
+    let bytes = word.as_bytes();
+    let shown = bytes.len().min(MOST_SHOWN);
+    into.extend_from_slice(&bytes[..shown])?;
+    say(into, if shown < bytes.len() { ".." } else { "" })
+}
+
+/// Appends a text with one before it and one after it.
 pub fn say_around(
     into: &mut Vec<u8>,
     before: &str,
     text: &str,
-    behind: &str,
+    after: &str,
 ) -> Result<(), AllocError> {
     say(into, before)?;
     say(into, text)?;
-    say(into, behind)
+    say(into, after)
 }
 
 /// Appends a number.
 pub fn say_number(into: &mut Vec<u8>, number: u64) -> Result<(), AllocError> {
     put_decimal(into, u128::from(number))
+}
+
+/// Appends a number with its thousands separated.
+pub fn say_thousands(alloc: Global, into: &mut Vec<u8>, number: u64) -> Result<(), AllocError> {
+    let mut digits = Vec::new(alloc);
+    put_decimal(&mut digits, u128::from(number))?;
+    for place in 0..digits.len() {
+        if place != 0 && (digits.len() - place) % 3 == 0 {
+            into.push(b',')?;
+        }
+        into.push(digits[place])?;
+    }
+    Ok(())
 }
 
 /// Appends the names, with a space before each.

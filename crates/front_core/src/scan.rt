@@ -15,9 +15,18 @@ pub struct Scan<'a> {
     pub ended: bool,
 }
 
-/// The value behind the name and `=` of an option that is written so.
+/// What follows a prefix of a word, if the word has it.
 fn value_in<'a>(word: &'a str, name: &str) -> Option<&'a str> {
     word.strip_prefix(name)
+}
+
+/// The next word as the value of an option. A value that begins with `-` has to be joined to its option.
+fn value_after<'a>(option: &'a str, next: Option<&'a str>) -> Result<&'a str, Mistake<'a>> {
+    match next {
+        Some(value) if value.starts_with('-') => Err(Mistake::OptionForValue(option, value)),
+        Some(value) => Ok(value),
+        None => Err(Mistake::NoValue(option)),
+    }
 }
 
 impl<'a> Scan<'a> {
@@ -44,29 +53,99 @@ impl<'a> Scan<'a> {
         Ok(())
     }
 
-    /// Takes an option without a value, and answers whether it is one.
+    /// Takes the value of an option.
+    fn value(&mut self, option: &'a str, value: &'a str) -> Result<(), Mistake<'a>> {
+        if value.is_empty() {
+            return Err(Mistake::EmptyValue(option));
+        }
+        match option {
+            "-t" | "--tap" => self.taps.push(value)?,
+            _ if self.output.is_some() => return Err(Mistake::OutputTwice(value)),
+            _ => self.output = Some(value),
+        }
+        Ok(())
+    }
+
+    /// Takes the value of a short option, and answers whether that is the next word.
+    fn short_value(
+        &mut self,
+        option: &'a str,
+        joined: &'a str,
+        next: Option<&'a str>,
+    ) -> Result<bool, Mistake<'a>> {
+        if !joined.is_empty() {
+            self.value(option, joined)?;
+            return Ok(false);
+        }
+        self.value(option, value_after(option, next)?)?;
+        Ok(true)
+    }
+
+    /// Takes a short option without a value from the front of some, and answers what follows it.
+    fn letter(&mut self, letters: &'a str) -> Option<&'a str> {
+        if let Some(more) = value_in(letters, "h") {
+            self.help = true;
+            return Some(more);
+        }
+        if let Some(more) = value_in(letters, "V") {
+            self.version = true;
+            return Some(more);
+        }
+        let more = value_in(letters, "q")?;
+        self.quiet = true;
+        Some(more)
+    }
+
+    /// Takes a word of short options, and answers whether the next word is a value.
+    fn short(&mut self, word: &'a str, next: Option<&'a str>) -> Result<bool, Mistake<'a>> {
+        let Some(mut letters) = value_in(word, "-") else {
+            return Err(Mistake::UnknownOption(word));
+        };
+        for _ in 0..word.len() {
+            if letters.is_empty() {
+                break;
+            }
+            if let Some(joined) = value_in(letters, "o") {
+                return self.short_value("-o", joined, next);
+            }
+            if let Some(joined) = value_in(letters, "t") {
+                return self.short_value("-t", joined, next);
+            }
+            let Some(more) = self.letter(letters) else {
+                return Err(Mistake::UnknownOption(word));
+            };
+            letters = more;
+        }
+        Ok(false)
+    }
+
+    /// Takes a long option without a value, and answers whether it is one.
     fn switch(&mut self, word: &str) -> bool {
         match word {
             "--" => self.ended = true,
-            "-h" | "--help" => self.help = true,
-            "-V" | "--version" => self.version = true,
-            "-q" | "--quiet" => self.quiet = true,
+            "--help" => self.help = true,
+            "--version" => self.version = true,
+            "--quiet" => self.quiet = true,
             "--plain" => self.plain = true,
             _ => return false,
         }
         true
     }
 
-    /// Takes an option whose value is written behind `=`.
-    fn joined(&mut self, word: &'a str) -> Result<(), Mistake<'a>> {
+    /// Takes a long option with a value, and answers whether that is the next word.
+    fn long(&mut self, word: &'a str, next: Option<&'a str>) -> Result<bool, Mistake<'a>> {
+        if word == "--tap" || word == "--output" {
+            self.value(word, value_after(word, next)?)?;
+            return Ok(true);
+        }
         if let Some(name) = value_in(word, "--tap=") {
-            self.taps.push(name)?;
+            self.value("--tap", name)?;
         } else if let Some(name) = value_in(word, "--output=") {
-            self.output = Some(name);
+            self.value("--output", name)?;
         } else {
             return Err(Mistake::UnknownOption(word));
         }
-        Ok(())
+        Ok(false)
     }
 
     /// Takes a word, and answers whether the next one is its value.
@@ -75,18 +154,13 @@ impl<'a> Scan<'a> {
             self.argument(word)?;
             return Ok(false);
         }
+        if value_in(word, "--").is_none() {
+            return self.short(word, next);
+        }
         if self.switch(word) {
             return Ok(false);
         }
-        match word {
-            "-t" | "--tap" => self.taps.push(next.ok_or(Mistake::NoValue(word))?)?,
-            "-o" | "--output" => self.output = Some(next.ok_or(Mistake::NoValue(word))?),
-            _ => {
-                self.joined(word)?;
-                return Ok(false);
-            }
-        }
-        Ok(true)
+        self.long(word, next)
     }
 }
 

@@ -4,10 +4,10 @@ ghost use Rattle.std.specs.Prelude.{◌≤◌, length};
 use crate::captures::capture_kind;
 use crate::causes::{Cause, cause_of};
 use crate::fault::Fault;
-use crate::files::is_text;
+use crate::files::{is_text, name_shown};
 use crate::lines::{blanks, clean_length, first_word, has_root, line_at};
 use crate::near::nearest;
-use crate::say::{say, say_around, say_number};
+use crate::say::{say, say_around, say_number, say_short, say_thousands};
 use crate::statements::{STATEMENTS, statement_form};
 use front_defs::Command;
 use report_core::FaultKind;
@@ -23,8 +23,14 @@ const BAD_FORM: u64 = 23;
 /// The code of a node or leaf that isn't listed exactly once.
 const NOT_LISTED: u64 = 8;
 
+/// The code of a file that has too few bytes for the header of a capture.
+const NO_HEADER: u64 = 1;
+
 /// The code of a file that is no capture.
 const NO_CAPTURE: u64 = 2;
+
+/// The most bytes of a line that are shown.
+const MOST_SHOWN: usize = 160;
 
 /// The place in a line at which it is at fault, counted from 0.
 fn column_of(fault: Fault, line: &[u8]) -> usize
@@ -37,14 +43,41 @@ fn column_of(fault: Fault, line: &[u8]) -> usize
     }
 }
 
-/// Appends a line as far as it can be shown, and a caret below a place in it.
-fn say_line(into: &mut Vec<u8>, line: &[u8], column: usize) -> Result<(), AllocError>
-    requires { column ≤ length line.now }
+/// Where the part begins that is shown of a line, of which so many bytes can be shown.
+fn shown_from(count: usize, column: usize) -> usize
+    requires { column ≤ count }
+    ensures { result ≤ column }
 {
+    if count <= MOST_SHOWN {
+        0
+    } else {
+        column
+            .saturating_sub(MOST_SHOWN / 2)
+            .min(count - MOST_SHOWN)
+    }
+}
+
+/// Appends a mark at an end at which a line is cut.
+fn say_cut(into: &mut Vec<u8>, is_cut: bool, mark: &str) -> Result<(), AllocError> {
+    if is_cut { say(into, mark) } else { Ok(()) }
+}
+
+/// Appends a line as far as it can be shown, and a caret below a place in it. A long line is cut around that place.
+fn say_line(into: &mut Vec<u8>, line: &[u8], column: usize) -> Result<(), AllocError> {
+    let count = clean_length(line);
+    if count == 0 {
+        return Ok(());
+    }
+    let place = column.min(count);
+    let from = shown_from(count, place);
+    let to = count.min(from + MOST_SHOWN);
     say(into, "  ")?;
-    into.extend_from_slice(&line[..clean_length(line)])?;
+    say_cut(into, 0 < from, "..")?;
+    into.extend_from_slice(&line[from..to])?;
+    say_cut(into, to < count, "..")?;
     say(into, "\n  ")?;
-    for byte in &line[..column] {
+    say_cut(into, 0 < from, "  ")?;
+    for byte in &line[from..place] {
         into.push(if *byte == b'\t' { b'\t' } else { b' ' })?;
     }
     say(into, "^\n")
@@ -68,7 +101,11 @@ fn say_word(alloc: Global, into: &mut Vec<u8>, word: &[u8]) -> Result<(), AllocE
     let Ok(word) = str::from_utf8(word) else {
         return Ok(());
     };
-    say_around(into, "  no statement begins with ", word, "")?;
+    if word.is_empty() {
+        return Ok(());
+    }
+    say(into, "  no statement begins with ")?;
+    say_short(into, word)?;
     match nearest(alloc, word, &STATEMENTS)? {
         Some(name) => say_around(into, "; did you mean ", name, "?\n"),
         None => say(
@@ -127,39 +164,48 @@ fn say_in_text(
     into: &mut Vec<u8>,
     fault: Fault,
     cause: Cause,
-    text: &[u8],
+    text: Option<&[u8]>,
 ) -> Result<(), AllocError> {
-    match line_of(fault, text) {
-        Some(line) => say_at_line(alloc, into, fault, cause, line),
-        None => say_around(into, " error: ", cause.is, "\n"),
+    match text.and_then(|text| line_of(fault, text)) {
+        Some(line) if !line.is_empty() => return say_at_line(alloc, into, fault, cause, line),
+        _ if fault.place != 0 => {
+            say_number(into, fault.place)?;
+            say(into, ":")?;
+        }
+        _ => (),
+    }
+    say_around(into, " error: ", cause.is, "\n")
+}
+
+/// What a file is that is no capture, by its first bytes, if they are known.
+fn kind_of(fault: Fault, front: Option<&[u8]>) -> Option<&'static str> {
+    match (fault.kind, fault.code, front) {
+        (FaultKind::Capture, NO_HEADER, Some([])) => Some("an empty file"),
+        (FaultKind::Capture, NO_HEADER, _) => Some("fewer"),
+        (FaultKind::Capture, NO_CAPTURE, Some(front)) => Some(capture_kind(front).0),
+        (FaultKind::Capture, NO_CAPTURE, None) => Some("other bytes"),
+        _ => None,
     }
 }
 
-/// Whether a file is no capture, which its first bytes tell.
-fn is_no_capture(fault: Fault) -> bool {
-    fault.kind == FaultKind::Capture && fault.code <= NO_CAPTURE
-}
-
 /// How a fault is mended in a file that begins so.
-fn help_for(fault: Fault, cause: Cause, front: &[u8]) -> &'static str {
-    if is_no_capture(fault) {
-        let (_, help) = capture_kind(front);
-        help
-    } else {
-        cause.help
+fn help_for(fault: Fault, cause: Cause, front: Option<&[u8]>) -> &'static str {
+    match (fault.kind, fault.code, front) {
+        (FaultKind::Capture, NO_HEADER | NO_CAPTURE, Some(front)) => capture_kind(front).1,
+        _ => cause.help,
     }
 }
 
 /// Appends what a cause is, and the number of the packet, the block or the event that it is in.
 fn say_at_place(
+    alloc: Global,
     into: &mut Vec<u8>,
     fault: Fault,
     cause: Cause,
-    front: &[u8],
+    front: Option<&[u8]>,
 ) -> Result<(), AllocError> {
     say_around(into, " error: ", cause.is, "")?;
-    if fault.kind == FaultKind::Capture && fault.code == NO_CAPTURE {
-        let (kind, _) = capture_kind(front);
+    if let Some(kind) = kind_of(fault, front) {
         return say_around(into, " ", kind, "\n");
     }
     if fault.place != 0 {
@@ -170,7 +216,7 @@ fn say_at_place(
             _ => "node",
         };
         say_around(into, " (", what, " ")?;
-        say_number(into, fault.place)?;
+        say_thousands(alloc, into, fault.place)?;
         say(into, ")")?;
     }
     say(into, "\n")
@@ -203,27 +249,29 @@ fn say_cause(
     into: &mut Vec<u8>,
     fault: Fault,
     cause: Cause,
-    content: &[u8],
+    content: Option<&[u8]>,
 ) -> Result<(), AllocError> {
     if is_at_line(fault) {
         say_in_text(alloc, into, fault, cause, content)
     } else {
-        say_at_place(into, fault, cause, content)
+        say_at_place(alloc, into, fault, cause, content)
     }
 }
 
-/// The message for a fault in a file of this name, whose content begins so.
+/// The message for a fault in a file of this name, whose content begins so, if it is known.
 pub fn tell_fault(
     alloc: Global,
     fault: Fault,
     name: &str,
-    content: &[u8],
+    content: Option<&[u8]>,
 ) -> Result<Vec<u8>, AllocError> {
     let cause = cause_of(fault.kind, fault.code);
     let mut text = Vec::new(alloc);
-    say_around(&mut text, "", name, ":")?;
+    say_around(&mut text, "", name_shown(name), ":")?;
     say_cause(alloc, &mut text, fault, cause, content)?;
-    say_of_whole(&mut text, fault, content)?;
+    if let Some(content) = content {
+        say_of_whole(&mut text, fault, content)?;
+    }
     say_around(&mut text, "  help: ", help_for(fault, cause, content), "\n")?;
     Ok(text)
 }
@@ -232,7 +280,7 @@ pub fn tell_fault(
 fn status_text(status: u8) -> (&'static str, &'static str) {
     match status {
         7 => (
-            "the capture is at fault behind the departures that were written",
+            "the capture is at fault after the departures that were written",
             "run `link` with the same arguments: it names the packet",
         ),
         9 => (

@@ -1,4 +1,6 @@
 //! Why a file can't be read, and how it begins.
+use front_core::{file_read_at, name_shown};
+use front_defs::Options;
 use std::alloc::AllocError;
 use std::fs::{self, File};
 use std::io::{self, Read};
@@ -26,10 +28,14 @@ fn open_again(rt: &HostRuntime, name: &str) -> io::Result<Option<File>> {
     }
 }
 
-/// Says which file can't be read, and why.
-pub fn tell_unread(rt: &HostRuntime, names: &[&str]) {
-    for name in names {
+/// Says which file can't be read, and why: the first one in the order in which they are read.
+pub fn tell_unread(rt: &HostRuntime, options: &Options<'_>) {
+    for turn in 0..options.files.len() {
+        let Some(name) = options.files.get(file_read_at(options.command, turn)) else {
+            break;
+        };
         if let Err(error) = try_file(rt, name) {
+            let name = name_shown(name);
             let _ = eprintln!(rt;
                 "{name}: error: expected a file that can be read, found: {error}"
             );
@@ -39,12 +45,12 @@ pub fn tell_unread(rt: &HostRuntime, names: &[&str]) {
     let _ = eprintln!(rt; "zovatsemo: error: a file can't be read to its end");
 }
 
-/// The first bytes of a file, as far as it can be read.
-pub fn front_of(rt: &HostRuntime, name: &str) -> Result<Vec<u8>, AllocError> {
-    let mut text = Vec::new(rt.alloc());
+/// The first bytes of a file, as far as it can be read. None are known of a file that can't be read twice.
+pub fn front_of(rt: &HostRuntime, name: &str) -> Result<Option<Vec<u8>>, AllocError> {
     let Ok(Some(mut file)) = open_again(rt, name) else {
-        return Ok(text);
+        return Ok(None);
     };
+    let mut text = Vec::new(rt.alloc());
     let mut chunk = [0; 4096];
     for _ in 0..MOST_READS {
         match file.read(&mut chunk) {
@@ -52,5 +58,5 @@ pub fn front_of(rt: &HostRuntime, name: &str) -> Result<Vec<u8>, AllocError> {
             _ => break,
         }
     }
-    Ok(text)
+    Ok(Some(text))
 }

@@ -1,26 +1,23 @@
-//! What is around the one call: the words behind the program's name, files, standard output and standard error.
+//! What is around the one call: the words after the program's name, files, standard output and standard error.
 use crate::files::{front_of, tell_unread};
-use crate::output::WriterSink;
+use crate::output::{NO_OUTPUT, Output};
 use crate::told::tell;
 use fabric_core::FlatFabric;
 use front_core::{
-    Asked, Catching, Request, ask, fault_in, file_of, front_caught, front_run, help_of,
+    Asked, Catching, Mistake, Request, ask, fault_in, file_of, front_caught, front_run, help_of,
     help_of_all, tell_fault, tell_mistake, tell_status,
 };
 use front_defs::{Command, Options};
-use outside_core::{FileShelf, Sink, StdSink};
+use outside_core::{FileShelf, StdSink};
 use replay_app::{NO_FORM, refuse, stop_status};
 use report_core::FaultKind;
 use std::alloc::AllocError;
 use std::process::ExitCode;
-use std::{env, fs, io};
+use std::{env, io};
 use tap_core::{BytesTap, DropsTap, FirstTap, OrderTap, Tap};
 
 /// The words are in no form.
 const BAD_WORDS: u8 = 2;
-
-/// The output can't be written.
-const NO_OUTPUT: u8 = 9;
 
 /// There was no memory.
 const NO_MEMORY: u8 = 10;
@@ -37,7 +34,7 @@ zovatsemo, a packet scheduler
 proved: each function that the program is built from meets its contract (docs/PROOFS.md)
 ";
 
-/// The words behind the program's name.
+/// The words after the program's name.
 fn words_of(rt: &HostRuntime) -> io::Result<Vec<String>> {
     let mut words = Vec::new(rt.alloc());
     for word in env::args(rt)?.skip(1) {
@@ -56,7 +53,11 @@ fn tell_line(rt: &HostRuntime, options: &Options<'_>, line: &[u8]) -> Result<(),
         _ => "zovatsemo",
     };
     let content = front_of(rt, name)?;
-    tell(rt, &tell_fault(rt.alloc(), fault, name, &content)?);
+    let front = match &content {
+        Some(content) => Some(content.as_slice()),
+        None => None,
+    };
+    tell(rt, &tell_fault(rt.alloc(), fault, name, front)?);
     Ok(())
 }
 
@@ -65,22 +66,23 @@ fn tell_end(
     rt: &HostRuntime,
     options: &Options<'_>,
     status: u8,
-    line: &[u8],
+    sink: &Catching<Output<'_>>,
 ) -> Result<(), AllocError> {
-    match line {
+    match sink.kept() {
         _ if status == 0 => (),
+        _ if status == NO_OUTPUT => sink.below().tell_failure(options.command)?,
         [line @ .., b'\n'] => tell_line(rt, options, line)?,
-        _ if status == 8 => tell_unread(rt, &options.files),
+        _ if status == 8 => tell_unread(rt, options),
         _ => tell(rt, &tell_status(rt.alloc(), options.command, status)?),
     }
     Ok(())
 }
 
 /// Runs what is asked for, and says on standard error what is wrong.
-fn run_told<K: Sink + Drop>(
+fn run_told(
     rt: &HostRuntime,
     request: &Request<'_>,
-    below: K,
+    below: Output<'_>,
     taps: &mut Vec<Box<dyn Tap>>,
 ) -> Result<u8, AllocError> {
     let alloc = rt.alloc();
@@ -90,20 +92,19 @@ fn run_told<K: Sink + Drop>(
     let mut sink = Catching::new(alloc, below, options.command == Command::Forward)?;
     let status = front_caught(alloc, options, &mut shelf, &mut sink, &mut fabric, taps);
     let is_done = status == 0 || status == 14 || status == 15;
-    if is_done && sink.release().is_err() {
-        return Ok(NO_OUTPUT);
-    }
+    let is_lost = is_done && sink.release().is_err();
+    let status = if is_lost { NO_OUTPUT } else { status };
     if !request.quiet {
-        tell_end(rt, options, status, sink.kept())?;
+        tell_end(rt, options, status, &sink)?;
     }
     Ok(status)
 }
 
 /// Runs what is asked for, with all that the replayer writes.
-fn run_plain<K: Sink + Drop>(
+fn run_plain(
     rt: &HostRuntime,
     options: &Options<'_>,
-    mut sink: K,
+    mut sink: Output<'_>,
     taps: &mut Vec<Box<dyn Tap>>,
 ) -> Result<u8, AllocError> {
     let alloc = rt.alloc();
@@ -112,13 +113,10 @@ fn run_plain<K: Sink + Drop>(
     Ok(front_run(alloc, options, &mut shelf, &mut sink, &mut fabric, taps))
 }
 
-/// Runs what is asked for into an output. There is a tap of each kind.
-fn run_into<K: Sink + Drop>(
-    rt: &HostRuntime,
-    request: &Request<'_>,
-    below: K,
-) -> Result<u8, AllocError> {
+/// Runs what is asked for into standard output or a file. There is a tap of each kind.
+fn run_request(rt: &HostRuntime, request: &Request<'_>) -> Result<u8, AllocError> {
     let alloc = rt.alloc();
+    let below = Output::new(rt.clone()?, request.output);
     let mut taps: Vec<Box<dyn Tap>> = Vec::new(alloc);
     taps.push(Box::new(alloc, BytesTap::new())?)?;
     taps.push(Box::new(alloc, OrderTap::new())?)?;
@@ -128,22 +126,6 @@ fn run_into<K: Sink + Drop>(
         run_plain(rt, &request.options, below, &mut taps)
     } else {
         run_told(rt, request, below, &mut taps)
-    }
-}
-
-/// Runs what is asked for into standard output or a file.
-fn run_request(rt: &HostRuntime, request: &Request<'_>) -> Result<u8, AllocError> {
-    let Some(name) = request.output else {
-        return run_into(rt, request, StdSink::new(rt.clone()?));
-    };
-    match fs::create(rt, name) {
-        Ok(file) => run_into(rt, request, WriterSink::new(file)),
-        Err(error) => {
-            let _ = eprintln!(rt;
-                "{name}: error: expected a file that can be written, found: {error}"
-            );
-            Ok(NO_OUTPUT)
-        }
     }
 }
 
@@ -158,6 +140,11 @@ fn print(rt: &HostRuntime, text: &str) -> u8 {
 /// Whether the replayer's own line is wanted.
 fn is_plain(words: &[String]) -> bool {
     words.iter().any(|word| word.as_str() == "--plain")
+}
+
+/// Whether nothing is to be said on standard error.
+fn is_quiet(words: &[String]) -> bool {
+    words.iter().any(|word| word.as_str() == "--quiet" || word.starts_with("-q"))
 }
 
 /// Writes the line of a fault that the replayer writes where words are in no form.
@@ -176,7 +163,9 @@ fn answer_to(rt: &HostRuntime, words: &[String]) -> Result<u8, AllocError> {
         Ok(Asked::Help(Some(command))) => Ok(print(rt, help_of(command))),
         Ok(Asked::Version) => Ok(print(rt, VERSION)),
         Ok(Asked::Run(request)) => run_request(rt, &request),
+        Err(Mistake::NoMemory) => Ok(NO_MEMORY),
         Err(_) if is_plain(words) => refuse_plain(rt),
+        Err(_) if is_quiet(words) => Ok(BAD_WORDS),
         Err(mistake) => {
             tell(rt, &tell_mistake(rt.alloc(), mistake)?);
             Ok(BAD_WORDS)
@@ -184,7 +173,7 @@ fn answer_to(rt: &HostRuntime, words: &[String]) -> Result<u8, AllocError> {
     }
 }
 
-/// Does what the words behind the program's name ask for.
+/// Does what the words after the program's name ask for.
 pub fn answer(rt: &HostRuntime) -> ExitCode {
     let words = match words_of(rt) {
         Ok(words) => words,

@@ -1,23 +1,78 @@
-//! An output that is a file.
-ghost use Rattle.std.specs.Prelude.{◌≤◌, length, IfOk};
+//! The output: standard output, or a new file.
+ghost use Rattle.std.specs.Prelude.{◌≡◌, ◌≤◌, length, IfOk};
 
+use crate::told::tell;
+use front_core::tell_status;
+use front_defs::Command;
 use outside_core::{Sink, SinkError};
+use std::alloc::AllocError;
+use std::fs::File;
 use std::io::{self, Write};
 
-/// A writer as a sink, flushed at each write.
+/// The output can't be written.
+pub const NO_OUTPUT: u8 = 9;
+
+/// Standard output, or a file that is made at the first write. No file is written over. Each write is flushed.
 #[derive(Drop)]
-pub struct WriterSink<W: Write + Drop> {
-    writer: W,
+pub struct Output<'a> {
+    rt: HostRuntime,
+    name: Option<&'a str>,
+    file: Option<File>,
+    failure: Option<io::Error>,
     faults: u64,
 }
 
-impl<W: Write + Drop> WriterSink<W> {
-    pub fn new(writer: W) -> WriterSink<W> {
-        WriterSink { writer, faults: 0 }
+impl<'a> Output<'a> {
+    /// The output into the file of this name, or else to standard output.
+    pub fn new(rt: HostRuntime, name: Option<&'a str>) -> Output<'a> {
+        Output {
+            rt,
+            name,
+            file: None,
+            failure: None,
+            faults: 0,
+        }
+    }
+
+    /// Writes some bytes from the front of the piece.
+    fn put(&mut self, piece: &[u8]) -> io::Result<usize>
+        ensures bound { IfOk result (λ n. n ≤ length piece.now) }
+        ensures faults { self.new.faults ≡ self.old.faults }
+    {
+        let Some(name) = self.name else {
+            return write_flushed(&mut io::writer(&self.rt), piece);
+        };
+        if self.file.is_none() {
+            self.file = Some(File::create_new(&self.rt, name)?);
+        }
+        match &mut self.file {
+            Some(file) => write_flushed(file, piece),
+            None => Ok(0),
+        }
+    }
+
+    /// Says why the output can't be written. Of a pipe whose reader ended nothing is said.
+    pub fn tell_failure(&self, command: Command) -> Result<(), AllocError> {
+        let rt = &self.rt;
+        match (self.name, &self.failure) {
+            (_, Some(error)) if error.kind() == io::ErrorKind::BrokenPipe => (),
+            (Some(name), Some(error)) if error.kind() == io::ErrorKind::AlreadyExists => {
+                let _ = eprintln!(rt;
+                    "{name}: error: expected the name of a new file, found a file that exists\n  help: remove it first, or name another"
+                );
+            }
+            (Some(name), Some(error)) => {
+                let _ = eprintln!(rt;
+                    "{name}: error: expected a file that can be written, found: {error}"
+                );
+            }
+            _ => tell(rt, &tell_status(rt.alloc(), command, NO_OUTPUT)?),
+        }
+        Ok(())
     }
 }
 
-impl<W: Write + Drop> Sink for WriterSink<W> {
+impl<'a> Sink for Output<'a> {
     ghost use Rattle.std.specs.Prelude.{None};
 
     ghost written = { λ _. None };
@@ -25,9 +80,14 @@ impl<W: Write + Drop> Sink for WriterSink<W> {
     ghost faults = { λ s. s.faults };
 
     fn write(&mut self, piece: &[u8]) -> Result<usize, SinkError> {
-        match write_flushed(&mut self.writer, piece) {
+        match self.put(piece) {
             Ok(count) if 0 < count => Ok(count),
-            _ => {
+            Ok(_) => {
+                self.faults = self.faults.saturating_add(1);
+                Err(SinkError::Failed)
+            }
+            Err(error) => {
+                self.failure = Some(error);
                 self.faults = self.faults.saturating_add(1);
                 Err(SinkError::Failed)
             }
