@@ -30,10 +30,10 @@ both_ways true e h = cc
 both_ways false e h = cc
 
 -- no line passes the test
-none_passes : (test : Entry → Bool) (es : List Entry) → list_all (λ e. not (test e)) es ≡ true → NoLine (λ e. IsTrue (test e)) es
+pub none_passes : (test : Entry → Bool) (es : List Entry) → list_all (λ e. not (test e)) es ≡ true → NoLine (λ e. IsTrue (test e)) es
 none_passes test es all k d short passes = both_ways (test (slice_index_or es k d)) (AllPass-from_list_all (λ e. not (test e)) es all k d short) passes
 
-or_less : (b : Bool) (m n : ℕ) → (not b || nat_le m n) ≡ true → b ≡ true → m ≤ n
+pub or_less : (b : Bool) (m n : ℕ) → (not b || nat_le m n) ≡ true → b ≡ true → m ≤ n
 or_less true m n le h = grind (arith, nat_tests)
 or_less false m n le h = cc
 
@@ -44,28 +44,28 @@ least_passes test es k e short is passes least = record {
   least = λ j d s bad. or_less (test (slice_index_or es j d)) e.0 (slice_index_or es j d).0 (AllPass-from_list_all (λ x. not (test x) || nat_le e.0 x.0) es least j d s) bad;
 }
 
-abbrev misplaced : List Entry → Entry → Bool
+abbrev pub misplaced : List Entry → Entry → Bool
 misplaced es e = not (is_placed (before e.0 es) e.1)
 
-abbrev again : List Entry → Entry → Bool
+abbrev pub again : List Entry → Entry → Bool
 again es e = is_declared (before e.0 es) e.1
 
-abbrev unknown : List Entry → Entry → Bool
+abbrev pub unknown : List Entry → Entry → Bool
 unknown es e = not (is_known es (before e.0 es) e.1)
 
-abbrev beyond : List Entry → Entry → Bool
+abbrev pub beyond : List Entry → Entry → Bool
 beyond es e = is_one_too_many (before e.0 es) e.1
 
-abbrev orphan : List Entry → Entry → Bool
+abbrev pub orphan : List Entry → Entry → Bool
 orphan es e = is_orphan (listed children es) e.1
 
-abbrev stray : List Entry → Entry → Bool
+abbrev pub stray : List Entry → Entry → Bool
 stray es e = is_not_listed_once (listed leaf_classes es) e.1
 
-abbrev none : (List Entry → Entry → Bool) → List Entry → Bool
+abbrev pub none : (List Entry → Entry → Bool) → List Entry → Bool
 none test es = list_all (λ e. not (test es e)) es
 
-are_few : (es : List Entry) → none misplaced es ≡ true → none again es ≡ true → none unknown es ≡ true → none beyond es ≡ true → AreFew es
+pub are_few : (es : List Entry) → none misplaced es ≡ true → none again es ≡ true → none unknown es ≡ true → none beyond es ≡ true → AreFew es
 are_few es a b c d = (((none_passes (misplaced es) es a, none_passes (again es) es b), none_passes (unknown es) es c), none_passes (beyond es) es d)
 
 -- ---- statements
@@ -73,7 +73,7 @@ are_few es a b c d = (((none_passes (misplaced es) es a, none_passes (again es) 
 abbrev all_packets : Sense
 all_packets = class (codes "all") nothing_set []
 
-abbrev some_packets : Sense
+abbrev pub some_packets : Sense
 some_packets = class (codes "all") nothing_set (Field Dscp 46 46 ∷ [])
 
 abbrev pub leaf_of : Name → List Name → Sense
@@ -228,7 +228,7 @@ none_lists es all a b lists =
     in let some : lists.4.1.0 < length (children lists.1.1) = lists.4.1.1
     in grind (arith, nat_tests)
 
-in_some : {P : Name → Type 0} (o : Option Name) → IsSomeAnd o P → ((a : Name) → P a → ⊥) → ⊥
+pub in_some : {P : Name → Type 0} (o : Option Name) → IsSomeAnd o P → ((a : Name) → P a → ⊥) → ⊥
 in_some (Some a) is none = none a is
 in_some None is none = is
 
