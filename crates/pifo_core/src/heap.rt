@@ -1,6 +1,7 @@
 //! A queue kept in a binary heap, but for what came in order of rank.
-ghost use Rattle.std.specs.Prelude.{◌≡◌, ◌↔◌, [], map, IfSome, IsSome};
-ghost use Rattle.std.specs.BinaryHeap.{heap_items, IsHeap};
+ghost use Rattle.std.specs.Prelude.{◌≡◌, ◌+◌, ◌≤◌, ◌<◌, ◌↔◌, [], ◌∷◌, map, IfNone, IfSome, OnOk, OnSome, IsSome, slice_index_or};
+ghost use Rattle.std.specs.List.Sorted.{IsPermutation};
+ghost use Rattle.std.specs.BinaryHeap.{heap_items, heap_len, heap_capacity, IsHeap, IsUpperBound, KeepsHeap, PopsGreatest, HeapUnchanged};
 ghost use Rattle.pifo_core.specs.Held.{wide, InLeavingOrder};
 ghost use Rattle.pifo_core.specs.Heaped.{MayFollow, leads, heap_order, TopIsFirst};
 
@@ -52,6 +53,23 @@ impl HeapPifo {
             spare: 0,
         }
     }
+
+    /// Makes room for so many pushes by taking memory.
+    #[inline(never)]
+    fn grow(&mut self, more: usize) -> Result<(), AllocError>
+        requires short { self.old.spare < more }
+        ensures room { OnOk result (more ≤ self.new.spare) }
+        ensures kept { self.old.spare ≤ self.new.spare }
+        ensures entries { self.new.entries ≡ self.old.entries }
+        ensures pushes { self.new.pushes ≡ self.old.pushes }
+    {
+        self.run.reserve(more)?;
+        self.heap.reserve(more)?;
+        let in_run = self.run.capacity() - self.run.len();
+        let in_heap = self.heap.capacity() - self.heap.len();
+        self.spare = in_run.min(in_heap);
+        Ok(())
+    }
 }
 
 impl Pifo for HeapPifo {
@@ -61,18 +79,15 @@ impl Pifo for HeapPifo {
 
     ghost spare = { λ h. h.spare };
 
+    #[inline(always)]
     fn reserve(&mut self, more: usize) -> Result<(), AllocError> {
         if more <= self.spare {
             return Ok(());
         }
-        self.run.reserve(more)?;
-        self.heap.reserve(more)?;
-        let in_run = self.run.capacity() - self.run.len();
-        let in_heap = self.heap.capacity() - self.heap.len();
-        self.spare = in_run.min(in_heap);
-        Ok(())
+        self.grow(more)
     }
 
+    #[inline(always)]
     fn push(&mut self, rank: u64, value: u64) {
         let held = Held {
             rank,
@@ -85,22 +100,24 @@ impl Pifo for HeapPifo {
                 self.run.push_back_reserved(brief);
             }
             None => {
-                let _ = self.heap.push(Reverse(held));
+                push_aside(&mut self.heap, held);
             }
         }
         self.pushed += 1;
         self.spare -= 1;
     }
 
+    #[inline(always)]
     fn pop(&mut self) -> Option<(u64, u64)> {
         if run_leads(&self.run, &self.heap) {
             let first = self.run.pop_front()?;
             return Some((first.rank, u64::from(first.value)));
         }
-        let Reverse(first) = self.heap.pop()?;
+        let Reverse(first) = pop_aside(&mut self.heap)?;
         Some((first.rank, first.value))
     }
 
+    #[inline(always)]
     fn len(&self) -> usize {
         self.run.len() + self.heap.len()
     }
@@ -110,7 +127,39 @@ impl Pifo for HeapPifo {
     }
 }
 
+/// Puts an entry into the heap, which has a spare place.
+#[inline(never)]
+fn push_aside(heap: &mut BinaryHeap<Reverse<Held>>, held: Held)
+    requires room { heap_len heap.old < heap_capacity heap.old }
+    ensures len { heap_len heap.new ≡ heap_len heap.old + 1 }
+    ensures capacity { heap_capacity heap.old ≤ heap_capacity heap.new }
+    ensures permutation { IsPermutation (record { 0 = held } ∷ heap_items heap.old)
+        (heap_items heap.new) }
+    ensures heap_order { KeepsHeap heap_order (heap_items heap.old) (heap_items heap.new) }
+{
+    let _ = heap.push(Reverse(held));
+}
+
+/// Takes the entry on top of the heap, if there is one.
+#[inline(never)]
+fn pop_aside(heap: &mut BinaryHeap<Reverse<Held>>) -> Option<Reverse<Held>>
+    ensures len { OnSome result (heap_len heap.new + 1 ≡ heap_len heap.old) }
+    ensures capacity { heap_capacity heap.new ≡ heap_capacity heap.old }
+    ensures top { IfSome result (λ x. x ≡ slice_index_or (heap_items heap.old) 0 x) }
+    ensures permutation { IfSome result
+        (λ x. IsPermutation (heap_items heap.old) (x ∷ heap_items heap.new)) }
+    ensures heap_order { IfSome result
+        (λ x. PopsGreatest heap_order (heap_items heap.old) x (heap_items heap.new)) }
+    ensures below_top { IfSome result
+        (λ x. IsHeap heap_order (heap_items heap.old) → IsUpperBound heap_order x (heap_items heap.new)) }
+    ensures none { IfNone result (heap_len heap.old ≡ 0) }
+    ensures unchanged { IfNone result (HeapUnchanged heap.old heap.new) }
+{
+    heap.pop()
+}
+
 /// The entry in brief, where it may stand last in the run.
+#[inline(always)]
 fn brief_behind(run: &VecDeque<Brief>, held: &Held) -> Option<Brief>
     requires { InLeavingOrder (map wide run.now.items) }
     ensures same { IfSome result (λ b. wide b ≡ held.now) }
@@ -123,6 +172,7 @@ fn brief_behind(run: &VecDeque<Brief>, held: &Held) -> Option<Brief>
 }
 
 /// Whether the pair that leaves is the first of the run.
+#[inline(always)]
 fn run_leads(run: &VecDeque<Brief>, heap: &BinaryHeap<Reverse<Held>>) -> bool
     ensures leads { result ≡ leads run.now.items (heap_items heap.now) }
     ensures top { IsHeap heap_order (heap_items heap.now) → TopIsFirst (heap_items heap.now) }

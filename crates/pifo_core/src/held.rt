@@ -21,6 +21,7 @@ pub struct Brief {
 
 impl Brief {
     /// `None` where the sequence number or the value doesn't fit.
+    #[inline(always)]
     pub fn of(held: &Held) -> Option<Brief>
         ensures same { IfSome result (λ b. wide b ≡ held.now) }
         ensures small { IsSome result ↔ IsSmall held.now }
@@ -35,6 +36,7 @@ impl Brief {
     }
 
     /// The entry at its full width.
+    #[inline(always)]
     pub fn wide(&self) -> Held
         ensures same { result ≡ wide self.now }
     {

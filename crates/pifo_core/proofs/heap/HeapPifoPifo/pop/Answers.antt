@@ -32,7 +32,7 @@ returns-in_err-first-2-clause-taken c =
 
 pub invariant_of-self-2 : goal.invariant_of-self-2
 invariant_of-self-2 c = (
-  IsHeaped-popped c.in_ok-first-2.field-0 c.self.inside.run.items (heap_items c.self.inside.heap) (heap_items c.pop.new.self) c.self.inside.pushed c.self.invariant.0 c.in_ok-first-2.ensures.permutation (c.in_ok-first-2.ensures.heap_order c.self.invariant.0.in_heap).0,
+  IsHeaped-popped c.in_ok-first-2.field-0 c.self.inside.run.items (heap_items c.self.inside.heap) (heap_items c.pop_aside.new.heap) c.self.inside.pushed c.self.invariant.0 c.in_ok-first-2.ensures.permutation (c.in_ok-first-2.ensures.heap_order c.self.invariant.0.in_heap).0,
   omega (arith, c.self.invariant),
   omega (arith, c.in_ok-first-2.ensures.len, c.in_ok-first-2.ensures.capacity, c.self.invariant),
 )
@@ -42,4 +42,4 @@ returns-clause-taken c =
     let whole : heap_len c.self.inside.heap ≡ length (heap_items c.self.inside.heap) = search rules in
     let behind : leads c.self.inside.run.items (heap_items c.self.inside.heap) ≡ false = sym c.if-run_leads.ensures.leads in
     ap (λ v. take_least v.entries) (sym c.self.view_is)
-    ∙ queue_of-popped c.in_ok-first-2.field-0 c.self.inside.run.items (heap_items c.self.inside.heap) (heap_items c.pop.new.self) c.self.inside.pushed c.self.invariant.0 c.in_ok-first-2.ensures.permutation behind (omega (arith, whole, c.in_ok-first-2.ensures.len)) c.in_ok-first-2.ensures.top (c.in_ok-first-2.ensures.below_top c.self.invariant.0.in_heap)
+    ∙ queue_of-popped c.in_ok-first-2.field-0 c.self.inside.run.items (heap_items c.self.inside.heap) (heap_items c.pop_aside.new.heap) c.self.inside.pushed c.self.invariant.0 c.in_ok-first-2.ensures.permutation behind (omega (arith, whole, c.in_ok-first-2.ensures.len)) c.in_ok-first-2.ensures.top (c.in_ok-first-2.ensures.below_top c.self.invariant.0.in_heap)

@@ -1,12 +1,11 @@
-use Rattle.std.proofs.Common.{◌≡◌, ◌≤◌, rules, refl, ap, ◌∙◌, ◌+◌, ◌∷◌, arith, IsOk, heap_items, heap_len, deque_len}
-use Rattle.std.specs.BinaryHeap.{KeepsHeap, heap_capacity}
+use Rattle.std.proofs.Common.{◌≡◌, ◌≤◌, refl, ap, ◌∙◌, ◌+◌, arith, heap_items, heap_len, deque_len}
+use Rattle.std.specs.BinaryHeap.{heap_capacity}
 use Rattle.std.specs.VecDeque.{deque_capacity}
-use Rattle.std.specs.List.Sorted.{IsPermutation}
 use Rattle.std.specs.declared.cmp.Reverse.{Reverse}
 use Rattle.pifo_defs.specs.Queue.{put}
 use Rattle.pifo_core.specs.declared.held.Held.{Held}
 use Rattle.pifo_core.specs.Held.{queue_of}
-use Rattle.pifo_core.specs.Heaped.{heap_order, held_of_both, IsHeaped}
+use Rattle.pifo_core.specs.Heaped.{held_of_both, IsHeaped}
 use Rattle.pifo_core.proofs.HeapLaws.{queue_of-followed, IsHeaped-followed, queue_of-pushed, IsHeaped-pushed}
 use Rattle.pifo_core.proofs.heap.HeapPifoPifo.push.Goals as goal
 use Rattle.pifo_core.proofs.heap.HeapPifoPifo.push.Goals.{in-Some, in-None}
@@ -40,15 +39,12 @@ pushed c =
           }
       | in-None w ↦
           let top : Reverse Held = record { 0 = entry c } in
-          let fits : IsOk w.push.result = w.push.ensures.succeeds (omega (arith, room, c.self.invariant)) in
-          let moved : IsPermutation (top ∷ heap_items c.self.inside.heap) (heap_items w.push.new.self) = search (rules, fits, w.push.ensures.permutation) in
-          let ordered : KeepsHeap heap_order (heap_items c.self.inside.heap) (heap_items w.push.new.self) = search (rules, fits, w.push.ensures.heap_order) in
-          let longer : heap_len w.push.new.self ≡ heap_len c.self.inside.heap + 1 = search (rules, fits, w.push.ensures.len) in
+          let p = w.push_aside.ensures in
           record {
-            kept = rw w.self-inside-is (IsHeaped-pushed top c.self.inside.run.items (heap_items c.self.inside.heap) (heap_items w.push.new.self) c.self.invariant.0 moved (ordered c.self.invariant.0.in_heap));
-            put_last = rw w.self-inside-is (queue_of-pushed top c.self.inside.run.items (heap_items c.self.inside.heap) (heap_items w.push.new.self) c.self.invariant.0 moved);
+            kept = rw w.self-inside-is (IsHeaped-pushed top c.self.inside.run.items (heap_items c.self.inside.heap) (heap_items w.push_aside.new.heap) c.self.invariant.0 p.permutation (p.heap_order c.self.invariant.0.in_heap));
+            put_last = rw w.self-inside-is (queue_of-pushed top c.self.inside.run.items (heap_items c.self.inside.heap) (heap_items w.push_aside.new.heap) c.self.invariant.0 p.permutation);
             in_run = rw w.self-inside-is (omega (arith, c.self.invariant));
-            in_heap = rw w.self-inside-is (omega (arith, longer, c.self.invariant, w.push.ensures.capacity));
+            in_heap = rw w.self-inside-is (omega (arith, p.len, c.self.invariant, p.capacity));
             pushes = rw w.self-inside-is;
             spare = rw w.self-inside-is;
           }
