@@ -1,7 +1,5 @@
 -- A node after the lines of a step.
-use Rattle.std.proofs.Common.{◌≡◌, ◌≢◌, ◌∙◌, ℕ, List, [], true, false, cond, refl, ap, sym, subst, Option, Some, None, IsSome}
-use Rattle.std.specs.Prelude.{map}
-use Rattle.std.specs.Vec.{with_items}
+use Rattle.std.proofs.Common.{◌≡◌, ◌≢◌, ◌∙◌, ℕ, List, [], true, false, cond, refl, ap, subst, Option, Some, None, IsSome}
 use Rattle.rank_defs.specs.declared.environment.Env.{Env}
 use Rattle.rank_defs.specs.declared.environment.Who.{Who}
 use Rattle.rank_defs.specs.declared.transaction.Assign.{Assign}
@@ -26,6 +24,7 @@ lines_after t assigns who env r x n m firsts room still others ran =
     subst (λ (w : Memory). SameState (state_of m) (put_back who w (state_of n))) is (record {
       keeps = refl;
       eaches = λ w. (elim (same_who w who) as (λ b. same_who w who ≡ b → kept_or m.firsts.items (kept m.eaches w) ≡ cond b (kept_or [] (kept m.eaches who)) (kept_or n.firsts.items (kept n.eaches w))) [
-        true ↦ λ e. ap (λ (v : Who). kept_or m.firsts.items (kept m.eaches v)) (same_who-is w who e) ∙ some-kept m.firsts.items [] (kept m.eaches who) still
-      | false ↦ λ e. ap (λ (f : List ℕ). kept_or f (kept m.eaches w)) (ap (λ v. v.items) firsts) ∙ ap (kept_or n.firsts.items) (others w (λ k. let y : same_who w who ≡ true = rw k (same_who-refl who) in cc)) ]) refl;
+        | true ↦ λ e. ap (λ (v : Who). kept_or m.firsts.items (kept m.eaches v)) (same_who-is w who e) ∙ some-kept m.firsts.items [] (kept m.eaches who) still
+        | false ↦ λ e. ap (λ (f : List ℕ). kept_or f (kept m.eaches w)) (ap (λ v. v.items) firsts) ∙ ap (kept_or n.firsts.items) (others w (λ k. let y : same_who w who ≡ true = rw k (same_who-refl who) in cc))
+      ]) refl;
     })

@@ -41,6 +41,7 @@ pub enum Form {
     Lines,
 }
 
+#[inline(always)]
 fn kept_form(transaction: &Transaction, assign: &Assign) -> Form
     requires fits { IsShapedAssignment (program_of transaction.now) (assignment_of assign.now) }
     ensures { IsForm (program_of transaction.now) (assignment_of assign.now ∷ []) result }
@@ -55,6 +56,7 @@ fn kept_form(transaction: &Transaction, assign: &Assign) -> Form
 }
 
 /// The variables of which a line gives the greater one as the rank.
+#[inline(always)]
 fn latest_of(assign: &Assign) -> Option<(u32, u32)>
     ensures aim { IfSome result (λ v. assign.now.aim ≡ Aim.Rank) }
     ensures value { IfSome result (λ v. (variables : Name → ℕ) →
@@ -74,6 +76,7 @@ fn latest_of(assign: &Assign) -> Option<(u32, u32)>
 }
 
 /// The number in `len * number / weight`, where 32 bits hold it.
+#[inline(always)]
 fn scale_of(value: &Expr) -> Option<u32>
     ensures { IfSome result (λ n. (variables : Name → ℕ) →
         value_of variables (formula_of value.now) ≡ value_of variables (service n)) }
@@ -93,6 +96,7 @@ fn scale_of(value: &Expr) -> Option<u32>
 }
 
 /// The variable to which a line writes the rank and `len * scale / weight`, with the scale.
+#[inline(always)]
 fn next_of(assign: &Assign) -> Option<(u32, u32)>
     ensures aim { IfSome result (λ v. assign.now.aim ≡ Aim.Each v.0) }
     ensures value { IfSome result (λ v. (variables : Name → ℕ) →
@@ -111,6 +115,7 @@ fn next_of(assign: &Assign) -> Option<(u32, u32)>
     Some((each, scale))
 }
 
+#[inline(always)]
 fn fair_form(transaction: &Transaction, first: &Assign, second: &Assign) -> Form
     requires reads { IsShapedAssignment (program_of transaction.now) (assignment_of first.now) }
     requires writes { IsShapedAssignment (program_of transaction.now) (assignment_of second.now) }
@@ -137,6 +142,7 @@ fn fair_form(transaction: &Transaction, first: &Assign, second: &Assign) -> Form
     })
 }
 
+#[inline(always)]
 fn form_of(transaction: &Transaction, assigns: &[Assign]) -> Form
     requires fits { AreShapedIn transaction.now assigns.now }
     ensures { IsForm (program_of transaction.now) (map assignment_of assigns.now) result }
@@ -150,6 +156,7 @@ fn form_of(transaction: &Transaction, assigns: &[Assign]) -> Form
 }
 
 /// What is known of the push step of a transaction.
+#[inline(always)]
 pub fn push_form(transaction: &Transaction) -> Form
     requires shaped { IsShaped (program_of transaction.now) }
     ensures { IsForm (program_of transaction.now) (program_of transaction.now).push result }
@@ -158,6 +165,7 @@ pub fn push_form(transaction: &Transaction) -> Form
 }
 
 /// What is known of the pop step of a transaction.
+#[inline(always)]
 pub fn pop_form(transaction: &Transaction) -> Form
     requires shaped { IsShaped (program_of transaction.now) }
     ensures { IsForm (program_of transaction.now) (program_of transaction.now).pop result }

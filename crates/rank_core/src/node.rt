@@ -12,7 +12,7 @@ ghost use Rattle.rank_core.specs.Forms.{IsForm};
 ghost use Rattle.rank_core.specs.Scope.{AreCheckedIn, AreShapedIn, run_of};
 
 use crate::eaches::{Eaches, of_children, of_flows, reserve, run_for};
-use crate::form::{Form, Kept};
+use crate::form::{Form, Kept, pop_form, push_form};
 use rank_defs::{Aim, Assign, Env, Expr, Span, Transaction, Var, Who};
 use std::alloc::{AllocError, Global};
 
@@ -232,7 +232,7 @@ pub fn run_push(transaction: &Transaction, state: &mut NodeState, who: &Who, env
     ensures room { (w : Who) → HasRoom state.new w ↔ HasRoom state.old w }
     ensures children { children_of state.new ≡ children_of state.old }
 {
-    push_by_form(&Form::Lines, transaction, state, who, env)
+    push_by_form(&push_form(transaction), transaction, state, who, env)
 }
 
 /// The push step of a node as `run_push`, by the form of the step.
@@ -277,7 +277,7 @@ pub fn run_pop(transaction: &Transaction, state: &mut NodeState, who: &Who, rank
     ensures room { (w : Who) → HasRoom state.new w ↔ HasRoom state.old w }
     ensures children { children_of state.new ≡ children_of state.old }
 {
-    pop_by_form(&Form::Lines, transaction, state, who, rank, env);
+    pop_by_form(&pop_form(transaction), transaction, state, who, rank, env);
 }
 
 /// The pop step of a node as `run_pop`, by the form of the step.
