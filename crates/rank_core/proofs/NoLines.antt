@@ -1,5 +1,5 @@
 -- Steps that change no variable.
-use Rattle.std.proofs.Common.{arith, ◌≡◌, ◌∷◌, ℕ, List, [], length, true, false, cond, refl, ap, sym, subst}
+use Rattle.std.proofs.Common.{◌≡◌, ℕ, List, true, false, cond, refl, ap, sym, subst}
 use Rattle.rank_defs.specs.declared.environment.Env.{Env}
 use Rattle.rank_defs.specs.declared.environment.Who.{Who}
 use Rattle.rank_defs.specs.declared.transaction.Assign.{Assign}
@@ -13,10 +13,6 @@ use Rattle.rank_core.specs.Node.{state_of, step_of, HasState}
 pub put_back-unchanged : (who : Who) (r : ℕ) (s : State) → SameState s (put_back who (memory_for who r s) s)
 put_back-unchanged who r s =
     record { keeps = refl; eaches = λ w. (elim (same_who w who) as (λ b. same_who w who ≡ b → s.eaches w ≡ cond b (s.eaches who) (s.eaches w)) [ true ↦ λ e. ap s.eaches (same_who-is w who e) | false ↦ λ e. refl ]) refl }
-
-pub no_lines : (t : Transaction) (assigns : List Assign) (who : Who) (env : Env) (r : ℕ) (n : NodeState) → length assigns ≡ 0 → HasState n (put_back who (step_of t assigns who env r n) (state_of n))
-no_lines t [] who env r n none = put_back-unchanged who r (state_of n)
-no_lines t (a ∷ rest) who env r n none = absurd (omega (arith, none))
 
 -- a step after which all is as it began but the rank
 pub rank_alone : (t : Transaction) (assigns : List Assign) (who : Who) (env : Env) (r told : ℕ) (n : NodeState) → step_of t assigns who env r n ≡ memory_for who told (state_of n) → HasState n (put_back who (step_of t assigns who env r n) (state_of n))

@@ -1,14 +1,15 @@
 //! The variables of each child or flow.
 
-ghost use Rattle.std.specs.Prelude.{◌≡◌, ◌≢◌, ◌<◌, ℕ, length, slice_get, IfOk, OnOk, OnErr, IsSome, Some, None};
+ghost use Rattle.std.specs.Prelude.{◌≡◌, ◌≢◌, ◌<◌, ℕ, length, map, slice_get, IfOk, OnOk, OnErr, IsSome, Some, None};
 ghost use Rattle.rank_defs.specs.Steps.{run};
 ghost use Rattle.rank_defs.specs.Shapes.{IsEnvInRange, IsMemoryInRange, IsShaped};
-ghost use Rattle.rank_defs.specs.Programs.{program_of};
+ghost use Rattle.rank_defs.specs.Programs.{program_of, assignment_of};
 ghost use Rattle.rank_core.specs.Node.{kept, kept_or, children, BelongsTo, memory_at};
+ghost use Rattle.rank_core.specs.Forms.{IsForm};
 ghost use Rattle.rank_core.specs.Scope.{run_of, AreCheckedIn, AreShapedIn};
 
 use crate::flows::FlowTable;
-use crate::step::run;
+use crate::form::{Form, run_by_form};
 use rank_defs::{Assign, Env, Transaction, Who};
 use std::alloc::{AllocError, Global};
 
@@ -67,9 +68,11 @@ pub(crate) fn reserve(eaches: &mut Eaches, who: &Who, first: &[u64]) -> Result<(
 }
 
 /// Runs assignments on the variables of a node and on those of one child or flow that has room.
+#[inline(always)]
 pub(crate) fn run_for(
     eaches: &mut Eaches,
     who: &Who,
+    form: &Form,
     transaction: &Transaction,
     assigns: &[Assign],
     env: &Env,
@@ -80,6 +83,7 @@ pub(crate) fn run_for(
     requires told { IsEnvInRange env.now }
     requires checked { AreCheckedIn transaction.now assigns.now }
     requires fits { AreShapedIn transaction.now assigns.now }
+    requires form { IsForm (program_of transaction.now) (map assignment_of assigns.now) form.now }
     requires room { IsSome (kept eaches.old who.now) }
     requires range { IsMemoryInRange (program_of transaction.now)
         (memory_at rank keeps.old eaches.old who.now) }
@@ -92,22 +96,24 @@ pub(crate) fn run_for(
     match eaches {
         Eaches::Children(values) => match who {
             Who::Child(child) => {
-                run_for_child(values, *child, transaction, assigns, env, rank, keeps)
+                run_for_child(values, *child, form, transaction, assigns, env, rank, keeps)
             }
             Who::Flow(_) => unreachable!(),
         },
         Eaches::Flows(flows) => match who {
-            Who::Flow(flow) => flows.run_for(flow, transaction, assigns, env, rank, keeps),
+            Who::Flow(flow) => flows.run_for(flow, form, transaction, assigns, env, rank, keeps),
             Who::Child(_) => unreachable!(),
         },
-        Eaches::Bare => run(transaction, assigns, env, rank, keeps, &mut []),
+        Eaches::Bare => run_by_form(form, transaction, assigns, env, rank, keeps, &mut []),
     }
 }
 
 #[tactic(auto, using(crate::proofs::Lists::get_set_same, crate::proofs::Lists::get_set_other))]
+#[inline(always)]
 fn run_for_child(
     values: &mut Vec<Vec<u64>>,
     child: u32,
+    form: &Form,
     transaction: &Transaction,
     assigns: &[Assign],
     env: &Env,
@@ -118,6 +124,7 @@ fn run_for_child(
     requires told { IsEnvInRange env.now }
     requires checked { AreCheckedIn transaction.now assigns.now }
     requires fits { AreShapedIn transaction.now assigns.now }
+    requires form { IsForm (program_of transaction.now) (map assignment_of assigns.now) form.now }
     requires there { child < length values.old.items }
     requires range { IsMemoryInRange (program_of transaction.now)
         (memory_at rank keeps.old (Eaches.Children values.old) (Who.Child child)) }
@@ -128,5 +135,5 @@ fn run_for_child(
     ensures count { length values.new.items ≡ length values.old.items }
 {
     let values = values[child as usize].as_mut_slice();
-    run(transaction, assigns, env, rank, keeps, values)
+    run_by_form(form, transaction, assigns, env, rank, keeps, values)
 }

@@ -1,13 +1,14 @@
 //! The numbers of the flows at a leaf.
 
-ghost use Rattle.std.specs.Prelude.{◌≡◌, ◌≢◌, IsSome, None, OnErr, OnOk, []};
+ghost use Rattle.std.specs.Prelude.{◌≡◌, ◌≢◌, IsSome, None, OnErr, OnOk, [], map};
 ghost use Rattle.rank_defs.specs.Shapes.{IsEnvInRange, IsMemoryInRange, IsShaped};
-ghost use Rattle.rank_defs.specs.Programs.{program_of};
+ghost use Rattle.rank_defs.specs.Programs.{program_of, assignment_of};
 ghost use Rattle.rank_core.specs.Flows.{key_of, numbers_of};
 ghost use Rattle.rank_core.specs.Node.{kept_or};
+ghost use Rattle.rank_core.specs.Forms.{IsForm};
 ghost use Rattle.rank_core.specs.Scope.{memory, run_of, AreCheckedIn, AreShapedIn};
 
-use crate::step::run;
+use crate::form::{Form, run_by_form};
 use rank_defs::{Assign, Env, FlowKey, Transaction};
 use std::alloc::{AllocError, Global};
 use std::collections::BTreeMap;
@@ -76,9 +77,11 @@ impl FlowTable {
     }
 
     /// Runs assignments on the variables of the leaf and on those of a flow that has room.
+    #[inline(always)]
     pub(crate) fn run_for(
         &mut self,
         flow: &FlowKey,
+        form: &Form,
         transaction: &Transaction,
         assigns: &[Assign],
         env: &Env,
@@ -89,6 +92,7 @@ impl FlowTable {
         requires told { IsEnvInRange env.now }
         requires checked { AreCheckedIn transaction.now assigns.now }
         requires fits { AreShapedIn transaction.now assigns.now }
+        requires form { IsForm (program_of transaction.now) (map assignment_of assigns.now) form.now }
         requires room { IsSome (numbers_of self.old flow.now) }
         requires range { IsMemoryInRange (program_of transaction.now)
             (memory rank keeps.old (kept_or [] (numbers_of self.old flow.now))) }
@@ -99,7 +103,8 @@ impl FlowTable {
             numbers_of self.old f }
     {
         match self.values.get_mut(&key_of(flow)) {
-            Some(numbers) => run(
+            Some(numbers) => run_by_form(
+                form,
                 transaction,
                 assigns,
                 env,

@@ -1,16 +1,18 @@
 //! The variables of a node, and its steps.
 
-ghost use Rattle.std.specs.Prelude.{◌≡◌, ◌≢◌, ◌<◌, ◌≤◌, ◌↔◌, ℕ, pos, length, slice_set, Some, None, IfSome, IfOk, OnOk, OnErr};
+ghost use Rattle.std.specs.Prelude.{◌≡◌, ◌≢◌, ◌<◌, ◌≤◌, ◌↔◌, ℕ, pos, length, map, slice_set, Some, None, IfSome, IfOk, OnOk, OnErr};
 ghost use Rattle.rank_defs.specs.States.{SameState, Memory, first_state, firsts, put_back, variable_in};
 ghost use Rattle.rank_defs.specs.Values.{num};
-ghost use Rattle.rank_defs.specs.Steps.{clamped, write, push_rank, after_push, after_pop};
+ghost use Rattle.rank_defs.specs.Steps.{clamped, push_rank, after_push, after_pop};
 ghost use Rattle.rank_defs.specs.Shapes.{IsEnvInRange, IsStateInRange, IsShaped};
-ghost use Rattle.rank_defs.specs.Programs.{program_of, target, max_rank};
+ghost use Rattle.rank_defs.specs.Programs.{program_of, assignment_of, max_rank};
 ghost use Rattle.rank_defs.specs.Checks.{IsChecked};
 ghost use Rattle.rank_core.specs.Node.{state_of, children_of, BelongsTo, HasRoom, HasState, step_of};
+ghost use Rattle.rank_core.specs.Forms.{IsForm};
 ghost use Rattle.rank_core.specs.Scope.{AreCheckedIn, AreShapedIn, run_of};
 
 use crate::eaches::{Eaches, of_children, of_flows, reserve, run_for};
+use crate::form::{Form, Kept, pop_form, push_form};
 use rank_defs::{Aim, Assign, Env, Expr, Span, Transaction, Var, Who};
 use std::alloc::{AllocError, Global};
 
@@ -123,43 +125,25 @@ fn told_rank(assigns: &[Assign], env: &Env) -> Option<u64>
     }
 }
 
-/// The variable of the node to which a step writes the rank, where it does nothing else.
-#[inline]
-fn kept_in(assigns: &[Assign]) -> Option<u32>
-    ensures step { IfSome result (λ k. (t : Transaction) (env : Env) (m : Memory) →
-        run_of t env assigns.now m ≡ write (Aim.Keep k) (clamped (target (program_of t) (Aim.Keep k)) (num (pos m.rank))) m) }
-    ensures there { IfSome result (λ k. (t : Transaction) → AreShapedIn t assigns.now →
-        k < length t.keeps) }
-{
-    let [assign] = assigns else {
-        return None;
-    };
-    match (assign.aim, &assign.value) {
-        (Aim::Keep(k), Expr::Var(Var::Rank)) => Some(k),
-        _ => None,
-    }
-}
-
-#[inline]
-fn keep_rank(state: &mut NodeState, transaction: &Transaction, k: u32, rank: u64)
-    requires shaped { IsShaped (program_of transaction.now) }
-    requires there { k < length transaction.now.keeps }
-    requires each { length state.old.keeps.items ≡ length transaction.now.keeps }
+#[inline(always)]
+fn keep_rank(state: &mut NodeState, kept: &Kept, rank: u64)
+    requires there { kept.now.keep < length state.old.keeps.items }
+    requires span { kept.now.span.low ≤ kept.now.span.high }
     ensures keeps { state.new.keeps.items ≡
-        slice_set state.old.keeps.items k (clamped (target (program_of transaction.now) (Aim.Keep k)) (num (pos rank))) }
+        slice_set state.old.keeps.items kept.now.keep (clamped kept.now.span (num (pos rank))) }
     ensures firsts { state.new.firsts ≡ state.old.firsts }
     ensures eaches { state.new.eaches ≡ state.old.eaches }
 {
-    let span = &transaction.keeps.as_slice()[k as usize];
-    state.keeps[k as usize] = rank.clamp(span.low, span.high);
+    state.keeps[kept.keep as usize] = rank.clamp(kept.span.low, kept.span.high);
 }
 
 /// A step with no assignments changes nothing, one that gives a rank that it is told changes no variable, and one that keeps the
-/// rank looks up no child or flow. Most are such, and they pay for no call of `run_lines`.
-#[inline]
+/// rank looks up no child or flow.
+#[inline(always)]
 fn run_at(
     state: &mut NodeState,
     who: &Who,
+    form: &Form,
     transaction: &Transaction,
     assigns: &[Assign],
     env: &Env,
@@ -168,6 +152,7 @@ fn run_at(
     requires shaped { IsShaped (program_of transaction.now) }
     requires checked { AreCheckedIn transaction.now assigns.now }
     requires fits { AreShapedIn transaction.now assigns.now }
+    requires form { IsForm (program_of transaction.now) (map assignment_of assigns.now) form.now }
     requires in_range { IsStateInRange (program_of transaction.now) (state_of state.old) }
     requires room { HasRoom state.old who.now }
     requires told { IsEnvInRange env.now }
@@ -179,23 +164,25 @@ fn run_at(
     ensures room { (w : Who) → HasRoom state.new w ↔ HasRoom state.old w }
     ensures children { children_of state.new ≡ children_of state.old }
 {
-    if assigns.is_empty() {
-        return rank;
+    match form {
+        Form::Empty => rank,
+        Form::Kept(kept) => {
+            keep_rank(state, kept, rank);
+            rank
+        }
+        Form::Fair(_) => run_lines(state, who, form, transaction, assigns, env, rank),
+        Form::Lines => match told_rank(assigns, env) {
+            Some(told) => told,
+            None => run_lines(state, who, form, transaction, assigns, env, rank),
+        },
     }
-    if let Some(told) = told_rank(assigns, env) {
-        return told;
-    }
-    if let Some(k) = kept_in(assigns) {
-        keep_rank(state, transaction, k, rank);
-        return rank;
-    }
-    run_lines(state, who, transaction, assigns, env, rank)
 }
 
-#[inline(never)]
+#[inline(always)]
 fn run_lines(
     state: &mut NodeState,
     who: &Who,
+    form: &Form,
     transaction: &Transaction,
     assigns: &[Assign],
     env: &Env,
@@ -204,6 +191,7 @@ fn run_lines(
     requires shaped { IsShaped (program_of transaction.now) }
     requires checked { AreCheckedIn transaction.now assigns.now }
     requires fits { AreShapedIn transaction.now assigns.now }
+    requires form { IsForm (program_of transaction.now) (map assignment_of assigns.now) form.now }
     requires in_range { IsStateInRange (program_of transaction.now) (state_of state.old) }
     requires room { HasRoom state.old who.now }
     requires told { IsEnvInRange env.now }
@@ -219,6 +207,7 @@ fn run_lines(
     run_for(
         &mut state.eaches,
         who,
+        form,
         transaction,
         assigns,
         env,
@@ -243,7 +232,35 @@ pub fn run_push(transaction: &Transaction, state: &mut NodeState, who: &Who, env
     ensures room { (w : Who) → HasRoom state.new w ↔ HasRoom state.old w }
     ensures children { children_of state.new ≡ children_of state.old }
 {
-    run_at(state, who, transaction, transaction.push.as_slice(), env, 0)
+    push_by_form(&push_form(transaction), transaction, state, who, env)
+}
+
+/// The push step of a node as `run_push`, by the form of the step.
+#[inline(always)]
+pub fn push_by_form(
+    form: &Form,
+    transaction: &Transaction,
+    state: &mut NodeState,
+    who: &Who,
+    env: &Env,
+) -> u64
+    requires form { IsForm (program_of transaction.now) (program_of transaction.now).push form.now }
+    requires shaped { IsShaped (program_of transaction.now) }
+    requires checked { IsChecked (program_of transaction.now) }
+    requires in_range { IsStateInRange (program_of transaction.now) (state_of state.old) }
+    requires room { HasRoom state.old who.now }
+    requires told { IsEnvInRange env.now }
+    ensures rank { result ≡ push_rank (program_of transaction.now) who.now env.entry.now
+        (state_of state.old) }
+    ensures rank_limit { result ≤ max_rank }
+    ensures after { HasState state.new (after_push (program_of transaction.now) who.now
+        env.entry.now (state_of state.old)) }
+    ensures in_range { IsStateInRange (program_of transaction.now) (state_of state.new) }
+    ensures room { (w : Who) → HasRoom state.new w ↔ HasRoom state.old w }
+    ensures children { children_of state.new ≡ children_of state.old }
+{
+    let assigns = transaction.push.as_slice();
+    run_at(state, who, form, transaction, assigns, env, 0)
 }
 
 /// The pop step of a node from which a packet of a child or a flow was taken, with the packet's rank there.
@@ -260,6 +277,32 @@ pub fn run_pop(transaction: &Transaction, state: &mut NodeState, who: &Who, rank
     ensures room { (w : Who) → HasRoom state.new w ↔ HasRoom state.old w }
     ensures children { children_of state.new ≡ children_of state.old }
 {
+    pop_by_form(&pop_form(transaction), transaction, state, who, rank, env);
+}
+
+/// The pop step of a node as `run_pop`, by the form of the step.
+#[inline(always)]
+pub fn pop_by_form(
+    form: &Form,
+    transaction: &Transaction,
+    state: &mut NodeState,
+    who: &Who,
+    rank: u64,
+    env: &Env,
+)
+    requires form { IsForm (program_of transaction.now) (program_of transaction.now).pop form.now }
+    requires shaped { IsShaped (program_of transaction.now) }
+    requires checked { IsChecked (program_of transaction.now) }
+    requires in_range { IsStateInRange (program_of transaction.now) (state_of state.old) }
+    requires room { HasRoom state.old who.now }
+    requires told { IsEnvInRange env.now }
+    requires rank { rank ≤ max_rank }
+    ensures after { HasState state.new (after_pop (program_of transaction.now) who.now env.entry.now
+        rank (state_of state.old)) }
+    ensures in_range { IsStateInRange (program_of transaction.now) (state_of state.new) }
+    ensures room { (w : Who) → HasRoom state.new w ↔ HasRoom state.old w }
+    ensures children { children_of state.new ≡ children_of state.old }
+{
     let assigns = transaction.pop.as_slice();
-    run_at(state, who, transaction, assigns, env, rank);
+    run_at(state, who, form, transaction, assigns, env, rank);
 }

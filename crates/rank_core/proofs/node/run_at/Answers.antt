@@ -1,24 +1,56 @@
-use Rattle.std.proofs.Common.{rules}
-use Rattle.rank_defs.proofs.Spans.{length-within}
-use Rattle.rank_defs.specs.States.{memory_for}
-use Rattle.rank_core.specs.Node.{state_of}
-use Rattle.rank_core.proofs.NoLines.{no_lines, rank_alone}
+use Rattle.std.proofs.Common.{arith, ◌≡◌, ◌≤◌, ◌∙◌, [], sym, subst, ap, map}
+use Rattle.std.specs.Prelude.{pos}
+use Rattle.rank_defs.proofs.Spans.{length-within, span_at-proper}
+use Rattle.rank_defs.specs.declared.transaction.Span.{Span}
+use Rattle.rank_defs.specs.declared.transaction.Aim.TheVariants.{Keep}
+use Rattle.rank_defs.specs.Programs.{program_of, assignment_of}
+use Rattle.rank_defs.specs.States.{Memory, memory_for}
+use Rattle.rank_defs.specs.Steps.{clamped, write}
+use Rattle.rank_defs.specs.Values.{num}
+use Rattle.rank_core.specs.Forms.{IsForm, RunAs, AreKept}
+use Rattle.rank_core.specs.Node.{state_of, step_of}
+use Rattle.rank_core.proofs.NoLines.{rank_alone}
 use Rattle.rank_core.proofs.RankKept.{keep_alone}
 use Rattle.rank_core.proofs.node.run_at.Goals as goal
 
-pub returns-then-is_empty-clause-after : goal.returns-then-is_empty-clause-after
-returns-then-is_empty-clause-after c =
-    no_lines c.args.transaction.now c.args.assigns.now c.args.who.now c.args.env.now c.args.rank c.args.state.now (search rules)
+-- a step without lines
+pub returns-in-Empty-clause-rank : goal.returns-in-Empty-clause-rank
+returns-in-Empty-clause-rank c =
+    let none : RunAs (program_of c.args.transaction.now) (map assignment_of c.args.assigns.now) [] = subst (IsForm (program_of c.args.transaction.now) (map assignment_of c.args.assigns.now)) c.in-Empty.is c.requires.form
+    in ap (λ (m : Memory). m.rank) (sym (none c.args.env.now (memory_for c.args.who.now c.args.rank (state_of c.args.state.now))))
 
+pub returns-in-Empty-clause-after : goal.returns-in-Empty-clause-after
+returns-in-Empty-clause-after c =
+    let none : RunAs (program_of c.args.transaction.now) (map assignment_of c.args.assigns.now) [] = subst (IsForm (program_of c.args.transaction.now) (map assignment_of c.args.assigns.now)) c.in-Empty.is c.requires.form
+    in rank_alone c.args.transaction.now c.args.assigns.now c.args.who.now c.args.env.now c.args.rank c.args.rank c.args.state.now (none c.args.env.now (memory_for c.args.who.now c.args.rank (state_of c.args.state.now)))
+
+-- one that keeps the rank
+pub keep_rank-requires-clause-there : goal.keep_rank-requires-clause-there
+keep_rank-requires-clause-there c =
+    let kept : AreKept (program_of c.args.transaction.now) (map assignment_of c.args.assigns.now) c.in-Kept.kept = subst (IsForm (program_of c.args.transaction.now) (map assignment_of c.args.assigns.now)) c.in-Kept.is c.requires.form
+    in omega (arith, kept.keep, length-within c.args.transaction.now.keeps c.args.state.now.keeps.items c.requires.in_range.keeps)
+
+pub keep_rank-requires-clause-span : goal.keep_rank-requires-clause-span
+keep_rank-requires-clause-span c =
+    let kept : AreKept (program_of c.args.transaction.now) (map assignment_of c.args.assigns.now) c.in-Kept.kept = subst (IsForm (program_of c.args.transaction.now) (map assignment_of c.args.assigns.now)) c.in-Kept.is c.requires.form
+    in subst (λ (s : Span). s.low ≤ s.high) (sym kept.span) (span_at-proper c.args.transaction.now.keeps c.in-Kept.kept.keep c.requires.shaped.keeps).ordered
+
+pub returns-in-Kept-clause-rank : goal.returns-in-Kept-clause-rank
+returns-in-Kept-clause-rank c =
+    let kept : AreKept (program_of c.args.transaction.now) (map assignment_of c.args.assigns.now) c.in-Kept.kept = subst (IsForm (program_of c.args.transaction.now) (map assignment_of c.args.assigns.now)) c.in-Kept.is c.requires.form
+    in ap (λ (m : Memory). m.rank) (sym (kept.same c.args.env.now (memory_for c.args.who.now c.args.rank (state_of c.args.state.now))))
+
+pub returns-in-Kept-clause-after : goal.returns-in-Kept-clause-after
+returns-in-Kept-clause-after c =
+    let kept : AreKept (program_of c.args.transaction.now) (map assignment_of c.args.assigns.now) c.in-Kept.kept = subst (IsForm (program_of c.args.transaction.now) (map assignment_of c.args.assigns.now)) c.in-Kept.is c.requires.form
+    in let m : Memory = memory_for c.args.who.now c.args.rank (state_of c.args.state.now)
+    in let k = c.in-Kept.kept.keep
+    in let is : step_of c.args.transaction.now c.args.assigns.now c.args.who.now c.args.env.now c.args.rank c.args.state.now ≡ write (Keep k) (clamped c.in-Kept.kept.span (num (pos c.args.rank))) m
+    = kept.same c.args.env.now m ∙ ap (λ (s : Span). write (Keep k) (clamped s (num (pos c.args.rank))) m) (sym kept.span)
+    in keep_alone c.args.transaction.now c.args.assigns.now c.args.who.now c.args.env.now c.args.rank k _ c.args.state.now c.keep_rank.new.state is c.keep_rank.ensures.keeps c.keep_rank.ensures.firsts c.keep_rank.ensures.eaches
+
+-- one that gives a rank that it is told
 pub returns-in-Some-clause-after : goal.returns-in-Some-clause-after
 returns-in-Some-clause-after c =
     rank_alone c.args.transaction.now c.args.assigns.now c.args.who.now c.args.env.now c.args.rank c.in-Some.told c.args.state.now
     (c.in-Some.ensures.rank c.args.transaction.now (memory_for c.args.who.now c.args.rank (state_of c.args.state.now)))
-
-pub keep_rank-requires-clause-each : goal.keep_rank-requires-clause-each
-keep_rank-requires-clause-each c = length-within c.args.transaction.now.keeps c.args.state.now.keeps.items c.requires.in_range.keeps
-
-pub returns-in-Some-kept_in-clause-after : goal.returns-in-Some-kept_in-clause-after
-returns-in-Some-kept_in-clause-after c =
-    keep_alone c.args.transaction.now c.args.assigns.now c.args.who.now c.args.env.now c.args.rank c.in-Some-kept_in.k _ c.args.state.now c.keep_rank.new.state
-    (c.in-Some-kept_in.ensures.step c.args.transaction.now c.args.env.now (memory_for c.args.who.now c.args.rank (state_of c.args.state.now))) c.keep_rank.ensures.keeps c.keep_rank.ensures.firsts c.keep_rank.ensures.eaches

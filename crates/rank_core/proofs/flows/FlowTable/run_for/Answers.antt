@@ -9,8 +9,8 @@ use Rattle.rank_core.proofs.Lists.{refilled}
 use Rattle.rank_core.proofs.FlowMaps.{found_at, update_there, update_others}
 use Rattle.rank_core.proofs.flows.FlowTable.run_for.Goals as goal
 
-pub run-requires-clause-range : goal.run-requires-clause-range
-run-requires-clause-range c =
+pub run_by_form-requires-clause-range : goal.run_by_form-requires-clause-range
+run_by_form-requires-clause-range c =
     let is : kept_or [] (numbers_of c.args.self.now c.args.flow.now) ≡ c.as_mut_slice.result.now = rw (found_at c.args.self.now.values c.args.flow.now (Some c.in-Some.numbers.now) c.key_of.ensures c.in-Some.ensures.value) (sym c.as_mut_slice.ensures.value)
     in subst (λ xs. IsMemoryInRange (program_of c.args.transaction.now) (memory c.args.rank c.args.keeps.now xs)) is c.requires.range
 
@@ -21,16 +21,16 @@ unreachable-requires c =
 
 pub returns-clause-ran : goal.returns-clause-ran
 returns-clause-ran c =
-    let w = with_items c.in-Some.numbers.now c.run.new.eaches
-    in let same : length c.run.new.eaches ≡ length c.in-Some.numbers.now.items = search rules
-    in rw (update_there c.args.self.now.values (c.get_mut.follows.lender w) c.args.flow.now (Some w) c.key_of.ensures ((c.get_mut.follows.holds w).3 (search rules)), refilled c.in-Some.numbers.now c.run.new.eaches same, found_at c.args.self.now.values c.args.flow.now (Some c.in-Some.numbers.now) c.key_of.ensures c.in-Some.ensures.value, ← c.as_mut_slice.ensures.value) c.run.ensures
+    let w = with_items c.in-Some.numbers.now c.run_by_form.new.eaches
+    in let same : length c.run_by_form.new.eaches ≡ length c.in-Some.numbers.now.items = search rules
+    in rw (update_there c.args.self.now.values (c.get_mut.follows.lender w) c.args.flow.now (Some w) c.key_of.ensures ((c.get_mut.follows.holds w).3 (search rules)), refilled c.in-Some.numbers.now c.run_by_form.new.eaches same, found_at c.args.self.now.values c.args.flow.now (Some c.in-Some.numbers.now) c.key_of.ensures c.in-Some.ensures.value, ← c.as_mut_slice.ensures.value) c.run_by_form.ensures
 
 pub returns-clause-room : goal.returns-clause-room
 returns-clause-room c =
-    let w = with_items c.in-Some.numbers.now c.run.new.eaches
+    let w = with_items c.in-Some.numbers.now c.run_by_form.new.eaches
     in rw (update_there c.args.self.now.values (c.get_mut.follows.lender w) c.args.flow.now (Some w) c.key_of.ensures ((c.get_mut.follows.holds w).3 (search rules))) refl
 
 pub returns-clause-others : goal.returns-clause-others
 returns-clause-others c = λ f other.
-    let w = with_items c.in-Some.numbers.now c.run.new.eaches
+    let w = with_items c.in-Some.numbers.now c.run_by_form.new.eaches
     in rw (update_others c.args.self.now.values (c.get_mut.follows.lender w) c.args.flow.now f (Some w) c.key_of.ensures ((c.get_mut.follows.holds w).3 (search rules)) other) refl

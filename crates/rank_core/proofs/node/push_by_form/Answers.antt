@@ -5,7 +5,7 @@ use Rattle.rank_defs.specs.Steps.{push_rank, after_push}
 use Rattle.rank_defs.proofs.SameStates.{in_range-same, same-sym}
 use Rattle.rank_defs.proofs.SafeSteps.{safe_push}
 use Rattle.rank_core.specs.Node.{state_of}
-use Rattle.rank_core.proofs.node.run_push.Goals as goal
+use Rattle.rank_core.proofs.node.push_by_form.Goals as goal
 
 pub returns-clause-rank_limit : goal.returns-clause-rank_limit
 returns-clause-rank_limit c =

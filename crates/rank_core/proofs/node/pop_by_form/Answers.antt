@@ -5,7 +5,7 @@ use Rattle.rank_defs.specs.Steps.{after_pop}
 use Rattle.rank_defs.proofs.SameStates.{in_range-same, same-sym}
 use Rattle.rank_defs.proofs.SafeSteps.{safe_pop}
 use Rattle.rank_core.specs.Node.{state_of}
-use Rattle.rank_core.proofs.node.run_pop.Goals as goal
+use Rattle.rank_core.proofs.node.pop_by_form.Goals as goal
 
 pub returns-clause-in_range : goal.returns-clause-in_range
 returns-clause-in_range c =
