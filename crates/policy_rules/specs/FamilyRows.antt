@@ -212,7 +212,9 @@ deepest k d short deep = at (some_name (node_name (slice_index_or deep_and_stray
 
 pub deep_before_stray : IsFault deep_and_stray (Deep 68) × IsNotListedOnce deep_and_stray (entry 2 some_packets)
 deep_before_stray = (
-  (((((are_few deep_and_stray refl refl refl refl, tt), none_passes (orphan deep_and_stray) deep_and_stray refl), refl), none_below_itself deep_and_stray 65 refl),
-  record { there = (67, entry 68 (leaf_of (65 ∷ []) []), omega arith, refl, ((65, omega arith, 65_steps), refl)); least = deepest }),
+  (
+    ((((are_few deep_and_stray refl refl refl refl, tt), none_passes (orphan deep_and_stray) deep_and_stray refl), refl), none_below_itself deep_and_stray 65 refl),
+    record { there = (67, entry 68 (leaf_of (65 ∷ []) []), omega arith, refl, ((65, omega arith, 65_steps), refl)); least = deepest },
+  ),
   refl,
 )
