@@ -54,7 +54,7 @@ impl HeapPifo {
         }
     }
 
-    /// Makes room for so many pushes by taking memory.
+    /// Makes room for `more` pushes by taking memory.
     #[inline(never)]
     fn grow(&mut self, more: usize) -> Result<(), AllocError>
         requires short { self.old.spare < more }
