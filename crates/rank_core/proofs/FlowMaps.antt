@@ -1,22 +1,20 @@
 -- A map in the order of the flows' keys finds what a flow has, and is updated flow by flow.
-use Rattle.std.proofs.Common.{rules, arith, ◌≡◌, ◌≢◌, ◌∙◌, ℕ, List, [], ◌∷◌, refl, sym, ap, subst, false, Vec, Option, Some, None, IsSome, option_map}
-use Rattle.std.specs.declared.alloc.Global.{Global}
+use Rattle.std.proofs.Common.{rules, arith, ◌≡◌, ◌≢◌, ◌∙◌, List, [], ◌∷◌, refl, sym, subst, false, Option}
 use Rattle.std.specs.Ordering.{is_eq}
 use Rattle.std.specs.Map.{lookup}
 use Rattle.std.specs.BTreeMap.{BTreeMap, get, is_at, Updates}
 use Rattle.rank_defs.specs.declared.environment.FlowKey.{FlowKey}
 use Rattle.rank_defs.specs.declared.environment.Who.TheVariants.{Flow}
-use Rattle.rank_defs.proofs.OtherStates.{same_who-other, by_same_who}
+use Rattle.rank_defs.proofs.OtherStates.{same_who-other}
 use Rattle.rank_core.specs.declared.flows.OrderedKey.{OrderedKey}
 use Rattle.rank_core.specs.contracts.flows.OrderedKeyOrd.TheImpl.{cmp-value}
-use Rattle.rank_core.specs.Flows.{items_of, key_of, has_key}
-use Rattle.rank_core.specs.Node.{kept_or}
+use Rattle.rank_core.specs.FlowKeys.{key_of, has_key}
 
 -- the order ties a flow's key with the flow's alone
 pub tied : (f : FlowKey) (k : OrderedKey) → is_eq (cmp-value.it (key_of f) k) ≡ has_key f k
 tied f k = grind (arith, rules)
 
-flow-of : {f g : FlowKey} → Flow f ≡ Flow g → f ≡ g
+pub flow-of : {f g : FlowKey} → Flow f ≡ Flow g → f ≡ g
 flow-of e = cc
 
 -- so the keys of two flows are apart
@@ -43,18 +41,3 @@ update_there m n f w key u = found n f ∙ (subst (λ j. Updates cmp-value.it m 
 pub update_others : {X : Type 0} (m n : BTreeMap OrderedKey X) (f g : FlowKey) {k : OrderedKey} (w : Option X) → k ≡ key_of f → Updates cmp-value.it m n k w → g ≢ f → lookup (has_key g) n.entries ≡ lookup (has_key g) m.entries
 update_others m n f g w key u other =
     found n g ∙ (subst (λ j. Updates cmp-value.it m n j w) key u).2 (key_of g) (apart f g (λ e. other (sym e))) ∙ sym (found m g)
-
--- numbers that are the first ones stand for none
-pub first_kept : (m n : BTreeMap OrderedKey (Vec ℕ Global)) (first : List ℕ) (f g : FlowKey) {k : OrderedKey} (v : Vec ℕ Global) → k ≡ key_of f → Updates cmp-value.it m n k (Some v) → get cmp-value.it m k ≡ None → v.items ≡ first → kept_or first (option_map items_of (lookup (has_key g) n.entries)) ≡ kept_or first (option_map items_of (lookup (has_key g) m.entries))
-first_kept m n first f g v key u absent firsts =
-    by_same_who (Flow g) (Flow f)
-    (λ e. rw (flow-of e, update_there m n f (Some v) key u, found_at m f None key (sym absent)) firsts)
-    (λ other. rw (update_others m n f g (Some v) key u (λ e. other (ap Flow e))) refl)
-
--- a flow has room where the map finds its key
-pub room_there : (m : BTreeMap OrderedKey (Vec ℕ Global)) (f : FlowKey) {k : OrderedKey} → k ≡ key_of f → IsSome (get cmp-value.it m k) → IsSome (option_map items_of (lookup (has_key f) m.entries))
-room_there m f {k} key there = rw (found_at m f (get cmp-value.it m k) key refl) (mapped (get cmp-value.it m k) there)
-  where
-    mapped : (o : Option (Vec ℕ Global)) → IsSome o → IsSome (option_map items_of o)
-    mapped (Some v) h = refl
-    mapped None h = cc

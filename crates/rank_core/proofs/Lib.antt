@@ -1,5 +1,6 @@
 pub mod AssignmentLoop
 pub mod FlowMaps
+pub mod FlowPlaces
 pub mod LinesRun
 pub mod Lists
 pub mod NoLines

@@ -1,4 +1,5 @@
 pub mod Scope
+pub mod FlowKeys
 pub mod Flows
 pub mod Node
 pub mod Forms

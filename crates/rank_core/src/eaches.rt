@@ -1,12 +1,13 @@
 //! The variables of each child or flow.
 
-ghost use Rattle.std.specs.Prelude.{◌≡◌, ◌≢◌, ◌<◌, ℕ, length, map, slice_get, IfOk, OnOk, OnErr, IsSome, Some, None};
+ghost use Rattle.std.specs.Prelude.{◌≡◌, ◌≢◌, ◌<◌, ℕ, length, map, slice_get, [], IfOk, OnOk, OnErr, IsSome, Some, None};
 ghost use Rattle.rank_defs.specs.Steps.{run};
 ghost use Rattle.rank_defs.specs.Shapes.{IsEnvInRange, IsMemoryInRange, IsShaped};
 ghost use Rattle.rank_defs.specs.Programs.{program_of, assignment_of};
+ghost use Rattle.rank_core.specs.Flows.{numbers_at};
 ghost use Rattle.rank_core.specs.Node.{kept, kept_or, children, BelongsTo, memory_at};
 ghost use Rattle.rank_core.specs.Forms.{IsForm};
-ghost use Rattle.rank_core.specs.Scope.{run_of, AreCheckedIn, AreShapedIn};
+ghost use Rattle.rank_core.specs.Scope.{memory, run_of, AreCheckedIn, AreShapedIn};
 
 use crate::flows::FlowTable;
 use crate::form::{Form, run_by_form};
@@ -96,7 +97,16 @@ pub(crate) fn run_for(
     match eaches {
         Eaches::Children(values) => match who {
             Who::Child(child) => {
-                run_for_child(values, *child, form, transaction, assigns, env, rank, keeps)
+                run_for_place(
+                    values,
+                    *child as usize,
+                    form,
+                    transaction,
+                    assigns,
+                    env,
+                    rank,
+                    keeps,
+                )
             }
             Who::Flow(_) => unreachable!(),
         },
@@ -108,11 +118,12 @@ pub(crate) fn run_for(
     }
 }
 
-#[tactic(auto, using(crate::proofs::Lists::get_set_same, crate::proofs::Lists::get_set_other))]
+/// Runs assignments on the variables of a node and on those at a place.
 #[inline(always)]
-fn run_for_child(
+#[tactic(auto, using(crate::proofs::Lists::get_set_same, crate::proofs::Lists::get_set_other))]
+pub(crate) fn run_for_place(
     values: &mut Vec<Vec<u64>>,
-    child: u32,
+    place: usize,
     form: &Form,
     transaction: &Transaction,
     assigns: &[Assign],
@@ -125,15 +136,15 @@ fn run_for_child(
     requires checked { AreCheckedIn transaction.now assigns.now }
     requires fits { AreShapedIn transaction.now assigns.now }
     requires form { IsForm (program_of transaction.now) (map assignment_of assigns.now) form.now }
-    requires there { child < length values.old.items }
+    requires there { place < length values.old.items }
     requires range { IsMemoryInRange (program_of transaction.now)
-        (memory_at rank keeps.old (Eaches.Children values.old) (Who.Child child)) }
-    ensures ran { memory_at result keeps.new (Eaches.Children values.new) (Who.Child child) ≡
-        run_of transaction.now env.entry.now assigns.now (memory_at rank keeps.old (Eaches.Children values.old) (Who.Child child)) }
-    ensures others { (i : ℕ) → i ≢ child → slice_get values.new.items i ≡
+        (memory rank keeps.old (kept_or [] (numbers_at values.old.items (Some place)))) }
+    ensures ran { memory result keeps.new (kept_or [] (numbers_at values.new.items (Some place))) ≡
+        run_of transaction.now env.entry.now assigns.now (memory rank keeps.old (kept_or [] (numbers_at values.old.items (Some place)))) }
+    ensures others { (i : ℕ) → i ≢ place → slice_get values.new.items i ≡
         slice_get values.old.items i }
     ensures count { length values.new.items ≡ length values.old.items }
 {
-    let values = values[child as usize].as_mut_slice();
+    let values = values[place].as_mut_slice();
     run_by_form(form, transaction, assigns, env, rank, keeps, values)
 }

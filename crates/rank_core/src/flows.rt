@@ -1,14 +1,17 @@
 //! The numbers of the flows at a leaf.
 
-ghost use Rattle.std.specs.Prelude.{◌≡◌, ◌≢◌, IsSome, None, OnErr, OnOk, [], map};
+ghost use Rattle.std.specs.Prelude.{◌≡◌, ◌≢◌, ◌<◌, ℕ, [], length, map, slice_get, IsSome, Some, None, OnErr, OnOk};
+ghost use Rattle.std.proofs.Props.{props};
+ghost use Rattle.std.specs.Map.{lookup};
+ghost use Rattle.rank_defs.specs.declared.environment.FlowKey.{FlowKey as Known};
 ghost use Rattle.rank_defs.specs.Shapes.{IsEnvInRange, IsMemoryInRange, IsShaped};
 ghost use Rattle.rank_defs.specs.Programs.{program_of, assignment_of};
-ghost use Rattle.rank_core.specs.Flows.{key_of, numbers_of};
-ghost use Rattle.rank_core.specs.Node.{kept_or};
+ghost use Rattle.rank_core.specs.FlowKeys.{key_of, has_key};
 ghost use Rattle.rank_core.specs.Forms.{IsForm};
 ghost use Rattle.rank_core.specs.Scope.{memory, run_of, AreCheckedIn, AreShapedIn};
 
-use crate::form::{Form, run_by_form};
+use crate::eaches::run_for_place;
+use crate::form::Form;
 use rank_defs::{Assign, Env, FlowKey, Transaction};
 use std::alloc::{AllocError, Global};
 use std::collections::BTreeMap;
@@ -38,26 +41,130 @@ fn key_of(flow: &FlowKey) -> OrderedKey
     }
 }
 
-/// The numbers of the flows that have room. Captures choose the flows, so they are kept in order: where they were hashed
-/// with a seed that is known, a capture could make each look-up pass all flows.
+/// How many guesses there are at least, where there are any.
+const FEWEST: usize = 64;
+
+/// A number of the flow's ports and of its addresses, as far as 64 bits hold them.
+#[inline(always)]
+fn mixed(flow: &FlowKey) -> usize {
+    let ports = (u64::from(flow.sport) << 16) | u64::from(flow.dport);
+    let source = u64::try_from(flow.source).unwrap_or(0);
+    let target = u64::try_from(flow.target).unwrap_or(0);
+    let addresses = source.rotate_left(32) ^ target;
+    ((ports ^ addresses).wrapping_mul(0x9E37_79B9_7F4A_7C15) >> 32) as usize
+}
+
+/// The numbers of the flows that have room, each flow at its place. Captures choose the flows, so their places stand in a map that
+/// is in order: where they were hashed with a seed that is known, a capture could make each look-up pass all flows. Most places
+/// are guessed, and a guess may be wrong.
 #[derive(Drop)]
 pub(crate) struct FlowTable {
-    values: BTreeMap<OrderedKey, Vec<u64>>,
+    places: BTreeMap<OrderedKey, usize>,
+    flows: Vec<FlowKey>,
+    numbers: Vec<Vec<u64>>,
+    guesses: Vec<u32>,
     alloc: Global,
+    ghost even: { length numbers.items ≡ length flows.items },
+    ghost there: { (f : Known) (i : ℕ) → lookup (has_key f) places.entries ≡ Some i → slice_get flows.items i ≡ Some f } by { Prim.hlevel props },
+    ghost found: { (f : Known) (i : ℕ) → slice_get flows.items i ≡ Some f → lookup (has_key f) places.entries ≡ Some i } by { Prim.hlevel props },
 }
 
 impl FlowTable {
+    ghost use Rattle.rank_core.specs.Flows.{place_of, numbers_of};
+    ghost use Rattle.rank_core.specs.Node.{kept_or};
+
     /// No flow has room.
     pub(crate) fn new(alloc: Global) -> FlowTable
         ensures { (f : FlowKey) → numbers_of result f ≡ None }
     {
         FlowTable {
-            values: BTreeMap::new(alloc),
+            places: BTreeMap::new(alloc),
+            flows: Vec::new(alloc),
+            numbers: Vec::new(alloc),
+            guesses: Vec::new(alloc),
             alloc,
         }
     }
 
+    /// Where the guess for a flow stands.
+    #[inline(always)]
+    fn guess_at(&self, flow: &FlowKey) -> usize {
+        mixed(flow) & self.guesses.len().wrapping_sub(1)
+    }
+
+    /// The place of a flow, if it has room.
+    #[inline(always)]
+    fn place(&self, flow: &FlowKey) -> Option<usize>
+        ensures { result ≡ place_of self.now flow.now }
+    {
+        let guess = match self.guesses.get(self.guess_at(flow)) {
+            Some(guess) => *guess as usize,
+            None => 0,
+        };
+        if let Some(known) = self.flows.get(guess) {
+            if *known == *flow {
+                return Some(guess);
+            }
+        }
+        self.search(flow)
+    }
+
+    /// The place of a flow as the map has it.
+    #[inline(never)]
+    fn search(&self, flow: &FlowKey) -> Option<usize>
+        ensures { result ≡ place_of self.now flow.now }
+    {
+        match self.places.get(&key_of(flow)) {
+            Some(place) => Some(*place),
+            None => None,
+        }
+    }
+
+    /// Guesses a place for a flow from now on.
+    #[inline(always)]
+    fn remember(&mut self, flow: &FlowKey, place: usize)
+        ensures same { (f : FlowKey) → numbers_of self.new f ≡ numbers_of self.old f }
+    {
+        let at = self.guess_at(flow);
+        if let Some(guess) = self.guesses.get_mut(at) {
+            *guess = u32::try_from(place).unwrap_or(0);
+        }
+    }
+
+    /// Room for as many guesses as there are flows.
+    fn widen(&mut self) -> Result<(), AllocError>
+        ensures places { self.new.places ≡ self.old.places }
+        ensures flows { self.new.flows ≡ self.old.flows }
+        ensures numbers { self.new.numbers ≡ self.old.numbers }
+    {
+        if self.flows.len() >= self.guesses.len() {
+            let count = self.guesses.len().saturating_mul(2).max(FEWEST);
+            self.guesses = vec![in self.alloc; 0; count]?;
+        }
+        Ok(())
+    }
+
+    /// Makes room for a flow that has none. Its numbers are the first ones.
+    #[inline(never)]
+    fn add(&mut self, flow: &FlowKey, first: &[u64]) -> Result<(), AllocError>
+        requires absent { place_of self.old flow.now ≡ None }
+        ensures added { OnOk result (numbers_of self.new flow.now ≡ Some first.now) }
+        ensures others { (f : FlowKey) → f ≢ flow.now → numbers_of self.new f ≡
+            numbers_of self.old f }
+        ensures err { OnErr result ((f : FlowKey) → numbers_of self.new f ≡ numbers_of self.old f) }
+    {
+        self.widen()?;
+        let numbers = Vec::from_slice(self.alloc, first)?;
+        self.flows.reserve(1)?;
+        self.numbers.reserve(1)?;
+        self.places.insert(key_of(flow), self.flows.len())?;
+        self.flows.push_reserved(*flow);
+        self.numbers.push_reserved(numbers);
+        Ok(())
+    }
+
     /// Makes room for a flow. New numbers are the first ones.
+    #[inline(always)]
     pub(crate) fn reserve(&mut self, flow: &FlowKey, first: &[u64]) -> Result<(), AllocError>
         ensures room { OnOk result (IsSome (numbers_of self.new flow.now)) }
         ensures same { (f : FlowKey) →
@@ -68,12 +175,13 @@ impl FlowTable {
             numbers_of self.old f }
         ensures err { OnErr result ((f : FlowKey) → numbers_of self.new f ≡ numbers_of self.old f) }
     {
-        let key = key_of(flow);
-        if !self.values.contains_key(&key) {
-            let numbers = Vec::from_slice(self.alloc, first)?;
-            self.values.insert(key, numbers)?;
+        match self.place(flow) {
+            Some(place) => {
+                self.remember(flow, place);
+                Ok(())
+            }
+            None => self.add(flow, first),
         }
-        Ok(())
     }
 
     /// Runs assignments on the variables of the leaf and on those of a flow that has room.
@@ -92,7 +200,8 @@ impl FlowTable {
         requires told { IsEnvInRange env.now }
         requires checked { AreCheckedIn transaction.now assigns.now }
         requires fits { AreShapedIn transaction.now assigns.now }
-        requires form { IsForm (program_of transaction.now) (map assignment_of assigns.now) form.now }
+        requires form { IsForm (program_of transaction.now) (map assignment_of assigns.now)
+            form.now }
         requires room { IsSome (numbers_of self.old flow.now) }
         requires range { IsMemoryInRange (program_of transaction.now)
             (memory rank keeps.old (kept_or [] (numbers_of self.old flow.now))) }
@@ -102,15 +211,16 @@ impl FlowTable {
         ensures others { (f : FlowKey) → f ≢ flow.now → numbers_of self.new f ≡
             numbers_of self.old f }
     {
-        match self.values.get_mut(&key_of(flow)) {
-            Some(numbers) => run_by_form(
+        match self.place(flow) {
+            Some(place) => run_for_place(
+                &mut self.numbers,
+                place,
                 form,
                 transaction,
                 assigns,
                 env,
                 rank,
                 keeps,
-                numbers.as_mut_slice(),
             ),
             None => unreachable!(),
         }

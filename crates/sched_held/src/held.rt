@@ -109,6 +109,20 @@ impl Held {
         ensures end { OnOk result (end_of self.new.window ≡ number + 1) }
         ensures held { (n : ℕ) → held_at self.new n ≡ held_at self.old n }
     {
+        if self.window.is_sparse(number) {
+            return self.move_outliers(number);
+        }
+        self.window.stretch(number)
+    }
+
+    /// As `reach`, where the first packets are moved to the strays before.
+    #[inline(never)]
+    fn move_outliers(&mut self, number: u64) -> Result<(), AllocError>
+        requires behind { end_of self.old.window ≤ number }
+        requires low { number < 2 ^ 63 }
+        ensures end { OnOk result (end_of self.new.window ≡ number + 1) }
+        ensures held { (n : ℕ) → held_at self.new n ≡ held_at self.old n }
+    {
         while let Some(packet) = self.window.outlier(number) {
             self.put_stray(&packet)?;
         }

@@ -96,16 +96,22 @@ impl Window {
         self.packet((self.first * WIDTH).saturating_add(u64::from(chunk.first())))
     }
 
-    /// The first packet, if two thirds of the numbers up to one have no packet here, or more. A stray takes the room of three
-    /// slots.
+    /// Whether two thirds of the numbers up to one have no packet here, or more. A stray takes the room of three slots.
+    #[inline(always)]
+    pub(crate) fn is_sparse(&self, number: u64) -> bool {
+        let span = number.saturating_sub(self.first * WIDTH);
+        self.filled > 0 && span >= self.filled.saturating_mul(3).saturating_add(SPARE)
+    }
+
+    /// The first packet, if the window is sparse up to a number.
     pub(crate) fn outlier(&self, number: u64) -> Option<Packet>
         ensures { IfSome result (λ p. packet_at self.now p.number ≡ Some p) }
     {
-        let span = number.saturating_sub(self.first * WIDTH);
-        if self.filled == 0 || span < self.filled.saturating_mul(3).saturating_add(SPARE) {
-            return None;
+        if self.is_sparse(number) {
+            self.front()
+        } else {
+            None
         }
-        self.front()
     }
 
     /// A packet more, if its addresses are short, and whether it stands here now.
@@ -174,6 +180,22 @@ impl Window {
     /// Chunks up to that of a number, which is the last one then.
     #[inline(always)]
     pub(crate) fn stretch(&mut self, number: u64) -> Result<(), AllocError>
+        requires behind { end_of self.old ≤ number }
+        requires low { number < 2 ^ 63 }
+        ensures end { OnOk result (end_of self.new ≡ number + 1) }
+        ensures near { end_of self.old ≤ end_of self.new }
+        ensures packets { (n : ℕ) → packet_at self.new n ≡ packet_at self.old n }
+    {
+        if self.first + self.chunks.len() as u64 <= number / WIDTH {
+            return self.lengthen(number);
+        }
+        self.end = number + 1;
+        Ok(())
+    }
+
+    /// As `stretch`, where the number's chunk isn't there.
+    #[inline(never)]
+    fn lengthen(&mut self, number: u64) -> Result<(), AllocError>
         requires behind { end_of self.old ≤ number }
         requires low { number < 2 ^ 63 }
         ensures end { OnOk result (end_of self.new ≡ number + 1) }

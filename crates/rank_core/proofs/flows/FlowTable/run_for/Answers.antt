@@ -1,36 +1,35 @@
-use Rattle.std.proofs.Common.{rules, ◌≡◌, refl, sym, subst, false, length, [], Some, None, is_some}
-use Rattle.std.specs.Vec.{with_items}
+use Rattle.std.proofs.Common.{arith, ◌≡◌, [], IsSome, sym, subst}
 use Rattle.rank_defs.specs.Shapes.{IsMemoryInRange}
 use Rattle.rank_defs.specs.Programs.{program_of}
-use Rattle.rank_core.specs.Flows.{numbers_of}
+use Rattle.rank_core.specs.Flows.{numbers_at, place_of}
 use Rattle.rank_core.specs.Node.{kept_or}
-use Rattle.rank_core.specs.Scope.{memory}
-use Rattle.rank_core.proofs.Lists.{refilled}
-use Rattle.rank_core.proofs.FlowMaps.{found_at, update_there, update_others}
+use Rattle.rank_core.specs.Scope.{memory, run_of}
+use Rattle.rank_core.proofs.FlowPlaces.{numbers-others, place-within, has-numbers, no-place}
 use Rattle.rank_core.proofs.flows.FlowTable.run_for.Goals as goal
 
-pub run_by_form-requires-clause-range : goal.run_by_form-requires-clause-range
-run_by_form-requires-clause-range c =
-    let is : kept_or [] (numbers_of c.args.self.now c.args.flow.now) ≡ c.as_mut_slice.result.now = rw (found_at c.args.self.now.values c.args.flow.now (Some c.in-Some.numbers.now) c.key_of.ensures c.in-Some.ensures.value) (sym c.as_mut_slice.ensures.value)
-    in subst (λ xs. IsMemoryInRange (program_of c.args.transaction.now) (memory c.args.rank c.args.keeps.now xs)) is c.requires.range
+pub run_for_place-requires-clause-there : goal.run_for_place-requires-clause-there
+run_for_place-requires-clause-there c =
+    let t = c.args.self.now
+    in omega (arith, t.even, place-within t.places t.flows.items c.args.flow.now c.in-Some.place t.there (sym c.in-Some.ensures))
+
+pub run_for_place-requires-clause-range : goal.run_for_place-requires-clause-range
+run_for_place-requires-clause-range c =
+    subst (λ o. IsMemoryInRange (program_of c.args.transaction.now) (memory c.args.rank c.args.keeps.now (kept_or [] (numbers_at c.args.self.now.numbers.items o)))) (sym c.in-Some.ensures) c.requires.range
 
 pub unreachable-requires : goal.unreachable-requires
-unreachable-requires c =
-    let none : is_some (numbers_of c.args.self.now c.args.flow.now) ≡ false = rw (found_at c.args.self.now.values c.args.flow.now None c.key_of.ensures c.in-None.ensures.value) refl
-    in let room = c.requires.room in cc
+unreachable-requires c = no-place c.args.self.now.numbers.items (place_of c.args.self.now c.args.flow.now) c.in-None.ensures c.requires.room
 
 pub returns-clause-ran : goal.returns-clause-ran
 returns-clause-ran c =
-    let w = with_items c.in-Some.numbers.now c.run_by_form.new.eaches
-    in let same : length c.run_by_form.new.eaches ≡ length c.in-Some.numbers.now.items = search rules
-    in rw (update_there c.args.self.now.values (c.get_mut.follows.lender w) c.args.flow.now (Some w) c.key_of.ensures ((c.get_mut.follows.holds w).3 (search rules)), refilled c.in-Some.numbers.now c.run_by_form.new.eaches same, found_at c.args.self.now.values c.args.flow.now (Some c.in-Some.numbers.now) c.key_of.ensures c.in-Some.ensures.value, ← c.as_mut_slice.ensures.value) c.run_by_form.ensures
+    subst (λ o. memory c.run_for_place.result c.run_for_place.new.keeps (kept_or [] (numbers_at c.run_for_place.new.values.items o)) ≡ run_of c.args.transaction.now c.args.env.now c.args.assigns.now (memory c.args.rank c.args.keeps.now (kept_or [] (numbers_at c.args.self.now.numbers.items o)))) c.in-Some.ensures c.run_for_place.ensures.ran
 
 pub returns-clause-room : goal.returns-clause-room
 returns-clause-room c =
-    let w = with_items c.in-Some.numbers.now c.run_by_form.new.eaches
-    in rw (update_there c.args.self.now.values (c.get_mut.follows.lender w) c.args.flow.now (Some w) c.key_of.ensures ((c.get_mut.follows.holds w).3 (search rules))) refl
+    let t = c.args.self.now
+    in subst (λ o. IsSome (numbers_at c.run_for_place.new.values.items o)) c.in-Some.ensures
+    (has-numbers c.run_for_place.new.values.items c.in-Some.place (omega (arith, c.run_for_place.ensures.count, t.even, place-within t.places t.flows.items c.args.flow.now c.in-Some.place t.there (sym c.in-Some.ensures))))
 
 pub returns-clause-others : goal.returns-clause-others
 returns-clause-others c = λ f other.
-    let w = with_items c.in-Some.numbers.now c.run_by_form.new.eaches
-    in rw (update_others c.args.self.now.values (c.get_mut.follows.lender w) c.args.flow.now f (Some w) c.key_of.ensures ((c.get_mut.follows.holds w).3 (search rules)) other) refl
+    let t = c.args.self.now
+    in numbers-others t.places t.flows.items t.numbers.items c.run_for_place.new.values.items c.args.flow.now c.in-Some.place t.there (sym c.in-Some.ensures) c.run_for_place.ensures.others f other

@@ -1,7 +1,7 @@
 use Rattle.std.proofs.Common.{◌≡◌, ℕ}
 use Rattle.sched_held.specs.Windows.{end_of}
 use Rattle.sched_held.specs.Held.{held_at}
-use Rattle.sched_held.proofs.held.Held.reach.Given as goal
+use Rattle.sched_held.proofs.held.Held.move_outliers.Given as goal
 
 abbrev pub invariant-loop-packet : goal.invariant-loop-packet
 invariant-loop-packet l = record {

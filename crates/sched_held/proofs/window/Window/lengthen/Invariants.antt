@@ -1,7 +1,7 @@
 use Rattle.std.proofs.Common.{◌≡◌, ◌+◌, ◌-◌, ℕ}
 use Rattle.std.specs.VecDeque.{deque_len}
 use Rattle.sched_held.specs.Windows.{packet_at, end_of}
-use Rattle.sched_held.proofs.window.Window.stretch.Given as goal
+use Rattle.sched_held.proofs.window.Window.lengthen.Given as goal
 
 abbrev pub invariant-loop-self : goal.invariant-loop-self
 invariant-loop-self l = record {
