@@ -3,15 +3,15 @@ use Rattle.std.specs.Prelude.{◌≡◌, ℕ, Option, Some, None, List, [], ◌�
 use Rattle.pcap_defs.specs.Packet.{CapturedPacket}
 use Rattle.pcap_defs.specs.Contents.{FaultAt, Contents, FileContents, no_capture, holds}
 use Rattle.capture_core.specs.declared.frame.LinkedFrame.{LinkedFrame}
-use Rattle.capture_core.specs.declared.unread.Unread.{Unread}
-use Rattle.capture_core.specs.declared.unread.Unread.TheVariants.{Fault, Source, Memory}
+use Rattle.outside_core.specs.declared.read_error.ReadError.{ReadError}
+use Rattle.outside_core.specs.declared.read_error.ReadError.TheVariants.{Fault, Source, Memory}
 
 -- the packet that a frame and its captured bytes tell
 abbrev pub packet_of : LinkedFrame → List ℕ → CapturedPacket
 packet_of f captured = record { link = f.link; moment = f.frame.moment; original = f.frame.len; captured = captured }
 
--- the fault of the file that a refusal names, if it names one
-abbrev pub fault_told : Unread → Option FaultAt
+-- the fault of the file, if it is at fault
+abbrev pub fault_told : ReadError → Option FaultAt
 fault_told (Fault code place) = Some (record { code = code; place = place })
 fault_told Source = None
 fault_told Memory = None
@@ -34,6 +34,10 @@ IsOneLess old new = (packet : CapturedPacket) × Comes old new packet
 -- no packet is left, and this fault or none, where that is told
 abbrev pub IsAt : Option FaultAt → Option Contents → Type 0
 IsAt fault left = IfSome left (λ contents. (contents.packets ≡ []) × (contents.fault ≡ fault))
+
+-- an error at a fault comes after the last packet, and reports the fault that is there
+abbrev pub StopsAt : Option Contents → ReadError → Type 0
+StopsAt left error = IfSome (fault_told error) (λ fault. IsAt (Some fault) left)
 
 abbrev pub nothing_left : Contents
 nothing_left = record { packets = []; fault = None }

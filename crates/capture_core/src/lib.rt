@@ -5,11 +5,9 @@
 mod frame;
 mod number;
 mod reader;
-mod unread;
 mod window;
 
 pub use frame::{Frame, LinkedFrame};
 pub use number::{read_long, read_short};
 pub use reader::CaptureReader;
-pub use unread::Unread;
 pub use window::Window;

@@ -6,12 +6,11 @@ ghost use Rattle.pcap_defs.specs.Record.{most_captured, most_records};
 ghost use Rattle.pcap_defs.specs.Contents.{Contents, FileContents, no_capture};
 ghost use Rattle.capture_core.specs.Held.{held};
 ghost use Rattle.capture_core.specs.Rest.{rest_of};
-ghost use Rattle.capture_core.specs.Captures.{packet_of, fault_told, Opens, Comes, IsOneLess, IsAt, LeavesNone};
+ghost use Rattle.capture_core.specs.Captures.{packet_of, fault_told, Opens, Comes, IsOneLess, IsAt, StopsAt, LeavesNone};
 
 use crate::frame::LinkedFrame;
-use crate::unread::Unread;
 use crate::window::Window;
-use outside_core::Shelf;
+use outside_core::{ReadError, Shelf};
 use std::alloc::Global;
 
 /// Reads a capture packet by packet, whatever its format.
@@ -47,7 +46,7 @@ pub trait CaptureReader {
         ensures { result ≡ is_live self.now };
 
     /// Reads the beginning of the file: the bytes at hand, and then those left of the begun file.
-    fn start<S: Shelf>(&mut self, shelf: &mut S) -> Result<(), Unread>
+    fn start<S: Shelf>(&mut self, shelf: &mut S) -> Result<(), ReadError>
         requires fresh { fresh self.old }
         requires begun { IsTrue (S.begun shelf.old) }
 
@@ -62,7 +61,7 @@ pub trait CaptureReader {
 
         ensures begun { IsTrue (S.begun shelf.new) }
         ensures kept { KeepsShelf S.lends S.content S.faults shelf.old shelf.new }
-        ensures cause { IsErrOf result Unread.Source → Rose (S.faults shelf.old)
+        ensures cause { IsErrOf result ReadError.Source → Rose (S.faults shelf.old)
             (S.faults shelf.new) };
 
     /// Reads the next packet, and puts its captured bytes into `into`, in place of what it held.
@@ -70,7 +69,7 @@ pub trait CaptureReader {
         &mut self,
         shelf: &mut S,
         into: &mut Vec<u8>,
-    ) -> Result<Option<LinkedFrame>, Unread>
+    ) -> Result<Option<LinkedFrame>, ReadError>
         requires ready { ready self.old }
         requires begun { IsTrue (S.begun shelf.old) }
 
@@ -79,8 +78,7 @@ pub trait CaptureReader {
         ensures ended { IfOk result (λ o. IfNone o (IsAt None (left self.old (S.left shelf.old)))) }
         ensures over { IfOk result (λ o. IfNone o (LeavesNone (left self.old (S.left shelf.old))
             (left self.new (S.left shelf.new)))) }
-        ensures fault { IfErr result (λ e. IfSome (fault_told e) (λ fault.
-            IsAt (Some fault) (left self.old (S.left shelf.old)))) }
+        ensures fault { IfErr result (StopsAt (left self.old (S.left shelf.old))) }
 
         ensures number { IfOk result (λ o. IfSome o (λ f. f.frame.number ≡ given self.old + 1)) }
         ensures few { IfOk result (λ o. IfSome o (λ f. f.frame.number ≤ most_records)) }
@@ -95,11 +93,11 @@ pub trait CaptureReader {
 
         ensures begun { IsTrue (S.begun shelf.new) }
         ensures kept { KeepsShelf S.lends S.content S.faults shelf.old shelf.new }
-        ensures cause { IsErrOf result Unread.Source → Rose (S.faults shelf.old)
+        ensures cause { IsErrOf result ReadError.Source → Rose (S.faults shelf.old)
             (S.faults shelf.new) };
 
     /// Passes over the next packet, and answers whether there was one. What `scratch` held is lost.
-    fn pass<S: Shelf>(&mut self, shelf: &mut S, scratch: &mut Vec<u8>) -> Result<bool, Unread>
+    fn pass<S: Shelf>(&mut self, shelf: &mut S, scratch: &mut Vec<u8>) -> Result<bool, ReadError>
         requires ready { ready self.old }
         requires begun { IsTrue (S.begun shelf.old) }
 
@@ -111,8 +109,7 @@ pub trait CaptureReader {
         ensures over { IfOk result (λ some. some ≡ false → LeavesNone
             (left self.old (S.left shelf.old))
             (left self.new (S.left shelf.new))) }
-        ensures fault { IfErr result (λ e. IfSome (fault_told e) (λ fault.
-            IsAt (Some fault) (left self.old (S.left shelf.old)))) }
+        ensures fault { IfErr result (StopsAt (left self.old (S.left shelf.old))) }
 
         ensures given { IfOk result (λ some. given self.new ≡ given self.old +
             (if some then 1 else 0)) }
@@ -122,6 +119,6 @@ pub trait CaptureReader {
 
         ensures begun { IsTrue (S.begun shelf.new) }
         ensures kept { KeepsShelf S.lends S.content S.faults shelf.old shelf.new }
-        ensures cause { IsErrOf result Unread.Source → Rose (S.faults shelf.old)
+        ensures cause { IsErrOf result ReadError.Source → Rose (S.faults shelf.old)
             (S.faults shelf.new) };
 }

@@ -2,7 +2,7 @@
 ghost use Rattle.std.specs.Prelude.{◌≤◌, vec_len};
 ghost use Rattle.capture_core.specs.Limits.{most_held};
 
-use outside_core::{Shelf, Stop};
+use outside_core::{Shelf, ShelfError};
 use std::alloc::{AllocError, Global};
 
 /// The most bytes that are read at once and held.
@@ -21,7 +21,7 @@ pub struct Window {
 
 impl Window {
     ghost use Rattle.std.specs.Prelude.{◌≡◌, ◌≢◌, ◌+◌, ◌-◌, ◌<◌, ◌≤◌, ◌==◌, [], ◌++◌, List, ℕ, Some, None, length, min, take, drop, vec_len, IfOk, IfErr, IfSome, OnOk, OnErr, IsTrue, IsErrOf};
-    ghost use Rattle.outside_core.specs.Kept.{HasSourceCause};
+    ghost use Rattle.outside_core.specs.Faults.{Rose};
     ghost use Rattle.capture_core.specs.Rest.{rest_of, TakesFront, IsWhole, IsShort, Serves};
     ghost use Rattle.capture_core.specs.Held.{held};
     ghost use Rattle.capture_core.specs.Limits.{most_held};
@@ -63,7 +63,7 @@ impl Window {
     }
 
     /// Reads the next bytes of the file, in place of those that are used up.
-    fn fill<S: Shelf>(&mut self, shelf: &mut S) -> Result<(), Stop>
+    fn fill<S: Shelf>(&mut self, shelf: &mut S) -> Result<(), ShelfError>
         requires empty { held self.old ≡ [] }
         requires begun { IsTrue (S.begun shelf.old) }
         ensures same { TakesFront (rest_of (held self.old) (S.left shelf.old))
@@ -71,7 +71,8 @@ impl Window {
         ensures end { OnOk result (held self.new ≡ [] →
             IsWhole (rest_of (held self.old) (S.left shelf.old))) }
         ensures shelf { Serves S.lends S.content S.begun S.faults shelf.old shelf.new }
-        ensures cause { IfErr result (λ stop. HasSourceCause stop S.faults shelf.old shelf.new) }
+        ensures cause { IsErrOf result ShelfError.Failed → Rose (S.faults shelf.old)
+            (S.faults shelf.new) }
     {
         self.open()?;
         self.at = 0;
@@ -81,7 +82,7 @@ impl Window {
     }
 
     /// Reads more bytes of the file after those that are held, and returns how many: none only if nothing is left.
-    fn read_on<S: Shelf>(&mut self, shelf: &mut S) -> Result<usize, Stop>
+    fn read_on<S: Shelf>(&mut self, shelf: &mut S) -> Result<usize, ShelfError>
         requires room { self.old.end < vec_len self.old.buffer }
         requires begun { IsTrue (S.begun shelf.old) }
         ensures same { TakesFront (rest_of (held self.old) (S.left shelf.old))
@@ -92,7 +93,8 @@ impl Window {
         ensures end { IfOk result (λ n. n ≡ 0 →
             IfSome (rest_of (held self.old) (S.left shelf.old)) (λ left. left ≡ held self.new)) }
         ensures shelf { Serves S.lends S.content S.begun S.faults shelf.old shelf.new }
-        ensures cause { IfErr result (λ stop. HasSourceCause stop S.faults shelf.old shelf.new) }
+        ensures cause { IsErrOf result ShelfError.Failed → Rose (S.faults shelf.old)
+            (S.faults shelf.new) }
     {
         let count = shelf.read(&mut self.buffer[self.end..])?;
         self.end += count;
@@ -100,7 +102,7 @@ impl Window {
     }
 
     /// Reads on until `count` bytes are held, or all that are left if these are fewer.
-    pub fn hold<S: Shelf>(&mut self, shelf: &mut S, count: usize) -> Result<(), Stop>
+    pub fn hold<S: Shelf>(&mut self, shelf: &mut S, count: usize) -> Result<(), ShelfError>
         requires empty { held self.old ≡ [] }
         requires room { count ≤ most_held }
         requires begun { IsTrue (S.begun shelf.old) }
@@ -109,7 +111,8 @@ impl Window {
         ensures short { OnOk result (IsShort (rest_of (held self.old) (S.left shelf.old))
             (held self.new) count) }
         ensures shelf { Serves S.lends S.content S.begun S.faults shelf.old shelf.new }
-        ensures cause { IfErr result (λ stop. HasSourceCause stop S.faults shelf.old shelf.new) }
+        ensures cause { IsErrOf result ShelfError.Failed → Rose (S.faults shelf.old)
+            (S.faults shelf.new) }
     {
         self.buffer.resize(WINDOW_LEN, 0)?;
         self.at = 0;
@@ -144,7 +147,7 @@ impl Window {
         shelf: &mut S,
         into: &mut Vec<u8>,
         most: usize,
-    ) -> Result<(), Stop>
+    ) -> Result<(), ShelfError>
         requires room { vec_len into.old < most }
         requires begun { IsTrue (S.begun shelf.old) }
         ensures taken { OnOk result (TakesFront (rest_of (into.old.items ++ held self.old)
@@ -155,7 +158,8 @@ impl Window {
         ensures end { OnOk result (vec_len into.new ≡ vec_len into.old →
             IsWhole (rest_of (held self.old) (S.left shelf.old))) }
         ensures shelf { Serves S.lends S.content S.begun S.faults shelf.old shelf.new }
-        ensures cause { IfErr result (λ stop. HasSourceCause stop S.faults shelf.old shelf.new) }
+        ensures cause { IsErrOf result ShelfError.Failed → Rose (S.faults shelf.old)
+            (S.faults shelf.new) }
     {
         if self.is_empty() {
             self.fill(shelf)?;
@@ -171,7 +175,7 @@ impl Window {
         shelf: &mut S,
         into: &mut Vec<u8>,
         most: usize,
-    ) -> Result<(), Stop>
+    ) -> Result<(), ShelfError>
         requires room { vec_len into.old ≤ most }
         requires begun { IsTrue (S.begun shelf.old) }
         ensures taken { OnOk result (TakesFront (rest_of (into.old.items ++ held self.old)
@@ -181,7 +185,8 @@ impl Window {
         ensures short { OnOk result (IsShort (rest_of (into.old.items ++ held self.old)
             (S.left shelf.old)) into.new.items most) }
         ensures shelf { Serves S.lends S.content S.begun S.faults shelf.old shelf.new }
-        ensures cause { IfErr result (λ stop. HasSourceCause stop S.faults shelf.old shelf.new) }
+        ensures cause { IsErrOf result ShelfError.Failed → Rose (S.faults shelf.old)
+            (S.faults shelf.new) }
     {
         while into.len() < most {
             let before = into.len();
@@ -201,7 +206,7 @@ impl Window {
         shelf: &mut S,
         into: &mut Vec<u8>,
         most: usize,
-    ) -> Result<(), Stop>
+    ) -> Result<(), ShelfError>
         requires begun { IsTrue (S.begun shelf.old) }
         ensures taken { OnOk result (TakesFront (rest_of (held self.old) (S.left shelf.old))
             (rest_of (held self.new) (S.left shelf.new)) into.new.items) }
@@ -209,7 +214,8 @@ impl Window {
         ensures short { OnOk result (IsShort (rest_of (held self.old) (S.left shelf.old))
             into.new.items most) }
         ensures shelf { Serves S.lends S.content S.begun S.faults shelf.old shelf.new }
-        ensures cause { IfErr result (λ stop. HasSourceCause stop S.faults shelf.old shelf.new) }
+        ensures cause { IsErrOf result ShelfError.Failed → Rose (S.faults shelf.old)
+            (S.faults shelf.new) }
     {
         into.clear();
         if most <= self.end - self.at {
@@ -220,14 +226,15 @@ impl Window {
     }
 
     /// Reads the next bytes of the file where none are held.
-    fn refill<S: Shelf>(&mut self, shelf: &mut S) -> Result<(), Stop>
+    fn refill<S: Shelf>(&mut self, shelf: &mut S) -> Result<(), ShelfError>
         requires begun { IsTrue (S.begun shelf.old) }
         ensures same { TakesFront (rest_of (held self.old) (S.left shelf.old))
             (rest_of (held self.new) (S.left shelf.new)) [] }
         ensures end { OnOk result (held self.new ≡ [] →
             IsWhole (rest_of (held self.old) (S.left shelf.old))) }
         ensures shelf { Serves S.lends S.content S.begun S.faults shelf.old shelf.new }
-        ensures cause { IfErr result (λ stop. HasSourceCause stop S.faults shelf.old shelf.new) }
+        ensures cause { IsErrOf result ShelfError.Failed → Rose (S.faults shelf.old)
+            (S.faults shelf.new) }
     {
         if self.is_empty() {
             self.fill(shelf)?;
@@ -247,7 +254,7 @@ impl Window {
 
     /// Passes over one piece of at most `most` bytes, held or read, and answers how many these were: none only where
     /// nothing is left.
-    fn pass_more<S: Shelf>(&mut self, shelf: &mut S, most: usize) -> Result<usize, Stop>
+    fn pass_more<S: Shelf>(&mut self, shelf: &mut S, most: usize) -> Result<usize, ShelfError>
         requires some { 0 < most }
         requires begun { IsTrue (S.begun shelf.old) }
         ensures passed { IfOk result (λ n. Passes n (rest_of (held self.old) (S.left shelf.old))
@@ -256,14 +263,15 @@ impl Window {
         ensures end { IfOk result (λ n. n ≡ 0 → IsWhole (rest_of (held self.old)
             (S.left shelf.old))) }
         ensures shelf { Serves S.lends S.content S.begun S.faults shelf.old shelf.new }
-        ensures cause { IfErr result (λ stop. HasSourceCause stop S.faults shelf.old shelf.new) }
+        ensures cause { IsErrOf result ShelfError.Failed → Rose (S.faults shelf.old)
+            (S.faults shelf.new) }
     {
         self.refill(shelf)?;
         Ok(self.advance(most))
     }
 
     /// Passes over so many bytes at the front of what is left, or all where there are fewer, and answers how many.
-    pub fn pass<S: Shelf>(&mut self, shelf: &mut S, count: usize) -> Result<usize, Stop>
+    pub fn pass<S: Shelf>(&mut self, shelf: &mut S, count: usize) -> Result<usize, ShelfError>
         requires begun { IsTrue (S.begun shelf.old) }
         ensures passed { IfOk result (λ n. Passes n (rest_of (held self.old) (S.left shelf.old))
             (rest_of (held self.new) (S.left shelf.new))) }
@@ -271,7 +279,8 @@ impl Window {
         ensures end { IfOk result (λ n. n < count → IsAll n (rest_of (held self.old)
             (S.left shelf.old))) }
         ensures shelf { Serves S.lends S.content S.begun S.faults shelf.old shelf.new }
-        ensures cause { IfErr result (λ stop. HasSourceCause stop S.faults shelf.old shelf.new) }
+        ensures cause { IsErrOf result ShelfError.Failed → Rose (S.faults shelf.old)
+            (S.faults shelf.new) }
     {
         let mut rest = count;
         while rest > 0 {

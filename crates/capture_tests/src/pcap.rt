@@ -1,6 +1,6 @@
 //! Tests of captures in the classic format.
 use crate::reading::{given, passed};
-use capture_core::Unread;
+use outside_core::ReadError;
 use pcap_core::Reader;
 use std::test::Fail;
 
@@ -16,7 +16,7 @@ const PCAPNG: &[u8] = b"\x0a\x0d\x0d\x0a\0\0\0\0\0\0\0\0\0\0\0\0\0\0\0\0\0\0\0\0
 /// Reads of forty bytes end where the first record's captured bytes begin.
 #[test]
 fn captures_are_read_the_same_however_reads_are_cut(rt: HostRuntime) -> Result<(), Fail> {
-    let cut = Err(Unread::Fault(6, 3));
+    let cut = Err(ReadError::Fault(6, 3));
     for most in [1, 2, 7, 40, 65_536] {
         let read = given::<Reader>(rt.alloc(), TWO_AND_A_CUT, most, 0)?;
         assert_eq!(rt; (most, read), (most, Ok((2, 2, cut))));
@@ -29,10 +29,10 @@ fn captures_are_read_the_same_however_reads_are_cut(rt: HostRuntime) -> Result<(
 /// The header takes four reads of seven bytes, after the call that begins the file.
 #[test]
 fn a_failed_read_is_no_fault_of_the_file(rt: HostRuntime) -> Result<(), Fail> {
-    let failed = Err(Unread::Source);
+    let failed = Err(ReadError::Source);
     for (fail, want) in [
-        (2, Err(Unread::Source)),
-        (5, Err(Unread::Source)),
+        (2, Err(ReadError::Source)),
+        (5, Err(ReadError::Source)),
         (6, Ok((0, 0, failed))),
         (9, Ok((1, 1, failed))),
     ] {
@@ -49,6 +49,6 @@ fn a_failed_read_is_no_fault_of_the_file(rt: HostRuntime) -> Result<(), Fail> {
 #[test]
 fn a_pcapng_capture_is_told(rt: HostRuntime) -> Result<(), Fail> {
     let read = given::<Reader>(rt.alloc(), PCAPNG, 7, 0)?;
-    assert_eq!(rt; read, Err(Unread::Fault(3, 0)));
+    assert_eq!(rt; read, Err(ReadError::Fault(3, 0)));
     Ok(())
 }

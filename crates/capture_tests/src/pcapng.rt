@@ -1,6 +1,6 @@
 //! Tests of captures in the format pcapng.
 use crate::reading::{given, passed};
-use capture_core::Unread;
+use outside_core::ReadError;
 use pcapng_core::NgReader;
 use std::test::Fail;
 
@@ -17,7 +17,7 @@ const INTERFACE: &[u8] = b"\x01\0\0\0\x14\0\0\0\x93\0\0\0\0\0\x04\0\x14\0\0\0";
 
 #[test]
 fn captures_are_read_the_same_however_reads_are_cut(rt: HostRuntime) -> Result<(), Fail> {
-    let cut = Err(Unread::Fault(11, 5));
+    let cut = Err(ReadError::Fault(11, 5));
     for most in [1, 2, 7, 65_536] {
         let read = given::<NgReader>(rt.alloc(), TWO_AND_A_CUT, most, 0)?;
         assert_eq!(rt; (most, read), (most, Ok((2, 2, cut))));
@@ -31,10 +31,10 @@ fn captures_are_read_the_same_however_reads_are_cut(rt: HostRuntime) -> Result<(
 /// thirteenth call.
 #[test]
 fn a_failed_read_is_no_fault_of_the_file(rt: HostRuntime) -> Result<(), Fail> {
-    let failed = Err(Unread::Source);
+    let failed = Err(ReadError::Source);
     for (fail, want) in [
-        (2, Err(Unread::Source)),
-        (5, Err(Unread::Source)),
+        (2, Err(ReadError::Source)),
+        (5, Err(ReadError::Source)),
         (6, Ok((0, 0, failed))),
         (14, Ok((1, 1, failed))),
     ] {
@@ -51,6 +51,6 @@ fn a_failed_read_is_no_fault_of_the_file(rt: HostRuntime) -> Result<(), Fail> {
 #[test]
 fn a_capture_begins_with_a_section(rt: HostRuntime) -> Result<(), Fail> {
     let read = given::<NgReader>(rt.alloc(), INTERFACE, 7, 0)?;
-    assert_eq!(rt; read, Err(Unread::Fault(13, 1)));
+    assert_eq!(rt; read, Err(ReadError::Fault(13, 1)));
     Ok(())
 }

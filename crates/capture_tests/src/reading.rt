@@ -2,8 +2,8 @@
 ghost use Rattle.std.specs.Prelude.{◌≤◌, IfOk, IsTrue};
 ghost use Rattle.outside_core.specs.Memory.{is_begun};
 
-use capture_core::{CaptureReader, Unread, Window};
-use outside_core::{MemShelf, Shelf};
+use capture_core::{CaptureReader, Window};
+use outside_core::{MemShelf, ReadError, Shelf};
 use std::alloc::Global;
 use std::test::Fail;
 
@@ -26,7 +26,7 @@ fn read_on<R: CaptureReader>(
     reader: &mut R,
     shelf: &mut MemShelf,
     into: &mut Vec<u8>,
-) -> (u64, u8, Result<(), Unread>)
+) -> (u64, u8, Result<(), ReadError>)
     requires ready { R.ready reader.old }
     requires begun { IsTrue (is_begun shelf.old) }
 {
@@ -50,7 +50,7 @@ fn pass_on<R: CaptureReader>(
     reader: &mut R,
     shelf: &mut MemShelf,
     scratch: &mut Vec<u8>,
-) -> (u64, Result<(), Unread>)
+) -> (u64, Result<(), ReadError>)
     requires ready { R.ready reader.old }
     requires begun { IsTrue (is_begun shelf.old) }
 {
@@ -70,7 +70,7 @@ pub(crate) fn given<R: CaptureReader + Drop>(
     bytes: &[u8],
     most: usize,
     fail: u64,
-) -> Result<Result<(u64, u8, Result<(), Unread>), Unread>, Fail>
+) -> Result<Result<(u64, u8, Result<(), ReadError>), ReadError>, Fail>
     requires { 1 ≤ most }
 {
     let mut shelf = begun(alloc, bytes, most, fail)?;
@@ -88,7 +88,7 @@ pub(crate) fn passed<R: CaptureReader + Drop>(
     bytes: &[u8],
     most: usize,
     fail: u64,
-) -> Result<Result<(u64, Result<(), Unread>), Unread>, Fail>
+) -> Result<Result<(u64, Result<(), ReadError>), ReadError>, Fail>
     requires { 1 ≤ most }
 {
     let mut shelf = begun(alloc, bytes, most, fail)?;

@@ -1,6 +1,12 @@
 -- What is kept by one call and then by another.
-use Rattle.std.proofs.Common.{ℕ, Bool, Option, None, Some, List, [], ◌++◌, refl, sym, ap, ◌∙◌, arith, append_assoc, append-nil}
-use Rattle.outside_core.specs.Kept.{Begins, KeepsShelf, KeepsSink}
+use Rattle.std.proofs.Common.{ℕ, Bool, Option, None, Some, List, [], ◌++◌, refl, sym, ap, ◌∙◌, arith, append_assoc, append-nil, ◌≡◌, subst}
+use Rattle.std.proofs.lemmas.Option.{none-some, same_Some}
+use Rattle.outside_core.specs.Faults.{Rose}
+use Rattle.outside_core.specs.Kept.{Begins, KeepsShelf, KeepsSink, HasCause, HasSourceCause}
+use Rattle.outside_core.specs.ReadErrors.{stop_of}
+use Rattle.outside_core.specs.declared.read_error.ReadError.{ReadError}
+use Rattle.outside_core.specs.declared.read_error.ReadError.TheVariants.{Fault, Source, Memory}
+use Rattle.outside_core.specs.declared.stop.Stop.{Stop}
 
 -- what is told begins with itself
 pub Begins-same : (a : Option (List ℕ)) → Begins a a
@@ -39,3 +45,15 @@ module _ {S : Type 0} (lends : S → List ℕ → Bool) (content : S → List �
     };
     later = omega (arith, first.later, second.later);
   }
+
+-- ---- a stop where a file isn't read on
+module _ {S : Type 0} (faults : S → ℕ) (source source' : S) where
+  pub read_cause : (error : ReadError) (stop : Stop) → stop_of error ≡ Some stop → (error ≡ Source → Rose (faults source) (faults source')) → HasSourceCause stop faults source source'
+  read_cause (Fault c p) stop is rose = absurd (none-some stop is)
+  read_cause Source stop is rose = subst (λ (s : Stop). HasSourceCause s faults source source') (same_Some _ stop is) (rose refl)
+  read_cause Memory stop is rose = subst (λ (s : Stop). HasSourceCause s faults source source') (same_Some _ stop is) tt
+
+  pub read_cause_unwritten : {K : Type 0} (error : ReadError) (stop : Stop) (written : K → ℕ) (sink sink' : K) → stop_of error ≡ Some stop → (error ≡ Source → Rose (faults source) (faults source')) → HasCause stop faults source source' written sink sink'
+  read_cause_unwritten (Fault c p) stop written sink sink' is rose = absurd (none-some stop is)
+  read_cause_unwritten Source stop written sink sink' is rose = subst (λ (s : Stop). HasCause s faults source source' written sink sink') (same_Some _ stop is) (rose refl)
+  read_cause_unwritten Memory stop written sink sink' is rose = subst (λ (s : Stop). HasCause s faults source source' written sink sink') (same_Some _ stop is) tt

@@ -2,8 +2,6 @@
 use Rattle.std.specs.Prelude.{◌≡◌, refl, ◌≤◌, ℕ, Bool, Option, None, Some, List, [], ◌∷◌, ◌++◌, ⊤}
 use Rattle.outside_core.specs.Faults.{Rose}
 use Rattle.outside_core.specs.Files.{KeepsFiles}
-use Rattle.outside_core.specs.declared.shelves.ShelfError.{ShelfError}
-use Rattle.outside_core.specs.declared.shelves.ShelfError.TheVariants.{Failed, NoMemory}
 use Rattle.outside_core.specs.declared.stop.Stop.{Stop}
 use Rattle.outside_core.specs.declared.stop.Stop.TheVariants.{Source, Sink, Memory}
 
@@ -45,11 +43,6 @@ abbrev pub HasSourceCause : {S : Type 0} → Stop → (S → ℕ) → S → S �
 HasSourceCause Source faults source source' = Rose (faults source) (faults source')
 HasSourceCause Sink faults source source' = ⊥
 HasSourceCause Memory faults source source' = ⊤
-
--- what an error of a shelf stops
-abbrev pub unread : ShelfError → Stop
-unread Failed = Source
-unread NoMemory = Memory
 
 Begins-one_more : Begins (Some (1 ∷ [])) (Some (1 ∷ 2 ∷ []))
 Begins-one_more = record { rest = 2 ∷ []; joined = refl }

@@ -3,6 +3,7 @@ pub mod Files
 pub mod Written
 pub mod Kept
 pub mod Loading
+pub mod ReadErrors
 pub mod Stored
 pub mod Memory
 pub mod Plain

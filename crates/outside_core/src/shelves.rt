@@ -2,6 +2,9 @@
 ghost use Rattle.std.specs.Prelude.{◌≡◌, ◌<◌, ◌≤◌, ℕ, List, Bool, Option, length, IfOk, OnOk, OnErr, IsTrue, IsFalse, IsErrOf};
 ghost use Rattle.outside_core.specs.Faults.{Rose};
 ghost use Rattle.outside_core.specs.Files.{KeepsFiles, Takes, EndsWhereEmpty};
+ghost use Rattle.outside_core.specs.declared.shelves.ShelfError.TheVariants.{NoMemory};
+
+use std::alloc::AllocError;
 
 #[derive(Clone, Copy, Debug, PartialEq, Eq)]
 pub enum ShelfError {
@@ -9,6 +12,14 @@ pub enum ShelfError {
     Failed,
     /// There was no memory for the call.
     NoMemory,
+}
+
+impl From<AllocError> for ShelfError {
+    ghost from_gives = { λ _ error. error ≡ NoMemory };
+
+    fn from(_error: AllocError) -> ShelfError {
+        ShelfError::NoMemory
+    }
 }
 
 /// A set of named files, of which one at a time is read.

@@ -1,9 +1,7 @@
 //! Why work over a source and a sink stops.
 ghost use Rattle.std.specs.Prelude.{◌≡◌};
-ghost use Rattle.outside_core.specs.Kept.{unread};
 ghost use Rattle.outside_core.specs.declared.stop.Stop.TheVariants.{Memory};
 
-use crate::shelves::ShelfError;
 use std::alloc::AllocError;
 
 /// Why work that reads a source and writes a sink stops before its end.
@@ -22,16 +20,5 @@ impl From<AllocError> for Stop {
 
     fn from(_error: AllocError) -> Stop {
         Stop::Memory
-    }
-}
-
-impl From<ShelfError> for Stop {
-    ghost from_gives = { λ error stop. stop ≡ unread error };
-
-    fn from(error: ShelfError) -> Stop {
-        match error {
-            ShelfError::Failed => Stop::Source,
-            ShelfError::NoMemory => Stop::Memory,
-        }
     }
 }

@@ -13,7 +13,7 @@ use Rattle.pcap_defs.proofs.ReadingLaws.{capture_of-header, capture_of-fault, re
 use Rattle.capture_core.specs.Rest.{IsWhole, LeavesNothing}
 use Rattle.capture_core.specs.Captures.{packet_of, fault_told, Opens, Comes, IsOneLess, IsAt, LeavesNone}
 use Rattle.capture_core.specs.declared.frame.LinkedFrame.{LinkedFrame}
-use Rattle.pcap_core.specs.Faults.{fault_in, unread_as}
+use Rattle.pcap_core.specs.Faults.{fault_in, read_error_as}
 use Rattle.pcap_core.specs.Frames.{IsFrameOf}
 use Rattle.pcap_core.specs.Left.{head_read, contents_in}
 use Rattle.pcap_core.specs.Rest.{TakesHeader, TakesRecord}
@@ -21,7 +21,7 @@ use Rattle.pcap_core.specs.declared.fault.CaptureFault.{CaptureFault}
 use Rattle.pcap_core.specs.declared.fault.CaptureFault.TheVariants.{HeaderCut, BadMagic, PcapNg, Version, RecordCut, DataCut, RecordLong, TooMany, ReadFault, NoMemory}
 
 -- what holds of the fault of the file that a refusal names, and of none, holds of what the refusal becomes
-unread-by : (P : Option FaultAt → Type 0) (refusal : CaptureFault) → P None → IfSome (fault_in refusal) (λ f. P (Some (fault_at f))) → P (fault_told (unread_as refusal))
+unread-by : (P : Option FaultAt → Type 0) (refusal : CaptureFault) → P None → IfSome (fault_in refusal) (λ f. P (Some (fault_at f))) → P (fault_told (read_error_as refusal))
 unread-by P HeaderCut none h = h
 unread-by P BadMagic none h = h
 unread-by P PcapNg none h = h
@@ -46,7 +46,7 @@ opens-at head kept given file rest same none t = rw (same, none) (opens head fil
 
 -- a refused file is no capture
 pub refuses : (refusal : CaptureFault) (file : Option (List ℕ)) → IfSome (fault_in refusal) (λ f. IfSome file (λ bytes. IsHeaderFault bytes f))
-    → IfSome (fault_told (unread_as refusal)) (λ g. IfSome file (λ bytes. in_capture (capture_of bytes) ≡ no_capture g))
+    → IfSome (fault_told (read_error_as refusal)) (λ g. IfSome file (λ bytes. in_capture (capture_of bytes) ≡ no_capture g))
 refuses refusal file h =
     unread-by (λ o. IfSome o (λ g. IfSome file (λ bytes. in_capture (capture_of bytes) ≡ no_capture g))) refusal tt
     (IfSome_then (fault_in refusal) h (λ f is. IfSome_then file is (λ bytes bad. ap in_capture (capture_of-fault f bytes bad))))
@@ -100,7 +100,7 @@ leaves head n next kept (Some old) new none =
 -- a fault comes where no record is left before it
 pub halts : (kept : Option Head) (n : ℕ) (refusal : CaptureFault) (rest : Option (List ℕ))
     → IfSome (fault_in refusal) (λ f. IfSome rest (λ left. IsRecordFault (option_map_or (λ (h : Head). h.big) kept false) n left f))
-    → IfSome (fault_told (unread_as refusal)) (λ g. IsAt (Some g) (option_map (contents_in (head_read kept) n) rest))
+    → IfSome (fault_told (read_error_as refusal)) (λ g. IsAt (Some g) (option_map (contents_in (head_read kept) n) rest))
 halts kept n refusal None h = unread-by (λ o. IfSome o (λ g. IsAt (Some g) None)) refusal tt (IfSome_then (fault_in refusal) h (λ f is. tt))
 halts None n refusal (Some rest) h =
     unread-by (λ o. IfSome o (λ g. IsAt (Some g) (Some (contents_in (head_read None) n rest)))) refusal tt

@@ -1,11 +1,11 @@
 -- What a reader's refusals say of the file.
 use Rattle.std.specs.Prelude.{ℕ, Option, Some, None}
 use Rattle.std.specs.Option.{option_map_or}
-use Rattle.outside_core.specs.declared.stop.Stop.{Stop}
-use Rattle.outside_core.specs.declared.stop.Stop.TheVariants.{Memory}
+use Rattle.outside_core.specs.declared.shelves.ShelfError.{ShelfError}
+use Rattle.outside_core.specs.declared.shelves.ShelfError.TheVariants as shelf
+use Rattle.outside_core.specs.declared.read_error.ReadError.{ReadError}
+use Rattle.outside_core.specs.declared.read_error.ReadError.TheVariants as read
 use Rattle.pcap_defs.specs.Fault.{Fault, header_cut, bad_magic, pcap_ng, version, record_cut, data_cut, record_long, too_many, code, place}
-use Rattle.capture_core.specs.declared.unread.Unread.{Unread}
-use Rattle.capture_core.specs.declared.unread.Unread.TheVariants as unread
 use Rattle.pcap_core.specs.declared.fault.CaptureFault.{CaptureFault}
 use Rattle.pcap_core.specs.declared.fault.CaptureFault.TheVariants.{HeaderCut, BadMagic, PcapNg, Version, RecordCut, DataCut, RecordLong, TooMany, ReadFault, NoMemory}
 
@@ -29,13 +29,13 @@ code_in refusal = option_map_or code (fault_in refusal) 0
 abbrev pub place_in : CaptureFault → ℕ
 place_in refusal = option_map_or place (fault_in refusal) 0
 
--- what a stop of the shelf becomes
-abbrev pub stop_fault : Stop → CaptureFault
-stop_fault Memory = NoMemory
-stop_fault _ = ReadFault
+-- what an error of the shelf becomes
+abbrev pub shelf_fault : ShelfError → CaptureFault
+shelf_fault shelf.Failed = ReadFault
+shelf_fault shelf.NoMemory = NoMemory
 
 -- what a refusal becomes in the words of any format
-abbrev pub unread_as : CaptureFault → Unread
-unread_as ReadFault = unread.Source
-unread_as NoMemory = unread.Memory
-unread_as refusal = unread.Fault (code_in refusal) (place_in refusal)
+abbrev pub read_error_as : CaptureFault → ReadError
+read_error_as ReadFault = read.Source
+read_error_as NoMemory = read.Memory
+read_error_as refusal = read.Fault (code_in refusal) (place_in refusal)

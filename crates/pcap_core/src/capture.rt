@@ -1,21 +1,21 @@
 //! A reader of classic captures as one of captures of any format.
 ghost use Rattle.std.specs.Prelude.{◌≡◌};
-ghost use Rattle.pcap_core.specs.Faults.{unread_as};
+ghost use Rattle.pcap_core.specs.Faults.{read_error_as};
 
 use crate::fault::CaptureFault;
 use crate::reader::Reader;
-use capture_core::{CaptureReader, LinkedFrame, Unread, Window};
-use outside_core::Shelf;
+use capture_core::{CaptureReader, LinkedFrame, Window};
+use outside_core::{ReadError, Shelf};
 use std::alloc::Global;
 
 /// Why a capture isn't read on, in the words of any format.
-fn unread(fault: CaptureFault) -> Unread
-    ensures { result ≡ unread_as fault }
+fn read_error(fault: CaptureFault) -> ReadError
+    ensures { result ≡ read_error_as fault }
 {
     match fault {
-        CaptureFault::ReadFault => Unread::Source,
-        CaptureFault::NoMemory => Unread::Memory,
-        _ => Unread::Fault(fault.code(), fault.place()),
+        CaptureFault::ReadFault => ReadError::Source,
+        CaptureFault::NoMemory => ReadError::Memory,
+        _ => ReadError::Fault(fault.code(), fault.place()),
     }
 }
 
@@ -48,10 +48,10 @@ impl CaptureReader for Reader {
         Reader::live(self)
     }
 
-    fn start<S: Shelf>(&mut self, shelf: &mut S) -> Result<(), Unread> {
+    fn start<S: Shelf>(&mut self, shelf: &mut S) -> Result<(), ReadError> {
         match Reader::start(self, shelf) {
             Ok(_) => Ok(()),
-            Err(fault) => Err(unread(fault)),
+            Err(fault) => Err(read_error(fault)),
         }
     }
 
@@ -60,21 +60,21 @@ impl CaptureReader for Reader {
         &mut self,
         shelf: &mut S,
         into: &mut Vec<u8>,
-    ) -> Result<Option<LinkedFrame>, Unread> {
+    ) -> Result<Option<LinkedFrame>, ReadError> {
         match Reader::next(self, shelf, into) {
             Ok(Some(frame)) => Ok(Some(LinkedFrame {
                 frame,
                 link: self.link(),
             })),
             Ok(None) => Ok(None),
-            Err(fault) => Err(unread(fault)),
+            Err(fault) => Err(read_error(fault)),
         }
     }
 
-    fn pass<S: Shelf>(&mut self, shelf: &mut S, scratch: &mut Vec<u8>) -> Result<bool, Unread> {
+    fn pass<S: Shelf>(&mut self, shelf: &mut S, scratch: &mut Vec<u8>) -> Result<bool, ReadError> {
         match Reader::pass(self, shelf, scratch) {
             Ok(some) => Ok(some),
-            Err(fault) => Err(unread(fault)),
+            Err(fault) => Err(read_error(fault)),
         }
     }
 }

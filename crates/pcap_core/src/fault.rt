@@ -1,8 +1,8 @@
 //! Why a capture isn't read on.
 ghost use Rattle.std.specs.Prelude.{◌≡◌};
-ghost use Rattle.pcap_core.specs.Faults.{code_in, place_in, stop_fault};
+ghost use Rattle.pcap_core.specs.Faults.{code_in, place_in, shelf_fault};
 
-use outside_core::Stop;
+use outside_core::ShelfError;
 
 /// Why a capture isn't read on. A number is that of the record at fault, counted from 1.
 #[derive(Clone, Copy, PartialEq, Eq, Debug)]
@@ -60,13 +60,13 @@ impl CaptureFault {
     }
 }
 
-impl From<Stop> for CaptureFault {
-    ghost from_gives = { λ stop e. e ≡ stop_fault stop };
+impl From<ShelfError> for CaptureFault {
+    ghost from_gives = { λ error e. e ≡ shelf_fault error };
 
-    fn from(stop: Stop) -> CaptureFault {
-        match stop {
-            Stop::Memory => CaptureFault::NoMemory,
-            Stop::Source | Stop::Sink => CaptureFault::ReadFault,
+    fn from(error: ShelfError) -> CaptureFault {
+        match error {
+            ShelfError::Failed => CaptureFault::ReadFault,
+            ShelfError::NoMemory => CaptureFault::NoMemory,
         }
     }
 }

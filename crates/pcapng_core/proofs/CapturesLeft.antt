@@ -13,14 +13,14 @@ use Rattle.pcapng_defs.specs.NgCapture.{Reading, front_of, broken, reading_of, n
 use Rattle.pcapng_defs.specs.NgContents.{block_fault_at, contents_read, behind_front, in_ng_capture}
 use Rattle.pcapng_defs.proofs.Readings.{goes_block_by_block}
 use Rattle.pcapng_defs.proofs.FaultCauses.{reads_faults}
-use Rattle.pcapng_core.specs.Faults.{fault_in, unread_as}
+use Rattle.pcapng_core.specs.Faults.{fault_in, read_error_as}
 use Rattle.pcapng_core.specs.Left.{contents_in}
 use Rattle.pcapng_core.specs.Readers.{TakesBlock, GoesOn, IsOver}
 use Rattle.pcapng_core.specs.declared.fault.NgFault.{NgFault}
 use Rattle.pcapng_core.specs.declared.fault.NgFault.TheVariants.{BlockCut, BlockLength, OrderMagic, NgVersion, NoInterface, PacketLength, Interfaces, TooManyBlocks, BlockEnd, ReadFault, NoMemory}
 
 -- what holds of the fault of the file that a refusal names, and of none, holds of what the refusal becomes
-unread-by : (P : Option FaultAt → Type 0) (refusal : NgFault) → P None → IfSome (fault_in refusal) (λ f. P (Some (block_fault_at f))) → P (fault_told (unread_as refusal))
+unread-by : (P : Option FaultAt → Type 0) (refusal : NgFault) → P None → IfSome (fault_in refusal) (λ f. P (Some (block_fault_at f))) → P (fault_told (read_error_as refusal))
 unread-by P (BlockCut n) none h = h
 unread-by P (BlockLength n) none h = h
 unread-by P (OrderMagic n) none h = h
@@ -43,7 +43,7 @@ opens after (Some file) (Some rest) t =
 
 -- a refused file is no capture
 pub refuses : (refusal : NgFault) (file : Option (List ℕ)) → IfSome (fault_in refusal) (λ f. IfSome file (λ bytes. front_of at_start bytes ≡ broken f))
-    → IfSome (fault_told (unread_as refusal)) (λ g. IfSome file (λ bytes. in_ng_capture bytes ≡ no_capture g))
+    → IfSome (fault_told (read_error_as refusal)) (λ g. IfSome file (λ bytes. in_ng_capture bytes ≡ no_capture g))
 refuses refusal file h =
     unread-by (λ o. IfSome o (λ g. IfSome file (λ bytes. in_ng_capture bytes ≡ no_capture g))) refusal tt
     (IfSome_then (fault_in refusal) h (λ f is. IfSome_then file is (λ bytes bad. ap (λ front. behind_front front (ng_capture_of bytes)) bad)))
@@ -63,7 +63,7 @@ ends : (c : Carried) (old : Option (List ℕ)) → IfSome old (IsOver c None) �
 ends c old over = at-fault c None old over
 
 pub halts : (c : Carried) (refusal : NgFault) (old : Option (List ℕ)) → IfSome (fault_in refusal) (λ f. IfSome old (IsOver c (Some f)))
-    → IfSome (fault_told (unread_as refusal)) (λ g. IsAt (Some g) (option_map (contents_in c) old))
+    → IfSome (fault_told (read_error_as refusal)) (λ g. IsAt (Some g) (option_map (contents_in c) old))
 halts c refusal old h =
     unread-by (λ o. IfSome o (λ g. IsAt (Some g) (option_map (contents_in c) old))) refusal tt
     (IfSome_then (fault_in refusal) h (λ f over. at-fault c (Some f) old over))

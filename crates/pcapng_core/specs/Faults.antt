@@ -1,11 +1,11 @@
 -- What a reader's refusals say of the file.
 use Rattle.std.specs.Prelude.{ℕ, Option, Some, None}
 use Rattle.std.specs.Option.{option_map_or}
-use Rattle.outside_core.specs.declared.stop.Stop.{Stop}
-use Rattle.outside_core.specs.declared.stop.Stop.TheVariants.{Memory}
+use Rattle.outside_core.specs.declared.shelves.ShelfError.{ShelfError}
+use Rattle.outside_core.specs.declared.shelves.ShelfError.TheVariants as shelf
+use Rattle.outside_core.specs.declared.read_error.ReadError.{ReadError}
+use Rattle.outside_core.specs.declared.read_error.ReadError.TheVariants as read
 use Rattle.pcapng_defs.specs.Fault.{BlockFault, block_cut, block_length, order_magic, ng_version, no_interface, packet_length, interfaces, too_many_blocks, block_end, code, place}
-use Rattle.capture_core.specs.declared.unread.Unread.{Unread}
-use Rattle.capture_core.specs.declared.unread.Unread.TheVariants as unread
 use Rattle.pcapng_core.specs.declared.fault.NgFault.{NgFault}
 use Rattle.pcapng_core.specs.declared.fault.NgFault.TheVariants.{BlockCut, BlockLength, OrderMagic, NgVersion, NoInterface, PacketLength, Interfaces, TooManyBlocks, BlockEnd, ReadFault, NoMemory}
 
@@ -30,13 +30,13 @@ code_in refusal = option_map_or code (fault_in refusal) 0
 abbrev pub place_in : NgFault → ℕ
 place_in refusal = option_map_or place (fault_in refusal) 0
 
--- what a stop of the shelf becomes
-abbrev pub stop_fault : Stop → NgFault
-stop_fault Memory = NoMemory
-stop_fault _ = ReadFault
+-- what an error of the shelf becomes
+abbrev pub shelf_fault : ShelfError → NgFault
+shelf_fault shelf.Failed = ReadFault
+shelf_fault shelf.NoMemory = NoMemory
 
 -- what a refusal becomes in the words of any format
-abbrev pub unread_as : NgFault → Unread
-unread_as ReadFault = unread.Source
-unread_as NoMemory = unread.Memory
-unread_as refusal = unread.Fault (code_in refusal) (place_in refusal)
+abbrev pub read_error_as : NgFault → ReadError
+read_error_as ReadFault = read.Source
+read_error_as NoMemory = read.Memory
+read_error_as refusal = read.Fault (code_in refusal) (place_in refusal)

@@ -1,21 +1,21 @@
 //! A reader of pcapng captures as one of captures of any format.
 ghost use Rattle.std.specs.Prelude.{◌≡◌};
-ghost use Rattle.pcapng_core.specs.Faults.{unread_as};
+ghost use Rattle.pcapng_core.specs.Faults.{read_error_as};
 
 use crate::fault::NgFault;
 use crate::reader::NgReader;
-use capture_core::{CaptureReader, LinkedFrame, Unread, Window};
-use outside_core::Shelf;
+use capture_core::{CaptureReader, LinkedFrame, Window};
+use outside_core::{ReadError, Shelf};
 use std::alloc::Global;
 
 /// Why a capture isn't read on, in the words of any format.
-fn unread(fault: NgFault) -> Unread
-    ensures { result ≡ unread_as fault }
+fn read_error(fault: NgFault) -> ReadError
+    ensures { result ≡ read_error_as fault }
 {
     match fault {
-        NgFault::ReadFault => Unread::Source,
-        NgFault::NoMemory => Unread::Memory,
-        _ => Unread::Fault(fault.code(), fault.place()),
+        NgFault::ReadFault => ReadError::Source,
+        NgFault::NoMemory => ReadError::Memory,
+        _ => ReadError::Fault(fault.code(), fault.place()),
     }
 }
 
@@ -47,10 +47,10 @@ impl CaptureReader for NgReader {
         NgReader::live(self)
     }
 
-    fn start<S: Shelf>(&mut self, shelf: &mut S) -> Result<(), Unread> {
+    fn start<S: Shelf>(&mut self, shelf: &mut S) -> Result<(), ReadError> {
         match NgReader::start(self, shelf) {
             Ok(()) => Ok(()),
-            Err(fault) => Err(unread(fault)),
+            Err(fault) => Err(read_error(fault)),
         }
     }
 
@@ -58,17 +58,17 @@ impl CaptureReader for NgReader {
         &mut self,
         shelf: &mut S,
         into: &mut Vec<u8>,
-    ) -> Result<Option<LinkedFrame>, Unread> {
+    ) -> Result<Option<LinkedFrame>, ReadError> {
         match NgReader::next(self, shelf, into) {
             Ok(given) => Ok(given),
-            Err(fault) => Err(unread(fault)),
+            Err(fault) => Err(read_error(fault)),
         }
     }
 
-    fn pass<S: Shelf>(&mut self, shelf: &mut S, scratch: &mut Vec<u8>) -> Result<bool, Unread> {
+    fn pass<S: Shelf>(&mut self, shelf: &mut S, scratch: &mut Vec<u8>) -> Result<bool, ReadError> {
         match NgReader::next(self, shelf, scratch) {
             Ok(given) => Ok(given.is_some()),
-            Err(fault) => Err(unread(fault)),
+            Err(fault) => Err(read_error(fault)),
         }
     }
 }

@@ -1,9 +1,9 @@
 //! Why a pcapng capture isn't read on.
 ghost use Rattle.std.specs.Prelude.{◌≡◌};
-ghost use Rattle.pcapng_core.specs.Faults.{code_in, place_in, stop_fault};
+ghost use Rattle.pcapng_core.specs.Faults.{code_in, place_in, shelf_fault};
 ghost use Rattle.pcapng_core.specs.declared.fault.NgFault.TheVariants.{NoMemory};
 
-use outside_core::Stop;
+use outside_core::ShelfError;
 use std::alloc::AllocError;
 
 /// Why a pcapng capture isn't read on. A number is that of the block at fault, counted from 1.
@@ -71,13 +71,13 @@ impl NgFault {
     }
 }
 
-impl From<Stop> for NgFault {
-    ghost from_gives = { λ stop e. e ≡ stop_fault stop };
+impl From<ShelfError> for NgFault {
+    ghost from_gives = { λ error e. e ≡ shelf_fault error };
 
-    fn from(stop: Stop) -> NgFault {
-        match stop {
-            Stop::Memory => NgFault::NoMemory,
-            Stop::Source | Stop::Sink => NgFault::ReadFault,
+    fn from(error: ShelfError) -> NgFault {
+        match error {
+            ShelfError::Failed => NgFault::ReadFault,
+            ShelfError::NoMemory => NgFault::NoMemory,
         }
     }
 }

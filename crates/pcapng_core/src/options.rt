@@ -1,6 +1,6 @@
 //! The options of an interface, read option by option.
-ghost use Rattle.std.specs.Prelude.{◌≡◌, ◌≤◌, ◌<◌, ◌+◌, ◌-◌, length, vec_len, IfOk, IfErr, IsTrue};
-ghost use Rattle.outside_core.specs.Kept.{HasSourceCause};
+ghost use Rattle.std.specs.Prelude.{◌≡◌, ◌≤◌, ◌<◌, ◌+◌, ◌-◌, length, vec_len, IfOk, IsErrOf, IsTrue};
+ghost use Rattle.outside_core.specs.Faults.{Rose};
 ghost use Rattle.capture_core.specs.Rest.{rest_of, Serves};
 ghost use Rattle.capture_core.specs.Held.{held};
 ghost use Rattle.pcapng_defs.specs.Interface;
@@ -8,7 +8,7 @@ ghost use Rattle.capture_core.specs.Passed.{Passes};
 ghost use Rattle.pcapng_core.specs.Options.{step_rest, FitsIn, GoesDown, StandsAt, IsUnitOf, FrontOf};
 
 use capture_core::{Window, read_short};
-use outside_core::{Shelf, Stop};
+use outside_core::{Shelf, ShelfError};
 use pcapng_defs::Unit;
 
 const USUAL_UNIT: Unit = Unit::Decimal(6);
@@ -74,7 +74,7 @@ fn read_option<S: Shelf>(
     option: &mut Vec<u8>,
     big: bool,
     count: usize,
-) -> Result<Step, Stop>
+) -> Result<Step, ShelfError>
     requires some { 4 ≤ count }
     requires begun { IsTrue (S.begun shelf.old) }
     ensures bound { IfOk result (λ step. GoesDown count step) }
@@ -84,7 +84,8 @@ fn read_option<S: Shelf>(
     ensures step { IfOk result (λ step. StandsAt big count (rest_of (held window.old)
         (S.left shelf.old)) step) }
     ensures shelf { Serves S.lends S.content S.begun S.faults shelf.old shelf.new }
-    ensures cause { IfErr result (λ stop. HasSourceCause stop S.faults shelf.old shelf.new) }
+    ensures cause { IsErrOf result ShelfError.Failed → Rose (S.faults shelf.old)
+        (S.faults shelf.new) }
 {
     option.clear();
     window.take(shelf, option, OPTION_LEN)?;
@@ -115,7 +116,7 @@ pub fn read_unit<S: Shelf>(
     option: &mut Vec<u8>,
     big: bool,
     count: usize,
-) -> Result<(Unit, usize), Stop>
+) -> Result<(Unit, usize), ShelfError>
     requires begun { IsTrue (S.begun shelf.old) }
     ensures bound { IfOk result (λ told. told.1 ≤ count) }
     ensures passed { IfOk result (λ told. Passes (count - told.1)
@@ -124,7 +125,8 @@ pub fn read_unit<S: Shelf>(
     ensures unit { IfOk result (λ told. IsUnitOf big count (rest_of (held window.old)
         (S.left shelf.old)) told.0) }
     ensures shelf { Serves S.lends S.content S.begun S.faults shelf.old shelf.new }
-    ensures cause { IfErr result (λ stop. HasSourceCause stop S.faults shelf.old shelf.new) }
+    ensures cause { IsErrOf result ShelfError.Failed → Rose (S.faults shelf.old)
+        (S.faults shelf.new) }
 {
     let mut rest = count;
     while rest >= OPTION_LEN {

@@ -1,7 +1,6 @@
 //! Reading a pcapng capture packet by packet.
 ghost use Rattle.std.specs.Prelude.{◌≡◌, ◌≢◌, ◌≤◌, ◌<◌, ◌+◌, ◌-◌, ℕ, true, List, Option, Some, None, [], ◌++◌, length, vec_len, IfOk, IfErr, OnOk, OnErr, IfSome, IfNone, IsErrOf, IsTrue};
 ghost use Rattle.outside_core.specs.Faults.{Rose};
-ghost use Rattle.outside_core.specs.Kept.{HasSourceCause};
 ghost use Rattle.capture_core.specs.Rest.{rest_of, TakesFront, IsWhole, LeavesNothing, Serves};
 ghost use Rattle.pcapng_defs.specs.Fault.{block_cut};
 ghost use Rattle.pcapng_defs.specs.NgCapture.{front_of, broken, fits_kind, block_len, most_blocks};
@@ -21,7 +20,7 @@ use crate::fault::NgFault;
 use crate::options::read_unit;
 use crate::start::{Kind, START_LEN, Start, start_in};
 use capture_core::{Frame, LinkedFrame, Window, read_long};
-use outside_core::{Shelf, Stop};
+use outside_core::{Shelf, ShelfError};
 use pcapng_defs::Unit;
 use std::alloc::Global;
 
@@ -110,7 +109,7 @@ fn pass_gap<S: Shelf>(
     option: &mut Vec<u8>,
     start: Start,
     count: usize,
-) -> Result<Option<Unit>, Stop>
+) -> Result<Option<Unit>, ShelfError>
     requires begun { IsTrue (S.begun shelf.old) }
     ensures passed { IfOk result (λ o. IfSome o (λ unit. Passes count
         (rest_of (held window.old) (S.left shelf.old))
@@ -120,7 +119,8 @@ fn pass_gap<S: Shelf>(
     ensures cut { IfOk result (λ o. IfNone o (IfSome (rest_of (held window.old) (S.left shelf.old))
         (λ left. length left < count))) }
     ensures shelf { Serves S.lends S.content S.begun S.faults shelf.old shelf.new }
-    ensures cause { IfErr result (λ stop. HasSourceCause stop S.faults shelf.old shelf.new) }
+    ensures cause { IsErrOf result ShelfError.Failed → Rose (S.faults shelf.old)
+        (S.faults shelf.new) }
 {
     match start.kind {
         Kind::Interface => {

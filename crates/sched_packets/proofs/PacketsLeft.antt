@@ -5,8 +5,8 @@ use Rattle.pcap_defs.specs.Packet.{CapturedPacket}
 use Rattle.pcap_defs.specs.Contents.{Contents, FileContents, no_capture, holds}
 use Rattle.capture_core.specs.Captures.{fault_told, Opens, Comes, IsOneLess, IsAt, nothing_left}
 use Rattle.capture_core.specs.Rest.{rest_of}
-use Rattle.capture_core.specs.declared.unread.Unread.{Unread}
-use Rattle.capture_core.specs.declared.unread.Unread.TheVariants.{Fault, Source, Memory}
+use Rattle.outside_core.specs.declared.read_error.ReadError.{ReadError}
+use Rattle.outside_core.specs.declared.read_error.ReadError.TheVariants.{Fault, Source, Memory}
 use Rattle.packet_defs.specs.declared.packet.Packet.{Packet}
 use Rattle.policy_rules.specs.Resolved.{Resolved}
 use Rattle.sched_defs.specs.declared.packets.Halt.{Halt}
@@ -32,8 +32,8 @@ pub captured_at_start : (file : FileContents) (left : Option Contents) (given : 
 captured_at_start (no_capture fault) left given none opened bytes are = absurd opened
 captured_at_start (holds contents) left given none opened bytes are = captured_behind contents left given none opened bytes are
 
-pub refuses : (unread : Unread) (contents : List ℕ → FileContents) (file : Option (List ℕ)) → IfSome (fault_told unread) (λ f. IfSome file (λ bytes. contents bytes ≡ no_capture f))
-    → IfSome file (λ bytes. Refuses (halt_of unread) (contents bytes))
+pub refuses : (error : ReadError) (contents : List ℕ → FileContents) (file : Option (List ℕ)) → IfSome (fault_told error) (λ f. IfSome file (λ bytes. contents bytes ≡ no_capture f))
+    → IfSome file (λ bytes. Refuses (halt_of error) (contents bytes))
 refuses (Fault c p) contents file h = h
 refuses Source contents None h = tt
 refuses Source contents (Some bytes) h = tt
@@ -41,13 +41,13 @@ refuses Memory contents None h = tt
 refuses Memory contents (Some bytes) h = tt
 
 -- the same where the bytes that the reader had are those of a window
-pub refuses_over : (unread : Unread) (contents : List ℕ → FileContents) (ahead held : List ℕ) (left : Option (List ℕ)) → ahead ≡ held
-    → IfSome (fault_told unread) (λ f. IfSome (rest_of ahead left) (λ bytes. contents bytes ≡ no_capture f)) → IfSome (rest_of held left) (λ bytes. Refuses (halt_of unread) (contents bytes))
-refuses_over unread contents ahead held left same h =
-    subst (λ xs. IfSome (rest_of xs left) (λ bytes. Refuses (halt_of unread) (contents bytes))) same (refuses unread contents (rest_of ahead left) h)
+pub refuses_over : (error : ReadError) (contents : List ℕ → FileContents) (ahead held : List ℕ) (left : Option (List ℕ)) → ahead ≡ held
+    → IfSome (fault_told error) (λ f. IfSome (rest_of ahead left) (λ bytes. contents bytes ≡ no_capture f)) → IfSome (rest_of held left) (λ bytes. Refuses (halt_of error) (contents bytes))
+refuses_over error contents ahead held left same h =
+    subst (λ xs. IfSome (rest_of xs left) (λ bytes. Refuses (halt_of error) (contents bytes))) same (refuses error contents (rest_of ahead left) h)
 
 -- ---- a halt
-pub halts_told : (unread : Unread) (old : Option Contents) → IfSome (fault_told unread) (λ f. IsAt (Some f) old) → HaltsAt old (halt_of unread)
+pub halts_told : (error : ReadError) (old : Option Contents) → IfSome (fault_told error) (λ f. IsAt (Some f) old) → HaltsAt old (halt_of error)
 halts_told (Fault c p) old h = h
 halts_told Source old h = tt
 halts_told Memory old h = tt

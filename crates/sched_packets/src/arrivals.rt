@@ -65,7 +65,7 @@ impl<'a, R: CaptureReader + Drop, S: Shelf> Arrivals<'a, R, S> {
                 }),
                 Err(_) => Err(Halt::Memory),
             },
-            Err(unread) => Err(halt_of(unread)),
+            Err(error) => Err(halt_of(error)),
         }
     }
 
@@ -105,7 +105,7 @@ impl<'a, R: CaptureReader + Drop, S: Shelf> Arrivals<'a, R, S> {
                 self.over = true;
                 Ok(None)
             }
-            Err(unread) => Err(halt_of(unread)),
+            Err(error) => Err(halt_of(error)),
         }
     }
 
@@ -139,7 +139,7 @@ impl<'a, R: CaptureReader + Drop, S: Shelf> Arrivals<'a, R, S> {
                 self.over = true;
                 Ok(false)
             }
-            Err(unread) => Err(halt_of(unread)),
+            Err(error) => Err(halt_of(error)),
         }
     }
 

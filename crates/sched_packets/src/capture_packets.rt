@@ -8,7 +8,7 @@ ghost use Rattle.sched_packets.specs.Arrivals.{Begins, Refuses};
 ghost use Rattle.sched_packets.specs.NextPacket.{IsNext, HaltsAt};
 
 use crate::arrivals::Arrivals;
-use crate::halts::{halt_stopped, halt_unbegun};
+use crate::halts::halt_unread;
 use capture_core::Window;
 use outside_core::Shelf;
 use packet_core::Packet;
@@ -55,7 +55,7 @@ impl<'a, S: Shelf> CapturePackets<'a, S> {
     {
         match shelf.begin(name) {
             Ok(()) => Self::start(alloc, policy, shelf),
-            Err(error) => Err(halt_unbegun(error)),
+            Err(error) => Err(halt_unread(error)),
         }
     }
 
@@ -80,8 +80,8 @@ impl<'a, S: Shelf> CapturePackets<'a, S> {
             (S.faults shelf.new) }
     {
         let mut window = Window::new(alloc);
-        if let Err(stop) = window.hold(shelf, HEADER_LEN) {
-            return Err(halt_stopped(stop));
+        if let Err(error) = window.hold(shelf, HEADER_LEN) {
+            return Err(halt_unread(error));
         }
         if is_newer(window.front()) {
             match Arrivals::start(alloc, policy, window, shelf) {

@@ -9,4 +9,4 @@ returns-in-Ok-clause-opens g c =
     opens-at c.in-Ok.field-0 (head_of reader) (records_given reader) (rest_left c.args.self.now (g.S.Shelf.left c.args.shelf.now)) (rest_left reader (g.S.Shelf.left c.start.new.shelf)) e.head e.none_given e.header
 
 pub returns-in-Err-clause-refused : goal.returns-in-Err-clause-refused
-returns-in-Err-clause-refused g c = rw (c.unread.ensures) (refuses c.in-Err.fault (rest_left c.args.self.now (g.S.Shelf.left c.args.shelf.now)) c.in-Err.ensures.fault)
+returns-in-Err-clause-refused g c = rw (c.read_error.ensures) (refuses c.in-Err.fault (rest_left c.args.self.now (g.S.Shelf.left c.args.shelf.now)) c.in-Err.ensures.fault)

@@ -25,4 +25,4 @@ returns-in-Ok-clause-over g c none =
 pub returns-in-Err-clause-fault : goal.returns-in-Err-clause-fault
 returns-in-Err-clause-fault g c =
     let reader = c.args.self.now in
-    rw (c.unread.ensures) (halts (carry_of reader) c.in-Err.fault (rest_left reader (g.S.Shelf.left c.args.shelf.now)) c.in-Err.ensures.fault)
+    rw (c.read_error.ensures) (halts (carry_of reader) c.in-Err.fault (rest_left reader (g.S.Shelf.left c.args.shelf.now)) c.in-Err.ensures.fault)

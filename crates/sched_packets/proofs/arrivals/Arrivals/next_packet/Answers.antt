@@ -25,4 +25,4 @@ returns-in-Ok-Some-clause-next g c =
 
 pub returns-in-Err-clause-fault : goal.returns-in-Err-clause-fault
 returns-in-Err-clause-fault g c =
-    rw (c.if-self.false, c.halt_of.ensures) (halts_told c.in-Err.unread (g.R.CaptureReader.left c.args.self.now.reader (g.S.Shelf.left c.args.source.now)) c.in-Err.ensures.fault)
+    rw (c.if-self.false, c.halt_of.ensures) (halts_told c.in-Err.error (g.R.CaptureReader.left c.args.self.now.reader (g.S.Shelf.left c.args.source.now)) c.in-Err.ensures.fault)
