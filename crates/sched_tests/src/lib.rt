@@ -7,6 +7,4 @@ mod capture;
 #[cfg(test)]
 mod fabrics;
 #[cfg(test)]
-mod memory;
-#[cfg(test)]
 mod packets;
