@@ -156,7 +156,7 @@ def exists(name, page, top=pages.TOP):
 
 def paths_in(text):
     """The paths of a paragraph: a file with an ending of the repository, or one below a folder of it."""
-    for found in PATH.findall(LINK.sub(r"\1", text).replace("`", " ")):
+    for found in PATH.findall(LINK.sub(r"\1", text).replace("`", " ").replace("**", " ")):
         found = found.rstrip(".")
         first, is_deep = found.removeprefix("./").split("/")[0], "/" in found.strip("/")
         if found.split(".")[-1] in KINDS and "." in found[1:] or is_deep and first in TOPS:

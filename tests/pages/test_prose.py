@@ -149,7 +149,7 @@ class Names(unittest.TestCase):
         for text in ("docs/PROOFS.md", "`tests/tools/mutate`", "pifo_core/src/heap.rt", "src/heap.rt", "specs/Queue.antt",
                      "Queue.antt", "crates/NAME/src/", "crates.txt", "tests/wrong_bodies/pifo_core", "./tools/look",
                      "crates/replay_main/out/replay_main", "commands/replay.md", "[a](../tools/look) 10.9.0.0/16 and/or 1/0/0",
-                     "rows.jsonl", "`proofs/ArrivalLaws.antt`", "proofs/ArrivalLaws.antt."):
+                     "rows.jsonl", "**.. a.** src/heap.rt", "`proofs/ArrivalLaws.antt`", "proofs/ArrivalLaws.antt."):
             with self.subTest(text):
                 self.assertEqual([], self.faults(text))
         for text in ("docs/NONE.md", "`tests/tools/none`", "pifo_core/src/none.rt", "src/none.rt", "None.antt", "crates/none/",
