@@ -45,7 +45,7 @@ ELSEWHERE = {"tc", "clap", "if_tsoffset", "if_tsresol", "ruleset", "X_defs", "X_
 
 CODE = re.compile(r"(`+)(?!`)(.+?)(?<!`)\1(?!`)")
 LINK = re.compile(r"!?\[([^\]]*)\]\([^)]*\)")
-ITEM = re.compile(r"\s*(?:[-*]|\d+\.) +")
+ITEM = re.compile(r"^\s*(?:[-*]|\d+\.) +")
 NUMBERED = re.compile(r"(?<=[.?!])[)\"*]*\s+(?=\S)")
 PATH = re.compile(r"(?<![\w/.:<$~-])(?:\.{0,2}/)?[\w.*-]+(?:/[\w.*-]+)*/?")
 KINDS = ("rt", "antt", "py", "md", "txt", "jsonl", "edit", "svg", "png")
@@ -81,8 +81,8 @@ def plain(text):
 
 
 def without_names(text):
-    """A paragraph without code, paths and names with an underscore."""
-    return re.sub(r"[\w.-]*[_/][\w./*-]*|\b[\w-]+\.(?:%s)\b" % "|".join(KINDS), "x", plain(text))
+    """A paragraph without code, paths, and names with an underscore or in capitals."""
+    return re.sub(r"[\w.-]*[_/][\w./*-]*|\b[\w-]+\.(?:%s)\b|\b[A-Z]{3,}\b" % "|".join(KINDS), "x", plain(text))
 
 
 def sentences(text):

@@ -105,6 +105,7 @@ class Prose(unittest.TestCase):
         self.assert_right(words(20) + " " + words(20) + " (" + words(9)[:-1] + ".) " + words(25))
         self.assert_right(words(20)[:-1] + ":", "", "    $ a command " + words(90), "", "word " * 15)
         self.assert_right("- " + "word " * 25, "- " + "word " * 25, "1. " + "word " * 25)
+        self.assertEqual([(1, "At most 25. Then one.", False)], list(prose.paragraphs("- At most 25. Then one.")))
 
     def test_code_and_links_are_short(self):
         self.assert_right(words(38)[:-1] + " `a b c d e` [x](y.md).")
@@ -131,7 +132,7 @@ class Prose(unittest.TestCase):
 
     def test_words_that_are_like_them(self):
         self.assert_right("Readers who rely on it see a placement, a link, a target and a way to do it in sched_held/behind.rt.",
-                          "The words are in tests/refused. Line `stands` is left, and comes to an end.")
+                          "The words are in tests/refused, as KIND and PLACE. Line `stands` is left, and comes to an end.")
 
     def test_messages(self):
         source = '// "behind"\n/// "behind"\nconst A: &str = "\\\nsays \\"this\\"\nand";\n    say("stands", \'x\')\n'
