@@ -10,7 +10,7 @@ import pages
 
 LONGEST, LONG, LONG_ONES = 40, 30, 1  # words of a sentence; how many sentences of a page may have more than LONG
 CELL = 25  # words of a table's cell
-MOST_WORDS = 66000  # of all pages together, as `wc -w` counts
+MOST_WORDS = 25000  # of all pages together, as `wc -w` counts
 
 # What isn't written, and what is written instead. A name of the code in backticks is no such word.
 WORDS = (
