@@ -59,7 +59,7 @@ DEFINED = re.compile(r"`(\w+)`(?: of `(\w+)`)? \(((?:\w+/)*(?:src|specs|proofs|t
 
 def paragraphs(text):
     """The paragraphs, list items, headings and cells of a page, each with its line number and whether it is a cell."""
-    lines, start, inside = [], 0, False
+    lines, start = [], 0
     for number, line in enumerate(text.splitlines() + [""], 1):
         is_block = line.startswith(pages.INDENT) and not lines
         is_alone = is_block or not line.strip() or line.startswith(("|", "#", "<!--"))
@@ -111,6 +111,12 @@ def prose_faults(text):
     if len(long_ones) > LONG_ONES:
         faults += ["%d: a sentence of %d words, and not the only one above %d" % (*found, LONG) for found in long_ones]
     return faults
+
+
+def length_faults(texts):
+    """What is wrong with the length of all pages together."""
+    count = sum(len(text.split()) for text in texts)
+    return ["all pages together have %d words, more than %d" % (count, MOST_WORDS)] if count > MOST_WORDS else []
 
 
 # names ----------------------------------------------------------------------

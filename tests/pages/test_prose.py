@@ -42,7 +42,7 @@ class Pages(unittest.TestCase):
             self.assertEqual([], prose.name_faults(text, path))
 
     def test_all_pages_together_are_short(self):
-        self.assertLessEqual(sum(len(text.split()) for _, text in all_pages()), prose.MOST_WORDS)
+        self.assertEqual([], prose.length_faults(text for _, text in all_pages()))
 
     def test_the_words_of_messages(self):
         found = 0
@@ -88,6 +88,11 @@ class Prose(unittest.TestCase):
     def test_cells(self):
         self.assert_right("| a | b |", "|---|---|", "| " + "word " * 25 + "| `behind` |")
         self.assert_wrong("3: a cell of 26 words", "| a | b |", "|---|---|", "| c | " + "word " * 26 + "|")
+
+    def test_length_of_all_pages(self):
+        self.assertEqual([], prose.length_faults(["word " * 12500, "word | " * 6250]))
+        self.assertEqual(["all pages together have 25001 words, more than 25000"],
+                         prose.length_faults(["word " * 12500, "a `b c`\n" * 4167]))
 
     def test_words(self):
         for text in ("It ran out for want of memory.", "The moment of a packet.", "The words of a command.", "A line in no form.",
