@@ -140,8 +140,8 @@ class Pages(unittest.TestCase):
     def test_what_holds_after_an_error_is_in_the_list(self):
         text = (TOP / "docs/calls.txt").read_text()
         found = re.search(r"^List::push -> .*\n(?:    .*\n)*", text, re.MULTILINE)[0]
-        self.assertIn("    after an error: items unchanged (`err`); the new item is dropped\n    succeeds in: suite `rows`\n", found)
-        self.assertEqual(text.count("    after an error: "), sum(len(calls) for _, calls, _ in rows()))
+        self.assertIn("    on failure: items unchanged (`err`); the new item is dropped\n    succeeds in: suite `rows`\n", found)
+        self.assertEqual(text.count("    on failure: "), sum(len(calls) for _, calls, _ in rows()))
 
     def test_a_list_that_is_not_current_is_rejected(self):
         with tempfile.TemporaryDirectory() as folder:
