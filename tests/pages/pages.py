@@ -1,7 +1,7 @@
-"""The commands of a page, what the page shows behind each, and a shell that runs them in a copy of the checkout.
+"""The commands of a page, the output shown after each, and a shell that runs them in a copy of the checkout.
 
 A page is a text in Markdown. A block is what is indented by four spaces; one that begins with `$ ` holds commands, each
-on a line of its own behind `$ `, and behind a command the lines that it prints. The commands of a section, from one
+on a line of its own after `$ `, and after a command the lines that it prints. The commands of a section, from one
 heading to the next, are run in one shell that begins at the top of the checkout.
 """
 import os
@@ -45,14 +45,14 @@ class PageError(Exception):
 
 
 class Command:
-    """A command of a page: its line, its text, what is shown behind it, and whether the status is asked for next."""
+    """A command of a page: its line, its text, the output shown after it, and whether the status is asked for next."""
 
     def __init__(self, line, text):
         self.line, self.text, self.shown, self.asks_status = line, text, [], False
 
 
 class Answer:
-    """What a command printed, and its status; None where it didn't come to its end."""
+    """The output of a command and its status; None if it didn't end."""
 
     def __init__(self, printed, status):
         self.printed, self.status = printed, status
@@ -90,7 +90,7 @@ def is_command(line):
 
 
 def commands_of(block):
-    """The commands of a block; none where it holds no command."""
+    """The commands of a block; none if it has none."""
     number, first = block[0]
     if not first.startswith(MARK):
         for number, line in block:
@@ -109,13 +109,13 @@ def commands_of(block):
     for command in found:
         while command.shown and not command.shown[-1]:
             command.shown.pop()
-    for command, behind in zip(found, found[1:]):
-        command.asks_status = behind.text == ASK_STATUS
+    for command, following in zip(found, found[1:]):
+        command.asks_status = following.text == ASK_STATUS
     return found
 
 
 def sections(text):
-    """For each section of a page its commands, where it has some."""
+    """The commands of each section of a page that has some."""
     found = [[command for block in section for command in commands_of(block)] for section in blocks(text)]
     return [commands for commands in found if commands]
 
@@ -123,7 +123,7 @@ def sections(text):
 # a checkout's programs ------------------------------------------------------
 
 def keep_proved(top, path=None):
-    """Has a checkout keep the programs that were put where the gate leaves them, as the gate does."""
+    """Keeps the programs of a checkout that are where the gate leaves them, as the gate does."""
     if not (top / "tools/keep_proved").exists():
         return
     how = {"cwd": top, "check": True, "stdout": subprocess.PIPE, "text": True,
@@ -153,12 +153,12 @@ class Copy:
 
     def __enter__(self):
         self.room = pathlib.Path(tempfile.mkdtemp(prefix="pages-"))
-        self.top, self.told = self.room / "checkout", self.room / "told"
-        self.told.mkdir()
+        self.top, self.printed = self.room / "checkout", self.room / "printed"
+        self.printed.mkdir()
         shutil.copytree(self.checkout, self.top, symlinks=True, ignore=LEFT_OUT)
-        for place in (PROGRAM, *SCRIPT_PROGRAMS):
-            (self.top / place).parent.mkdir(parents=True)
-            shutil.copy(self.program if place == PROGRAM else self.checkout / place, self.top / place)
+        for name in (PROGRAM, *SCRIPT_PROGRAMS):
+            (self.top / name).parent.mkdir(parents=True)
+            shutil.copy(self.program if name == PROGRAM else self.checkout / name, self.top / name)
         keep_proved(self.top)
         shutil.copytree(self.top / "out/proved", self.top / "bin", dirs_exist_ok=True)
         return self
@@ -169,19 +169,19 @@ class Copy:
     def run(self, commands):
         """The answer to each command of a section; None for one that isn't run."""
         lines, wanted = [], [command.text not in NOT_RUN for command in commands]
-        for place, command in enumerate(commands):
-            if wanted[place]:
-                told = shlex.quote(str(self.told / str(place)))
-                lines.append("{ eval %s\n} >%s 2>&1" % (shlex.quote(command.text), told))
-                lines.append("status_here=$?; echo $status_here >%s.status; (exit $status_here)" % told)
+        for number, command in enumerate(commands):
+            if wanted[number]:
+                output = shlex.quote(str(self.printed / str(number)))
+                lines.append("{ eval %s\n} >%s 2>&1" % (shlex.quote(command.text), output))
+                lines.append("status_here=$?; echo $status_here >%s.status; (exit $status_here)" % output)
         run_shell("\n".join(lines), self.top)
-        answers = [self.answer(place) if is_wanted else None for place, is_wanted in enumerate(wanted)]
-        for path in self.told.iterdir():
+        answers = [self.answer(number) if is_wanted else None for number, is_wanted in enumerate(wanted)]
+        for path in self.printed.iterdir():
             path.unlink()
         return answers
 
-    def answer(self, place):
-        printed, status = self.told / str(place), self.told / ("%d.status" % place)
+    def answer(self, number):
+        printed, status = self.printed / str(number), self.printed / ("%d.status" % number)
         return Answer(printed.read_text(errors="replace") if printed.exists() else "",
                       int(status.read_text()) if status.exists() else None)
 
@@ -198,7 +198,7 @@ class Copy:
 
 
 def run_shell(script, folder):
-    """Runs a script in a folder, and ends it where it takes too long."""
+    """Runs a script in a folder, and ends it after a time limit."""
     with subprocess.Popen(["bash", "-c", script], cwd=folder, stdin=subprocess.DEVNULL, stdout=subprocess.DEVNULL,
                           stderr=subprocess.DEVNULL, start_new_session=True) as process:
         try:

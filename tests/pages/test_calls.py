@@ -1,4 +1,4 @@
-"""The public calls in the sources against docs/CALLS.md, and against the table in docs/PROOFS.md of calls that can fail."""
+"""The public calls in the sources against docs/calls.txt, and against tools/failures.txt, which has the calls that can fail."""
 import pathlib
 import re
 import subprocess
@@ -11,7 +11,7 @@ sys.path.insert(0, str(TOP / "tools"))
 
 import public_calls  # noqa: E402
 
-SECTION = "## Calls that can fail\n"
+FAILURES = TOP / "tools/failures.txt"
 SOURCE = """\
 /// Opens a thing. It is
 /// shut by `close`.
@@ -64,18 +64,15 @@ pub trait Door: Drop {
 
 
 def rows():
-    """The rows of the table: the crate, the calls, and what is said of them. No crate means that of the row above."""
-    text = (TOP / "docs/PROOFS.md").read_text()
-    found, crate = [], None
-    for name, cells, said in re.findall(r"^\| (\w*) ?\| (`.*?) \| (.*?) \|", text[text.index(SECTION):].split("\n## ")[0],
-                                        re.MULTILINE):
-        crate = name or crate
-        found.append((crate, set(re.findall(r"`([\w:]+)`", cells)), said))
-    return found
+    """The lines of the file: the crate, the calls, and what is said of them."""
+    for line in FAILURES.read_text().splitlines():
+        if line and not line.startswith("#"):
+            crate, calls, said = line.split(" | ")[:3]
+            yield crate, set(calls.split(", ")), said
 
 
 def named():
-    """The calls that the table names, by crate."""
+    """The calls that the file names, by crate."""
     calls = {}
     for crate, names, _ in rows():
         calls.setdefault(crate, set()).update(names)
@@ -85,6 +82,12 @@ def named():
 def crates():
     """The crates whose calls are listed, which are all but those of tests."""
     return [crate for _, found in public_calls.rooms() for crate in found if not crate.endswith("_tests")]
+
+
+def names_in(crate):
+    """The names of a crate's public calls, laws and clauses."""
+    names = {name for call in public_calls.calls(crate) for name in (*call.name.split("::"), *(c for _, c in call.clauses if c))}
+    return names
 
 
 def list_calls(*words):
@@ -134,27 +137,41 @@ class Pages(unittest.TestCase):
         done = list_calls("--check")
         self.assertEqual((0, ""), (done.returncode, done.stdout))
 
-    def test_a_list_that_is_not_current_is_refused(self):
+    def test_what_holds_after_an_error_is_in_the_list(self):
+        text = (TOP / "docs/calls.txt").read_text()
+        found = re.search(r"^List::push -> .*\n(?:    .*\n)*", text, re.MULTILINE)[0]
+        self.assertIn("    on failure: items unchanged (`err`); the new item is dropped\n    succeeds in: suite `rows`\n", found)
+        self.assertEqual(text.count("    on failure: "), sum(len(calls) for _, calls, _ in rows()))
+
+    def test_a_list_that_is_not_current_is_rejected(self):
         with tempfile.TemporaryDirectory() as folder:
             page = pathlib.Path(folder, "page.md")
             self.assertEqual(1, list_calls("--check", "--page", page).returncode)
             self.assertEqual(0, list_calls("--page", page).returncode)
             self.assertEqual(0, list_calls("--check", "--page", page).returncode)
-            page.write_text(page.read_text().replace("`too_long`, ", "", 1))
+            page.write_text(page.read_text().replace("too_long, ", "", 1))
             self.assertEqual(1, list_calls("--check", "--page", page).returncode)
 
-    def test_each_call_that_can_fail_is_in_the_table(self):
-        table = named()
+    def test_each_call_that_can_fail_is_in_the_file(self):
+        known = named()
         missing = [crate + ": " + call.name for crate in crates() for call in public_calls.calls(crate)
-                   if call.can_fail() and call.name not in table.get(crate, ())]
+                   if call.can_fail() and call.name not in known.get(crate, ())]
         self.assertEqual([], missing)
 
-    def test_the_table_names_public_calls(self):
+    def test_the_page_names_calls_and_clauses_of_its_crates(self):
+        rows_of_crates = re.findall(r"^\| (\w+) \|.*\| ([^|]*) \|$", (TOP / "docs/PROOFS.md").read_text(), re.MULTILINE)
+        found = [(crate, name) for crate, cell in rows_of_crates if crate in crates()
+                 for name in re.findall(r"\w+", " ".join(re.findall(r"`([^`]+)`", cell)))]
+        strange = [crate + ": " + name for crate, name in found if name not in names_in(crate)]
+        self.assertEqual([], strange)
+        self.assertGreater(len(found), 40)
+
+    def test_the_file_names_public_calls(self):
         known = {crate: {call.name for call in public_calls.calls(crate)} for crate in crates()}
         strange = [crate + ": " + name for crate, names in named().items() for name in names - known.get(crate, set())]
         self.assertEqual([], strange)
 
-    def test_the_table_names_clauses_of_its_calls(self):
+    def test_the_file_names_clauses_of_its_calls(self):
         strange = []
         for crate, names, said in rows():
             known = {clause for call in public_calls.calls(crate) if call.name in names for _, clause in call.clauses}

@@ -59,9 +59,9 @@ class Check(unittest.TestCase):
         self.assertEqual(self.result(*lines), (True, "page: %d passed, 0 failed\n" % count))
 
     def assert_wrong(self, said, *lines):
-        right, told = self.result(*lines)
+        right, output = self.result(*lines)
         self.assertFalse(right)
-        self.assertIn(said, told)
+        self.assertIn(said, output)
 
     def test_right_pages(self):
         self.assert_right(2, "    $ ./zovatsemo check x", "    one", "", "    two", "    $ echo $?", "    3")
@@ -108,7 +108,7 @@ class Check(unittest.TestCase):
         self.assert_wrong("line 1, printed: 1", "    $ false", "    $ echo $?", "    0")
 
     def test_a_command_that_ends_the_shell(self):
-        self.assert_wrong("page:2: true\n    it didn't come to its end", "    $ exit 0", "    $ true")
+        self.assert_wrong("page:2: true\n    it didn't end", "    $ exit 0", "    $ true")
 
     def test_a_page_out_of_form(self):
         self.assert_wrong("no `$ ` before it", "    ./zovatsemo check x")
@@ -121,7 +121,7 @@ class Check(unittest.TestCase):
         self.assert_wrong("change examples/office/script", "    $ echo drain >> examples/office/script")
         self.assert_right(1, "    $ touch examples/office/script")
 
-    def test_nothing_is_left_behind(self):
+    def test_nothing_is_left(self):
         script = self.checkout / "examples/office/script"
         before = script.read_bytes()
         self.result("    $ echo drain > examples/office/script")
@@ -135,7 +135,7 @@ class Check(unittest.TestCase):
             self.assertEqual(self.result("    $ " + text), (True, "page: 0 passed, 0 failed, 1 not run\n"))
             self.assert_wrong("isn't run", "    $ " + text, "    one")
 
-    def test_each_command_that_is_not_run_stands_on_a_page(self):
+    def test_each_command_that_is_not_run_is_on_a_page(self):
         found = {command.text for form in check.PAGES for path in pages.TOP.glob(form)
                  for commands in pages.sections(path.read_text()) for command in commands}
         self.assertEqual(set(pages.NOT_RUN) - found, set())

@@ -88,7 +88,7 @@ class Walks(unittest.TestCase):
         self.write("crates/low/specs/Other.antt", "abbrev pub half : ℕ\nhalf = third\n\nabbrev pub third : ℕ\n")
         self.assertEqual(3, self.walk().lines()["low/specs/Other.antt"])
 
-    def test_what_is_missing_is_told(self):
+    def test_missing_definitions_are_errors(self):
         for name in ("crates/low/specs/Handed.antt", "crates/low/specs/Deep.antt", "crates/top/src/kinds.rt"):
             with self.subTest(name):
                 self.write(name, "\n")
@@ -105,7 +105,7 @@ class Page(unittest.TestCase):
         done = statement("--check")
         self.assertEqual((0, ""), (done.returncode, done.stdout))
 
-    def test_a_table_that_is_not_current_is_refused(self):
+    def test_a_table_that_is_not_current_is_rejected(self):
         with tempfile.TemporaryDirectory() as folder:
             page = pathlib.Path(folder, "page.md")
             shutil.copy(TOP / "docs/DEFINITIONS.md", page)
