@@ -138,6 +138,9 @@ class Archive(unittest.TestCase):
         self.assertEqual(run(top / "zovatsemo", "--explain", "policy", 7), explained)
         self.assertEqual(run(top / "tools/look", top / "examples/office/report")[0], 0)
         self.assertEqual(run(top / "tools/compare", "--help")[0], 0)
+        prefix = self.folder / "installed"
+        self.assertEqual(run(top / "tools/install", prefix), (0, "", ""))
+        self.assertEqual((prefix / "bin/zovatsemo").read_bytes(), pathlib.Path(STAND_IN).read_bytes())
 
     def test_a_changed_file_is_refused(self):
         stray = self.clone / "stray"
