@@ -1,5 +1,5 @@
 -- How what is put on a line follows what stands before it.
-use Rattle.std.proofs.Common.{◌≡◌, ℕ, ◌+◌, ◌-◌, ◌≤◌, List, [], ◌∷◌, ◌++◌, length, take, drop, sym, ap, ◌∙◌, append_assoc, arith, length-append, take-append-drop}
+use Rattle.std.proofs.Common.{◌≡◌, ℕ, ◌+◌, ◌-◌, ◌≤◌, List, ◌++◌, length, take, drop, sym, ap, ◌∙◌, append_assoc, arith, length-append, take-append-drop}
 use Rattle.std.proofs.lemmas.List.{take-take, take_at, length-take-le}
 use Rattle.std.proofs.Math.Seq.{take-append-add}
 

@@ -1,4 +1,4 @@
-use Rattle.std.proofs.Common.{◌≡◌, ◌+◌, ◌-◌, ◌≤◌, length, arith}
+use Rattle.std.proofs.Common.{◌+◌, ◌-◌, length, arith}
 use Rattle.report_core.proofs.LineSteps.{put_both}
 use Rattle.report_core.proofs.forward.put_ends.Goals as goal
 

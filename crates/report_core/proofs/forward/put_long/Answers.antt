@@ -1,4 +1,4 @@
-use Rattle.std.proofs.Common.{◌≡◌, ◌+◌, ◌≤◌, length, decimal, arith}
+use Rattle.std.proofs.Common.{◌≡◌, ◌+◌, length, decimal, arith}
 use Rattle.report_core.proofs.DigitLaws.{count_of_digits}
 use Rattle.report_core.proofs.LineSteps.{put_between}
 use Rattle.report_core.proofs.forward.put_long.Goals as goal

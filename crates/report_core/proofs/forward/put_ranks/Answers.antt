@@ -1,4 +1,4 @@
-use Rattle.std.proofs.Common.{◌≤◌, ◌-◌, length, take, drop, arith}
+use Rattle.std.proofs.Common.{◌-◌, length, take, drop, arith}
 use Rattle.report_core.proofs.Ranks.{few_others, with_first, with_one_more, with_all}
 use Rattle.report_core.proofs.forward.put_ranks.Goals as goal
 
