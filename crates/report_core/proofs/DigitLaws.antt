@@ -1,8 +1,8 @@
--- The digits of a number apart from its last one, and the last one behind them.
-use Rattle.std.proofs.Common.{◌≡◌, ℕ, zero, suc, ◌+◌, ◌-◌, ◌*◌, ◌/◌, ◌%◌, ◌^◌, ◌<◌, ◌≤◌, List, [], ◌∷◌, ◌++◌, drop, decimal, sym, ap, ◌∙◌, append_assoc, arith}
+-- The digits of a number apart from its last one, and the last one after them.
+use Rattle.std.proofs.Common.{◌≡◌, ℕ, zero, suc, ◌+◌, ◌-◌, ◌*◌, ◌/◌, ◌%◌, ◌^◌, ◌<◌, ◌≤◌, List, [], ◌∷◌, ◌++◌, take, length, decimal, sym, ap, ◌∙◌, append_assoc, arith, length-append}
 use Rattle.std.proofs.lemmas.Fmt.{decimal_digit, decimal_step}
-use Rattle.std.proofs.lemmas.List.{drop-drop, drop-append-le}
 use Rattle.report_core.specs.Digits.{tens_text, AreTens}
+use Rattle.report_core.proofs.LineSteps.{part_put}
 
 -- the digits of the tens and then the last one are those of the number
 last_digit : (tens ones : ℕ) → ones < 10 → 10 * tens + ones < 2 ^ 64 → tens_text tens ++ (48 + ones) ∷ [] ≡ decimal (10 * tens + ones)
@@ -16,17 +16,24 @@ last_digit (suc tens) ones few fits =
     let step : decimal number ≡ decimal (number / 10) ++ ((48 + number % 10) ∷ []) = decimal_step number (omega arith) fits in
     sym (step ∙ ap (λ n. decimal n ++ ((48 + number % 10) ∷ [])) front ∙ ap (λ n. decimal (suc tens) ++ ((48 + n) ∷ [])) last)
 
--- where a line holds such bytes and the last digit behind them, it holds the number from the first digit on
-pub digits_in_line : (least start value at : ℕ) (bytes line rest : List ℕ) → AreTens least start bytes → least ≤ value → value < least + 10 → value < 2 ^ 64
-    → drop at line ≡ bytes ++ (48 + (value - least)) ∷ rest → drop (at + start) line ≡ decimal value ++ rest
-digits_in_line least start value at bytes line rest kept low high fits text =
+-- where a line holds such bytes, and then the last digit after the first ones of them, it holds the number
+pub digits_in_line : (least count value at room end : ℕ) (bytes first line old : List ℕ) → AreTens least count bytes → least ≤ value → value < least + 10 → value < 2 ^ 64
+    → at ≤ length old → room ≡ at + length bytes → take room first ≡ take at old ++ bytes
+    → take end line ≡ take (at + count) first ++ (48 + (value - least)) ∷ [] → take end line ≡ take at old ++ decimal value
+digits_in_line least count value at room end bytes first line old kept low high fits within whole put last =
     let ones : ℕ = value - least in
     let number : 10 * kept.tens + ones ≡ value = omega arith in
     let digits = last_digit kept.tens ones (omega arith) (omega arith) in
-    sym (drop-drop start at line)
-    ∙ ap (drop start) text
-    ∙ drop-append-le start bytes ((48 + ones) ∷ rest) kept.within
-    ∙ ap (λ s. s ++ (48 + ones) ∷ rest) kept.text
-    ∙ sym (append_assoc (tens_text kept.tens) ((48 + ones) ∷ []) rest)
-    ∙ ap (λ s. s ++ rest) digits
-    ∙ ap (λ n. decimal n ++ rest) number
+    last
+    ∙ ap (λ l. l ++ (48 + ones) ∷ []) (part_put at count room old bytes first within kept.within whole put ∙ ap (λ l. take at old ++ l) kept.text)
+    ∙ append_assoc (take at old) (tens_text kept.tens) ((48 + ones) ∷ [])
+    ∙ ap (λ l. take at old ++ l) (digits ∙ ap decimal number)
+
+-- how many digits a number has
+pub count_of_digits : (k n : ℕ) → 10 ^ k ≤ n → n < 10 * 10 ^ k → n < 2 ^ 64 → length (decimal n) ≡ k + 1
+count_of_digits zero n low high fits = ap length (decimal_digit n (omega arith))
+count_of_digits (suc k) n low high fits =
+    let some : 1 ≤ 10 ^ k = omega arith in
+    let step : decimal n ≡ decimal (n / 10) ++ ((48 + n % 10) ∷ []) = decimal_step n (omega arith) fits in
+    let less : length (decimal (n / 10)) ≡ k + 1 = count_of_digits k (n / 10) (omega arith) (omega arith) (omega arith) in
+    ap length step ∙ length-append (decimal (n / 10)) ((48 + n % 10) ∷ []) ∙ omega (arith, less)

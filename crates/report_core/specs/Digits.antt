@@ -1,15 +1,15 @@
 -- The digits of a number apart from its last one.
-use Rattle.std.specs.Prelude.{ℕ, zero, suc, List, [], ◌≡◌, ◌*◌, ◌<◌, ◌≤◌, length, drop, decimal}
+use Rattle.std.specs.Prelude.{ℕ, zero, suc, List, [], ◌≡◌, ◌*◌, ◌<◌, ◌≤◌, length, take, decimal}
 
 -- the digits of a number that stand before its last one: of 0 tens there are none
 abbrev pub tens_text : ℕ → List ℕ
 tens_text zero = []
 tens_text (suc tens) = decimal (suc tens)
 
--- the bytes from `start` on are the digits before the last one of the number `least`, whose last digit is 0
-pub record AreTens (least start : ℕ) (bytes : List ℕ) : Type 0 where
+-- the first `count` bytes are the digits before the last one of the number `least`, whose last digit is 0
+pub record AreTens (least count : ℕ) (bytes : List ℕ) : Type 0 where
   pub tens : ℕ
   pub small : least < 18446744073709551616
   pub round : least ≡ 10 * tens
-  pub within : start ≤ length bytes
-  pub text : drop start bytes ≡ tens_text tens
+  pub within : count ≤ length bytes
+  pub text : take count bytes ≡ tens_text tens

@@ -1,5 +1,5 @@
 -- What contracts see of a report.
-use Rattle.std.specs.Prelude.{ℕ, Bool, Option, List}
+use Rattle.std.specs.Prelude.{ℕ, ◌≡◌, ◌+◌, ◌≤◌, Bool, Option, List, length}
 use Rattle.outside_core.specs.Written.{Appended}
 use Rattle.report_defs.specs.Text.{appended, IsCut}
 
@@ -23,3 +23,11 @@ CutsOff written sink report sink' bytes = IsCut (text_of (written sink) report) 
 -- how many bytes it holds at most between two calls
 abbrev pub limit : ℕ
 limit = 65536
+
+-- room for the longest line
+abbrev pub line_room : ℕ
+line_room = 2048
+
+-- so many of the bytes are held, and after them there is room for a line
+abbrev pub HasRoom : ℕ → List ℕ → Type 0
+HasRoom held bytes = (held ≤ limit) × (length bytes ≡ limit + line_room)

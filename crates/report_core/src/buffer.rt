@@ -1,35 +1,25 @@
 //! The bytes of a report that wait for the sink.
-ghost use Rattle.std.specs.Prelude.{◌≡◌, ◌+◌, ◌≤◌, [], ◌++◌, length, IfOk, OnOk, OnErr};
+ghost use Rattle.std.specs.Prelude.{◌≡◌, ◌+◌, ◌≤◌, ℕ, List, [], ◌++◌, length, take, IfOk, OnOk, OnErr};
 ghost use Rattle.outside_core.specs.Faults.{Rose};
 ghost use Rattle.outside_core.specs.Written.{Appended};
 ghost use Rattle.outside_core.specs.Kept.{KeepsSink};
 ghost use Rattle.report_defs.specs.Text.{appended, IsCut};
-ghost use Rattle.report_core.specs.Gathered.{limit};
+ghost use Rattle.report_core.specs.Gathered.{limit, line_room, HasRoom};
 
 use crate::fault::WriteFault;
+use crate::forward::put_bytes;
+use crate::line::LINE;
 use outside_core::{Sink, write_all};
 use std::alloc::{AllocError, Global};
-use std::marker::Model;
 
 /// How many bytes are held between two calls.
 pub const LIMIT: usize = 65_536;
 
-/// Bytes that wait for the sink. Its memory is taken at once.
+/// Bytes that wait for the sink, and after them room for a line. Its memory is taken at once.
 #[derive(Drop)]
 pub struct Buffer {
-    bytes: Vec<u8>,
-    held: usize,
-}
-
-impl Model for Buffer {
-    ghost use Rattle.std.specs.Prelude.{ℕ, List, ◌≡◌, ◌≤◌, length, take};
-    ghost use Rattle.report_core.specs.Gathered.{limit};
-
-    ghost Value = { List ℕ };
-
-    ghost view = { λ b. take b.held b.bytes.items };
-
-    ghost invariant = { λ b. (b.held ≤ limit) × (length b.bytes.items ≡ limit) };
+    pub bytes: Vec<u8>,
+    pub held: usize,
 }
 
 /// Writes all the bytes.
@@ -46,52 +36,67 @@ pub fn send<K: Sink>(sink: &mut K, bytes: &[u8]) -> Result<(), WriteFault>
 
 impl Buffer {
     pub fn new(alloc: Global) -> Result<Buffer, AllocError>
-        ensures { IfOk result (λ b. b ≡ []) }
+        ensures empty { IfOk result (λ b. b.held ≡ 0) }
+        ensures room { IfOk result (λ b. HasRoom b.held b.bytes.items) }
     {
         Ok(Buffer {
-            bytes: vec![in alloc; 0; LIMIT]?,
+            bytes: vec![in alloc; 0; LIMIT + LINE]?,
             held: 0,
         })
     }
 
-    #[inline(always)]
-    pub fn put_bytes(&mut self, bytes: &[u8])
-        requires room { length self.old + length bytes.now ≤ limit }
-        ensures { self.new ≡ self.old ++ bytes.now }
-    {
-        let end = self.held + bytes.len();
-        self.bytes[self.held..end].copy_from_slice(bytes);
-        self.held = end;
-    }
-
     /// Writes all that is held.
+    #[inline(never)]
     pub fn flush<K: Sink>(&mut self, sink: &mut K) -> Result<(), WriteFault>
-        ensures ok { OnOk result (Appended (appended (K.written sink.old) self.old)
-            (appended (K.written sink.new) self.new) []) }
-        ensures cut { OnErr result (IsCut (appended (K.written sink.old) self.old) []
-            (K.written sink.new)) }
+        requires within { self.old.held ≤ length self.old.bytes.items }
+        ensures ok { OnOk result (Appended (appended (K.written sink.old)
+            (take self.old.held self.old.bytes.items)) (K.written sink.new) []) }
+        ensures cut { OnErr result (IsCut (appended (K.written sink.old)
+            (take self.old.held self.old.bytes.items)) [] (K.written sink.new)) }
         ensures kept { KeepsSink K.written K.faults sink.old sink.new }
         ensures cause { OnErr result (Rose (K.faults sink.old) (K.faults sink.new)) }
-        ensures empty { self.new ≡ [] }
+        ensures empty { self.new.held ≡ 0 }
+        ensures bytes { self.new.bytes ≡ self.old.bytes }
     {
         let sent = send(sink, &self.bytes[..self.held]);
         self.held = 0;
         sent
     }
 
+    /// Takes a line that was put after what is held, up to its end, and writes all that is held where that is too much.
+    #[inline(always)]
+    pub fn close<K: Sink>(&mut self, sink: &mut K, end: usize) -> Result<(), WriteFault>
+        requires within { end ≤ length self.old.bytes.items }
+        requires room { length self.old.bytes.items ≡ limit + line_room }
+        ensures ok { (before line : List ℕ) → take end self.old.bytes.items ≡ before ++ line →
+            OnOk result (Appended (appended (K.written sink.old) before) (appended (K.written sink.new) (take self.new.held self.new.bytes.items)) line) }
+        ensures cut { (before line : List ℕ) → take end self.old.bytes.items ≡ before ++ line →
+            OnErr result (IsCut (appended (K.written sink.old) before) line (K.written sink.new)) }
+        ensures kept { KeepsSink K.written K.faults sink.old sink.new }
+        ensures cause { OnErr result (Rose (K.faults sink.old) (K.faults sink.new)) }
+        ensures room { HasRoom self.new.held self.new.bytes.items }
+    {
+        self.held = end;
+        if end <= LIMIT {
+            return Ok(());
+        }
+        self.flush(sink)
+    }
+
     /// Takes bytes of any number, and writes through what doesn't fit.
     #[inline(always)]
     pub fn put_or_send<K: Sink>(&mut self, sink: &mut K, bytes: &[u8]) -> Result<(), WriteFault>
-        ensures ok { OnOk result (Appended (appended (K.written sink.old) self.old)
-            (appended (K.written sink.new) self.new) bytes.now) }
-        ensures cut { OnErr result (IsCut (appended (K.written sink.old) self.old) bytes.now
-            (K.written sink.new)) }
+        requires room { HasRoom self.old.held self.old.bytes.items }
+        ensures ok { OnOk result (Appended (appended (K.written sink.old)
+            (take self.old.held self.old.bytes.items)) (appended (K.written sink.new) (take self.new.held self.new.bytes.items)) bytes.now) }
+        ensures cut { OnErr result (IsCut (appended (K.written sink.old)
+            (take self.old.held self.old.bytes.items)) bytes.now (K.written sink.new)) }
         ensures kept { KeepsSink K.written K.faults sink.old sink.new }
         ensures cause { OnErr result (Rose (K.faults sink.old) (K.faults sink.new)) }
-        ensures bounded { length self.new ≤ limit }
+        ensures room { HasRoom self.new.held self.new.bytes.items }
     {
         if bytes.len() <= LIMIT - self.held {
-            self.put_bytes(bytes);
+            self.held = put_bytes(&mut self.bytes, self.held, bytes);
             return Ok(());
         }
         self.flush_and_put(sink, bytes)
@@ -100,19 +105,20 @@ impl Buffer {
     /// Takes bytes of any number once all that is held is written.
     #[cold]
     fn flush_and_put<K: Sink>(&mut self, sink: &mut K, bytes: &[u8]) -> Result<(), WriteFault>
-        ensures ok { OnOk result (Appended (appended (K.written sink.old) self.old)
-            (appended (K.written sink.new) self.new) bytes.now) }
-        ensures cut { OnErr result (IsCut (appended (K.written sink.old) self.old) bytes.now
-            (K.written sink.new)) }
+        requires room { HasRoom self.old.held self.old.bytes.items }
+        ensures ok { OnOk result (Appended (appended (K.written sink.old)
+            (take self.old.held self.old.bytes.items)) (appended (K.written sink.new) (take self.new.held self.new.bytes.items)) bytes.now) }
+        ensures cut { OnErr result (IsCut (appended (K.written sink.old)
+            (take self.old.held self.old.bytes.items)) bytes.now (K.written sink.new)) }
         ensures kept { KeepsSink K.written K.faults sink.old sink.new }
         ensures cause { OnErr result (Rose (K.faults sink.old) (K.faults sink.new)) }
-        ensures bounded { length self.new ≤ limit }
+        ensures room { HasRoom self.new.held self.new.bytes.items }
     {
         self.flush(sink)?;
         if bytes.len() > LIMIT {
             return send(sink, bytes);
         }
-        self.put_bytes(bytes);
+        self.held = put_bytes(&mut self.bytes, self.held, bytes);
         Ok(())
     }
 }

@@ -1,9 +1,9 @@
 //! The lines of a report, gathered in pieces and written to a sink.
 #![tactic(auto)]
 
-mod backward;
 mod buffer;
 mod fault;
+mod forward;
 mod line;
 mod report;
 mod tens;

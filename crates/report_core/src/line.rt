@@ -1,209 +1,237 @@
 //! The lines of a report as bytes.
-ghost use Rattle.std.specs.Prelude.{◌≡◌, ◌+◌, ◌≤◌, ◌∷◌, ◌++◌, length, drop, decimal, codes, MatchOption};
+ghost use Rattle.std.specs.Prelude.{◌≡◌, ◌+◌, ◌≤◌, ◌∷◌, [], ◌++◌, length, take, decimal, codes, MatchOption};
 ghost use Rattle.text_core.specs.Tokens.{most_name};
 ghost use Rattle.report_defs.specs.Report.{arrival_line, departure_line, drop_line, empty_line, end_line, fault_line, ranks_text};
 ghost use Rattle.report_core.specs.Faults.{word_of};
+ghost use Rattle.report_core.specs.Gathered.{line_room};
 
-use crate::backward::{byte_before, bytes_before, number_before, ranks_before, wide_before};
 use crate::fault::FaultKind;
+use crate::forward::{put_array, put_byte, put_bytes, put_name, put_number, put_ranks, put_wide};
 use crate::tens::Tens;
 
-/// Room for the longest line.
-const LINE: usize = 2_048;
+/// Room for the longest line, and for what changes after it.
+pub const LINE: usize = 2_048;
 
-/// Room in which a line is written, from its end to its beginning, and the digits of numbers of the lines before.
+/// The digits of numbers of the lines before.
 #[derive(Drop)]
 pub struct Line {
-    bytes: [u8; LINE],
     events: Tens,
     arrivals: Tens,
     departures: Tens,
 }
 
-/// A leaf and ranks, with a space before each, in front of what stands from `end` on.
-fn leaf_before(line: &mut [u8], end: usize, leaf: &str, ranks: &[u64]) -> usize
+/// A leaf and ranks, with a space before each.
+#[inline(always)]
+fn put_leaf(line: &mut [u8], at: usize, leaf: &str, ranks: &[u64]) -> usize
     requires leaf { length leaf.now ≤ most_name }
     requires few { length ranks.now ≤ 65 }
-    requires room { 1431 ≤ end }
-    requires within { end ≤ length line.old }
-    ensures text { drop result line.new ≡ 32 ∷ leaf.now ++ 32 ∷ ranks_text ranks.now ++ drop end
-        line.old }
-    ensures short { end ≤ result + 1431 }
-    ensures within { result ≤ length line.new }
+    requires room { at + 1431 ≤ length line.old }
+    ensures text { take result line.new ≡ take at line.old ++ 32 ∷ [] ++ leaf.now ++ 32 ∷ []
+        ++ ranks_text ranks.now }
+    ensures short { result ≤ at + 1431 }
+    ensures length { length line.new ≡ length line.old }
 {
-    let ranks_at = ranks_before(line, end, ranks);
-    let leaf_end = byte_before(line, ranks_at, b' ');
-    let leaf_at = bytes_before(line, leaf_end, leaf.as_bytes());
-    byte_before(line, leaf_at, b' ')
+    let leaf_at = put_byte(line, at, b' ');
+    let leaf_end = put_name(line, leaf_at, leaf.as_bytes());
+    let ranks_at = put_byte(line, leaf_end, b' ');
+    put_ranks(line, ranks_at, ranks)
 }
 
-/// The letter of an outcome and its event, with a space behind each.
+/// The letter of an outcome and its event, with a space after each.
 #[inline(always)]
-fn event_before(line: &mut [u8], end: usize, letter: u8, events: &mut Tens, event: u64) -> usize
-    requires room { 24 ≤ end }
-    requires within { end ≤ length line.old }
-    ensures text { drop result line.new ≡ letter ∷ 32 ∷ decimal event ++ 32 ∷ drop end line.old }
-    ensures within { result ≤ length line.new }
+fn put_event(line: &mut [u8], at: usize, letter: u8, events: &mut Tens, event: u64) -> usize
+    requires room { at + 24 ≤ length line.old }
+    ensures text { take result line.new ≡ take at line.old ++ letter ∷ [] ++ 32 ∷ []
+        ++ decimal event ++ 32 ∷ [] }
+    ensures short { result ≤ at + 24 }
+    ensures length { length line.new ≡ length line.old }
 {
-    let event_end = byte_before(line, end, b' ');
-    let event_at = events.number_before(line, event_end, event);
-    let letter_end = byte_before(line, event_at, b' ');
-    byte_before(line, letter_end, letter)
+    let space_at = put_byte(line, at, letter);
+    let event_at = put_byte(line, space_at, b' ');
+    let event_end = events.put(line, event_at, event);
+    put_byte(line, event_end, b' ')
 }
 
 /// The moment at which a departure starts, where one is shown.
-fn start_before(line: &mut [u8], end: usize, start: Option<u128>) -> usize
-    requires room { 40 ≤ end }
-    requires within { end ≤ length line.old }
-    ensures text { MatchOption start (drop result line.new ≡ drop end line.old)
-        (λ at. drop result line.new ≡ 32 ∷ decimal at ++ drop end line.old) }
-    ensures short { end ≤ result + 40 }
-    ensures within { result ≤ length line.new }
+#[inline(always)]
+fn put_start(line: &mut [u8], at: usize, start: Option<u128>) -> usize
+    requires room { at + 40 ≤ length line.old }
+    ensures text { MatchOption start (take result line.new ≡ take at line.old)
+        (λ moment. take result line.new ≡ take at line.old ++ 32 ∷ [] ++ decimal moment) }
+    ensures short { result ≤ at + 40 }
+    ensures length { length line.new ≡ length line.old }
 {
     let Some(start) = start else {
-        return end;
+        return at;
     };
-    let at = wide_before(line, end, start);
-    byte_before(line, at, b' ')
+    let start_at = put_byte(line, at, b' ');
+    put_wide(line, start_at, start)
 }
 
 /// A number of the last line, with its word before it.
-fn count_before(line: &mut [u8], end: usize, word: &[u8], count: u64) -> usize
+fn put_count(line: &mut [u8], at: usize, word: &[u8], count: u64) -> usize
     requires word { length word.now ≤ 9 }
-    requires room { 29 ≤ end }
-    requires within { end ≤ length line.old }
-    ensures text { drop result line.new ≡ word.now ++ decimal count ++ drop end line.old }
-    ensures short { end ≤ result + 29 }
-    ensures within { result ≤ length line.new }
+    requires room { at + 29 ≤ length line.old }
+    ensures text { take result line.new ≡ take at line.old ++ word.now ++ decimal count }
+    ensures short { result ≤ at + 29 }
+    ensures length { length line.new ≡ length line.old }
 {
-    let at = number_before(line, end, count);
-    bytes_before(line, at, word)
+    let word_end = put_bytes(line, at, word);
+    put_number(line, word_end, count)
 }
 
 /// The count of the packets that were dropped, where it is shown.
-fn dropped_before(line: &mut [u8], end: usize, dropped: Option<u64>) -> usize
-    requires room { 29 ≤ end }
-    requires within { end ≤ length line.old }
-    ensures text { MatchOption dropped (drop result line.new ≡ drop end line.old)
-        (λ count. drop result line.new ≡ codes " dropped " ++ decimal count ++ drop end line.old) }
-    ensures short { end ≤ result + 29 }
-    ensures within { result ≤ length line.new }
+fn put_dropped(line: &mut [u8], at: usize, dropped: Option<u64>) -> usize
+    requires room { at + 29 ≤ length line.old }
+    ensures text { MatchOption dropped (take result line.new ≡ take at line.old)
+        (λ count. take result line.new ≡ take at line.old ++ codes " dropped " ++ decimal count) }
+    ensures short { result ≤ at + 29 }
+    ensures length { length line.new ≡ length line.old }
 {
     let Some(dropped) = dropped else {
-        return end;
+        return at;
     };
-    count_before(line, end, b" dropped ", dropped)
+    put_count(line, at, b" dropped ", dropped)
 }
 
 impl Line {
     pub fn new() -> Line {
         Line {
-            bytes: [0; LINE],
             events: Tens::new(),
             arrivals: Tens::new(),
             departures: Tens::new(),
         }
     }
 
-    /// What stands from `at` on.
-    fn from(&self, at: usize) -> &[u8]
-        requires within { at ≤ length self.now.bytes }
-        ensures text { result.now ≡ drop at self.now.bytes }
-    {
-        &self.bytes[at..]
-    }
-
-    pub fn arrival(&mut self, event: u64, packet: u64, leaf: &str, ranks: &[u64]) -> &[u8]
+    /// Each puts a line at a place, and says where it ends.
+    #[inline(always)]
+    pub fn arrival(
+        &mut self,
+        line: &mut [u8],
+        at: usize,
+        event: u64,
+        packet: u64,
+        leaf: &str,
+        ranks: &[u64],
+    ) -> usize
         requires leaf { length leaf.now ≤ most_name }
         requires few { length ranks.now ≤ 65 }
-        ensures text { result.now ≡ arrival_line event packet leaf.now ranks.now }
+        requires room { at + line_room ≤ length line.old }
+        ensures text { take result line.new ≡ take at line.old ++ arrival_line event packet leaf.now
+            ranks.now }
+        ensures within { result ≤ length line.new }
+        ensures length { length line.new ≡ length line.old }
     {
-        let end = byte_before(&mut self.bytes, LINE, b'\n');
-        let leaf_at = leaf_before(&mut self.bytes, end, leaf, ranks);
-        let packet_at = self
-            .arrivals
-            .number_before(&mut self.bytes, leaf_at, packet);
-        let at = event_before(&mut self.bytes, packet_at, b'a', &mut self.events, event);
-        self.from(at)
+        let packet_at = put_event(line, at, b'a', &mut self.events, event);
+        let packet_end = self.arrivals.put(line, packet_at, packet);
+        let end = put_leaf(line, packet_end, leaf, ranks);
+        put_byte(line, end, b'\n')
     }
 
+    #[inline(always)]
     pub fn departure(
         &mut self,
+        line: &mut [u8],
+        at: usize,
         event: u64,
         packet: u64,
         leaf: &str,
         ranks: &[u64],
         start: Option<u128>,
-    ) -> &[u8]
+    ) -> usize
         requires leaf { length leaf.now ≤ most_name }
         requires few { length ranks.now ≤ 65 }
-        ensures text { result.now ≡ departure_line event packet leaf.now ranks.now start }
+        requires room { at + line_room ≤ length line.old }
+        ensures text { take result line.new ≡ take at line.old ++ departure_line event packet leaf.now
+            ranks.now start }
+        ensures within { result ≤ length line.new }
+        ensures length { length line.new ≡ length line.old }
     {
-        let end = byte_before(&mut self.bytes, LINE, b'\n');
-        let visit_end = start_before(&mut self.bytes, end, start);
-        let leaf_at = leaf_before(&mut self.bytes, visit_end, leaf, ranks);
-        let packet_at = self
-            .departures
-            .number_before(&mut self.bytes, leaf_at, packet);
-        let at = event_before(&mut self.bytes, packet_at, b'd', &mut self.events, event);
-        self.from(at)
+        let packet_at = put_event(line, at, b'd', &mut self.events, event);
+        let packet_end = self.departures.put(line, packet_at, packet);
+        let visit_end = put_leaf(line, packet_end, leaf, ranks);
+        let end = put_start(line, visit_end, start);
+        put_byte(line, end, b'\n')
     }
 
-    pub fn dropped(&mut self, event: u64, packet: u64, leaf: &str) -> &[u8]
+    pub fn dropped(
+        &mut self,
+        line: &mut [u8],
+        at: usize,
+        event: u64,
+        packet: u64,
+        leaf: &str,
+    ) -> usize
         requires leaf { length leaf.now ≤ most_name }
-        ensures text { result.now ≡ drop_line event packet leaf.now }
+        requires room { at + line_room ≤ length line.old }
+        ensures text { take result line.new ≡ take at line.old ++ drop_line event packet leaf.now }
+        ensures within { result ≤ length line.new }
+        ensures length { length line.new ≡ length line.old }
     {
-        let end = byte_before(&mut self.bytes, LINE, b'\n');
-        let leaf_at = bytes_before(&mut self.bytes, end, leaf.as_bytes());
-        let packet_end = byte_before(&mut self.bytes, leaf_at, b' ');
-        let packet_at = self
-            .arrivals
-            .number_before(&mut self.bytes, packet_end, packet);
-        let at = event_before(&mut self.bytes, packet_at, b'x', &mut self.events, event);
-        self.from(at)
+        let packet_at = put_event(line, at, b'x', &mut self.events, event);
+        let packet_end = self.arrivals.put(line, packet_at, packet);
+        let leaf_at = put_byte(line, packet_end, b' ');
+        let end = put_name(line, leaf_at, leaf.as_bytes());
+        put_byte(line, end, b'\n')
     }
 
-    pub fn empty(&mut self, event: u64) -> &[u8]
-        ensures text { result.now ≡ empty_line event }
+    pub fn empty(&mut self, line: &mut [u8], at: usize, event: u64) -> usize
+        requires room { at + line_room ≤ length line.old }
+        ensures text { take result line.new ≡ take at line.old ++ empty_line event }
+        ensures within { result ≤ length line.new }
+        ensures length { length line.new ≡ length line.old }
     {
-        let end = byte_before(&mut self.bytes, LINE, b'\n');
-        let event_at = self.events.number_before(&mut self.bytes, end, event);
-        let at = bytes_before(&mut self.bytes, event_at, b"e ");
-        self.from(at)
+        let event_at = put_array(line, at, *b"e ");
+        let end = self.events.put(line, event_at, event);
+        put_byte(line, end, b'\n')
     }
 
     pub fn end(
         &mut self,
+        line: &mut [u8],
+        at: usize,
         pushed: u64,
         popped: u64,
         empty: u64,
         held: u64,
         unsent: u64,
         dropped: Option<u64>,
-    ) -> &[u8]
-        ensures text { result.now ≡ end_line pushed popped empty held unsent dropped }
+    ) -> usize
+        requires room { at + line_room ≤ length line.old }
+        ensures text { take result line.new ≡ take at line.old ++ end_line pushed popped empty held
+            unsent dropped }
+        ensures within { result ≤ length line.new }
+        ensures length { length line.new ≡ length line.old }
     {
-        let end = byte_before(&mut self.bytes, LINE, b'\n');
-        let dropped_at = dropped_before(&mut self.bytes, end, dropped);
-        let unsent_at = count_before(&mut self.bytes, dropped_at, b" unsent ", unsent);
-        let held_at = count_before(&mut self.bytes, unsent_at, b" held ", held);
-        let empty_at = count_before(&mut self.bytes, held_at, b" empty ", empty);
-        let popped_at = count_before(&mut self.bytes, empty_at, b" popped ", popped);
-        let pushed_at = count_before(&mut self.bytes, popped_at, b" pushed ", pushed);
-        let at = bytes_before(&mut self.bytes, pushed_at, b"end");
-        self.from(at)
+        let word_end = put_bytes(line, at, b"end");
+        let pushed_end = put_count(line, word_end, b" pushed ", pushed);
+        let popped_end = put_count(line, pushed_end, b" popped ", popped);
+        let empty_end = put_count(line, popped_end, b" empty ", empty);
+        let held_end = put_count(line, empty_end, b" held ", held);
+        let unsent_end = put_count(line, held_end, b" unsent ", unsent);
+        let end = put_dropped(line, unsent_end, dropped);
+        put_byte(line, end, b'\n')
     }
 
-    pub fn fault(&mut self, kind: FaultKind, code: u32, place: u64) -> &[u8]
-        ensures text { result.now ≡ fault_line (word_of kind) code place }
+    pub fn fault(
+        &mut self,
+        line: &mut [u8],
+        at: usize,
+        kind: FaultKind,
+        code: u32,
+        place: u64,
+    ) -> usize
+        requires room { at + line_room ≤ length line.old }
+        ensures text { take result line.new ≡ take at line.old ++ fault_line (word_of kind) code place }
+        ensures within { result ≤ length line.new }
+        ensures length { length line.new ≡ length line.old }
     {
-        let end = byte_before(&mut self.bytes, LINE, b'\n');
-        let place_at = number_before(&mut self.bytes, end, place);
-        let code_end = byte_before(&mut self.bytes, place_at, b' ');
-        let code_at = number_before(&mut self.bytes, code_end, code as u64);
-        let word_end = byte_before(&mut self.bytes, code_at, b' ');
-        let word_at = bytes_before(&mut self.bytes, word_end, kind.word().as_bytes());
-        let at = bytes_before(&mut self.bytes, word_at, b"fault ");
-        self.from(at)
+        let kind_at = put_bytes(line, at, b"fault ");
+        let kind_end = put_bytes(line, kind_at, kind.word().as_bytes());
+        let code_at = put_byte(line, kind_end, b' ');
+        let code_end = put_number(line, code_at, code as u64);
+        let place_at = put_byte(line, code_end, b' ');
+        let end = put_number(line, place_at, place);
+        put_byte(line, end, b'\n')
     }
 }

@@ -15,8 +15,8 @@ use outside_core::Sink;
 use std::alloc::{AllocError, Global};
 use std::marker::Model;
 
-/// Lines for a sink. They gather in memory that is taken once, and go on to the sink when the next
-/// one doesn't fit and at `finish`. It is live until a write fails.
+/// Lines for a sink. They gather in memory that is taken once, and go on to the sink once they are more than it holds and at
+/// `finish`. It is live until a write fails.
 #[derive(Drop)]
 pub struct Report {
     buffer: Buffer,
@@ -25,14 +25,14 @@ pub struct Report {
 }
 
 impl Model for Report {
-    ghost use Rattle.std.specs.Prelude.{◌≤◌, length};
-    ghost use Rattle.report_core.specs.Gathered.{Gathered, limit};
+    ghost use Rattle.std.specs.Prelude.{take};
+    ghost use Rattle.report_core.specs.Gathered.{Gathered, HasRoom};
 
     ghost Value = { Gathered };
 
-    ghost view = { λ r. record { unwritten = r.buffer; live = r.live } };
+    ghost view = { λ r. record { unwritten = take r.buffer.held r.buffer.bytes.items; live = r.live } };
 
-    ghost invariant = { λ r. length r.buffer ≤ limit };
+    ghost invariant = { λ r. HasRoom r.buffer.held r.buffer.bytes.items };
 }
 
 impl Report {
@@ -87,8 +87,15 @@ impl Report {
         ensures live { self.new.live ≡ is_ok result }
         ensures bounded { length self.new.unwritten ≤ limit }
     {
-        let line = self.line.arrival(event, packet, leaf, ranks);
-        let sent = self.buffer.put_or_send(sink, line);
+        let end = self.line.arrival(
+            &mut self.buffer.bytes,
+            self.buffer.held,
+            event,
+            packet,
+            leaf,
+            ranks,
+        );
+        let sent = self.buffer.close(sink, end);
         self.noted(sent)
     }
 
@@ -116,8 +123,16 @@ impl Report {
         ensures live { self.new.live ≡ is_ok result }
         ensures bounded { length self.new.unwritten ≤ limit }
     {
-        let line = self.line.departure(event, packet, leaf, ranks, start);
-        let sent = self.buffer.put_or_send(sink, line);
+        let end = self.line.departure(
+            &mut self.buffer.bytes,
+            self.buffer.held,
+            event,
+            packet,
+            leaf,
+            ranks,
+            start,
+        );
+        let sent = self.buffer.close(sink, end);
         self.noted(sent)
     }
 
@@ -134,8 +149,10 @@ impl Report {
         ensures live { self.new.live ≡ is_ok result }
         ensures bounded { length self.new.unwritten ≤ limit }
     {
-        let line = self.line.empty(event);
-        let sent = self.buffer.put_or_send(sink, line);
+        let end = self
+            .line
+            .empty(&mut self.buffer.bytes, self.buffer.held, event);
+        let sent = self.buffer.close(sink, end);
         self.noted(sent)
     }
 
@@ -159,8 +176,14 @@ impl Report {
         ensures live { self.new.live ≡ is_ok result }
         ensures bounded { length self.new.unwritten ≤ limit }
     {
-        let line = self.line.dropped(event, packet, leaf);
-        let sent = self.buffer.put_or_send(sink, line);
+        let end = self.line.dropped(
+            &mut self.buffer.bytes,
+            self.buffer.held,
+            event,
+            packet,
+            leaf,
+        );
+        let sent = self.buffer.close(sink, end);
         self.noted(sent)
     }
 
@@ -187,8 +210,17 @@ impl Report {
         ensures live { self.new.live ≡ is_ok result }
         ensures bounded { length self.new.unwritten ≤ limit }
     {
-        let line = self.line.end(pushed, popped, empty, held, unsent, dropped);
-        let sent = self.buffer.put_or_send(sink, line);
+        let end = self.line.end(
+            &mut self.buffer.bytes,
+            self.buffer.held,
+            pushed,
+            popped,
+            empty,
+            held,
+            unsent,
+            dropped,
+        );
+        let sent = self.buffer.close(sink, end);
         self.noted(sent)
     }
 
@@ -211,8 +243,8 @@ impl Report {
         ensures live { self.new.live ≡ is_ok result }
         ensures bounded { length self.new.unwritten ≤ limit }
     {
-        let line = self.line.fault(kind, code, place);
-        let sent = self.buffer.put_or_send(sink, line);
+        let end = self.line.fault(&mut self.buffer.bytes, self.buffer.held, kind, code, place);
+        let sent = self.buffer.close(sink, end);
         self.noted(sent)
     }
 

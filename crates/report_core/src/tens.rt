@@ -1,8 +1,7 @@
 //! Numbers that follow one another in a report, as those of its events: the next one often differs in its last digit alone.
-ghost use Rattle.std.specs.Prelude.{◌≡◌, ◌+◌, ◌*◌, ◌/◌, ◌<◌, ◌≤◌, ◌++◌, length, drop, decimal};
+ghost use Rattle.std.specs.Prelude.{◌≡◌, ◌+◌, ◌*◌, ◌/◌, ◌<◌, ◌≤◌, ◌++◌, length, take, decimal};
 
-use crate::backward::{byte_before, bytes_before};
-use itoa::write_digits;
+use crate::forward::{put_array, put_byte, put_number};
 use std::marker::Model;
 
 /// Room for the digits of any number.
@@ -13,7 +12,7 @@ const DIGITS: usize = 20;
 pub struct Tens {
     /// The least number with these digits.
     least: u64,
-    start: usize,
+    count: usize,
     digits: [u8; DIGITS],
 }
 
@@ -25,30 +24,29 @@ impl Model for Tens {
 
     ghost view = { λ t. t.least };
 
-    ghost invariant = { λ t. AreTens t.least t.start t.digits };
+    ghost invariant = { λ t. AreTens t.least t.count t.digits };
 }
 
 impl Tens {
     pub fn new() -> Tens {
         Tens {
             least: 0,
-            start: DIGITS,
+            count: 0,
             digits: [0; DIGITS],
         }
     }
 
-    /// Puts the digits of a number in front of what stands from `end` on, and says where they start.
+    /// Puts the digits of a number at a place, and says where they end.
     #[inline(always)]
-    pub fn number_before(&mut self, line: &mut [u8], end: usize, value: u64) -> usize
-        requires room { 21 ≤ end }
-        requires within { end ≤ length line.old }
-        ensures text { drop result line.new ≡ decimal value ++ drop end line.old }
-        ensures short { end ≤ result + 21 }
-        ensures within { result ≤ length line.new }
+    pub fn put(&mut self, line: &mut [u8], at: usize, value: u64) -> usize
+        requires room { at + 21 ≤ length line.old }
+        ensures text { take result line.new ≡ take at line.old ++ decimal value }
+        ensures short { result ≤ at + 21 }
+        ensures length { length line.new ≡ length line.old }
     {
         self.turn_to(value);
-        let tens_end = byte_before(line, end, b'0' + (value - self.least) as u8);
-        bytes_before(line, tens_end, &self.digits) + self.start
+        put_array(line, at, self.digits);
+        put_byte(line, at + self.count, b'0' + (value - self.least) as u8)
     }
 
     /// Has the digits be those before the last one of this number.
@@ -68,10 +66,10 @@ impl Tens {
     {
         let tens = value / 10;
         self.least = 10 * tens;
-        self.start = if tens == 0 {
-            DIGITS
+        self.count = if tens == 0 {
+            0
         } else {
-            write_digits(tens, &mut self.digits, DIGITS)
+            put_number(&mut self.digits, 0, tens)
         };
     }
 }

@@ -1,0 +1,13 @@
+use Rattle.std.proofs.Common.{[], ◌∷◌, ◌++◌, take, decimal, ap, ◌∙◌}
+use Rattle.report_defs.specs.Report.{ranks_text}
+use Rattle.report_core.proofs.LineTexts.{five_words}
+use Rattle.report_core.proofs.line.Line.arrival.Goals as goal
+
+pub returns-clause-text : goal.returns-clause-text
+returns-clause-text c =
+    let ranks = ranks_text c.args.ranks.now in
+    c.put_byte.ensures.text
+    ∙ ap (λ s. s ++ 10 ∷ []) (c.put_leaf-end.ensures.text
+    ∙ ap (λ s. s ++ 32 ∷ [] ++ c.args.leaf.now ++ 32 ∷ [] ++ ranks) (c.put-packet_end.ensures.text
+    ∙ ap (λ s. s ++ decimal c.args.packet) c.put_event-packet_at.ensures.text))
+    ∙ five_words (take c.args.at c.args.line.now) (decimal c.args.event) (decimal c.args.packet) c.args.leaf.now ranks 97
