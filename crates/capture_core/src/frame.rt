@@ -4,7 +4,7 @@
 pub struct Frame {
     /// The record's place in the capture, counted from 1.
     pub number: u64,
-    /// The moment of capture, in nanoseconds.
+    /// The timestamp of capture, in nanoseconds.
     pub moment: u64,
     /// How many bytes of the packet were captured.
     pub captured: u32,
@@ -15,7 +15,7 @@ pub struct Frame {
 /// A packet with its own link type, without its captured bytes.
 #[derive(Clone, Copy, PartialEq, Eq, Debug)]
 pub struct LinkedFrame {
-    /// Its number among the packets, its moment and its lengths.
+    /// Its number among the packets, its timestamp and its lengths.
     pub frame: Frame,
     /// Its link type.
     pub link: u16,

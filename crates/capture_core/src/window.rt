@@ -168,7 +168,7 @@ impl Window {
         Ok(())
     }
 
-    /// Moves bytes from the front of what is left behind those in `into`, until there are `most`, or all where there are
+    /// Moves bytes from the front of what is left after those in `into`, until there are `most`, or all where there are
     /// fewer.
     pub fn take<S: Shelf>(
         &mut self,
@@ -242,7 +242,7 @@ impl Window {
         Ok(())
     }
 
-    /// Passes over held bytes, at most so many, and answers how many these were.
+    /// Passes over held bytes, at most this many, and answers how many these were.
     pub fn advance(&mut self, most: usize) -> usize
         ensures count { result ≡ min (length (held self.old)) most }
         ensures passed { held self.new ≡ drop result (held self.old) }
@@ -270,7 +270,7 @@ impl Window {
         Ok(self.advance(most))
     }
 
-    /// Passes over so many bytes at the front of what is left, or all where there are fewer, and answers how many.
+    /// Passes over this many bytes at the front of what is left, or all where there are fewer, and answers how many.
     pub fn pass<S: Shelf>(&mut self, shelf: &mut S, count: usize) -> Result<usize, ShelfError>
         requires begun { IsTrue (S.begun shelf.old) }
         ensures passed { IfOk result (λ n. Passes n (rest_of (held self.old) (S.left shelf.old))

@@ -7,7 +7,7 @@ use std::alloc::{AllocError, AllocFailed};
 /// Why a text isn't a script. Lines are counted from 1.
 #[derive(Debug, Drop)]
 pub enum ScriptFault {
-    /// This line is in no form.
+    /// This line is malformed.
     Line(u32),
     /// With this line the counts are more than `MOST_COUNT` in all.
     TooMany(u32),
@@ -17,7 +17,7 @@ pub enum ScriptFault {
 }
 
 impl ScriptFault {
-    /// The number of the fault in a report; 0 for want of memory.
+    /// The number of the fault in a report; 0 for out of memory.
     pub fn code(&self) -> u32
         ensures { result ≡ code_of self.now }
     {

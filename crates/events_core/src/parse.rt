@@ -20,7 +20,7 @@ pub const MOST_BYTES: usize = 1_048_576;
 /// The most arrivals and departures that the lines of a script count in all.
 pub const MOST_COUNT: u64 = 4_194_304;
 
-/// The step of a line, if it has one, behind lines that count so much.
+/// The step of a line, if it has one, after lines whose counts have this sum.
 fn next_step(
     alloc: Global,
     statement: &[u8],
@@ -68,7 +68,7 @@ fn read_lines(alloc: Global, text: &[u8]) -> Result<Script, ScriptFault>
     Ok(Script::of(steps))
 }
 
-/// The script that a text is, or its fault: the text is too long, or else the least of its lines that is at fault.
+/// The script that a text is, or its fault: the text is too long, or else the lowest of its lines that is at fault.
 pub fn parse_events(alloc: Global, text: &[u8]) -> Result<Script, ScriptFault>
     ensures script { IfOk result (IsScript text.now) }
     ensures too_long { (result ≡ Err TooLong) ↔ (most_bytes < length text.now) }

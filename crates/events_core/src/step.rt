@@ -5,9 +5,9 @@ ghost use Rattle.events_core.specs.Steps.{count_of, word_step, counted_step};
 /// What a line of a script asks for.
 #[derive(Clone, Copy, Debug, PartialEq, Eq)]
 pub enum Step {
-    /// So many arrivals, each of the next packet.
+    /// This many arrivals, each of the next packet.
     Arrive(u64),
-    /// So many departures.
+    /// This many departures.
     Depart(u64),
     /// Arrivals as long as a packet is left.
     Rest,

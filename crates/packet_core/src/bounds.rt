@@ -1,7 +1,7 @@
 //! What a condition asks of a packet's number.
 ghost use Rattle.std.specs.Prelude.{◌<◌};
 
-/// The number at a place is from a least to a greatest.
+/// The number at a place is from a minimum to a maximum.
 #[derive(Clone, Copy)]
 pub(crate) struct Bounds {
     pub(crate) place: usize,

@@ -4,7 +4,7 @@ ghost use Rattle.packet_defs.specs.Bytes.{is_captured, number_at};
 
 use byteorder::{BigEndian, ByteOrder};
 
-/// Whether so many bytes are captured from a place on.
+/// Whether this many bytes are captured from a place on.
 pub fn is_captured(bytes: &[u8], len: usize, at: usize) -> bool
     requires { at + len < 2 ^ 64 }
     ensures { result ≡ is_captured len at bytes.now }

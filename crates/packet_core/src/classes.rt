@@ -28,7 +28,7 @@ pub(crate) fn has_version(version: u8, fields: &Fields) -> bool
     fields.version == Some(version)
 }
 
-/// Whether an address agrees with an IPv4 address in so many leading bits of 32.
+/// Whether an address agrees with an IPv4 address in this many leading bits of 32.
 fn agree(bits: u32, address: u32, other: u128) -> bool
     ensures { result ≡ agree bits address other }
 {

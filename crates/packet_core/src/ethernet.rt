@@ -6,7 +6,7 @@ use crate::bytes::{is_captured, read_u16};
 use crate::internet::{no_fields, read_ipv4, read_ipv6};
 use packet_defs::Fields;
 
-/// The place behind the two addresses.
+/// The place after the two addresses.
 pub const TYPE_PLACE: usize = 12;
 
 /// The bytes of a VLAN tag.
@@ -21,7 +21,7 @@ pub const IPV4: u16 = 0x0800;
 
 pub const IPV6: u16 = 0x86DD;
 
-/// The VLAN id of the tag at a place, where it and the type behind it are captured.
+/// The VLAN id of the tag at a place, where it and the type after it are captured.
 pub fn tag(bytes: &[u8], at: usize) -> Option<u16>
     requires { at < 2 ^ 32 }
     ensures { result ≡ tag_at at bytes.now }
@@ -35,7 +35,7 @@ pub fn tag(bytes: &[u8], at: usize) -> Option<u16>
     }
 }
 
-/// The place of the type, behind at most two tags, where it is known whether there is one.
+/// The place of the type, after at most two tags, where it is known whether there is one.
 pub fn type_place(tagged: bool, bytes: &[u8]) -> usize
     requires { tagged ≡ is_some (tag_at 12 bytes.now) }
     ensures value { result ≡ type_place bytes.now }
@@ -63,7 +63,7 @@ pub fn type_at(bytes: &[u8], place: usize) -> Option<u16>
     }
 }
 
-/// The fields of what a frame carries behind its type.
+/// The fields of what a frame carries after its type.
 fn read_carried(bytes: &[u8]) -> Fields
     ensures { result ≡ carried_fields (ether_type bytes.now) (type_place bytes.now + 2) bytes.now }
 {

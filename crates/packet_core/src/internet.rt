@@ -1,4 +1,4 @@
-//! The headers of the Internet Protocol, and the ports behind them.
+//! The headers of the Internet Protocol, and the ports after them.
 ghost use Rattle.std.specs.Prelude.{◌≡◌, ◌≤◌, ◌<◌, ◌+◌, ◌*◌, ◌^◌, length, IsTrue};
 ghost use Rattle.packet_defs.specs.Bytes.{number_at};
 ghost use Rattle.packet_defs.specs.Internet.{no_fields, version_at, has_ports, port_at, is_ipv4, behind_ipv4, is_first_fragment, has_ipv4_ports, ipv4_fields, ipv4_at, is_ipv6, traffic_class, has_ipv6_ports, ipv6_fields, ipv6_at};
@@ -68,7 +68,7 @@ pub fn is_ipv6(bytes: &[u8], at: usize) -> bool
     is_captured(bytes, IPV6_LEN, at) && read_u8(bytes, at) >> 4 == 6
 }
 
-/// The place behind an IPv4 header.
+/// The place after an IPv4 header.
 fn behind_ipv4(bytes: &[u8], at: usize) -> usize
     requires { at + 1 ≤ length bytes.now }
     ensures value { result ≡ behind_ipv4 at bytes.now }

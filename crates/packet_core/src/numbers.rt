@@ -10,7 +10,7 @@ use policy_text_defs::FieldName;
 /// How many there are.
 pub(crate) const COUNT: usize = 9;
 
-/// What stands for a number that is absent, above all that a condition allows.
+/// Stands for a number that is absent, above all that a condition allows.
 const ABSENT: u64 = u64::MAX;
 
 pub(crate) const VERSION: usize = 6;

@@ -18,7 +18,7 @@ pub(crate) struct Prepared {
     pub(crate) others: Vec<Bounds>,
 }
 
-/// The address at a place agrees with an IPv4 address in so many leading bits of 32.
+/// The address at a place agrees with an IPv4 address in this many leading bits of 32.
 fn prefix(place: usize, address: u32, bits: u32) -> Bounds
     requires { place < 9 }
     ensures place { result.place ≡ place }
@@ -35,7 +35,7 @@ fn prefix(place: usize, address: u32, bits: u32) -> Bounds
     }
 }
 
-/// The field is from a least number to a greatest.
+/// The field is from a minimum to a maximum.
 fn within(field: FieldName, low: u32, high: u32) -> Bounds
     ensures { (fields : Fields) (n : ℕ) → holds (numbers_of fields n) result ≡
         meets fields n (in_range (field_of field) low high) }

@@ -7,7 +7,7 @@ pub fn a_written_capture_is_read_back()
     ensures reading { AreReadBack }
 {}
 
-/// A moment in nanoseconds, written as seconds and nanoseconds, is the moment of the record that is read.
+/// A timestamp in nanoseconds, written as seconds and nanoseconds, is the timestamp of the record that is read.
 pub fn a_written_moment_is_read_back()
     ensures { MomentsAreKept }
 {}

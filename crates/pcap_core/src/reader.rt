@@ -40,7 +40,7 @@ fn read_head<S: Shelf>(
     head_in(&bytes)
 }
 
-/// Reads what the next record, behind so many, says of its captured bytes. They are looked at where they lie, if all are held.
+/// Reads what the next record, after this many, says of its captured bytes. They are looked at where they lie, if all are held.
 #[inline(always)]
 fn read_record_header<S: Shelf>(
     head: Head,
@@ -81,7 +81,7 @@ fn read_record_header<S: Shelf>(
     Ok(Some(preface_in(head, count, scratch)?))
 }
 
-/// Reads the next record, behind so many.
+/// Reads the next record, after this many.
 #[inline(always)]
 fn read_record<S: Shelf>(
     head: Head,
@@ -129,7 +129,7 @@ fn read_record<S: Shelf>(
     }))
 }
 
-/// Passes over the next record, behind so many, and answers whether there was one.
+/// Passes over the next record, after this many, and answers whether there was one.
 fn pass_record<S: Shelf>(
     head: Head,
     count: u32,

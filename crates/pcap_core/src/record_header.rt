@@ -23,7 +23,7 @@ pub struct RecordHeader {
     pub len: u32,
 }
 
-/// The moment in nanoseconds of a record that begins so.
+/// The timestamp in nanoseconds of a record that begins so.
 #[inline(always)]
 fn moment(head: Head, bytes: &[u8]) -> u64
     requires { 16 ≤ length bytes.now }
@@ -36,7 +36,7 @@ fn moment(head: Head, bytes: &[u8]) -> u64
     seconds * 1_000_000_000 + if head.nano { fraction } else { fraction * 1000 }
 }
 
-/// What a record says that begins so, behind some records. These are its first bytes, up to the
+/// What a record says that begins so, after some records. These are its first bytes, up to the
 /// sixteenth.
 #[inline(always)]
 pub fn preface_in(head: Head, count: u32, bytes: &[u8]) -> Result<RecordHeader, CaptureFault>

@@ -32,7 +32,7 @@ fn header(link: u16) -> [u8; 24]
     bytes
 }
 
-/// What stands before the captured bytes of a record: its moment in seconds and nanoseconds, and two counts of bytes, the
+/// What is before the captured bytes of a record: its timestamp in seconds and nanoseconds, and two counts of bytes, the
 /// captured ones and the packet's original length.
 pub fn record_front(seconds: u32, nanos: u32, captured: u32, len: u32) -> [u8; 16]
     ensures { result ≡ record_front seconds nanos captured len }
@@ -57,7 +57,7 @@ pub fn put_head<K: Sink>(sink: &mut K, link: u16) -> Result<(), SinkError>
     write_all(sink, &header(link))
 }
 
-/// Writes a record: its moment in seconds and nanoseconds, the packet's original length and its captured bytes.
+/// Writes a record: its timestamp in seconds and nanoseconds, the packet's original length and its captured bytes.
 pub fn put_record<K: Sink>(
     sink: &mut K,
     seconds: u32,

@@ -33,7 +33,7 @@ pub struct Packet {
 #[derive(Clone, Copy)]
 pub enum Body {
     Section,
-    /// The link type and the snapshot length; the unit is told by the options.
+    /// The link type and the snapshot length; the options give the unit.
     Interface(u16, u32),
     Packet(Packet),
     Other,
@@ -45,7 +45,7 @@ impl Body {
     ghost use Rattle.std.specs.Prelude.{◌≡◌};
     ghost use Rattle.pcapng_core.specs.Bodies.{captured_in};
 
-    /// How many captured bytes stand behind the front.
+    /// How many captured bytes follow the front.
     pub fn captured(&self) -> usize
         ensures { result ≡ captured_in self.now }
     {
@@ -67,7 +67,7 @@ pub fn front_len(kind: Kind) -> usize
     }
 }
 
-/// The packet, where its captured bytes fit behind this place of a block of so many bytes.
+/// The packet, where its captured bytes fit after this place of a block of this many bytes.
 fn packet_within(packet: Packet, at: u32, total: u32, number: u64) -> Body
     requires place { at ≤ 28 }
     requires early { packet.moment ≤ max_rank }

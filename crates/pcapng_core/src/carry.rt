@@ -15,7 +15,7 @@ pub struct Carry {
     pub big: bool,
     /// The section's interfaces, in order.
     pub described: Vec<Interface>,
-    /// The moment of the packet before, and 0 without one.
+    /// The timestamp of the packet before, and 0 without one.
     pub moment: u64,
     /// How many blocks came.
     pub blocks: u32,

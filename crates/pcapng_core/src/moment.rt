@@ -1,4 +1,4 @@
-//! Moments in nanoseconds.
+//! Timestamps in nanoseconds.
 ghost use Rattle.std.specs.Prelude.{◌≡◌, ◌<◌, ◌^◌, min, SomeIff};
 ghost use Rattle.rank_defs.specs.Programs.{max_rank};
 ghost use Rattle.pcapng_defs.specs.Moment;
@@ -8,7 +8,7 @@ use rank_defs::MAX_RANK;
 
 const NANOSECONDS: u128 = 1_000_000_000;
 
-/// So many nanoseconds, and the greatest moment where that is less.
+/// This many nanoseconds, and the latest timestamp where that is less.
 fn capped(nanoseconds: u128) -> u64
     ensures { result ≡ min nanoseconds max_rank }
 {
@@ -25,7 +25,7 @@ fn units_in(unit: Unit) -> Option<u128>
     }
 }
 
-/// The moment of so many units, rounded down, and the greatest one where that is less.
+/// The timestamp of this many units, rounded down, and the latest one where that is less.
 pub fn moment_in(unit: Unit, time: u64) -> u64
     ensures { result ≡ Moment.moment_in unit time }
 {

@@ -18,16 +18,16 @@ const UNIT_CODE: u16 = 9;
 /// The bytes of an option before its value.
 const OPTION_LEN: usize = 4;
 
-/// What stands at the front of options.
+/// What is at the front of options.
 #[derive(Clone, Copy)]
 pub enum Front {
     Ends,
     Unit,
-    /// Another option, with so many bytes behind its first four.
+    /// Another option, with this many bytes after its first four.
     Other(usize),
 }
 
-/// What an option's first four bytes say, where so many bytes of options are behind them.
+/// What an option's first four bytes say, where this many bytes of options are after them.
 fn front_in(big: bool, bytes: &[u8], behind: usize) -> Front
     requires { length bytes.now ≡ 4 }
     ensures front { FrontOf big bytes.now behind result }
@@ -67,7 +67,7 @@ pub enum Step {
     Passes(usize),
 }
 
-/// Reads the option at the front of options of so many bytes.
+/// Reads the option at the front of options of this many bytes.
 fn read_option<S: Shelf>(
     window: &mut Window,
     shelf: &mut S,
@@ -109,7 +109,7 @@ fn read_option<S: Shelf>(
     }
 }
 
-/// Reads the unit that options of so many bytes give, and answers it and how many of them are left.
+/// Reads the unit that options of this many bytes give, and answers it and how many of them are left.
 pub fn read_unit<S: Shelf>(
     window: &mut Window,
     shelf: &mut S,

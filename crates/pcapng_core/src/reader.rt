@@ -102,7 +102,7 @@ fn read_front<S: Shelf>(
     Ok(body_in(carry, start, front))
 }
 
-/// Passes over so many bytes, which are options where they are to give a unit. Answers the unit, if all were there.
+/// Passes over this many bytes, which are options where they are to give a unit. Answers the unit, if all were there.
 fn pass_gap<S: Shelf>(
     window: &mut Window,
     shelf: &mut S,
@@ -143,7 +143,7 @@ fn pass_gap<S: Shelf>(
     }
 }
 
-/// Reads what is behind a block's front: captured bytes, others that are passed over, and the total length, which has to be
+/// Reads what is after a block's front: captured bytes, others that are passed over, and the total length, which has to be
 /// that at the front.
 fn read_behind<S: Shelf>(
     number: u64,

@@ -69,7 +69,7 @@ fn least_total(kind: Kind) -> u32
     }
 }
 
-/// Whether a block of this kind can have so many bytes.
+/// Whether a block of this kind can have this many bytes.
 fn fits(kind: Kind, total: u32) -> bool
     ensures { result ≡ fits_kind (kind_said kind) total }
 {

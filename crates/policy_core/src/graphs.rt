@@ -62,7 +62,7 @@ fn add_family(
     Ok(())
 }
 
-/// For each node and leaf, in the order of their lines, the numbers of its children. The error is want of memory.
+/// For each node and leaf, in the order of their lines, the numbers of its children. The error means out of memory.
 pub fn graph(
     alloc: Global,
     lines: &[(u32, Statement)],

@@ -27,7 +27,7 @@ fn put(leaves: &mut [u32], classes: &Names<'_>, listed: &[Name], leaf: u32)
     }
 }
 
-/// For each class, in the order of the statements, the number in preorder of the leaf that lists it. The error is want of memory.
+/// For each class, in the order of the statements, the number in preorder of the leaf that lists it. The error means out of memory.
 pub fn leaves(
     alloc: Global,
     lines: &[(u32, Statement)],

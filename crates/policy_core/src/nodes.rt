@@ -79,7 +79,7 @@ fn add_station(
     }
 }
 
-/// The stations of all nodes and leaves, in the order of their statements. The error is want of memory.
+/// The stations of all nodes and leaves, in the order of their statements. The error means out of memory.
 pub(crate) fn stations(
     alloc: Global,
     lines: &[(u32, Statement)],

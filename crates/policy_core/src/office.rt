@@ -1,4 +1,4 @@
-//! The policy of an office, whose statements stand in specs/Office.antt.
+//! The policy of an office, whose statements are in specs/Office.antt.
 ghost use Rattle.std.specs.Prelude.{◌≡◌, ◌∷◌, ◌++◌, [], None, map, IfOk, OnOk};
 ghost use Rattle.policy_text_defs.specs.Sense.{sense_of, class, leaf, node};
 ghost use Rattle.policy_text_defs.specs.Statements.{unset};
@@ -126,7 +126,7 @@ fn add_nodes(alloc: Global, all: &mut List<Statement>) -> Result<(), AllocError>
     add_node(alloc, all, "root", "strict", None, &["urgent", "normal"])
 }
 
-/// The statements of the office. The error is want of memory.
+/// The statements of the office. The error means out of memory.
 pub(crate) fn statements(alloc: Global) -> Result<List<Statement>, AllocError>
     ensures { IfOk result (λ all. map sense_of all ≡ office_statements) }
 {
@@ -138,7 +138,7 @@ pub(crate) fn statements(alloc: Global) -> Result<List<Statement>, AllocError>
     Ok(all)
 }
 
-/// The want of memory that is the one fault of statements which fail no clause.
+/// Out of memory, the one fault of statements that fail no clause.
 fn want(fault: PolicyFault) -> AllocError
     requires want { fault ≡ NoMemory }
 {
@@ -149,7 +149,7 @@ fn want(fault: PolicyFault) -> AllocError
 }
 
 impl Policy {
-    /// The policy of the office. The error is want of memory: its statements fail no clause.
+    /// The policy of the office. The error means out of memory: its statements fail no clause.
     pub fn office(alloc: Global) -> Result<Policy, AllocError>
         ensures accepted { OnOk result (AreAccepted office_lines) }
         ensures policy { IfOk result (IsResolved office_lines) }

@@ -2,7 +2,7 @@
 use list_core::{List, Name};
 use policy_text_defs::Condition;
 
-/// What steps are told of a node or a class: the priority, the weight, and the slack in nanoseconds.
+/// What steps know of a node or a class: the priority, the weight, and the slack in nanoseconds.
 #[derive(Clone, Copy, PartialEq, Eq, Debug)]
 pub struct Marks {
     pub prio: u32,

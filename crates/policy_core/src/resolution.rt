@@ -26,7 +26,7 @@ use range_core::Checked;
 use std::alloc::{AllocError, Global};
 use tree_graph::Preorder;
 
-/// Puts the parts of accepted statements together. The error is want of memory.
+/// Puts the parts of accepted statements together. The error means out of memory.
 fn assemble(
     alloc: Global,
     lines: &[(u32, Statement)],
@@ -118,7 +118,7 @@ fn accept(alloc: Global, lines: &[(u32, Statement)]) -> Result<Policy, PolicyFau
     accept_transactions(alloc, lines, &spaces, programs)
 }
 
-/// The policy that statements give, or the first clause that they fail, with its least line. Names may be used before the
+/// The policy that statements give, or the first clause that they fail, with its lowest line. Names may be used before the
 /// line that declares them. The work grows with the text: names are looked up in maps.
 pub fn resolve(alloc: Global, lines: &Lines) -> Result<Policy, PolicyFault>
     ensures accepts { OnOk result (AreAccepted (entries_of lines.now.held)) }

@@ -37,7 +37,7 @@ fn body(lines: &[(u32, Statement)]) -> &[(u32, Statement)]
     }
 }
 
-/// Adds the transaction that a statement begins, if it does, with these lines behind it.
+/// Adds the transaction that a statement begins, if it does, with these lines after it.
 fn add_begun(
     alloc: Global,
     transactions: &mut List<Transaction>,
@@ -55,7 +55,7 @@ fn add_begun(
     }
 }
 
-/// Adds the transactions that are written, in the order of their lines. The error is want of memory.
+/// Adds the transactions that are written, in the order of their lines. The error means out of memory.
 pub fn add_written(
     alloc: Global,
     transactions: &mut List<Transaction>,

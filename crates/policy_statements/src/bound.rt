@@ -30,7 +30,7 @@ impl<'a> Variables<'a> {
         }
     }
 
-    /// The variables that the lines of a body declare. The error is want of memory.
+    /// The variables that the lines of a body declare. The error means out of memory.
     pub fn declared(
         alloc: Global,
         body: &'a [(u32, Statement)],

@@ -24,8 +24,8 @@ fn fault(fault: RangeFault) -> PolicyFault
     }
 }
 
-/// The built-in transactions, and behind them those that are written, in the order of their lines. Refuses types that
-/// don't agree, then intervals that are too wide, then divisors that may be 0, each at its least line; or memory is wanting.
+/// The built-in transactions, and after them those that are written, in the order of their lines. Refuses types that
+/// don't agree, then intervals that are too wide, then divisors that may be 0, each at its lowest line; or memory runs out.
 pub fn checked_transactions(
     alloc: Global,
     lines: &[(u32, Statement)],

@@ -14,7 +14,7 @@ use rank_core::builtin;
 use rank_defs::Transaction;
 use std::alloc::{AllocError, Global};
 
-/// The built-in transactions. The error is want of memory.
+/// The built-in transactions. The error means out of memory.
 pub fn builtin_transactions(alloc: Global) -> Result<List<Transaction>, AllocError>
     ensures { IfOk result (λ ts. map program_of ts ≡ map (λ b. b.program) builtins) }
 {

@@ -7,7 +7,7 @@ ghost use Rattle.policy_statements.specs.Kept.{is_placed_behind};
 
 use policy_text_defs::Statement;
 
-/// Whether a statement may stand behind the last one, or first where there is none.
+/// Whether a statement may follow the last one, or first where there is none.
 fn is_placed(last: Option<&Statement>, statement: &Statement) -> bool
     ensures { result ≡ is_placed_behind (option_map (λ s. sense_of s.now) last.entry)
         (sense_of statement.now) }

@@ -9,7 +9,7 @@ use list_core::Name;
 use policy_text_defs::Statement;
 use std::alloc::{AllocError, Global};
 
-/// Counts the names of one list. The error is want of memory.
+/// Counts the names of one list. The error means out of memory.
 fn tally_names<'a>(tally: &mut Tally<'a>, names: &'a [Name]) -> Result<(), AllocError>
     ensures more { (all : List Bytes) → IsTallyOf tally.old all →
         OnOk result (IsTallyOf tally.new (all ++ names.entry.now)) }
@@ -20,7 +20,7 @@ fn tally_names<'a>(tally: &mut Tally<'a>, names: &'a [Name]) -> Result<(), Alloc
     Ok(())
 }
 
-/// How often nodes list each name as a child. The error is want of memory.
+/// How often nodes list each name as a child. The error means out of memory.
 pub fn tally_children<'a>(
     alloc: Global,
     lines: &'a [(u32, Statement)],
@@ -36,7 +36,7 @@ pub fn tally_children<'a>(
     Ok(tally)
 }
 
-/// How often leaves list each class. The error is want of memory.
+/// How often leaves list each class. The error means out of memory.
 pub fn tally_classes<'a>(
     alloc: Global,
     lines: &'a [(u32, Statement)],

@@ -23,7 +23,7 @@ impl<'a> Tally<'a> {
         }
     }
 
-    /// One more name came. The error is want of memory, and leaves what came before.
+    /// One more name came. The error means out of memory, and leaves what came before.
     pub fn add(&mut self, name: &'a str) -> Result<(), AllocError>
         ensures tally { (all : List Bytes) → IsTallyOf self.old all →
             OnOk result (IsTallyOf self.new (all ++ name.entry.now ∷ [])) }

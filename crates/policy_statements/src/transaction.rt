@@ -96,7 +96,7 @@ fn add(
     Ok(())
 }
 
-/// The transaction of a body. The error is want of memory.
+/// The transaction of a body. The error means out of memory.
 pub fn transaction(alloc: Global, body: &[(u32, Statement)]) -> Result<Transaction, AllocError>
     requires { IsSoundBody (entries_of body.now) }
     ensures { IfOk result (λ t. program_of t ≡ program_in (entries_of body.now)) }

@@ -26,7 +26,7 @@ use report_core::FaultKind;
 use std::alloc::Global;
 use tap_core::Tap;
 
-/// The words are in no form.
+/// The words are malformed.
 pub const NO_FORM: Refusal = Refusal { code: 0, place: 0 };
 
 /// Answers the words.
@@ -76,8 +76,8 @@ fn answer<S: Shelf, K: Sink, F: Fabric, T: Tap>(
     }
 }
 
-/// Does what the words say, and answers the status with which the program ends. The words are those behind the program's
-/// name: `replay` and the names of a policy, a target, a capture and a script, with pairs `tap NAME` behind them for the kinds
+/// Does what the words say, and answers the status with which the program ends. The words are those after the program's
+/// name: `replay` and the names of a policy, a target, a capture and a script, with pairs `tap NAME` after them for the kinds
 /// of taps that are to watch; `link` or `forward` and the names of a policy, a target and a capture with a rate in bytes per
 /// second; `direct` and the names of a policy, a capture and a script; `plan` and the names of a policy and a target; `check` and the
 /// name of a policy; `via` and the names of a policy, a topology, a map of the policy's tree into it, a target, a capture and a
@@ -85,7 +85,7 @@ fn answer<S: Shelf, K: Sink, F: Fabric, T: Tap>(
 /// 1,000,000.
 ///
 /// When the run of `replay` begins, taps whose kind isn't named are dropped. Each other is shown each departure and each drop
-/// until it is done, and their lines are written behind a report that ends whole, in the order of the list.
+/// until it is done, and their lines are written after a report that ends whole, in the order of the list.
 pub fn run<S: Shelf, K: Sink, F: Fabric>(
     alloc: Global,
     words: &[String],
@@ -98,8 +98,8 @@ pub fn run<S: Shelf, K: Sink, F: Fabric>(
     requires pushes { F.pushed fabric.old < 2 ^ 61 }
     requires pops { F.popped fabric.old < 2 ^ 61 }
 
-    // Where contents are told: the answer is written whole with its status, or a first part of it with
-    // 8, 9 or 10; the fabric is as it was, or holds what the run leaves, or a first part of it; and of
+    // Where contents are known: the answer is written whole with its status, or a prefix of it with
+    // 8, 9 or 10; the fabric is unchanged, or holds what the run leaves, or a prefix of it; and of
     // the taps those are left that a run leaves.
     ensures answer { WhereTold (S.content shelf.old) (file_words (form_in words.now)) (λ contents.
         Answers (form_in words.now) contents (entries kind_of state_of taps.old.items) result

@@ -1,4 +1,4 @@
-//! What is around the commands of a program: the words behind its name, real files, standard output, and taps.
+//! What is around the commands of a program: the words after its name, real files, standard output, and taps.
 use outside_core::{FileShelf, StdSink};
 use std::alloc::{AllocError, Global};
 use std::process::ExitCode;
@@ -26,7 +26,7 @@ pub trait Program {
     ) -> Result<u8, AllocError>;
 }
 
-/// The words behind the program's name.
+/// The words after the program's name.
 fn words_of(rt: &HostRuntime) -> io::Result<Vec<String>> {
     let mut words = Vec::new(rt.alloc());
     for word in env::args(rt)?.skip(1) {
@@ -48,7 +48,7 @@ fn answer_to<P: Program>(rt: &HostRuntime, words: &[String]) -> Result<u8, Alloc
     P::answer(alloc, words, &mut shelf, &mut sink, &mut taps)
 }
 
-/// Does what the words behind the program's name say.
+/// Does what the words after the program's name say.
 pub fn run_program<P: Program>(rt: HostRuntime) -> ExitCode {
     let words = match words_of(&rt) {
         Ok(words) => words,

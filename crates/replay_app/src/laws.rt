@@ -11,7 +11,7 @@ pub fn words_have_an_answer()
     ensures some { HaveAnAnswer }
 {}
 
-/// If some map lays the policy's tree into the target, `replay` reports exactly what `direct` reports.
+/// If some map embeds the policy's tree into the target, `replay` reports exactly what `direct` reports.
 pub fn replay_reports_what_direct_reports()
     ensures law { ReplayReportsWhatDirectReports }
 {}

@@ -25,7 +25,7 @@ pub struct Tried {
     pub fault: Option<MapFault>,
 }
 
-/// How the fault of a map is told. The error is want of memory.
+/// How the fault of a map is reported. The error means out of memory.
 fn told_of(fault: MapFault) -> Result<Refusal, AllocError>
     ensures memory { OnOk result (fault ≢ MapFault.NoMemory) }
     ensures told { IfOk result (λ r. r ≡ record { code = code_of fault; place = place_of fault }) }
@@ -64,7 +64,7 @@ fn first_broken(topo: &Topo, middle: &Topo, given: &Given) -> Option<MapFault>
     }
 }
 
-/// The map of a policy's tree that a text gives, tried, or why the text is refused. The error is want of memory.
+/// The map of a policy's tree that a text gives, tried, or why the text is refused. The error means out of memory.
 fn map_in(
     alloc: Global,
     policy: &Policy,

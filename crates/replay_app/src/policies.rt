@@ -20,7 +20,7 @@ pub struct Judged {
     pub policy: Policy,
 }
 
-/// How the fault of a text is told. The error is want of memory.
+/// How the fault of a text is reported. The error means out of memory.
 fn told_of(fault: TextFault) -> Result<Refusal, AllocError>
     ensures memory { OnOk result (fault ≢ TextFault.NoMemory) }
     ensures told { IfOk result (λ r. r ≡ record {
@@ -38,7 +38,7 @@ fn told_of(fault: TextFault) -> Result<Refusal, AllocError>
     }
 }
 
-/// What a policy text says, or why it is refused. The error is want of memory.
+/// What a policy text says, or why it is refused. The error means out of memory.
 fn lines_in(alloc: Global, text: &[u8]) -> Result<Read<Lines>, AllocError>
     ensures { IfOk result (IsTextRead text.now) }
 {
@@ -64,7 +64,7 @@ fn read_lines<S: Shelf>(alloc: Global, shelf: &mut S, name: &str) -> Result<Read
     }
 }
 
-/// The refusal for a clause that statements fail. The error is want of memory.
+/// The refusal for a clause that statements fail. The error means out of memory.
 fn refusal_of(fault: PolicyFault) -> Result<Refusal, AllocError>
     ensures memory { OnOk result (fault ≢ PolicyFault.NoMemory) }
     ensures told { IfOk result (λ r. r ≡ record { code = code_of fault; place = line_of fault }) }
@@ -78,7 +78,7 @@ fn refusal_of(fault: PolicyFault) -> Result<Refusal, AllocError>
     })
 }
 
-/// The policy that statements give, or why they are refused. The error is want of memory.
+/// The policy that statements give, or why they are refused. The error means out of memory.
 fn judge(alloc: Global, read: Read<Lines>) -> Result<Read<Judged>, AllocError>
     ensures { (text : List ℕ) → IsTextRead text read → IfOk result (IsPolicyRead text) }
 {

@@ -38,7 +38,7 @@ use sched_run::Pace;
 use std::alloc::Global;
 use tap_core::{Tap, Watching};
 
-/// Writes the lines of the taps that watched, behind the report of a run that ended whole.
+/// Writes the lines of the taps that watched, after the report of a run that ended whole.
 fn write_lines<K: Sink, T: Tap>(
     alloc: Global,
     sink: &mut K,
@@ -217,7 +217,7 @@ fn replay_paced<S: Shelf, K: Sink, F: Fabric, T: Tap>(
     }
 }
 
-/// Lays the tree of an accepted policy into an accepted target, and runs the other files.
+/// Embeds the tree of an accepted policy into an accepted target, and runs the other files.
 fn replay_placed<S: Shelf, K: Sink, F: Fabric, T: Tap>(
     alloc: Global,
     policy: &Policy,

@@ -13,7 +13,7 @@ use events_core::{MOST_BYTES, Script, ScriptFault, parse_events};
 use outside_core::{Shelf, Stop};
 use std::alloc::{AllocError, Global};
 
-/// How the fault of a script is told. The error is want of memory.
+/// How the fault of a script is reported. The error means out of memory.
 fn told_of(fault: ScriptFault) -> Result<Refusal, AllocError>
     ensures memory { OnOk result (fault ≢ ScriptFault.NoMemory) }
     ensures told { IfOk result (λ r. r ≡ record { code = code_of fault; place = place_of fault }) }
@@ -27,7 +27,7 @@ fn told_of(fault: ScriptFault) -> Result<Refusal, AllocError>
     }
 }
 
-/// What the text of a script says, or why it is refused. The error is want of memory.
+/// What the text of a script says, or why it is refused. The error means out of memory.
 fn script_in(alloc: Global, text: &[u8]) -> Result<Read<Script>, AllocError>
     ensures read { IfOk result (λ read. IsRead (IsScriptRefused text.now) (IsScript text.now)
         read) }

@@ -23,7 +23,7 @@ use sched_capture::{LoadCounts, LoadSize, Placement, soak};
 use std::alloc::{AllocError, Global};
 use text_core::put_decimal;
 
-/// Appends a word with its count, each behind a space. The error is want of memory.
+/// Appends a word with its count, each after a space. The error means out of memory.
 fn put_count(into: &mut Vec<u8>, word: &str, count: u64) -> Result<(), AllocError>
     ensures { OnOk result (into.new.items ≡ into.old.items ++ counted word.now count) }
 {
@@ -33,7 +33,7 @@ fn put_count(into: &mut Vec<u8>, word: &str, count: u64) -> Result<(), AllocErro
     put_decimal(into, count as u128)
 }
 
-/// Appends the line of a load. The error is want of memory.
+/// Appends the line of a load. The error means out of memory.
 fn put_line(into: &mut Vec<u8>, counts: LoadCounts) -> Result<(), AllocError>
     ensures { OnOk result (into.new.items ≡ into.old.items ++ soak_line counts) }
 {

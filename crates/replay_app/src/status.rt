@@ -11,7 +11,7 @@ use sched_defs::Ending;
 pub enum Status {
     /// What was asked for was written whole.
     Done,
-    /// The words are in no form.
+    /// The words are malformed.
     NoForm,
     /// The policy is refused.
     BadPolicy,

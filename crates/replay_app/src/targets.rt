@@ -17,7 +17,7 @@ use target_core::MOST_BYTES;
 /// The target has no room for the topology.
 pub const NO_ROOM: Refusal = Refusal { code: 1, place: 0 };
 
-/// How the fault of a target, which has no place is told. The error is want of memory.
+/// How the fault of a target, which has no place is reported. The error means out of memory.
 fn told_of(fault: TargetFault) -> Result<Refusal, AllocError>
     ensures memory { OnOk result (fault ≢ TargetFault.NoMemory) }
     ensures told { IfOk result (λ r. r ≡ record { code = code_of fault; place = 0 }) }
@@ -31,7 +31,7 @@ fn told_of(fault: TargetFault) -> Result<Refusal, AllocError>
     }
 }
 
-/// What the text of a target says, or why it is refused. The error is want of memory.
+/// What the text of a target says, or why it is refused. The error means out of memory.
 fn target_in(alloc: Global, text: &[u8]) -> Result<Read<Target>, AllocError>
     ensures read { IfOk result (λ read. IsRead (IsTargetRefused text.now) (IsTargetOf text.now)
         read) }

@@ -15,7 +15,7 @@ use outside_core::{Shelf, Stop};
 use std::alloc::{AllocError, Global};
 use tree_core::Topo;
 
-/// How the fault of a topology is told. The error is want of memory.
+/// How the fault of a topology is reported. The error means out of memory.
 fn told_of(fault: TreeFault) -> Result<Refusal, AllocError>
     ensures memory { OnOk result (fault ≢ TreeFault.NoMemory) }
     ensures told { IfOk result (λ r. r ≡ record { code = code_of fault; place = place_of fault }) }
@@ -29,7 +29,7 @@ fn told_of(fault: TreeFault) -> Result<Refusal, AllocError>
     }
 }
 
-/// The topology that a text gives, or why the text is refused. The error is want of memory.
+/// The topology that a text gives, or why the text is refused. The error means out of memory.
 fn topology_in(alloc: Global, text: &[u8]) -> Result<Read<Topo>, AllocError>
     ensures read { IfOk result (λ read. IsRead (IsTreeRefused text.now) (λ t.
         IsTreeText text.now (topology t)) read) }

@@ -48,7 +48,7 @@ struct Route<'a> {
     given: &'a Given,
 }
 
-/// Appends the line that names two nodes. The error is want of memory.
+/// Appends the line that names two nodes. The error means out of memory.
 fn put_pair(into: &mut Vec<u8>, first: &str, second: &str) -> Result<(), AllocError>
     ensures { OnOk result (into.new.items ≡ into.old.items ++ pair_line first.now second.now) }
 {
@@ -59,7 +59,7 @@ fn put_pair(into: &mut Vec<u8>, first: &str, second: &str) -> Result<(), AllocEr
     into.extend_from_slice(b"\n")
 }
 
-/// The line of the two nodes that break a map, where it is two that do, and else no text. The error is want of memory.
+/// The line of the two nodes that break a map, where it is two that do, and else no text. The error means out of memory.
 fn pair_text(alloc: Global, policy: &Policy, fault: MapFault) -> Result<Vec<u8>, AllocError>
     requires nodes { NamesNodes (nodes policy.now.policy.tree) fault }
     ensures { IfOk result (λ text. text.items ≡ pair_text (names_of policy.now.policy) fault) }
@@ -135,7 +135,7 @@ fn run_alone<S: Shelf, K: Sink, F: Fabric>(
     )
 }
 
-/// Lays the topology into an accepted target, and with it the policy's tree along the map, and runs the other files.
+/// Embeds the topology into an accepted target, and with it the policy's tree along the map, and runs the other files.
 fn via_placed<S: Shelf, K: Sink, F: Fabric>(
     alloc: Global,
     route: &Route<'_>,

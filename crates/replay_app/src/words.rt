@@ -92,7 +92,7 @@ fn number_within(most: u64, word: &str) -> Option<u64>
     decimal(word.as_bytes()).filter(|number| *number <= most)
 }
 
-/// The load that the words behind `soak` say: a seed, and how many events are drawn.
+/// The load that the words after `soak` say: a seed, and how many events are drawn.
 fn load_of(seed: &str, count: &str) -> Option<LoadSize>
     ensures load { result ≡ load_of seed.now count.now }
     ensures short { IfSome result (λ load. load.count ≤ most_load) }
@@ -131,7 +131,7 @@ fn named_in(named: Named, words: &[String]) -> Option<Named>
     }
 }
 
-/// The rate that a word says, behind which no other stands.
+/// The rate that a word says, after which no other stands.
 fn last_rate(rate: &str, more: &[String]) -> Option<u64>
     ensures value { result ≡ last_rate rate.now (texts more.now) }
     ensures range { IfSome result IsRate }
@@ -142,7 +142,7 @@ fn last_rate(rate: &str, more: &[String]) -> Option<u64>
     rate_of(rate)
 }
 
-/// What paces a run through the fabric, by the first word, the fifth, and those behind it.
+/// What paces a run through the fabric, by the first word, the fifth, and those after it.
 fn pacing_of<'a>(command: &str, fifth: &'a str, more: &[String]) -> Option<Pacing<'a>>
     ensures pacing { option_map pacing_form result ≡ pacing_by command.now fifth.now
         (texts more.now) }
@@ -156,7 +156,7 @@ fn pacing_of<'a>(command: &str, fifth: &'a str, more: &[String]) -> Option<Pacin
     }
 }
 
-/// A run along a given map, by the names of a policy, a topology, a map and a target, if two more stand behind them.
+/// A run along a given map, by the names of a policy, a topology, a map and a target, if two more follow them.
 fn via_by<'a>(
     policy: &'a str,
     topology: &'a str,

@@ -33,7 +33,7 @@ pub fn refuse<K: Sink>(
     Ok(Status::refused(kind))
 }
 
-/// Writes a text, and the line of a refusal behind it.
+/// Writes a text, and the line of a refusal after it.
 pub fn refuse_behind<K: Sink>(
     alloc: Global,
     text: &[u8],

@@ -87,7 +87,7 @@ pub fn begin<'a, S: Shelf, K: Sink>(
     }
 }
 
-/// A run without an event so far, through the policy's own tree of queues, and that tree. The error is want of memory.
+/// A run without an event so far, through the policy's own tree of queues, and that tree. The error means out of memory.
 fn direct_run<'a>(
     alloc: Global,
     policy: &'a Policy,

@@ -22,7 +22,7 @@ use sched_packets::CapturePackets;
 use sched_run::{Pace, Recorder, Run};
 use tap_core::{Tap, Watching};
 
-/// Runs the packets that come through any scheduler of this policy that stands for the start, and writes the report. Taps
+/// Runs the packets that come through any scheduler of this policy that represents the start, and writes the report. Taps
 /// watch it from the beginning on.
 pub fn run_over<C: Scheduler + Drop, S: Shelf, K: Sink, T: Tap>(
     policy: &Policy,

@@ -160,7 +160,7 @@ fn begin_one_link<'a, S: Shelf, K: Sink>(
     }
 }
 
-/// Runs a link over packets of one link type by any scheduler of this policy that stands for the start, and writes a record for
+/// Runs a link over packets of one link type by any scheduler of this policy that represents the start, and writes a record for
 /// each departure.
 fn forward_over<C: Scheduler + Drop, S: Shelf, K: Sink>(
     policy: &Policy,
@@ -328,7 +328,7 @@ fn forward_packets<S: Shelf, K: Sink, F: Fabric>(
 
 /// Runs a link over a capture, through a fabric into which the policy's tree is laid by a map, and writes the departures as a
 /// capture: the header when the capture's first record was read or it has none, and then a record for each departure, with the
-/// moment at which it starts. The rate is in bytes a second. The fabric takes the target's shape behind the header. The answer is
+/// time at which it starts. The rate is in bytes a second. The fabric takes the target's shape after the header. The answer is
 /// how the run ended. It is an error where the capture can't be read, the records can't be written, or there is no memory; what
 /// is written is then cut short.
 pub fn forward<S: Shelf, K: Sink, F: Fabric>(

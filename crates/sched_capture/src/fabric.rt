@@ -79,7 +79,7 @@ fn scheduler_through<'a, F: Fabric>(
 }
 
 /// A run without an event so far, through a fabric into which the policy's tree is laid, with this recorder. The fabric takes the
-/// target's shape. The error is want of memory.
+/// target's shape. The error means out of memory.
 pub(crate) fn run_through<'a, F: Fabric, W: Recorder>(
     alloc: Global,
     policy: &'a Policy,

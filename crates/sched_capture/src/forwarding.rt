@@ -20,10 +20,10 @@ use std::alloc::{AllocError, Global};
 /// The nanoseconds of a second.
 const SECOND: u128 = 1_000_000_000;
 
-/// The first moment in nanoseconds whose seconds need more than 32 bits.
+/// The first timestamp in nanoseconds whose seconds need more than 32 bits.
 const LATE: u128 = (1 << 32) * SECOND;
 
-/// Tells a record of a packet that starts at this moment.
+/// Writes a record of a packet that starts at this timestamp.
 fn put_sent<K: Sink>(
     gathered: &mut Report,
     sink: &mut K,
@@ -49,9 +49,9 @@ fn put_sent<K: Sink>(
     gathered.piece(sink, bytes)
 }
 
-/// Tells a record for each packet that leaves: the moment at which it starts on the link, its original length and its captured
+/// Writes a record for each packet that leaves: the time at which it starts on the link, its original length and its captured
 /// bytes, which are kept from its arrival on. A departure that starts at 2^32 seconds or later isn't told, and nothing more can
-/// be recorded behind it. Records gather in memory that is taken once, and go on to the sink when the next one doesn't fit and
+/// be recorded after it. Records gather in memory that is taken once, and go on to the sink when the next one doesn't fit and
 /// at `finish`.
 #[derive(Drop)]
 pub struct Forwarding {
@@ -70,7 +70,7 @@ impl Forwarding {
     ghost use Rattle.forward_defs.specs.Keeping.{with_bytes, without_bytes};
     ghost use Rattle.sched_capture.specs.Forwarding.{bytes_kept, HoldsNothing, IsLive};
 
-    /// One that keeps nothing. The error is want of memory.
+    /// One that keeps nothing. The error means out of memory.
     pub fn new(alloc: Global) -> Result<Forwarding, AllocError>
         ensures nothing { IfOk result HoldsNothing }
         ensures none_gathered { IfOk result (λ f. f.gathered.unwritten ≡ []) }
@@ -84,7 +84,7 @@ impl Forwarding {
         })
     }
 
-    /// Writes the records that are gathered. The sink then has all that were told.
+    /// Writes the records that are gathered. The sink then has all that were reported.
     pub fn finish<K: Sink>(&mut self, sink: &mut K) -> Result<(), WriteFault>
         requires live { IsLive self.old }
 

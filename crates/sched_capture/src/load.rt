@@ -41,7 +41,7 @@ pub struct LoadSize {
     pub count: u64,
 }
 
-/// Makes the events of a generated load by any scheduler of this policy that stands for the start, and then departures until no
+/// Makes the events of a generated load by any scheduler of this policy that represents the start, and then departures until no
 /// packet is held.
 fn count_load<C: Scheduler + Drop, K: Sink>(
     policy: &Policy,
@@ -81,7 +81,7 @@ fn count_load<C: Scheduler + Drop, K: Sink>(
 }
 
 /// Makes the events of a generated load through a fabric into which the policy's tree is laid by a map, and then departures
-/// until no packet is held. Nothing is written. The error is want of memory.
+/// until no packet is held. Nothing is written. The error means out of memory.
 pub fn soak<K: Sink, F: Fabric>(
     alloc: Global,
     policy: &Policy,

@@ -33,7 +33,7 @@ impl<'a> NodeStates<'a> {
     ghost use Rattle.sched_core.specs.Agreement.{policy_of, AreStates, HasFlowRoom, ForStates, StatesBecome};
     ghost use Rattle.sched_core.specs.Ways.{AreLowRanks};
 
-    /// All variables hold their first values. The error is want of memory.
+    /// All variables hold their first values. The error means out of memory.
     pub fn new(alloc: Global, policy: &'a Policy) -> Result<NodeStates<'a>, AllocError>
         ensures policy { IfOk result (λ s. policy_of s ≡ policy.now.policy) }
         ensures first { IfOk result (λ s. AreStates s (first_states policy.now.policy.tree)) }
@@ -51,7 +51,7 @@ impl<'a> NodeStates<'a> {
         self.policy
     }
 
-    /// Makes room for a packet's flow at the leaf of its class. The error is want of memory.
+    /// Makes room for a packet's flow at the leaf of its class. The error means out of memory.
     pub fn reserve(&mut self, packet: &Packet) -> Result<(), AllocError>
         requires class { packet.now.class < length (policy_of self.old).classes }
         ensures room { OnOk result (HasFlowRoom self.new packet.now) }
@@ -64,7 +64,7 @@ impl<'a> NodeStates<'a> {
     }
 
     /// Runs the push steps from the root to the leaf of a packet's class, and sets `trace` to the digits and the ranks. `moment`
-    /// is what the steps are told as `now`, in nanoseconds. Takes no memory.
+    /// is what the steps see as `now`, in nanoseconds. Takes no memory.
     pub fn push_steps(&mut self, packet: &Packet, moment: u64, trace: &mut Taken)
         requires known { IsKnown (policy_of self.old) packet.now }
         requires moment { moment ≤ max_rank }
@@ -91,7 +91,7 @@ impl<'a> NodeStates<'a> {
     }
 
     /// Runs the pop steps from the root to the leaf of a packet's class, with the ranks that were taken on these digits. `moment`
-    /// is what the steps are told as `now`, in nanoseconds. Takes no memory.
+    /// is what the steps see as `now`, in nanoseconds. Takes no memory.
     pub fn pop_steps(&mut self, packet: &Packet, digits: &[u32], ranks: &[u64], moment: u64)
         requires known { IsKnown (policy_of self.old) packet.now }
         requires moment { moment ≤ max_rank }

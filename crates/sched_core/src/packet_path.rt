@@ -11,7 +11,7 @@ use packet_defs::Packet;
 use policy_core::{Class, Marks, Policy};
 use rank_core::Env;
 
-/// A packet on its way, with its class, the nodes on the way of this class, and the moment that the steps are told.
+/// A packet on its way, with its class, the nodes on the way of this class, and the time that the steps see.
 #[derive(Drop)]
 pub struct PacketPath<'a> {
     pub policy: &'a Policy,
@@ -22,7 +22,7 @@ pub struct PacketPath<'a> {
 }
 
 impl PacketPath<'_> {
-    /// What a step is told, with these marks.
+    /// What a step knows, with these marks.
     pub fn env(&self, marks: &Marks) -> Env
         requires len { self.now.packet.now.len ≤ max_len }
         requires moment { self.now.moment ≤ max_rank }

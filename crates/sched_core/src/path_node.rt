@@ -11,7 +11,7 @@ use range_core::Checked;
 use rank_core::{Aim, Expr, Transaction, Var};
 use std::alloc::{AllocError, Global};
 
-/// A node on the way of a class: its number, its transaction, the marks that its steps are told, and the rank that its push
+/// A node on the way of a class: its number, its transaction, the marks that its steps use, and the rank that its push
 /// step gives, where these marks alone tell it and the step does nothing else.
 #[derive(Drop)]
 pub struct PathNode<'a> {
@@ -37,7 +37,7 @@ fn rank_told(transaction: &Transaction, marks: &Marks) -> Option<u64>
     }
 }
 
-/// The waypoint of a node whose steps are told these marks.
+/// The path node of a node whose steps use these marks.
 fn waypoint_at<'a>(policy: &'a Policy, node: u32, marks: Marks) -> PathNode<'a>
     requires there { node < nodes policy.now.policy.tree }
     ensures node { result.node ≡ node }

@@ -21,8 +21,8 @@ use sched_held::Held;
 use std::alloc::{AllocError, Global};
 use tree_core::Taken;
 
-/// What a scheduler keeps itself, whatever holds its queues: the nodes' variables, the held packets, how many of them stand at
-/// each leaf (by the numbers of nodes), and the greatest moment.
+/// What a scheduler keeps itself, whatever holds its queues: the nodes' variables, the held packets, how many of them are at
+/// each leaf (by the numbers of nodes), and the latest timestamp.
 /// The flow of each held packet has room at its leaf, so a departure takes no memory.
 #[derive(Drop)]
 pub struct PolicyState<'a> {
@@ -38,7 +38,7 @@ pub struct PolicyState<'a> {
 impl<'a> PolicyState<'a> {
     ghost use Rattle.sched_core.specs.PolicyState.{policy_in, IsOwn, IsOfOne, IsOfEach, IsOfEachPopping, PopsNext};
 
-    /// No packet came yet. The error is want of memory.
+    /// No packet came yet. The error means out of memory.
     pub fn new(alloc: Global, policy: &'a Policy) -> Result<PolicyState<'a>, AllocError>
         ensures start { IfOk result (λ own. IsOwn own (start policy.now.policy)) }
         ensures policy { IfOk result (λ own. policy_in own ≡ policy.now.policy) }
@@ -88,7 +88,7 @@ impl<'a> PolicyState<'a> {
         }
     }
 
-    /// Turns a packet away: nothing but the greatest moment may change. The answer is the number of its leaf.
+    /// Drops a packet: only the latest timestamp may change. The answer is the number of its leaf.
     pub fn drop_packet(&mut self, packet: &Packet) -> u32
         requires known { IsKnown (policy_in self.old) packet.now }
         ensures state { (s : SourceState) → IsOwn self.old s →
@@ -103,7 +103,7 @@ impl<'a> PolicyState<'a> {
     }
 
     /// Takes in a packet: the push steps run on its way, and `trace` gets the digits and the ranks. The answer is the number of
-    /// its leaf. The error is want of memory.
+    /// its leaf. The error means out of memory.
     #[inline(always)]
     pub fn admit(&mut self, packet: &Packet, trace: &mut Taken) -> Result<u32, AllocError>
         requires accepted { IsAccepted (policy_in self.old) }
@@ -188,7 +188,7 @@ impl<'a> PolicyState<'a> {
         self.held.len()
     }
 
-    /// The greatest moment of the packets so far, in nanoseconds.
+    /// The latest timestamp of the packets so far, in nanoseconds.
     #[inline(always)]
     pub fn now(&self) -> u64
         ensures { (s : SourceState) → IsOwn self.now s → result ≡ s.now }

@@ -40,15 +40,15 @@ pub trait Scheduler {
 
     ghost policy: { Self → Policy };
 
-    /// Where the queues stand in a target, if they do.
+    /// Where the queues are in a target, if they do.
     ghost origin: { Self → Option Origin };
 
-    /// How often pushes into the queues spilled, where that is told.
+    /// How often pushes into the queues spilled, where that is known.
     ghost spilled: { Self → Self.Under → Option ℕ };
 
-    /// A packet arrives. Where the leaf of its class has a limit and holds that many packets, it is dropped: the greatest moment
+    /// A packet arrives. Where the leaf of its class has a limit and holds that many packets, it is dropped: the latest timestamp
     /// may rise, and nothing else changes. Elsewhere the push steps run from the root to that leaf, the packet is pushed along
-    /// their ranks, and `trace` gets the leaf's address and the ranks. The error is want of memory, which a drop doesn't need.
+    /// their ranks, and `trace` gets the leaf's address and the ranks. The error means out of memory, which a drop doesn't need.
     fn arrive(
         &mut self,
         under: &mut Self::Under,
@@ -114,7 +114,7 @@ pub trait Scheduler {
         ensures { (under : Self.Under) → ForEach stands policy self.now under (λ _ s. result ≡
             size s.tree) };
 
-    /// The greatest moment of the packets so far, in nanoseconds.
+    /// The latest timestamp of the packets so far, in nanoseconds.
     fn now(&self) -> u64
         ensures { (under : Self.Under) → ForEach stands policy self.now under (λ _ s. result ≡
             s.now) };

@@ -2,13 +2,13 @@
 ghost use Rattle.std.specs.Prelude.{◌≡◌};
 ghost use Rattle.sched_defs.specs.Script.{ends_at_fault};
 
-/// The code of a script that asks for a packet past the last, behind the codes of a script that is in no form.
+/// The code of a script that asks for a packet past the last, after the codes of a script that is malformed.
 pub const PAST_LAST: u32 = 3;
 
 /// How a run that isn't stopped ends.
 #[derive(Clone, Copy, PartialEq, Eq, Debug)]
 pub enum Ending {
-    /// All is done, and so many packets weren't sent.
+    /// All is done, and this many packets weren't sent.
     Whole(u64),
     /// The capture has a fault of this code, at the record of this number, 0 for none.
     BadCapture(u32, u64),

@@ -9,7 +9,7 @@ pub fn events_keep_states_sound()
     ensures events { EventsKeepSound }
 {}
 
-/// A sound state holds as many packets as stand in its leaves: one more after a push, one fewer after a departure.
+/// A sound state holds as many packets as are in its leaves: one more after a push, one fewer after a departure.
 pub fn held_packets_stand_in_leaves()
     ensures count { HeldStandInLeaves }
     ensures pushes { PushesAddOne }
@@ -49,7 +49,7 @@ pub fn drains_leave_nothing()
 {}
 
 /// The events that a link paces can be made over packets in the order of a capture. Each packet is pushed or dropped, no
-/// departure finds nothing, and behind a whole capture all is sent.
+/// departure finds nothing, and after a whole capture all is sent.
 pub fn links_send_all()
     ensures made { LinksCanRun }
     ensures sent { LinksSendAll }

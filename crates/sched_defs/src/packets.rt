@@ -20,7 +20,7 @@ pub enum Halt {
     Memory,
 }
 
-/// What stands for a packet before one is put in its place.
+/// Holds the place of a packet until one is read.
 pub const BLANK: Packet = Packet {
     number: 0,
     class: 0,
@@ -116,6 +116,6 @@ pub trait Packets {
     fn captured(&self) -> &[u8]
         ensures { result.now ≡ captured self.now };
 
-    /// Where it is told what is left, the captured bytes are there.
+    /// If what is left is known, the captured bytes are there.
     ghost there: { (packets : Self) (source : Self.Source) → AreThere (left packets source) (captures packets source) };
 }

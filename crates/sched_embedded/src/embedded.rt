@@ -41,7 +41,7 @@ impl<'a, F: Fabric> Embedded<'a, F> {
     ghost use Rattle.sched_embedded.specs.Embedded.{EmbeddedStands, origin_of, origin_in};
 
     /// A scheduler that saw no event yet. It takes the target's shape for the fabric, whose queues are then empty. The error is
-    /// want of memory, and leaves the fabric as it was.
+    /// out of memory, and leaves the fabric unchanged.
     pub fn new(
         alloc: Global,
         policy: &'a Policy,

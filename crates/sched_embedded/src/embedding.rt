@@ -41,7 +41,7 @@ impl Model for Embedding {
 }
 
 impl Embedding {
-    /// The error is want of memory.
+    /// The error means out of memory.
     pub fn new(alloc: Global, map: Map, target: &Target) -> Result<Embedding, AllocError>
         requires laid { IsLaid map target.now.arities }
         ensures images { IfOk result (λ e. e.images ≡ map) }

@@ -9,7 +9,7 @@ use packet_defs::Packet;
 use sched_defs::BLANK;
 use std::alloc::{AllocError, Global};
 
-/// Slots for numbers that are the same when they are divided by the width, in the order of the numbers. So many are filled.
+/// Slots for numbers that are the same when they are divided by the width, in the order of the numbers. This many are filled.
 #[derive(Drop)]
 pub struct Chunk {
     slots: Vec<Slot>,
@@ -37,7 +37,7 @@ impl Chunk {
         self.filled == 0
     }
 
-    /// Whether a place is behind those of all slots.
+    /// Whether a place is after those of all slots.
     #[inline(always)]
     fn is_behind(&self, place: u8) -> bool
         ensures { IsTrue result → place_behind 0 self.now.slots.items ≤ place }
@@ -59,7 +59,7 @@ impl Chunk {
         Ok(())
     }
 
-    /// One slot more, if its place is behind those of all others, and whether it is.
+    /// One slot more, if its place is after those of all others, and whether it is.
     #[inline(always)]
     pub(crate) fn push(&mut self, slot: Slot) -> Result<bool, AllocError>
         requires filled { slot.filled ≡ true }
@@ -76,7 +76,7 @@ impl Chunk {
         Ok(true)
     }
 
-    /// Where the slot of a number is, if a packet stands there. It is never behind the place of the number.
+    /// Where the slot of a number is, if a packet stands there. It is never after the place of the number.
     #[inline(always)]
     fn find(&self, number: u64) -> Option<usize>
         ensures within { IfSome result (λ i. i < vec_len self.now.slots) }

@@ -12,12 +12,12 @@ use packet_defs::Packet;
 use sched_defs::BLANK;
 use std::alloc::{AllocError, Global};
 
-/// The last number for which there may be a slot: fewer packets stand in slots then than half of the numbers there are, and a
+/// The last number for which there may be a slot: fewer packets are in slots then than half of the numbers there are, and a
 /// sum with the strays fits.
 const LAST: u64 = u64::MAX / 2;
 
 /// The packets that are held, by their numbers: most in slots in the order of their numbers, and in a map those that need more
-/// room, that came behind a later one, or that stayed until two thirds of the numbers behind them had no packet.
+/// room, that came after a later one, or that stayed until two thirds of the numbers after them had no packet.
 #[derive(Drop)]
 pub struct Held {
     window: Window,
@@ -39,7 +39,7 @@ impl Held {
         }
     }
 
-    /// A packet more, in the place of one with its number if there is one. The error is want of memory.
+    /// A packet more, in the place of one with its number if there is one. The error means out of memory.
     #[inline(always)]
     pub fn put(&mut self, packet: &Packet) -> Result<(), AllocError>
         ensures ok { OnOk result ((n : ℕ) → held_at self.new n ≡
@@ -84,7 +84,7 @@ impl Held {
         self.window.filled() + self.strays.len() as u64
     }
 
-    /// A packet more that stands in no slot. If one with its number does, lets go of that.
+    /// A packet more that is in no slot. If one with its number does, lets go of that.
     #[inline(never)]
     fn put_stray(&mut self, packet: &Packet) -> Result<(), AllocError>
         requires before { end_of self.old.window ≤ packet.now.number → 2 ^ 63 ≤ packet.now.number }

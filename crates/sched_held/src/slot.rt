@@ -7,7 +7,7 @@ use packet_defs::Packet;
 /// How many numbers share a chunk. The place of a number there is what is left when it is divided by the width.
 pub(crate) const WIDTH: u64 = 64;
 
-/// Where a packet may stand, with the place of its number. The rest of the number is told by the chunk. The fields of few bytes
+/// Where a packet may stand, with the place of its number. The chunk has the rest of the number. The fields of few bytes
 /// come first, so that a slot takes 32.
 #[derive(Clone, Copy)]
 pub struct Slot {

@@ -14,11 +14,11 @@ use std::collections::VecDeque;
 /// How many numbers may have no packet whatever the number of packets.
 const SPARE: u64 = 4096;
 
-/// How many chunks at the end keep their empty slots. Of the packets that don't stay, most have left by the time that so many
+/// How many chunks at the end keep their empty slots. Of the packets that don't stay, most have left by the time that this many
 /// others came.
 const OPEN: usize = 4;
 
-/// The chunks for the numbers from 64 `first` on, in which so many packets stand. Their numbers are below the end.
+/// The chunks for the numbers from 64 `first` on, in which this many packets stand. Their numbers are below the end.
 #[derive(Drop)]
 pub struct Window {
     first: u64,
@@ -47,7 +47,7 @@ impl Window {
         }
     }
 
-    /// The number behind the last one so far.
+    /// The number after the last one so far.
     #[inline(always)]
     pub(crate) fn end(&self) -> u64
         ensures { result ≡ end_of self.now }
@@ -165,7 +165,7 @@ impl Window {
         Ok(())
     }
 
-    /// Begins anew with a chunk behind all others, where no packet stands here.
+    /// Begins anew with a chunk after all others, where no packet stands here.
     fn restart(&mut self, chunk: u64)
         requires low { chunk < 2 ^ 57 }
         ensures packets { (n : ℕ) → packet_at self.new n ≡ packet_at self.old n }

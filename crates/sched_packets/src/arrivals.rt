@@ -18,7 +18,7 @@ use std::alloc::Global;
 use std::marker::PhantomData;
 
 /// The packets of a capture, in their order, each with its own link type and with the class that a policy gives it. The bytes
-/// of one packet are held at a time, 262,144 at most, and behind the end of the capture nothing more is read.
+/// of one packet are held at a time, 262,144 at most, and after the end of the capture nothing more is read.
 #[derive(Drop)]
 pub struct Arrivals<'a, R, S> {
     classifier: Classifier<'a>,

@@ -8,7 +8,7 @@ ghost use Rattle.sched_packets.specs.Packets.{packet_of};
 use capture_core::LinkedFrame;
 use packet_core::{Classifier, Packet};
 
-/// Puts a number, an original length and a moment into a packet.
+/// Puts a number, an original length and a timestamp into a packet.
 #[inline(always)]
 fn put_frame(number: u64, len: u32, moment: u64, packet: &mut Packet)
     ensures number { packet.new.number ≡ number }

@@ -11,7 +11,7 @@ use outside_core::Shelf;
 use packet_core::Packet;
 use sched_defs::{BLANK, Halt, Packets};
 
-/// The code of a packet that has another link type than the first, behind those of faults of captures. Its place is the
+/// The code of a packet that has another link type than the first, after those of faults of captures. Its place is the
 /// packet's number.
 pub const OTHER_LINK: u32 = 20;
 

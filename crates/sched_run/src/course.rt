@@ -20,7 +20,7 @@ use sched_core::Scheduler;
 use sched_defs::{Ending, Halt, PAST_LAST, Packets};
 use tap_core::{Tap, Watching};
 
-/// Reads the packets that are left, and answers how the run ends behind them.
+/// Reads the packets that are left, and answers how the run ends after them.
 fn count_unsent<P: Packets>(packets: &mut P, source: &mut P::Source) -> Result<Ending, Stop>
     requires ready { P.ready packets.old source.old }
 

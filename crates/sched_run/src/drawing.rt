@@ -1,11 +1,11 @@
-//! What a generated load draws: departures, and packets with their classes, lengths, flows and moments.
+//! What a generated load draws: departures, and packets with their classes, lengths, flows and timestamps.
 ghost use Rattle.std.specs.Prelude.{◌≡◌, ◌<◌, ◌^◌};
 
 use events_core::Load;
 use packet_defs::Packet;
 use rank_defs::FlowKey;
 
-/// The generator of a load, the number of its next packet, and the moment of the last one in nanoseconds.
+/// The generator of a load, the number of its next packet, and the timestamp of the last one in nanoseconds.
 #[derive(Drop)]
 pub struct Drawing {
     pub(crate) load: Load,

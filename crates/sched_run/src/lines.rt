@@ -24,7 +24,7 @@ use sched_core::{Arrival, Scheduler};
 use tap_core::{Tap, Watching};
 use tree_core::Taken;
 
-/// A departure that is to be made: the number of its event, and the moment at which it starts, in nanoseconds, where a link
+/// A departure that is to be made: the number of its event, and the time at which it starts, in nanoseconds, where a link
 /// says it.
 #[derive(Clone, Copy, Debug)]
 pub(crate) struct Departure {
@@ -197,8 +197,8 @@ impl<'a, C: Scheduler + Drop, N: NodeNames, W: Recorder> Run<'a, C, N, W> {
         Ok(arrival)
     }
 
-    /// Makes a departure, which starts at a moment where a link paces it, records it, counts it, and shows it to the taps
-    /// that watch. The error can be want of memory for the line of a tap that is done.
+    /// Makes a departure, which starts at a timestamp where a link paces it, records it, counts it, and shows it to the taps
+    /// that watch. The error can mean out of memory for the line of a tap that is done.
     #[inline(always)]
     pub(crate) fn depart_next<K: Sink, T: Tap>(
         &mut self,

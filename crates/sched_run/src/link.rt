@@ -13,7 +13,7 @@ use sched_core::Scheduler;
 use sched_defs::{BLANK, Ending, Halt, Packets};
 use tap_core::{Tap, Watching};
 
-/// Whether a departure is due before a moment, where there is one.
+/// Whether a departure is due before a timestamp, where there is one.
 fn is_due(link: &Link, until: Option<u64>) -> bool
     ensures { result ≡ is_due until link.now }
 {
@@ -36,7 +36,7 @@ fn take_time(link: &mut Link, departed: Option<Departed>, rate: u64)
     }
 }
 
-/// Lets the link stand idle up to a moment, where nothing is held.
+/// Lets the link stand idle up to a timestamp, where nothing is held.
 fn idle_at(link: &mut Link, held: u64, moment: u64)
     ensures { link.new ≡ (if held == 0 then max link.old moment else link.old) }
 {
@@ -63,7 +63,7 @@ impl<'a, C: Scheduler + Drop, N: NodeNames, W: Recorder> Run<'a, C, N, W> {
     ghost use Rattle.sched_run.specs.Steps.{IsNoPastLast};
     ghost use Rattle.sched_run.specs.Courses.{link_agenda, CoursesUnless, CoursesAmid};
 
-    /// Sends what is held as long as the link is free before a moment, or all of it where there is none. The answer is whether
+    /// Sends what is held as long as the link is free before a timestamp, or all of it where there is none. The answer is whether
     /// nothing more can be recorded, which ends the run.
     fn send_until<K: Sink, T: Tap>(
         &mut self,
@@ -118,7 +118,7 @@ impl<'a, C: Scheduler + Drop, N: NodeNames, W: Recorder> Run<'a, C, N, W> {
         Ok(false)
     }
 
-    /// Sends what is due before a packet's moment, and makes the packet's arrival, each with its line. The answer is
+    /// Sends what is due before a packet's timestamp, and makes the packet's arrival, each with its line. The answer is
     /// whether nothing more could be recorded before that.
     fn arrive_paced<K: Sink, T: Tap>(
         &mut self,

@@ -71,7 +71,7 @@ impl<'a, C: Scheduler + Drop, N: NodeNames, W: Recorder> Run<'a, C, N, W> {
         }
     }
 
-    /// Makes so many events that are drawn from a seed, and records each.
+    /// Makes this many events that are drawn from a seed, and records each.
     fn play_drawings<K: Sink, T: Tap>(
         &mut self,
         under: &mut C::Under,
@@ -111,7 +111,7 @@ impl<'a, C: Scheduler + Drop, N: NodeNames, W: Recorder> Run<'a, C, N, W> {
         Ok(())
     }
 
-    /// Makes the events of a generated load: so many that are drawn from a seed, at most 1,000,000, and then departures until no
+    /// Makes the events of a generated load: this many that are drawn from a seed, at most 1,000,000, and then departures until no
     /// packet is held. Each is recorded, and shown to the taps that watch. The answer is their numbers.
     pub fn play_load<K: Sink, T: Tap>(
         &mut self,

@@ -1,4 +1,4 @@
-//! The trait of what is told of the outcomes of a run.
+//! The trait of what is known of the outcomes of a run.
 ghost use Rattle.std.specs.Prelude.{◌≡◌, ◌≤◌, ℕ, Bool, Option, List, [], ◌∷◌, length, IfErr, OnOk, OnErr};
 ghost use Rattle.outside_core.specs.Faults.{Rose};
 ghost use Rattle.outside_core.specs.Kept.{KeepsSink, HasSinkCause};
@@ -87,7 +87,7 @@ pub trait Recorder: Drop {
         ensures live { OnOk result (live self.new) }
         ensures dead { OnErr result (live self.new → ⊥) };
 
-    /// Records a packet that left from a leaf of this name, with the ranks taken from the root down, and with the moment at
+    /// Records a packet that left from a leaf of this name, with the ranks taken from the root down, and with the timestamp at
     /// which it starts, in nanoseconds, where a link says it.
     fn departed<K: Sink>(
         &mut self,

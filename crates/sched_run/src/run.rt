@@ -21,7 +21,7 @@ impl<'a, C: Drop, N, W: Drop> Run<'a, C, N, W> {
     ghost use Rattle.std.specs.Prelude.{◌≡◌, IfOk};
     ghost use Rattle.sched_run.specs.Stages.{IsFresh};
 
-    /// A run without an event so far, with room for paths of so many levels below the root. The version is that of the policy's
+    /// A run without an event so far, with room for paths of this many levels below the root. The version is that of the policy's
     /// language: in version 2 leaves can have limits, and the last line shows how many packets were dropped. The error is want
     /// of memory.
     pub fn new(

@@ -26,7 +26,7 @@ pub(crate) fn show_arrival<T: Tap>(watch: &mut Watching<T>, packet: &Packet, arr
     }
 }
 
-/// Shows a packet that left, if one did. The error is want of memory for the line of a tap that is done.
+/// Shows a packet that left, if one did. The error means out of memory for the line of a tap that is done.
 #[inline(always)]
 pub(crate) fn show_departure<T: Tap>(
     watch: &mut Watching<T>,

@@ -65,7 +65,7 @@ impl Tally {
         }
     }
 
-    /// The numbers of the run, where so many packets were held at first and so many are now.
+    /// The numbers of the run, where this many packets were held at first and this many are now.
     pub(crate) fn totals(self, first: u64, held: u64, version: u32) -> Totals
         requires { HasTotals self first held }
         ensures { AreTotals self first held version result }
