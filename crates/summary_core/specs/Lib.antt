@@ -1,0 +1,7 @@
+pub mod Counting
+pub mod Summing
+pub mod Summary
+pub mod JoinedSums
+pub mod Laws
+pub mod Rows
+pub mod Percentiles
