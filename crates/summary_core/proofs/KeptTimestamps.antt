@@ -1,5 +1,5 @@
 -- The timestamps that are kept are those of the packets that are queued, so that events by them are those by the packets' own.
-use Rattle.std.proofs.Common.{◌≡◌, ◌==◌, ℕ, Bool, true, false, if◌then◌else◌, Option, None, Some, List, [], ◌∷◌, ◌++◌, refl, sym, ap, ◌∙◌, subst}
+use Rattle.std.proofs.Common.{◌≡◌, ◌==◌, ℕ, Bool, true, false, if◌then◌else◌, Option, None, Some, List, [], ◌∷◌, refl, sym, ap, ◌∙◌, subst}
 use Rattle.std.specs.Prelude.{option_map}
 use Rattle.tree_defs.specs.Tree.{Address, Popping, option_bind}
 use Rattle.tree_defs.specs.SourceTree.{SourceTree, pop}

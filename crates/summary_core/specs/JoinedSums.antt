@@ -81,7 +81,7 @@ in_turn w v x es fs first second = record {
       second.delays k
       ∙ ap (λ (o : Option (List ℕ)). option_map (λ l. l ++ delays_in k fs) o) (first.delays k)
       ∙ twice (λ (l : List ℕ). l ++ delays_in k es) (λ l. l ++ delays_in k fs) (λ l. l ++ delays_in k (es ++ fs)) (items_at w.delays.items k)
-        (λ l. append_assoc l (delays_in k es) (delays_in k fs) ∙ ap (λ (m : List ℕ). l ++ m) (sym (delays_in-append k es fs)));
+      (λ l. append_assoc l (delays_in k es) (delays_in k fs) ∙ ap (λ (m : List ℕ). l ++ m) (sym (delays_in-append k es fs)));
 }
 
 pub sums_nothing : (w : Summary) → Sums w w []

@@ -1,8 +1,8 @@
 -- Sums that are worked out.
-use Rattle.std.specs.Prelude.{◌≡◌, refl, ℕ, Bool, true, false, None, Some, map, List, [], ◌∷◌}
+use Rattle.std.specs.Prelude.{◌≡◌, refl, ℕ, true, false, None, Some, map, List, [], ◌∷◌}
 use Rattle.sched_defs.specs.Rows.{packet}
 use Rattle.sched_defs.specs.Events.{Outcome, Arrived, Departed, Dropped, Empty}
-use Rattle.summary_core.specs.Counting.{no_counts, span_of, throughput_of}
+use Rattle.summary_core.specs.Counting.{no_counts, throughput_of}
 use Rattle.summary_core.specs.Summing.{class_events, no_timestamps, events_by, counted, any_class, is_class, is_at_leaf, delays_in}
 
 -- a link that sends a byte a nanosecond

@@ -1,5 +1,5 @@
 -- What a summary holds, and what outcomes add to it.
-use Rattle.std.specs.Prelude.{◌≡◌, ℕ, nat_eq, Option, None, option_map, IsTrue, List, [], ◌++◌, length, replicate, slice_get}
+use Rattle.std.specs.Prelude.{◌≡◌, ℕ, nat_eq, None, option_map, IsTrue, List, [], ◌++◌, length, replicate, slice_get}
 use Rattle.std.specs.List.{AllByRecursion}
 use Rattle.summary_core.specs.Counting.{no_counts}
 use Rattle.indexmap.specs.IndexMap.{get}

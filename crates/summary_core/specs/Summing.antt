@@ -1,6 +1,5 @@
 -- What the outcomes of a run mean to the packets of a group, and what a summary holds of them.
-use Rattle.std.specs.Prelude.{◌≡◌, refl, ℕ, ◌+◌, ◌-◌, ◌==◌, Bool, true, false, if◌then◌else◌, Option, None, Some, option_map, Vec, List, [], ◌∷◌, ◌++◌, slice_get}
-
+use Rattle.std.specs.Prelude.{ℕ, ◌+◌, ◌-◌, ◌==◌, Bool, true, false, if◌then◌else◌, Option, None, Some, option_map, Vec, List, [], ◌∷◌, ◌++◌, slice_get}
 use Rattle.std.specs.declared.alloc.Global.{Global}
 use Rattle.std.specs.Option.{option_map_or}
 use Rattle.sched_defs.specs.SendTime.{send_time}

@@ -5,6 +5,7 @@ mod counts;
 mod delays;
 mod event;
 mod laws;
+mod recorder;
 mod summary;
 mod table;
 
