@@ -1,0 +1,213 @@
+//! The sums of a run.
+ghost use Rattle.std.specs.Prelude.{◌≡◌, [], length, IfOk};
+ghost use Rattle.sched_defs.specs.Events as run;
+ghost use Rattle.tree_defs.specs.Tree.{Address};
+ghost use Rattle.packet_defs.specs.declared.packet.Packet.{Packet};
+ghost use Rattle.std.specs.List.{AllByRecursion};
+ghost use Rattle.summary_core.specs.Summing.{of_class, times_of};
+
+use crate::counts::Counts;
+use crate::event::{PacketEvent, Times};
+use crate::table::{count_at, count_at_leaf, delay_at, reserve_at};
+use indexmap::IndexMap;
+use packet_defs::{Departed, Packet};
+use std::alloc::{AllocError, Global};
+
+/// The nanoseconds of a second.
+const SECOND: u128 = 1_000_000_000;
+
+/// Starts in nanoseconds stay below this number.
+const MOST_START: u128 = 1 << 126;
+
+/// The times of a departure, where its start and the timestamp of its packet are known. The answer is an error if they need
+/// more bits than there are.
+fn times(
+    rate: u64,
+    len: u32,
+    start: Option<u128>,
+    timestamp: Option<u64>,
+) -> Result<Option<Times>, ()>
+    ensures { IfOk result (λ t. t ≡ times_of rate len start timestamp) }
+{
+    let (Some(start), Some(timestamp)) = (start, timestamp) else {
+        return Ok(None);
+    };
+    if rate == 0 || start >= MOST_START {
+        return Err(());
+    }
+    let delay = start.saturating_sub(u128::from(timestamp));
+    if delay >= 1 << 64 {
+        return Err(());
+    }
+    let finish = start + (u128::from(len) * SECOND).div_ceil(u128::from(rate));
+    Ok(Some(Times {
+        delay: delay as u64,
+        finish,
+    }))
+}
+
+/// Empty lists, as many as there are classes.
+fn no_lists(alloc: Global, count: usize) -> Result<Vec<Vec<u64>>, AllocError>
+    ensures many { IfOk result (λ v. length v.items ≡ count) }
+    ensures empty { IfOk result (λ v. AllByRecursion (λ l. l.items ≡ []) v.items) }
+{
+    let mut lists = Vec::with_capacity(alloc, count)?;
+    for _ in 0..count {
+        lists.push(Vec::new(alloc))?;
+    }
+    Ok(lists)
+}
+
+/// The sums of a run: of all packets, of those of each leaf and of those of each class. The delays of each class are kept in a
+/// list, and the timestamp of each queued packet.
+#[derive(Drop)]
+pub struct Summary {
+    /// The link's rate in bytes a second.
+    rate: u64,
+    /// The index of each class's leaf.
+    table: Vec<u32>,
+    all: Counts,
+    leaves: Vec<Counts>,
+    classes: Vec<Counts>,
+    delays: Vec<Vec<u64>>,
+    timestamps: IndexMap<u64, u64>,
+    /// There was room in each sum so far.
+    whole: bool,
+    /// No call failed so far.
+    pub(crate) live: bool,
+}
+
+impl Summary {
+    ghost use Rattle.std.specs.Prelude.{◌≡◌, List, ◌∷◌, [], ℕ, ◌==◌, if◌then◌else◌, Some, None, Option, slice_get, IsTrue, IfOk, OnOk};
+    ghost use Rattle.summary_core.specs.Summary.{timestamp_at, AddsEvents, Stays, HoldsAlike, Sums, SumsNothing};
+
+    /// Sums of no packet, for a link of this rate in bytes a second, where the table gives the index of each class's leaf among
+    /// that many leaves. The error is out of memory.
+    pub fn new(
+        alloc: Global,
+        rate: u64,
+        table: Vec<u32>,
+        leaves: usize,
+    ) -> Result<Summary, AllocError>
+        ensures { IfOk result (SumsNothing rate table.items leaves) }
+    {
+        let classes = table.len();
+        Ok(Summary {
+            rate,
+            table,
+            all: Counts::new(),
+            leaves: Vec::from_elem(alloc, Counts::new(), leaves)?,
+            classes: Vec::from_elem(alloc, Counts::new(), classes)?,
+            delays: no_lists(alloc, classes)?,
+            timestamps: IndexMap::new(alloc),
+            whole: true,
+            live: true,
+        })
+    }
+
+    /// Whether there was room in each sum. If not, the sums say nothing.
+    pub fn is_whole(&self) -> bool
+        ensures { result ≡ self.now.whole }
+    {
+        self.whole
+    }
+
+    /// The sums of all packets.
+    pub fn all(&self) -> Counts
+        ensures { result ≡ self.now.all }
+    {
+        self.all
+    }
+
+    /// The sums of the packets of the leaf of this index.
+    pub fn leaf(&self, index: usize) -> Option<Counts>
+        ensures { result ≡ slice_get self.now.leaves.items index }
+    {
+        self.leaves.get(index).copied()
+    }
+
+    /// The sums of the packets of this class.
+    pub fn class(&self, class: usize) -> Option<Counts>
+        ensures { result ≡ slice_get self.now.classes.items class }
+    {
+        self.classes.get(class).copied()
+    }
+
+    /// The delays of each class, in the order of its departures.
+    pub fn into_delays(self) -> Vec<Vec<u64>>
+        ensures { result ≡ self.delays }
+    {
+        self.delays
+    }
+
+    /// Counts an event of a packet of a class.
+    fn add(&mut self, class: u32, event: PacketEvent)
+        ensures sums { IsTrue self.new.whole →
+            AddsEvents self.old self.new (of_class class event ∷ []) }
+        ensures stays { Stays self.old self.new }
+        ensures timestamps { self.new.timestamps ≡ self.old.timestamps }
+    {
+        let all = self.all.add(event);
+        let in_class = count_at(&mut self.classes, class, event);
+        let in_leaf = count_at_leaf(&mut self.leaves, &self.table, class, event);
+        let in_list = delay_at(&mut self.delays, class, event);
+        self.whole = self.whole && all && in_class && in_leaf && in_list;
+    }
+
+    /// How many packets of a class are queued.
+    fn queued(&self, class: u32) -> usize {
+        match self.classes.get(class as usize) {
+            Some(counts) => counts.queued as usize,
+            None => 0,
+        }
+    }
+
+    /// Keeps the timestamp of a packet, and makes room for its delay.
+    fn keep(&mut self, packet: &Packet) -> Result<(), AllocError>
+        ensures alike { HoldsAlike self.old self.new }
+        ensures stays { Stays self.old self.new }
+        ensures timestamps { OnOk result ((n : ℕ) → timestamp_at self.new n ≡
+            (if n == packet.now.number then Some packet.now.moment else timestamp_at self.old n)) }
+    {
+        let queued = self.queued(packet.class);
+        reserve_at(&mut self.delays, packet.class, queued.saturating_add(1))?;
+        self.timestamps.insert(packet.number, packet.moment)?;
+        Ok(())
+    }
+
+    /// Counts a packet that arrived at its leaf. The error is out of memory.
+    pub(crate) fn count_arrival(&mut self, packet: &Packet) -> Result<(), AllocError>
+        ensures ok { OnOk result ((a : Address) (ranks : List ℕ) →
+            Sums self.old self.new (run.Arrived packet.now a ranks ∷ [])) }
+        ensures live { self.new.live ≡ self.old.live }
+    {
+        self.keep(packet)?;
+        self.add(
+            packet.class,
+            PacketEvent::Arrived(packet.len, packet.moment),
+        );
+        Ok(())
+    }
+
+    /// Counts a packet that was dropped at its leaf.
+    pub(crate) fn count_drop(&mut self, packet: &Packet)
+        ensures ok { (a : Address) → Sums self.old self.new (run.Dropped packet.now a ∷ []) }
+        ensures live { self.new.live ≡ self.old.live }
+    {
+        self.add(packet.class, PacketEvent::Dropped);
+    }
+
+    /// Counts a packet that departed, with its start in nanoseconds where a link sends it.
+    pub(crate) fn count_departure(&mut self, departed: &Departed, start: Option<u128>)
+        ensures ok { (p : Packet) (a : Address) (ranks : List ℕ) → p.number ≡ departed.now.packet →
+            p.class ≡ departed.now.class → p.len ≡ departed.now.len →
+            Sums self.old self.new (run.Departed p a ranks start ∷ []) }
+        ensures live { self.new.live ≡ self.old.live }
+    {
+        let timestamp = self.timestamps.swap_remove(&departed.packet);
+        match times(self.rate, departed.len, start, timestamp) {
+            Ok(times) => self.add(departed.class, PacketEvent::Departed(departed.len, times)),
+            Err(()) => self.whole = false,
+        }
+    }
+}

@@ -1,0 +1,79 @@
+//! Sums and lists by index.
+ghost use Rattle.std.specs.Prelude.{◌≡◌, ◌==◌, ◌++◌, ℕ, if◌then◌else◌, option_map, slice_get, IsTrue, OnOk};
+ghost use Rattle.summary_core.specs.Counting.{with_event};
+ghost use Rattle.summary_core.specs.Summing.{delay_of, delays_at, is_at_leaf, items_at};
+
+use crate::counts::Counts;
+use crate::event::PacketEvent;
+use std::alloc::AllocError;
+
+/// Counts an event in the sums of this index, if there are any. The answer is whether they had room for it.
+pub(crate) fn count_at(sums: &mut Vec<Counts>, index: u32, event: PacketEvent) -> bool
+    ensures { IsTrue result → (i : ℕ) → slice_get sums.new.items i ≡
+        option_map (λ c. if i == index then with_event event c else c) (slice_get sums.old.items i) }
+{
+    match sums.get_mut(index as usize) {
+        Some(counts) => counts.add(event),
+        None => true,
+    }
+}
+
+/// Counts an event in the sums of a class's leaf, where the table gives the index of each class's leaf.
+pub(crate) fn count_at_leaf(
+    leaves: &mut Vec<Counts>,
+    table: &[u32],
+    class: u32,
+    event: PacketEvent,
+) -> bool
+    ensures { IsTrue result → (l : ℕ) → slice_get leaves.new.items l ≡
+        option_map (λ c. if is_at_leaf table.now l class then with_event event c else c)
+        (slice_get leaves.old.items l) }
+{
+    match table.get(class as usize) {
+        Some(leaf) => count_at(leaves, *leaf, event),
+        None => true,
+    }
+}
+
+/// Adds the delay of a departure, if it has one, to a list that has room for it. The answer is whether it had.
+fn push_delay(delays: &mut Vec<u64>, event: PacketEvent) -> bool
+    ensures { IsTrue result → delays.new.items ≡ delays.old.items ++ delay_of event }
+{
+    match event {
+        PacketEvent::Departed(_, Some(times)) => {
+            let roomy = delays.len() < delays.capacity();
+            if roomy {
+                delays.push_reserved(times.delay);
+            }
+            roomy
+        }
+        PacketEvent::Departed(_, None) => true,
+        PacketEvent::Arrived(_, _) => true,
+        PacketEvent::Dropped => true,
+    }
+}
+
+/// Adds the delay of a departure to the list of this index, if there is one. The answer is whether the list had room for it.
+pub(crate) fn delay_at(lists: &mut Vec<Vec<u64>>, index: u32, event: PacketEvent) -> bool
+    ensures { IsTrue result → (i : ℕ) → items_at lists.new.items i ≡
+        option_map (λ l. l ++ delays_at i index event) (items_at lists.old.items i) }
+{
+    match lists.get_mut(index as usize) {
+        Some(delays) => push_delay(delays, event),
+        None => true,
+    }
+}
+
+/// Makes room for N more delays in the list of this index, if there is one.
+pub(crate) fn reserve_at(
+    lists: &mut Vec<Vec<u64>>,
+    index: u32,
+    more: usize,
+) -> Result<(), AllocError>
+    ensures { (i : ℕ) → items_at lists.new.items i ≡ items_at lists.old.items i }
+{
+    match lists.get_mut(index as usize) {
+        Some(delays) => delays.reserve(more),
+        None => Ok(()),
+    }
+}
