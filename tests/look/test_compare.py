@@ -183,7 +183,7 @@ class Rejected(runs.Case):
 
     def test_what_the_program_rejects(self):
         policy = self.write("policy", STRICT.read_text().replace("using strict", "using drr"))
-        self.assert_rejected("%s, line 9: what is used is declared" % policy, policy, *WORDS)
+        self.assert_rejected("%s, line 9: a transaction, child, class or variable isn't declared" % policy, policy, *WORDS)
         target = self.write("target", "arity = 2\nheight = 0\n")
         self.assert_rejected("%s: " % target, STRICT, "--target", target, *WORDS[2:])
         capture = self.folder / "capture"
