@@ -149,7 +149,7 @@ Leaves-trans x y z (inl h) (inr k) = inl (omega (arith, h, k.0))
 Leaves-trans x y z (inr h) (inl k) = inl (omega (arith, h.0, k))
 Leaves-trans x y z (inr h) (inr k) = inr (h.0 ∙ k.0, omega (arith, h.1, k.1))
 
--- an entry dequeued before the top is dequeued before all entries that the top precedes
+-- an entry dequeued before the top is dequeued before each entry that is not before the top
 leaves_too : (x top z : Held) → Leaves x top → is_lt (leaving_order z top) ≡ false → Leaves x z
 leaves_too x top z (inl h) upper = inl (grind (arith, nat_tests, h, upper))
 leaves_too x top z (inr h) upper =

@@ -52,7 +52,7 @@ pub take_from-sooner : (r v : ℕ) (q : Queue) (m : Taking) → take_least q ≡
 take_from-sooner r v [] m p = cc
 take_from-sooner r v (e ∷ q) m p = let k : take_from e.0 e.1 q ≡ m = cc in ap (sooner r v (e ∷ q)) k
 
--- every rank is above this one; below, every rank is at least this one
+-- `AllAbove`: every rank is above this one; `AllFrom`: every rank is at least this one
 abbrev pub AllAbove : ℕ → Queue → Type 0
 AllAbove rank q = AllByRecursion (λ (e : Entry). rank < e.0) q
 

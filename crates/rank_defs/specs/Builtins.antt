@@ -1,5 +1,5 @@
--- The built-in transactions: first in first out, strict priority, shortest packet first, least slack time first, round
--- robin, and start-time fair queueing.
+-- The built-in transactions: first in first out, strict priority, shortest packet first, least
+-- slack time first, round robin, and start-time fair queueing.
 use Rattle.std.specs.Prelude.{ℕ, Bool, true, false, ◌&&◌, ◌==◌, List, [], ◌∷◌, Option, codes, find}
 use Rattle.std.specs.Option.{option_map}
 use Rattle.rank_defs.specs.declared.expression.Op.TheVariants.{Add, Mul, Div, Max}

@@ -6,7 +6,7 @@ pub fn leaf_addresses_lead_to_leaves()
     ensures { LeafAddressesLeadToLeaves }
 {}
 
-/// An address is exactly a prefix followed by the remainder after that prefix.
+/// The remainder of an address after a prefix is exactly the part after that prefix.
 pub fn prefixes_come_before()
     ensures { PrefixesComeBefore }
 {}
