@@ -38,7 +38,7 @@ kept_lines k = line (AimKeep k.keep) (variable Rank) ∷ []
 abbrev pub fair_lines : Fair → List Assignment
 fair_lines f = line AimRank (latest f.keep f.each) ∷ line (AimEach f.each) (next f.scale) ∷ []
 
--- some assignments have the same effect as others
+-- the two lists of assignments have the same effect
 abbrev pub RunAs : Program → List Assignment → List Assignment → Type 0
 RunAs p lines known = (env : Env) (m : Memory) → run p env lines m ≡ run p env known m
 

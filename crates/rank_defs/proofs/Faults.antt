@@ -98,7 +98,7 @@ divides : (b : Bool) → (b ≡ false → ⊥) → b ≡ true
 divides true h = refl
 divides false h = absurd (h refl)
 
--- an entry none of whose clauses fails is checked
+-- an entry without a fault is checked
 pub entry-checked : (e : Entry) → (Clashes e → ⊥) → (IsWide e → ⊥) → (MayDivideByZero e → ⊥) → IsCheckedAssignment e.program e.assignment
 entry-checked e c w z =
     record { typed = typed (sort_of e.assignment.formula) c; narrow = narrow (parts_narrow_or_wide (declared e.program) e.assignment.formula) w; divides = divides (parts_divide (declared e.program) e.assignment.formula) z }
