@@ -1,4 +1,4 @@
--- A queue in a run and a heap: after a pair arrives, and after the first to leave has left.
+-- A queue in a run and a heap: after a push, and after a pop.
 use Rattle.std.proofs.Common.{◌≡◌, ◌<◌, ◌≤◌, ◌+◌, inl, inr, ℕ, true, false, List, [], ◌∷◌, ◌++◌, map, length, suc, Some, refl, sym, ap, ◌∙◌, arith, get_or, zero, subst}
 use Rattle.std.specs.List.{AllByRecursion, IsDistinct}
 use Rattle.std.specs.List.Sorted.{IsPermutation}
@@ -33,7 +33,7 @@ later : (n : ℕ) (xs : List Held) → ArrivedBefore n xs → ArrivedBefore (n +
 later n [] h = tt
 later n (y ∷ xs) h = (omega (arith, h.0), later n xs h.1)
 
--- an entry that arrives now, wherever it is kept
+-- an entry that arrives now, wherever it is stored
 module _ (x : Held) (front back new : List Held) (apart : IsDistinct arrived_together (front ++ back)) (earlier : ArrivedBefore x.arrival (front ++ back)) (p : IsPermutation (front ++ x ∷ back) new) where
   between : IsPermutation (x ∷ (front ++ back)) (front ++ x ∷ back)
   between = IsPermutation-sym (front ++ x ∷ back) (x ∷ (front ++ back)) (IsPermutation-middle front x back)
@@ -60,7 +60,7 @@ behind_all (e ∷ run) b rest = ap (λ l. wide e ∷ l) (behind_all run b rest)
 behind : (run : List Brief) (b : Brief) → map wide (run ++ b ∷ []) ≡ map wide run ++ wide b ∷ []
 behind run b = map-append wide run (b ∷ [])
 
--- no rank of the run is above that of its last entry
+-- no rank in the run is above that of its last entry
 pub ranks_below_last : (run : List Brief) (n : ℕ) (d b : Brief) (r : ℕ) → n + 1 ≡ length run → InLeavingOrder (map wide run) → b ≡ get_or run n d → b.rank ≤ r → AllByRecursion (λ (e : Held). e.rank ≤ r) (map wide run)
 ranks_below_last [] n d b r long ordered at le = tt
 ranks_below_last (e ∷ []) n d b r long ordered at le =
@@ -81,7 +81,7 @@ pub ranks_below_none : (run : List Brief) (r : ℕ) → length run ≡ 0 → All
 ranks_below_none [] r none = tt
 ranks_below_none (e ∷ run) r none = absurd (omega (arith, none))
 
--- an entry that arrives now, last in the run
+-- an entry that arrives now, appended to the run
 module _ (b : Brief) (run : List Brief) (items : List (Reverse Held)) (kept : IsHeaped run items b.arrival) (before : AllByRecursion (λ (e : Held). e.rank ≤ b.rank) (map wide run)) where
   joined_behind : IsPermutation (map wide run ++ wide b ∷ held_of items) (held_of_both (run ++ b ∷ []) items)
   joined_behind = rw (behind_all run b (held_of items)) (IsPermutation-refl _)
@@ -110,7 +110,7 @@ module _ (x : Held) (b : Brief) (same : wide b ≡ x) (run : List Brief) (items 
       subst (λ (z : Held). IsHeaped run items z.arrival → AllByRecursion (λ (e : Held). e.rank ≤ z.rank) (map wide run) → IsHeaped (run ++ b ∷ []) items (z.arrival + 1))
       same (IsHeaped-behind b run items) kept before
 
--- an entry that arrives now, in the heap
+-- an entry that arrives now, added to the heap
 module _ (x : Reverse Held) (run : List Brief) (items new : List (Reverse Held)) (kept : IsHeaped run items x.0.arrival) (p : IsPermutation (x ∷ items) new) where
   joined : IsPermutation (map wide run ++ x.0 ∷ held_of items) (held_of_both run new)
   joined = IsPermutation-append_right (map wide run) (x.0 ∷ held_of items) (held_of new) (IsPermutation-map (λ (r : Reverse Held). r.0) (x ∷ items) new p)
@@ -126,7 +126,7 @@ module _ (x : Reverse Held) (run : List Brief) (items new : List (Reverse Held))
     earlier = earlier-arrived x.0 (map wide run) (held_of items) (held_of_both run new) kept.apart kept.earlier joined;
   }
 
--- none of a heap leaves before the one on top
+-- no entry of a heap is dequeued before the one on top
 leaves : (x y : Held) → is_lt (leaving_order y x) ≡ false → arrived_together x y ≡ false → Leaves x y
 leaves x y upper other =
     let low : x.rank ≤ y.rank = grind (arith, nat_tests, upper) in
@@ -149,7 +149,7 @@ Leaves-trans x y z (inl h) (inr k) = inl (omega (arith, h, k.0))
 Leaves-trans x y z (inr h) (inl k) = inl (omega (arith, h.0, k))
 Leaves-trans x y z (inr h) (inr k) = inr (h.0 ∙ k.0, omega (arith, h.1, k.1))
 
--- what leaves before the top leaves before what the top doesn't leave behind
+-- an entry dequeued before the top is dequeued before each entry that is not before the top
 leaves_too : (x top z : Held) → Leaves x top → is_lt (leaving_order z top) ≡ false → Leaves x z
 leaves_too x top z (inl h) upper = inl (grind (arith, nat_tests, h, upper))
 leaves_too x top z (inr h) upper =
@@ -167,7 +167,7 @@ all_leave : (x : Reverse Held) (items : List (Reverse Held)) → IsUpperBound he
 all_leave x [] upper apart = tt
 all_leave x (y ∷ items) upper apart = (leaves x.0 y.0 upper.0 apart.0, all_leave x items upper.1 apart.1)
 
--- where the first of the run leads, it leaves before all of the heap
+-- if the first of the run leads, it is dequeued before every entry of the heap
 heap_behind : (b : Brief) (run : List Brief) (items : List (Reverse Held)) → leads (b ∷ run) items ≡ true → TopIsFirst items → AllByRecursion (λ y. arrived_together (wide b) y ≡ false) (held_of items) → AllByRecursion (Leaves (wide b)) (held_of items)
 heap_behind b run [] first top apart = tt
 heap_behind b run (t ∷ items) first top apart = leave_too (wide b) t (t ∷ items) (leaves_first (wide b) t.0 first apart.0) top
@@ -183,7 +183,7 @@ module _ (b : Brief) (run : List Brief) (items : List (Reverse Held)) (n : ℕ) 
   unfolding IsDistinct
   IsHeaped-led = record { in_order = kept.in_order.1; in_heap = kept.in_heap; apart = kept.apart.1; earlier = kept.earlier.1 }
 
--- where the first of the run doesn't lead, the top leaves before all of the run
+-- if the first of the run doesn't lead, the top is dequeued before every entry of the run
 run_behind : (run : List Brief) (t : Reverse Held) (items : List (Reverse Held)) → leads run (t ∷ items) ≡ false → InLeavingOrder (map wide run) → AllByRecursion (λ y. arrived_together t.0 y ≡ false) (map wide run) → AllByRecursion (Leaves t.0) (map wide run)
 run_behind [] t items behind_top ordered apart = tt
 run_behind (b ∷ run) t items behind_top ordered apart =
@@ -226,7 +226,7 @@ IsHeaped-empty [] [] no_run none ordered = record { in_order = tt; in_heap = ord
 IsHeaped-empty [] (x ∷ items) no_run none ordered = cc
 IsHeaped-empty (b ∷ run) items no_run none ordered = cc
 
--- where the run doesn't lead and the heap is empty, there is no pair
+-- if the run doesn't lead and the heap is empty, the queue is empty
 pub queue_of-neither : (run : List Brief) (items : List (Reverse Held)) → leads run items ≡ false → length items ≡ 0 → queue_of (held_of_both run items) ≡ []
 queue_of-neither [] [] behind_top none = queue_of-empty
 queue_of-neither (b ∷ run) [] behind_top none = cc

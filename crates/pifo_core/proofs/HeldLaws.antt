@@ -1,4 +1,4 @@
--- A queue read from what is held: after an entry arrives, and after the first to leave has left.
+-- The abstract queue of the queued entries: after a push, and after a pop.
 use Rattle.std.proofs.Common.{zero, suc, ◌≡◌, ◌≢◌, ◌<◌, ◌≤◌, ◌+◌, inl, inr, ℕ, Bool, true, false, cond, List, [], ◌∷◌, ◌++◌, map, length, Some, refl, sym, ap, ◌∙◌, arith, nat_lt, take, drop, get_or, insert, remove}
 use Rattle.std.proofs.lemmas.List.{take-append-drop}
 use Rattle.std.proofs.Math.Nat.{eq-or-lt_of_le}
@@ -47,7 +47,7 @@ pub placed-placed : (x y : Held) (q : List Held) → x.arrival ≢ y.arrival →
 placed-placed x y [] ne = grind (arith, nat_tests)
 placed-placed x y (e ∷ q) ne = grind (arith, nat_tests, placed-placed x y q ne)
 
--- an entry that arrives is placed among those that are held, wherever it is kept
+-- a new entry goes to its place in order of arrival, wherever it is stored
 in_arrival_order-insert : (x : Held) (front back : List Held) → ArrivedBefore x.arrival front → in_arrival_order (front ++ x ∷ back) ≡ placed x (in_arrival_order (front ++ back))
 in_arrival_order-insert x [] back h = refl
 in_arrival_order-insert x (e ∷ front) back h =
@@ -65,7 +65,7 @@ queue_of-insert x front back h =
     ∙ placed-last x (in_arrival_order (front ++ back)) (All-in_arrival_order _ (front ++ back) h))
     ∙ map-append_one (in_arrival_order (front ++ back)) x
 
--- The first to leave stands behind higher ranks only, and before none that is lower.
+-- the first to be dequeued has only higher ranks before it, and no lower rank after it
 record Splits (x : Held) (q : List Held) : Type 0 where
   before : List Held
   after : List Held
@@ -131,7 +131,7 @@ pub length-queue_of : (held : List Held) → length (queue_of held) ≡ length h
 unfolding queue_of
 length-queue_of held = length-pairs (in_arrival_order held) ∙ length-in_arrival_order held
 
--- an entry between those that leave before it and those that it leaves before
+-- an entry inserted between those dequeued before it and those dequeued after it
 pub InLeavingOrder-insert : (x : Held) (front back : List Held) → InLeavingOrder (front ++ back) → AllByRecursion (λ e. Leaves e x) front → AllByRecursion (Leaves x) back → InLeavingOrder (front ++ x ∷ back)
 InLeavingOrder-insert x [] back ordered first last = (last, ordered)
 InLeavingOrder-insert x (e ∷ front) back ordered first last =
@@ -141,7 +141,7 @@ pub leave_before : (x : Held) (xs : List Held) → AllByRecursion (λ (e : Held)
 leave_before x [] h k = tt
 leave_before x (e ∷ xs) h k = (elim (eq-or-lt_of_le k.0) [ inl same ↦ inr (same, h.0) | inr less ↦ inl less ], leave_before x xs h.1 k.1)
 
--- what `remove(0)` answers and leaves
+-- the result and the effect of `remove(0)`
 pub queue_of-removed : (held : List Held) (d : Held) → 0 < length held → InLeavingOrder held → take_least (queue_of held) ≡ Some (taking (get_or held 0 d) (queue_of (remove held 0)))
 queue_of-removed [] d some ordered = absurd (omega (arith, some))
 queue_of-removed (x ∷ others) d some ordered = queue_of-first x others ordered.0
@@ -150,7 +150,7 @@ pub IsKept-removed : (held : List Held) (n : ℕ) → 0 < length held → IsKept
 IsKept-removed [] n some kept = absurd (omega (arith, some))
 IsKept-removed (x ∷ others) n some kept = record { in_order = kept.in_order.1; earlier = kept.earlier.1 }
 
--- an entry that arrives now behind those of its rank or a lower one
+-- an entry that arrives now, inserted after those of its rank or a lower one
 module _ (held : List Held) (place : ℕ) (x : Held) (kept : IsKept held x.arrival)
     (before : AllByRecursion (λ (e : Held). e.rank ≤ x.rank) (take place held)) (behind : AllByRecursion (λ (e : Held). x.rank < e.rank) (drop place held)) where
   pub queue_of-inserted : queue_of (insert held place x) ≡ put (queue_of held) x.rank x.value
@@ -173,7 +173,7 @@ pub queue_of-none : (held : List Held) → length held ≡ 0 → queue_of held �
 queue_of-none [] none = queue_of-empty
 queue_of-none (x ∷ others) none = absurd (omega (arith, none))
 
--- from places to the elements in order
+-- from facts by index to facts about the elements in order
 pub All-take : {X : Type 0} (P : X → Type 0) (i : ℕ) (xs : List X) → AllWithin P xs 0 i → i ≤ length xs → AllByRecursion P (take i xs)
 All-take P zero xs h short = tt
 All-take P (suc i) [] h short = tt
@@ -185,7 +185,7 @@ All-drop P zero (x ∷ xs) h = (h 0 x (omega arith) (omega arith), All-drop P ze
 All-drop P (suc i) [] h = tt
 All-drop P (suc i) (x ∷ xs) h = All-drop P i xs (λ k d low high. h (suc k) d (omega (arith, low)) (omega (arith, high)))
 
--- the ranks don't fall
+-- the ranks never decrease
 pub ranks_rise : (held : List Held) → InLeavingOrder held → (i j : ℕ) (d : Held) → i ≤ j → j < length held → (get_or held i d).rank ≤ (get_or held j d).rank
 ranks_rise [] ordered i j d le inside = absurd (omega (arith, inside))
 ranks_rise (x ∷ others) ordered zero zero d le inside = omega arith

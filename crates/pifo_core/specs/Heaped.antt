@@ -1,4 +1,4 @@
--- What a queue kept in a run and a binary heap keeps.
+-- The invariant of a queue kept in a run and a binary heap.
 use Rattle.std.specs.Prelude.{◌≤◌, ℕ, List, [], ◌∷◌, ◌++◌, map, Bool, false, true, nat_eq}
 use Rattle.std.specs.List.{AllByRecursion, IsDistinct}
 use Rattle.std.specs.BinaryHeap.{IsHeap, IsUpperBound}
@@ -12,33 +12,33 @@ use Rattle.pifo_core.specs.Held.{wide, IsSmall, InLeavingOrder, ArrivedBefore}
 abbrev pub held_of : List (Reverse Held) → List Held
 held_of items = map (λ r. r.0) items
 
--- by rank, then by sequence number
+-- dequeue order: by rank, then by sequence number
 abbrev pub leaving_order : Held → Held → Ordering
 leaving_order x y = ordering_then (nat_cmp x.rank y.rank) (ordering_then (nat_cmp x.arrival y.arrival) (nat_cmp x.value y.value))
 
--- the greatest of a heap is the first to leave
+-- the greatest element of the heap is the first to be dequeued
 abbrev pub heap_order : Reverse Held → Reverse Held → Ordering
 heap_order x y = leaving_order y.0 x.0
 
 abbrev pub arrived_together : Held → Held → Bool
 arrived_together x y = nat_eq x.arrival y.arrival
 
--- no entry of the heap leaves before the one on top
+-- no entry of the heap is dequeued before the one on top
 abbrev pub TopIsFirst : List (Reverse Held) → Type 0
 TopIsFirst [] = Unit {0}
 TopIsFirst (top ∷ items) = IsUpperBound heap_order top (top ∷ items)
 
--- the entries of the run, and then those of the heap
+-- the entries of the run, followed by those of the heap
 abbrev pub held_of_both : List Brief → List (Reverse Held) → List Held
 held_of_both run items = map wide run ++ held_of items
 
--- whether the first of the run leaves before the top of the heap
+-- whether the first entry of the run is dequeued before the top of the heap
 abbrev pub leads : List Brief → List (Reverse Held) → Bool
 leads [] items = false
 leads (first ∷ run) [] = true
 leads (first ∷ run) (top ∷ items) = is_lt (leaving_order (wide first) top.0)
 
--- an entry that fits into a brief one, of no lower rank than any of the run
+-- an entry that fits in a `Brief`, with a rank at least that of every entry in the run
 abbrev pub MayFollow : List Brief → Held → Type 0
 MayFollow run x = IsSmall x × AllByRecursion (λ e. e.rank ≤ x.rank) (map wide run)
 

@@ -1,19 +1,19 @@
--- The pairs that stand in a queue, read from what it holds.
+-- The abstract queue of a list of queued entries.
 use Rattle.std.specs.Prelude.{◌≡◌, ◌<◌, ◌^◌, ◌⊎◌, ℕ, List, [], ◌∷◌, map, if◌then◌else◌, nat_lt}
 use Rattle.std.specs.List.{AllByRecursion}
 use Rattle.pifo_defs.specs.Queue.{Queue}
 use Rattle.pifo_core.specs.declared.held.Held.{Held}
 use Rattle.pifo_core.specs.declared.held.Brief.{Brief}
 
--- an entry in brief, at its full width
+-- a `Brief` entry at full width
 abbrev pub wide : Brief → Held
 wide b = record { rank = b.rank; arrival = b.arrival; value = b.value }
 
--- its sequence number and its value fit into 32 bits
+-- the sequence number and the value fit in 32 bits
 abbrev pub IsSmall : Held → Type 0
 IsSmall x = (x.arrival < 2 ^ 32) × (x.value < 2 ^ 32)
 
--- an entry among others in the order of their arrival
+-- inserts an entry in order of arrival
 abbrev pub placed : Held → List Held → List Held
 placed x [] = x ∷ []
 placed x (e ∷ others) = if nat_lt e.arrival x.arrival then e ∷ placed x others else x ∷ e ∷ others
@@ -28,11 +28,11 @@ pair e = (e.rank, e.value)
 unfoldable pub queue_of : List Held → Queue
 queue_of held = map pair (in_arrival_order held)
 
--- it leaves before the other: it has the lower rank, or the same and came earlier
+-- x is dequeued before y: it has a lower rank, or the same rank and an earlier arrival
 abbrev pub Leaves : Held → Held → Type 0
 Leaves x y = (x.rank < y.rank) ⊎ ((x.rank ≡ y.rank) × (x.arrival < y.arrival))
 
--- in the order of leaving
+-- the entries are in dequeue order
 abbrev pub InLeavingOrder : List Held → Type 0
 InLeavingOrder [] = Unit {0}
 InLeavingOrder (x ∷ others) = AllByRecursion (Leaves x) others × InLeavingOrder others

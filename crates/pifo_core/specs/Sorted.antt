@@ -1,10 +1,10 @@
--- What a queue kept in the order of leaving keeps.
+-- The invariant of a queue kept in dequeue order.
 use Rattle.std.specs.Prelude.{ℕ, List}
 use Rattle.pifo_defs.specs.Queue.{Queue}
 use Rattle.pifo_core.specs.declared.held.Held.{Held}
 use Rattle.pifo_core.specs.Held.{InLeavingOrder, ArrivedBefore}
 
--- what contracts see of a queue
+-- the part of a queue that contracts see
 pub record Contents : Type 0 where
   pub entries : Queue
   pub pushes : ℕ

@@ -1,8 +1,8 @@
--- What a pop answers and leaves.
+-- The result and the effect of a pop.
 use Rattle.std.specs.Prelude.{◌≡◌, ℕ, Option, None, Some, []}
 use Rattle.pifo_defs.specs.Queue.{Queue, take_least}
 
--- the earliest pair of the least rank leaves, and none where there is none
+-- dequeues the earliest pair of the least rank, or nothing if the queue is empty
 abbrev pub Pops : Queue → Option (ℕ × ℕ) → Queue → Type 0
 Pops old None new = (old ≡ []) × (new ≡ [])
 Pops old (Some e) new = take_least old ≡ Some (record { rank = e.0; value = e.1; rest = new })

@@ -1,4 +1,4 @@
-//! A queue kept in a binary heap, but for what came in order of rank.
+//! A queue that keeps in-order arrivals in a FIFO and the others in a binary heap.
 ghost use Rattle.std.specs.Prelude.{◌≡◌, ◌+◌, ◌≤◌, ◌<◌, ◌↔◌, [], ◌∷◌, map, IfNone, IfSome, OnOk, OnSome, IsSome, slice_index_or};
 ghost use Rattle.std.specs.List.Sorted.{IsPermutation};
 ghost use Rattle.std.specs.BinaryHeap.{heap_items, heap_len, heap_capacity, IsHeap, IsUpperBound, KeepsHeap, PopsGreatest, HeapUnchanged};
@@ -12,16 +12,18 @@ use std::cmp::Reverse;
 use std::collections::{BinaryHeap, VecDeque};
 use std::marker::Model;
 
-/// A queue whose pairs are kept in the order of leaving where they came in it, and otherwise in a binary heap, with the one that
-/// leaves first on top.
+/// A queue that keeps pairs which arrive in dequeue order in a FIFO (the run). The others are kept
+/// in a binary heap, with the first to be dequeued on top.
 #[derive(Drop)]
 pub struct HeapPifo {
-    /// In the order of leaving. A pair of numbers that fit comes last here, unless its rank is below another's.
+    /// Entries in dequeue order. A pair is appended here if it fits in a `Brief` and its rank isn't
+    /// below that of another entry of the run.
     run: VecDeque<Brief>,
-    /// The other pairs.
+    /// All other pairs.
     heap: BinaryHeap<Reverse<Held>>,
     pushed: u64,
-    /// For how many pushes there is room. A push into a `BinaryHeap` promises of its capacity only that it doesn't fall.
+    /// The number of pushes for which there is room. `BinaryHeap` only guarantees that a push
+    /// doesn't reduce its capacity.
     spare: usize,
 }
 
@@ -41,7 +43,7 @@ impl Model for HeapPifo {
 }
 
 impl HeapPifo {
-    /// A queue without a pair. Takes no memory.
+    /// Returns an empty queue. Allocates no memory.
     pub fn new(alloc: Global) -> HeapPifo
         ensures entries { result.entries ≡ [] }
         ensures pushes { result.pushes ≡ 0 }
@@ -54,7 +56,7 @@ impl HeapPifo {
         }
     }
 
-    /// Makes room for `more` pushes by taking memory.
+    /// Allocates memory for `more` pushes. The error means out of memory.
     #[inline(never)]
     fn grow(&mut self, more: usize) -> Result<(), AllocError>
         requires short { self.old.spare < more }
@@ -95,7 +97,7 @@ impl Pifo for HeapPifo {
             value,
         };
         match brief_behind(&self.run, &held) {
-            // There is a spare place in each part, so neither push can fail.
+            // Both parts have room for one more entry, so neither push can fail.
             Some(brief) => {
                 self.run.push_back_reserved(brief);
             }
@@ -127,7 +129,7 @@ impl Pifo for HeapPifo {
     }
 }
 
-/// Puts an entry into the heap, which has a spare place.
+/// Adds an entry to the heap, which has room for it.
 #[inline(never)]
 fn push_aside(heap: &mut BinaryHeap<Reverse<Held>>, held: Held)
     requires room { heap_len heap.old < heap_capacity heap.old }
@@ -140,7 +142,7 @@ fn push_aside(heap: &mut BinaryHeap<Reverse<Held>>, held: Held)
     let _ = heap.push(Reverse(held));
 }
 
-/// Takes the entry on top of the heap, if there is one.
+/// Removes the entry at the top of the heap, if there is one.
 #[inline(never)]
 fn pop_aside(heap: &mut BinaryHeap<Reverse<Held>>) -> Option<Reverse<Held>>
     ensures len { OnSome result (heap_len heap.new + 1 ≡ heap_len heap.old) }
@@ -158,7 +160,7 @@ fn pop_aside(heap: &mut BinaryHeap<Reverse<Held>>) -> Option<Reverse<Held>>
     heap.pop()
 }
 
-/// The entry in brief, where it may stand last in the run.
+/// Returns the entry as a `Brief`, if it may be appended to the run.
 #[inline(always)]
 fn brief_behind(run: &VecDeque<Brief>, held: &Held) -> Option<Brief>
     requires { InLeavingOrder (map wide run.now.items) }
@@ -171,7 +173,7 @@ fn brief_behind(run: &VecDeque<Brief>, held: &Held) -> Option<Brief>
     }
 }
 
-/// Whether the pair that leaves is the first of the run.
+/// Returns whether the next pair to be dequeued is the first of the run.
 #[inline(always)]
 fn run_leads(run: &VecDeque<Brief>, heap: &BinaryHeap<Reverse<Held>>) -> bool
     ensures leads { result ≡ leads run.now.items (heap_items heap.now) }

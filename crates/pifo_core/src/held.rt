@@ -1,9 +1,9 @@
-//! A pair of a queue with its sequence number.
+//! A queued pair with its sequence number.
 ghost use Rattle.std.specs.Prelude.{◌≡◌, ◌↔◌, IfSome, IsSome};
 ghost use Rattle.pifo_core.specs.Held.{wide, IsSmall};
 
-/// A pair of a queue, with its sequence number: how many pushes there were before its own. The order of leaving is that of the
-/// fields.
+/// A queued pair with its sequence number: the number of pushes before its own. The order of the
+/// fields gives the dequeue order.
 #[derive(Clone, Copy, Debug, PartialEq, Eq, PartialOrd, Ord)]
 pub struct Held {
     pub rank: u64,
@@ -11,7 +11,7 @@ pub struct Held {
     pub value: u64,
 }
 
-/// The same in 16 bytes, where the sequence number and the value fit.
+/// The same entry in 16 bytes, if the sequence number and the value each fit in 32 bits.
 #[derive(Clone, Copy)]
 pub struct Brief {
     pub rank: u64,
@@ -20,7 +20,8 @@ pub struct Brief {
 }
 
 impl Brief {
-    /// `None` where the sequence number or the value doesn't fit.
+    /// Converts an entry. Returns `None` if the sequence number or the value doesn't fit in 32
+    /// bits.
     #[inline(always)]
     pub fn of(held: &Held) -> Option<Brief>
         ensures same { IfSome result (λ b. wide b ≡ held.now) }
@@ -35,7 +36,7 @@ impl Brief {
         })
     }
 
-    /// The entry at its full width.
+    /// Returns the entry at full width.
     #[inline(always)]
     pub fn wide(&self) -> Held
         ensures same { result ≡ wide self.now }

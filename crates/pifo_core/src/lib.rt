@@ -1,5 +1,5 @@
-//! Push-in first-out queues that are pushed and popped in place, and the trait that they meet. Begin with src/pifo.rt and
-//! specs/Taking.antt.
+//! Push-in first-out queues that are updated in place, and the trait that they implement. Begin
+//! with src/pifo.rt and specs/Taking.antt.
 #![tactic(auto)]
 
 mod heap;

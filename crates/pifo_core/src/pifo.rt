@@ -5,26 +5,26 @@ ghost use Rattle.pifo_core.specs.Taking.{Pops};
 
 use std::alloc::AllocError;
 
-/// A push-in first-out queue (SIGCOMM 2016): of its pairs of a rank and a value the one of the least rank leaves first, and of
-/// those that tie the one that arrived first.
+/// A push-in first-out queue (SIGCOMM 2016) of pairs of a rank and a value. The pair of the least
+/// rank is dequeued first; ties are broken in order of arrival.
 pub trait Pifo {
     /// The pairs of rank and value, in order of arrival.
     ghost entries: { Self → Queue };
 
-    /// How many pushes there were in the queue's life.
+    /// The number of pushes since the queue was created.
     ghost pushes: { Self → ℕ };
 
-    /// For how many pushes there is room.
+    /// The number of pushes for which there is room.
     ghost spare: { Self → ℕ };
 
-    /// Makes room for `more` pushes. The error is want of memory.
+    /// Makes room for `more` pushes. The error means out of memory.
     fn reserve(&mut self, more: usize) -> Result<(), AllocError>
         ensures room { OnOk result (more ≤ spare self.new) }
         ensures kept { spare self.old ≤ spare self.new }
         ensures entries { entries self.new ≡ entries self.old }
         ensures pushes { pushes self.new ≡ pushes self.old };
 
-    /// Puts a pair last in the order of arrival. Takes no memory.
+    /// Adds a pair as the last to arrive. Allocates no memory.
     fn push(&mut self, rank: u64, value: u64)
         requires room { 1 ≤ spare self.old }
         requires few { pushes self.old < 2 ^ 62 }
@@ -32,17 +32,18 @@ pub trait Pifo {
         ensures pushes { pushes self.new ≡ pushes self.old + 1 }
         ensures spare { spare self.new + 1 ≡ spare self.old };
 
-    /// Takes the pair that leaves: its rank and its value, or `None` exactly where there is no pair.
+    /// Dequeues the next pair and returns its rank and value, or `None` exactly if the queue is
+    /// empty.
     fn pop(&mut self) -> Option<(u64, u64)>
         ensures taken { Pops (entries self.old) result (entries self.new) }
         ensures pushes { pushes self.new ≡ pushes self.old }
         ensures spare { spare self.old ≤ spare self.new };
 
-    /// How many pairs there are.
+    /// Returns the number of queued pairs.
     fn len(&self) -> usize
         ensures length { result ≡ length (entries self.now) };
 
-    /// How many pushes there were in the queue's life.
+    /// Returns the number of pushes since the queue was created.
     fn pushed(&self) -> u64
         ensures pushes { result ≡ pushes self.now };
 }

@@ -1,4 +1,4 @@
-//! A queue kept in the order of leaving.
+//! A queue kept in dequeue order.
 ghost use Rattle.std.specs.Prelude.{◌≡◌, ◌<◌, ◌≤◌, [], length, take, drop};
 ghost use Rattle.std.specs.List.{AllByRecursion};
 ghost use Rattle.pifo_core.specs.Held.{InLeavingOrder};
@@ -8,7 +8,7 @@ use crate::pifo::Pifo;
 use std::alloc::{AllocError, Global};
 use std::marker::Model;
 
-/// A queue whose pairs are kept in the order of leaving: by rank, then by sequence number.
+/// A queue whose pairs are kept in dequeue order: by rank, then by sequence number.
 #[derive(Drop)]
 pub struct SortedPifo {
     held: Vec<Held>,
@@ -28,7 +28,7 @@ impl Model for SortedPifo {
 }
 
 impl SortedPifo {
-    /// A queue without a pair. Takes no memory.
+    /// Returns an empty queue. Allocates no memory.
     pub fn new(alloc: Global) -> SortedPifo
         ensures entries { result.entries ≡ [] }
         ensures pushes { result.pushes ≡ 0 }
@@ -54,7 +54,7 @@ impl Pifo for SortedPifo {
     fn push(&mut self, rank: u64, value: u64) {
         let arrival = self.pushed;
         let place = place_for(&self.held, rank);
-        // There is a spare place, so this can't fail.
+        // There is room for one more entry, so this can't fail.
         let _ = self.held.insert(
             place,
             Held {
@@ -83,7 +83,7 @@ impl Pifo for SortedPifo {
     }
 }
 
-/// The place behind the entries of this rank or a lower one.
+/// Returns the index after all entries of this rank or a lower one.
 fn place_for(held: &[Held], rank: u64) -> usize
     requires { InLeavingOrder held.now }
     ensures bound { result ≤ length held.now }

@@ -1,11 +1,11 @@
--- What leaves a queue.
+-- The pair that a queue dequeues.
 use Rattle.std.proofs.Common.{◌≡◌, ℕ, ◌+◌, ◌≤◌, ◌<◌, [], ◌∷◌, ◌++◌, Some, None, refl, sym, ap, ◌∙◌, subst, arith, inl, inr, length, suc}
 use Rattle.std.proofs.lemmas.Bool.{le-leb, lt-leb, cases_lt}
 use Rattle.std.specs.List.{AllByRecursion}
 use Rattle.pifo_defs.specs.Queue.{Queue, Entry, Taking, put, sooner, take_from, take_least}
 use Rattle.pifo_defs.specs.Laws.{LeavesFrom, EarliestOfTheLeastLeaves, NothingLeavesAnEmptyQueue}
 
--- no rank is below this one
+-- every rank is at least m
 abbrev pub NoneBelow : ℕ → Queue → Type 0
 NoneBelow m [] = Unit {0}
 NoneBelow m (e ∷ q) = (m ≤ e.0) × NoneBelow m q
@@ -14,7 +14,7 @@ pub NoneBelow-le : (m n : ℕ) (q : Queue) → m ≤ n → NoneBelow n q → Non
 NoneBelow-le m n [] l h = tt
 NoneBelow-le m n (e ∷ q) l h = (omega (arith, h.0), NoneBelow-le m n q l h.1)
 
--- the pair in front leaves, or the one that leaves without it
+-- either the front pair is dequeued, or the one that would be dequeued without it
 pub take_from-front : (r v : ℕ) (e : Entry) (q : Queue) → r ≤ (take_from e.0 e.1 q).rank → take_from r v (e ∷ q) ≡ record { rank = r; value = v; rest = e ∷ q }
 take_from-front r v e q l = rw (le-leb r (take_from e.0 e.1 q).rank l) refl
 
@@ -22,7 +22,7 @@ pub take_from-behind : (r v : ℕ) (e : Entry) (q : Queue) → (take_from e.0 e.
     → take_from r v (e ∷ q) ≡ record { rank = (take_from e.0 e.1 q).rank; value = (take_from e.0 e.1 q).value; rest = (r, v) ∷ (take_from e.0 e.1 q).rest }
 take_from-behind r v e q l = rw (lt-leb r (take_from e.0 e.1 q).rank l) refl
 
--- no rank is below that of the pair that leaves
+-- no rank is below that of the dequeued pair
 pub take_from-least : (r v : ℕ) (q : Queue) → NoneBelow (take_from r v q).rank ((r, v) ∷ q)
 take_from-least r v [] = (omega arith, tt)
 take_from-least r v (e ∷ q) =
@@ -33,7 +33,7 @@ take_from-least r v (e ∷ q) =
       | inr l ↦ subst P (sym (take_from-front r v e q l)) (omega arith, NoneBelow-le r (take_from e.0 e.1 q).rank (e ∷ q) l ih)
     ]
 
--- a lower bound of all ranks is one of the rank that leaves
+-- a lower bound of all ranks is a lower bound of the dequeued rank
 pub take_from-above : (m r v : ℕ) (q : Queue) → m ≤ r → NoneBelow m q → m ≤ (take_from r v q).rank
 take_from-above m r v [] l h = l
 take_from-above m r v (e ∷ q) l h =
@@ -43,7 +43,7 @@ take_from-above m r v (e ∷ q) l h =
       | inr k ↦ subst P (sym (take_from-front r v e q k)) l
     ]
 
--- where no rank is below the first, the first leaves
+-- if no rank is below the first, the first pair is dequeued
 pub take_from-first : (r v : ℕ) (q : Queue) → NoneBelow r q → take_from r v q ≡ record { rank = r; value = v; rest = q }
 take_from-first r v [] h = refl
 take_from-first r v (e ∷ q) h = take_from-front r v e q (take_from-above r e.0 e.1 q h.0 h.1)
@@ -52,7 +52,7 @@ pub take_from-sooner : (r v : ℕ) (q : Queue) (m : Taking) → take_least q ≡
 take_from-sooner r v [] m p = cc
 take_from-sooner r v (e ∷ q) m p = let k : take_from e.0 e.1 q ≡ m = cc in ap (sooner r v (e ∷ q)) k
 
--- every rank is above this one, and every rank is at least this one
+-- `AllAbove`: every rank is above this one; `AllFrom`: every rank is at least this one
 abbrev pub AllAbove : ℕ → Queue → Type 0
 AllAbove rank q = AllByRecursion (λ (e : Entry). rank < e.0) q
 
@@ -67,14 +67,14 @@ all_from : (m : ℕ) (q : Queue) → NoneBelow m q → AllFrom m q
 all_from m [] h = tt
 all_from m (e ∷ q) h = (h.0, all_from m q h.1)
 
--- The pair with all ranks before it above its own, and none behind it below, leaves.
+-- a pair with only higher ranks before it, and no lower rank after it, is dequeued
 pub take_least-split : (r v : ℕ) (before after : Queue) → AllAbove r before → AllFrom r after → take_least (before ++ (r, v) ∷ after) ≡ Some (record { rank = r; value = v; rest = before ++ after })
 take_least-split r v [] after above from = ap Some (take_from-first r v after (none_below r after from))
 take_least-split r v (e ∷ before) after above from =
     ap Some (take_from-sooner e.0 e.1 (before ++ (r, v) ∷ after) (record { rank = r; value = v; rest = before ++ after }) (take_least-split r v before after above.1 from)
     ∙ rw (lt-leb e.0 r above.0) refl)
 
--- from where a pair leaves
+-- the dequeued pair splits the queue
 pub take_from-splits : (r v : ℕ) (q : Queue) → LeavesFrom ((r, v) ∷ q) (take_from r v q)
 take_from-splits r v [] = record { before = []; after = []; stands = refl; above = tt; from = tt; rest = refl }
 take_from-splits r v (e ∷ q) =
@@ -121,7 +121,7 @@ pub length-put : (q : Queue) (r v : ℕ) → length (put q r v) ≡ length q + 1
 length-put [] r v = refl
 length-put (e ∷ q) r v = omega (arith, length-put q r v)
 
--- one pair fewer
+-- one pair fewer remains
 pub length-rest : (r v : ℕ) (q : Queue) → length (take_from r v q).rest ≡ length q
 length-rest r v [] = refl
 length-rest r v (e ∷ q) =

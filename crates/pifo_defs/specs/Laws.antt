@@ -1,9 +1,9 @@
--- What follows from the definition of a queue.
+-- Laws that follow from the definition of a queue.
 use Rattle.std.specs.Prelude.{◌≡◌, ◌<◌, ◌≤◌, ◌↔◌, Some, None, [], ◌∷◌, ◌++◌}
 use Rattle.std.specs.List.{AllByRecursion}
 use Rattle.pifo_defs.specs.Queue.{Entry, Queue, Taking, take_least}
 
--- a pair leaves from between those before it, all of higher ranks, and those behind it, none of a lower rank
+-- the dequeued pair has only higher ranks before it, and no lower rank after it
 pub record LeavesFrom (q : Queue) (t : Taking) : Type 0 where
   pub before : Queue
   pub after : Queue

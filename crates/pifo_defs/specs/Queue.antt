@@ -11,25 +11,26 @@ Queue = List Entry
 abbrev pub put : Queue → ℕ → ℕ → Queue
 put q rank value = q ++ (rank, value) ∷ []
 
--- what leaves a queue, and the queue without it
+-- the rank and value of a dequeued pair, and the remaining queue
 pub record Taking : Type 0 where
   pub rank : ℕ
   pub value : ℕ
   pub rest : Queue
 
--- the pair in front of the queue q leaves where its rank is no greater than that of the pair that would leave without it
+-- dequeues the pair at the front of the queue if its rank is at most that of the pair that would be
+-- dequeued without it
 abbrev pub sooner : ℕ → ℕ → Queue → Taking → Taking
 sooner rank value q later =
     if nat_le rank later.rank
     then record { rank = rank; value = value; rest = q }
     else record later { rest = (rank, value) ∷ later.rest }
 
--- what leaves a queue with this pair in front
+-- dequeues from a queue with this pair at its front
 abbrev pub take_from : ℕ → ℕ → Queue → Taking
 take_from rank value [] = record { rank = rank; value = value; rest = [] }
 take_from rank value (e ∷ q) = sooner rank value (e ∷ q) (take_from e.0 e.1 q)
 
--- the earliest of the pairs whose rank is least leaves
+-- dequeues the earliest pair of the least rank
 abbrev pub take_least : Queue → Option Taking
 take_least [] = None
 take_least (e ∷ q) = Some (take_from e.0 e.1 q)

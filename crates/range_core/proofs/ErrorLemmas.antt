@@ -1,4 +1,4 @@
--- A fault that is answered as an error.
+-- A fault that is returned as an error.
 use Rattle.std.proofs.Common.{◌≡◌, ◌↔◌, Some, Err, Result, ap}
 use Rattle.range_core.specs.declared.fault.RangeFault.{RangeFault}
 

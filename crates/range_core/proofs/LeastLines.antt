@@ -1,4 +1,4 @@
--- The least lines at fault of lists, from those of their parts.
+-- The least lines at fault in lists, from those in their parts.
 use Rattle.std.proofs.Common.{◌≡◌, ℕ, zero, suc, ◌<◌, List, [], ◌∷◌, ◌++◌, map, take, get_or, length, refl, sym, subst, ap, ◌∙◌, arith}
 use Rattle.std.proofs.Math.Seq.{take-suc}
 use Rattle.std.specs.List.{AllByRecursion}
@@ -13,7 +13,7 @@ use Rattle.rank_defs.proofs.LeastFaults.{least-append}
 use Rattle.range_core.specs.declared.lines.Lines.{Lines}
 use Rattle.range_core.specs.LeastLines.{AreLeast}
 
--- the lesser lines of two
+-- the lesser lines of two, error by error
 abbrev pub lesser_lines : Lines → Lines → Lines
 lesser_lines a b =
     record { clash = lesser_line a.clash b.clash; wide = lesser_line a.wide b.wide; zero = lesser_line a.zero b.zero }
@@ -26,7 +26,7 @@ entries-append : (ps qs : List Program) → entries (ps ++ qs) ≡ entries ps ++
 entries-append [] qs = refl
 entries-append (p ∷ ps) qs = rw (entries-append ps qs) (sym (append_assoc (map (entry p) (assignments p)) (entries ps) (entries qs)))
 
--- the first elements and one more
+-- a prefix and the next element
 pub map-next : {A B : Type 0} (f : A → B) (xs : List A) (i : ℕ) (x : A) → x ≡ get_or xs i x → i < length xs → map f (take (suc i) xs) ≡ map f (take i xs) ++ f x ∷ []
 map-next f xs i x e h = rw (take-suc xs i x h, ← e) (map-append f (take i xs) (x ∷ []))
 
@@ -35,7 +35,7 @@ entries-next xs i x e h =
     let p = program_of x
     in rw (map-next program_of xs i x e h) (entries-append (map program_of (take i xs)) (p ∷ []) ∙ ap (λ (es : List Entry). entries (map program_of (take i xs)) ++ es) (append-nil (map (entry p) (assignments p))))
 
--- what holds of all holds of one
+-- a fact about all transactions holds for each one
 pub all-at : (P : Program → Type 0) (xs : List Transaction) (i : ℕ) (x : Transaction) → x ≡ get_or xs i x → i < length xs → AllByRecursion P (map program_of xs) → P (program_of x)
 all-at P [] i x e h a = absurd (omega (arith, h))
 all-at P (y ∷ ys) zero x e h a = subst (λ (z : Transaction). P (program_of z)) (sym e) a.0

@@ -1,11 +1,11 @@
--- Transactions of the tests.
+-- Transactions for the tests.
 use Rattle.std.specs.Prelude.{ℕ, [], ◌∷◌, ◌≤◌}
 use Rattle.rank_defs.specs.declared.transaction.Aim.TheVariants.{Rank}
 use Rattle.rank_defs.specs.Formulas.{Formula, depth_of}
 use Rattle.rank_defs.specs.Programs.{Program, span, max_rank}
 use Rattle.rank_defs.specs.Shapes.{AreDeclared, max_depth}
 
--- a rank by two variables, from 0 to the greatest rank and to a number
+-- a rank computed from two variables: one from 0 to the greatest rank, one from 0 to a given number
 abbrev pub ranked : ℕ → ℕ → Formula → Program
 ranked line most f =
     record { keeps = span 0 max_rank 0 ∷ span 0 most 0 ∷ []; eaches = []; push = record { line = line; aim = Rank; formula = f } ∷ []; pop = [] }

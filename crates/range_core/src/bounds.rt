@@ -1,4 +1,4 @@
-//! What is known of an expression's values.
+//! The interval of an expression's values.
 ghost use Rattle.std.specs.Prelude.{◌≡◌, pos};
 ghost use Rattle.rank_defs.specs.Formulas.{formula_of};
 ghost use Rattle.rank_defs.specs.Programs.{program_of, span_at};
@@ -9,7 +9,7 @@ ghost use Rattle.range_core.specs.Bounds.{AreBoundsOf};
 use crate::interval::{combined, joined, narrow, never_divides_by_zero};
 use rank_defs::{Expr, MAX_PRIO, MAX_RANK, MAX_SLACK, MAX_WEIGHT, Range, Span, Transaction, Var};
 
-/// The interval of an expression, and whether no divisor's interval in it holds 0.
+/// The interval of an expression, and whether none of its divisors' intervals contains 0.
 #[derive(Clone, Copy, PartialEq, Eq, Debug)]
 pub struct Bounds {
     pub range: Range,
@@ -27,7 +27,7 @@ fn range(low: u64, high: u64) -> Range
     }
 }
 
-/// The interval of the span at a place; 0 alone where there is none.
+/// Returns the interval of the span at an index; only 0 if there is none.
 fn declared_at(spans: &[Span], index: u32) -> Range
     ensures { result ≡ range_of_span (span_at spans.now index) }
 {
@@ -37,7 +37,7 @@ fn declared_at(spans: &[Span], index: u32) -> Range
     }
 }
 
-/// The range of a variable.
+/// Returns the interval of a variable.
 fn declared(transaction: &Transaction, var: Var) -> Range
     ensures { result ≡ declared_of (program_of transaction.now) var }
 {
@@ -52,7 +52,7 @@ fn declared(transaction: &Transaction, var: Var) -> Range
     }
 }
 
-/// What is known of an expression, unless the interval of a part is too wide.
+/// Returns the bounds of an expression, or `None` if the interval of a part is too wide.
 pub fn bounds_of(transaction: &Transaction, e: &Expr) -> Option<Bounds>
     requires { IsShaped (program_of transaction.now) }
     ensures { AreBoundsOf (program_of transaction.now) (formula_of e.now) result }

@@ -54,7 +54,7 @@ impl Checked {
     }
 }
 
-/// Holds transactions that passed.
+/// Wraps transactions that passed the checks. The error means out of memory.
 fn hold(transactions: List<Transaction>) -> Result<List<Checked>, AllocError>
     requires shaped { AllByRecursion IsShaped (map program_of transactions) }
     requires checked { AreChecked (map program_of transactions) }
@@ -69,8 +69,8 @@ fn hold(transactions: List<Transaction>) -> Result<List<Checked>, AllocError>
     Ok(checked)
 }
 
-/// Checks transactions from the declared ranges alone. Each refusal names the least line with that
-/// fault. On refusal the list is given up.
+/// Checks transactions using only the declared ranges. Each error except `NoMemory` names the least
+/// line with that error. On an error the list is dropped.
 pub fn check(transactions: List<Transaction>) -> Result<List<Checked>, RangeFault>
     requires shaped { AllByRecursion IsShaped (map program_of transactions) }
     ensures clash { Refuses result RangeFault.TypeClash (ClashesFirstAt

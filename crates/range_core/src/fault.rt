@@ -1,15 +1,16 @@
-//! Refusals.
+//! Errors of the checks.
 
 use std::alloc::AllocError;
 
-/// Why transactions are refused, with the line of the policy text at fault.
+/// The reason why transactions are rejected, with the line number in the policy text if there is
+/// one.
 #[derive(Clone, Copy, PartialEq, Eq, Debug)]
 pub enum RangeFault {
-    /// Types don't agree, or a value isn't a number.
+    /// Types don't agree, or an assigned value isn't a number.
     TypeClash(u32),
-    /// The interval of a part goes beyond 2^100 or -2^100.
+    /// The interval of a part goes above 2^100 or below -2^100.
     Wide(u32),
-    /// The interval of a divisor holds 0.
+    /// The interval of a divisor contains 0.
     DivZero(u32),
     NoMemory,
 }

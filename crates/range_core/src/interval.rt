@@ -1,4 +1,4 @@
-//! Intervals of results, by those of the operands.
+//! Intervals of results, computed from those of the operands.
 ghost use Rattle.std.specs.Prelude.{◌^◌, ◌≡◌, ◌≢◌, ◌≤ℤ◌, ◌+ℤ◌, ◌-ℤ◌, ◌*ℤ◌, pos, neg_ℤ, int_div};
 ghost use Rattle.std.specs.Option.{SomeIff};
 ghost use Rattle.std.specs.Int.{int_min, int_max};
@@ -6,10 +6,10 @@ ghost use Rattle.rank_defs.specs.Ranges.{range, hull_of, corners, holds_zero, re
 
 use rank_defs::{Op, Range};
 
-/// The greatest absolute value of an end.
+/// The greatest absolute value that an end may have.
 const WIDEST: i128 = 1 << 100;
 
-/// The interval from one number to another, unless it is too wide.
+/// Returns the interval from one number to another, unless it is too wide.
 pub fn narrow(low: i128, high: i128) -> Option<Range>
     ensures { SomeIff result (IsNarrow (range low high)) (range low high) }
 {
@@ -20,14 +20,14 @@ pub fn narrow(low: i128, high: i128) -> Option<Range>
     }
 }
 
-/// Whether 0 lies in an interval.
+/// Returns whether the interval contains 0.
 fn has_zero(r: Range) -> bool
     ensures { result ≡ holds_zero r }
 {
     r.low <= 0 && 0 <= r.high
 }
 
-/// Whether an operation with this interval on its right never divides by 0.
+/// Returns whether an operation with this interval as its right operand never divides by 0.
 pub fn never_divides_by_zero(op: Op, right: Range) -> bool
     ensures { result ≡ may_divide op right }
 {
@@ -49,14 +49,15 @@ fn greatest(a: i128, b: i128, c: i128, d: i128) -> i128
     a.max(b).max(c.max(d))
 }
 
-/// The least interval that holds four numbers.
+/// Returns the smallest interval that contains four numbers, unless it is too wide.
 fn hull(a: i128, b: i128, c: i128, d: i128) -> Option<Range>
     ensures { SomeIff result (IsNarrow (hull_of a b c d)) (hull_of a b c d) }
 {
     narrow(least(a, b, c, d), greatest(a, b, c, d))
 }
 
-/// 128 bits hold each product where the interval is narrow.
+/// Returns the interval of a product, unless it is too wide. If the interval is narrow, each
+/// product at the ends fits in 128 bits.
 fn product(r: Range, s: Range) -> Option<Range>
     ensures { SomeIff result (IsNarrow (corners (λ x y. x *ℤ y) r s))
         (corners (λ x y. x *ℤ y) r s) }
@@ -76,7 +77,7 @@ fn quotient(x: i128, y: i128) -> i128
     x / y
 }
 
-/// The greatest absolute value of the ends.
+/// Returns the greatest absolute value of the ends.
 fn reach(r: Range) -> i128
     requires { IsProper r }
     ensures { result ≡ reach_of r }
@@ -84,7 +85,7 @@ fn reach(r: Range) -> i128
     r.low.abs().max(r.high.abs())
 }
 
-/// The interval from a number's negation to it.
+/// Returns the interval from `-most` to `most`, unless it is too wide.
 fn around(most: i128) -> Option<Range>
     requires { pos 0 ≤ℤ most }
     ensures { SomeIff result (IsNarrow (range (neg_ℤ most) most)) (range (neg_ℤ most) most) }
@@ -129,7 +130,8 @@ fn difference(r: Range, s: Range) -> Option<Range>
     narrow(low, high)
 }
 
-/// The interval of an operation, unless it is too wide; 0 alone where it doesn't give a number.
+/// Returns the interval of an operation, unless it is too wide; only 0 if the result isn't a
+/// number.
 pub fn combined(op: Op, r: Range, s: Range) -> Option<Range>
     requires left { IsProper r }
     requires right { IsProper s }
@@ -146,7 +148,7 @@ pub fn combined(op: Op, r: Range, s: Range) -> Option<Range>
     }
 }
 
-/// The least interval that holds two, unless it is too wide.
+/// Returns the smallest interval that contains both, unless it is too wide.
 pub fn joined(r: Range, s: Range) -> Option<Range>
     ensures { SomeIff result (IsNarrow (joined_range r s)) (joined_range r s) }
 {

@@ -1,4 +1,4 @@
-//! Checks of scheduling transactions, from the declared ranges alone. Begin with specs/Bounds.antt.
+//! Checks scheduling transactions, using only the declared ranges. Begin with specs/Bounds.antt.
 #![tactic(auto)]
 
 mod bounds;

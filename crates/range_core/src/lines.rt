@@ -12,7 +12,7 @@ use crate::fault::RangeFault;
 use crate::types::is_number;
 use rank_defs::{Assign, Transaction};
 
-/// The least line with each fault, if there is one.
+/// For each kind of error, the least line with it, if there is one.
 #[derive(Clone, Copy, PartialEq, Eq, Debug)]
 pub struct Lines {
     clash: Option<u32>,
@@ -20,7 +20,7 @@ pub struct Lines {
     zero: Option<u32>,
 }
 
-/// The lesser of two lines, if there are any.
+/// Returns the lesser of two lines, each of which may be absent.
 fn lesser(a: Option<u32>, b: Option<u32>) -> Option<u32>
     ensures { result ≡ lesser_line a b }
 {
@@ -42,7 +42,7 @@ impl Lines {
         }
     }
 
-    /// Those of two lists, one after the other.
+    /// Returns the least lines of two lists, appended.
     fn and(self, other: Lines) -> Lines
         ensures { (xs ys : List Entry) → AreLeast xs self → AreLeast ys other →
             AreLeast (xs ++ ys) result }
@@ -65,7 +65,7 @@ fn clash_at(assign: &Assign) -> Option<u32>
     }
 }
 
-/// The line of an assignment, where it is at fault.
+/// Returns, for each kind of error, the line of the assignment if it has that error.
 fn lines_of(transaction: &Transaction, assign: &Assign) -> Lines
     requires { IsShaped (program_of transaction.now) }
     ensures { AreLeast (entry (program_of transaction.now) (assignment_of assign.now) ∷ []) result }
@@ -125,8 +125,8 @@ fn lines_of_all(transactions: &[Transaction]) -> Lines
     lines
 }
 
-/// The first fault that transactions have: clashes come before wide intervals, and those before
-/// divisors.
+/// Returns the first error of the transactions. Type clashes come before wide intervals, and wide
+/// intervals before divisors that may be 0.
 pub fn first_fault(transactions: &[Transaction]) -> Option<RangeFault>
     requires { AllByRecursion IsShaped (map program_of transactions.now) }
     ensures clash { Finds result RangeFault.TypeClash (ClashesFirstAt

@@ -5,7 +5,7 @@ ghost use Rattle.rank_defs.specs.Ranges.{counts, tells, sort_of};
 
 use rank_defs::{Expr, Op};
 
-/// Whether an operation gives a number of two.
+/// Returns whether an operation computes a number from two numbers.
 fn is_computation(op: Op) -> bool
     ensures { IsTrue result ↔ (group op ≡ computes) }
 {
@@ -15,7 +15,7 @@ fn is_computation(op: Op) -> bool
     )
 }
 
-/// Whether it compares two numbers.
+/// Returns whether an operation compares two numbers.
 fn is_comparison(op: Op) -> bool
     ensures { IsTrue result ↔ (group op ≡ compares) }
 {
@@ -25,14 +25,14 @@ fn is_comparison(op: Op) -> bool
     )
 }
 
-/// Whether it joins two truth values.
+/// Returns whether an operation joins two truth values.
 fn is_connective(op: Op) -> bool
     ensures { IsTrue result ↔ (group op ≡ joins) }
 {
     matches!(op, Op::And | Op::Or)
 }
 
-/// Whether an expression is a number, and the types of its parts agree.
+/// Returns whether an expression is a number and the types of its parts agree.
 #[cycle(types)]
 pub fn is_number(e: &Expr) -> bool
     ensures { IsTrue result ↔ (sort_of (formula_of e.now) ≡ counts) }
@@ -46,7 +46,7 @@ pub fn is_number(e: &Expr) -> bool
     }
 }
 
-/// Whether it is a truth value, and the types of its parts agree.
+/// Returns whether an expression is a truth value and the types of its parts agree.
 #[cycle(types)]
 fn is_truth(e: &Expr) -> bool
     ensures { IsTrue result ↔ (sort_of (formula_of e.now) ≡ tells) }

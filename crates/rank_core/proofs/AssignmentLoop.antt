@@ -1,4 +1,4 @@
--- One turn of the loop over assignments.
+-- One iteration of the loop over assignments.
 use Rattle.std.proofs.Common.{◌≡◌, List, ◌∷◌, map, sym, subst, ap, ◌∙◌}
 use Rattle.std.specs.List.{AllByRecursion}
 use Rattle.rank_defs.specs.declared.environment.Env.{Env}

@@ -1,4 +1,5 @@
--- Flows with room, each at its place: what the places of a map say as one more flow comes, and as numbers at a place change.
+-- Flows with room, each at its index: lookups after adding a flow, and after changing the values at
+-- an index.
 use Rattle.std.proofs.Common.{arith, ◌≡◌, ◌≢◌, ◌∙◌, ◌<◌, ◌++◌, ℕ, zero, suc, List, [], ◌∷◌, length, refl, sym, ap, Vec, Option, Some, None, IsSome}
 use Rattle.std.specs.Prelude.{slice_get, option_map}
 use Rattle.std.specs.declared.alloc.Global.{Global}
@@ -29,21 +30,21 @@ get-before [] x i h = absurd (omega (arith, h))
 get-before (y ∷ xs) x zero h = refl
 get-before (y ∷ xs) x (suc i) h = get-before xs x i (omega (arith, h))
 
--- what stands there is the last item, or stood there before
+-- the item at an index is the last one, or was there before
 last-or-before : {X P : Type 0} (xs : List X) (x y : X) (i : ℕ) → slice_get (xs ++ x ∷ []) i ≡ Some y → (slice_get xs i ≡ Some y → P) → (i ≡ length xs → x ≡ y → P) → P
 last-or-before [] x y zero e old new = new refl (some-of e)
 last-or-before [] x y (suc i) e old new = (let f : None ≡ Some y = e in cc)
 last-or-before (z ∷ xs) x y zero e old new = old e
 last-or-before (z ∷ xs) x y (suc i) e old new = last-or-before xs x y i e old (λ q. new (ap suc q))
 
--- ---- where each flow's place is in the map, and each place has its flow
+-- ---- the map's index of each flow agrees with the list of flows
 abbrev pub IsThere : BTreeMap OrderedKey ℕ → List FlowKey → Type 0
 IsThere m flows = (f : FlowKey) (i : ℕ) → lookup (has_key f) m.entries ≡ Some i → slice_get flows i ≡ Some f
 
 abbrev pub IsFound : BTreeMap OrderedKey ℕ → List FlowKey → Type 0
 IsFound m flows = (f : FlowKey) (i : ℕ) → slice_get flows i ≡ Some f → lookup (has_key f) m.entries ≡ Some i
 
--- a flow comes to the last place
+-- a flow is added at the last index
 module _ (m n : BTreeMap OrderedKey ℕ) (flows : List FlowKey) (f : FlowKey) {k : OrderedKey} (key : k ≡ key_of f) (u : Updates cmp-value.it m n k (Some (length flows))) where
   pub still-there : IsThere m flows → IsThere n (flows ++ f ∷ [])
   still-there there g i at =
@@ -62,11 +63,11 @@ module _ (m n : BTreeMap OrderedKey ℕ) (flows : List FlowKey) (f : FlowKey) {k
       (λ old. update_others m n f g (Some (length flows)) key u (λ e. (let x : None ≡ Some i = sym absent ∙ ap (λ (h : FlowKey). lookup (has_key h) m.entries) (sym e) ∙ found g i old in cc)) ∙ found g i old)
       (λ last same. ap (λ (h : FlowKey). lookup (has_key h) n.entries) (sym same) ∙ update_there m n f (Some (length flows)) key u ∙ ap Some (sym last))
 
-  -- with its numbers
+  -- the new flow has its values
   pub numbers-last : (numbers : List (Vec ℕ Global)) (v : Vec ℕ Global) → length numbers ≡ length flows → numbers_at (numbers ++ v ∷ []) (lookup (has_key f) n.entries) ≡ Some v.items
   numbers-last numbers v even = ap (numbers_at (numbers ++ v ∷ [])) (update_there m n f (Some (length flows)) key u) ∙ ap (option_map items_of) (get-last numbers v (length flows) (sym even))
 
-  -- and the others keep theirs
+  -- the values of the others are unchanged
   pub numbers-before : (numbers : List (Vec ℕ Global)) (v : Vec ℕ Global) → length numbers ≡ length flows → IsThere m flows → (g : FlowKey) → g ≢ f → numbers_at (numbers ++ v ∷ []) (lookup (has_key g) n.entries) ≡ numbers_at numbers (lookup (has_key g) m.entries)
   numbers-before numbers v even there g other =
       ap (numbers_at (numbers ++ v ∷ [])) (update_others m n f g (Some (length flows)) key u other)
@@ -76,7 +77,7 @@ module _ (m n : BTreeMap OrderedKey ℕ) (flows : List FlowKey) (f : FlowKey) {k
       before None within = refl
       before (Some i) within = ap (option_map items_of) (get-before numbers v i (within i refl))
 
--- ---- the numbers at one place change
+-- ---- the values at one index change
 pub numbers-others : (m : BTreeMap OrderedKey ℕ) (flows : List FlowKey) (old new : List (Vec ℕ Global)) (f : FlowKey) (place : ℕ) → IsThere m flows → lookup (has_key f) m.entries ≡ Some place
     → ((i : ℕ) → i ≢ place → slice_get new i ≡ slice_get old i) → (g : FlowKey) → g ≢ f → numbers_at new (lookup (has_key g) m.entries) ≡ numbers_at old (lookup (has_key g) m.entries)
 numbers-others m flows old new f place there at stay g other =
@@ -86,17 +87,17 @@ numbers-others m flows old new f place there at stay g other =
     same None apart = refl
     same (Some i) apart = ap (option_map items_of) (stay i (apart i refl))
 
--- a flow that has numbers has a place
+-- the index of a flow is within the list
 pub place-within : (m : BTreeMap OrderedKey ℕ) (flows : List FlowKey) (f : FlowKey) (place : ℕ) → IsThere m flows → lookup (has_key f) m.entries ≡ Some place → place < length flows
 place-within m flows f place there at = slice_get_within flows place f (there f place at)
 
--- and one with a place has numbers
+-- a flow with an index has values
 pub has-numbers : (numbers : List (Vec ℕ Global)) (i : ℕ) → i < length numbers → IsSome (numbers_at numbers (Some i))
 has-numbers [] i h = absurd (omega (arith, h))
 has-numbers (v ∷ numbers) zero h = refl
 has-numbers (v ∷ numbers) (suc i) h = has-numbers numbers i (omega (arith, h))
 
--- one without a place has none
+-- a flow without an index has none
 pub no-place : (numbers : List (Vec ℕ Global)) (o : Option ℕ) → None ≡ o → IsSome (numbers_at numbers o) → ⊥
 no-place numbers None e h = cc
 no-place numbers (Some i) e h = cc

@@ -1,4 +1,4 @@
--- A node after the lines of a step.
+-- The state of a node after the assignments of a step.
 use Rattle.std.proofs.Common.{◌≡◌, ◌≢◌, ◌∙◌, ℕ, List, [], true, false, cond, refl, ap, subst, Option, Some, None, IsSome}
 use Rattle.rank_defs.specs.declared.environment.Env.{Env}
 use Rattle.rank_defs.specs.declared.environment.Who.{Who}
@@ -10,12 +10,12 @@ use Rattle.rank_core.specs.declared.node.NodeState.{NodeState}
 use Rattle.rank_core.specs.Scope.{memory, run_of}
 use Rattle.rank_core.specs.Node.{kept, kept_or, state_of, step_of, HasState}
 
--- where numbers are kept, the first ones are not asked for
+-- if values are kept, the first ones don't matter
 some-kept : (a b : List ℕ) (o : Option (List ℕ)) → IsSome o → kept_or a o ≡ kept_or b o
 some-kept a b (Some values) h = refl
 some-kept a b None h = cc
 
--- what the lines left is put back, and all others keep theirs
+-- the new values are put back, and those of all others are unchanged
 pub lines_after : (t : Transaction) (assigns : List Assign) (who : Who) (env : Env) (r x : ℕ) (n m : NodeState) → m.firsts ≡ n.firsts → IsSome (kept n.eaches who) → IsSome (kept m.eaches who) → ((w : Who) → w ≢ who → kept m.eaches w ≡ kept n.eaches w)
     → memory x m.keeps.items (kept_or [] (kept m.eaches who)) ≡ run_of t env assigns (memory r n.keeps.items (kept_or [] (kept n.eaches who))) → HasState m (put_back who (step_of t assigns who env r n) (state_of n))
 lines_after t assigns who env r x n m firsts room still others ran =

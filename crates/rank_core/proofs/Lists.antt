@@ -1,4 +1,4 @@
--- Lists with one item replaced, and of one item throughout.
+-- Lists with one item replaced, and lists of one repeated item.
 use Rattle.std.proofs.Common.{arith, ◌≡◌, ◌≢◌, ◌∙◌, sym, drop, ◌<◌, ℕ, zero, suc, List, [], ◌∷◌, length, refl, ap, Some}
 use Rattle.std.specs.Prelude.{slice_get, slice_set, Vec}
 use Rattle.std.specs.Vec.{with_items}
@@ -16,7 +16,7 @@ get_set_other (y ∷ xs) zero (suc j) x n = refl
 get_set_other (y ∷ xs) (suc i) zero x n = refl
 get_set_other (y ∷ xs) (suc i) (suc j) x n = get_set_other xs i j x (λ e. n (ap suc e))
 
--- a vector with as many other items has them
+-- replacing all items of a vector by a list of the same length gives that list
 pub refilled : {X Z : Type 0} (v : Vec X Z) (ws : List X) → length ws ≡ length v.items → (with_items v ws).items ≡ ws
 refilled v ws h =
     let len : v.len ≡ length ws = v.ok.0 ∙ sym h

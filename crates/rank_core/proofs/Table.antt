@@ -1,4 +1,4 @@
--- Looking up a name in the program's table.
+-- Name lookup in the code's table.
 use Rattle.std.proofs.Common.{rules, arith, ◌≡◌, ◌<◌, ◌+◌, ◌∙◌, ℕ, List, [], ◌∷◌, true, false, map, drop, get_or, length, Some, refl, sym}
 use Rattle.std.proofs.lemmas.List.{drop_more}
 use Rattle.std.specs.Str.{bytes_eq}
@@ -6,20 +6,20 @@ use Rattle.rank_defs.specs.Builtins.{same_name}
 use Rattle.rank_core.specs.declared.builtins.Row.{Row}
 use Rattle.rank_core.specs.Table.{program, row, program_named}
 
--- `==` of names
+-- `==` of names agrees with the definition
 agree : (a b : List ℕ) → bytes_eq a b ≡ same_name b a
 agree [] [] = refl
 agree [] (b ∷ bs) = refl
 agree (a ∷ xs) [] = refl
 agree (a ∷ xs) (b ∷ ys) = grind (arith, rules, agree xs ys)
 
--- the row at a place has the name
+-- the row at an index has the name
 pub here : (name : List ℕ) (rows : List Row) (i : ℕ) (d : Row) → i < length rows → true ≡ bytes_eq (get_or rows i d).name.now name → Some (program (get_or rows i d)) ≡ program_named name (map row (drop i rows))
 here name rows i d within same =
     let is : same_name name (get_or rows i d).name.now ≡ true = sym (same ∙ agree (get_or rows i d).name.now name)
     in rw (drop_more rows i d within, is) refl
 
--- or it has another
+-- the row at an index has a different name
 pub further : (name : List ℕ) (rows : List Row) (i : ℕ) (d : Row) → i < length rows → false ≡ bytes_eq (get_or rows i d).name.now name → program_named name (map row (drop (i + 1) rows)) ≡ program_named name (map row (drop i rows))
 further name rows i d within other =
     let not : same_name name (get_or rows i d).name.now ≡ false = sym (other ∙ agree (get_or rows i d).name.now name)

@@ -1,4 +1,4 @@
--- What a table of flows keeps.
+-- The values that a table of flows keeps.
 use Rattle.std.specs.Prelude.{ℕ, List, Vec, Option, Some, None, option_map, slice_get}
 use Rattle.std.specs.declared.alloc.Global.{Global}
 use Rattle.std.specs.Map.{lookup}
@@ -10,15 +10,15 @@ use Rattle.rank_core.specs.FlowKeys.{has_key}
 abbrev pub items_of : Vec ℕ Global → List ℕ
 items_of v = v.items
 
--- the numbers at a place, if it is known
+-- the values at an index, if it is known
 abbrev pub numbers_at : List (Vec ℕ Global) → Option ℕ → Option (List ℕ)
 numbers_at numbers None = None
 numbers_at numbers (Some i) = option_map items_of (slice_get numbers i)
 
--- the place of a flow
+-- the index of a flow
 abbrev pub place_of : FlowTable → FlowKey → Option ℕ
 place_of t f = lookup (has_key f) t.places.entries
 
--- the numbers kept for a flow
+-- the values kept for a flow
 abbrev pub numbers_of : FlowTable → FlowKey → Option (List ℕ)
 numbers_of t f = numbers_at t.numbers.items (place_of t f)

@@ -1,4 +1,4 @@
--- Steps of known form.
+-- Steps of a known form.
 use Rattle.std.specs.Prelude.{◌≡◌, ◌<◌, ℕ, List, [], ◌∷◌, length, refl}
 use Rattle.std.specs.Coded.{Coded, Coded-set, code_by, coded×, coded_ℕ, coded_list, Unit-prop, le_prop}
 use Rattle.rank_defs.specs.declared.environment.Env.{Env}
@@ -16,19 +16,19 @@ use Rattle.rank_core.specs.declared.form.Form.{Form}
 use Rattle.rank_core.specs.declared.form.Form.TheVariants.{Empty, Kept as KeptForm, Fair as FairForm, Lines}
 use Rattle.rank_core.specs.declared.form.Kept.{Kept}
 
--- the greater of a variable of the node and one of the child or flow
+-- the maximum of a variable of the node and one of the child or flow
 abbrev pub latest : ℕ → ℕ → Formula
 latest keep each = two Max (variable (Keep keep)) (variable (Each each))
 
--- the time that a packet takes
+-- the service time of a packet
 abbrev pub service : ℕ → Formula
 service scale = two Div (two Mul (variable Len) (number scale)) (variable Weight)
 
--- the rank, and that time
+-- the rank plus that time
 abbrev pub next : ℕ → Formula
 next scale = two Add (variable Rank) (service scale)
 
--- an assignment, wherever it stands
+-- an assignment, on any line
 abbrev pub line : Aim → Formula → Assignment
 line aim formula = record { line = 0; aim = aim; formula = formula }
 
@@ -38,24 +38,24 @@ kept_lines k = line (AimKeep k.keep) (variable Rank) ∷ []
 abbrev pub fair_lines : Fair → List Assignment
 fair_lines f = line AimRank (latest f.keep f.each) ∷ line (AimEach f.each) (next f.scale) ∷ []
 
--- some lines do what others do
+-- the two lists of assignments have the same effect
 abbrev pub RunAs : Program → List Assignment → List Assignment → Type 0
 RunAs p lines known = (env : Env) (m : Memory) → run p env lines m ≡ run p env known m
 
--- lines that keep the rank
+-- the assignments write the rank to a variable of the node
 pub record AreKept (p : Program) (lines : List Assignment) (k : Kept) : Type 0 where
   pub same : RunAs p lines (kept_lines k)
   pub keep : k.keep < length p.keeps
   pub span : k.span ≡ span_at p.keeps k.keep
 
--- lines of start-time fair queueing
+-- the assignments of start-time fair queueing
 pub record AreFair (p : Program) (lines : List Assignment) (f : Fair) : Type 0 where
   pub same : RunAs p lines (fair_lines f)
   pub keep : f.keep < length p.keeps
   pub each : f.each < length p.eaches
   pub span : f.span ≡ span_at p.eaches f.each
 
--- what a form says of the lines of a step
+-- the meaning of a form for the assignments of a step
 abbrev pub IsForm : Program → List Assignment → Form → Type 0
 IsForm p lines Empty = RunAs p lines []
 IsForm p lines (KeptForm k) = AreKept p lines k
@@ -68,7 +68,7 @@ memory_code = code_by (ℕ × (List ℕ × List ℕ)) (coded× coded_ℕ (coded�
 RunAs-prop : (p : Program) (lines known : List Assignment) → IsProp (RunAs p lines known)
 RunAs-prop p lines known a b i = λ env m. Coded-set memory_code _ _ (a env m) (b env m) i
 
--- a proof of it tells no more than that it holds
+-- all proofs of it are equal
 pub IsForm-prop : (p : Program) (lines : List Assignment) (form : Form) → IsProp (IsForm p lines form)
 IsForm-prop p lines Empty = RunAs-prop p lines []
 IsForm-prop p lines (KeptForm k) = λ a b i. record {

@@ -1,4 +1,4 @@
--- What a step reads and writes, and runs, as the program holds it.
+-- The memory and the assignments of a step, as the code represents them.
 use Rattle.std.specs.Prelude.{ℕ, List, map}
 use Rattle.std.specs.List.{AllByRecursion}
 use Rattle.rank_defs.specs.declared.environment.Env.{Env}
@@ -11,22 +11,21 @@ use Rattle.rank_defs.specs.Checks.{IsCheckedAssignment}
 use Rattle.rank_defs.specs.Steps.{run}
 use Rattle.rank_core.specs.declared.evaluate.Scope.{Scope}
 
--- a memory of its rank and its variables
 abbrev pub memory : ℕ → List ℕ → List ℕ → Memory
 memory r keeps eaches = record { rank = r; keeps = keeps; eaches = eaches }
 
--- what the program reads of it
+-- the memory that a scope in the code holds
 abbrev pub memory_of : Scope → Memory
 memory_of s = memory s.rank s.keeps.now s.eaches.now
 
--- each of some assignments is checked
+-- each of these assignments is checked
 abbrev pub AreCheckedIn : Transaction → List Assign → Type 0
 AreCheckedIn t assigns = AllByRecursion (IsCheckedAssignment (program_of t)) (map assignment_of assigns)
 
--- each writes and reads declared variables alone, and isn't too deep
+-- each reads and writes only declared variables, and isn't too deep
 abbrev pub AreShapedIn : Transaction → List Assign → Type 0
 AreShapedIn t assigns = AllByRecursion (IsShapedAssignment (program_of t)) (map assignment_of assigns)
 
--- after some assignments of a transaction, one after another
+-- the memory after running these assignments in sequence
 abbrev pub run_of : Transaction → Env → List Assign → Memory → Memory
 run_of t env assigns m = run (program_of t) env (map assignment_of assigns) m

@@ -1,4 +1,4 @@
--- What the program's table of built-in transactions says.
+-- The meaning of the code's table of built-in transactions.
 use Rattle.std.specs.Prelude.{ℕ, List, map, Option, option_map, find}
 use Rattle.rank_defs.specs.Formulas.{Formula, number, variable, two}
 use Rattle.rank_defs.specs.Programs.{Assignment, Program}
@@ -27,6 +27,6 @@ program r =
 abbrev pub row : Row → Builtin
 row r = named r.name.now (program r)
 
--- the transaction with a name among some
+-- the transaction with a given name in a list
 abbrev pub program_named : List ℕ → List Builtin → Option Program
 program_named name bs = option_map (λ b. b.program) (find (λ b. same_name name b.name) bs)

@@ -12,7 +12,7 @@ use list_core::List;
 use rank_defs::{Aim, Assign, Expr, MAX_RANK, Op, Span, Transaction, Var};
 use std::alloc::{AllocError, Global};
 
-/// An expression of the table.
+/// An expression, in the form of the table of built-ins.
 #[derive(Clone, Copy)]
 enum Term {
     Number(u64),
@@ -20,13 +20,13 @@ enum Term {
     Two(Op, &'static Term, &'static Term),
 }
 
-/// An assignment of the table.
+/// An assignment, in the form of the table of built-ins.
 struct Line {
     aim: Aim,
     value: Term,
 }
 
-/// A row of the table.
+/// A row of the table of built-ins: a name and a transaction.
 struct Row {
     name: &'static [u8],
     keeps: &'static [Span],
@@ -41,18 +41,18 @@ const COUNTER: Span = Span {
     first: 0,
 };
 
-/// The greater of the node's variable and that of the child or flow.
+/// The maximum of the node's variable and the child's or flow's variable.
 const LATEST: Term = Term::Two(Op::Max, &Term::Var(Var::Keep(0)), &Term::Var(Var::Each(0)));
 
-/// The time that a packet takes, in thousandths of a byte at weight 1.
+/// The service time of a packet: its length over its weight, in thousandths of a byte at weight 1.
 const SERVICE: Term = Term::Two(
     Op::Div,
     &Term::Two(Op::Mul, &Term::Var(Var::Len), &Term::Number(1000)),
     &Term::Var(Var::Weight),
 );
 
-/// First in first out, strict priority, shortest packet first, least slack time first, round robin, and start-time
-/// fair queueing.
+/// The table of built-ins: first in first out, strict priority, shortest packet first, least slack
+/// time first, round robin, and start-time fair queueing.
 static TABLE: [Row; 6] = [
     Row {
         name: b"fifo",
@@ -182,7 +182,8 @@ fn row_named<'a>(rows: &'a [Row], name: &[u8]) -> Option<&'a Row>
     None
 }
 
-/// The built-in transaction with this name, if there is one. Its assignments stand on line 0.
+/// Returns the built-in transaction with this name, if there is one. Its assignments have line
+/// number 0. The error means out of memory.
 pub fn builtin(alloc: Global, name: &[u8]) -> Result<Option<Transaction>, AllocError>
     ensures found { IfOk result (λ t. option_map program_of t ≡ builtin name.now) }
     ensures shaped { IfOk result (λ t. IfSome t (λ some. IsShaped (program_of some))) }

@@ -14,16 +14,17 @@ use crate::form::{Form, run_by_form};
 use rank_defs::{Assign, Env, Transaction, Who};
 use std::alloc::{AllocError, Global};
 
-/// The numbers of all children of an inner node, or of the flows that have room at a leaf.
+/// The values of the `each` variables: for all children of an inner node, or for the flows that
+/// have room at a leaf.
 #[derive(Drop)]
 pub(crate) enum Eaches {
     Children(Vec<Vec<u64>>),
     Flows(FlowTable),
-    /// At a leaf whose flows have no variables. Each of them has room, and no flow is looked up.
+    /// A leaf whose flows have no variables. Every flow has room, and no flow is looked up.
     Bare,
 }
 
-/// First values for so many children.
+/// Returns the first values for `count` children.
 pub(crate) fn of_children(alloc: Global, first: &[u64], count: u32) -> Result<Eaches, AllocError>
     ensures children { IfOk result (λ e. children e ≡ Some count) }
     ensures room { IfOk result (λ e. (i : ℕ) → i < count → IsSome (kept e (Who.Child i))) }
@@ -36,7 +37,7 @@ pub(crate) fn of_children(alloc: Global, first: &[u64], count: u32) -> Result<Ea
     Ok(Eaches::Children(values))
 }
 
-/// First values for all flows of a leaf.
+/// Returns an empty flow table, or `Bare` if flows have no variables.
 pub(crate) fn of_flows(alloc: Global, first: &[u64]) -> Eaches
     ensures children { children result ≡ None }
     ensures firsts { (who : Who) → kept_or first.now (kept result who) ≡ first.now }
@@ -48,7 +49,7 @@ pub(crate) fn of_flows(alloc: Global, first: &[u64]) -> Eaches
     }
 }
 
-/// Makes room for a child or a flow. New numbers are the first ones.
+/// Makes room for a child or a flow. New variables get their first values.
 pub(crate) fn reserve(eaches: &mut Eaches, who: &Who, first: &[u64]) -> Result<(), AllocError>
     requires { BelongsTo (children eaches.old) who.now }
     ensures room { OnOk result (IsSome (kept eaches.new who.now)) }
@@ -68,7 +69,7 @@ pub(crate) fn reserve(eaches: &mut Eaches, who: &Who, first: &[u64]) -> Result<(
     }
 }
 
-/// Runs assignments on the variables of a node and on those of one child or flow that has room.
+/// Runs assignments on the variables of a node and on those of one child or flow, which has room.
 #[inline(always)]
 pub(crate) fn run_for(
     eaches: &mut Eaches,
@@ -118,7 +119,7 @@ pub(crate) fn run_for(
     }
 }
 
-/// Runs assignments on the variables of a node and on those at a place.
+/// Runs assignments on the variables of a node and on those at an index.
 #[inline(always)]
 #[tactic(auto, using(crate::proofs::Lists::get_set_same, crate::proofs::Lists::get_set_other))]
 pub(crate) fn run_for_place(

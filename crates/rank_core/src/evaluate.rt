@@ -14,7 +14,7 @@ ghost use Rattle.rank_core.specs.Scope.{memory_of};
 
 use rank_defs::{Env, Expr, Op, Span, Transaction, Var};
 
-/// What an expression reads.
+/// The inputs of an expression.
 #[derive(Clone, Copy)]
 pub(crate) struct Scope<'a> {
     pub env: &'a Env,
@@ -57,7 +57,8 @@ fn computed(op: Op, x: i128, y: i128) -> i128
     }
 }
 
-/// A division of 128 bits calls a library, so one of 64 is used where they hold both numbers.
+/// Divides `x` by `y`. A 128-bit division calls a library, so a 64-bit division is used if both
+/// numbers fit in 64 bits.
 fn divided(x: i128, y: i128) -> i128
     requires { FitsWide (quotient x y) }
     ensures { quotient x y ≡ num result }
@@ -83,7 +84,7 @@ fn compared(op: Op, x: i128, y: i128) -> bool
     }
 }
 
-/// As `number`, whose call is spared where the expression has no parts.
+/// Evaluates like `number`, but without a call if the expression has no parts.
 #[inline(always)]
 #[cycle(value)]
 pub(crate) fn operand(e: &Expr, transaction: &Transaction, scope: &Scope<'_>) -> i128
@@ -104,7 +105,8 @@ pub(crate) fn operand(e: &Expr, transaction: &Transaction, scope: &Scope<'_>) ->
     }
 }
 
-/// The value of an expression that is a number. 128 bits hold each part of it, so nothing is clamped on the way.
+/// Returns the value of a numeric expression. Each part fits in 128 bits, so no intermediate result
+/// is clamped.
 #[cycle(value)]
 pub(crate) fn number(e: &Expr, transaction: &Transaction, scope: &Scope<'_>) -> i128
     requires counts { sort_of (formula_of e.now) ≡ counts }
@@ -163,8 +165,9 @@ fn truth(e: &Expr, transaction: &Transaction, scope: &Scope<'_>) -> bool
     }
 }
 
-/// The value of a number, of a variable, or of an operation on two of them, where 64 bits hold it. Most lines of transactions are
-/// such, and they pay for no call. `len * N / weight`, a packet's part of its class, counts as one at the right.
+/// Returns the value of a number, of a variable, or of an operation on two of them, if it fits in
+/// 64 bits. Most assignments have this form, and they avoid a call. `len * N / weight`, a packet's
+/// service time in its class, is also accepted as the right operand.
 #[inline(always)]
 pub(crate) fn narrow(e: &Expr, transaction: &Transaction, scope: &Scope<'_>) -> Option<u64>
     requires variables { AreDeclared (program_of transaction.now) (formula_of e.now) }
@@ -212,7 +215,7 @@ fn part(e: &Expr, transaction: &Transaction, scope: &Scope<'_>) -> Option<u64>
     }
 }
 
-/// The value of `len * N / weight`.
+/// Returns the value of `len * N / weight`, if the expression has this form.
 #[inline(always)]
 fn share(e: &Expr, scope: &Scope<'_>) -> Option<u64>
     ensures { IfSome result (λ v. value_of (variable_in scope.now.env.now (memory_of scope.now))

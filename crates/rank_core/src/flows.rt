@@ -1,4 +1,4 @@
-//! The numbers of the flows at a leaf.
+//! The `each` variables of the flows at a leaf.
 
 ghost use Rattle.std.specs.Prelude.{◌≡◌, ◌≢◌, ◌<◌, ℕ, [], length, map, slice_get, IsSome, Some, None, OnErr, OnOk};
 ghost use Rattle.std.proofs.Props.{props};
@@ -16,7 +16,7 @@ use rank_defs::{Assign, Env, FlowKey, Transaction};
 use std::alloc::{AllocError, Global};
 use std::collections::BTreeMap;
 
-/// A flow as a key with an order. What mostly tells flows apart comes first.
+/// A flow as an ordered key. The fields that differ most often between flows come first.
 #[derive(PartialEq, Eq, PartialOrd, Ord, Drop)]
 struct OrderedKey {
     sport: u16,
@@ -41,10 +41,11 @@ fn key_of(flow: &FlowKey) -> OrderedKey
     }
 }
 
-/// How many guesses there are at least, where there are any.
+/// The minimum number of guesses, unless there are none.
 const FEWEST: usize = 64;
 
-/// A number of the flow's ports and of its addresses, as far as 64 bits hold them.
+/// Returns a hash of the flow's ports and addresses. An address that doesn't fit in 64 bits counts
+/// as 0.
 #[inline(always)]
 fn mixed(flow: &FlowKey) -> usize {
     let ports = (u64::from(flow.sport) << 16) | u64::from(flow.dport);
@@ -54,9 +55,10 @@ fn mixed(flow: &FlowKey) -> usize {
     ((ports ^ addresses).wrapping_mul(0x9E37_79B9_7F4A_7C15) >> 32) as usize
 }
 
-/// The numbers of the flows that have room, each flow at its place. Captures choose the flows, so their places stand in a map that
-/// is in order: where they were hashed with a seed that is known, a capture could make each look-up pass all flows. Most places
-/// are guessed, and a guess may be wrong.
+/// The `each` variables of the flows that have room, each flow at its index. Captures choose the
+/// flows, so indices are kept in an ordered map: with a hash map and a known seed, a capture could
+/// force each lookup to visit all flows. Most indices are found by a guess, and a guess may be
+/// wrong.
 #[derive(Drop)]
 pub(crate) struct FlowTable {
     places: BTreeMap<OrderedKey, usize>,
@@ -73,7 +75,7 @@ impl FlowTable {
     ghost use Rattle.rank_core.specs.Flows.{place_of, numbers_of};
     ghost use Rattle.rank_core.specs.Node.{kept_or};
 
-    /// No flow has room.
+    /// Returns a table in which no flow has room.
     pub(crate) fn new(alloc: Global) -> FlowTable
         ensures { (f : FlowKey) → numbers_of result f ≡ None }
     {
@@ -86,13 +88,13 @@ impl FlowTable {
         }
     }
 
-    /// Where the guess for a flow stands.
+    /// Returns the position of the guess for a flow.
     #[inline(always)]
     fn guess_at(&self, flow: &FlowKey) -> usize {
         mixed(flow) & self.guesses.len().wrapping_sub(1)
     }
 
-    /// The place of a flow, if it has room.
+    /// Returns the index of a flow, if it has room.
     #[inline(always)]
     fn place(&self, flow: &FlowKey) -> Option<usize>
         ensures { result ≡ place_of self.now flow.now }
@@ -109,7 +111,7 @@ impl FlowTable {
         self.search(flow)
     }
 
-    /// The place of a flow as the map has it.
+    /// Looks up the index of a flow in the map.
     #[inline(never)]
     fn search(&self, flow: &FlowKey) -> Option<usize>
         ensures { result ≡ place_of self.now flow.now }
@@ -120,7 +122,7 @@ impl FlowTable {
         }
     }
 
-    /// Guesses a place for a flow from now on.
+    /// Stores `place` as the guess for a flow.
     #[inline(always)]
     fn remember(&mut self, flow: &FlowKey, place: usize)
         ensures same { (f : FlowKey) → numbers_of self.new f ≡ numbers_of self.old f }
@@ -131,7 +133,7 @@ impl FlowTable {
         }
     }
 
-    /// Room for as many guesses as there are flows.
+    /// Makes room for as many guesses as there are flows.
     fn widen(&mut self) -> Result<(), AllocError>
         ensures places { self.new.places ≡ self.old.places }
         ensures flows { self.new.flows ≡ self.old.flows }
@@ -144,7 +146,7 @@ impl FlowTable {
         Ok(())
     }
 
-    /// Makes room for a flow that has none. Its numbers are the first ones.
+    /// Makes room for a flow that has none. Its variables get their first values.
     #[inline(never)]
     fn add(&mut self, flow: &FlowKey, first: &[u64]) -> Result<(), AllocError>
         requires absent { place_of self.old flow.now ≡ None }
@@ -163,7 +165,7 @@ impl FlowTable {
         Ok(())
     }
 
-    /// Makes room for a flow. New numbers are the first ones.
+    /// Makes room for a flow. New variables get their first values.
     #[inline(always)]
     pub(crate) fn reserve(&mut self, flow: &FlowKey, first: &[u64]) -> Result<(), AllocError>
         ensures room { OnOk result (IsSome (numbers_of self.new flow.now)) }
@@ -184,7 +186,7 @@ impl FlowTable {
         }
     }
 
-    /// Runs assignments on the variables of the leaf and on those of a flow that has room.
+    /// Runs assignments on the variables of the leaf and on those of a flow, which has room.
     #[inline(always)]
     pub(crate) fn run_for(
         &mut self,

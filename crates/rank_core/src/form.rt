@@ -1,4 +1,4 @@
-//! Steps of known form, which are run without a look at their lines.
+//! Steps of a known form, which run without reading their assignments.
 
 ghost use Rattle.std.specs.Prelude.{◌≡◌, ◌<◌, ◌≤◌, ◌∷◌, ℕ, pos, [], length, map, IfSome};
 ghost use Rattle.rank_defs.specs.declared.expression.Var.{Var as Name};
@@ -13,15 +13,16 @@ ghost use Rattle.rank_core.specs.Scope.{memory, run_of, AreCheckedIn, AreShapedI
 use crate::step::run;
 use rank_defs::{Aim, Assign, Env, Expr, MAX_RANK, Op, Span, Transaction, Var};
 
-/// A step that writes the rank to a variable of the node, with the variable's range.
+/// A step that writes the rank to a variable of the node, with that variable's range.
 #[derive(Clone, Copy, PartialEq, Eq, Debug)]
 pub struct Kept {
     pub(crate) keep: u32,
     pub(crate) span: Span,
 }
 
-/// A push step of start-time fair queueing: the rank is the greater of a variable of the node and one of the child or flow, which
-/// becomes the rank and `len * scale / weight`, in its range.
+/// A push step of start-time fair queueing. The rank is the maximum of a variable of the node and
+/// one of the child or flow. The latter is then set to the rank plus `len * scale / weight`,
+/// clamped to its range.
 #[derive(Clone, Copy, PartialEq, Eq, Debug)]
 pub struct Fair {
     pub(crate) keep: u32,
@@ -30,14 +31,14 @@ pub struct Fair {
     pub(crate) span: Span,
 }
 
-/// What is known of a step.
+/// The form of a step.
 #[derive(Clone, Copy, PartialEq, Eq, Debug)]
 pub enum Form {
-    /// It has no lines.
+    /// The step has no assignments.
     Empty,
     Kept(Kept),
     Fair(Fair),
-    /// Its lines are read one by one.
+    /// The step has no known form: its assignments are read one by one.
     Lines,
 }
 
@@ -55,7 +56,8 @@ fn kept_form(transaction: &Transaction, assign: &Assign) -> Form
     }
 }
 
-/// The variables of which a line gives the greater one as the rank.
+/// If the assignment sets the rank to the maximum of a node's variable and a child's or flow's,
+/// returns the two indices.
 #[inline(always)]
 fn latest_of(assign: &Assign) -> Option<(u32, u32)>
     ensures aim { IfSome result (λ v. assign.now.aim ≡ Aim.Rank) }
@@ -75,7 +77,7 @@ fn latest_of(assign: &Assign) -> Option<(u32, u32)>
     }
 }
 
-/// The number in `len * number / weight`, where 32 bits hold it.
+/// Returns the number in `len * number / weight`, if it fits in 32 bits.
 #[inline(always)]
 fn scale_of(value: &Expr) -> Option<u32>
     ensures { IfSome result (λ n. (variables : Name → ℕ) →
@@ -95,7 +97,8 @@ fn scale_of(value: &Expr) -> Option<u32>
     }
 }
 
-/// The variable to which a line writes the rank and `len * scale / weight`, with the scale.
+/// If the assignment sets a child's or flow's variable to the rank plus `len * scale / weight`,
+/// returns the variable's index and the scale.
 #[inline(always)]
 fn next_of(assign: &Assign) -> Option<(u32, u32)>
     ensures aim { IfSome result (λ v. assign.now.aim ≡ Aim.Each v.0) }
@@ -155,7 +158,7 @@ fn form_of(transaction: &Transaction, assigns: &[Assign]) -> Form
     }
 }
 
-/// What is known of the push step of a transaction.
+/// Returns the form of a transaction's push step.
 #[inline(always)]
 pub fn push_form(transaction: &Transaction) -> Form
     requires shaped { IsShaped (program_of transaction.now) }
@@ -164,7 +167,7 @@ pub fn push_form(transaction: &Transaction) -> Form
     form_of(transaction, transaction.push.as_slice())
 }
 
-/// What is known of the pop step of a transaction.
+/// Returns the form of a transaction's pop step.
 #[inline(always)]
 pub fn pop_form(transaction: &Transaction) -> Form
     requires shaped { IsShaped (program_of transaction.now) }
@@ -198,7 +201,7 @@ fn later(rank: u64, service: u64, span: &Span) -> u64
     rank.saturating_add(service).clamp(span.low, span.high)
 }
 
-/// Runs a push step of start-time fair queueing. The answer is the rank.
+/// Runs a push step of start-time fair queueing, and returns the rank.
 #[inline(always)]
 pub(crate) fn run_fair(fair: &Fair, env: &Env, keeps: &[u64], eaches: &mut [u64]) -> u64
     requires keep { fair.now.keep < length keeps.now }
@@ -216,7 +219,7 @@ pub(crate) fn run_fair(fair: &Fair, env: &Env, keeps: &[u64], eaches: &mut [u64]
     rank
 }
 
-/// Runs the assignments of a step, as `run`, by its form.
+/// Runs the assignments of a step like `run`, using the form of the step.
 #[inline(always)]
 pub(crate) fn run_by_form(
     form: &Form,

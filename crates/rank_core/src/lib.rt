@@ -1,4 +1,5 @@
-//! Transactions run step by step, the variables of a node, and the built-in transactions. Begin with specs/Node.antt.
+//! Runs transactions step by step, and holds the variables of nodes and the built-in transactions.
+//! Begin with specs/Node.antt.
 #![tactic(auto)]
 
 mod builtins;

@@ -35,7 +35,8 @@ fn first_values(alloc: Global, spans: &[Span]) -> Result<Vec<u64>, AllocError>
 }
 
 impl NodeState {
-    /// The variables of an inner node at the start. It has room for each of its children.
+    /// Returns the initial variables of an inner node, with room for each of its children. The
+    /// error means out of memory.
     pub fn inner(
         alloc: Global,
         transaction: &Transaction,
@@ -58,7 +59,7 @@ impl NodeState {
         })
     }
 
-    /// The variables of a leaf at the start.
+    /// Returns the initial variables of a leaf. The error means out of memory.
     pub fn leaf(alloc: Global, transaction: &Transaction) -> Result<NodeState, AllocError>
         requires { IsShaped (program_of transaction.now) }
         ensures first { IfOk result (λ n. HasState n (first_state (program_of transaction.now))) }
@@ -76,7 +77,8 @@ impl NodeState {
         })
     }
 
-    /// Makes room for a child or a flow. Its steps take no memory from then on.
+    /// Makes room for a child or a flow. After that, its steps allocate no memory. The error means
+    /// out of memory.
     pub fn reserve(&mut self, who: &Who) -> Result<(), AllocError>
         requires belongs { BelongsTo (children_of self.old) who.now }
         ensures room { OnOk result (HasRoom self.new who.now) }
@@ -92,7 +94,7 @@ impl NodeState {
     }
 }
 
-/// What the step is told under a name, where it is told something.
+/// Returns the value of a variable, if the environment alone determines it.
 #[inline]
 fn told_by(var: Var, env: &Env) -> Option<u64>
     requires told { IsEnvInRange env.now }
@@ -109,7 +111,7 @@ fn told_by(var: Var, env: &Env) -> Option<u64>
     }
 }
 
-/// The rank, where a step gives one that it is told, and does nothing else.
+/// Returns the rank, if the step only sets the rank to a variable of the environment.
 #[inline]
 fn told_rank(assigns: &[Assign], env: &Env) -> Option<u64>
     requires told { IsEnvInRange env.now }
@@ -137,8 +139,9 @@ fn keep_rank(state: &mut NodeState, kept: &Kept, rank: u64)
     state.keeps[kept.keep as usize] = rank.clamp(kept.span.low, kept.span.high);
 }
 
-/// A step with no assignments changes nothing, one that gives a rank that it is told changes no variable, and one that keeps the
-/// rank looks up no child or flow.
+/// Runs a step by its form. A step without assignments changes nothing. A step that sets the rank
+/// to a variable of the environment changes no variable. A step that stores the rank in a variable
+/// of the node looks up no child or flow.
 #[inline(always)]
 fn run_at(
     state: &mut NodeState,
@@ -216,7 +219,8 @@ fn run_lines(
     )
 }
 
-/// The push step of a node for a packet of a child or a flow. The answer is the packet's rank at the node.
+/// Runs the push step of a node for a packet of a child or a flow. Returns the packet's rank at the
+/// node.
 pub fn run_push(transaction: &Transaction, state: &mut NodeState, who: &Who, env: &Env) -> u64
     requires shaped { IsShaped (program_of transaction.now) }
     requires checked { IsChecked (program_of transaction.now) }
@@ -235,7 +239,7 @@ pub fn run_push(transaction: &Transaction, state: &mut NodeState, who: &Who, env
     push_by_form(&push_form(transaction), transaction, state, who, env)
 }
 
-/// The push step of a node as `run_push`, by the form of the step.
+/// Runs the push step of a node like `run_push`, using the form of the step.
 #[inline(always)]
 pub fn push_by_form(
     form: &Form,
@@ -263,7 +267,8 @@ pub fn push_by_form(
     run_at(state, who, form, transaction, assigns, env, 0)
 }
 
-/// The pop step of a node from which a packet of a child or a flow was taken, with the packet's rank there.
+/// Runs the pop step of a node, after a packet of a child or a flow was dequeued with this rank at
+/// the node.
 pub fn run_pop(transaction: &Transaction, state: &mut NodeState, who: &Who, rank: u64, env: &Env)
     requires shaped { IsShaped (program_of transaction.now) }
     requires checked { IsChecked (program_of transaction.now) }
@@ -280,7 +285,7 @@ pub fn run_pop(transaction: &Transaction, state: &mut NodeState, who: &Who, rank
     pop_by_form(&pop_form(transaction), transaction, state, who, rank, env);
 }
 
-/// The pop step of a node as `run_pop`, by the form of the step.
+/// Runs the pop step of a node like `run_pop`, using the form of the step.
 #[inline(always)]
 pub fn pop_by_form(
     form: &Form,

@@ -1,4 +1,4 @@
-//! Assignments, one after another.
+//! Sequences of assignments.
 
 ghost use Rattle.std.specs.Prelude.{◌≡◌, ◌≤◌};
 ghost use Rattle.rank_defs.specs.Formulas.{formula_of};
@@ -20,7 +20,8 @@ const RANKS: Span = Span {
     first: 0,
 };
 
-/// Runs some assignments of a transaction. Each reads what those before it wrote. The answer is the rank at the end.
+/// Runs some assignments of a transaction in sequence, and returns the rank at the end. Each
+/// assignment reads the variables as the earlier ones left them.
 pub(crate) fn run(
     transaction: &Transaction,
     assigns: &[Assign],
@@ -77,7 +78,7 @@ fn perform(
     }
 }
 
-/// The value of an assignment, brought into a range.
+/// Returns the value of an assignment, clamped to a range.
 #[inline(always)]
 fn written(
     assign: &Assign,
@@ -109,7 +110,7 @@ fn written(
     }
 }
 
-/// As `written`, for all expressions.
+/// Computes `written` for every form of expression.
 #[inline(never)]
 fn written_wide(
     assign: &Assign,

@@ -1,4 +1,4 @@
--- What lies within the bounds of transactions, states and environments, and what is just outside.
+-- Values at and just outside the bounds of transactions, states and environments.
 use Rattle.std.proofs.Common.{ℕ, zero, suc, true, [], ◌∷◌, refl, arith, lit≤}
 use Rattle.std.specs.Prelude.{pos, negsuc}
 use Rattle.std.specs.Int.Signed.{le_z_yes, lt_z_yes, clash_ℤ}
@@ -14,7 +14,7 @@ use Rattle.rank_defs.specs.Ranges.{range, declared, ArePartsNarrow}
 use Rattle.rank_defs.specs.Tame.{IsInside}
 use Rattle.rank_defs.specs.Builtins.{set, fifo, rr}
 
--- all three numbers of a span may be the same, up to the greatest rank
+-- all three numbers of a span may be equal, up to the greatest rank
 span_of_one : IsSpan (span 4611686018427387903 4611686018427387903 4611686018427387903)
 span_of_one = record { low = lit≤ tt; high = lit≤ tt; most = lit≤ tt }
 
@@ -27,7 +27,7 @@ first_above s = let h = s.high in omega (arith, h)
 span_above_ranks : IsSpan (span 0 4611686018427387904 0) → ⊥
 span_above_ranks s = let h = s.most in omega (arith, h)
 
--- a value at each end of its span, and none outside
+-- a value at each end of its span is in range, and one outside isn't
 values_at_ends : AreWithin (span 2 5 3 ∷ span 2 5 3 ∷ []) (2 ∷ 5 ∷ [])
 values_at_ends = (lit≤ tt, lit≤ tt, (lit≤ tt, lit≤ tt, tt))
 
@@ -71,7 +71,7 @@ weight_above e = let h = e.weight_high in omega (arith, h)
 slack_above : IsEnvInRange (env 0 0 0 1 1000000000001) → ⊥
 slack_above e = let h = e.slack in omega (arith, h)
 
--- both ends are inside an interval
+-- both ends belong to an interval
 ends_inside : IsInside (range (negsuc 2) (pos 5)) (negsuc 2) × IsInside (range (negsuc 2) (pos 5)) (pos 5)
 ends_inside = ((le_z_yes tt, le_z_yes tt), (le_z_yes tt, le_z_yes tt))
 
@@ -81,7 +81,7 @@ below_inside h = clash_ℤ (lt_z_yes tt) h.0
 above_inside : IsInside (range (negsuc 2) (pos 5)) (pos 6) → ⊥
 above_inside h = clash_ℤ (lt_z_yes tt) h.1
 
--- with one variable of each kind, the second of either is neither read nor written
+-- with one variable of each kind, a second of either kind can't be read or written
 first_variables : AreDeclared rr (choice (two Less (variable (Keep 0)) (variable Len)) (negation (variable (Each 0))) (number 1))
 first_variables = ((omega arith, tt), omega arith, tt)
 
@@ -94,7 +94,7 @@ second_each h = let i = h.1 in omega (arith, i)
 second_aims : (IsAim rr (AimKeep 1) → ⊥) × (IsAim rr (AimEach 1) → ⊥)
 second_aims = (λ h. omega (arith, h), λ h. omega (arith, h))
 
--- a number under so many negations
+-- a number under n negations
 abbrev nested : ℕ → Formula
 nested zero = number 1
 nested (suc n) = negation (nested n)
@@ -110,7 +110,7 @@ depth_65 a = let h = a.depth in omega (arith, h)
 rank_at_a_pop : IsShaped (record fifo { pop = set AimRank (number 1) ∷ [] }) → ⊥
 rank_at_a_pop s = s.leaves_rank.0 refl
 
--- a part that is too wide counts under a test too
+-- a part that is too wide counts in a condition too
 wide_under_a_test : ArePartsNarrow (declared fifo) (choice (two Less (two Mul (variable Now) (variable Now)) (number 1)) (number 1) (number 1)) → ⊥
 wide_under_a_test n = clash_ℤ (lt_z_yes tt) n.0.0.2.high
 

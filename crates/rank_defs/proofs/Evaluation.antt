@@ -1,4 +1,4 @@
--- What an evaluator needs where Rust doesn't read a side that the definition reads.
+-- Lemmas for an evaluator, for operands that Rust skips and the definition reads.
 use Rattle.std.proofs.Common.{◌≡◌, ℕ, Bool, true, false, refl, ap, subst, sym, ◌∙◌}
 use Rattle.std.specs.Prelude.{ℤ}
 use Rattle.rank_defs.specs.declared.expression.Op.{Op}
@@ -19,7 +19,7 @@ value-inside ranges values f v inside safe s is =
     in let same : n.0 ≡ v = cc
     in subst (λ (k : ℤ). IsInside (range_of ranges f) k) same n.2
 
--- what an operation gives fits
+-- the result of an operation fits
 pub operation-fits : (ranges : Name → Range) (values : Name → ℕ) (e : Formula) (op : Op) (a b : Formula) (x y : ℤ) → e ≡ two op a b → AreInside ranges values → IsSafe ranges e → sort_of e ≡ counts → value_of values a ≡ num x → value_of values b ≡ num y → FitsWide (apply op (num x) (num y))
 operation-fits ranges values e op a b x y is inside safe s f g =
     let here : value_of values e ≡ apply op (num x) (num y) = ap (value_of values) is ∙ rw (f, g) refl
@@ -35,7 +35,7 @@ chosen-false (num x) v w h = refl
 chosen-false (truth x) v w h = cc
 chosen-false nothing v w h = cc
 
--- the branch that a test picks gives the value, since the other has one too
+-- the branch that a condition selects gives the value, since the other branch has a value too
 pub choice-true : (ranges : Name → Range) (values : Name → ℕ) (e c a b : Formula) (v : ℤ) → e ≡ choice c a b → AreInside ranges values → IsSafe ranges e → sort_of e ≡ counts → value_of values c ≡ truth true → value_of values a ≡ num v → value_of values e ≡ num v
 choice-true ranges values e c a b v is inside safe s f g =
     let n = number_in ranges values inside e safe.divides s
@@ -58,14 +58,14 @@ or-is (truth y) t h = refl
 or-is (num y) t h = cc
 or-is nothing t h = cc
 
--- the second side of `and` isn't looked at where the first is false
+-- the right operand of `and` isn't evaluated if the left one is false
 pub and-false : (ranges : Name → Range) (values : Name → ℕ) (e a b : Formula) → e ≡ two And a b → AreInside ranges values → IsSafe ranges e → sort_of e ≡ tells → value_of values a ≡ truth false → value_of values e ≡ truth false
 and-false ranges values e a b is inside safe s f =
     let n = truth_in ranges values inside e safe.divides s
     in let here : value_of values e ≡ apply And (truth false) (value_of values b) = ap (value_of values) is ∙ rw f refl
     in here ∙ and-is (value_of values b) n.0 (sym here ∙ n.1)
 
--- nor that of `or` where the first is true
+-- the right operand of `or` isn't evaluated if the left one is true
 pub or-true : (ranges : Name → Range) (values : Name → ℕ) (e a b : Formula) → e ≡ two Or a b → AreInside ranges values → IsSafe ranges e → sort_of e ≡ tells → value_of values a ≡ truth true → value_of values e ≡ truth true
 or-true ranges values e a b is inside safe s f =
     let n = truth_in ranges values inside e safe.divides s

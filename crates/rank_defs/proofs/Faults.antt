@@ -1,4 +1,4 @@
--- Transactions are checked exactly where no assignment is at fault.
+-- Transactions are checked exactly if no assignment is at fault.
 use Rattle.std.proofs.Common.{◌≡◌, ◌≢◌, ◌≤◌, ◌⊎◌, inl, inr, ℕ, List, [], ◌∷◌, ◌++◌, map, Bool, true, false, refl, arith}
 use Rattle.std.specs.Prelude.{pos, neg_ℤ, ◌≤ℤ◌, ◌^◌, ℤ}
 use Rattle.std.specs.List.{AllByRecursion}
@@ -28,7 +28,7 @@ SomeAt-append Fault (x ∷ xs) ys line (inl h) = inl (inl h)
 SomeAt-append Fault (x ∷ xs) ys line (inr h) =
     elim (SomeAt-append Fault xs ys line h) [ inl k ↦ inl (inr k) | inr k ↦ inr k ]
 
--- no fault in a list is no fault in any entry
+-- if a list has no fault, no entry has one
 pub NoneAt-all : (Fault : Entry → Type 0) (es : List Entry) → NoneAt Fault es → AllByRecursion (λ e. Fault e → ⊥) es
 NoneAt-all Fault [] h = tt
 NoneAt-all Fault (e ∷ es) h =
@@ -46,7 +46,7 @@ least-unique Fault es line other h k =
 int_leb : (x y : ℤ) → (x ≤ℤ y) ⊎ (x ≤ℤ y → ⊥)
 int_leb x y = by_lt_z y x (λ h. inr (λ k. clash_ℤ h k)) (λ h. inl h)
 
--- whether an interval is narrow can be told
+-- an interval's narrowness is decidable
 narrow_or_wide : (r : Range) → IsNarrow r ⊎ (IsNarrow r → ⊥)
 narrow_or_wide r =
     elim (int_leb (neg_ℤ (pos (2 ^ 100))) r.low) [
@@ -75,7 +75,7 @@ four_or_not (inl p) (inl q) (inr r) s = inr (λ h. r h.2)
 four_or_not (inl p) (inr q) r s = inr (λ h. q h.1)
 four_or_not (inr p) q r s = inr (λ h. p h.0)
 
--- and so whether all parts' intervals are
+-- so it is decidable whether all parts' intervals are narrow
 pub parts_narrow_or_wide : (ranges : Name → Range) (f : Formula) → ArePartsNarrow ranges f ⊎ (ArePartsNarrow ranges f → ⊥)
 parts_narrow_or_wide ranges (number n) = narrow_or_wide (range_of ranges (number n))
 parts_narrow_or_wide ranges (variable v) = narrow_or_wide (range_of ranges (variable v))
@@ -98,12 +98,12 @@ divides : (b : Bool) → (b ≡ false → ⊥) → b ≡ true
 divides true h = refl
 divides false h = absurd (h refl)
 
--- an entry none of whose clauses fails is checked
+-- an entry without a fault is checked
 pub entry-checked : (e : Entry) → (Clashes e → ⊥) → (IsWide e → ⊥) → (MayDivideByZero e → ⊥) → IsCheckedAssignment e.program e.assignment
 entry-checked e c w z =
     record { typed = typed (sort_of e.assignment.formula) c; narrow = narrow (parts_narrow_or_wide (declared e.program) e.assignment.formula) w; divides = divides (parts_divide (declared e.program) e.assignment.formula) z }
 
--- and the other way
+-- and conversely
 pub checked-typed : (e : Entry) → IsCheckedAssignment e.program e.assignment → Clashes e → ⊥
 checked-typed e c n = n c.typed
 

@@ -1,4 +1,4 @@
--- Products and quotients lie between those at the ends.
+-- Products and quotients lie between those at the ends of the intervals.
 use Rattle.std.proofs.Common.{◌≡◌, ℕ, zero, suc, ◌*◌, ◌/◌, ◌<◌, ◌≤◌, ◌≢◌, false, refl, subst, arith}
 use Rattle.std.specs.Prelude.{ℤ, pos, negsuc, ◌*ℤ◌, ◌≤ℤ◌, int_div}
 use Rattle.std.specs.Int.{int_min, int_max}
@@ -19,14 +19,14 @@ rising x y z h k = record { above = omega (arith, ints, clamps); below = omega (
 pub falling : (x y z : ℤ) → z ≤ℤ x → x ≤ℤ y → Between x y z
 falling x y z h k = record { above = omega (arith, ints, clamps); below = omega (arith, ints, clamps) }
 
--- a product by a number that isn't negative keeps the order
+-- multiplication by a non-negative number keeps the order
 pub mul-pos : (a b : ℤ) (k : ℕ) → a ≤ℤ b → (a *ℤ pos k) ≤ℤ (b *ℤ pos k)
 mul-pos (pos a) (pos b) k h = let e : a ≤ b = omega (arith, ints) in let f : a * k ≤ b * k = mul-le-mul_right k e in omega (arith, ints)
 mul-pos (pos a) (negsuc b) k h = absurd (omega (arith, ints))
 mul-pos (negsuc a) (pos b) k h = omega (arith, ints)
 mul-pos (negsuc a) (negsuc b) k h = let e : suc b ≤ suc a = omega (arith, ints) in let f : suc b * k ≤ suc a * k = mul-le-mul_right k e in omega (arith, ints)
 
--- and by a negative number turns it
+-- multiplication by a negative number reverses the order
 pub mul-neg : (a b : ℤ) (k : ℕ) → a ≤ℤ b → (b *ℤ negsuc k) ≤ℤ (a *ℤ negsuc k)
 mul-neg (pos a) (pos b) k h = let e : a ≤ b = omega (arith, ints) in let f : a * suc k ≤ b * suc k = mul-le-mul_right (suc k) e in omega (arith, ints)
 mul-neg (pos a) (negsuc b) k h = absurd (omega (arith, ints))
@@ -49,14 +49,14 @@ div-le-div m n k h i = le-div (m / k) n k h (omega (arith, div-mul-le_self m k))
 pub div-le-div_left : (n j k : ℕ) → 0 < j → j ≤ k → n / k ≤ n / j
 div-le-div_left n j k h i = le-div (n / k) n j h (omega (arith, mul-le-mul_left (n / k) i, div-mul-le_self n k))
 
--- a quotient by a positive number keeps the order
+-- division by a positive number keeps the order
 pub div-pos : (a b : ℤ) (k : ℕ) → a ≤ℤ b → int_div a (pos (suc k)) ≤ℤ int_div b (pos (suc k))
 div-pos (pos a) (pos b) k h = let e : a ≤ b = omega (arith, ints) in let f : a / suc k ≤ b / suc k = div-le-div a b (suc k) (omega arith) e in omega (arith, ints)
 div-pos (pos a) (negsuc b) k h = absurd (omega (arith, ints))
 div-pos (negsuc a) (pos b) k h = omega (arith, ints)
 div-pos (negsuc a) (negsuc b) k h = let e : suc b ≤ suc a = omega (arith, ints) in let f : suc b / suc k ≤ suc a / suc k = div-le-div (suc b) (suc a) (suc k) (omega arith) e in omega (arith, ints)
 
--- and by a negative number turns it
+-- division by a negative number reverses the order
 pub div-neg : (a b : ℤ) (k : ℕ) → a ≤ℤ b → int_div b (negsuc k) ≤ℤ int_div a (negsuc k)
 div-neg (pos a) (pos b) k h = let e : a ≤ b = omega (arith, ints) in let f : a / suc k ≤ b / suc k = div-le-div a b (suc k) (omega arith) e in omega (arith, ints)
 div-neg (pos a) (negsuc b) k h = absurd (omega (arith, ints))
@@ -89,7 +89,7 @@ Between-div_neg (negsuc n) i j k h l =
     in let f : suc n / suc i ≤ suc n / suc j = div-le-div_left (suc n) (suc j) (suc i) (omega arith) (omega arith)
     in rising _ _ _ (omega (arith, ints)) (omega (arith, ints))
 
--- an interval without 0 has no end on either side of it
+-- an interval without 0 doesn't have ends on both sides of 0
 pub no_zero : (y z : ℤ) → holds_zero (range y z) ≡ false → y ≤ℤ pos 0 → pos 0 ≤ℤ z → ⊥
 no_zero y z n h i = grind (arith, ints)
 
@@ -105,6 +105,6 @@ Between-div_right a (pos x) (negsuc y) (negsuc z) n h i = absurd (omega (arith, 
 Between-div_right a (pos x) (pos y) (negsuc z) n h i = absurd (omega (arith, ints))
 Between-div_right a (negsuc x) (pos y) z n h i = absurd (omega (arith, ints))
 
--- what lies between two numbers that lie between corners lies between the corners
+-- a number between two numbers that lie between the corners lies between the corners
 pub within_corners : (v y z a b c d : ℤ) → Between v y z → Between y a b → Between z c d → (int_min (int_min a b) (int_min c d) ≤ℤ v) × (v ≤ℤ int_max (int_max a b) (int_max c d))
 within_corners v y z a b c d h k l = (omega (arith, ints, clamps), omega (arith, ints, clamps))

@@ -1,11 +1,11 @@
--- The least line at fault, from those of the parts of a list.
+-- The least line at fault in a list, from those in its parts.
 use Rattle.std.proofs.Common.{◌≡◌, ◌≤◌, inl, inr, ℕ, List, [], ◌∷◌, ◌++◌, map, min, Option, Some, None, refl, arith, subst}
 use Rattle.std.proofs.lemmas.Bool.{cases_lt}
 use Rattle.rank_defs.specs.Programs.{Assignment, Program, assignments}
 use Rattle.rank_defs.specs.Checks.{Entry, entry, SomeAt, IsLeastLine, lesser_line}
 use Rattle.rank_defs.proofs.Faults.{SomeAt-left, SomeAt-right, SomeAt-append}
 
--- nothing is at fault in an empty list
+-- an empty list has no fault
 pub least-empty : (Fault : Entry → Type 0) → IsLeastLine Fault [] None
 least-empty Fault line h = h
 
@@ -29,7 +29,7 @@ lesser-here Fault xs ys m n h k =
       | inr l ↦ (let is : min m n ≡ n = omega (arith, l) in rw is (SomeAt-right Fault xs ys n k))
     ]
 
--- two lists, one after the other
+-- two lists, appended
 pub least-append : (Fault : Entry → Type 0) (xs ys : List Entry) (a b : Option ℕ) → IsLeastLine Fault xs a → IsLeastLine Fault ys b → IsLeastLine Fault (xs ++ ys) (lesser_line a b)
 least-append Fault xs ys None None h k = λ line f. elim (SomeAt-append Fault xs ys line f) [ inl l ↦ h line l | inr l ↦ k line l ]
 least-append Fault xs ys None (Some n) h k =
@@ -39,7 +39,7 @@ least-append Fault xs ys (Some m) None h k =
 least-append Fault xs ys (Some m) (Some n) h k =
     record { here = lesser-here Fault xs ys m n h.here k.here; least = λ other f. elim (SomeAt-append Fault xs ys other f) [ inl l ↦ (let e : m ≤ other = h.least other l in omega (arith, e)) | inr l ↦ (let e : n ≤ other = k.least other l in omega (arith, e)) ] }
 
--- the assignments of one transaction, those at a push first
+-- the assignments of one transaction, push assignments first
 pub least-program : (Fault : Entry → Type 0) (p : Program) (a b : Option ℕ) → IsLeastLine Fault (map (entry p) p.push) a → IsLeastLine Fault (map (entry p) p.pop) b → IsLeastLine Fault (map (entry p) (assignments p)) (lesser_line a b)
 least-program Fault p a b h k =
     subst (λ (es : List Entry). IsLeastLine Fault es (lesser_line a b)) (map-entries p p.push p.pop) (least-append Fault (map (entry p) p.push) (map (entry p) p.pop) a b h k)

@@ -1,4 +1,4 @@
--- Intervals that are narrow.
+-- Narrow intervals.
 use Rattle.std.proofs.Common.{◌^◌, Option, arith, false, true, cond, to_z, of_z}
 use Rattle.std.specs.Option.{SomeIff}
 use Rattle.std.specs.Prelude.{ℤ, pos, neg_ℤ, int_div, ◌≤ℤ◌, FitsSigned}
@@ -12,7 +12,7 @@ use Rattle.rank_defs.specs.Formulas.{Formula, number, variable, two, negation, c
 use Rattle.rank_defs.specs.Ranges.{range, range_of, range_of_two, reach, holds_zero, hull_of, corners, IsNarrow, IsProper, ArePartsNarrow, AreOrdered}
 use Rattle.rank_defs.proofs.ValueIntervals.{narrow_fits}
 
--- the four results at the ends fit where their hull is narrow
+-- the four results at the ends fit if their hull is narrow
 pub record CornersFit (f : ℤ → ℤ → ℤ) (r s : Range) : Type 0 where
   pub low_low : FitsSigned w128 (f r.low s.low)
   pub low_high : FitsSigned w128 (f r.low s.high)
@@ -28,7 +28,7 @@ corners_fit f r s n =
     let all = four_fit (f r.low s.low) (f r.low s.high) (f r.high s.low) (f r.high s.high) n.low n.high
     in record { low_low = all.0; low_high = all.1; high_low = all.2; high_high = all.3 }
 
--- a clause on two numbers that fit, which the code passes as their bits
+-- a clause about two numbers that fit, which the code passes as bits
 pub at_numbers : (r : Option Range) (l h : ℤ) → FitsSigned w128 l → FitsSigned w128 h → SomeIff r (IsNarrow (range (to_z w128 (of_z w128 l)) (to_z w128 (of_z w128 h)))) (range (to_z w128 (of_z w128 l)) (to_z w128 (of_z w128 h))) → SomeIff r (IsNarrow (range l h)) (range l h)
 at_numbers r l h f g s = simp to_z-of_z at s
 
@@ -48,7 +48,7 @@ ordered_two Min r s h k = omega (arith, ints, clamps)
 ordered_two Max r s h k = omega (arith, ints, clamps)
 ordered_two op r s h k = omega (arith, ints)
 
--- an expression's interval goes from the lesser to the greater end
+-- an expression's interval has its low end at most its high end
 pub ordered_of : (ranges : Name → Range) → AreOrdered ranges → (f : Formula) → (range_of ranges f).low ≤ℤ (range_of ranges f).high
 ordered_of ranges o (number n) = omega (arith, ints)
 ordered_of ranges o (variable v) = o v
@@ -58,7 +58,7 @@ ordered_of ranges o (negation a) = omega (arith, ints)
 ordered_of ranges o (choice c a b) =
     let h = ordered_of ranges o a in let k = ordered_of ranges o b in omega (arith, ints, clamps)
 
--- where all parts' intervals are narrow, so is the whole's
+-- if all parts' intervals are narrow, the interval of the whole is
 pub narrow_of : (ranges : Name → Range) (f : Formula) → ArePartsNarrow ranges f → IsNarrow (range_of ranges f)
 narrow_of ranges (number n) h = h
 narrow_of ranges (variable v) h = h

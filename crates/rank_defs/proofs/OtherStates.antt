@@ -32,7 +32,7 @@ put_back-same who m s = rw (same_who-refl who) refl
 pub put_back-other : (who other : Who) (m : Memory) (s : State) → other ≢ who → (put_back who m s).eaches other ≡ s.eaches other
 put_back-other who other m s n = rw (same_who-other other who n) refl
 
--- either the same child or flow, or another
+-- either the same child or flow, or a different one
 pub by_same_who : {P : Type 0} (v w : Who) → (v ≡ w → P) → (v ≢ w → P) → P
 by_same_who {P} v w alike apart =
     (elim (same_who v w) as (λ b. same_who v w ≡ b → P) [ true ↦ λ e. alike (same_who-is v w e) | false ↦ λ e. apart (λ k. let t : same_who v w ≡ true = rw k (same_who-refl w) in cc) ]) refl

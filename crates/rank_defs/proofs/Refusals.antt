@@ -1,4 +1,4 @@
--- Worked refusals, with their lines.
+-- Worked examples of rejected transactions, with their line numbers.
 use Rattle.std.proofs.Common.{ℕ, List, [], ◌∷◌, Some, None, refl, arith}
 use Rattle.std.specs.Int.Signed.{le_z_yes, lt_z_yes, clash_ℤ}
 use Rattle.rank_defs.specs.declared.expression.Op.TheVariants.{Add, Mul, Div, Less}
@@ -49,7 +49,7 @@ comparison line = ranked_on line (two Less (variable Len) (number 3))
 abbrev three_lines : Program
 three_lines = of_lines (comparison 7 ∷ ranked_on 5 (number 1) ∷ comparison 6 ∷ [])
 
--- the least line is named, not the first
+-- the error names the least line, not the first
 pub least_line_is_named : ClashesFirstAt (three_lines ∷ []) 6
 least_line_is_named =
     let seven = entry three_lines (comparison 7)

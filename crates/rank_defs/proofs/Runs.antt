@@ -1,4 +1,4 @@
--- Assignments that run one after another.
+-- Assignments that run in sequence.
 use Rattle.std.proofs.Common.{◌≡◌, ◌≢◌, ℕ, List, [], ◌∷◌, ◌++◌, refl, ◌∙◌}
 use Rattle.std.specs.List.{AllByRecursion}
 use Rattle.rank_defs.specs.declared.environment.Env.{Env}

@@ -1,4 +1,4 @@
--- Steps of checked transactions are tame and leave the variables in their ranges.
+-- Steps of checked transactions are tame and keep the variables in their ranges.
 use Rattle.std.proofs.Common.{ℕ, ◌≤◌, List, [], ◌∷◌, ◌++◌, true, false, cond, arith}
 use Rattle.std.specs.List.{AllByRecursion}
 use Rattle.rank_defs.specs.declared.environment.Env.{Env}
@@ -16,13 +16,13 @@ use Rattle.rank_defs.specs.Tame.{IsTameAssignment, IsTame, IsAlwaysTame, IsSafeP
 use Rattle.rank_defs.proofs.ValueIntervals.{parts_in, parts_narrow}
 use Rattle.rank_defs.proofs.Spans.{within-set, within-firsts, clamped-within, target-proper, variables-inside}
 
--- what is written lies in its span
+-- the number written lies in its span
 pub written-within : (p : Program) → IsShaped p → (env : Env) (m : Memory) (a : Assignment) → ((target p a.aim).low ≤ written p env m a) × (written p env m a ≤ (target p a.aim).high)
 written-within p shaped env m a =
     let proper = target-proper p shaped a.aim
     in clamped-within (target p a.aim) (value_of (variable_in env m) a.formula) proper.ordered
 
--- a number of its span may be written
+-- writing a number from the target's span keeps the variables in range
 pub write-in_range : (p : Program) (a : Aim) (v : ℕ) (m : Memory) → IsMemoryInRange p m → (target p a).low ≤ v → v ≤ (target p a).high → IsMemoryInRange p (write a v m)
 write-in_range p Rank v m h l k = record { rank = k; keeps = h.keeps; eaches = h.eaches }
 write-in_range p (Keep i) v m h l k =
@@ -30,7 +30,7 @@ write-in_range p (Keep i) v m h l k =
 write-in_range p (Each i) v m h l k =
     record { rank = h.rank; keeps = h.keeps; eaches = within-set p.eaches m.eaches i v h.eaches l k }
 
--- an assignment leaves the variables in their ranges, whatever its value
+-- an assignment keeps the variables in their ranges, whatever its value
 pub assigned-in_range : (p : Program) → IsShaped p → (env : Env) (m : Memory) (a : Assignment) → IsMemoryInRange p m → IsMemoryInRange p (assigned p env m a)
 assigned-in_range p shaped env m a h =
     let w = written-within p shaped env m a
@@ -41,7 +41,7 @@ run-in_range p shaped env [] m h = h
 run-in_range p shaped env (a ∷ rest) m h =
     run-in_range p shaped env rest (assigned p env m a) (assigned-in_range p shaped env m a h)
 
--- a checked assignment is tame from all values of the variables in their ranges
+-- a checked assignment is tame for all values of the variables in their ranges
 pub checked-tame : (p : Program) (env : Env) (m : Memory) (a : Assignment) → IsEnvInRange env → IsMemoryInRange p m → IsCheckedAssignment p a → IsTameAssignment p env m a
 checked-tame p env m a e h c =
     let parts = parts_in (declared p) (variable_in env m) (variables-inside p env m e h) a.formula c.divides
@@ -52,7 +52,7 @@ all-tame p env m e h [] [] c d = tt
 all-tame p env m e h [] (y ∷ ys) c d = (checked-tame p env m y e h d.0, all-tame p env m e h [] ys c d.1)
 all-tame p env m e h (x ∷ xs) ys c d = (checked-tame p env m x e h c.0, all-tame p env m e h xs ys c.1 d)
 
--- and so is a checked transaction
+-- so a checked transaction is always tame
 pub always-tame : (p : Program) → IsChecked p → IsAlwaysTame p
 always-tame p c env e m h = all-tame p env m e h p.push p.pop c.push c.pop
 
@@ -61,16 +61,16 @@ run-tame p shaped env e [] c m h = tt
 run-tame p shaped env e (a ∷ rest) c m h =
     (checked-tame p env m a e h c.0, run-tame p shaped env e rest c.1 (assigned p env m a) (assigned-in_range p shaped env m a h))
 
--- a step begins in range
+-- the memory at the start of a step is in range
 pub memory-in_range : (p : Program) (who : Who) (r : ℕ) (s : State) → IsStateInRange p s → r ≤ max_rank → IsMemoryInRange p (memory_for who r s)
 memory-in_range p who r s h k = record { rank = k; keeps = h.keeps; eaches = h.eaches who }
 
--- and what it leaves is in range
+-- the state after the step is in range
 pub put_back-in_range : (p : Program) (who : Who) (m : Memory) (s : State) → IsMemoryInRange p m → IsStateInRange p s → IsStateInRange p (put_back who m s)
 put_back-in_range p who m s h k =
     record { keeps = h.keeps; eaches = λ w. elim (same_who w who) as (λ b. AreWithin p.eaches (cond b m.eaches (s.eaches w))) [ true ↦ h.eaches | false ↦ k.eaches w ] }
 
--- the state at the start is in range
+-- the initial state is in range
 pub first_state-in_range : (p : Program) → IsShaped p → IsStateInRange p (first_state p)
 first_state-in_range p shaped =
     record { keeps = within-firsts p.keeps shaped.keeps; eaches = λ who. within-firsts p.eaches shaped.eaches }

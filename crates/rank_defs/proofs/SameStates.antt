@@ -1,4 +1,4 @@
--- Steps from states that are the same.
+-- Steps from equal states.
 use Rattle.std.proofs.Common.{◌≡◌, ℕ, true, false, cond, refl, sym, ap, subst, ◌∙◌}
 use Rattle.rank_defs.specs.declared.environment.Env.{Env}
 use Rattle.rank_defs.specs.declared.environment.Who.{Who}
@@ -37,7 +37,7 @@ pub after_pop-same : (p : Program) (who : Who) (env : Env) (taken : ℕ) (s t : 
 after_pop-same p who env taken s t h =
     put_back-same_state who (pop_step p who env taken s) (pop_step p who env taken t) s t (pop_step-same p who env taken s t h) h
 
--- a state that is the same is in range too
+-- a state equal to one in range is in range
 pub in_range-same : (p : Program) (s t : State) → SameState s t → IsStateInRange p s → IsStateInRange p t
 in_range-same p s t h k =
     record { keeps = subst (AreWithin p.keeps) h.keeps k.keeps; eaches = λ who. subst (AreWithin p.eaches) (h.eaches who) (k.eaches who) }

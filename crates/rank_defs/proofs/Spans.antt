@@ -17,7 +17,7 @@ use Rattle.rank_defs.specs.Shapes.{IsSpan, IsShaped, AreWithin, IsMemoryInRange,
 use Rattle.rank_defs.specs.Ranges.{declared, AreOrdered}
 use Rattle.rank_defs.specs.Tame.{AreInside}
 
--- a span from its lesser to its greater end, which is at most the greatest rank
+-- a span whose low end is at most its high end, which is at most the greatest rank
 pub record IsProperSpan (s : Span) : Type 0 where
   pub ordered : s.low ≤ s.high
   pub most : s.high ≤ max_rank
@@ -27,7 +27,7 @@ span_at-proper [] i h = record { ordered = omega arith; most = omega arith }
 span_at-proper (s ∷ spans) zero h = let here = h.0 in record { ordered = omega (arith, here.low, here.high); most = here.most }
 span_at-proper (s ∷ spans) (suc i) h = span_at-proper spans i h.1
 
--- a number of a list within spans lies in its span
+-- a number in a list within spans lies in its span
 pub within-at : (spans : List Span) (values : List ℕ) (i : ℕ) → AreWithin spans values → ((span_at spans i).low ≤ slice_index values i) × (slice_index values i ≤ (span_at spans i).high)
 within-at [] [] i h = (omega arith, omega arith)
 within-at (s ∷ spans) (v ∷ values) zero h = (h.0, h.1)
@@ -35,7 +35,7 @@ within-at (s ∷ spans) (v ∷ values) (suc i) h = within-at spans values i h.2
 within-at [] (v ∷ values) i h = absurd h
 within-at (s ∷ spans) [] i h = absurd h
 
--- and a number of the span may take its place
+-- replacing it by a number from its span keeps the list within the spans
 pub within-set : (spans : List Span) (values : List ℕ) (i v : ℕ) → AreWithin spans values → (span_at spans i).low ≤ v → v ≤ (span_at spans i).high → AreWithin spans (slice_set values i v)
 within-set [] [] i v h l k = tt
 within-set (s ∷ spans) (x ∷ values) zero v h l k = (l, k, h.2)
@@ -70,7 +70,7 @@ clamped-within s (num v) h =
 clamped-within s (truth t) h = (omega arith, h)
 clamped-within s nothing h = (omega arith, h)
 
--- the span of what an assignment writes
+-- the span of an assignment's target is proper
 pub target-proper : (p : Program) → IsShaped p → (a : Aim) → IsProperSpan (target p a)
 target-proper p shaped AimRank = record { ordered = omega arith; most = omega arith }
 target-proper p shaped (AimKeep i) = span_at-proper p.keeps i shaped.keeps
@@ -89,7 +89,7 @@ variables-inside p env m e h (Keep i) =
 variables-inside p env m e h (Each i) =
     let k = within-at p.eaches m.eaches i h.eaches in (omega (arith, ints, k.0), omega (arith, ints, k.1))
 
--- each declared range goes from the lesser to the greater end
+-- each declared range has its low end at most its high end
 pub declared-ordered : (p : Program) → IsShaped p → AreOrdered (declared p)
 declared-ordered p shaped Len = omega (arith, ints)
 declared-ordered p shaped Now = omega (arith, ints)

@@ -1,4 +1,4 @@
--- The built-in transactions are shaped and checked.
+-- The built-in transactions are well-shaped and checked.
 use Rattle.std.proofs.Common.{◌≡◌, ◌≤◌, ℕ, ◌^◌, List, [], ◌∷◌, Bool, true, false, ◌&&◌, refl, arith, rules, lit≤}
 use Rattle.std.specs.Prelude.{◌==◌, pos}
 use Rattle.std.proofs.lemmas.Int.{ints}

@@ -13,20 +13,20 @@ use Rattle.rank_defs.specs.Ranges.{Sort, counts, tells, clash, sort_of, sort_of_
 use Rattle.rank_defs.specs.Tame.{IsInside, AreInside, HasValueIn, ArePartsIn}
 use Rattle.rank_defs.proofs.IntervalEnds.{Between-mul_left, Between-mul_right, Between-div_left, Between-div_right, within_corners}
 
--- a value of this sort, inside the interval where it is a number
+-- a value of this type, inside the interval if it is a number
 abbrev pub Agrees : Sort → Range → Value → Type 0
 Agrees counts r (num x) = IsInside r x
 Agrees tells r (truth t) = Unit {0}
 Agrees clash r w = Unit {0}
 Agrees s r w = ⊥
 
--- a divisor that isn't 0 has a quotient
+-- a non-zero divisor has a quotient
 quotient-is : (x y : ℤ) → y ≢ pos 0 → quotient x y ≡ num (int_div x y)
 quotient-is x (pos zero) n = absurd (n refl)
 quotient-is x (pos (suc y)) n = refl
 quotient-is x (negsuc y) n = refl
 
--- a number of an interval without 0 isn't 0
+-- a number in an interval without 0 isn't 0
 not_zero : (r : Range) (x : ℤ) → holds_zero r ≡ false → r.low ≤ℤ x → x ≤ℤ r.high → x ≢ pos 0
 not_zero r x n h k = λ e. let a : r.low ≤ℤ pos 0 = subst (λ (v : ℤ). r.low ≤ℤ v) e h in let b : pos 0 ≤ℤ r.high = subst (λ (v : ℤ). v ≤ℤ r.high) e k in grind (arith, ints)
 
@@ -65,7 +65,7 @@ one_chosen tells counts counts o r q (truth true) (num x) (num y) l h k = (omega
 one_chosen tells counts counts o r q (truth false) (num x) (num y) l h k = (omega (arith, ints, clamps), omega (arith, ints, clamps))
 one_chosen s t u o r q c x y l h k = search rules
 
--- where no divisor's interval holds 0, the value of an expression lies in its interval
+-- if no divisor's interval contains 0, the value of an expression lies in its interval
 pub sound : (ranges : Name → Range) (values : Name → ℕ) → AreInside ranges values → (f : Formula) → parts_divide ranges f ≡ true → Agrees (sort_of f) (range_of ranges f) (value_of values f)
 sound ranges values inside (number n) d = (omega (arith, ints), omega (arith, ints))
 sound ranges values inside (variable v) d = inside v
@@ -90,17 +90,17 @@ truth_from r (truth t) h = (t, refl)
 truth_from r (num v) h = absurd h
 truth_from r nothing h = absurd h
 
--- an expression that is a number has a value, inside its interval
+-- a numeric expression has a value, inside its interval
 pub number_in : (ranges : Name → Range) (values : Name → ℕ) → AreInside ranges values → (f : Formula) → parts_divide ranges f ≡ true → HasValueIn (range_of ranges f) values f
 number_in ranges values inside f d s =
     number_from (range_of ranges f) (value_of values f) (subst (λ (k : Sort). Agrees k (range_of ranges f) (value_of values f)) s (sound ranges values inside f d))
 
--- an expression that is a truth value has one
+-- a truth-valued expression has a truth value
 pub truth_in : (ranges : Name → Range) (values : Name → ℕ) → AreInside ranges values → (f : Formula) → parts_divide ranges f ≡ true → sort_of f ≡ tells → (t : Bool) × (value_of values f ≡ truth t)
 truth_in ranges values inside f d s =
     truth_from (range_of ranges f) (value_of values f) (subst (λ (k : Sort). Agrees k (range_of ranges f) (value_of values f)) s (sound ranges values inside f d))
 
--- each part that is a number has a value, inside its interval
+-- each numeric part has a value, inside its interval
 pub parts_in : (ranges : Name → Range) (values : Name → ℕ) → AreInside ranges values → (f : Formula) → parts_divide ranges f ≡ true → ArePartsIn (range_of ranges) values f
 parts_in ranges values inside (number n) d = number_in ranges values inside (number n) d
 parts_in ranges values inside (variable v) d = number_in ranges values inside (variable v) d
@@ -119,7 +119,7 @@ not_counts counts h = cc
 not_counts tells h = cc
 not_counts clash h = cc
 
--- where all parts' intervals are narrow, so is the whole's
+-- if all parts' intervals are narrow, the interval of the whole is
 pub narrow_whole : (ranges : Name → Range) (f : Formula) → ArePartsNarrow ranges f → sort_of f ≡ counts → IsNarrow (range_of ranges f)
 narrow_whole ranges (number n) h s = h
 narrow_whole ranges (variable v) h s = h
@@ -127,15 +127,15 @@ narrow_whole ranges (two op a b) h s = h.2
 narrow_whole ranges (negation a) h s = absurd (not_counts (sort_of a) s)
 narrow_whole ranges (choice c a b) h s = h.3
 
--- a number from -2^100 to 2^100 fits 128 bits
+-- a number between -2^100 and 2^100 fits in 128 bits
 pub narrow_fits : (v : ℤ) → neg_ℤ (pos (2 ^ 100)) ≤ℤ v → v ≤ℤ pos (2 ^ 100) → FitsSigned w128 v
 narrow_fits v h k = omega (arith, ints)
 
--- a number of a narrow interval fits 128 bits
+-- a number in a narrow interval fits in 128 bits
 pub inside_fits : (r : Range) (v : ℤ) → IsNarrow r → IsInside r v → FitsSigned w128 v
 inside_fits r v n h = narrow_fits v (omega (arith, ints)) (omega (arith, ints))
 
--- an expression's value fits 128 bits
+-- an expression's value fits in 128 bits
 pub value_fits : (ranges : Name → Range) (values : Name → ℕ) → AreInside ranges values → (f : Formula) → ArePartsNarrow ranges f → parts_divide ranges f ≡ true → sort_of f ≡ counts → FitsWide (value_of values f)
 value_fits ranges values inside f n d s =
     let v = number_in ranges values inside f d s
@@ -146,7 +146,7 @@ widened r values f n h s =
     let v = h s
     in (v.0, v.1, let l = v.2.0 in let k = v.2.1 in (omega (arith, ints, n.low), omega (arith, ints, n.high)))
 
--- where the parts' intervals are narrow, so are the values
+-- if the parts' intervals are narrow, their values are between -2^100 and 2^100
 pub parts_narrow : (ranges : Name → Range) (values : Name → ℕ) (f : Formula) → ArePartsNarrow ranges f → ArePartsIn (range_of ranges) values f → ArePartsIn (λ part. widest) values f
 parts_narrow ranges values (number n) h k = widened (range_of ranges (number n)) values (number n) h k
 parts_narrow ranges values (variable v) h k = widened (range_of ranges (variable v)) values (variable v) h k

@@ -7,12 +7,13 @@ use Rattle.rank_defs.specs.Formulas.{Formula}
 use Rattle.rank_defs.specs.Programs.{Assignment, Program, assignments}
 use Rattle.rank_defs.specs.Ranges.{counts, sort_of, declared, ArePartsNarrow, parts_divide}
 
--- the interval of each part that is a number is narrow, and no divisor's holds 0
+-- the interval of each numeric part is narrow, and no divisor's interval contains 0
 pub record IsSafe (ranges : Name → Range) (f : Formula) : Type 0 where
   pub narrow : ArePartsNarrow ranges f
   pub divides : parts_divide ranges f ≡ true
 
--- the value is a number whose types agree, each part's interval is narrow, and no divisor's holds 0
+-- the value is a number, types agree, each part's interval is narrow, and no divisor's interval
+-- contains 0
 pub record IsCheckedAssignment (p : Program) (a : Assignment) : Type 0 where
   pub typed : sort_of a.formula ≡ counts
   pub narrow : ArePartsNarrow (declared p) a.formula
@@ -27,16 +28,15 @@ pub record IsChecked (p : Program) : Type 0 where
 abbrev pub AreChecked : List Program → Type 0
 AreChecked = AllByRecursion IsChecked
 
--- an assignment, with the transaction to which it belongs
+-- an assignment, with its transaction
 pub record Entry : Type 0 where
   pub program : Program
   pub assignment : Assignment
 
--- an entry of its two parts
 abbrev pub entry : Program → Assignment → Entry
 entry p a = record { program = p; assignment = a }
 
--- all assignments of some transactions
+-- all assignments of a list of transactions
 abbrev pub entries : List Program → List Entry
 entries [] = []
 entries (p ∷ rest) = map (entry p) (assignments p) ++ entries rest
@@ -45,11 +45,11 @@ entries (p ∷ rest) = map (entry p) (assignments p) ++ entries rest
 abbrev pub Clashes : Entry → Type 0
 Clashes e = sort_of e.assignment.formula ≢ counts
 
--- some part that is a number has too wide an interval
+-- the interval of some numeric part is too wide
 abbrev pub IsWide : Entry → Type 0
 IsWide e = ArePartsNarrow (declared e.program) e.assignment.formula → ⊥
 
--- some divisor's interval holds 0
+-- some divisor's interval contains 0
 abbrev pub MayDivideByZero : Entry → Type 0
 MayDivideByZero e = parts_divide (declared e.program) e.assignment.formula ≡ false
 
@@ -58,7 +58,7 @@ abbrev pub SomeAt : (Entry → Type 0) → List Entry → ℕ → Type 0
 SomeAt Fault [] line = ⊥
 SomeAt Fault (e ∷ rest) line = ((e.assignment.line ≡ line) × Fault e) ⊎ SomeAt Fault rest line
 
--- it is the least line with an assignment at fault
+-- this is the least line with an assignment at fault
 pub record IsLeastAt (Fault : Entry → Type 0) (es : List Entry) (line : ℕ) : Type 0 where
   pub here : SomeAt Fault es line
   pub least : (other : ℕ) → SomeAt Fault es other → line ≤ other
@@ -72,22 +72,22 @@ abbrev pub IsLeastLine : (Entry → Type 0) → List Entry → Option ℕ → Ty
 IsLeastLine Fault es None = NoneAt Fault es
 IsLeastLine Fault es (Some line) = IsLeastAt Fault es line
 
--- the lesser of two lines, if there are any
+-- the lesser of two lines, each of which may be absent
 abbrev pub lesser_line : Option ℕ → Option ℕ → Option ℕ
 lesser_line None b = b
 lesser_line (Some m) None = Some m
 lesser_line (Some m) (Some n) = Some (min m n)
 
--- the least line on which types clash
+-- this is the least line with a type clash
 abbrev pub ClashesFirstAt : List Program → ℕ → Type 0
 ClashesFirstAt ps line = IsLeastAt Clashes (entries ps) line
 
--- types agree, and it is the least line with too wide an interval
+-- types agree, and this is the least line with an interval that is too wide
 pub record IsWideFirstAt (ps : List Program) (line : ℕ) : Type 0 where
   pub typed : NoneAt Clashes (entries ps)
   pub wide : IsLeastAt IsWide (entries ps) line
 
--- types agree, intervals are narrow, and it is the least line with a divisor that may be 0
+-- types agree, intervals are narrow, and this is the least line with a divisor that may be 0
 pub record DividesByZeroFirstAt (ps : List Program) (line : ℕ) : Type 0 where
   pub typed : NoneAt Clashes (entries ps)
   pub narrow : NoneAt IsWide (entries ps)

@@ -1,4 +1,4 @@
--- What an expression says, apart from where it lies in memory.
+-- The meaning of an expression, independent of its memory layout.
 use Rattle.std.specs.Prelude.{ℕ, suc, max}
 use Rattle.rank_defs.specs.declared.expression.Expr.{Expr}
 use Rattle.rank_defs.specs.declared.expression.Expr.TheVariants.{Number, Var, Two', Not', If'}
@@ -14,7 +14,7 @@ pub data Formula : Type 0 where
   negation : Formula → Formula
   choice : Formula → Formula → Formula → Formula
 
--- what an expression of the program says
+-- the formula of an expression in the code
 abbrev pub formula_of : Expr → Formula
 formula_of (Number n) = number n
 formula_of (Var v) = variable v
@@ -22,7 +22,7 @@ formula_of (Two' op p a q b) = two op (formula_of a) (formula_of b)
 formula_of (Not' p a) = negation (formula_of a)
 formula_of (If' p c q a r b) = choice (formula_of c) (formula_of a) (formula_of b)
 
--- 1 for a number or a variable, else 1 more than the deepest part
+-- 1 for a number or a variable, otherwise 1 more than the deepest part
 abbrev pub depth_of : Formula → ℕ
 depth_of (number n) = 1
 depth_of (variable v) = 1
@@ -30,13 +30,14 @@ depth_of (two op a b) = suc (max (depth_of a) (depth_of b))
 depth_of (negation a) = suc (depth_of a)
 depth_of (choice c a b) = suc (max (depth_of c) (max (depth_of a) (depth_of b)))
 
--- what an operation takes and gives
+-- the operand and result types of an operation
 pub data Group : Type 0 where
   computes : Group
   compares : Group
   joins : Group
 
--- a number of two numbers, a truth value of two numbers, or a truth value of two truth values
+-- `computes`: numbers to a number; `compares`: numbers to a truth value; `joins`: truth values to a
+-- truth value
 abbrev pub group : Op → Group
 group Add = computes
 group Sub = computes

@@ -1,4 +1,4 @@
--- What holds of all transactions.
+-- Laws of all transactions.
 use Rattle.std.specs.Prelude.{◌≡◌, ◌≢◌, ◌≤◌, ◌↔◌, ℕ, List}
 use Rattle.std.specs.List.{AllByRecursion}
 use Rattle.rank_defs.specs.declared.environment.Env.{Env}
@@ -16,37 +16,38 @@ use Rattle.rank_defs.specs.Checks.{IsSafe, IsChecked, AreChecked, Clashes, IsWid
 use Rattle.rank_defs.specs.Tame.{AreInside, ArePartsIn, IsAlwaysTame, IsSafePush, IsSafePop}
 use Rattle.rank_defs.specs.Builtins.{builtins}
 
--- where no divisor's interval holds 0, each part that is a number has a value inside its interval, for all values of the
--- variables in theirs
+-- if no divisor's interval contains 0, each numeric part has a value inside its interval, for all
+-- values of the variables in their intervals
 abbrev pub SafePartsAreInside : Type 0
 SafePartsAreInside =
     (ranges : Name → Range) (values : Name → ℕ) → AreInside ranges values → (f : Formula) → IsSafe ranges f → ArePartsIn (range_of ranges) values f
 
--- and where its parts' intervals are narrow, each value is from -2^100 to 2^100
+-- if, in addition, the parts' intervals are narrow, each value is between -2^100 and 2^100
 abbrev pub SafePartsAreNarrow : Type 0
 SafePartsAreNarrow =
     (ranges : Name → Range) (values : Name → ℕ) → AreInside ranges values → (f : Formula) → IsSafe ranges f → ArePartsIn (λ part. widest) values f
 
--- 128 bits hold the value of the whole
+-- the value of the whole expression fits in 128 bits
 abbrev pub SafeValuesFit : Type 0
 SafeValuesFit =
     (ranges : Name → Range) (values : Name → ℕ) → AreInside ranges values → (f : Formula) → IsSafe ranges f → sort_of f ≡ counts → FitsWide (value_of values f)
 
--- a checked transaction is tame from every state in range and in every environment in range
+-- a checked transaction is tame from every state and in every environment in range
 abbrev pub CheckedAreTame : Type 0
 CheckedAreTame = (p : Program) → IsChecked p → IsAlwaysTame p
 
--- every push step of a checked transaction is safe, from every state in range and every environment in range
+-- every push step of a checked transaction is safe, from every state and in every environment in
+-- range
 abbrev pub CheckedPushesAreSafe : Type 0
 CheckedPushesAreSafe =
     (p : Program) → IsShaped p → IsChecked p → (s : State) → IsStateInRange p s → (env : Env) → IsEnvInRange env → (who : Who) → IsSafePush p who env s
 
--- and every pop step, with every rank
+-- every pop step is safe too, for every rank
 abbrev pub CheckedPopsAreSafe : Type 0
 CheckedPopsAreSafe =
     (p : Program) → IsShaped p → IsChecked p → (s : State) → IsStateInRange p s → (env : Env) → IsEnvInRange env → (who : Who) → (taken : ℕ) → taken ≤ max_rank → IsSafePop p who env taken s
 
--- the state at the start is in range
+-- the initial state is in range
 abbrev pub FirstStatesAreInRange : Type 0
 FirstStatesAreInRange = (p : Program) → IsShaped p → IsStateInRange p (first_state p)
 
@@ -55,16 +56,16 @@ abbrev pub PopsKeepRanks : Type 0
 PopsKeepRanks =
     (p : Program) → IsShaped p → (who : Who) (env : Env) (taken : ℕ) (s : State) → (pop_step p who env taken s).rank ≡ taken
 
--- a step for one child or flow sets its variables
+-- a step for a child or flow sets the variables of that child or flow
 abbrev pub StepsChangeOne : Type 0
 StepsChangeOne = (who : Who) (m : Memory) (s : State) → (put_back who m s).eaches who ≡ m.eaches
 
--- and leaves those of every other as they are
+-- the variables of every other child or flow are unchanged
 abbrev pub StepsLeaveOthers : Type 0
 StepsLeaveOthers =
     (who other : Who) (m : Memory) (s : State) → other ≢ who → (put_back who m s).eaches other ≡ s.eaches other
 
--- steps from states that are the same give the same rank, and states that are the same
+-- steps from equal states give equal ranks and equal states
 pub record StepsRespectStates : Type 0 where
   pub push : (p : Program) (who : Who) (env : Env) (s t : State) → SameState s t → push_step p who env s ≡ push_step p who env t
   pub pop : (p : Program) (who : Who) (env : Env) (taken : ℕ) (s t : State) → SameState s t → pop_step p who env taken s ≡ pop_step p who env taken t
@@ -77,11 +78,11 @@ pub record IsFaultless (ps : List Program) : Type 0 where
   pub narrow : NoneAt IsWide (entries ps)
   pub divides : NoneAt MayDivideByZero (entries ps)
 
--- transactions are checked exactly where no assignment is at fault
+-- transactions are checked exactly if no assignment is at fault
 abbrev pub ChecksFindAllFaults : Type 0
 ChecksFindAllFaults = (ps : List Program) → AreChecked ps ↔ IsFaultless ps
 
--- each refusal names one line
+-- each error names exactly one line
 pub record RefusalsNameOneLine : Type 0 where
   pub clash : (ps : List Program) (line other : ℕ) → ClashesFirstAt ps line → ClashesFirstAt ps other → line ≡ other
   pub wide : (ps : List Program) (line other : ℕ) → IsWideFirstAt ps line → IsWideFirstAt ps other → line ≡ other

@@ -1,4 +1,4 @@
--- What is known of an expression from the declared ranges alone.
+-- Types and intervals of expressions, computed from the declared ranges alone.
 use Rattle.std.specs.Prelude.{◌^◌, ℤ, pos, neg_ℤ, ◌+ℤ◌, ◌-ℤ◌, ◌*ℤ◌, ◌≤ℤ◌, int_div, unsigned_abs, int_le, max, Bool, true, not, ◌&&◌, if◌then◌else◌}
 use Rattle.std.specs.Int.{int_min, int_max}
 use Rattle.rank_defs.specs.declared.expression.Op.{Op}
@@ -11,30 +11,30 @@ use Rattle.rank_defs.specs.Formulas.{Formula, number, variable, two, negation, c
 use Rattle.rank_defs.specs.Programs.{Program, span_at, max_rank}
 use Rattle.rank_defs.specs.Shapes.{max_len, max_prio, max_weight, max_slack}
 
--- what kind of value an expression has
+-- the type of an expression: a number (`counts`), a truth value (`tells`), or a type clash
 pub data Sort : Type 0 where
   counts : Sort
   tells : Sort
   clash : Sort
 
--- an operation on two values
+-- the type of a binary operation
 abbrev pub sort_of_two : Sort → Sort → Group → Sort
 sort_of_two counts counts computes = counts
 sort_of_two counts counts compares = tells
 sort_of_two tells tells joins = tells
 sort_of_two s t g = clash
 
--- `not` of a truth value
+-- the type of a negation
 abbrev pub sort_of_negation : Sort → Sort
 sort_of_negation tells = tells
 sort_of_negation s = clash
 
--- a truth value and two numbers
+-- the type of a choice between two numbers by a truth value
 abbrev pub sort_of_choice : Sort → Sort → Sort → Sort
 sort_of_choice tells counts counts = counts
 sort_of_choice c s t = clash
 
--- a number, a truth value, or a clash of types
+-- the type of an expression
 abbrev pub sort_of : Formula → Sort
 sort_of (number n) = counts
 sort_of (variable v) = counts
@@ -42,19 +42,18 @@ sort_of (two op a b) = sort_of_two (sort_of a) (sort_of b) (group op)
 sort_of (negation a) = sort_of_negation (sort_of a)
 sort_of (choice c a b) = sort_of_choice (sort_of c) (sort_of a) (sort_of b)
 
--- an interval of its ends
 abbrev pub range : ℤ → ℤ → Range
 range l h = record { low = l; high = h }
 
--- from the least to the greatest of four numbers
+-- the interval from the least to the greatest of four numbers
 abbrev pub hull_of : ℤ → ℤ → ℤ → ℤ → Range
 hull_of a b c d = range (int_min (int_min a b) (int_min c d)) (int_max (int_max a b) (int_max c d))
 
--- from the least to the greatest of the four results at the ends
+-- the interval from the least to the greatest result at the operands' ends
 abbrev pub corners : (ℤ → ℤ → ℤ) → Range → Range → Range
 corners f r s = hull_of (f r.low s.low) (f r.low s.high) (f r.high s.low) (f r.high s.high)
 
--- whether 0 lies in an interval
+-- whether an interval contains 0
 abbrev pub holds_zero : Range → Bool
 holds_zero r = int_le r.low (pos 0) && int_le (pos 0) r.high
 
@@ -62,15 +61,16 @@ holds_zero r = int_le r.low (pos 0) && int_le (pos 0) r.high
 abbrev pub reach : Range → ℤ
 reach r = pos (max (unsigned_abs r.low) (unsigned_abs r.high))
 
--- the interval of a quotient: where the divisor may be 0, all up to the greatest absolute value of the dividend
+-- the interval of a quotient; if the divisor may be 0, it spans the dividend's greatest absolute
+-- value and its negation
 abbrev pub quotient_range : Range → Range → Range
 quotient_range r s = if holds_zero s then range (neg_ℤ (reach r)) (reach r) else corners int_div r s
 
--- the least interval that holds two
+-- the smallest interval that contains both
 abbrev pub joined_range : Range → Range → Range
 joined_range r s = range (int_min r.low s.low) (int_max r.high s.high)
 
--- the interval of an operation; 0 alone where it doesn't give a number
+-- the interval of an operation; only 0 if the result isn't a number
 abbrev pub range_of_two : Op → Range → Range → Range
 range_of_two Add r s = range (r.low +ℤ s.low) (r.high +ℤ s.high)
 range_of_two Sub r s = range (r.low -ℤ s.high) (r.high -ℤ s.low)
@@ -80,7 +80,7 @@ range_of_two Min r s = range (int_min r.low s.low) (int_min r.high s.high)
 range_of_two Max r s = range (int_max r.low s.low) (int_max r.high s.high)
 range_of_two op r s = range (pos 0) (pos 0)
 
--- the interval of an expression, by those of the variables; 0 alone where it isn't a number
+-- the interval of an expression, given those of the variables; only 0 if it isn't a number
 abbrev pub range_of : (Name → Range) → Formula → Range
 range_of ranges (number n) = range (pos n) (pos n)
 range_of ranges (variable v) = ranges v
@@ -88,7 +88,7 @@ range_of ranges (two op a b) = range_of_two op (range_of ranges a) (range_of ran
 range_of ranges (negation a) = range (pos 0) (pos 0)
 range_of ranges (choice c a b) = joined_range (range_of ranges a) (range_of ranges b)
 
--- the interval of a variable with this span
+-- the interval of a variable with a given span
 abbrev pub range_of_span : Span → Range
 range_of_span s = range (pos s.low) (pos s.high)
 
@@ -103,16 +103,16 @@ declared p Rank = range (pos 0) (pos max_rank)
 declared p (Keep i) = range_of_span (span_at p.keeps i)
 declared p (Each i) = range_of_span (span_at p.eaches i)
 
--- the widest interval of a part
+-- the widest interval that a part may have
 abbrev pub widest : Range
 widest = range (neg_ℤ (pos (2 ^ 100))) (pos (2 ^ 100))
 
--- the interval lies within -2^100 to 2^100, ends included
+-- the interval lies between -2^100 and 2^100, ends included
 pub record IsNarrow (r : Range) : Type 0 where
   pub low : neg_ℤ (pos (2 ^ 100)) ≤ℤ r.low
   pub high : r.high ≤ℤ pos (2 ^ 100)
 
--- the interval of each part that is a number is narrow
+-- the interval of each numeric part is narrow
 abbrev pub ArePartsNarrow : (Name → Range) → Formula → Type 0
 ArePartsNarrow ranges (number n) = IsNarrow (range_of ranges (number n))
 ArePartsNarrow ranges (variable v) = IsNarrow (range_of ranges (variable v))
@@ -122,12 +122,12 @@ ArePartsNarrow ranges (negation a) = ArePartsNarrow ranges a
 ArePartsNarrow ranges (choice c a b) =
     ArePartsNarrow ranges c × ArePartsNarrow ranges a × ArePartsNarrow ranges b × IsNarrow (range_of ranges (choice c a b))
 
--- whether a divisor with this interval isn't 0
+-- an operation that isn't a division, or one whose divisor's interval doesn't contain 0
 abbrev pub may_divide : Op → Range → Bool
 may_divide Div s = not (holds_zero s)
 may_divide op s = true
 
--- whether no divisor's interval holds 0
+-- whether no divisor's interval contains 0
 abbrev pub parts_divide : (Name → Range) → Formula → Bool
 parts_divide ranges (number n) = true
 parts_divide ranges (variable v) = true
@@ -137,12 +137,12 @@ parts_divide ranges (negation a) = parts_divide ranges a
 parts_divide ranges (choice c a b) =
     parts_divide ranges c && (parts_divide ranges a && parts_divide ranges b)
 
--- narrow, and from the lesser to the greater end
+-- narrow, and the low end is at most the high end
 pub record IsProper (r : Range) : Type 0 where
   pub low : neg_ℤ (pos (2 ^ 100)) ≤ℤ r.low
   pub high : r.high ≤ℤ pos (2 ^ 100)
   pub ordered : r.low ≤ℤ r.high
 
--- each variable's interval goes from the lesser to the greater end
+-- each variable's interval has its low end at most its high end
 abbrev pub AreOrdered : (Name → Range) → Type 0
 AreOrdered ranges = (v : Name) → (ranges v).low ≤ℤ (ranges v).high

@@ -1,4 +1,4 @@
--- Transactions that are shaped, and states and environments in range.
+-- Well-shaped transactions, and states and environments in range.
 use Rattle.std.specs.Prelude.{◌≤◌, ◌<◌, ◌≢◌, ℕ, List, [], ◌∷◌, length}
 use Rattle.std.specs.List.{AllByRecursion}
 use Rattle.rank_defs.specs.declared.environment.Env.{Env}
@@ -12,13 +12,13 @@ use Rattle.rank_defs.specs.Formulas.{Formula, number, variable, two, negation, c
 use Rattle.rank_defs.specs.Programs.{Assignment, Program, max_rank}
 use Rattle.rank_defs.specs.States.{State, Memory}
 
--- from the least value to the greatest, with the first between them
+-- low end, first value and high end are in order
 pub record IsSpan (s : Span) : Type 0 where
   pub low : s.low ≤ s.first
   pub high : s.first ≤ s.high
   pub most : s.high ≤ max_rank
 
--- a variable that is declared
+-- the variable is declared
 abbrev pub IsDeclared : Program → Name → Type 0
 IsDeclared p (Keep i) = i < length p.keeps
 IsDeclared p (Each i) = i < length p.eaches
@@ -32,7 +32,7 @@ AreDeclared p (two op a b) = AreDeclared p a × AreDeclared p b
 AreDeclared p (negation a) = AreDeclared p a
 AreDeclared p (choice c a b) = AreDeclared p c × AreDeclared p a × AreDeclared p b
 
--- the rank, or a variable that is declared
+-- a valid target: the rank, or a declared variable
 abbrev pub IsAim : Program → Aim → Type 0
 IsAim p AimRank = Unit {0}
 IsAim p (AimKeep i) = i < length p.keeps
@@ -42,13 +42,14 @@ IsAim p (AimEach i) = i < length p.eaches
 abbrev pub max_depth : ℕ
 max_depth = 64
 
--- it writes and reads declared variables alone, and isn't too deep
+-- it reads and writes only declared variables, and isn't too deep
 pub record IsShapedAssignment (p : Program) (a : Assignment) : Type 0 where
   pub aim : IsAim p a.aim
   pub variables : AreDeclared p a.formula
   pub depth : depth_of a.formula ≤ max_depth
 
--- spans in order, all variables declared, no expression too deep, and no rank written at a pop
+-- spans are in order, all variables are declared, no expression is too deep, and no pop writes the
+-- rank
 pub record IsShaped (p : Program) : Type 0 where
   pub keeps : AllByRecursion IsSpan p.keeps
   pub eaches : AllByRecursion IsSpan p.eaches
@@ -56,7 +57,7 @@ pub record IsShaped (p : Program) : Type 0 where
   pub pop : AllByRecursion (IsShapedAssignment p) p.pop
   pub leaves_rank : AllByRecursion (λ a. a.aim ≢ AimRank) p.pop
 
--- one number for each span, inside it
+-- one number for each span, inside that span
 abbrev pub AreWithin : List Span → List ℕ → Type 0
 AreWithin [] [] = Unit {0}
 AreWithin (s ∷ spans) (v ∷ values) = (s.low ≤ v) × (v ≤ s.high) × AreWithin spans values
@@ -67,7 +68,7 @@ pub record IsStateInRange (p : Program) (s : State) : Type 0 where
   pub keeps : AreWithin p.keeps s.keeps
   pub eaches : (who : Who) → AreWithin p.eaches (s.eaches who)
 
--- the same of what a step reads and writes
+-- each number that a step reads and writes lies in its range
 pub record IsMemoryInRange (p : Program) (m : Memory) : Type 0 where
   pub rank : m.rank ≤ max_rank
   pub keeps : AreWithin p.keeps m.keeps
@@ -77,19 +78,19 @@ pub record IsMemoryInRange (p : Program) (m : Memory) : Type 0 where
 abbrev pub max_len : ℕ
 max_len = 4294967295
 
--- of `prio`
+-- the greatest value of `prio`
 abbrev pub max_prio : ℕ
 max_prio = 65535
 
--- of `weight`, which is at least 1
+-- the greatest value of `weight`; the least is 1
 abbrev pub max_weight : ℕ
 max_weight = 65535
 
--- of `slack`, in nanoseconds
+-- the greatest value of `slack`, in nanoseconds
 abbrev pub max_slack : ℕ
 max_slack = 1000000000000
 
--- each number that a step is told lies in its range
+-- each number in the environment of a step lies in its range
 pub record IsEnvInRange (env : Env) : Type 0 where
   pub len : env.len ≤ max_len
   pub now : env.now ≤ max_rank

@@ -10,31 +10,31 @@ use Rattle.rank_defs.specs.Programs.{Assignment, Program, target}
 use Rattle.rank_defs.specs.Values.{Value, num, value_of}
 use Rattle.rank_defs.specs.States.{State, Memory, memory_for, put_back, variable_in}
 
--- a number moved into a span; the span's low end where there is no number
+-- a number clamped to a span; the span's low end if the value isn't a number
 abbrev pub clamped : Span → Value → ℕ
 clamped s (num v) = unsigned_abs (int_max (pos s.low) (int_min v (pos s.high)))
 clamped s v = s.low
 
--- a number written to its aim
+-- writes a number to a target
 abbrev pub write : Aim → ℕ → Memory → Memory
 write Rank v m = record m { rank = v }
 write (Keep i) v m = record m { keeps = slice_set m.keeps i v }
 write (Each i) v m = record m { eaches = slice_set m.eaches i v }
 
--- what an assignment writes
+-- the number that an assignment writes
 abbrev pub written : Program → Env → Memory → Assignment → ℕ
 written p env m a = clamped (target p a.aim) (value_of (variable_in env m) a.formula)
 
--- after an assignment
+-- the memory after an assignment
 abbrev pub assigned : Program → Env → Memory → Assignment → Memory
 assigned p env m a = write a.aim (written p env m a) m
 
--- after some assignments, one after another
+-- the memory after a sequence of assignments
 abbrev pub run : Program → Env → List Assignment → Memory → Memory
 run p env [] m = m
 run p env (a ∷ rest) m = run p env rest (assigned p env m a)
 
--- what a push step ends with: it begins with rank 0
+-- the memory at the end of a push step, which begins with rank 0
 abbrev pub push_step : Program → Who → Env → State → Memory
 push_step p who env s = run p env p.push (memory_for who 0 s)
 
@@ -46,7 +46,7 @@ push_rank p who env s = (push_step p who env s).rank
 abbrev pub after_push : Program → Who → Env → State → State
 after_push p who env s = put_back who (push_step p who env s) s
 
--- what a pop step ends with: it begins with the rank taken
+-- the memory at the end of a pop step, which begins with the rank taken
 abbrev pub pop_step : Program → Who → Env → ℕ → State → Memory
 pop_step p who env taken s = run p env p.pop (memory_for who taken s)
 

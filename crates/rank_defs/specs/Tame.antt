@@ -1,4 +1,4 @@
--- Steps in which every number that is computed lies in its interval.
+-- Steps in which every computed number lies in its interval.
 use Rattle.std.specs.Prelude.{◌≡◌, ◌≤◌, ◌≤ℤ◌, ℕ, ℤ, pos, List, [], ◌∷◌}
 use Rattle.std.specs.List.{AllByRecursion}
 use Rattle.rank_defs.specs.declared.environment.Env.{Env}
@@ -21,11 +21,11 @@ IsInside r v = (r.low ≤ℤ v) × (v ≤ℤ r.high)
 abbrev pub AreInside : (Name → Range) → (Name → ℕ) → Type 0
 AreInside ranges variables = (v : Name) → IsInside (ranges v) (pos (variables v))
 
--- where it is a number, it has a value, inside the interval
+-- if the expression is a number, it has a value inside the interval
 abbrev pub HasValueIn : Range → (Name → ℕ) → Formula → Type 0
 HasValueIn r values f = sort_of f ≡ counts → (v : ℤ) × (value_of values f ≡ num v) × IsInside r v
 
--- each part that is a number has a value inside the interval given for it, those in a branch not taken too
+-- each numeric part has a value inside its given interval, even in a branch that isn't taken
 abbrev pub ArePartsIn : (Formula → Range) → (Name → ℕ) → Formula → Type 0
 ArePartsIn bound values (number n) = HasValueIn (bound (number n)) values (number n)
 ArePartsIn bound values (variable v) = HasValueIn (bound (variable v)) values (variable v)
@@ -35,29 +35,30 @@ ArePartsIn bound values (negation a) = ArePartsIn bound values a
 ArePartsIn bound values (choice c a b) =
     ArePartsIn bound values c × ArePartsIn bound values a × ArePartsIn bound values b × HasValueIn (bound (choice c a b)) values (choice c a b)
 
--- types agree, and each part that is a number has a value, inside its interval and from -2^100 to 2^100
+-- types agree, and each numeric part has a value inside its interval and between -2^100 and 2^100
 pub record IsTameAssignment (p : Program) (env : Env) (m : Memory) (a : Assignment) : Type 0 where
   pub typed : sort_of a.formula ≡ counts
   pub inside : ArePartsIn (range_of (declared p)) (variable_in env m) a.formula
   pub narrow : ArePartsIn (λ f. widest) (variable_in env m) a.formula
 
--- each assignment is tame as they run one after another
+-- each assignment is tame when they run in sequence
 abbrev pub IsTame : Program → Env → List Assignment → Memory → Type 0
 IsTame p env [] m = Unit {0}
 IsTame p env (a ∷ rest) m = IsTameAssignment p env m a × IsTame p env rest (assigned p env m a)
 
--- each assignment is tame from all values of the variables in their ranges
+-- each assignment is tame for all values of the variables in their ranges
 abbrev pub IsAlwaysTame : Program → Type 0
 IsAlwaysTame p =
     (env : Env) → IsEnvInRange env → (m : Memory) → IsMemoryInRange p m → AllByRecursion (IsTameAssignment p env m) (assignments p)
 
--- a push step that is tame, whose rank is one, and that leaves each variable in its range
+-- a tame push step whose rank is at most the greatest rank, and after which each variable is in its
+-- range
 pub record IsSafePush (p : Program) (who : Who) (env : Env) (s : State) : Type 0 where
   pub tame : IsTame p env p.push (memory_for who 0 s)
   pub rank : push_rank p who env s ≤ max_rank
   pub after : IsStateInRange p (after_push p who env s)
 
--- a pop step that is tame and leaves each variable in its range
+-- a tame pop step after which each variable is in its range
 pub record IsSafePop (p : Program) (who : Who) (env : Env) (taken : ℕ) (s : State) : Type 0 where
   pub tame : IsTame p env p.pop (memory_for who taken s)
   pub after : IsStateInRange p (after_pop p who env taken s)

@@ -6,23 +6,23 @@ use Rattle.rank_defs.specs.declared.expression.Op.TheVariants.{Add, Sub, Mul, Di
 use Rattle.rank_defs.specs.declared.expression.Var.{Var as Name}
 use Rattle.rank_defs.specs.Formulas.{Formula, number, variable, two, negation, choice}
 
--- a number, a truth value, or neither
+-- a number, a truth value, or no value
 pub data Value : Type 0 where
   num : ℤ → Value
   truth : Bool → Value
   nothing : Value
 
--- of two numbers; nothing where one isn't a number
+-- applies a function to two numbers; no value if either isn't a number
 abbrev pub on_numbers : (ℤ → ℤ → Value) → Value → Value → Value
 on_numbers f (num x) (num y) = f x y
 on_numbers f x y = nothing
 
--- of two truth values; nothing where one isn't a truth value
+-- applies a function to two truth values; no value if either isn't a truth value
 abbrev pub on_truths : (Bool → Bool → Bool) → Value → Value → Value
 on_truths f (truth x) (truth y) = truth (f x y)
 on_truths f x y = nothing
 
--- truncated towards zero; nothing where the divisor is 0
+-- truncated toward zero; no value if the divisor is 0
 abbrev pub quotient : ℤ → ℤ → Value
 quotient x (pos zero) = nothing
 quotient x (pos (suc n)) = num (int_div x (pos (suc n)))
@@ -32,7 +32,7 @@ quotient x (negsuc n) = num (int_div x (negsuc n))
 abbrev pub int_equal : ℤ → ℤ → Bool
 int_equal x y = int_le x y && int_le y x
 
--- what an operation gives of two values
+-- the result of an operation on two values
 abbrev pub apply : Op → Value → Value → Value
 apply Add = on_numbers (λ x y. num (x +ℤ y))
 apply Sub = on_numbers (λ x y. num (x -ℤ y))
@@ -49,17 +49,17 @@ apply Max = on_numbers (λ x y. num (int_max x y))
 apply And = on_truths (λ x y. x && y)
 apply Or = on_truths (λ x y. x || y)
 
--- the other truth value
+-- the negation of a truth value
 abbrev pub negated : Value → Value
 negated (truth x) = truth (not x)
 negated x = nothing
 
--- one of two numbers, by a truth value
+-- one of two numbers, selected by a truth value
 abbrev pub chosen : Value → Value → Value → Value
 chosen (truth t) (num x) (num y) = num (if t then x else y)
 chosen t x y = nothing
 
--- the value of an expression, where each variable has the number given
+-- the value of an expression, given the value of each variable
 abbrev pub value_of : (Name → ℕ) → Formula → Value
 value_of variables (number n) = num (pos n)
 value_of variables (variable v) = num (pos (variables v))
@@ -68,7 +68,7 @@ value_of variables (negation a) = negated (value_of variables a)
 value_of variables (choice c a b) =
     chosen (value_of variables c) (value_of variables a) (value_of variables b)
 
--- a number that 128 bits hold
+-- a number that fits in 128 bits
 abbrev pub FitsWide : Value → Type 0
 FitsWide (num x) = FitsSigned w128 x
 FitsWide w = ⊥

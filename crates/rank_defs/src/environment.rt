@@ -1,4 +1,4 @@
-//! What a step of a transaction is told.
+//! The inputs of a transaction's step.
 
 /// The greatest `prio`.
 pub const MAX_PRIO: u32 = 65_535;
@@ -9,7 +9,8 @@ pub const MAX_WEIGHT: u32 = 65_535;
 /// The greatest `slack`, in nanoseconds.
 pub const MAX_SLACK: u64 = 1_000_000_000_000;
 
-/// The flow of a packet. Absent header fields are 0, so all packets without an IP header are one flow.
+/// The flow of a packet: IP version, source and destination address, protocol and ports. Absent
+/// header fields are 0, so all packets without an IP header form one flow.
 #[derive(Clone, Copy, PartialEq, Eq, Hash, Debug)]
 pub struct FlowKey {
     pub version: u8,
@@ -20,7 +21,8 @@ pub struct FlowKey {
     pub dport: u16,
 }
 
-/// Whose `each` variables a step uses: a child's at an inner node, a flow's at a leaf.
+/// The child or flow whose `each` variables a step uses: a child at an inner node, a flow at a
+/// leaf.
 #[derive(Clone, Copy, PartialEq, Eq, Debug)]
 pub enum Who {
     Child(u32),
@@ -32,12 +34,12 @@ pub enum Who {
 pub struct Env {
     /// The packet's original length in bytes.
     pub len: u32,
-    /// The largest moment of the packets that arrived so far, in nanoseconds.
+    /// The largest timestamp of the packets that have arrived so far, in nanoseconds.
     pub now: u64,
-    /// The priority of the child on the way, or of the packet's class at a leaf.
+    /// The priority of the next child on the path, or of the packet's class at a leaf.
     pub prio: u32,
-    /// The weight of the child on the way, or of the packet's class at a leaf.
+    /// The weight of the next child on the path, or of the packet's class at a leaf.
     pub weight: u32,
-    /// The slack of the child on the way, or of the packet's class at a leaf, in nanoseconds.
+    /// The slack of the next child on the path, or of the packet's class at a leaf, in nanoseconds.
     pub slack: u64,
 }

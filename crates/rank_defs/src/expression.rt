@@ -3,7 +3,8 @@
 /// The greatest depth of an expression. A number or a variable has depth 1.
 pub const MAX_DEPTH: u32 = 64;
 
-/// A variable of a transaction. `Keep` and `Each` are numbered in the order of their declarations.
+/// A variable that an expression can read. `Keep` and `Each` are numbered in the order of
+/// declaration.
 #[derive(Clone, Copy, PartialEq, Eq, Debug)]
 pub enum Var {
     Len,
@@ -16,7 +17,7 @@ pub enum Var {
     Each(u32),
 }
 
-/// An operation on two values.
+/// A binary operation.
 #[derive(Clone, Copy, PartialEq, Eq, Debug)]
 pub enum Op {
     Add,

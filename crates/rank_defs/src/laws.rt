@@ -2,14 +2,14 @@
 
 ghost use Rattle.rank_defs.specs.Laws.{SafePartsAreInside, SafePartsAreNarrow, SafeValuesFit, CheckedAreTame, CheckedPushesAreSafe, CheckedPopsAreSafe, FirstStatesAreInRange, PopsKeepRanks, StepsChangeOne, StepsLeaveOthers, StepsRespectStates, ChecksFindAllFaults, RefusalsNameOneLine, BuiltinsAreChecked};
 
-/// Checks from the declared ranges alone hold for all values in those ranges.
+/// If the checks pass on the declared ranges, they hold for all values in those ranges.
 pub fn safe_parts_are_inside()
     ensures inside { SafePartsAreInside }
     ensures narrow { SafePartsAreNarrow }
     ensures fits { SafeValuesFit }
 {}
 
-/// A checked transaction can be run from every state in range, and keeps it in range.
+/// A checked transaction runs safely from every state in range, and keeps the state in range.
 pub fn checked_steps_are_safe()
     ensures tame { CheckedAreTame }
     ensures pushes { CheckedPushesAreSafe }
@@ -17,7 +17,7 @@ pub fn checked_steps_are_safe()
     ensures start { FirstStatesAreInRange }
 {}
 
-/// A step changes the variables of the node, and of one child or flow.
+/// A step changes only the variables of the node and of one child or flow.
 pub fn steps_change_one()
     ensures one { StepsChangeOne }
     ensures others { StepsLeaveOthers }
@@ -25,7 +25,8 @@ pub fn steps_change_one()
     ensures states { StepsRespectStates }
 {}
 
-/// Transactions are either checked or have a fault, on one least line.
+/// A list of transactions is either checked, or has an error with exactly one line number: the
+/// least.
 pub fn checks_find_all_faults()
     ensures faults { ChecksFindAllFaults }
     ensures lines { RefusalsNameOneLine }

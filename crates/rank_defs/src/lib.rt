@@ -1,4 +1,4 @@
-//! What a scheduling transaction is: its types, and the definitions of what it computes. Begin with
+//! Scheduling transactions: their types, and the definitions of their steps. Begin with
 //! specs/Programs.antt.
 #![tactic(auto)]
 

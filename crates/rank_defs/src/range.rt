@@ -1,6 +1,6 @@
 //! Intervals.
 
-/// An interval of whole numbers, both ends included.
+/// An interval of integers, both ends included.
 #[derive(Clone, Copy, PartialEq, Eq, Debug)]
 pub struct Range {
     pub low: i128,

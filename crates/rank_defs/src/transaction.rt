@@ -3,10 +3,10 @@
 use crate::expression::Expr;
 use list_core::List;
 
-/// The greatest rank, moment and value of a variable.
+/// The greatest rank, timestamp (in nanoseconds) and variable value: 2^62 - 1.
 pub const MAX_RANK: u64 = 4_611_686_018_427_387_903;
 
-/// The range of a variable, and its first value.
+/// The range of a variable, ends included, and its first value.
 #[derive(Clone, Copy, PartialEq, Eq, Debug)]
 pub struct Span {
     pub low: u64,
@@ -14,7 +14,7 @@ pub struct Span {
     pub first: u64,
 }
 
-/// What an assignment writes.
+/// The target of an assignment: the rank, a variable of the node, or one of the child or flow.
 #[derive(Clone, Copy, PartialEq, Eq, Debug)]
 pub enum Aim {
     Rank,
@@ -22,7 +22,7 @@ pub enum Aim {
     Each(u32),
 }
 
-/// One assignment, with the line of the policy text on which it stands. It is 0 for a built-in one.
+/// One assignment, with its line number in the policy text. Built-in assignments have line 0.
 #[derive(Drop)]
 pub struct Assign {
     pub line: u32,
@@ -30,12 +30,13 @@ pub struct Assign {
     pub value: Expr,
 }
 
-/// The variables of a node, and what it computes at each push and pop.
+/// The variables of a node, and the assignments that it runs at each push and pop.
 #[derive(Drop)]
 pub struct Transaction {
-    /// One variable for the node each.
+    /// The variables that the node has once, in the order of their declarations.
     pub keeps: List<Span>,
-    /// One variable for each child, or for each flow, each.
+    /// The variables that each child (at an inner node) or each flow (at a leaf) has, in the order
+    /// of their declarations.
     pub eaches: List<Span>,
     pub push: List<Assign>,
     pub pop: List<Assign>,

@@ -1,4 +1,4 @@
--- A step of a push down a source tree along an address, with the ranks beside it.
+-- One step of a push down a source tree along an address, with the ranks.
 use Rattle.std.proofs.Common.{◌≡◌, ℕ, ◌+◌, ◌-◌, ◌<◌, ◌≤◌, ◌^◌, List, [], ◌∷◌, length, get_or, take, drop, set, refl, sym, ap, ◌∙◌, subst, arith}
 use Rattle.std.proofs.lemmas.List.{take_all}
 use Rattle.pifo_defs.specs.Queue.{Queue, put}
@@ -11,7 +11,7 @@ use Rattle.tree_core.specs.Places.{HasRoom, without_places, without_places_below
 use Rattle.tree_core.proofs.PushSteps.{child_within, child_leads, child_room, child_pushed, EachPushed-le, EachPushed-set, forest-set, branch-push_child, HasDigits-put, leads_here}
 use Rattle.tree_core.proofs.PlaceLaws.{one_less, spares-used, branch-used}
 
--- what is behind the first, as a slice pattern cuts it out
+-- the list after its first element, as a slice pattern extracts it
 abbrev pub rest : List ℕ → List ℕ
 rest xs = take (length xs - 1) (drop 1 xs)
 
@@ -19,7 +19,7 @@ pub rest-is : (xs : List ℕ) → rest xs ≡ drop 1 xs
 rest-is [] = refl
 rest-is (x ∷ xs) = take_all (length (x ∷ xs) - 1) xs (omega arith)
 
--- the first digit leads to the child k, which afterwards is k'
+-- the first digit leads to child k, which becomes k'
 pub record NextStep (s s' : Contents) (ks : List TreeContents) (k k' : TreeContents) (address ranks : List ℕ) (item : ℕ) : Type 0 where
   pub nonempty : 1 ≤ length address
   pub child : k ≡ get_or ks (get_or address 0 0) k
@@ -37,7 +37,7 @@ pushed_next s s' (j ∷ ks) k k' (i ∷ address) ranks item l h =
     ∙ branch-push_child s'.entries j.tree (forest ks) i address (drop 1 ranks) item
     ∙ ap (λ (z : Queue). inner z (push_child (forest (j ∷ ks)) i address (drop 1 ranks) item)) h.entries
 
--- the node stays sound
+-- the node remains sound
 pub sound_next : (s s' : Contents) (ks : List TreeContents) (k k' : TreeContents) (address ranks : List ℕ) (item : ℕ) → LeadsToLeaf (branch s.entries (forest ks)) address
     → NextStep s s' ks k k' address ranks item → s'.pushes ≡ s.pushes + 1 → k'.pushes ≡ k.pushes + 1 → get_or address 0 0 < length ks → get_or address 0 0 < 2 ^ 32 → IsSound s ks
     → IsSound s' (set ks (get_or address 0 0) k')
@@ -47,11 +47,11 @@ sound_next s s' ks k k' address ranks item l h p p' n narrow w = record {
   digits = subst (λ (z : Queue). HasDigits z (set ks (get_or address 0 0) k')) (sym h.entries) (HasDigits-put ks s.entries (get_or address 0 0) k' (get_or ranks 0 0) narrow w.digits);
 }
 
--- what the child needs
+-- the preconditions for the child
 abbrev pub Needs : TreeContents → List ℕ → List ℕ → Type 0
 Needs k address ranks = LeadsToLeaf k.tree address × ((length ranks ≡ length address + 1) × (HasRoom k.spare address × (k.pushes < 2 ^ 62)))
 
--- of the value that the fields are seen as
+-- facts about the tree as the contract sees it
 module _ (s : Contents) (ks : List TreeContents) (g : TreeContents) (e : grown s ks ≡ g) where
   pub digit_within : (address : List ℕ) → 1 ≤ length address → LeadsToLeaf g.tree address → get_or address 0 0 < length ks
   digit_within address n l = within ks address n (leads_here s ks g e address l)

@@ -1,4 +1,4 @@
--- A new tree has its topology, and empty queues.
+-- A new tree has its topology and empty queues.
 use Rattle.std.proofs.Common.{◌≡◌, ℕ, zero, suc, ◌+◌, ◌<◌, ◌≤◌, List, [], ◌∷◌, ◌++◌, length, get_or, take, map, Vec, Global, refl, sym, ap, ◌∙◌, subst, arith}
 use Rattle.std.proofs.lemmas.List.{map_more}
 use Rattle.pifo_defs.specs.Queue.{Queue}
@@ -61,7 +61,7 @@ pub EachPushed-push : (n : ℕ) (ks : List TreeContents) (k : TreeContents) → 
 EachPushed-push n [] k l h = (l, tt)
 EachPushed-push n (j ∷ ks) k l h = (h.0, EachPushed-push n ks k l h.1)
 
--- one more child
+-- one child more
 pub one_more : (xs : List Topo) (i : ℕ) (x : Topo) (ks : List TreeContents) (k : TreeContents) → i < length xs → x ≡ get_or xs i x
     → forest ks ≡ empty_trees (trees_of (map topology (take i xs))) → k.tree ≡ empty_tree (topology x) → forest (ks ++ k ∷ []) ≡ empty_trees (trees_of (map topology (take (i + 1) xs)))
 one_more xs i x ks k l e f g =

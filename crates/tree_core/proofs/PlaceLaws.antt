@@ -1,4 +1,4 @@
--- The free places after a step of a push, of a pop and of a reserve.
+-- The free slots after one step of a push, of a pop and of a reserve.
 use Rattle.std.proofs.Common.{◌≡◌, ℕ, zero, suc, ◌+◌, ◌-◌, ◌<◌, ◌≤◌, List, [], ◌∷◌, length, get_or, set, refl, sym, ap, ◌∙◌, subst, arith}
 use Rattle.tree_defs.specs.Tree.{Tree, leaf, inner, Trees, none, more, LeadsToLeaf}
 use Rattle.pifo_core.specs.Sorted.{Contents}
@@ -46,7 +46,7 @@ module _ (s s' : Contents) (ks : List TreeContents) (g : TreeContents) (seen : g
           ∙ branch-used s'.spare j.spare (spares ks) x.0 (digits_of steps)
           ∙ ap (λ (m : ℕ). inner m (without_places_below (spares (j ∷ ks)) x.0 (digits_of steps))) (one_less s'.spare s.spare used)
 
--- ---- what takes no place
+-- ---- steps that use no slot
 mutual
   pub no_fewer : (t : Tree ℕ) → HasNoFewer t t
   no_fewer (leaf n) = omega arith
@@ -71,7 +71,7 @@ no_fewer-branch m n (more t ts) none l h = absurd h
 no_fewer-branch m n (more t ts) (more u us) l h = (l, h)
 
 module _ (s s' : Contents) (ks : List TreeContents) (g : TreeContents) (seen : grown s ks ≡ g) (more_here : s.spare ≤ s'.spare) where
-  -- the queue alone has changed
+  -- only the queue has changed
   pub no_fewer_at_node : HasNoFewer g.spare (branch s'.spare (spares ks))
   no_fewer_at_node = subst (λ (h : TreeContents). HasNoFewer h.spare (branch s'.spare (spares ks))) seen (no_fewer-branch s.spare s'.spare (spares ks) (spares ks) more_here (none_fewer (spares ks)))
 

@@ -1,4 +1,5 @@
--- A step of a pop down a source tree: the child that it goes to, and what is left once the child has been popped.
+-- One step of a pop down a source tree: the child that it visits, and the tree after that child has
+-- been popped.
 use Rattle.std.proofs.Common.{◌≡◌, ℕ, zero, suc, ◌+◌, ◌<◌, ◌≤◌, ◌^◌, List, [], ◌∷◌, ◌++◌, length, get_or, set, Some, refl, sym, ap, ◌∙◌, subst, arith, inl, inr, append-nil, append_assoc}
 use Rattle.std.specs.Prelude.{option_map}
 use Rattle.std.proofs.lemmas.Bool.{cases_lt}
@@ -13,7 +14,7 @@ use Rattle.tree_core.specs.Paths.{Way}
 use Rattle.tree_core.specs.TreeContents.{TreeContents, branch, forest, grown, IsSound, EachBelow, HasDigits, PopsOnto}
 use Rattle.tree_core.proofs.PushSteps.{EachPushed-set, EachPushed-le, child_pushed}
 
--- a node holds as many packets as its queue has entries
+-- a node contains as many packets as its queue has entries
 pub size-length : (q : Queue) (ts : Trees Queue) → IsWellFormed (branch q ts) → size (branch q ts) ≡ length q
 size-length q none w = refl
 size-length q (more t ts) w = sym (length-size q (more t ts) w)
@@ -23,7 +24,7 @@ has_below [] i h = absurd h
 has_below (k ∷ ks) zero h = omega arith
 has_below (k ∷ ks) (suc i) h = omega (arith, has_below ks i h)
 
--- what the taken entry says of the node's children
+-- consequences of the dequeued entry for the node's children
 module _ (q : Queue) (e : Taking) (p : take_least q ≡ Some e) where
   pub taken_child : (ts : Trees Queue) → NamesChildren ts q → HasChild ts e.value
   taken_child ts n = named q p n
@@ -90,7 +91,7 @@ HasDigits-rest [] i k q e p h = tt
 HasDigits-rest (j ∷ ks) zero k q e p h = (EachBelow-take (2 ^ 32) q e p h).1
 HasDigits-rest (j ∷ ks) (suc i) k q e p h = (EachBelow-take (2 ^ 32) q e p h).1
 
--- a node of fields s and ks, seen as g, whose queue gave e
+-- a node with fields s and ks, seen as g, whose queue dequeued e
 module _ (s : Contents) (ks : List TreeContents) (g : TreeContents) (seen : grown s ks ≡ g) (w : IsSound s ks) where
   pub node_size : size g.tree ≡ length s.entries
   node_size = ap (λ (h : TreeContents). size h.tree) (sym seen) ∙ size-length s.entries (forest ks) w.well_formed

@@ -1,4 +1,5 @@
--- A step of a push down a source tree: the child that it goes to, and what is left once the child has been pushed.
+-- One step of a push down a source tree: the child that it visits, and the tree after the push to
+-- that child.
 use Rattle.std.proofs.Common.{◌≡◌, ℕ, zero, suc, ◌+◌, ◌-◌, ◌<◌, ◌≤◌, ◌^◌, List, [], ◌∷◌, length, get_or, take, drop, set, refl, sym, ap, ◌∙◌, subst, arith}
 use Rattle.std.proofs.lemmas.List.{take_all}
 use Rattle.pifo_defs.specs.Queue.{Queue, put}
@@ -10,7 +11,7 @@ use Rattle.tree_core.specs.Paths.{digits_of, ranks_of}
 use Rattle.tree_core.specs.TreeContents.{TreeContents, branch, forest, spares, grown, IsSound, EachPushed, EachBelow, HasDigits}
 use Rattle.tree_core.specs.Places.{HasRoom, HasRoomBelow}
 
--- the steps after the first, as a slice pattern cuts them out
+-- the steps after the first, as a slice pattern extracts them
 abbrev pub later : List (ℕ × ℕ) → List (ℕ × ℕ)
 later steps = take (length steps - 1) (drop 1 steps)
 
@@ -54,7 +55,7 @@ forest-set (j ∷ ks) zero digits ranks item k k' e l p =
     ap (λ (t : Tree Queue). more t (forest ks)) q
 forest-set (j ∷ ks) (suc i) digits ranks item k k' e l p = ap (more j.tree) (forest-set ks i digits ranks item k k' e (omega arith) p)
 
--- what holds at a node with children on whose way the path goes on
+-- facts about an inner node on the path
 module _ (s : Contents) (ks : List TreeContents) (g : TreeContents) (e : grown s ks ≡ g) where
   abbrev pub first_digit : List (ℕ × ℕ) → ℕ
   first_digit steps = (get_or steps 0 (0, 0)).0
@@ -75,7 +76,7 @@ pub branch-push_child : (q : Queue) (t : Tree Queue) (ts : Trees Queue) (i : ℕ
 branch-push_child q t ts zero digits ranks item = refl
 branch-push_child q t ts (suc i) digits ranks item = refl
 
--- the first step goes to the child k, which afterwards is k'
+-- the first step goes to child k, which becomes k'
 pub record FirstStep (s s' : Contents) (ks : List TreeContents) (k k' : TreeContents) (steps : List (ℕ × ℕ)) (last item : ℕ) : Type 0 where
   pub nonempty : 1 ≤ length steps
   pub child : k ≡ get_or ks (get_or steps 0 (0, 0)).0 k
@@ -103,7 +104,7 @@ HasDigits-put [] q i k r l h = tt
 HasDigits-put (j ∷ ks) q zero k r l h = EachBelow-put (2 ^ 32) q r zero l h
 HasDigits-put (j ∷ ks) q (suc i) k r l h = EachBelow-put (2 ^ 32) q r (suc i) l h
 
--- the node stays sound
+-- the node remains sound
 pub sound_here : (s s' : Contents) (ks : List TreeContents) (k k' : TreeContents) (steps : List (ℕ × ℕ)) (last item : ℕ) → LeadsToLeaf (branch s.entries (forest ks)) (digits_of steps)
     → FirstStep s s' ks k k' steps last item → s'.pushes ≡ s.pushes + 1 → k'.pushes ≡ k.pushes + 1 → (get_or steps 0 (0, 0)).0 < length ks → (get_or steps 0 (0, 0)).0 < 2 ^ 32 → IsSound s ks
     → IsSound s' (set ks (get_or steps 0 (0, 0)).0 k')
@@ -119,7 +120,7 @@ sound_leaf s s' ks (x ∷ steps) n l = absurd (omega arith)
 sound_leaf s s' [] [] n l = record { well_formed = tt; pushed_below = tt; digits = tt }
 sound_leaf s s' (k ∷ ks) [] n l = absurd l
 
--- what the child needs
+-- the preconditions for the child
 pub child_ready : (s : Contents) (ks : List TreeContents) (k : TreeContents) (steps : List (ℕ × ℕ)) → 1 ≤ length steps → k ≡ get_or ks (get_or steps 0 (0, 0)).0 k
     → LeadsToLeaf (branch s.entries (forest ks)) (digits_of steps) → HasRoom (branch s.spare (spares ks)) (digits_of steps) → IsSound s ks → s.pushes < 2 ^ 62
     → LeadsToLeaf k.tree (digits_of (later steps)) × (HasRoom k.spare (digits_of (later steps)) × (k.pushes < 2 ^ 62))
@@ -130,7 +131,7 @@ child_ready s (j ∷ ks) k (x ∷ steps) n e l r w p =
     subst (λ (z : List (ℕ × ℕ)). LeadsToLeaf k.tree (digits_of z) × (HasRoom k.spare (digits_of z) × (k.pushes < 2 ^ 62))) (sym (later-cons x steps))
     (child_leads (j ∷ ks) x.0 (digits_of steps) k e l, (child_room (j ∷ ks) x.0 (digits_of steps) k e r.1, omega (arith, child_pushed (j ∷ ks) x.0 s.pushes k e at w.pushed_below)))
 
--- the same, of the value that the fields are seen as
+-- the same, for the tree as the contract sees it
 pub child_needs : (s : Contents) (ks : List TreeContents) (g : TreeContents) → grown s ks ≡ g → (k : TreeContents) (steps : List (ℕ × ℕ)) → 1 ≤ length steps → k ≡ get_or ks (get_or steps 0 (0, 0)).0 k
     → LeadsToLeaf g.tree (digits_of steps) → HasRoom g.spare (digits_of steps) → g.pushes < 2 ^ 62 → IsSound s ks
     → LeadsToLeaf k.tree (digits_of (later steps)) × (HasRoom k.spare (digits_of (later steps)) × (k.pushes < 2 ^ 62))

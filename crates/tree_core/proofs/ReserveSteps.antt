@@ -1,4 +1,4 @@
--- A reserve leaves the tree as it was, and makes room on the way.
+-- A reserve leaves the tree unchanged, and makes room on the path.
 use Rattle.std.proofs.Common.{◌≡◌, ℕ, zero, suc, ◌-◌, ◌<◌, ◌≤◌, List, [], ◌∷◌, length, get_or, take, drop, set, refl, sym, ap, ◌∙◌, subst, arith, Result, Ok, Err, OnOk}
 use Rattle.std.proofs.lemmas.List.{take_all}
 use Rattle.pifo_defs.specs.Queue.{Queue}
@@ -68,7 +68,7 @@ module _ (s : Contents) (ks : List TreeContents) (g : TreeContents) (seen : grow
         roomy (j ∷ ks) (zero ∷ steps) n l h = (f, spares-set (j ∷ ks) zero k' steps l (subst (HasRoom k'.spare) (behind-cons zero steps) h))
         roomy (j ∷ ks) ((suc i) ∷ steps) n l h = (f, spares-set (j ∷ ks) (suc i) k' steps l (subst (HasRoom k'.spare) (behind-cons (suc i) steps) h))
 
--- the queue alone has changed its room
+-- only the room of the queue has changed
 pub same_sound : (s s' : Contents) (ks : List TreeContents) → s'.entries ≡ s.entries → s'.pushes ≡ s.pushes → IsSound s ks → IsSound s' ks
 same_sound s s' ks q p w = record {
   well_formed = subst (λ (z : Queue). IsWellFormed (branch z (forest ks))) (sym q) w.well_formed;

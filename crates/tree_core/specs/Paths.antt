@@ -1,4 +1,4 @@
--- What contracts see of a path, and of what a pop took.
+-- The contents of a path and of a `Taken`, as contracts see them.
 use Rattle.std.specs.Prelude.{ℕ, List, [], ◌∷◌, ◌++◌, map, refl}
 use Rattle.tree_core.specs.declared.path.Path.{Path}
 use Rattle.std.specs.Coded.{Coded, code_by, coded×, coded_ℕ, coded_list}
@@ -7,7 +7,7 @@ use Rattle.std.specs.Coded.{Coded, code_by, coded×, coded_ℕ, coded_list}
 abbrev pub digits_of : List (ℕ × ℕ) → List ℕ
 digits_of steps = map (λ s. s.0) steps
 
--- the ranks on a path, that of the leaf last
+-- the ranks on a path, ending with that of the leaf
 abbrev pub ranks_of : List (ℕ × ℕ) → ℕ → List ℕ
 ranks_of steps last = map (λ s. s.1) steps ++ last ∷ []
 
@@ -17,7 +17,7 @@ digits path = digits_of path.steps
 abbrev pub ranks : Path → List ℕ
 ranks path = ranks_of path.steps path.last
 
--- the digits and the ranks that were taken so far, and the room in levels
+-- the digits and ranks taken so far, and the room in levels
 pub record Way : Type 0 where
   pub digits : List ℕ
   pub ranks : List ℕ

@@ -1,9 +1,9 @@
--- The free places at the nodes of a tree.
+-- The free slots at the nodes of a tree.
 use Rattle.std.proofs.Common.{lit<}
 use Rattle.std.specs.Prelude.{◌≡◌, refl, ℕ, zero, suc, ◌-◌, ◌<◌, ◌≤◌, List, [], ◌∷◌}
 use Rattle.tree_defs.specs.Tree.{Tree, leaf, inner, Trees, none, more}
 
--- a free place at each node on the way
+-- there is a free slot at each node on the path
 abbrev mutual
   pub HasRoom : Tree ℕ → List ℕ → Type 0
   HasRoom (leaf n) digits = 0 < n
@@ -15,7 +15,7 @@ abbrev mutual
   HasRoomBelow (more t ts) zero digits = HasRoom t digits
   HasRoomBelow (more t ts) (suc i) digits = HasRoomBelow ts i digits
 
--- a place fewer at each node on the way
+-- one slot fewer at each node on the path
 abbrev mutual
   pub without_places : Tree ℕ → List ℕ → Tree ℕ
   without_places (leaf n) digits = leaf (n - 1)
@@ -27,7 +27,7 @@ abbrev mutual
   without_places_below (more t ts) zero digits = more (without_places t digits) ts
   without_places_below (more t ts) (suc i) digits = more t (without_places_below ts i digits)
 
--- no node of the second tree has fewer places
+-- no node of the second tree has fewer free slots
 abbrev mutual
   pub HasNoFewer : Tree ℕ → Tree ℕ → Type 0
   HasNoFewer (leaf m) (leaf n) = m ≤ n

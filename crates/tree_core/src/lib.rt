@@ -1,4 +1,4 @@
-//! Trees of push-in first-out queues that are pushed and popped in place. Begin with specs/TreeContents.antt.
+//! Trees of push-in first-out queues that are updated in place. Begin with specs/TreeContents.antt.
 #![tactic(auto)]
 
 mod path;

@@ -1,10 +1,11 @@
-//! The digits and ranks that a pop takes, root first.
+//! The digits and ranks that a pop takes, starting at the root.
 ghost use Rattle.std.specs.Prelude.{◌≡◌, ◌+◌, ◌<◌, [], ◌∷◌, ◌++◌, length, IfOk};
 
 use std::alloc::{AllocError, Global};
 use std::marker::Model;
 
-/// The children's indices and the ranks that a pop took on its way down, with room for a number of levels.
+/// The children's indices and the ranks that a pop took on its path from the root down, with room
+/// for a number of levels.
 #[derive(Drop)]
 pub struct Taken {
     digits: Vec<u32>,
@@ -26,7 +27,8 @@ impl Model for Taken {
 }
 
 impl Taken {
-    /// Two empty lists, with room for `depth` digits and one rank more. The error is want of memory.
+    /// Returns two empty lists, with room for `depth` digits and `depth + 1` ranks. The error means
+    /// out of memory.
     pub fn new(alloc: Global, depth: u32) -> Result<Taken, AllocError>
         ensures digits { IfOk result (λ t. t.digits ≡ []) }
         ensures ranks { IfOk result (λ t. t.ranks ≡ []) }
@@ -54,7 +56,7 @@ impl Taken {
         self.ranks.as_slice()
     }
 
-    /// For how many levels below the root there is room.
+    /// Returns the number of levels below the root for which there is room.
     pub fn room(&self) -> u32
         ensures room { result ≡ self.now.room }
     {
@@ -71,7 +73,7 @@ impl Taken {
         self.ranks.truncate(0);
     }
 
-    /// Puts a child's index and the rank that was taken at its parent last.
+    /// Appends a child's index and the rank that was taken at its parent.
     #[inline(always)]
     pub fn step(&mut self, digit: u32, rank: u64)
         requires room { length self.old.digits < self.old.room }
@@ -84,7 +86,7 @@ impl Taken {
         self.ranks.push_reserved(rank);
     }
 
-    /// Puts the rank that was taken at the leaf last.
+    /// Appends the rank that was taken at the leaf.
     #[inline(always)]
     pub fn last(&mut self, rank: u64)
         requires even { length self.old.ranks ≡ length self.old.digits }

@@ -17,7 +17,7 @@ impl Topo {
         Topo::Leaf
     }
 
-    /// An inner node with these children in order.
+    /// Returns an inner node with these children, in order.
     pub fn inner(children: Vec<Topo>) -> Topo
         ensures topology { topology result ≡ inner tt (trees_of (map topology children.items)) }
     {
@@ -25,7 +25,7 @@ impl Topo {
     }
 }
 
-/// How many levels lie below the root: at most 64, since each level is a call within a call.
+/// Returns the number of levels below the root. The limit is 64, since each level is a nested call.
 pub fn depth(topo: &Topo) -> u32
     requires levels { levels (topology topo.now) ≤ most_levels }
     ensures levels { result ≡ levels (topology topo.now) }

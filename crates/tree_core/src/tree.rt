@@ -1,4 +1,4 @@
-//! A source tree: a queue at each node, and children.
+//! A source tree: each node has a queue and a list of children.
 ghost use Rattle.std.specs.Prelude.{◌≡◌, ◌+◌, ◌^◌, ◌<◌, ◌≤◌, ◌↔◌, length, OnOk, IsNone, IfNone, IfSome, IfOk};
 ghost use Rattle.tree_defs.specs.Tree.{LeadsToLeaf, depth, most_levels};
 ghost use Rattle.tree_defs.specs.Topology.{IsBranched};
@@ -15,8 +15,8 @@ use pifo_core::{HeapPifo, Pifo};
 use std::alloc::{AllocError, Global};
 use std::marker::Model;
 
-/// A tree of push-in first-out queues (OOPSLA 2023): packet numbers at the leaves, children's indices at the inner nodes. It is
-/// always well formed.
+/// A tree of push-in first-out queues (OOPSLA 2023), with packet numbers at the leaves and
+/// children's indices at the inner nodes. It is always well formed.
 #[derive(Drop)]
 pub struct SourceTree {
     queue: HeapPifo,
@@ -42,8 +42,8 @@ impl Model for SourceTree {
 }
 
 impl SourceTree {
-    /// The tree of a topology of at most 64 levels, since each level is a call within a call, with all queues empty. The error
-    /// is want of memory.
+    /// Returns a tree of this topology whose queues are all empty. The topology has at most 64
+    /// levels, since each level is a nested call. The error means out of memory.
     pub fn new(alloc: Global, topo: &Topo) -> Result<SourceTree, AllocError>
         requires levels { depth (topology topo.now) ≤ most_levels }
         requires branched { IsBranched (topology topo.now) }
@@ -68,7 +68,7 @@ impl SourceTree {
         }
     }
 
-    /// Makes a free place at each node on the way to a leaf. The error is want of memory.
+    /// Makes room for one push at each node on the path to a leaf. The error means out of memory.
     #[inline]
     pub fn reserve(&mut self, digits: &[u32]) -> Result<(), AllocError>
         requires leaf { LeadsToLeaf self.old.tree digits.now }
@@ -84,7 +84,7 @@ impl SourceTree {
         }
     }
 
-    /// Pushes a packet's number along a path to a leaf. Takes no memory.
+    /// Pushes a packet's number along a path to a leaf. Allocates no memory.
     pub fn push(&mut self, path: &Path, value: u64)
         requires leaf { LeadsToLeaf self.old.tree (digits path.now) }
         requires room { HasRoom self.old.spare (digits path.now) }
@@ -96,7 +96,8 @@ impl SourceTree {
         self.push_along(path.steps.as_slice(), path.last, value);
     }
 
-    /// Pushes a packet's number to the leaf at an address, with a rank for each node on the way to it. Takes no memory.
+    /// Pushes a packet's number to the leaf at an address, with a rank for each node on the path to
+    /// it. Allocates no memory.
     #[inline]
     pub fn push_to(&mut self, address: &[u32], ranks: &[u64], value: u64)
         requires leaf { LeadsToLeaf self.old.tree address.now }
@@ -119,7 +120,8 @@ impl SourceTree {
         }
     }
 
-    /// Takes a packet's number, and sets `taken` to the digits and the ranks taken on the way to it. Takes no memory.
+    /// Pops a packet's number, and sets `taken` to the digits and ranks on its path. Returns `None`
+    /// exactly if the tree is empty; `taken` is then unchanged. Allocates no memory.
     #[inline]
     pub fn pop(&mut self, taken: &mut Taken) -> Option<u64>
         requires room { depth self.old.tree ≤ taken.old.room }
@@ -138,7 +140,7 @@ impl SourceTree {
         Some(self.pop_onto(taken))
     }
 
-    /// The number of packets.
+    /// Returns the number of packets.
     pub fn size(&self) -> u64
         ensures size { result ≡ size self.now.tree }
         ensures well_formed { IsWellFormed self.now.tree }

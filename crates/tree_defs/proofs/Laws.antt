@@ -1,4 +1,4 @@
--- The laws, each from its lemmas.
+-- The laws, each proved from its lemmas.
 use Rattle.std.proofs.Common.{◌≡◌, Some, ap, ◌∙◌}
 use Rattle.tree_defs.specs.Tree.{leaf, Address, subtree, LeadsToLeaf}
 use Rattle.tree_defs.specs.Topology.{Topology, after}

@@ -1,4 +1,4 @@
--- A tree is well formed where each inner node is.
+-- A tree is well formed if each inner node is.
 use Rattle.std.proofs.Common.{◌≡◌, ℕ, zero, suc, ◌+◌, [], ◌∷◌, Some, refl, ap, ◌∙◌, subst, arith}
 use Rattle.pifo_defs.specs.Queue.{Queue}
 use Rattle.tree_defs.specs.Tree.{leaf, inner, Trees, none, more, Address, child, subtree, subtree_in}

@@ -1,4 +1,4 @@
--- What holds of all items, or of distinct ones, with one more and with one fewer.
+-- Facts about all items, or distinct items, with one more and with one fewer.
 use Rattle.std.proofs.Common.{◌≡◌, ℕ, false, List, [], ◌∷◌, ◌++◌, nat_eq, sym, subst, arith}
 use Rattle.std.specs.List.{AllByRecursion, IsDistinct}
 use Rattle.std.proofs.lemmas.Bool.Decides.{nat_tests}
@@ -21,7 +21,7 @@ module _ {X : Type 0} (P : X → Type 0) where
       let r = all_without x o.before o.behind (subst (AllByRecursion P) o.with_it h) in
       (r.0, subst (AllByRecursion P) (sym o.without) r.1)
 
--- a number that isn't among these
+-- a number that isn't in the list
 abbrev pub IsOther : ℕ → List ℕ → Type 0
 IsOther x xs = AllByRecursion (λ y. nat_eq x y ≡ false) xs
 

@@ -1,4 +1,4 @@
--- What an `Option` with a value came from.
+-- The origin of an `Option` that has a value.
 use Rattle.std.proofs.Common.{◌≡◌, Option, None, Some, refl}
 use Rattle.std.specs.Prelude.{option_map}
 use Rattle.tree_defs.specs.Tree.{option_bind}

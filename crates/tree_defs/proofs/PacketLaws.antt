@@ -1,4 +1,4 @@
--- The packets that a push adds and a pop takes.
+-- The packets that a push adds and a pop removes.
 use Rattle.std.proofs.Common.{◌≡◌, ◌≢◌, ℕ, zero, suc, ◌+◌, List, [], ◌∷◌, ◌++◌, map, length, Some, refl, sym, ap, ◌∙◌, subst, arith}
 use Rattle.std.specs.Prelude.{option_map, slice_index, drop}
 use Rattle.std.proofs.lemmas.List.{map-append}

@@ -77,7 +77,7 @@ mutual
       let v : (y : Popping (Trees Queue)) × (pop_child ts i ≡ Some y) × (of_later t y ≡ r) = option_map-some (of_later t) (pop_child ts i) r p in
       subst (λ (z : Popping (Trees Queue)). topologies_of z.left ≡ topologies_of (more t ts)) v.2 (ap (more (topology_of t)) (topologies_of-pop ts i v.0 v.1))
 
--- what is popped stood at a leaf, and a rank was taken at each node on the way
+-- the popped value was at a leaf, and a rank was taken at each node on the path
 record LedBelow (ts : Trees Queue) (i : ℕ) (r : Popping (Trees Queue)) : Type 0 where
   leaf_address : LeadsBelow ts i r.digits
   ranks : length r.ranks ≡ length r.digits + 1

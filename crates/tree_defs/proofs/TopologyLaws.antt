@@ -4,7 +4,7 @@ use Rattle.std.proofs.lemmas.Bool.{eqb-true, cases_Bool}
 use Rattle.tree_defs.specs.Tree.{Tree, leaf, inner, Trees, none, more, Address, subtree, subtree_in, IsAddressOf, LeadsToLeaf, LeadsBelow}
 use Rattle.tree_defs.specs.Topology.{Topology, after, copies, complete, IsWithin}
 
--- an address leads to a leaf where a leaf stands there
+-- an address leads to a leaf if there is a leaf at it
 mutual
   pub leaf_at : {Q : Type 0} (t : Tree Q) (a : Address) → LeadsToLeaf t a → (q : Q) × (subtree t a ≡ Some (leaf q))
   leaf_at (leaf q) [] l = (q, refl)
@@ -29,7 +29,7 @@ mutual
   leads_below (more t ts) zero a q p = leads_to t a q p
   leads_below (more t ts) (suc i) a q p = leads_below ts i a q p
 
--- what is left after a prefix comes behind it
+-- the remainder after a prefix follows that prefix
 pub after-append : (a c : Address) → after a (a ++ c) ≡ Some c
 after-append [] c = refl
 after-append (x ∷ a) c = rw (eq-eqb x x refl) (after-append a c)
@@ -43,7 +43,7 @@ after-is (x ∷ a) (y ∷ b) c p =
       | inr t ↦ let no : None ≡ Some c = rw t at p in cc
     ]
 
--- a copy stands at each index below their number
+-- each index below the number of copies has a copy
 pub copy_at : (n i : ℕ) (t : Topology) (a : Address) → i < n → subtree_in (copies n t) i a ≡ subtree t a
 copy_at zero i t a l = absurd (omega (arith, l))
 copy_at (suc n) zero t a l = refl
@@ -69,7 +69,7 @@ address_of_complete (d ∷ arities) (x ∷ a) h =
     let deeper : IsAddressOf (complete arities) a = address_of_complete arities a h.1 in
     (deeper.0, copy_at d x (complete arities) a h.0 ∙ deeper.1)
 
--- the leaves lie as deep as there are arities
+-- the depth of the leaves equals the number of arities
 pub copy_leads : (n i : ℕ) (t : Topology) (a : Address) → i < n → LeadsBelow (copies n t) i a ≡ LeadsToLeaf t a
 copy_leads zero i t a l = absurd (omega (arith, l))
 copy_leads (suc n) zero t a l = refl

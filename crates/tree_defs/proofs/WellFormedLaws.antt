@@ -35,7 +35,7 @@ times-taken_other i r v (e ∷ q) n =
       | inr k ↦ subst P (sym (take_from-front r v e q k)) (λ m. rw (ne_eqb v i m) (omega arith)) n
     ]
 
--- the children's conditions read the queue only by how often each index stands there
+-- the children's conditions depend on the queue only through the number of times each index occurs
 pub AreWellFormed-same : (ts : Trees Queue) (q w : Queue) (k : ℕ) → ((j : ℕ) → k ≤ j → times j w ≡ times j q) → AreWellFormed ts q k → AreWellFormed ts w k
 AreWellFormed-same none q w k e h = tt
 AreWellFormed-same (more t ts) q w k e h = (h.0, e k (omega arith) ∙ h.1, AreWellFormed-same ts q w (suc k) (λ j l. e j (omega arith)) h.2)
@@ -183,8 +183,8 @@ mutual
         AreWellFormed-pop ts i v.0 v.1 e q (suc k) (omega arith) w.2,
       )
 
--- ---- what holds packets can be popped
--- how many entries of a queue name one of the children from index k on
+-- ---- a child in the queue has packets to pop
+-- the number of entries in a queue that name one of the children from index k on
 abbrev pub all_times : Trees Queue → Queue → ℕ → ℕ
 all_times none q k = 0
 all_times (more t ts) q k = times k q + all_times ts q (suc k)
@@ -220,7 +220,7 @@ all_times-sizes (more t ts) q k w = omega (arith, w.1, all_times-sizes ts q (suc
 pub length-size : (q : Queue) (ts : Trees Queue) → IsWellFormed (inner q ts) → length q ≡ sizes ts
 length-size q ts w = sym (all_times-length ts q w.0) ∙ all_times-sizes ts q 0 w.1
 
--- a child that stands in the queue has packets
+-- a child that occurs in the queue has packets
 pub times-taken : (r v : ℕ) (q : Queue) → 0 < times (take_from r v q).value ((r, v) ∷ q)
 times-taken r v q = omega (arith, times-taken_same (take_from r v q).value r v q refl)
 
@@ -255,7 +255,7 @@ mutual
   are_in_range none q k w = tt
   are_in_range (more t ts) q k w = (in_range t w.0, are_in_range ts q (suc k) w.2)
 
--- ---- an empty tree, and what an empty pop says
+-- ---- an empty tree, and the meaning of an empty pop
 mutual
   pub IsWellFormed-empty : (t : Topology) → IsWellFormed (empty_tree t)
   IsWellFormed-empty (leaf u) = tt

@@ -1,4 +1,4 @@
--- What follows from the definitions of topologies and source trees.
+-- Laws that follow from the definitions of topologies and source trees.
 use Rattle.std.specs.Prelude.{◌≡◌, ◌≢◌, ◌↔◌, ◌+◌, ℕ, List, [], ◌++◌, length, Some, None, slice_index}
 use Rattle.pifo_defs.specs.Queue.{Queue, put, take_least}
 use Rattle.tree_defs.specs.Tree.{leaf, inner, Trees, Address, child, root_of, subtree, IsAddressOf, LeadsToLeaf, SameShape, Popping}
@@ -23,7 +23,8 @@ abbrev pub OneShapeIsOneTopology : Type 0
 OneShapeIsOneTopology = (t u : SourceTree) → SameShape t u ↔ (topology_of t ≡ topology_of u)
 
 -- ---- well-formed trees
--- at each inner node each value is a child's index, and each index stands there as often as the child's size says
+-- at each inner node every value is a child's index, and each index occurs as often as the child
+-- has packets
 pub record IsWellFormedAt (q : Queue) (ts : Trees Queue) : Type 0 where
   pub names : NamesChildren ts q
   pub counts : (i : ℕ) (u : SourceTree) → child ts i ≡ Some u → times i q ≡ size u
@@ -62,7 +63,7 @@ PushesKeepTheTopology = (t : SourceTree) (digits ranks : List ℕ) (item : ℕ) 
 abbrev pub PopsKeepTheTopology : Type 0
 PopsKeepTheTopology = (t : SourceTree) (r : Popping SourceTree) → pop t ≡ Some r → topology_of r.left ≡ topology_of t
 
--- a rank was taken at each node on the way to a leaf
+-- a rank was taken at each node on the path to a leaf
 pub record LedToALeaf (t : SourceTree) (r : Popping SourceTree) : Type 0 where
   pub leaf_address : LeadsToLeaf t r.digits
   pub ranks : length r.ranks ≡ length r.digits + 1
@@ -71,19 +72,20 @@ abbrev pub PopsLeadToLeaves : Type 0
 PopsLeadToLeaves = (t : SourceTree) (r : Popping SourceTree) → pop t ≡ Some r → LedToALeaf t r
 
 -- ---- packets
--- exactly this packet more stands in the leaves, at the leaf that the push led to
+-- the leaves contain exactly this one packet more, at the leaf of the push
 abbrev pub PushesAddThePacket : Type 0
 PushesAddThePacket =
     (t : SourceTree) (digits ranks : List ℕ) (item : ℕ) → LeadsToLeaf t digits
     → OneMore (digits, item) (packets t) (packets (push t digits ranks item)) × OneMore item (values t) (values (push t digits ranks item))
 
--- exactly this packet fewer stands in the leaves, and it stood at the leaf that the pop led to
+-- the leaves contain exactly this one packet fewer, from the leaf of the pop
 abbrev pub PopsTakeThePacket : Type 0
 PopsTakeThePacket =
     (t : SourceTree) (r : Popping SourceTree) → pop t ≡ Some r
     → OneMore (r.digits, r.value) (packets r.left) (packets t) × OneMore r.value (values r.left) (values t)
 
--- the last rank and the packet come last in the leaf's queue, and the other leaves' queues stay
+-- the last rank and the packet are put last in the leaf's queue; the other leaves' queues are
+-- unchanged
 pub record PutAtTheLeaf (t : SourceTree) (digits ranks : List ℕ) (item : ℕ) (u : SourceTree) : Type 0 where
   pub here : queue_at u digits ≡ put (queue_at t digits) (slice_index ranks (length digits)) item
   pub elsewhere : (a : Address) → a ≢ digits → queue_at u a ≡ queue_at t a
@@ -91,7 +93,7 @@ pub record PutAtTheLeaf (t : SourceTree) (digits ranks : List ℕ) (item : ℕ) 
 abbrev pub PushesPutAtTheLeaf : Type 0
 PushesPutAtTheLeaf = (t : SourceTree) (digits ranks : List ℕ) (item : ℕ) → LeadsToLeaf t digits → PutAtTheLeaf t digits ranks item (push t digits ranks item)
 
--- the packet is what leaves the leaf's queue, and the other leaves' queues stay
+-- the packet is dequeued from the leaf's queue; the other leaves' queues are unchanged
 pub record TakenAtTheLeaf (t : SourceTree) (r : Popping SourceTree) : Type 0 where
   pub here : take_least (queue_at t r.digits) ≡ Some (record { rank = slice_index r.ranks (length r.digits); value = r.value; rest = queue_at r.left r.digits })
   pub elsewhere : (a : Address) → a ≢ r.digits → queue_at r.left a ≡ queue_at t a

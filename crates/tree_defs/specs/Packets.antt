@@ -1,4 +1,4 @@
--- The packets that stand in a source tree.
+-- The packets queued in a source tree.
 use Rattle.std.specs.Prelude.{ℕ, zero, suc, ◌≡◌, refl, List, [], ◌∷◌, ◌++◌, map}
 use Rattle.pifo_defs.specs.Queue.{Queue}
 use Rattle.tree_defs.specs.Tree.{Tree, leaf, inner, Trees, none, more, Address}
@@ -14,7 +14,7 @@ abbrev mutual
   values_below none = []
   values_below (more t ts) = values t ++ values_below ts
 
--- a packet's number, with the address of the leaf where it stands
+-- a packet's number, with the address of its leaf
 abbrev pub Placed : Type 0
 Placed = Address × ℕ
 
@@ -32,7 +32,7 @@ abbrev mutual
   packets_below none i = []
   packets_below (more t ts) i = map (below i) (packets t) ++ packets_below ts (suc i)
 
--- the queue at a leaf address, and an empty one at each other
+-- the queue at a leaf address; an empty queue at any other address
 abbrev mutual
   pub queue_at : Tree Queue → Address → Queue
   queue_at (leaf q) [] = q
@@ -45,7 +45,7 @@ abbrev mutual
   queue_in (more t ts) zero a = queue_at t a
   queue_in (more t ts) (suc i) a = queue_in ts i a
 
--- one list is the other and one item more
+-- ys is xs with one more item
 pub record OneMore {X : Type 0} (x : X) (xs ys : List X) : Type 0 where
   pub before : List X
   pub behind : List X

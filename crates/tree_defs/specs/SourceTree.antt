@@ -1,4 +1,5 @@
--- Trees of push-in first-out queues (OOPSLA 2023): packet numbers at the leaves, children's indices at the inner nodes.
+-- Trees of push-in first-out queues (OOPSLA 2023), with packet numbers at the leaves and children's
+-- indices at the inner nodes.
 use Rattle.std.specs.Prelude.{ℕ, zero, suc, ◌+◌, ◌≡◌, refl, List, [], ◌∷◌, length, Option, Some, None, option_map, nat_eq, slice_index, drop, if◌then◌else◌}
 use Rattle.pifo_defs.specs.Queue.{Queue, put, take_least, Taking}
 use Rattle.tree_defs.specs.Tree.{Tree, leaf, inner, Trees, none, more, HasChild, Popping, option_bind}
@@ -7,7 +8,7 @@ use Rattle.tree_defs.specs.Topology.{Topology}
 abbrev pub SourceTree : Type 0
 SourceTree = Tree Queue
 
--- all queues empty
+-- the tree of this topology whose queues are all empty
 abbrev mutual
   pub empty_tree : Topology → SourceTree
   empty_tree (leaf u) = leaf []
@@ -17,7 +18,8 @@ abbrev mutual
   empty_trees none = none
   empty_trees (more t ts) = more (empty_tree t) (empty_trees ts)
 
--- puts a rank and a child's index at each inner node on the way, and the last rank and the item at the leaf
+-- puts a rank and a child's index at each inner node on the path, and the last rank and the item at
+-- the leaf
 abbrev mutual
   pub push : Tree Queue → List ℕ → List ℕ → ℕ → Tree Queue
   push (leaf q) digits ranks item = leaf (put q (slice_index ranks 0) item)
@@ -41,7 +43,7 @@ of_first ts p = record { value = p.value; digits = p.digits; ranks = p.ranks; le
 abbrev pub of_later : Tree Queue → Popping (Trees Queue) → Popping (Trees Queue)
 of_later t p = record { value = p.value; digits = p.digits; ranks = p.ranks; left = more t p.left }
 
--- takes at the root, then below the child that the taken value names, down to a leaf
+-- dequeues at the root, then below the child that the dequeued value names, down to a leaf
 abbrev mutual
   pub pop : Tree Queue → Option (Popping (Tree Queue))
   pop (leaf q) = option_map of_leaf (take_least q)
@@ -62,7 +64,7 @@ abbrev mutual
   sizes none = 0
   sizes (more t ts) = size t + sizes ts
 
--- how often a child stands in a queue
+-- the number of times that a child occurs in a queue
 abbrev pub times : ℕ → Queue → ℕ
 times i [] = 0
 times i (e ∷ q) = (if nat_eq e.1 i then 1 else 0) + times i q
@@ -72,7 +74,8 @@ abbrev pub NamesChildren : Trees Queue → Queue → Type 0
 NamesChildren ts [] = Unit {0}
 NamesChildren ts (e ∷ q) = HasChild ts e.1 × NamesChildren ts q
 
--- at each inner node each value is a child's index, and each index stands there as often as the child has packets
+-- at each inner node every value is a child's index, and each index occurs as often as the child
+-- has packets
 abbrev mutual
   pub IsWellFormed : Tree Queue → Type 0
   IsWellFormed (leaf q) = Unit {0}
@@ -83,7 +86,7 @@ abbrev mutual
   AreWellFormed none q i = Unit {0}
   AreWellFormed (more t ts) q i = IsWellFormed t × (times i q ≡ size t) × AreWellFormed ts q (suc i)
 
--- each value at an inner node is a child's index
+-- every value at an inner node is a child's index
 abbrev mutual
   pub IsInRange : Tree Queue → Type 0
   IsInRange (leaf q) = Unit {0}
@@ -97,7 +100,7 @@ abbrev mutual
 abbrev pub two_leaves : SourceTree
 two_leaves = empty_tree (inner tt (more (leaf tt) (more (leaf tt) none)))
 
--- packet 1 went to child 0 with rank 5 at the root, packet 2 to child 1 with rank 3
+-- packet 1 was pushed to child 0 with rank 5 at the root, packet 2 to child 1 with rank 3
 abbrev pub after_two : SourceTree
 after_two = inner ((5, 0) ∷ (3, 1) ∷ []) (more (leaf ((7, 1) ∷ [])) (more (leaf ((7, 2) ∷ [])) none))
 
@@ -113,7 +116,7 @@ size-two = refl
 pub pop-of_none : pop two_leaves ≡ None
 pop-of_none = refl
 
--- one leaf below a root: the least entry at the root came with packet 2, and packet 1 leaves
+-- one leaf below a root: packet 2 added the least entry at the root, but packet 1 is dequeued
 abbrev pub inverted : SourceTree
 inverted = push (push (empty_tree (inner tt (more (leaf tt) none))) (0 ∷ []) (100 ∷ 1900 ∷ []) 1) (0 ∷ []) (60 ∷ 1940 ∷ []) 2
 

@@ -14,7 +14,7 @@ abbrev mutual
   topologies_of none = none
   topologies_of (more t ts) = more (topology_of t) (topologies_of ts)
 
--- each inner node has a child
+-- each inner node has at least one child
 abbrev mutual
   pub IsBranched : Topology → Type 0
   IsBranched (leaf u) = Unit {0}
@@ -25,7 +25,7 @@ abbrev mutual
   AreBranched none = Unit {0}
   AreBranched (more t ts) = IsBranched t × AreBranched ts
 
--- what is left of the second address after the first, where that is a prefix
+-- the remainder of the second address after the first, if the first is a prefix of it
 abbrev pub after : Address → Address → Option Address
 after [] b = Some b
 after (x ∷ a) [] = None
@@ -35,17 +35,17 @@ after (x ∷ a) (y ∷ b) = if nat_eq x y then after a b else None
 abbrev pub IsPrefixOf : Address → Address → Type 0
 IsPrefixOf a b = (c : Address) × (after a b ≡ Some c)
 
--- the same tree a number of times
+-- n copies of a tree
 abbrev pub copies : ℕ → Topology → Trees (Unit {0})
 copies zero t = none
 copies (suc n) t = more t (copies n t)
 
--- the complete tree of a list of arities, from the root down
+-- the complete tree with the given arities, from the root down
 abbrev pub complete : List ℕ → Topology
 complete [] = leaf tt
 complete (arity ∷ arities) = inner tt (copies arity (complete arities))
 
--- at most as many digits as there are arities, each below the arity at its place
+-- at most as many digits as there are arities, each below the arity at its index
 abbrev pub IsWithin : List ℕ → Address → Type 0
 IsWithin arities [] = Unit {0}
 IsWithin [] (digit ∷ digits) = ⊥
@@ -63,7 +63,7 @@ complete-of_one_arity = refl
 pub complete-of_none : complete [] ≡ leaf tt
 complete-of_none = refl
 
--- a leaf beside a node with two leaves
+-- a leaf next to a node with two leaves
 abbrev pub office : Topology
 office = inner tt (more (leaf tt) (more (inner tt (more (leaf tt) (more (leaf tt) none))) none))
 

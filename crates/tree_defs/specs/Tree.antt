@@ -1,5 +1,6 @@
--- Trees: a leaf, or an inner node with the list of its children, and at each node a value of `Q`.
--- With nothing at the nodes a tree is a topology, with queues a source tree, with numbers the free places at each node.
+-- Trees: a leaf, or an inner node with the list of its children. Each node has a value of `Q`. With
+-- no value at the nodes a tree is a topology; with queues, a source tree; with numbers, the free
+-- slots at each node.
 use Rattle.std.specs.Prelude.{ℕ, zero, suc, ◌+◌, ◌≡◌, List, [], ◌∷◌, Option, Some, None, max}
 
 mutual
@@ -11,7 +12,7 @@ mutual
     none : Trees Q
     more : Tree Q → Trees Q → Trees Q
 
--- the path from the root down: a child's index at each inner node on the way
+-- the path from the root down: a child's index at each inner node on it
 abbrev pub Address : Type 0
 Address = List ℕ
 
@@ -29,20 +30,21 @@ module _ {Q : Type 0} where
   child (more t ts) zero = Some t
   child (more t ts) (suc i) = child ts i
 
-  -- what stands at the root
+  -- the value at the root
   abbrev pub root_of : Tree Q → Q
   root_of (leaf q) = q
   root_of (inner q ts) = q
 
--- the most levels below a root of a tree that is run, since each level is a call within a call
+-- the maximum number of levels below the root of a tree that runs, since each level is a nested
+-- call
 abbrev pub most_levels : ℕ
 most_levels = 64
 
--- the most nodes and leaves of such a tree
+-- the maximum number of nodes and leaves of such a tree
 abbrev pub most_nodes : ℕ
 most_nodes = 1024
 
--- the part of a tree at an address
+-- the subtree at an address
 abbrev mutual
   pub subtree : {Q : Type 0} → Tree Q → Address → Option (Tree Q)
   subtree (leaf q) [] = Some (leaf q)
@@ -76,7 +78,7 @@ HasChild none i = ⊥
 HasChild (more t ts) zero = Unit {0}
 HasChild (more t ts) (suc i) = HasChild ts i
 
--- two trees of one topology
+-- two trees with the same topology
 abbrev mutual
   pub SameShape : {Q R : Type 0} → Tree Q → Tree R → Type 0
   SameShape (leaf q) (leaf r) = Unit {0}
@@ -110,7 +112,8 @@ abbrev mutual
   depth_below none = 0
   depth_below (more t ts) = max (depth t + 1) (depth_below ts)
 
--- what a pop gives: the value, the children's indices and the ranks from the root down, and what is left
+-- the result of a pop: the value, the children's indices and the ranks from the root down, and the
+-- remaining tree
 pub record Popping (L : Type 0) : Type 0 where
   pub value : ℕ
   pub digits : List ℕ

@@ -1,5 +1,5 @@
-//! What topologies and source trees are: trees of push-in first-out queues, pushed and popped along paths.
-//! Begin with specs/Tree.antt and specs/SourceTree.antt.
+//! Topologies and source trees: definitions of trees of push-in first-out queues, and of pushes and
+//! pops along their paths. Begin with specs/Tree.antt and specs/SourceTree.antt.
 #![tactic(auto)]
 
 mod packets;

@@ -1,22 +1,22 @@
-//! Laws of the packets that stand in a tree.
+//! Laws of the packets queued in a tree.
 ghost use Rattle.tree_defs.specs.Laws.{EmptyTreesHoldNothing, PushesAddOne, PopsTakeOne, PopsLeadToLeaves, PushesAddThePacket, PopsTakeThePacket, PushesPutAtTheLeaf, PopsTakeAtTheLeaf};
 
-/// A tree of empty queues has its topology and no packets.
+/// A tree of empty queues has its topology and contains no packets.
 pub fn empty_trees_hold_nothing()
     ensures { EmptyTreesHoldNothing }
 {}
 
-/// A push to a leaf raises the size by one.
+/// A push to a leaf increases the size by one.
 pub fn pushes_add_one()
     ensures { PushesAddOne }
 {}
 
-/// A pop lowers the size by one.
+/// A pop decreases the size by one.
 pub fn pops_take_one()
     ensures { PopsTakeOne }
 {}
 
-/// A pop goes down to a leaf, with a rank at each node on the way.
+/// A pop follows a path to a leaf, and takes a rank at each node on the path.
 pub fn pops_lead_to_leaves()
     ensures { PopsLeadToLeaves }
 {}
@@ -26,17 +26,17 @@ pub fn pushes_add_the_packet()
     ensures { PushesAddThePacket }
 {}
 
-/// A pop takes exactly its packet, once, from its leaf.
+/// A pop removes exactly its packet, once, from its leaf.
 pub fn pops_take_the_packet()
     ensures { PopsTakeThePacket }
 {}
 
-/// A push changes the queue of its leaf alone among the leaves' queues.
+/// Among the leaves' queues, a push changes only that of its leaf.
 pub fn pushes_put_at_the_leaf()
     ensures { PushesPutAtTheLeaf }
 {}
 
-/// A pop takes what leaves the queue of its leaf, and changes no other leaf's queue.
+/// A pop dequeues from the queue of its leaf, and changes no other leaf's queue.
 pub fn pops_take_at_the_leaf()
     ensures { PopsTakeAtTheLeaf }
 {}

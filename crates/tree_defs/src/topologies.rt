@@ -1,17 +1,18 @@
 //! Laws of topologies and addresses.
 ghost use Rattle.tree_defs.specs.Laws.{LeafAddressesLeadToLeaves, PrefixesComeBefore, CompleteTreesHaveAllAddresses, CompleteTreesHaveDeepLeaves, OneShapeIsOneTopology, PushesKeepTheTopology, PopsKeepTheTopology};
 
-/// A leaf stands exactly at each leaf address.
+/// A leaf address is exactly an address at which there is a leaf.
 pub fn leaf_addresses_lead_to_leaves()
     ensures { LeafAddressesLeadToLeaves }
 {}
 
-/// What is left after a prefix comes behind it, and nothing else is left.
+/// The remainder of an address after a prefix is exactly the part after that prefix.
 pub fn prefixes_come_before()
     ensures { PrefixesComeBefore }
 {}
 
-/// The addresses of a complete tree are all lists of at most as many digits as it has levels, each below its level's arity.
+/// The addresses of a complete tree are all lists of at most as many digits as it has levels, each
+/// below its level's arity.
 pub fn complete_trees_have_all_addresses()
     ensures { CompleteTreesHaveAllAddresses }
 {}
@@ -21,7 +22,7 @@ pub fn complete_trees_have_deep_leaves()
     ensures { CompleteTreesHaveDeepLeaves }
 {}
 
-/// Two trees have the same shape exactly where their topologies are equal.
+/// Two trees have the same shape exactly if their topologies are equal.
 pub fn one_shape_is_one_topology()
     ensures { OneShapeIsOneTopology }
 {}

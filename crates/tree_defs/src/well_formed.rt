@@ -1,7 +1,8 @@
 //! Laws of well-formed trees.
 ghost use Rattle.tree_defs.specs.Laws.{WellFormedAtEachInnerNode, EmptyTreesAreWellFormed, PushesKeepWellFormed, PopsKeepWellFormed, NothingIsPoppedFromAnEmptyRoot, RootsHaveAnEntryForEachPacket};
 
-/// A tree is well formed exactly where each inner node's queue names each child as often as the child has packets, and nothing else.
+/// A tree is well formed exactly if each inner node's queue contains each child's index as often as
+/// the child has packets, and nothing else.
 pub fn well_formed_at_each_inner_node()
     ensures { WellFormedAtEachInnerNode }
 {}
@@ -21,12 +22,12 @@ pub fn pops_keep_well_formed()
     ensures { PopsKeepWellFormed }
 {}
 
-/// A pop of a well-formed tree gives nothing exactly where the root's queue is empty.
+/// A pop of a well-formed tree returns nothing exactly if the root's queue is empty.
 pub fn nothing_is_popped_from_an_empty_root()
     ensures { NothingIsPoppedFromAnEmptyRoot }
 {}
 
-/// The root of a well-formed tree has as many entries as the leaves have packets.
+/// The root's queue of a well-formed tree has as many entries as the leaves have packets.
 pub fn roots_have_an_entry_for_each_packet()
     ensures { RootsHaveAnEntryForEachPacket }
 {}

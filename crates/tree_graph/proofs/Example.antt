@@ -1,4 +1,4 @@
--- Four nodes that are a forest.
+-- A forest of four nodes.
 use Rattle.std.proofs.Common.{◌≡◌, ◌≢◌, ℕ, zero, suc, ◌+◌, ◌<◌, ◌≤◌, [], ◌∷◌, refl, ap, subst, arith, inl, inr, Contains}
 use Rattle.std.proofs.lemmas.List.Elements.{Contains-get_or, Contains-push_cases}
 use Rattle.tree_graph.specs.Descent.{IsChild, Leads, IsDeep, IsForest, HasOneParent, two_below_a_root}
@@ -9,7 +9,7 @@ no-member j there = (let l : there.0 < 0 = there.1 in absurd (omega arith))
 only-member : (x j : ℕ) → Contains (x ∷ []) j → x ≡ j
 only-member x j there = elim (Contains-push_cases [] x j there) [ inl none ↦ absurd (no-member j none) | inr same ↦ same ]
 
--- what stands at the children: a higher rank
+-- a number that is higher at a node's children
 abbrev rank : ℕ → ℕ
 rank zero = 1
 rank (suc zero) = 1
@@ -30,7 +30,7 @@ step (suc (suc zero)) j there = elim (Contains-push_cases (0 ∷ []) 1 j there) 
 step (suc (suc (suc zero))) j there = absurd (no-member j there)
 step (suc (suc (suc (suc n)))) j there = absurd (no-member j there)
 
--- each step is one rank up at least, so a way is no longer than the ranks differ
+-- each step raises the rank by at least one, so a path is no longer than the difference in rank
 lengths : (k a b : ℕ) → Leads two_below_a_root k a b → k + rank a ≤ rank b
 lengths zero a b same = omega (arith, ap rank same)
 lengths (suc k) a b way = omega (arith, (step a way.0 way.1).higher, lengths k way.0 b way.2)

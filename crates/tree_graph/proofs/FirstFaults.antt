@@ -1,4 +1,4 @@
--- The first node on a cycle, and the first that is too deep.
+-- The first node on a cycle, and the first node that is too deep.
 use Rattle.std.proofs.Common.{◌≡◌, ◌≢◌, ℕ, ◌+◌, ◌<◌, ◌≤◌, ◌⊎◌, Bool, true, false, List, [], ◌∷◌, ◌++◌, length, refl, sym, ap, subst, ◌∙◌, arith, inl, inr, true≢false, Contains, get_or, Option, None, Some, MatchOption, is_some, not, IsTrue, ◌↔◌, slice_index, take}
 use Rattle.std.proofs.Math.ListN.{set, length-set}
 use Rattle.std.proofs.lemmas.Bool.{cases_eq}

@@ -1,4 +1,4 @@
--- A tree that grows child by child.
+-- A tree that is built child by child.
 use Rattle.std.proofs.Common.{◌≡◌, ℕ, zero, suc, ◌+◌, ◌<◌, ◌≤◌, ◌-◌, List, [], ◌∷◌, ◌++◌, length, map, refl, sym, ap, subst, ◌∙◌, arith, take, drop, get_or, length-append, append_assoc, Contains, Vec}
 use Rattle.std.proofs.Math.ListN.{set}
 use Rattle.std.proofs.lemmas.List.{append-nil, take_more, take_all, length-take}
@@ -14,7 +14,7 @@ use Rattle.tree_graph.specs.Row.{Row, row}
 use Rattle.tree_graph.specs.Preorder.{labels, IsTreeOf, AreTreesOf, starts, rows, rows_below}
 use Rattle.tree_graph.specs.Growth.{IsPartOf, ArePartsOf, HasRoom, HasGrown}
 
--- one tree more at the end
+-- appends one tree
 abbrev pub snoc : {Q : Type 0} → Trees Q → Tree Q → Trees Q
 snoc none t = more t none
 snoc (more u us) t = more u (snoc us t)
@@ -68,7 +68,7 @@ mutual
       let s : length (rows_below (n + nodes t) a (d + 1) ts) ≡ nodes_below ts = length-rows_below (n + nodes t) a (d + 1) ts in
       omega (arith, r, s, length-append (rows n (a ++ d ∷ []) t) (rows_below (n + nodes t) a (d + 1) ts)))
 
--- a node above what has grown
+-- a node above the rows of its children
 rows-branch : (n : ℕ) (a : Address) (i : ℕ) (ts : Trees ℕ) → rows n a (branch i ts) ≡ row i a (starts (n + 1) ts) ∷ rows_below (n + 1) a 0 ts
 rows-branch n a i none = refl
 rows-branch n a i (more t ts) = refl
@@ -94,7 +94,7 @@ topologies-snoc : (us : Trees ℕ) (t : Tree ℕ) → topologies_of (snoc us t) 
 topologies-snoc none t = refl
 topologies-snoc (more u us) t = ap (more (topology_of u)) (topologies-snoc us t)
 
--- after d of the children cs of node i, which stands at place n
+-- the state after d of the children cs of node i, whose preorder number is n
 pub record Growing (g : Graph) (i n : ℕ) (a : Address) (cs : List ℕ) (d : ℕ) (old now : List Row) (address : Address) (places : List ℕ) (shapes : List Topology) : Type 0 where
   pub done : Trees ℕ
   pub labels_are : labels done ≡ take d cs
@@ -115,7 +115,7 @@ growing-start g i n a cs old now address places shapes stood no_places same no_s
   shapes_are = ap trees_of no_shapes;
 }
 
--- where the next row comes
+-- the index of the next row
 growing-place : (g : Graph) (i n : ℕ) (a : Address) (cs : List ℕ) (d : ℕ) (old now : List Row) (address : Address) (places : List ℕ) (shapes : List Topology) → n ≡ length old → (so_far : Growing g i n a cs d old now address places shapes) → length now ≡ n + 1 + nodes_below so_far.done
 growing-place g i n a cs d old now address places shapes at so_far =
     (let r : length (rows_below (n + 1) a 0 so_far.done) ≡ nodes_below so_far.done = length-rows_below (n + 1) a 0 so_far.done in
@@ -167,7 +167,7 @@ within-child g i c limit above shallow step = λ k b way. (let r : suc k + above
 pub child-within : (g : Graph) (i c limit above : ℕ) → IsWithin g i limit above → IsChild g i c → suc above ≤ limit
 child-within g i c limit above shallow step = (let r : 1 + above ≤ limit = shallow 1 c (c, step, refl) in omega arith)
 
--- ---- room for what is still to come
+-- ---- room for the rest of the tree
 mutual
   pub tree-is_part : (g : Graph) (t : Tree ℕ) → IsTreeOf g t → IsPartOf g t
   tree-is_part g (leaf i) h = tt
@@ -196,7 +196,7 @@ room-child g i n a cs d old now address places shapes limit at short are so_far 
     ) refl in
     omega (arith, whole, nodes-snoc so_far.done t, growing-place g i n a cs d old now address places shapes at so_far))
 
--- a place is left for the node itself
+-- there is room for the node itself
 pub room-here : (g : Graph) (i n limit : ℕ) → HasRoom g i n limit → n < limit
 room-here g i n limit room = (let r : n + nodes (leaf i) ≤ limit = room (leaf i) tt refl in omega (arith, r))
 
@@ -207,7 +207,7 @@ digit-small g i n a cs d old now address places shapes limit at short are so_far
     let here : length now < limit = room-here g (get_or cs d 0) (length now) limit (room-child g i n a cs d old now address places shapes limit at short are so_far room) in
     omega (arith, here, growing-place g i n a cs d old now address places shapes at so_far, growing-digit g i n a cs d old now address places shapes short so_far, count-below so_far.done)
 
--- ---- in the terms of the code
+-- ---- in terms of the code
 pub children-here : (g : List (Vec ℕ Global)) (i : ℕ) (v : Vec ℕ Global) (cs : List ℕ) → i < length g → v ≡ get_or g i v → cs ≡ v.items → cs ≡ children (lists g) i
 children-here g i v cs within is same = same ∙ sym (children-at g i v within is)
 

@@ -37,7 +37,7 @@ marks-seen ns m m' w w' x more seen = record {
   left = more.left;
 }
 
--- a mark that is set
+-- setting a mark
 set-other : (m : List Bool) (x j : ℕ) → j ≢ x → is_marked (set m x true) j ≡ is_marked m j
 set-other [] x j ne = refl
 set-other (b ∷ m) zero zero ne = absurd (ne refl)
@@ -50,7 +50,7 @@ set-here [] x l = absurd (omega arith)
 set-here (b ∷ m) zero l = refl
 set-here (b ∷ m) (suc x) l = set-here m x (omega arith)
 
--- one mark more is one fewer unmarked
+-- one more mark is one fewer unmarked node
 set-left : (m : List Bool) (x : ℕ) → x < length m → is_marked m x ≡ false → suc (unmarked (set m x true)) ≡ unmarked m
 set-left [] x l new = absurd (omega arith)
 set-left (b ∷ m) zero l new =
@@ -113,7 +113,7 @@ marking-more g node next m m' w w' so_far more = record {
       | inr same ↦ inr (λ j step. more.marked j (subst (λ (y : ℕ). IsChild g y j) (sym same) step))
     ]
 
--- with no work left, exactly the descendants are marked
+-- if the work list is empty, exactly the descendants are marked
 pub marking-done : (g : Graph) (node : ℕ) (m : List Bool) → MarksBelow g node m [] → (j : ℕ) → IsTrue (is_marked m j) ↔ IsBelow g node j
 marking-done g node m done j = (done.sound j, λ way. all way.0 node (inl refl) way.1)
   where
@@ -141,14 +141,14 @@ marking-start g node n size = record {
     length-fresh zero = refl
     length-fresh (suc n) = ap suc (length-fresh n)
 
--- a node of the work is a node
+-- each number in the work list is a node
 pub work-within : (g : Graph) (node next : ℕ) (m : List Bool) (w : List ℕ) → node < length g → AreInRange g → MarksBelow g node m w → Contains w next → next < length g
 work-within g node next m w within in_range so_far there = elim (so_far.work_sound next there) [
   | inl same ↦ omega arith
   | inr way ↦ below-within g node next in_range way
 ]
 
--- the children that a slice of lists holds for a node
+-- the children of a node in a slice of lists
 pub children-at : (g : List (Vec ℕ Global)) (i : ℕ) (v : Vec ℕ Global) → i < length g → v ≡ get_or g i v → children (lists g) i ≡ v.items
 children-at [] i v l is = absurd (omega arith)
 children-at (u ∷ g) zero v l is = ap (λ (x : Vec ℕ Global). x.items) (sym is)
@@ -158,7 +158,7 @@ pub length-lists : (g : List (Vec ℕ Global)) → length (lists g) ≡ length g
 length-lists [] = refl
 length-lists (v ∷ g) = ap suc (length-lists g)
 
--- a slice that was lent and given back
+-- a slice that was borrowed and given back
 pub given_back : {X : Type 0} (n : ℕ) (new old : List X) → length new ≡ n → length old ≡ n → take n (new ++ drop (length new) old) ≡ new
 given_back n new old a b =
     let none : drop (length new) old ≡ [] = drop-all old (length new) (omega arith) in
@@ -170,7 +170,7 @@ given_back n new old a b =
     drop-all (x ∷ xs) zero l = absurd (omega arith)
     drop-all (x ∷ xs) (suc n) l = drop-all xs n (omega arith)
 
--- one node of the list, in the terms of the loop
+-- one node of the list, in terms of the loop
 pub seen-at : (ns : List ℕ) (i : ℕ) (m m' m'' : List Bool) (w : List ℕ) (work' work'' : Vec ℕ Global) → i < length ns → MarksMore (take i ns) m w m' work'.items → is_marked m' (get_or ns i 0) ≡ true → m'' ≡ m' → work'' ≡ work'
     → MarksMore (take (i + 1) ns) m w m'' work''.items
 seen-at ns i m m' m'' w work' work'' l more seen ms ws =
@@ -185,14 +185,14 @@ new-at ns i m m' m'' w work' work'' pushed l more new within ms ws ps =
     (subst (λ (b : List Bool). MarksMore (take (i + 1) ns) m w b (work'.items ++ get_or ns i 0 ∷ [])) (sym ms)
     (subst (λ (l : List ℕ). MarksMore l m w (set m' (get_or ns i 0) true) (work'.items ++ get_or ns i 0 ∷ [])) (sym (take_more ns i 0 l)) (marks-new (take i ns) m m' w work'.items (get_or ns i 0) more new within)))
 
--- the work on the next node, in the terms of the loop
+-- the work on the next node, in terms of the loop
 pub worked : (g : List (Vec ℕ Global)) (node next : ℕ) (v : Vec ℕ Global) (m lent m' : List Bool) (w w1 w' : List ℕ) → MarksBelow (lists g) node m w → w ≡ w1 ++ next ∷ [] → next < length g → v ≡ get_or g next v → lent ≡ m
     → MarksMore v.items lent w1 m' w' → MarksBelow (lists g) node m' w'
 worked g node next v m lent m' w w1 w' so_far popped within is same more =
     marking-more (lists g) node next m m' w1 w' (subst (λ (l : List ℕ). MarksBelow (lists g) node m l) popped so_far)
     (subst (λ (l : List ℕ). MarksMore l m w1 m' w') (sym (children-at g next v within is)) (subst (λ (b : List Bool). MarksMore v.items b w1 m' w') same more))
 
--- the children of a node are marks
+-- the children of a node are within the marks
 pub children-within : (g : List (Vec ℕ Global)) (next : ℕ) (v : Vec ℕ Global) (n : ℕ) → AreInRange (lists g) → next < length g → v ≡ get_or g next v → n ≡ length g → All (λ i. i < n) v.items
 children-within g next v n in_range within is size = λ k d short.
     (let child : IsChild (lists g) next (get_or v.items k d) = subst (λ (l : List ℕ). Contains l (get_or v.items k d)) (sym (children-at g next v within is)) (Contains-get_or v.items k d short) in
@@ -203,7 +203,7 @@ pub empty : (xs : List ℕ) → length xs ≡ 0 → xs ≡ []
 empty [] l = refl
 empty (x ∷ xs) l = absurd (omega arith)
 
--- a node that was popped from the work is a node
+-- a number popped from the work list is a node
 pub popped-within : (g : List (Vec ℕ Global)) (node next : ℕ) (m : List Bool) (w w1 : List ℕ) → node < length g → AreInRange (lists g) → MarksBelow (lists g) node m w → w ≡ w1 ++ next ∷ [] → next < length g
 popped-within g node next m w w1 within in_range so_far popped =
     let there : Contains w next = subst (λ (l : List ℕ). Contains l next) (sym popped) (Contains-push w1 next) in

@@ -1,4 +1,4 @@
--- The tree of a forest has each node once, and no part of it has a node twice.
+-- The tree of a forest contains each node once, and no part of it contains a node twice.
 use Rattle.std.proofs.Common.{◌≡◌, ◌≢◌, ℕ, zero, suc, ◌+◌, ◌<◌, ◌≤◌, ◌||◌, cond, true, false, List, [], ◌∷◌, ◌++◌, length, refl, sym, ap, subst, ◌∙◌, arith, inl, inr, true≢false, Contains, sum_by, length-append}
 use Rattle.std.proofs.lemmas.Bool.{cases_eq, cases_lt, cases_Bool, eq-eqb, ne_eqb, eqb-true}
 use Rattle.std.proofs.lemmas.List.Sums.{sum_by-append, sum_by-cons}
@@ -14,7 +14,7 @@ use Rattle.tree_graph.specs.Preorder.{labels, IsTreeOf, AreTreesOf, preorder, pr
 use Rattle.tree_graph.specs.Growth.{IsPartOf, ArePartsOf, HasRoom}
 use Rattle.tree_graph.proofs.Steps.{reached, unlisted, Leads-last, none_equal, nothing}
 
--- one for the same node
+-- 1 for the same node, 0 for another
 abbrev pub is : ℕ → ℕ → ℕ
 is c x = cond (nat_eq c x) 1 0
 
@@ -24,7 +24,7 @@ times-cons c x xs = sum_by-cons (is c) x xs
 times-append : (c : ℕ) (xs ys : List ℕ) → times c (xs ++ ys) ≡ times c xs + times c ys
 times-append c xs ys = sum_by-append (is c) xs ys
 
--- how often the nodes of a list name a child
+-- the number of times that the nodes of a list name a child
 abbrev pub named : Graph → ℕ → List ℕ → ℕ
 named g c qs = sum_by (λ q. times c (children g q)) qs
 
@@ -83,7 +83,7 @@ none-there c (x ∷ xs) h =
     ] in
     omega (arith, rest, here, times-cons c x xs)
 
--- a node is named where its parent stands
+-- a node is named as often as its parent occurs
 named-parent : (g : Graph) (c : ℕ) (one : HasOneParent g c) (qs : List ℕ) → named g c qs ≡ times one.parent qs
 named-parent g c one [] = refl
 named-parent g c one (q ∷ qs) =
@@ -93,7 +93,7 @@ named-parent g c one (q ∷ qs) =
     ] in
     omega (arith, here, named-parent g c one qs, times-cons one.parent q qs, sum_by-cons (λ k. times c (children g k)) q qs)
 
--- a number that no node lists isn't named
+-- a number that no node lists is never named
 unnamed : (g : Graph) (c : ℕ) → ((q : ℕ) → IsChild g q c → ⊥) → (qs : List ℕ) → named g c qs ≡ 0
 unnamed g c never [] = refl
 unnamed g c never (q ∷ qs) = omega (arith, none-there c (children g q) (never q), unnamed g c never qs, sum_by-cons (λ k. times c (children g k)) q qs)
@@ -133,11 +133,11 @@ at-most g root t forest part top (suc k) c way =
     let up' : times one.parent (preorder t) ≤ 1 = subst (λ (x : ℕ). times x (preorder t) ≤ 1) (one.only last.0 last.2) up in
     omega (arith, times-part g c t part, other-is c (root_of t) (λ same. other (same ∙ top)), named-parent g c one (preorder t), up')
 
--- each node of a forest stands once in the tree below the root
+-- each node of a forest occurs once in the tree below the root
 pub each_once : (g : Graph) (root : ℕ) (t : Tree ℕ) → IsForest g root → IsTreeOf g t → root_of t ≡ root → (c : ℕ) → c < length g → times c (preorder t) ≡ 1
 each_once g root t forest tree top c within = (let r : (k : ℕ) × Leads g k root c = reached g root c forest within in at-depth g root t forest tree top r.0 c r.1)
 
--- ---- so the number of nodes is that of the graph
+-- ---- so the tree has as many nodes as the graph
 there-some : (c : ℕ) (xs : List ℕ) → list_any (nat_eq c) xs ≡ true → 1 ≤ times c xs
 there-some c [] h = absurd (true≢false (sym h))
 there-some c (x ∷ xs) h = elim (cases_Bool (nat_eq c x)) [
@@ -159,7 +159,7 @@ distinct-once (x ∷ xs) h = IsDistinct-cons nat_eq x xs (none_equal x xs (elim 
   | inr absent ↦ absent
 ])) (distinct-once xs (λ c. omega (arith, h c, times-cons c x xs)))
 
--- only nodes of the graph stand in a part of its tree
+-- a part of the tree contains only nodes of the graph
 beyond-none : (g : Graph) (t : Tree ℕ) → AreInRange g → IsPartOf g t → root_of t < length g → (c : ℕ) → length g ≤ c → times c (preorder t) ≡ 0
 beyond-none g t in_range part top c far = omega (arith, times-part g c t part, other-is c (root_of t) (λ same. omega arith), unnamed g c (λ q there. (let r : c < length g = in_range q c there in omega arith)) (preorder t))
 
@@ -193,7 +193,7 @@ room-root g root forest t part top =
       | inr far ↦ absurd (omega (arith, there-some q (preorder t) there, beyond-none g t forest.in_range part within q (omega (arith, far))))
     ]
 
--- the tree has each node of the graph
+-- the tree contains each node of the graph
 pub nodes-all : (g : Graph) (root : ℕ) (t : Tree ℕ) → IsForest g root → IsTreeOf g t → root_of t ≡ root → length g ≤ nodes t
 nodes-all g root t forest tree top =
     let many : length g ≤ length (preorder t) = le-length_from_below (preorder t) (length g) (λ q short. elim (cases_Bool (list_any (nat_eq q) (preorder t))) [

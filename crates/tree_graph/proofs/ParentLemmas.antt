@@ -1,11 +1,11 @@
--- Parents from the lists of children.
+-- Parents, computed from the lists of children.
 use Rattle.std.proofs.Common.{◌≡◌, ◌≢◌, ℕ, zero, suc, ◌+◌, ◌<◌, ◌≤◌, ◌⊎◌, All, List, [], length, replicate, refl, sym, ap, subst, ◌∙◌, arith, inl, inr, get_or, slice_index, Contains}
 use Rattle.std.proofs.lemmas.Bool.{cases_eq, cases_lt}
 use Rattle.std.proofs.lemmas.List.{get_or_default}
 use Rattle.std.proofs.Math.ListN.{get_or-eq_default}
 use Rattle.tree_graph.specs.Descent.{Graph, children, IsChild, AreParents, ArePointed}
 
--- after the lists of the first nodes
+-- the parents after the lists of the first nodes
 pub record ArePointedTo (g : Graph) (node : ℕ) (parents : List ℕ) : Type 0 where
   pub len : length parents ≡ length g
   pub each : (c q : ℕ) → q < node → IsChild g q c → IsChild g (slice_index parents c) c

@@ -1,4 +1,4 @@
--- The rows of a tree: addresses, children's places, and leaves.
+-- The rows of a tree: addresses, children's indices, and leaves.
 use Rattle.std.proofs.Common.{◌≡◌, ℕ, zero, suc, ◌+◌, ◌<◌, ◌≤◌, ◌-◌, ◌↔◌, List, [], ◌∷◌, ◌++◌, length, refl, sym, ap, subst, ◌∙◌, arith, inl, inr, slice_index, append_assoc, length-append}
 use Rattle.std.proofs.lemmas.Bool.{cases_lt}
 use Rattle.std.proofs.lemmas.List.{get_or_append_left, get_or-append-add}
@@ -23,14 +23,14 @@ mutual
       nodes_of-append (rows n (a ++ d ∷ []) t) (rows_below (n + nodes t) a (d + 1) ts)
       ∙ ap (λ l. l ++ nodes_of (rows_below (n + nodes t) a (d + 1) ts)) (nodes_of-rows n (a ++ d ∷ []) t) ∙ ap (λ l. preorder t ++ l) (nodes_of-rows_below (n + nodes t) a (d + 1) ts)
 
--- a row in the first or the second of two lists
+-- the row at an index, in the first or the second of two lists
 pub at-first : (xs ys : List Row) (k : ℕ) → k < length xs → row_at (xs ++ ys) k ≡ row_at xs k
 at-first xs ys k within = get_or_append_left xs ys (row 0 [] []) k within
 
 pub at-second : (xs ys : List Row) (k : ℕ) → row_at (xs ++ ys) (length xs + k) ≡ row_at ys k
 at-second xs ys k = get_or-append-add xs ys k (row 0 [] [])
 
--- the places of siblings: each within their rows, with its digit behind the address
+-- the indices of siblings: each within their rows, with its digit appended to the address
 record IsStart (n : ℕ) (a : Address) (d : ℕ) (all : List Row) (e m : ℕ) : Type 0 where
   there : n ≤ m
   within : m < n + length all
@@ -66,7 +66,7 @@ starts-at n a d (more t ts) (suc e) l =
           ∙ s.address ∙ ap (λ k. a ++ k ∷ []) digit;
     }
 
--- a child of a row: it stands later, within the rows, with its digit behind the address
+-- a child of a row: it comes later, within the rows, with its digit appended to the address
 pub record IsChildRow (n : ℕ) (all : List Row) (k d m : ℕ) : Type 0 where
   pub later : n + k < m
   pub within : m < n + length all
@@ -132,7 +132,7 @@ append-nil : (xs : List ℕ) → xs ++ [] ≡ xs
 append-nil [] = refl
 append-nil (x ∷ xs) = ap (λ l. x ∷ l) (append-nil xs)
 
--- below the node at an address stands a row, and it has no children just where what follows of its address leads to a leaf
+-- a row below address a has no children exactly if the rest of its address leads to a leaf
 record IsPlaced (t : Tree ℕ) (a : Address) (r : Row) : Type 0 where
   rest : Address
   address : r.address ≡ a ++ rest

@@ -1,4 +1,4 @@
--- Steps from a node to its descendants, and that each node of a forest is reached from the root.
+-- Steps from a node to its descendants. Each node of a forest is reached from the root.
 use Rattle.std.proofs.Common.{◌≡◌, ◌≢◌, ℕ, zero, suc, ◌+◌, ◌<◌, ◌≤◌, ◌⊎◌, ◌||◌, true, false, List, [], ◌∷◌, length, refl, sym, ap, subst, ◌∙◌, arith, inl, inr, true≢false, slice_index}
 use Rattle.std.proofs.lemmas.Bool.{cases_eq, cases_lt, cases_Bool, eqb-true, or_cases}
 use Rattle.std.proofs.lemmas.Map.Keys.{IsDistinct-cons}
@@ -8,7 +8,7 @@ use Rattle.std.specs.List.{IsDistinct, AllByRecursion, list_any}
 use Rattle.std.specs.Bool.{nat_eq}
 use Rattle.tree_graph.specs.Descent.{Graph, children, IsChild, Leads, IsBelow, IsForest, AreParents, IsDeep, AreInRange}
 
--- one step more at the end
+-- one more step at the end
 pub Leads-push : (g : Graph) (k : ℕ) (a b c : ℕ) → Leads g k a b → IsChild g b c → Leads g (suc k) a c
 Leads-push g zero a b c same step = (c, subst (λ (x : ℕ). IsChild g x c) (sym same) step, refl)
 Leads-push g (suc k) a b c way step = (way.0, way.1, Leads-push g k way.0 b c way.2 step)
@@ -27,7 +27,7 @@ pub below-step : (g : Graph) (a b c : ℕ) → (b ≡ a) ⊎ IsBelow g a b → I
 below-step g a b c (inl same) step = (0, (c, subst (λ (x : ℕ). IsChild g x c) same step, refl))
 below-step g a b c (inr way) step = (suc way.0, Leads-push g (suc way.0) a b c way.1 step)
 
--- a way down that begins one step higher
+-- a path down that begins one step higher
 higher : (g : Graph) (p c q : ℕ) → IsChild g p c → IsBelow g c q → IsBelow g p q
 higher g p c q step way = (suc way.0, (c, step, way.1))
 
@@ -40,7 +40,7 @@ none_equal c (x ∷ path) h = elim (cases_Bool (nat_eq c x)) [
   | inr other ↦ (other, none_equal c path (sym (ap (λ b. b || list_any (nat_eq c) path) other) ∙ h))
 ]
 
--- nodes on a way up, from the lowest to just below c: each once, and each a descendant of c
+-- the nodes on a path up, from the lowest to just below c: each once, and each a descendant of c
 record IsWayUp (g : Graph) (c : ℕ) (path : List ℕ) : Type 0 where
   distinct : IsDistinct nat_eq path
   inside : (q : ℕ) → list_any (nat_eq q) path ≡ true → q < length g
@@ -89,11 +89,11 @@ pub nothing : IsDistinct nat_eq []
 unfolding IsDistinct
 nothing = tt
 
--- every node of a forest is below the root, or is it
+-- every node of a forest is the root or below it
 pub reached : (g : Graph) (root c : ℕ) → IsForest g root → c < length g → (k : ℕ) × Leads g k root c
 reached g root c forest within = climb g root forest (length g) c [] within (record { distinct = nothing; inside = λ q h. absurd (true≢false (sym h)); below = λ q h. absurd (true≢false (sym h)) }) (omega arith)
 
--- the root is nobody's child
+-- the root isn't a child of any node
 pub unlisted : (g : Graph) (root p : ℕ) → IsForest g root → p < length g → IsChild g p root → ⊥
 unlisted g root p forest within step = (let r : (k : ℕ) × Leads g k root p = reached g root p forest within in forest.acyclic root (r.0, Leads-push g r.0 root p root r.1 step))
 
@@ -113,15 +113,15 @@ one_depth g root forest (suc j) (suc k) c a b =
           ap (λ n. suc n) (one_depth g root forest j k x.0 x.1 (subst (λ (z : ℕ). Leads g k root z) same y.1)))
     ]
 
--- a descendant is a node
+-- a descendant is a node of the graph
 pub below-within : (g : Graph) (a b : ℕ) → AreInRange g → IsBelow g a b → b < length g
 below-within g a b in_range way = (let r : (m : ℕ) × Leads g way.0 a m × IsChild g m b = Leads-last g way.0 a b way.1 in in_range r.0 b r.2)
 
--- the root at the upper end of a way of d steps
+-- the root at the upper end of a path of d steps
 pub depth-found : (g : Graph) (d at root node : ℕ) → Leads g d at node → at ≡ root → Leads g d root node
 depth-found g d at root node way same = subst (λ (x : ℕ). Leads g d x node) same way
 
--- 65 steps below a node are too many
+-- a node that is 65 steps below another is too deep
 pub depth-none : (g : Graph) (root at node : ℕ) → IsForest g root → at < length g → Leads g 65 at node → IsDeep g root node
 depth-none g root at node forest within way = (let r : (k : ℕ) × Leads g k root at = reached g root at forest within in (r.0 + 65, omega arith, Leads-append g r.0 65 root at node r.1 way))
 

@@ -14,7 +14,7 @@ use Rattle.tree_graph.proofs.GrowthLemmas.{within-child, length-rows, tree-is_pa
 use Rattle.tree_graph.proofs.NodesOnce.{each_once, nodes-all, room-root}
 use Rattle.tree_graph.proofs.PreorderLaws.{nodes_of-rows, children_at, IsChildRow, child-row, leaf-address}
 
--- no node too deep is no way too long
+-- if no node is too deep, no path is too long
 pub shallow-root : (g : Graph) (root : ℕ) → IsForest g root → ((a : ℕ) → a < length g → ¬ IsDeep g root a) → IsWithin g root most_levels 0
 shallow-root g root forest none_deep k b way = elim (cases_lt most_levels k) [
   | inl deep ↦ absurd (none_deep b (inside k way) (k, deep, way))
@@ -76,7 +76,7 @@ sound g root new shape forest shallow small has = record {
   branched = subst (λ (u : Topology). IsBranched u) (sym has.topology_is) (branched g has.tree has.is_tree);
 }
 
--- the depth of a tree is that of its topology
+-- the depth of a tree equals that of its topology
 mutual
   pub depth-topology : (t : Tree ℕ) → depth (topology_of t) ≡ depth t
   depth-topology (leaf i) = refl
@@ -86,7 +86,7 @@ mutual
   depth-topologies none = refl
   depth-topologies (more t ts) = ap (λ k. max (k + 1) (depth_below (topologies_of ts))) (depth-topology t) ∙ ap (λ k. max (depth t + 1) k) (depth-topologies ts)
 
--- ---- in the terms of the code
+-- ---- in terms of the code
 pub children-are : (all : List Row) (n : ℕ) (r : Row) (cs : List ℕ) → n < length all → r ≡ get_or all n r → cs ≡ r.children → cs ≡ children_at all n
 children-are all n r cs short is own = own ∙ ap (λ (x : Row). x.children) (is ∙ get_or_default all n r (row 0 [] []) short)
 
@@ -117,7 +117,7 @@ levels-few items shape s = omega (arith, ap depth s.numbered.topology_is, depth-
 pub rows-few : (items : List Row) (shape : Topology) → IsSound items shape → length items < 2 ^ 32
 rows-few items shape s = omega (arith, ap length s.numbered.rows_are, length-rows 0 [] s.tree, s.few)
 
--- nothing stood before the root
+-- there are no rows before the root
 pub grown-whole : (g : Graph) (root : ℕ) (new : List Row) (shape : Topology) (old : List Row) (a : List ℕ) → old ≡ [] → a ≡ [] → HasGrown g root a old new shape → HasGrown g root [] [] new shape
 grown-whole g root new shape old a none_old none_above has =
     subst (λ (l : List Row). HasGrown g root [] l new shape) none_old (subst (λ (b : List ℕ). HasGrown g root b old new shape) none_above has)

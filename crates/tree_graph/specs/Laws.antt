@@ -1,4 +1,4 @@
--- What follows for a forest, and for the tree below its root.
+-- Laws of a forest, and of the tree below its root.
 use Rattle.std.specs.Prelude.{ℕ, ◌≡◌, ◌<◌, length}
 use Rattle.tree_defs.specs.Tree.{Tree, root_of, nodes}
 use Rattle.tree_graph.specs.Descent.{Graph, Leads, IsForest, times}

@@ -1,4 +1,4 @@
--- Marks of nodes, and the nodes whose children are still to be marked.
+-- Marks of nodes, and the work list: nodes whose children have still to be marked.
 use Rattle.std.specs.Prelude.{ℕ, ◌≡◌, ◌+◌, ◌⊎◌, Bool, true, false, not, List, length, count_by, slice_index_or, Contains}
 use Rattle.tree_graph.specs.Descent.{Graph, IsBelow, IsChild}
 
@@ -8,7 +8,7 @@ is_marked marks j = slice_index_or marks j false
 abbrev pub unmarked : List Bool → ℕ
 unmarked marks = count_by not marks
 
--- the nodes of a list were marked, and those that were not marked before came to the work
+-- the nodes of a list were marked, and those that weren't marked before were added to the work list
 pub record MarksMore (nodes : List ℕ) (marks : List Bool) (work : List ℕ) (marks' : List Bool) (work' : List ℕ) : Type 0 where
   pub len : length marks' ≡ length marks
   pub kept : (j : ℕ) → is_marked marks j ≡ true → is_marked marks' j ≡ true
@@ -19,7 +19,8 @@ pub record MarksMore (nodes : List ℕ) (marks : List Bool) (work : List ℕ) (m
   pub work_only : (j : ℕ) → Contains work' j → Contains work j ⊎ Contains nodes j
   pub left : unmarked marks' + length work' ≡ unmarked marks + length work
 
--- what is marked is below the node, and so is what is to be done or is the node; what was done has its children marked
+-- each marked node is below the node; each node of the work list is too, or is the node itself; the
+-- children of all other such nodes are marked
 pub record MarksBelow (g : Graph) (node : ℕ) (marks : List Bool) (work : List ℕ) : Type 0 where
   pub len : length marks ≡ length g
   pub sound : (j : ℕ) → is_marked marks j ≡ true → IsBelow g node j

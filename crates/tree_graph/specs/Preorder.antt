@@ -5,12 +5,12 @@ use Rattle.tree_defs.specs.Topology.{Topology, topology_of, IsBranched}
 use Rattle.tree_graph.specs.Descent.{Graph, children, two_below_a_root}
 use Rattle.tree_graph.specs.Row.{Row, row}
 
--- the numbers at the roots of some trees
+-- the numbers at the roots of a list of trees
 abbrev pub labels : Trees ℕ → List ℕ
 labels none = []
 labels (more t ts) = root_of t ∷ labels ts
 
--- a leaf is a node without children; below an inner node stand its children, in their order
+-- a leaf is a node without children; an inner node has its children in order
 abbrev mutual
   pub IsTreeOf : Graph → Tree ℕ → Type 0
   IsTreeOf g (leaf i) = children g i ≡ []
@@ -20,7 +20,7 @@ abbrev mutual
   AreTreesOf g none = Unit {0}
   AreTreesOf g (more t ts) = IsTreeOf g t × AreTreesOf g ts
 
--- the numbers of a tree, each node's before those below it
+-- the numbers of a tree, each node's before those of its descendants
 abbrev mutual
   pub preorder : Tree ℕ → List ℕ
   preorder (leaf i) = i ∷ []
@@ -30,12 +30,12 @@ abbrev mutual
   preorder_below none = []
   preorder_below (more t ts) = preorder t ++ preorder_below ts
 
--- where siblings stand in preorder, if the first stands at n
+-- the preorder numbers of siblings, if the first has number n
 abbrev pub starts : ℕ → Trees ℕ → List ℕ
 starts n none = []
 starts n (more t ts) = n ∷ starts (n + nodes t) ts
 
--- the nodes in preorder, if the first stands at n and has address a
+-- the nodes in preorder, if the root has number n and address a
 abbrev mutual
   pub rows : ℕ → Address → Tree ℕ → List Row
   rows n a (leaf i) = row i a [] ∷ []
@@ -46,7 +46,7 @@ abbrev mutual
   rows_below n a d none = []
   rows_below n a d (more t ts) = rows n (a ++ d ∷ []) t ++ rows_below (n + nodes t) a (d + 1) ts
 
--- the nodes of a tree in preorder, and its shape
+-- the nodes of a tree in preorder, with its shape
 pub record Numbered : Type 0 where
   pub rows : List Row
   pub topology : Topology
@@ -54,19 +54,20 @@ pub record Numbered : Type 0 where
 abbrev pub numbered : List Row → Topology → Numbered
 numbered all shape = record { rows = all; topology = shape }
 
--- they come from this tree, whose root has place 0 and the empty address
+-- the rows and shape of this tree, whose root has number 0 and the empty address
 pub record IsNumberedBy (t : Tree ℕ) (all : List Row) (shape : Topology) : Type 0 where
   pub rows_are : all ≡ rows 0 [] t
   pub topology_is : shape ≡ topology_of t
 
--- they are those of the tree of a graph below its root
+-- the rows and shape of the tree below the root of a graph
 pub record IsTreeBelow (g : Graph) (root : ℕ) (all : Numbered) : Type 0 where
   pub tree : Tree ℕ
   pub root_is : root_of tree ≡ root
   pub is_tree : IsTreeOf g tree
   pub numbered : IsNumberedBy tree all.rows all.topology
 
--- they come from a tree that isn't too deep, with fewer than 2^32 nodes, and a child at each inner node
+-- the rows and shape of some tree that isn't too deep, with fewer than 2^32 nodes and at least one
+-- child at each inner node
 pub record IsSound (all : List Row) (shape : Topology) : Type 0 where
   pub tree : Tree ℕ
   pub numbered : IsNumberedBy tree all shape

@@ -1,12 +1,12 @@
-//! How deep nodes are, by parent links.
+//! Depths of nodes, computed from parent links.
 ghost use Rattle.std.specs.Prelude.{◌<◌, ◌^◌, length, All};
 ghost use Rattle.tree_graph.specs.Descent.{IsForest, AreParents, IsDeep, IsDepthOf, IsFirst};
 
-/// The most levels below a root.
+/// The maximum number of levels below a root.
 const MOST_LEVELS: u32 = 64;
 
-/// How many steps lead from the root to a node, unless they are too many.
-/// The graph itself is not looked at: `parents` is made from it.
+/// Returns the number of steps from the root to a node, or `None` if there are more than 64.
+/// The graph itself isn't read: `parents` is computed from it.
 pub fn depth(parents: &[u32], root: u32, node: u32) -> Option<u32>
     requires within { node < length parents.now }
     requires in_range { All (λ p. p < length parents.now) parents.now }
@@ -23,7 +23,7 @@ pub fn depth(parents: &[u32], root: u32, node: u32) -> Option<u32>
     None
 }
 
-/// The first node that is too deep below the root.
+/// Returns the first node that is more than 64 levels below the root.
 pub fn first_deep(parents: &[u32], root: u32) -> Option<u32>
     requires in_range { All (λ p. p < length parents.now) parents.now }
     requires small { length parents.now < 2 ^ 32 }

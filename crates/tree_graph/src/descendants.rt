@@ -5,7 +5,7 @@ ghost use Rattle.tree_graph.specs.Marks.{MarksMore, MarksBelow, is_marked};
 
 use std::alloc::{AllocError, Global};
 
-/// Marks the nodes of a list, and puts those that were not marked to the work.
+/// Marks the nodes of a list, and adds those that weren't marked yet to the work list.
 fn mark_all(nodes: &[u32], marks: &mut [bool], work: &mut Vec<u32>) -> Result<(), AllocError>
     requires { All (λ i. i < length marks.old) nodes.now }
     ensures { OnOk result (MarksMore nodes.now marks.old work.old.items marks.new work.new.items) }
@@ -19,7 +19,8 @@ fn mark_all(nodes: &[u32], marks: &mut [bool], work: &mut Vec<u32>) -> Result<()
     Ok(())
 }
 
-/// Marks the descendants of a node, with the node itself where it lies on a cycle. The error is want of memory.
+/// Marks the descendants of a node, including the node itself if it is on a cycle. The error means
+/// out of memory.
 pub fn below(alloc: Global, graph: &[Vec<u32>], node: u32) -> Result<Vec<bool>, AllocError>
     requires within { node < length graph.now }
     requires in_range { AreInRange (lists graph.now) }
@@ -40,7 +41,7 @@ pub fn below(alloc: Global, graph: &[Vec<u32>], node: u32) -> Result<Vec<bool>, 
     Ok(marks)
 }
 
-/// The first node that is its own descendant. The error is want of memory.
+/// Returns the first node that is its own descendant. The error means out of memory.
 pub fn first_on_cycle(alloc: Global, graph: &[Vec<u32>]) -> Result<Option<u32>, AllocError>
     requires in_range { AreInRange (lists graph.now) }
     requires small { length graph.now < 2 ^ 32 }

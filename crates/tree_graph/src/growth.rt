@@ -1,4 +1,4 @@
-//! A tree that grows node by node, in preorder.
+//! Builds a tree node by node, in preorder.
 ghost use Rattle.std.specs.Prelude.{◌≡◌, ◌<◌, ◌^◌, map, length, IfOk, OnOk};
 ghost use Rattle.tree_defs.specs.Tree.{trees_of, most_levels};
 ghost use Rattle.tree_core.specs.Shape.{topology};
@@ -10,7 +10,8 @@ use crate::place::Place;
 use std::alloc::{AllocError, Global};
 use tree_core::Topo;
 
-/// Puts a node and all below it, in preorder, behind the places that stand, and gives the shape of what came.
+/// Appends a node and all its descendants to `places`, in preorder, and returns their shape. The
+/// error means out of memory.
 pub fn grow(
     alloc: Global,
     graph: &[Vec<u32>],

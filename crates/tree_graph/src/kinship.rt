@@ -1,11 +1,11 @@
-//! Parents from the lists of children.
+//! Parents, computed from the lists of children.
 ghost use Rattle.std.specs.Prelude.{◌≡◌, ℕ, ◌<◌, ◌^◌, length, All, IfOk};
 ghost use Rattle.tree_graph.specs.Descent.{lists, AreInRange, AreParents, ArePointed};
 
 use std::alloc::{AllocError, Global};
 
-/// For each node that is listed as a child, a node that lists it. What stands at the other nodes is not said. The error is want
-/// of memory.
+/// Returns, for each node that is listed as a child, a node that lists it. The entries of all other
+/// nodes are unspecified. The error means out of memory.
 pub fn parents(alloc: Global, graph: &[Vec<u32>]) -> Result<Vec<u32>, AllocError>
     requires in_range { AreInRange (lists graph.now) }
     requires small { length graph.now < 2 ^ 32 }
@@ -19,7 +19,7 @@ pub fn parents(alloc: Global, graph: &[Vec<u32>]) -> Result<Vec<u32>, AllocError
     Ok(parents)
 }
 
-/// Makes a node the parent of the nodes of a list.
+/// Sets the parent of all nodes in a list.
 fn point_to(parent: u32, nodes: &[u32], parents: &mut [u32])
     requires { All (λ i. i < length parents.old) nodes.now }
     ensures { ArePointed parent nodes.now parents.old parents.new }

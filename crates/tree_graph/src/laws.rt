@@ -1,17 +1,17 @@
 //! Laws of forests and their trees.
 ghost use Rattle.tree_graph.specs.Laws.{NodesAreReached, NodesHaveOneDepth, TreesHaveEachNodeOnce, TreesHaveAllNodes, GraphsHaveOneTree};
 
-/// Some number of steps leads from the root to each node of a forest.
+/// Each node of a forest is reached from the root in some number of steps.
 pub fn nodes_are_reached()
     ensures law { NodesAreReached }
 {}
 
-/// No two ways from the root to a node differ in length.
+/// All paths from the root to a node have the same length.
 pub fn nodes_have_one_depth()
     ensures law { NodesHaveOneDepth }
 {}
 
-/// In the tree below the root of a forest each node stands once.
+/// The tree below the root of a forest contains each node once.
 pub fn trees_have_each_node_once()
     ensures law { TreesHaveEachNodeOnce }
 {}

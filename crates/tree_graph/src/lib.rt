@@ -1,5 +1,5 @@
-//! Nodes by number, each with the list of its children: descendants, depths, and the tree below a root. Begin with
-//! specs/Descent.antt.
+//! Numbered nodes, each with the list of its children: descendants, depths, and the tree below a
+//! root. Begin with specs/Descent.antt.
 #![tactic(auto)]
 
 mod depths;

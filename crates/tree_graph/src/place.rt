@@ -1,11 +1,12 @@
-//! A node of a tree as it is kept.
+//! A stored node of a tree.
 ghost use Rattle.std.specs.Prelude.{◌≡◌, []};
 ghost use Rattle.tree_graph.specs.Row.{Row, row};
 
 use std::alloc::Global;
 use std::marker::Model;
 
-/// A node of a tree: its number in the graph, its address, and where its children stand.
+/// A node of a tree: its number in the graph, its address, and the preorder numbers of its
+/// children.
 #[derive(Drop)]
 pub struct Place {
     node: u32,

@@ -1,4 +1,4 @@
-//! The tree of a graph below its root, its nodes numbered in preorder.
+//! The tree below the root of a graph, with its nodes numbered in preorder.
 ghost use Rattle.std.specs.Prelude.{◌≡◌, ℕ, ◌<◌, ◌≤◌, ◌++◌, ◌∷◌, [], ◌^◌, ◌↔◌, length, slice_index, IfOk, IsTrue};
 ghost use Rattle.tree_defs.specs.Tree.{depth as levels, LeadsToLeaf, most_levels};
 ghost use Rattle.tree_defs.specs.Topology.{IsBranched};
@@ -13,7 +13,7 @@ use std::alloc::{AllocError, Global};
 use std::marker::Model;
 use tree_core::{Topo, depth};
 
-/// The nodes of a tree, numbered in preorder from the root, which is 0.
+/// The nodes of a tree, numbered in preorder. The root has number 0.
 #[derive(Drop)]
 pub struct Preorder {
     places: Vec<Place>,
@@ -35,7 +35,8 @@ impl Model for Preorder {
 }
 
 impl Preorder {
-    /// The tree of a graph below its root, with the children in the order of the lists. The error is want of memory.
+    /// Builds the tree of a graph below its root. Children are in the order of the lists. The error
+    /// means out of memory.
     pub fn new(alloc: Global, graph: &[Vec<u32>], root: u32) -> Result<Preorder, AllocError>
         requires forest { IsForest (lists graph.now) root }
         requires shallow { (a : ℕ) → a < length graph.now → ¬ IsDeep (lists graph.now) root a }
@@ -51,7 +52,7 @@ impl Preorder {
         Ok(Preorder { places, topo })
     }
 
-    /// The shape of the tree.
+    /// Returns the shape of the tree.
     pub fn topo(&self) -> &Topo
         ensures topology { topology result.now ≡ self.now.topology }
         ensures branched { IsBranched self.now.topology }
@@ -60,7 +61,7 @@ impl Preorder {
         &self.topo
     }
 
-    /// How many levels lie below the root.
+    /// Returns the number of levels below the root, at most 64.
     pub fn depth(&self) -> u32
         ensures levels { result ≡ levels self.now.topology }
         ensures limit { result ≤ most_levels }
@@ -68,14 +69,14 @@ impl Preorder {
         depth(&self.topo)
     }
 
-    /// The number of nodes.
+    /// Returns the number of nodes.
     pub fn count(&self) -> u32
         ensures count { result ≡ length self.now.rows }
     {
         self.places.len() as u32
     }
 
-    /// A node's number in the graph.
+    /// Returns a node's number in the graph, given its preorder number.
     pub fn node(&self, number: u32) -> u32
         requires there { number < length self.now.rows }
         ensures node { result ≡ (row_at self.now.rows number).node }
@@ -83,7 +84,7 @@ impl Preorder {
         self.places[number as usize].node()
     }
 
-    /// The digits on the way from the root to a node.
+    /// Returns the digits on the path from the root to a node.
     pub fn address(&self, number: u32) -> &[u32]
         requires there { number < length self.now.rows }
         ensures address { result.now ≡ (row_at self.now.rows number).address }
@@ -91,7 +92,7 @@ impl Preorder {
         self.places[number as usize].address()
     }
 
-    /// Whether a node has no children.
+    /// Returns whether a node has no children.
     pub fn is_leaf(&self, number: u32) -> bool
         requires there { number < length self.now.rows }
         ensures childless { IsTrue result ↔ ((row_at self.now.rows number).children ≡ []) }
@@ -101,7 +102,7 @@ impl Preorder {
         self.places[number as usize].children().is_empty()
     }
 
-    /// The number of the child at a digit.
+    /// Returns the preorder number of the child at a digit.
     pub fn child(&self, number: u32, digit: u32) -> u32
         requires there { number < length self.now.rows }
         requires child { digit < length (row_at self.now.rows number).children }

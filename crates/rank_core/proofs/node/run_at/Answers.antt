@@ -13,7 +13,7 @@ use Rattle.rank_core.proofs.NoLines.{rank_alone}
 use Rattle.rank_core.proofs.RankKept.{keep_alone}
 use Rattle.rank_core.proofs.node.run_at.Goals as goal
 
--- a step without lines
+-- a step without assignments
 pub returns-in-Empty-clause-rank : goal.returns-in-Empty-clause-rank
 returns-in-Empty-clause-rank c =
     let none : RunAs (program_of c.args.transaction.now) (map assignment_of c.args.assigns.now) [] = subst (IsForm (program_of c.args.transaction.now) (map assignment_of c.args.assigns.now)) c.in-Empty.is c.requires.form
@@ -24,7 +24,7 @@ returns-in-Empty-clause-after c =
     let none : RunAs (program_of c.args.transaction.now) (map assignment_of c.args.assigns.now) [] = subst (IsForm (program_of c.args.transaction.now) (map assignment_of c.args.assigns.now)) c.in-Empty.is c.requires.form
     in rank_alone c.args.transaction.now c.args.assigns.now c.args.who.now c.args.env.now c.args.rank c.args.rank c.args.state.now (none c.args.env.now (memory_for c.args.who.now c.args.rank (state_of c.args.state.now)))
 
--- one that keeps the rank
+-- a step that stores the rank in a variable of the node
 pub keep_rank-requires-clause-there : goal.keep_rank-requires-clause-there
 keep_rank-requires-clause-there c =
     let kept : AreKept (program_of c.args.transaction.now) (map assignment_of c.args.assigns.now) c.in-Kept.kept = subst (IsForm (program_of c.args.transaction.now) (map assignment_of c.args.assigns.now)) c.in-Kept.is c.requires.form
@@ -49,7 +49,7 @@ returns-in-Kept-clause-after c =
     = kept.same c.args.env.now m ∙ ap (λ (s : Span). write (Keep k) (clamped s (num (pos c.args.rank))) m) (sym kept.span)
     in keep_alone c.args.transaction.now c.args.assigns.now c.args.who.now c.args.env.now c.args.rank k _ c.args.state.now c.keep_rank.new.state is c.keep_rank.ensures.keeps c.keep_rank.ensures.firsts c.keep_rank.ensures.eaches
 
--- one that gives a rank that it is told
+-- a step that sets the rank to a variable of the environment
 pub returns-in-Some-clause-after : goal.returns-in-Some-clause-after
 returns-in-Some-clause-after c =
     rank_alone c.args.transaction.now c.args.assigns.now c.args.who.now c.args.env.now c.args.rank c.in-Some.told c.args.state.now
