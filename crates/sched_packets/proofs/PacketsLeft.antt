@@ -82,7 +82,7 @@ module _ (policy : Resolved) (n : ℕ) where
   one_came next old new (Ok false) given less = λ is. absurd (true≢false (sym is))
   one_came next old new (Err halt) given less = tt
 
-  -- the next packet determines the packets left and shows the captured bytes
+  -- the next packet is the first of those left, and these are its captured bytes
   pub record Gives (next : ℕ) (old new : Option Contents) (p : Packet) (captured : List ℕ) : Type 0 where
     pub came : Came (option_map (left_in policy n) old) (option_map (left_in policy next) new) (p ∷ [])
     pub bytes : IsKnownAs (AreCaptured old n) p.number captured

@@ -121,7 +121,7 @@ comes_open : (c : Contents) (left : Option Contents) (p : Packet) (link read : �
 comes_open c None p link read captured one came = absurd came
 comes_open c (Some left) p link read captured one came = rw (one) (first_opens c left (packet_told link p captured) came.0 came.1)
 
--- the contents of the file are the first packet and those of its link type
+-- up to another link type, the file holds the first packet and those of its link type
 pub opens_first : (file : FileContents) (old left : Option Contents) (p : Packet) (link read : ℕ) (captured : List ℕ) → read ≡ 1 → Comes old left (packet_told link p captured)
     → Opens file old → Opens (one_link_in file) (behind_ahead link read captured (Some p) left)
 opens_first (no_capture fault) old left p link read captured one came opened = absurd opened

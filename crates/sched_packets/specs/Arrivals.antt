@@ -27,7 +27,7 @@ captured_by arrivals = arrivals.bytes.items
 abbrev pub contents_of : {R S : Type 0} → (R → Option (List ℕ) → Option Contents) → Arrivals R S → Option (List ℕ) → Option Contents
 contents_of left arrivals told = if arrivals.over then Some nothing_left else left arrivals.reader told
 
--- the reader can go on, at most as many packets were read as the limit, and the file is still begun
+-- the reader can go on, the number of packets read is within the limit, and the file is still begun
 pub record IsReady {R S : Type 0} (ready : R → Type 0) (given : R → ℕ) (arrivals : Arrivals R S) (begun : Bool) : Type 0 where
   pub started : ready arrivals.reader
   pub few : given arrivals.reader ≤ most_packets

@@ -49,7 +49,7 @@ captures_of arrivals told bytes = AreCaptured (contents_of arrivals told) (given
 pub there : {S : Type 0} (arrivals : CapturePackets S) (told : Option (List ℕ)) → AreThere (left_of arrivals told) (captures_of arrivals told)
 there arrivals told = bytes.there (resolved_of arrivals) (given_by arrivals) (contents_of arrivals told)
 
--- the reader can go on, at most as many packets were read as the limit, and the file is still begun
+-- the reader can go on, the number of packets read is within the limit, and the file is still begun
 abbrev pub IsReady : {S : Type 0} → CapturePackets S → Bool → Type 0
 IsReady (Classic arrivals) begun = one.IsReady (λ r. IsSome (head_of r) × IsTrue (is_live r)) records_given arrivals begun
 IsReady (Blocks arrivals) begun = one.IsReady (λ r. IsTrue (blocks.is_live r)) blocks.packets_given arrivals begun

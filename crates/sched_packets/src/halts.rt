@@ -16,8 +16,8 @@ pub(crate) fn halt_of(error: ReadError) -> Halt
     }
 }
 
-/// Converts a shelf's error, at the begin of the file or in its first bytes, to the reason why no
-/// packet is read.
+/// Converts a shelf's error to the reason why no packet is read. The file can't be begun, or its
+/// front can't be read.
 pub(crate) fn halt_unread(error: ShelfError) -> Halt
     ensures { result ≡ halt_unread error }
 {

@@ -32,7 +32,7 @@ pub record Gives {W : Type 0} (R Q : Recordings W) : Type 0 where
   pub all : (policy : Policy) (event : ℕ) (os : List Outcome) (w v : W) (a b : Option (List ℕ)) → R.records w a policy event os v b → Q.records w a policy event os v b
   pub part : (policy : Policy) (event : ℕ) (os : List Outcome) (w : W) (a b : Option (List ℕ)) → R.cuts w a policy event os b → Q.cuts w a policy event os b
 
--- with less knowledge of the bytes
+-- a record for all captured bytes with G is one for all with H, if H implies G
 pub heard_gives : {W : Type 0} (R : recorder.Ghosts W) (G H : Captured → Type 0) → ((captured : Captured) → H captured → G captured) → Gives (heard R G) (heard R H)
 heard_gives R G H known = record {
   all = λ policy event os w v a b all captured h. all captured (known captured h);

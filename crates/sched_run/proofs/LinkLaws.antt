@@ -234,7 +234,7 @@ sends_soon len rate is few =
     let least = (send_time-least len rate is).least (len * 1000000000) all in
     omega (arith, least, few)
 
--- the departures don't depend on the number of packets read
+-- the same departures, with an equal number of packets read
 pub same_sends : {C U W : Type 0} (S : Ghosts C U) (R : Recordings W) (policy : Policy) (sent : SourceState → Sent) (free : ℕ) (old : Stage C U W) (c : C) (u : U) (w : W) (written : Option (List ℕ)) (given given' : ℕ) (tally : Tally) (sight : Sight) → given ≡ given'
     → Sends S R policy sent free old (stage c u w written given tally sight) → Sends S R policy sent free old (stage c u w written given' tally sight)
 same_sends S R policy sent free old c u w written given given' tally sight e sends = subst (λ (n : ℕ). Sends S R policy sent free old (stage c u w written n tally sight)) e sends

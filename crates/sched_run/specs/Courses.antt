@@ -68,9 +68,9 @@ pub record CoursesAmid {C U W : Type 0} (S : Ghosts C U) (R : Recordings W) (ove
   pub stop : StopsLast S R over policy events old c u written
   pub first : IfSome before (λ l. FromEach S policy old (λ s. AreFirst events (agenda l s (event_of old.tally)).events))
 
--- P holds of each state that the scheduler and the queues represent, with the course from there
--- over the packets left, if those are known to the contract. No packet yet to arrive is queued in
--- such a state.
+-- P holds of each state that the scheduler and the queues represent and in which no packet yet to
+-- arrive is queued, with the course from there over the packets left. If those are not known to the
+-- contract, nothing is claimed.
 abbrev pub OnCourse : {C U : Type 0} → (C → U → SourceState → Type 0) → Policy → C → U → ℕ → Option Left → Agenda → (SourceState → Course → Type 0) → Type 0
 OnCourse stands policy c u given left agenda P =
     IfSome left (λ l. ForEachState stands policy c u (λ s. IsHeldBelow (given + 1) s.held → P s (agenda l s 1)))

@@ -82,7 +82,7 @@ pub record MakesLoad {C U W : Type 0} (S : Ghosts C U) (R : Recordings W) (polic
 
 -- ---- what a load leaves
 -- The events of a load from the start can be made. After them no packet is queued, and as many
--- packets were popped as were pushed. Only a drawn departure found no packet.
+-- packets were popped as were pushed. Every departure that found no packet is a drawn one.
 pub record LeavesNothing (policy : Policy) (seed count : ℕ) : Type 0 where
   pub made : CanMake policy (load_run policy seed count (start policy)) (start policy)
   pub nothing : HoldsNothing (after policy (load_run policy seed count (start policy)) (start policy))

@@ -13,8 +13,8 @@ totals_line t (Whole unsent) = end_line t.pushed t.popped t.empty t.held unsent 
 totals_line t (BadCapture c p) = fault_line (codes "capture") c p
 totals_line t (PastLast event) = fault_line (codes "script") past_last event
 
--- At most as many packets are queued or dropped as were queued first or arrived, and the departures
--- are enough to have popped all others.
+-- At most as many packets are queued now or dropped as were queued at first or arrived. There were
+-- enough departures to pop the others.
 pub record HasTotals (tally : Tally) (first held : ℕ) : Type 0 where
   pub few : first + tally.came < 2 ^ 63
   pub dropped : tally.dropped ≤ tally.came

@@ -50,8 +50,8 @@ pub record ArrivalsStop {C U W : Type 0} (S : Ghosts C U) (R : Recordings W) (po
   pub stop : Stops S R policy (map Arrive packets) old c u written
 
 -- ---- steps
--- the events of a step over the packets left, from a state, how they end the run, and what is left
--- after them
+-- the events of a step over the packets left, from a state; how they end the run, or the rest that
+-- they leave
 pub record IsTurn (step : Step) (ending : Option Ending) (event : ℕ) (events : List Event) (before : Left) (after : Option Left) (s : SourceState) : Type 0 where
   pub are : events ≡ step_events step before.packets s
   pub ends : ending ≡ stop_at step before.packets before.fault event

@@ -26,7 +26,7 @@ impl<'a, C: Scheduler + Drop, N: NodeNames, W: Recorder> Run<'a, C, N, W> {
     ghost use Rattle.sched_run.specs.Turns.{Arrives, ArrivalsStop, Turns, StopsAmid, GoesOn};
 
     /// Makes the arrival of a packet with these captured bytes, records and counts it, and shows it
-    /// to the taps that watch.
+    /// to the taps that watch if it was dropped.
     #[inline(always)]
     pub(crate) fn make_arrival<K: Sink, T: Tap>(
         &mut self,

@@ -1,5 +1,5 @@
-//! Runs a script or a link over packets that are read one by one, with any scheduler, writes the
-//! report and feeds the taps that watch. Begin with specs/Courses.antt.
+//! Runs a script or a link over packets that are read one by one, with any scheduler. Writes the
+//! report, and shows departures and drops to the taps that watch. Begin with specs/Courses.antt.
 #![tactic(auto)]
 
 mod arrivals;

@@ -13,7 +13,7 @@ use sched_core::Scheduler;
 use sched_defs::{BLANK, Ending, Halt, Packets};
 use tap_core::{Tap, Watching};
 
-/// Returns whether a departure is due before the timestamp. Without one it always is.
+/// Returns whether a departure is due before the timestamp. Without a timestamp it always is.
 fn is_due(link: &Link, until: Option<u64>) -> bool
     ensures { result ≡ is_due until link.now }
 {
@@ -63,8 +63,8 @@ impl<'a, C: Scheduler + Drop, N: NodeNames, W: Recorder> Run<'a, C, N, W> {
     ghost use Rattle.sched_run.specs.Steps.{IsNoPastLast};
     ghost use Rattle.sched_run.specs.Courses.{link_agenda, CoursesUnless, CoursesAmid};
 
-    /// Sends queued packets as long as the link is free before the timestamp, or all of them
-    /// without one. Returns whether nothing more can be recorded, which ends the run.
+    /// Sends queued packets as long as the link is free before the timestamp, or all of them if
+    /// there is no timestamp. Returns whether nothing more can be recorded, which ends the run.
     fn send_until<K: Sink, T: Tap>(
         &mut self,
         under: &mut C::Under,

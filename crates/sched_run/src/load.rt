@@ -112,8 +112,8 @@ impl<'a, C: Scheduler + Drop, N: NodeNames, W: Recorder> Run<'a, C, N, W> {
     }
 
     /// Makes the events of a generated load: `count` events drawn from a seed, at most 1,000,000,
-    /// and then departures until no packet is queued. Records each, and shows it to the taps that
-    /// watch. Returns the totals.
+    /// and then departures until no packet is queued. Records each, and shows departures and drops
+    /// to the taps that watch. Returns the totals.
     pub fn play_load<K: Sink, T: Tap>(
         &mut self,
         under: &mut C::Under,

@@ -20,8 +20,8 @@ use report_core::WriteFault;
 /// capture records, or in a sum. A recorder of capture records keeps the captured bytes of each
 /// packet until it departs. No call but `arrived` allocates memory.
 pub trait Recorder: Drop {
-    /// Given the captured bytes of packets by packet number, consecutive outcomes are recorded. The
-    /// first of them has this event number.
+    /// With these captured bytes of packets, by packet number, consecutive outcomes are recorded.
+    /// The first outcome has this event number.
     ghost records: { Captured → Self → Option (List ℕ) → Policy → ℕ → List Outcome → Self → Option (List ℕ) → Type 0 };
 
     /// Of the earlier records and the outcomes that were to follow, only a prefix is written.

@@ -8,7 +8,7 @@ use sched_core::Arrival;
 use std::alloc::AllocError;
 use tap_core::{Dropped, Tap, Watching};
 
-/// Shows a packet to the taps if its arrival was a drop. Allocates no memory.
+/// Shows a packet to the taps if it was dropped on arrival. Allocates no memory.
 #[inline(always)]
 pub(crate) fn show_arrival<T: Tap>(watch: &mut Watching<T>, packet: &Packet, arrival: Arrival)
     ensures shown { Shows (shown_arrival packet.now arrival)
