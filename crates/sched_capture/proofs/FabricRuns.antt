@@ -1,4 +1,4 @@
--- What a run through a fabric leaves there.
+-- The state of a fabric after a run through it.
 use Rattle.std.proofs.Common.{◌≡◌, ◌+◌, ℕ, Option, None, Some, Result, Ok, Err, List, ap, ◌∙◌, subst, arith}
 use Rattle.std.specs.Prelude.{IfSome, OnOk, OnErr}
 use Rattle.embed_defs.specs.Images.{image_map}
@@ -29,7 +29,7 @@ use Rattle.sched_capture.specs.Placements.{paced_through}
 module _ {F : Type 0} (fabrics : Ghosts F) (policy : Policy) (laid : Laid) (c : Embedded F) (old mid : F)
     (origin : origin_of c ≡ record { images = laid.images; arities = laid.arities; pushes = fabrics.pushed old; pops = fabrics.popped old })
     (no_pushes : c.own.pushes ≡ 0) (no_departures : c.own.departures ≡ 0) (spills : fabrics.spilled mid ≡ fabrics.spilled old) where
-  -- what a scheduler that saw no event yet made of the fabric
+  -- the fabric after these events, by a scheduler that had made none before
   pub holds_after : (events : List Event) (c' : Embedded F) (new : F) → EmbeddedStands fabrics c' new (after policy events (start policy)) → c'.own.pushes ≡ c.own.pushes + pushed_in (outcomes policy events (start policy)) →
       c'.own.departures ≡ c.own.departures + asked_in (outcomes policy events (start policy)) → Some (origin_of c') ≡ Some (origin_of c) → fabrics.spilled new ≡ raised (fabrics.spilled mid) (spills_in (Some (origin_of c).images) policy events (start policy)) →
       HoldsAfter fabrics (record { policy = policy; laid = laid; events = events }) old new
@@ -49,7 +49,7 @@ module _ {F : Type 0} (fabrics : Ghosts F) (policy : Policy) (laid : Laid) (c : 
 
 -- ---- a whole run, and a part of one
 module _ {F : Type 0} (fabrics : Ghosts F) (policy : Resolved) (laid : Laid) (pace : Pace) where
-  -- what is said of the run over what was left of the capture behind its header is said of the run of the file
+  -- a property of the run over the packets left after the header is one of the run of the file
   of_contents : (file : FileContents) (left : Option Left) (P : Option FabricRun → Type 0) → Begins policy file left → IfSome left (λ l. P (Some (paced_through policy.policy laid pace l)))
       → P (run_of policy.policy laid (answer_over policy (pace_of pace) file).events)
   of_contents (no_capture fault) left P begins each = absurd begins
@@ -71,7 +71,7 @@ module _ {F : Type 0} (fabrics : Ghosts F) (policy : Resolved) (laid : Laid) (pa
   left_amid (Err stop) None left old new begins each = tt
   left_amid (Err stop) (Some file) left old new begins each = of_file file left (λ run. LeavesPart fabrics run old new) begins each
 
--- what is left before a run begins is left of each
+-- a property of all packets left holds for a run that stopped before it began
 pub left_before : {A : Type 0} (r : Result A Stop) (left : Option Left) (P : Left → Type 0) → ((l : Left) → P l) → OnErr r (IfSome left P)
 left_before r left P each = on_err_given r (IfSome left P) (each_left left)
   where

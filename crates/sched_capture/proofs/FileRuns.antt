@@ -1,4 +1,4 @@
--- A run over what is left of a capture is the run over its file.
+-- A run over the packets left of a capture is the run over its file.
 use Rattle.std.proofs.Common.{◌≡◌, ◌≤◌, refl, ℕ, Option, None, Some, Result, Ok, Err, List}
 use Rattle.std.specs.Prelude.{IfSome, IfOk, IfErr, OnOk, OnErr, IsErrOf}
 use Rattle.std.proofs.lemmas.Result.{IfOk-weaker, on_ok_weaker, on_err_weaker}
@@ -22,7 +22,7 @@ use Rattle.tap_core.specs.Watching.{Sight}
 use Rattle.sched_capture.specs.Answers.{RunAnswer, IsRefusal, answer_of, answer_over, paced_answer, shown_by, HaveWatched}
 
 module _ (policy : Resolved) (pace : Pace) where
-  -- what is said of the answer over what is left is said of the answer for the file
+  -- a property of the answer over the packets left is one of the answer for the file
   over_contents : (P : RunAnswer → Type 0) (file : FileContents) (left : Option Left) → Begins policy file left
       → IfSome left (λ l. P (answer_of policy.policy pace l.packets l.fault)) → P (answer_over policy pace file)
   over_contents P (no_capture fault) left begins each = absurd begins
@@ -52,7 +52,7 @@ module _ (policy : Resolved) (pace : Pace) where
       → OnOk r (IfSome told (λ file. HaveWatched (shown_by policy.policy (paced_answer policy pace file)) before after))
   watched_of_file r told left before after begins each = on_ok_weaker r (over_file (λ a. HaveWatched (shown_by policy.policy a) before after) told left begins) each
 
-  -- where no run begins taps are as they were
+  -- if no run begins, the taps are unchanged
   pub unwatched : (answer : Result Ending Stop) (told : Option (List ℕ)) (before written : Option (List ℕ)) (sight : Sight)
       → IfOk answer (λ e. IfSome told (λ file. IsRefusal (in_file file) e before written))
       → OnOk answer (IfSome told (λ file. HaveWatched (shown_by policy.policy (paced_answer policy pace file)) sight sight))
@@ -60,7 +60,7 @@ module _ (policy : Resolved) (pace : Pace) where
   unwatched (Ok e) (Some file) before written sight refused = rw (refused.is) refl
   unwatched (Err stop) told before written sight refused = tt
 
--- ---- what stopped
+-- ---- the cause of a stop
 module _ {S K : Type 0} (source_faults : S → ℕ) (s s' s'' : S) (sink_faults : K → ℕ) (k k' k'' : K) where
   pub sink_rose : (r : Result Ending Stop) → sink_faults k ≤ sink_faults k' → IfErr r (λ stop. HasCause stop source_faults s' s'' sink_faults k' k'') → IsErrOf r Sink → Rose (sink_faults k) (sink_faults k'')
   sink_rose (Ok e) later cause is = cc
@@ -74,8 +74,8 @@ module _ {S K : Type 0} (source_faults : S → ℕ) (s s' s'' : S) (sink_faults 
   source_rose (Err Sink) later cause is = cc
   source_rose (Err Memory) later cause is = cc
 
--- ---- how a run can end
--- what asks for no packet past the last is an ending at any pace
+-- ---- the possible endings of a run
+-- an ending that isn't past the last packet is possible at any pace
 pub can_end : (p : code.Pace) (e : Ending) → IsNoPastLast e → CanEndSo p e
 can_end (code_pace.Script steps) e none = tt
 can_end (code_pace.Link rate) e none = none

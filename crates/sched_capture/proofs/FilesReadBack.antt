@@ -1,4 +1,4 @@
--- What is forwarded of a file is read back.
+-- The departures forwarded of a file are read back.
 use Rattle.std.proofs.Common.{◌≡◌, ◌<◌, ◌≤◌, ◌+◌, ◌==◌, ◌^◌, ℕ, Bool, true, false, if◌then◌else◌, Option, None, Some, List, [], ◌∷◌, map, length, refl, arith}
 use Rattle.std.specs.Prelude.{unwrap_or}
 use Rattle.std.specs.List.{AllByRecursion, list_all}
@@ -23,7 +23,7 @@ use Rattle.sched_capture.specs.Laws.{AreReadBack, ForwardsAreReadBack}
 use Rattle.sched_capture.proofs.RunnablePolicies.{IsRunnable, runnable}
 use Rattle.sched_capture.proofs.PacketRanges.{IsInRange, AreInRange, IsFileInRange, file_in_range}
 
--- ---- the packets that a policy makes of those of a capture
+-- ---- the packets that a policy makes of captured ones
 numbered : (policy : Resolved) (n : ℕ) (ps : List CapturedPacket) → AreNumberedFrom n (packets_from policy n ps)
 numbered policy n [] = tt
 numbered policy n (p ∷ ps) = (refl, numbered policy (n + 1) ps)
@@ -63,7 +63,7 @@ captured-short first (p ∷ ps) range n =
     captured-one (n == first) p.captured (captured_from (first + 1) ps n) range.0.short (captured-short (first + 1) ps range.1 n)
 
 -- ---- the packets of one link type
--- these are in range, and no more than those
+-- these contents have packets in range, and at most as many as the list
 abbrev AreOf : List CapturedPacket → Contents → Type 0
 AreOf ps c = AllByRecursion IsInRange c.packets × (length c.packets ≤ length ps)
 
@@ -87,7 +87,7 @@ first_link-low : (ps : List CapturedPacket) → AllByRecursion IsInRange ps → 
 first_link-low [] range = omega arith
 first_link-low (p ∷ ps) range = range.0.link
 
--- ---- what is read back
+-- ---- departures read back
 module _ (policy : Resolved) (rate : ℕ) (can : IsRunnable policy) where
   contents_read_back : (link : ℕ) (c : Contents) → link < 2 ^ 16 → AreInRange c.packets → AreReadBack policy rate link (holds c) (forward_over policy rate link (holds c)).text
   contents_read_back link c low range =

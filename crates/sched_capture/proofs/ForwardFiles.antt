@@ -1,4 +1,4 @@
--- What a run over the packets of one link type answers, of the file that they come from.
+-- The answer of a run over packets of one link type, for the file of these packets.
 use Rattle.std.proofs.Common.{◌≡◌, ◌≤◌, ℕ, Option, None, Some, Result, Ok, Err, List, sym, ap, ◌∙◌, subst}
 use Rattle.std.specs.Prelude.{IfSome, IfErr, OnOk, OnErr}
 use Rattle.std.proofs.lemmas.Option.{IfSome_then}
@@ -28,7 +28,7 @@ use Rattle.sched_capture.specs.declared.departures.ForwardEnding.{ForwardEnding}
 
 -- ---- the header, and then the records
 module _ (policy : Policy) (rate link : ℕ) (left : Option Left) (known : Captured → Type 0) (r : Result ForwardEnding Stop) where
-  -- what is written of the answer
+  -- the bytes written are a prefix of the answer's
   abbrev IsPartOfAnswer : Option (List ℕ) → Option (List ℕ) → Type 0
   IsPartOfAnswer a b = OnErr r (IfSome left (λ l. (captured : Captured) → known captured → AppendedPrefix a b (forward_of policy rate link captured l).text))
 
@@ -56,7 +56,7 @@ module _ (policy : Policy) (rate link : ℕ) (left : Option Left) (known : Captu
   all_records a b c header records = on_ok_weaker r (λ all. IfSome_then left all
       (λ l each captured h. appended_in_turn a b c (header_bytes link) (sent_bytes captured (outcomes policy (forward_events policy rate l) (start policy))) header (each captured h))) records
 
--- a cause behind a call that wrote
+-- a cause after a call that wrote
 pub cause_behind : {S K : Type 0} (source_faults : S → ℕ) (s s' : S) (sink_faults : K → ℕ) (k k' k'' : K) (r : Result ForwardEnding Stop) → sink_faults k ≤ sink_faults k'
     → IfErr r (λ stop. HasCause stop source_faults s s' sink_faults k' k'') → IfErr r (λ stop. HasCause stop source_faults s s' sink_faults k k'')
 cause_behind source_faults s s' sink_faults k k' k'' (Ok e) later cause = tt
@@ -66,13 +66,13 @@ cause_behind source_faults s s' sink_faults k k' k'' (Err Memory) later cause = 
 
 -- ---- the run begins
 module _ (policy : Resolved) (rate : ℕ) (told : Option (List ℕ)) (left : Option Left) (known : Captured → Type 0) (link : ℕ) where
-  -- what is begun is what is in the file
+  -- the packets left, their captured bytes and the link type are those of the file
   pub record IsBegun : Type 0 where
     pub begins : IfSome told (λ file. Begins policy (one_link_in (in_file file)) left)
     pub captures : IfSome told (λ file. StaysKnown (AreCapturedIn (one_link_in (in_file file))) known)
     pub one : IfSome told (λ file. link ≡ link_in (in_file file))
 
-  -- what is said of the run over what is left is said of the answer
+  -- property Q of the packets left implies property P of the answer
   abbrev Says : (Left → Type 0) → (ForwardAnswer → Type 0) → Type 0
   Says Q P = (l : Left) (captured : Captured) → known captured → Q l → P (forward_of policy.policy rate link captured l)
 
@@ -89,7 +89,7 @@ module _ (policy : Resolved) (rate : ℕ) (told : Option (List ℕ)) (left : Opt
       by_told None begins captures same = tt
       by_told (Some file) begins captures same = subst (λ (n : ℕ). P (forward_over policy rate n (one_link_in (in_file file)))) same (over_contents (one_link_in (in_file file)) Q P says begins captures each)
 
--- ---- the file is refused
+-- ---- the file is rejected
 refused : (policy : Resolved) (rate : ℕ) (file : List ℕ) (fault : FaultAt) → one_link_in (in_file file) ≡ no_capture fault → forward_answer policy rate file ≡ forward_refusal fault
 refused policy rate file fault is = ap (forward_over policy rate (link_in (in_file file))) is
 
@@ -101,7 +101,7 @@ module _ (policy : Resolved) (rate : ℕ) (told : Option (List ℕ)) (e : Ending
       by_told None r = tt
       by_told (Some file) r = is ∙ ap refusal_ending r.ends ∙ ap (λ (a : ForwardAnswer). a.ending) (sym (refused policy rate file r.fault r.is))
 
-  -- what is said of the answer to a refusal with its text
+  -- a property of the answer to a rejected file, with its text
   pub refused_so : (P : ForwardAnswer → Type 0) → ((fault : FaultAt) → Appended old new (forward_refusal fault).text → P (forward_refusal fault)) → IfSome told (λ file. IsRefusal (one_link_in (in_file file)) e old new)
       → IfSome told (λ file. P (forward_answer policy rate file))
   refused_so P each refusal = by_told told refusal

@@ -37,12 +37,12 @@ use Rattle.sched_capture.specs.Forwarding.{keeping_of, is_late_now, HoldsNothing
 use Rattle.sched_capture.specs.JoinedRecords.{same_behind, same_records}
 use Rattle.sched_capture.specs.Forwards.{ending_unless, sent_bytes, forward_course, forward_events}
 
--- what such a recorder records of outcomes are records of departures, whatever the captured bytes are of which H holds
+-- such a recorder writes records of departures, for all captured bytes with H
 pub record TellsHeard (R : Recordings Forwarding) (H : Captured → Type 0) : Type 0 where
   pub all : (policy : Policy) (event : ℕ) (os : List Outcome) (f g : Forwarding) (a b : Option (List ℕ)) → R.records f a policy event os g b → (captured : Captured) → H captured → TellsRecords captured f a policy event os g b
   pub part : (policy : Policy) (event : ℕ) (os : List Outcome) (f : Forwarding) (a b : Option (List ℕ)) → R.cuts f a policy event os b → (captured : Captured) → H captured → CutsRecords captured f a policy event os b
 
--- ---- bytes of departures in a row
+-- ---- bytes of consecutive departures
 sendings-append : (os ps : List Outcome) → sendings (os ++ ps) ≡ sendings os ++ sendings ps
 sendings-append [] ps = refl
 sendings-append (Arrived p a ranks ∷ os) ps = sendings-append os ps
@@ -59,12 +59,12 @@ sent_bytes-append captured os ps =
 
 module _ {C U : Type 0} (S : Ghosts C U) (R : Recordings Forwarding) (H : Captured → Type 0) (laws : AreJoined R.records R.cuts) (tells : TellsHeard R H) (policy : Policy) (accepted : IsAccepted policy) (rate : ℕ) (old : Stage C U Forwarding)
     (stood : S.stands old.scheduler old.under (start policy)) (nothing : HoldsNothing old.recorder) where
-  -- what is recorded of these events from the start
+  -- the bytes recorded of these events from the start
   abbrev told : Captured → List Event → List ℕ
   told captured es = sent_bytes captured (outcomes policy es (start policy))
 
-  -- the run over what was left is this one: how it ended, if it wasn't over before, what was made of the scheduler and the
-  -- queues under it, and what is told behind the text
+  -- The run over the packets left: its ending unless it ended early, its effect on the scheduler
+  -- and the queues, and the bytes after the text.
   pub record IsForwarded (ending : Option Ending) (c : C) (u : U) (text : Option (List ℕ)) (l : Left) : Type 0 where
     pub ends : ending ≡ ending_unless (has_late (forward_course policy rate l).events) (forward_course policy rate l).ending
     pub made : HasMade S policy (forward_events policy rate l) (start policy) old.scheduler old.under c u
@@ -81,18 +81,18 @@ module _ {C U : Type 0} (S : Ghosts C U) (R : Recordings Forwarding) (H : Captur
   below : IsHeldBelow (old.given + 1) (start policy).held
   below = (start_can_begin policy old.given).held
 
-  -- whether one of these events was late is what the recorder holds behind them
+  -- the recorder's flag after these events shows whether one of them was late
   late_behind : (captured : Captured) → H captured → (es : List Event) (event : ℕ) (g : Forwarding) (b : Option (List ℕ)) → R.records old.recorder old.written policy event (outcomes policy es (start policy)) g b
       → (kept_behind captured keeps_nothing (outcomes policy es (start policy))).late ≡ is_late_now g
   late_behind captured h es event g b recorded =
       let os : List Outcome = outcomes policy es (start policy) in
       sym (same_behind captured (keeping_of old.recorder) keeps_nothing os nothing).late ∙ sym (tells.all policy event os old.recorder g old.written b recorded captured h).keeps.late
 
-  -- events whose packets are the next can be made
+  -- events whose packets are the next ones can be made
   can_be_made : (es : List Event) → AreNext policy old.given (packets_in es) → CanMake policy es (start policy)
   can_be_made es next = can_make policy es (old.given + 1) (start policy) next.numbered next.sendable below
 
-  -- what a recorder of nothing records of them are the bytes of their departures
+  -- a recorder that keeps nothing records exactly the bytes of their departures
   bytes_told : (captured : Captured) (es : List Event) → CanMake policy es (start policy) → records_of captured (keeping_of old.recorder) (outcomes policy es (start policy)) ≡ told captured es
   bytes_told captured es can =
       same_records captured (keeping_of old.recorder) keeps_nothing (outcomes policy es (start policy)) nothing

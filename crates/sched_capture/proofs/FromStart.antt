@@ -36,7 +36,7 @@ stand_at_start stands own policy c u given same accepted stood =
     rw same (record { state = start policy; sound = sound_start policy accepted; stood = stood; has = start_can_begin policy given })
 
 module _ {C U : Type 0} (S : Ghosts C U) (own policy : Policy) (pace : Pace) (given : ℕ) (old : C) (under : U) (same : own ≡ policy) (accepted : IsAccepted policy) (stood : S.stands old under (start policy)) where
-  -- what holds of each course holds of that from the start
+  -- a property of each course is one of the course from the start
   at_start : (P : SourceState → Course → Type 0) (left : Option Left) → OnCourse S.stands policy old under given left (course_of policy pace) P
       → IfSome left (λ l. P (start policy) (course_of policy pace l (start policy) 1))
   at_start P None each = tt

@@ -14,7 +14,7 @@ use Rattle.sched_run.specs.Played.{StopsIn}
 use Rattle.sched_run.proofs.StartLaws.{start_can_begin}
 
 module _ {C U W : Type 0} {S : Ghosts C U} {R : Recordings W} {own : Policy} {c c' : C} {u u' : U} {w : W} {a written : Option (List ℕ)} (policy : Policy) (seed count : ℕ) where
-  -- a load that was made from each state in which no packet is held was made from the start
+  -- a load that was made from each state without queued packets was made from the start
   pub made_from_start : {w' : W} {t : Totals} → ForEachState S.stands own c u (λ s. IsHeldBelow 1 s.held → MakesLoad S R own seed count s c u w a c' u' w' written t) → own ≡ policy → IsAccepted policy → S.stands c u (start policy) →
       MakesLoad S R policy seed count (start policy) c u w a c' u' w' written t
   made_from_start {w' = w'} {t = t} each same accepted stood =

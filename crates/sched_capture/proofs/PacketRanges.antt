@@ -27,14 +27,14 @@ use Rattle.pcapng_defs.proofs.WholeBlocks.{reads_blocks}
 use Rattle.pcapng_defs.proofs.Readings.{packets_are_bounded, packets_are_few}
 use Rattle.sched_capture.specs.Laws.{AreBytes}
 
--- a packet of which a record can be written, and which can be sent
+-- a packet that can be written as a record, and can be sent
 pub record IsInRange (p : CapturedPacket) : Type 0 where
   pub link : p.link < 2 ^ 16
   pub moment : p.moment ≤ max_rank
   pub original : p.original < 2 ^ 32
   pub short : length p.captured ≤ most_captured
 
--- each of these packets is one, and there are no more than records of a capture
+-- each of these packets is in range, and there are at most as many as a capture has records
 pub record AreInRange (ps : List CapturedPacket) : Type 0 where
   pub each : AllByRecursion IsInRange ps
   pub few : length ps ≤ most_records

@@ -15,7 +15,7 @@ use Rattle.outside_core.specs.declared.stop.Stop.{Stop}
 use Rattle.policy_rules.specs.Resolved.{Resolved}
 use Rattle.sched_capture.specs.Answers.{IsRefusal, IsRefusalPart, refusal_answer, answer_over, paced_answer}
 
--- where the line of the fault is written, that is the refusal
+-- after the fault line is written, the answer is that of a rejected file
 pub refusal_told : (c p : ℕ) (before written : Option (List ℕ)) (r : Result Ending Stop) (told : Option (List ℕ)) → IfOk r (λ e. e ≡ BadCapture c p)
     → IfSome told (λ file. in_file file ≡ no_capture (record { code = c; place = p }))
     → OnOk r (Appended before written (fault_line (codes "capture") c p)) → IfOk r (λ e. IfSome told (λ file. IsRefusal (in_file file) e before written))
@@ -23,7 +23,7 @@ refusal_told c p before written (Err stop) told ends is line = tt
 refusal_told c p before written (Ok e) None ends is line = tt
 refusal_told c p before written (Ok e) (Some file) ends is line = record { fault = record { code = c; place = p }; is = is; ends = ends; text = line }
 
--- where nothing is written, that is no more than a first part of a refusal
+-- nothing written is a prefix of a rejected file's answer
 pub nothing_part : (file : FileContents) (old new : Option (List ℕ)) → Appended old new [] → IsRefusalPart file old new
 nothing_part (no_capture fault) old new nothing = prefix_of_nothing old new (refusal_answer fault).text nothing
 nothing_part (holds contents) old new nothing = nothing
@@ -35,7 +35,7 @@ pub none_told : (told w : Option (List ℕ)) → IfSome told (λ file. IsRefusal
 none_told None w = tt
 none_told (Some file) w = none_part (in_file file) w
 
--- a first part of the line of the fault is written
+-- a prefix of the fault line is written
 pub told_part : (file : FileContents) (fault : FaultAt) (old new : Option (List ℕ)) → file ≡ no_capture fault → AppendedPrefix old new (refusal_answer fault).text → IsRefusalPart file old new
 told_part file fault old new is part = subst (λ (f : FileContents). IsRefusalPart f old new) (sym is) part
 
@@ -45,7 +45,7 @@ refused_part c p old new (Ok e) told is part = tt
 refused_part c p old new (Err stop) None is part = tt
 refused_part c p old new (Err stop) (Some file) is part = told_part (in_file file) (record { code = c; place = p }) old new is part
 
--- so it is a first part of the report of each run
+-- so it is a prefix of the report of each run
 pub part_of_report : (policy : Resolved) (pace : Pace) (r : Result Ending Stop) (told old new : Option (List ℕ)) → OnErr r (IfSome told (λ file. IsRefusalPart (in_file file) old new))
     → OnErr r (IfSome told (λ file. AppendedPrefix old new (paced_answer policy pace file).text))
 part_of_report policy pace r told old new = on_err_weaker r (λ all. IfSome_then told all (λ file part. of_file (in_file file) part))

@@ -1,4 +1,4 @@
--- What a departure leaves of what is kept, and its record.
+-- The captured bytes that a departure leaves kept, and its record.
 use Rattle.std.proofs.Common.{◌≡◌, ◌<◌, ◌≤◌, ◌/◌, ◌%◌, ◌^◌, ◌||◌, ℕ, Bool, true, false, not, nat_lt, if◌then◌else◌, Option, None, Some, List, [], ◌∷◌, ◌++◌, length, refl, sym, ap, ◌∙◌, subst, append-nil}
 use Rattle.std.specs.Prelude.{IfSome, option_map}
 use Rattle.std.proofs.lemmas.Bool.{lt-ltb}
@@ -16,7 +16,7 @@ use Rattle.forward_defs.specs.Keeping.{without_bytes, record_for}
 use Rattle.sched_capture.specs.declared.forwarding.Forwarding.{Forwarding}
 use Rattle.sched_capture.specs.Forwarding.{bytes_kept, TellsRecords}
 
--- what is let go of is as short as all that is kept
+-- released bytes are as short as all kept ones
 pub short_of : {V : Type 0} (items : V → List ℕ) (o r : Option V) → r ≡ o → ((bytes : List ℕ) → option_map items o ≡ Some bytes → length bytes ≤ most_captured) → IfSome r (λ v. length (items v) ≤ most_captured)
 short_of {V} items o r is short = subst (λ (x : Option V). IfSome x (λ v. length (items v) ≤ most_captured)) (sym is) (by o short)
   where
@@ -31,7 +31,7 @@ on_time false u is = sym (ap not is)
 on_time_record : (t : Bool) → t ≡ true → (bytes : List ℕ) → (if t then bytes else []) ++ [] ≡ bytes
 on_time_record t is bytes = ap (λ (u : Bool). (if u then bytes else []) ++ []) is ∙ append-nil bytes
 
--- a departure on time of a packet whose captured bytes were kept
+-- a departure on time, of a packet whose captured bytes were kept
 pub told_one : (captured : Captured) (f g : Forwarding) (a b : Option (List ℕ)) (policy : Policy) (event : ℕ) (p : Packet) (place : Address) (ranks : List ℕ) (start : ℕ) (bytes : List ℕ) (number len : ℕ)
     → number ≡ p.number → len ≡ p.len → start < late → Some bytes ≡ bytes_kept f number → ((n : ℕ) → bytes_kept g n ≡ without_bytes (bytes_kept f) number n) → g.late ≡ f.late
     → Appended (text_of a f.gathered) (text_of b g.gathered) (record_bytes (start / 10 ^ 9) (start % 10 ^ 9) len bytes)

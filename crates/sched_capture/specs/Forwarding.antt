@@ -1,4 +1,4 @@
--- A recorder of records: what it keeps, and what it tells of outcomes.
+-- A recorder of capture records: the captured bytes it keeps, and the records it writes.
 use Rattle.std.specs.Prelude.{◌≡◌, ℕ, nat_eq, Bool, Option, option_map, IsTrue, List}
 use Rattle.indexmap.specs.IndexMap.{get}
 use Rattle.outside_core.specs.Written.{Appended}
@@ -19,7 +19,8 @@ keeping_of f = record { kept = bytes_kept f; late = f.late }
 abbrev pub is_late_now : Forwarding → Bool
 is_late_now f = f.late
 
--- no call failed so far: there was memory for the captured bytes of each packet, and each write was taken
+-- no call has failed so far: there was memory for the captured bytes of each packet, and the sink
+-- accepted each write
 pub record IsLive (f : Forwarding) : Type 0 where
   pub whole : IsTrue f.whole
   pub taken : IsTrue f.gathered.live
@@ -31,11 +32,11 @@ pub record HoldsTheSame (k l : Keeping) : Type 0 where
 abbrev pub HoldsNothing : Forwarding → Type 0
 HoldsNothing f = HoldsTheSame (keeping_of f) keeps_nothing
 
--- what is told grew by records of the departures among the outcomes
+-- the bytes written and buffered grew by the records of the departures among the outcomes
 pub record TellsRecords (captured : Captured) (f : Forwarding) (a : Option (List ℕ)) (policy : Policy) (event : ℕ) (os : List Outcome) (g : Forwarding) (b : Option (List ℕ)) : Type 0 where
   pub keeps : HoldsTheSame (keeping_of g) (kept_behind captured (keeping_of f) os)
   pub told : Appended (text_of a f.gathered) (text_of b g.gathered) (records_of captured (keeping_of f) os)
 
--- of what was told and of these records a first part is written
+-- a prefix of the earlier bytes and these records is written
 abbrev pub CutsRecords : Captured → Forwarding → Option (List ℕ) → Policy → ℕ → List Outcome → Option (List ℕ) → Type 0
 CutsRecords captured f a policy event os b = IsCut (text_of a f.gathered) (records_of captured (keeping_of f) os) b

@@ -1,4 +1,4 @@
--- What a link's run over a capture answers whose departures are written as a capture.
+-- The answer of a link's run over a capture whose departures are written as a capture.
 use Rattle.std.specs.Prelude.{◌≡◌, refl, ℕ, ◌==◌, Bool, if◌then◌else◌, Option, None, Some, List, map, codes}
 use Rattle.pcap_defs.specs.Contents.{FaultAt, FileContents, no_capture, holds}
 use Rattle.pcapng_defs.specs.NgContents.{in_file}
@@ -23,13 +23,13 @@ use Rattle.sched_packets.specs.SingleLinkType.{one_link_in, link_in}
 use Rattle.sched_capture.specs.declared.departures.ForwardEnding.{ForwardEnding}
 use Rattle.sched_capture.specs.declared.departures.ForwardEnding.TheVariants.{Whole, BadCapture, OtherLink, Late}
 
--- how the run ends, the bytes that are written, and what happens, if the run begins
+-- how the run ends, the bytes written, and the events if the run begins
 pub record ForwardAnswer : Type 0 where
   pub ending : ForwardEnding
   pub text : List ℕ
   pub events : Option (List Event)
 
--- a fault before the run is told in one line
+-- a fault before the run gives one line
 abbrev pub forward_refusal : FaultAt → ForwardAnswer
 forward_refusal fault = record {
   ending = BadCapture fault.code fault.place;
@@ -37,23 +37,24 @@ forward_refusal fault = record {
   events = None;
 }
 
--- how a run ends, if it isn't over before with a late departure: a packet of another link type is told among the faults
+-- The ending of a run, unless a late departure ended it early. A packet of another link type is one
+-- of the faults of a run.
 abbrev pub forward_ending : Option Ending → ForwardEnding
 forward_ending None = Late
 forward_ending (Some (run.Whole unsent)) = Whole
 forward_ending (Some (run.BadCapture code place)) = if code == other_link then OtherLink place else BadCapture code place
 forward_ending (Some (run.PastLast event)) = Whole
 
--- how a refusal ends, which is at the capture's fault
+-- the ending for a rejected file, which is the capture's fault
 abbrev pub refusal_ending : Ending → ForwardEnding
 refusal_ending (run.BadCapture code place) = BadCapture code place
 refusal_ending ending = Whole
 
--- the ending of a course, where none of its departures is late
+-- the ending of a course, unless one of its departures is late
 abbrev pub ending_unless : Bool → Ending → Option Ending
 ending_unless late ending = if late then None else Some ending
 
--- the run of a link over packets and the fault behind them
+-- the run of a link over the packets and the fault after them
 abbrev pub forward_course : Policy → ℕ → Left → Course
 forward_course policy rate l = link_course policy rate l.packets l.fault (start policy) 0
 
@@ -61,11 +62,11 @@ forward_course policy rate l = link_course policy rate l.packets l.fault (start 
 abbrev pub forward_events : Policy → ℕ → Left → List Event
 forward_events policy rate l = up_to_late (forward_course policy rate l).events
 
--- the bytes of the departures of outcomes, behind the header
+-- the bytes of the departures among the outcomes, after the header
 abbrev pub sent_bytes : Captured → List Outcome → List ℕ
 sent_bytes captured os = records_bytes (map (sent_record captured) (sendings os))
 
--- what is run through a fabric into which the policy's tree is laid
+-- the run through a fabric into which the policy's tree is laid
 abbrev pub forward_through : Policy → Laid → ℕ → Left → FabricRun
 forward_through policy laid rate l = record { policy = policy; laid = laid; events = forward_events policy rate l }
 
@@ -76,12 +77,12 @@ forward_of policy rate link captured l = record {
   events = Some (forward_events policy rate l);
 }
 
--- over the packets of one link type
+-- the answer over the packets of one link type
 abbrev pub forward_over : Resolved → ℕ → ℕ → FileContents → ForwardAnswer
 forward_over policy rate link (no_capture fault) = forward_refusal fault
 forward_over policy rate link (holds contents) = forward_of policy.policy rate link (captured_from 1 contents.packets) (left_in policy 0 contents)
 
--- the answer for a policy, a rate in bytes a second, and the bytes of a capture of either format
+-- the answer for a policy, a rate in bytes per second, and the bytes of a capture of either format
 abbrev pub forward_answer : Resolved → ℕ → List ℕ → ForwardAnswer
 forward_answer policy rate file = forward_over policy rate (link_in (in_file file)) (one_link_in (in_file file))
 

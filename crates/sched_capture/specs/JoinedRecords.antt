@@ -1,4 +1,4 @@
--- Records that are written in two calls are those of one.
+-- Records written in two calls are those written in one.
 use Rattle.std.proofs.Common.{◌≡◌, ℕ, ◌||◌, ◌==◌, if◌then◌else◌, Option, None, Some, List, [], ◌∷◌, ◌++◌, refl, sym, ap, ◌∙◌, subst, append-nil}
 use Rattle.outside_core.specs.Written.{Appended}
 use Rattle.outside_core.proofs.WrittenLaws.{appended_nothing, appended_in_turn}
@@ -15,7 +15,7 @@ use Rattle.forward_defs.proofs.JoinedOutcomes.{kept_behind-append, records_of-ap
 use Rattle.sched_capture.specs.declared.forwarding.Forwarding.{Forwarding}
 use Rattle.sched_capture.specs.Forwarding.{keeping_of, HoldsTheSame, TellsRecords, CutsRecords}
 
--- ---- recorders that hold the same write the same
+-- ---- recorders that keep the same bytes write the same records
 same_keeps : (captured : Captured) (k l : Keeping) (o : Outcome) → HoldsTheSame k l → HoldsTheSame (keeps captured k o) (keeps captured l o)
 same_keeps captured k l (Arrived p a ranks) same = record { kept = λ n. ap (λ (x : Option (List ℕ)). if n == p.number then Some (captured p.number) else x) (same.kept n); late = same.late }
 same_keeps captured k l (Departed p a ranks start) same = record { kept = λ n. ap (λ (x : Option (List ℕ)). if n == p.number then None else x) (same.kept n); late = ap (λ b. b || is_late start) same.late }
@@ -41,8 +41,8 @@ same_records captured k l (o ∷ os) same =
 same_then : (k l m : Keeping) → HoldsTheSame k l → HoldsTheSame l m → HoldsTheSame k m
 same_then k l m first second = record { kept = λ n. first.kept n ∙ second.kept n; late = first.late ∙ second.late }
 
--- ---- outcomes in a row
--- the records of more outcomes follow, by what is kept then
+-- ---- consecutive outcomes
+-- the records of later outcomes follow, by the bytes kept at that point
 more_records : (captured : Captured) (k l : Keeping) (os ps : List Outcome) → HoldsTheSame l (kept_behind captured k os) → records_of captured k os ++ records_of captured l ps ≡ records_of captured k (os ++ ps)
 more_records captured k l os ps same =
     ap (λ (x : List ℕ). records_of captured k os ++ x) (same_records captured l (kept_behind captured k os) ps same) ∙ sym (records_of-append captured k os ps)
@@ -66,7 +66,7 @@ records_are_joined captured = record {
       (IsCut-append (text_of a f.gathered) (text_of b g.gathered) c (records_of captured (keeping_of f) os) (records_of captured (keeping_of g) ps) first.told cut);
 }
 
--- and whatever is known of captured bytes
+-- and so they are whatever is known of the captured bytes
 pub records_heard : (H : Captured → Type 0) → AreJoined {W = Forwarding} (λ w a policy event os v b. (bytes : Captured) → H bytes → TellsRecords bytes w a policy event os v b)
     (λ w a policy event os b. (bytes : Captured) → H bytes → CutsRecords bytes w a policy event os b)
 records_heard H = record {

@@ -1,4 +1,4 @@
--- What captures of both formats have in common, and what a capture of departures is to its readers.
+-- Laws of equal captures in both formats, and of written departures that are read back.
 use Rattle.std.specs.Prelude.{◌≡◌, ◌<◌, ℕ, List, slice_index, ⊤}
 use Rattle.pcap_defs.specs.Contents.{FileContents, no_capture, holds}
 use Rattle.pcapng_defs.specs.Laws.{AreAlike}
@@ -19,7 +19,8 @@ use Rattle.sched_packets.specs.SingleLinkType.{one_link_in, link_in}
 use Rattle.sched_capture.specs.Answers.{paced_answer}
 use Rattle.sched_capture.specs.Forwards.{forward_events, forward_answer}
 
--- a classic file and a pcapng file without fault, whose packets are equal, have equal answers, by a script and on a link
+-- A classic and a pcapng file without faults have equal answers if their packets are equal. This
+-- holds for a script and for a link.
 abbrev pub AlikeFilesHaveEqualAnswers : Type 0
 AlikeFilesHaveEqualAnswers =
     (policy : Resolved) (pace : Pace) (file ng_file : List ℕ) → AreAlike file ng_file →
@@ -29,18 +30,21 @@ AlikeFilesHaveEqualAnswers =
 abbrev pub AreBytes : List ℕ → Type 0
 AreBytes file = (k : ℕ) → slice_index file k < 256
 
--- the departures of a link's run over what is left, up to the first late one, which a capture can't tell
+-- the departures of a link's run over the packets left, up to the first late one, which no capture
+-- can hold
 abbrev pub sent_over : Policy → ℕ → Left → List Sending
 sent_over policy rate l = sendings (outcomes policy (forward_events policy rate l) (start policy))
 
--- Read as captures are read, these bytes are the departures of the run over what is in a file, and nothing else: each has this
--- link type, its start, and the original length and the captured bytes of its packet. Without a run this says nothing.
+-- Read as a capture, these bytes are exactly the departures of the run over the file's contents.
+-- Each has this link type, its start, and the original length and the captured bytes of its packet.
+-- Nothing is claimed if there is no run.
 abbrev pub AreReadBack : Resolved → ℕ → ℕ → FileContents → List ℕ → Type 0
 AreReadBack policy rate link (no_capture fault) bytes = ⊤
 AreReadBack policy rate link (holds contents) bytes =
     in_file bytes ≡ holds_sendings link (captured_from 1 contents.packets) (sent_over policy.policy rate (left_in policy 0 contents))
 
--- so are the bytes that `forward` writes of a file, for the policy of an accepted text, at any rate and however the run ends
+-- This holds for the bytes that `forward` writes of a file, for the policy of any accepted text, at
+-- any rate and for any ending.
 abbrev pub ForwardsAreReadBack : Type 0
 ForwardsAreReadBack =
     (text : List ℕ) (entries : List Entry) (policy : Resolved) (rate : ℕ) (file : List ℕ)

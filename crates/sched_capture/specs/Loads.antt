@@ -1,4 +1,4 @@
--- What a generated load leaves, and its numbers.
+-- The run of a generated load, and its counts.
 use Rattle.policy_defs.specs.Policy.{Policy}
 use Rattle.sched_defs.specs.SourceState.{start}
 use Rattle.sched_defs.specs.Events.{outcomes, pushed_in, popped_in, empty_in}
@@ -12,7 +12,7 @@ use Rattle.sched_capture.specs.declared.load.LoadSize.{LoadSize}
 abbrev pub load_through : Policy → Laid → LoadSize → FabricRun
 load_through policy laid load = record { policy = policy; laid = laid; events = load_run policy load.seed load.count (start policy) }
 
--- the numbers of a load, by the policy's own tree
+-- the counts of a load, by the policy's own tree
 abbrev pub load_counts : Policy → LoadSize → LoadCounts
 load_counts policy load = record {
   pushed = pushed_in (outcomes policy (load_run policy load.seed load.count (start policy)) (start policy));

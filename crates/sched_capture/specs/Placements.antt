@@ -1,4 +1,4 @@
--- Where a policy's tree is laid.
+-- The placement of a policy's tree in the hardware.
 use Rattle.policy_defs.specs.Policy.{Policy}
 use Rattle.sched_defs.specs.SourceState.{start}
 use Rattle.sched_defs.specs.Packets.{Left}
@@ -8,10 +8,10 @@ use Rattle.sched_embedded.specs.Fabrics.{FabricRun}
 use Rattle.sched_embedded.specs.Laid.{Laid}
 use Rattle.sched_capture.specs.declared.fabric.Placement.{Placement}
 
--- what a placement says of the images and of the hardware's shape
+-- the images and the hardware's shape of a placement
 abbrev pub laid_by : Placement → Laid
 laid_by placement = record { images = placement.map; arities = placement.target.arities }
 
--- the run over what is left of a capture, through a fabric into which the policy's tree is laid
+-- the run over the packets left of a capture, through a fabric into which the policy's tree is laid
 abbrev pub paced_through : Policy → Laid → Pace → Left → FabricRun
 paced_through policy laid pace l = record { policy = policy; laid = laid; events = (course_of policy pace l (start policy) 1).events }

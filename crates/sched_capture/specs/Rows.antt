@@ -24,16 +24,16 @@ use Rattle.sched_capture.specs.Loads.{load_counts}
 abbrev one_class : Resolved
 one_class = record { policy = one_leaf; conditions = [] ∷ [] }
 
--- a packet of 60 bytes, of which four are captured, the last of them this one
+-- a packet of 60 bytes, of which four are captured; `last` is the fourth byte
 abbrev captured : ℕ → ℕ → ℕ → CapturedPacket
 captured link moment last = record { link = link; moment = moment; original = 60; captured = 0 ∷ 0 ∷ 0 ∷ last ∷ [] }
 
--- its record, where it starts at this second
+-- its record, if it starts at this second
 abbrev sent : ℕ → ℕ → List ℕ
 sent seconds last =
     (seconds ∷ 0 ∷ 0 ∷ 0 ∷ 0 ∷ 0 ∷ 0 ∷ 0 ∷ []) ++ (4 ∷ 0 ∷ 0 ∷ 0 ∷ 60 ∷ 0 ∷ 0 ∷ 0 ∷ []) ++ (0 ∷ 0 ∷ 0 ∷ last ∷ [])
 
--- the same packet as it is run, with this number
+-- the same packet in a run, with this number
 abbrev arrival : ℕ → ℕ → Packet
 arrival n moment = record {
   number = n;
@@ -46,7 +46,7 @@ arrival n moment = record {
 abbrev at_once : FileContents
 at_once = holds (record { packets = captured 147 1000000000 1 ∷ captured 147 1000000000 2 ∷ []; fault = None })
 
--- a second apart, and then a cut record, or a packet of another link type
+-- two packets a second apart, followed by a cut record or a packet of another link type
 abbrev with_a_cut_record : FileContents
 with_a_cut_record = holds (record { packets = captured 147 1000000000 1 ∷ captured 147 2000000000 2 ∷ []; fault = Some (record { code = 6; place = 3 }) })
 
@@ -54,7 +54,7 @@ abbrev with_another_link : FileContents
 with_another_link = holds (record { packets = captured 147 1000000000 1 ∷ captured 147 2000000000 2 ∷ captured 101 3000000000 3 ∷ []; fault = None })
 
 -- ---- forwarded
--- what is written at 60 bytes a second
+-- the answer at 60 bytes per second
 abbrev forwarded : FileContents → ForwardAnswer
 forwarded file = forward_over one_class 60 147 (one_link_in file)
 
@@ -66,7 +66,8 @@ forwarded-whole : forwarded at_once ≡ record {
 }
 forwarded-whole = refl
 
--- where the run ends at a fault, the packet that is held isn't sent, and the capture of the others is whole
+-- if the run ends at a fault, the queued packet isn't sent, and the capture of the others is
+-- complete
 forwarded-cut_record : forwarded with_a_cut_record ≡ record {
   ending = BadCapture 6 3;
   text = header_bytes 147 ++ sent 1 1;
@@ -81,7 +82,7 @@ forwarded-another_link : forwarded with_another_link ≡ record {
 }
 forwarded-another_link = refl
 
--- the first of two packets starts at 2^32 seconds: it is no record, and the other doesn't leave
+-- the first of two packets starts at 2^32 seconds: it gets no record, and the other doesn't depart
 forwarded-late : forwarded (holds (record { packets = captured 147 4294967296000000000 1 ∷ captured 147 4294967296000000000 2 ∷ []; fault = None })) ≡ record {
   ending = Late;
   text = header_bytes 147;
@@ -89,7 +90,7 @@ forwarded-late : forwarded (holds (record { packets = captured 147 4294967296000
 }
 forwarded-late = refl
 
--- a file without packets is a header of link type 0
+-- a file without packets gives a header with link type 0
 forwarded-none : forward_over one_class 60 0 (one_link_in (holds (record { packets = []; fault = None }))) ≡ record { ending = Whole; text = header_bytes 0; events = Some [] }
 forwarded-none = refl
 
@@ -97,12 +98,13 @@ pub forwarded-refused : forwarded (holds (record { packets = []; fault = Some (r
 unfolding digits
 forwarded-refused = refl
 
--- a reader finds the starts, and not the timestamps of the packets
+-- a reader finds the starts, not the timestamps of the packets
 forwarded-read_back : in_file (forwarded at_once).text ≡ holds (record { packets = captured 147 1000000000 1 ∷ captured 147 2000000000 2 ∷ []; fault = None })
 unfolding capture_of head_of front_of records_from
 forwarded-read_back = refl
 
--- from the bytes of a capture to those of another: both packets have four bytes, of which four are captured
+-- from the bytes of one capture to those of another: both packets have four bytes, all of them
+-- captured
 abbrev sent_whole : ℕ → ℕ → List ℕ
 sent_whole seconds last =
     (seconds ∷ 0 ∷ 0 ∷ 0 ∷ 0 ∷ 0 ∷ 0 ∷ 0 ∷ []) ++ (4 ∷ 0 ∷ 0 ∷ 0 ∷ 4 ∷ 0 ∷ 0 ∷ 0 ∷ []) ++ (0 ∷ 0 ∷ 0 ∷ last ∷ [])
@@ -140,7 +142,7 @@ pub refused-whole : refusal_answer (record { code = 2; place = 0 }) ≡ record {
 unfolding digits
 refused-whole = refl
 
--- taps are shown the packets that left, and nothing where no run begins
+-- taps are shown the packets that departed, and nothing if no run begins
 shown_by-two : shown_by one_leaf (scripted at_once)
     ≡ Some (departed (record { packet = 1; class = 0; leaf = 0; len = 60 }) ∷ departed (record { packet = 2; class = 0; leaf = 0; len = 60 }) ∷ [])
 shown_by-two = refl
@@ -149,7 +151,7 @@ shown_by-refused : shown_by one_leaf (scripted (no_capture (record { code = 2; p
 shown_by-refused = refl
 
 -- ---- a load
--- two departures find nothing, and the fold of the eight packets that leave in order passes 2^32
+-- two departures find no packet, and the sum over the eight departed packets passes 2^32
 counted : load_counts (record one_leaf { classes = replicate 8 (record { marks = no_marks; leaf = [] }) }) (record { seed = 114; count = 10 })
     ≡ record { pushed = 8; popped = 8; empty = 2; sum = 3607554180 }
 counted = refl

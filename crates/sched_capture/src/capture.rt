@@ -28,7 +28,8 @@ use std::alloc::{AllocError, Global};
 use tap_core::{Named, Tap, Watching};
 use tree_core::SourceTree;
 
-/// Writes the line of a file that is no capture, as the whole report. The answer is how the run ends.
+/// Writes the fault line of a file that is no capture, as the whole report. Returns how the run
+/// ends.
 pub(crate) fn refuse<K: Sink>(
     alloc: Global,
     sink: &mut K,
@@ -47,8 +48,9 @@ pub(crate) fn refuse<K: Sink>(
     Ok(Ending::BadCapture(code, place))
 }
 
-/// Begins the capture of this name, and reads its beginning. Where no run goes on from there, the error is the run's answer:
-/// the capture's fault, told in the one line of the report, or the cause of a stop.
+/// Begins the capture of this name and reads its beginning. If no run can follow, the error is the
+/// run's result: the capture's fault, after its line is written as the whole report, or the cause
+/// of a stop.
 pub fn begin<'a, S: Shelf, K: Sink>(
     alloc: Global,
     policy: &'a Policy,
@@ -87,7 +89,8 @@ pub fn begin<'a, S: Shelf, K: Sink>(
     }
 }
 
-/// A run without an event so far, through the policy's own tree of queues, and that tree. The error means out of memory.
+/// Returns a run without events, through the policy's own tree of queues, and that tree. The error
+/// means out of memory.
 fn direct_run<'a>(
     alloc: Global,
     policy: &'a Policy,
@@ -113,7 +116,7 @@ fn direct_run<'a>(
     Ok((run, tree))
 }
 
-/// Runs the packets that come through the policy's own tree of queues, and writes the report.
+/// Runs the packets of a capture through the policy's own tree of queues, and writes the report.
 fn direct_packets<S: Shelf, K: Sink>(
     alloc: Global,
     policy: &Policy,
@@ -146,9 +149,10 @@ fn direct_packets<S: Shelf, K: Sink>(
     )
 }
 
-/// Runs a script or a link over a capture, through the policy's own tree of queues, and writes the whole report.
-/// The answer is how the run ended: at a capture with a fault and at a script that asks for too much, too. It is an error
-/// where the capture can't be read, the report can't be written, or there is no memory; the report is then cut short.
+/// Runs a script or a link over a capture, through the policy's own tree of queues, and writes the
+/// whole report. Returns how the run ended, also for a fault of the capture and for a script that
+/// asks for too many packets. Fails if the capture can't be read, if the report can't be written,
+/// or when out of memory. The report is then cut short.
 pub fn direct<S: Shelf, K: Sink>(
     alloc: Global,
     policy: &Policy,

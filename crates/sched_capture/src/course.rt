@@ -1,4 +1,4 @@
-//! A run over the packets of a capture by any scheduler.
+//! A run over the packets of a capture with any scheduler.
 ghost use Rattle.std.specs.Prelude.{◌≡◌, ◌≤◌, [], IfOk, IfErr, IfSome, OnOk, OnErr};
 ghost use Rattle.outside_core.specs.Kept.{KeepsSink, HasCause};
 ghost use Rattle.outside_core.specs.Written.{Appended, AppendedPrefix};
@@ -22,8 +22,8 @@ use sched_packets::CapturePackets;
 use sched_run::{Pace, Recorder, Run};
 use tap_core::{Tap, Watching};
 
-/// Runs the packets that come through any scheduler of this policy that represents the start, and writes the report. Taps
-/// watch it from the beginning on.
+/// Runs the packets of a capture through any scheduler of this policy that represents the start,
+/// and writes the report. Taps watch from the beginning of the run.
 pub fn run_over<C: Scheduler + Drop, S: Shelf, K: Sink, T: Tap>(
     policy: &Policy,
     run: &mut Run<'_, C, Policy, Report>,

@@ -42,20 +42,20 @@ use sched_run::{Recorder, Run};
 use std::alloc::Global;
 use tap_core::{Named, OrderTap, Watching};
 
-/// How a run ends whose departures are written as a capture.
+/// The ending of a run whose departures are written as a capture.
 #[derive(Clone, Copy, Debug)]
 pub enum ForwardEnding {
-    /// All packets came, and all that weren't dropped left.
+    /// All packets arrived, and all that weren't dropped departed.
     Whole,
-    /// The capture has a fault of this code at this place.
+    /// The capture has a fault of this code at this position (`place`).
     BadCapture(u32, u64),
-    /// The packet of this number has another link type than the first.
+    /// The packet of this number has another link type than the first packet.
     OtherLink(u64),
-    /// A departure would start at 2^32 seconds or later, which no record can tell.
+    /// A departure would start at 2^32 seconds or later, which no record can hold.
     Late,
 }
 
-/// How a run ends, if it isn't over before.
+/// Converts a run's ending. `None` means that a late departure ended the run early.
 fn ending_of(ending: Option<Ending>) -> ForwardEnding
     ensures { result ≡ forward_ending ending }
 {
@@ -67,7 +67,7 @@ fn ending_of(ending: Option<Ending>) -> ForwardEnding
     }
 }
 
-/// How a refusal ends, which is at the capture's fault.
+/// Converts the ending of a file that was rejected, which is the capture's fault.
 fn refusal_of(ending: Ending) -> ForwardEnding
     ensures { result ≡ refusal_ending ending }
 {
@@ -77,8 +77,8 @@ fn refusal_of(ending: Ending) -> ForwardEnding
     }
 }
 
-/// Reads the first packet of a capture whose beginning was read, if there is one. Where no run goes on from there, the error is
-/// the run's answer, as in `begin`.
+/// Reads the first packet, if there is one, of a capture whose beginning was read. If no run can
+/// follow, the error is the run's result, as in `begin`.
 fn begin_packets<'a, S: Shelf, K: Sink>(
     alloc: Global,
     arrivals: CapturePackets<'a, S>,
@@ -121,8 +121,8 @@ fn begin_packets<'a, S: Shelf, K: Sink>(
     }
 }
 
-/// Begins the capture of this name, and reads its first packet. Where no run goes on from there, the error is the run's answer,
-/// as in `begin`.
+/// Begins the capture of this name and reads its first packet. If no run can follow, the error is
+/// the run's result, as in `begin`.
 fn begin_one_link<'a, S: Shelf, K: Sink>(
     alloc: Global,
     policy: &'a Policy,
@@ -160,8 +160,8 @@ fn begin_one_link<'a, S: Shelf, K: Sink>(
     }
 }
 
-/// Runs a link over packets of one link type by any scheduler of this policy that represents the start, and writes a record for
-/// each departure.
+/// Runs a link over packets of one link type with any scheduler of this policy that represents the
+/// start, and writes a record for each departure. The rate is in bytes per second.
 fn forward_over<C: Scheduler + Drop, S: Shelf, K: Sink>(
     policy: &Policy,
     run: &mut Run<'_, C, Policy, Forwarding>,
@@ -228,8 +228,8 @@ fn write_header<K: Sink>(sink: &mut K, link: u16) -> Result<(), Stop>
     }
 }
 
-/// Runs a link over packets of one link type, through a fabric into which the policy's tree is laid, and writes a record for each
-/// departure.
+/// Runs a link over packets of one link type, through a fabric into which the policy's tree is
+/// laid, and writes a record for each departure. The rate is in bytes per second.
 fn forward_records<S: Shelf, K: Sink, F: Fabric>(
     alloc: Global,
     policy: &Policy,
@@ -279,8 +279,8 @@ fn forward_records<S: Shelf, K: Sink, F: Fabric>(
     )
 }
 
-/// Runs a link over packets of one link type, through a fabric into which the policy's tree is laid, and writes the header and a
-/// record for each departure.
+/// Runs a link over packets of one link type, through a fabric into which the policy's tree is
+/// laid, and writes the header and a record for each departure. The rate is in bytes per second.
 fn forward_packets<S: Shelf, K: Sink, F: Fabric>(
     alloc: Global,
     policy: &Policy,
@@ -326,11 +326,12 @@ fn forward_packets<S: Shelf, K: Sink, F: Fabric>(
     forward_records(alloc, policy, placement, rate, packets, shelf, sink, fabric)
 }
 
-/// Runs a link over a capture, through a fabric into which the policy's tree is laid by a map, and writes the departures as a
-/// capture: the header when the capture's first record was read or it has none, and then a record for each departure, with the
-/// time at which it starts. The rate is in bytes a second. The fabric takes the target's shape after the header. The answer is
-/// how the run ended. It is an error where the capture can't be read, the records can't be written, or there is no memory; what
-/// is written is then cut short.
+/// Runs a link over a capture, through a fabric into which a map lays the policy's tree, and writes
+/// the departures as a capture. The header is written once the capture's first record is read, or
+/// once it is known to have none. A record follows for each departure, with the timestamp at which
+/// it starts. The rate is in bytes per second. The fabric takes the target's shape after the header
+/// is written. Returns how the run ended. Fails if the capture can't be read, if the records can't
+/// be written, or when out of memory. The output is then cut short.
 pub fn forward<S: Shelf, K: Sink, F: Fabric>(
     alloc: Global,
     policy: &Policy,

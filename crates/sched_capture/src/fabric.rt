@@ -40,14 +40,15 @@ use sched_run::{Pace, Recorder, Run};
 use std::alloc::{AllocError, Global};
 use tap_core::{Tap, Watching};
 
-/// A target, and where a policy's tree is laid in it.
+/// A target, and the map that lays a policy's tree into it.
 #[derive(Drop)]
 pub struct Placement {
     pub target: Target,
     pub map: Map,
 }
 
-/// The scheduler over a fabric into which a policy's tree is laid, as `Embedded::new` makes it.
+/// Returns the scheduler over a fabric into which the policy's tree is laid, as `Embedded::new`
+/// makes it.
 fn scheduler_through<'a, F: Fabric>(
     alloc: Global,
     policy: &'a Policy,
@@ -78,8 +79,8 @@ fn scheduler_through<'a, F: Fabric>(
     Embedded::new(alloc, policy, map, &target, fabric)
 }
 
-/// A run without an event so far, through a fabric into which the policy's tree is laid, with this recorder. The fabric takes the
-/// target's shape. The error means out of memory.
+/// Returns a run without events, through a fabric into which the policy's tree is laid, with this
+/// recorder. The fabric takes the target's shape. The error means out of memory.
 pub(crate) fn run_through<'a, F: Fabric, W: Recorder>(
     alloc: Global,
     policy: &'a Policy,
@@ -121,8 +122,8 @@ pub(crate) fn run_through<'a, F: Fabric, W: Recorder>(
     )
 }
 
-/// Runs the packets that come through a fabric into which the policy's tree is laid, and writes the report. Taps watch it from
-/// the beginning on.
+/// Runs the packets of a capture through a fabric into which the policy's tree is laid, and writes
+/// the report. Taps watch from the beginning of the run.
 fn replay_packets<S: Shelf, K: Sink, F: Fabric, T: Tap>(
     alloc: Global,
     policy: &Policy,
@@ -172,9 +173,10 @@ fn replay_packets<S: Shelf, K: Sink, F: Fabric, T: Tap>(
     run_over(policy, &mut run, fabric, pace, packets, shelf, sink, watch)
 }
 
-/// Runs a script or a link over a capture, through a fabric into which the policy's tree is laid by a map, and writes the
-/// whole report: that of the policy's own tree. The fabric takes the target's shape when the capture's beginning is accepted,
-/// and from then on taps watch. The answer and the errors are those of `direct`.
+/// Runs a script or a link over a capture, through a fabric into which a map lays the policy's
+/// tree, and writes the whole report. The report is that of the policy's own tree. Once the
+/// capture's beginning is accepted, the fabric takes the target's shape and taps watch. Returns and
+/// fails as `direct` does.
 pub fn replay<S: Shelf, K: Sink, F: Fabric, T: Tap>(
     alloc: Global,
     policy: &Policy,

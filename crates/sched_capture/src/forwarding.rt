@@ -20,10 +20,10 @@ use std::alloc::{AllocError, Global};
 /// The nanoseconds of a second.
 const SECOND: u128 = 1_000_000_000;
 
-/// The first timestamp in nanoseconds whose seconds need more than 32 bits.
+/// The first timestamp, in nanoseconds, whose seconds need more than 32 bits.
 const LATE: u128 = (1 << 32) * SECOND;
 
-/// Writes a record of a packet that starts at this timestamp.
+/// Writes a record of a packet that starts at this timestamp in nanoseconds.
 fn put_sent<K: Sink>(
     gathered: &mut Report,
     sink: &mut K,
@@ -49,10 +49,11 @@ fn put_sent<K: Sink>(
     gathered.piece(sink, bytes)
 }
 
-/// Writes a record for each packet that leaves: the time at which it starts on the link, its original length and its captured
-/// bytes, which are kept from its arrival on. A departure that starts at 2^32 seconds or later isn't told, and nothing more can
-/// be recorded after it. Records gather in memory that is taken once, and go on to the sink when the next one doesn't fit and
-/// at `finish`.
+/// Writes a record for each departure that a link paces: the timestamp at which it starts on the
+/// link, the packet's original length and its captured bytes. Keeps the captured bytes from the
+/// packet's arrival until its departure. A departure that starts at 2^32 seconds or later is not
+/// recorded, and nothing more can be recorded after it. Records are buffered in memory that is
+/// allocated once. They go to the sink when the next one doesn't fit, and at `finish`.
 #[derive(Drop)]
 pub struct Forwarding {
     held: IndexMap<u64, Vec<u8>>,
@@ -70,7 +71,7 @@ impl Forwarding {
     ghost use Rattle.forward_defs.specs.Keeping.{with_bytes, without_bytes};
     ghost use Rattle.sched_capture.specs.Forwarding.{bytes_kept, HoldsNothing, IsLive};
 
-    /// One that keeps nothing. The error means out of memory.
+    /// Returns a recorder that keeps nothing. The error means out of memory.
     pub fn new(alloc: Global) -> Result<Forwarding, AllocError>
         ensures nothing { IfOk result HoldsNothing }
         ensures none_gathered { IfOk result (λ f. f.gathered.unwritten ≡ []) }
@@ -84,7 +85,7 @@ impl Forwarding {
         })
     }
 
-    /// Writes the records that are gathered. The sink then has all that were reported.
+    /// Writes the buffered records. After that the sink has every record.
     pub fn finish<K: Sink>(&mut self, sink: &mut K) -> Result<(), WriteFault>
         requires live { IsLive self.old }
 
@@ -98,7 +99,7 @@ impl Forwarding {
         self.gathered.finish(sink)
     }
 
-    /// Keeps the captured bytes of a packet.
+    /// Keeps the captured bytes of a packet. The error means out of memory.
     fn keep(&mut self, number: u64, captured: &[u8]) -> Result<(), AllocError>
         requires short { length captured.now ≤ most_captured }
 
@@ -113,7 +114,7 @@ impl Forwarding {
         Ok(())
     }
 
-    /// Lets go of the captured bytes of a packet, if they are kept.
+    /// Stops keeping the captured bytes of a packet, and returns them if they were kept.
     fn release(&mut self, number: u64) -> Option<Vec<u8>>
         ensures value { option_map (λ v. v.items) result ≡ bytes_kept self.old number }
         ensures short { IfSome result (λ v. length v.items ≤ most_captured) }

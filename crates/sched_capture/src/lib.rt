@@ -1,5 +1,6 @@
-//! Runs over a capture, through the tree of queues of a policy or through a fabric, with their whole report, and of a generated
-//! load. Begin with specs/Answers.antt.
+//! Runs a script or a link over a capture, through a policy's own tree of queues or through a
+//! fabric, and writes the whole report or the departures. Also runs a generated load. Begin with
+//! specs/Answers.antt.
 #![tactic(auto)]
 
 mod capture;

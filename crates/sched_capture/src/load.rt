@@ -24,8 +24,8 @@ use sched_run::{DepartureSum, Recorder, Run};
 use std::alloc::Global;
 use tap_core::{Named, Tap, Watching};
 
-/// The numbers of a load: how many packets were pushed and popped, how many departures found nothing, and the numbers of the
-/// packets that left, folded into 32 bits.
+/// The counts of a load: the packets pushed, the packets popped, the departures that found no
+/// packet, and the sum of the departed packets' numbers, folded into 32 bits.
 #[derive(Clone, Copy, PartialEq, Eq, Debug)]
 pub struct LoadCounts {
     pub pushed: u64,
@@ -34,15 +34,15 @@ pub struct LoadCounts {
     pub sum: u64,
 }
 
-/// A load: its seed, and how many events are drawn, at most 1,000,000.
+/// A load: its seed, and the number of events drawn, at most 1,000,000.
 #[derive(Clone, Copy, Debug)]
 pub struct LoadSize {
     pub seed: u64,
     pub count: u64,
 }
 
-/// Makes the events of a generated load by any scheduler of this policy that represents the start, and then departures until no
-/// packet is held.
+/// Makes the events of a generated load with any scheduler of this policy that represents the
+/// start, and then departures until no packet is queued.
 fn count_load<C: Scheduler + Drop, K: Sink>(
     policy: &Policy,
     run: &mut Run<'_, C, Policy, DepartureSum>,
@@ -80,8 +80,8 @@ fn count_load<C: Scheduler + Drop, K: Sink>(
     })
 }
 
-/// Makes the events of a generated load through a fabric into which the policy's tree is laid by a map, and then departures
-/// until no packet is held. Nothing is written. The error means out of memory.
+/// Makes the events of a generated load through a fabric into which a map lays the policy's tree,
+/// and then departures until no packet is queued. Writes nothing. The error means out of memory.
 pub fn soak<K: Sink, F: Fabric>(
     alloc: Global,
     policy: &Policy,

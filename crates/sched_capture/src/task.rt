@@ -1,7 +1,7 @@
-//! What is run over a capture.
+//! The task of a run over a capture.
 use sched_run::Pace;
 
-/// What paces a run, and the name of the capture over which it goes.
+/// The pace of a run, and the name of the capture it reads.
 #[derive(Clone, Copy, Debug)]
 pub struct Task<'p, 'c> {
     pub pace: Pace<'p>,

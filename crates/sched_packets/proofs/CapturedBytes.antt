@@ -1,4 +1,4 @@
--- The captured bytes of what is left.
+-- The captured bytes of the packets left.
 use Rattle.std.proofs.Common.{◌≡◌, ◌+◌, ℕ, Option, Some, None, List, ◌∷◌, sym, subst}
 use Rattle.pcap_defs.specs.Packet.{CapturedPacket}
 use Rattle.pcap_defs.specs.Contents.{Contents}
@@ -6,7 +6,7 @@ use Rattle.capture_core.specs.Captures.{Comes}
 use Rattle.sched_defs.specs.Packets.{Captured}
 use Rattle.sched_packets.specs.Arrivals.{AreCapturedFrom, AreCaptured}
 
--- the packet that comes has these
+-- the next packet has these bytes
 pub bytes_of_next : (n : ℕ) (old new : Option Contents) (p : CapturedPacket) → Comes old new p → (bytes : Captured) → AreCaptured old n bytes → bytes (n + 1) ≡ p.captured
 bytes_of_next n None new p came bytes are = absurd are
 bytes_of_next n (Some old) None p came bytes are = absurd came
@@ -14,7 +14,7 @@ bytes_of_next n (Some old) (Some new) p came bytes are =
     let both : AreCapturedFrom (n + 1) (p ∷ new.packets) bytes = subst (λ (ps : List CapturedPacket). AreCapturedFrom (n + 1) ps bytes) came.0 are in
     both.0
 
--- and those that come later have theirs
+-- and the packets after it have theirs
 pub bytes_of_others : (n next : ℕ) (old new : Option Contents) (p : CapturedPacket) → next ≡ n + 1 → Comes old new p → (bytes : Captured) → AreCaptured old n bytes → AreCaptured new next bytes
 bytes_of_others n next None new p one came bytes are = absurd are
 bytes_of_others n next (Some old) None p one came bytes are = absurd came

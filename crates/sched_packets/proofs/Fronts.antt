@@ -1,4 +1,4 @@
--- What the front of a file that a window holds says of the file.
+-- The front of a file in a window, and the contents of the file.
 use Rattle.std.proofs.Common.{◌≡◌, ◌<◌, ℕ, Option, Some, None, List, [], ◌++◌, length, sym, ap, ◌∙◌, subst, arith, length-append}
 use Rattle.std.specs.Prelude.{IfSome}
 use Rattle.std.proofs.lemmas.List.{nil_from_length}
@@ -11,7 +11,7 @@ use Rattle.pcapng_defs.specs.NgContents.{in_file, in_ng_capture}
 use Rattle.pcapng_defs.specs.Laws.{IsHeaderFront}
 use Rattle.pcapng_defs.proofs.Formats.{fronts_tell_formats}
 
--- Bytes that are held before what is left of a file are its front.
+-- Bytes in a window before the bytes left of a file are its front.
 file-of : (none held left mid : List ℕ) → none ≡ [] → none ++ left ≡ held ++ mid → left ≡ held ++ mid
 file-of none held left mid e same = ap (λ xs. xs ++ left) (sym e) ∙ same
 
@@ -22,7 +22,8 @@ front-of none held left mid e same short = record {
   enough = λ less. nil_from_length mid (omega (arith, length-append held mid, ap length (sym same ∙ short less)));
 }
 
--- What holds of the contents of what is left behind them, as pcapng or as a classic capture, holds of the contents of the file.
+-- A property of the contents after them, read as pcapng or as a classic capture, holds of the
+-- file's contents.
 module _ (P : FileContents → Type 0) (none held : List ℕ) (e : none ≡ []) where
   pub as-newer : (left mid : Option (List ℕ)) → TakesFront (rest_of none left) (rest_of held mid) [] → IsShort (rest_of none left) held header_len
       → IsHeaderFault held pcap_ng → IfSome (rest_of held mid) (λ file. P (in_ng_capture file)) → IfSome left (λ file. P (in_file file))

@@ -1,4 +1,4 @@
--- What is left of a capture, as packets that come.
+-- The contents left of a capture, as packets to read.
 use Rattle.std.proofs.Common.{◌≡◌, ◌+◌, ℕ, Bool, true, false, true≢false, if◌then◌else◌, Option, Some, None, Ok, Err, List, [], ◌∷◌, refl, sym, ap, ◌∙◌, subst}
 use Rattle.std.specs.Prelude.{Result, IfOk, IfSome, option_map}
 use Rattle.pcap_defs.specs.Packet.{CapturedPacket}
@@ -18,7 +18,7 @@ use Rattle.sched_packets.specs.NextPacket.{packet_told, IsNext, HaltsAt}
 use Rattle.sched_packets.specs.Arrivals.{left_in, Begins, Refuses, AreCaptured, AreCapturedIn}
 use Rattle.sched_packets.proofs.CapturedBytes.{bytes_of_next, bytes_of_others}
 
--- ---- behind the beginning
+-- ---- after the beginning
 -- all packets are left
 pub begins : (policy : Resolved) (file : FileContents) (left : Option Contents) (given : ℕ) → given ≡ 0 → Opens file left → Begins policy file (option_map (left_in policy given) left)
 begins policy (no_capture fault) left given none opened = absurd opened
@@ -40,7 +40,7 @@ refuses Source contents (Some bytes) h = tt
 refuses Memory contents None h = tt
 refuses Memory contents (Some bytes) h = tt
 
--- the same where the bytes that the reader had are those of a window
+-- the same if the reader's bytes are those of a window
 pub refuses_over : (error : ReadError) (contents : List ℕ → FileContents) (ahead held : List ℕ) (left : Option (List ℕ)) → ahead ≡ held
     → IfSome (fault_told error) (λ f. IfSome (rest_of ahead left) (λ bytes. contents bytes ≡ no_capture f)) → IfSome (rest_of held left) (λ bytes. Refuses (halt_of error) (contents bytes))
 refuses_over error contents ahead held left same h =
@@ -75,14 +75,14 @@ module _ (policy : Resolved) (n : ℕ) where
       let P : Packet → Type 0 = λ q. Came (option_map (left_in policy n) old) (option_map (left_in policy next) new) (q ∷ []) in
       subst P (sym is.packet) (rw (one) (comes old new (packet_told link p captured) is.comes))
 
-  -- one that is passed over came
+  -- a skipped packet counts as read
   pub one_came : (next : ℕ) (old new : Option Contents) (passed : Result Bool Halt) → IfOk passed (λ some. next ≡ n + (if some then 1 else 0)) → IfOk passed (λ some. some ≡ true → IsOneLess old new)
       → IfOk passed (λ some. some ≡ true → OneCame (option_map (left_in policy n) old) (option_map (left_in policy next) new))
   one_came next old new (Ok true) given less = λ is. (packet_of policy (n + 1) (less is).0, rw (given) (comes old new (less is).0 (less is).1))
   one_came next old new (Ok false) given less = λ is. absurd (true≢false (sym is))
   one_came next old new (Err halt) given less = tt
 
-  -- what the next packet tells of what is left to come, and of the captured bytes
+  -- the next packet is the first of those left, and these are its captured bytes
   pub record Gives (next : ℕ) (old new : Option Contents) (p : Packet) (captured : List ℕ) : Type 0 where
     pub came : Came (option_map (left_in policy n) old) (option_map (left_in policy next) new) (p ∷ [])
     pub bytes : IsKnownAs (AreCaptured old n) p.number captured

@@ -1,4 +1,4 @@
--- What is read of a packet is the packet with its class and its flow.
+-- A captured packet is read with its class and its flow.
 use Rattle.std.proofs.Common.{◌≡◌, ◌≤◌, ℕ, ◌+◌, Option, List, length, ap, sym, ◌∙◌, subst}
 use Rattle.std.specs.Prelude.{unwrap_or}
 use Rattle.pcap_defs.specs.Record.{most_captured}
@@ -29,7 +29,7 @@ packet-is policy f bytes old p number len moment sorted =
     ∙ ap (λ m. record { number = f.frame.number; class = class_given policy fields f.frame.len; len = f.frame.len; moment = m; flow = p.flow }) moment_is
     ∙ ap (λ (k : FlowKey). record { number = f.frame.number; class = class_given policy fields f.frame.len; len = f.frame.len; moment = f.frame.moment; flow = k }) sorted.flow
 
--- and it is the next one, where its record is
+-- and it is the next one if its record is next
 pub next_of_record : (policy : Resolved) (n : ℕ) (old new : Option Contents) (f : LinkedFrame) (p : Packet) (bytes : List ℕ) → p ≡ packet_of policy (n + 1) (packet_of_frame f bytes)
     → Comes old new (packet_of_frame f bytes) → IsSendable policy.policy p → length bytes ≤ most_captured → IsNext policy n old new f.link p bytes
 next_of_record policy n old new f p bytes is comes sendable short = record {

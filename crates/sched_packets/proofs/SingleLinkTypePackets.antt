@@ -1,4 +1,4 @@
--- The packets of one link type, as those of the capture come.
+-- The packets of one link type, among those of a capture.
 use Rattle.std.proofs.Common.{◌≡◌, ◌+◌, ◌==◌, ℕ, Bool, true, false, true≢false, if◌then◌else◌, Option, Some, None, List, [], ◌∷◌, refl, sym, ap, ◌∙◌, subst, arith}
 use Rattle.std.specs.Prelude.{option_map}
 use Rattle.std.proofs.lemmas.Bool.{eq-eqb, ne_eqb}
@@ -15,7 +15,7 @@ use Rattle.sched_packets.specs.Arrivals.{Refuses}
 use Rattle.sched_packets.specs.SingleLinkType.{one_link_in, link_in, with_ahead, rest_of_link, IsFirst}
 
 -- ---- one packet in front of others
--- the fault that a packet of another link type makes
+-- the fault at a packet of another link type
 abbrev other_at : ℕ → Contents
 other_at n = record { packets = []; fault = Some (record { code = other_link; place = n }) }
 
@@ -27,21 +27,21 @@ another_link : (t : Bool) → t ≡ false → (p : CapturedPacket) (n : ℕ) (ot
 another_link true is p n others = absurd (true≢false is)
 another_link false is p n others = refl
 
--- what is left of one link type, where a packet of it comes
+-- the contents left of one link type, if the next packet has it
 rest_of_next : (link n : ℕ) (old new : Contents) (p : CapturedPacket) → (p.link == link) ≡ true → old.packets ≡ p ∷ new.packets → old.fault ≡ new.fault
     → rest_of_link link n old ≡ behind_packet p (rest_of_link link (n + 1) new)
 rest_of_next link n old new p is packets fault =
     ap (λ ps. of_link link (n + 1) ps old.fault) packets ∙ ap (of_link link (n + 1) (p ∷ new.packets)) fault
     ∙ same_link (p.link == link) is p (n + 1) (rest_of_link link (n + 1) new)
 
--- and where one of another does
+-- and if the next packet has another one
 rest_of_other : (link n : ℕ) (old new : Contents) (p : CapturedPacket) → (p.link == link) ≡ false → old.packets ≡ p ∷ new.packets → old.fault ≡ new.fault
     → rest_of_link link n old ≡ other_at (n + 1)
 rest_of_other link n old new p is packets fault =
     ap (λ ps. of_link link (n + 1) ps old.fault) packets ∙ ap (of_link link (n + 1) (p ∷ new.packets)) fault
     ∙ another_link (p.link == link) is p (n + 1) (rest_of_link link (n + 1) new)
 
--- ---- behind the packet read ahead
+-- ---- after the packet read ahead
 comes_of_link : (link n next : ℕ) (old new : Option Contents) (p : CapturedPacket) → next ≡ n + 1 → (p.link == link) ≡ true → Comes old new p
     → Comes (option_map (rest_of_link link n) old) (option_map (rest_of_link link next) new) p
 comes_of_link link n next None new p one is came = tt
@@ -69,7 +69,7 @@ other_told : (n number : ℕ) (left : Contents) → left ≡ other_at (n + 1) �
 other_told n number left is numbered =
     (ap (λ (c : Contents). c.packets) is, ap (λ (c : Contents). c.fault) is ∙ ap (λ (m : ℕ). Some (record { code = other_link; place = m })) (sym numbered))
 
--- one of another link type is told by its number
+-- a packet of another link type is reported by its number
 pub other_halts : (policy : Resolved) (n link own : ℕ) (old new : Option Contents) (p : Packet) (captured : List ℕ) → (own ≡ link → ⊥) → IsNext policy n old new own p captured
     → HaltsAt (option_map (rest_of_link link n) old) (halt.Fault other_link p.number)
 other_halts policy n link own None new p captured differs is = tt
@@ -78,7 +78,7 @@ other_halts policy n link own (Some old) (Some new) p captured differs is =
     other_told n p.number (rest_of_link link n old)
     (rest_of_other link n old new (packet_told own p captured) (ne_eqb own link differs) is.comes.0 is.comes.1) (ap (λ (q : Packet). q.number) is.packet)
 
--- where none is left, none is of its link type
+-- if no packet is left, none of its link type is
 pub at_end : (fault : Option FaultAt) (link n : ℕ) (old : Option Contents) → IsAt fault old → IsAt fault (option_map (rest_of_link link n) old)
 at_end fault link n None at = tt
 at_end fault link n (Some old) at =
@@ -93,11 +93,11 @@ pub over_at_end : (link n : ℕ) (new : Option Contents) → new ≡ Some nothin
 over_at_end link n new over = ap (option_map (rest_of_link link n)) over
 
 -- ---- the packet read ahead
--- the contents that are left, with it in front
+-- the contents left, with this packet in front
 abbrev pub behind_ahead : ℕ → ℕ → List ℕ → Option Packet → Option Contents → Option Contents
 behind_ahead link read captured ahead = option_map (λ (c : Contents). with_ahead link ahead captured (rest_of_link link read c))
 
--- it is the next
+-- it is the next packet
 first_comes : (link read : ℕ) (captured : List ℕ) (p : Packet) (old : Option Contents) → Comes (behind_ahead link read captured (Some p) old) (behind_ahead link read captured None old) (packet_told link p captured)
 first_comes link read captured p None = tt
 first_comes link read captured p (Some old) = (refl, refl)
@@ -111,7 +111,7 @@ first_next policy read link captured p old is = record {
   short = is.short;
 }
 
--- ---- behind the beginning
+-- ---- after the beginning
 first_opens : (c left : Contents) (p : CapturedPacket) → c.packets ≡ p ∷ left.packets → c.fault ≡ left.fault
     → Opens (one_link_in (holds c)) (Some (behind_packet p (rest_of_link p.link 1 left)))
 first_opens c left p packets fault = rw (packets, fault) (ap Some (sym (same_link (p.link == p.link) (eq-eqb p.link p.link refl) p 1 (rest_of_link p.link 1 left))))
@@ -121,7 +121,7 @@ comes_open : (c : Contents) (left : Option Contents) (p : Packet) (link read : �
 comes_open c None p link read captured one came = absurd came
 comes_open c (Some left) p link read captured one came = rw (one) (first_opens c left (packet_told link p captured) came.0 came.1)
 
--- the first packet with those of its link type is what the file is taken to hold
+-- up to another link type, the file holds the first packet and those of its link type
 pub opens_first : (file : FileContents) (old left : Option Contents) (p : Packet) (link read : ℕ) (captured : List ℕ) → read ≡ 1 → Comes old left (packet_told link p captured)
     → Opens file old → Opens (one_link_in file) (behind_ahead link read captured (Some p) left)
 opens_first (no_capture fault) old left p link read captured one came opened = absurd opened
@@ -153,7 +153,7 @@ link_of_none (holds c) old at opened =
     let none : IsAt None (Some c) = subst (IsAt None) opened at in
     sym (ap first_link none.0)
 
--- a fault in its place
+-- a fault instead of a first packet
 fault_refuses : (c : Contents) (fault : FaultAt) → IsAt (Some fault) (Some c) → one_link_in (holds c) ≡ no_capture fault
 fault_refuses c fault at = rw (at.0, at.1) refl
 

@@ -1,4 +1,4 @@
--- What the packets of a capture stand for, whatever its format.
+-- The meaning of a capture's packets, in either format.
 use Rattle.std.specs.Prelude.{ℕ, Bool, Option, option_map, List, IsSome, IsTrue}
 use Rattle.pcap_defs.specs.Contents.{Contents}
 use Rattle.pcap_core.specs.Readers.{head_of, is_live, records_given}
@@ -22,22 +22,22 @@ resolved_of (Blocks arrivals) = one.resolved_of arrivals
 abbrev pub policy_of : {S : Type 0} → CapturePackets S → Policy
 policy_of arrivals = (resolved_of arrivals).policy
 
--- how many packets came
+-- the number of packets read
 abbrev pub given_by : {S : Type 0} → CapturePackets S → ℕ
 given_by (Classic arrivals) = one.given_by records_given arrivals
 given_by (Blocks arrivals) = one.given_by blocks.packets_given arrivals
 
--- the captured bytes of the packet that came last
+-- the captured bytes of the last packet read
 abbrev pub captured_by : {S : Type 0} → CapturePackets S → List ℕ
 captured_by (Classic arrivals) = one.captured_by arrivals
 captured_by (Blocks arrivals) = one.captured_by arrivals
 
--- what is left of the capture, where the shelf tells what is left of the file
+-- the contents left of the capture, if the bytes left of the file are known to the contract
 abbrev pub contents_of : {S : Type 0} → CapturePackets S → Option (List ℕ) → Option Contents
 contents_of (Classic arrivals) told = one.contents_of contents_left arrivals told
 contents_of (Blocks arrivals) told = one.contents_of blocks_left.contents_left arrivals told
 
--- the packets that are left to come
+-- the packets left to read
 abbrev pub left_of : {S : Type 0} → CapturePackets S → Option (List ℕ) → Option Left
 left_of arrivals told = option_map (left_in (resolved_of arrivals) (given_by arrivals)) (contents_of arrivals told)
 
@@ -45,11 +45,11 @@ left_of arrivals told = option_map (left_in (resolved_of arrivals) (given_by arr
 abbrev pub captures_of : {S : Type 0} → CapturePackets S → Option (List ℕ) → Captured → Type 0
 captures_of arrivals told bytes = AreCaptured (contents_of arrivals told) (given_by arrivals) bytes
 
--- where it is told what is left, there are such bytes
+-- if the packets left are known, such bytes exist
 pub there : {S : Type 0} (arrivals : CapturePackets S) (told : Option (List ℕ)) → AreThere (left_of arrivals told) (captures_of arrivals told)
 there arrivals told = bytes.there (resolved_of arrivals) (given_by arrivals) (contents_of arrivals told)
 
--- the reader can go on, no more packets came than may come, and the file is still begun
+-- the reader can go on, the number of packets read is within the limit, and the file is still begun
 abbrev pub IsReady : {S : Type 0} → CapturePackets S → Bool → Type 0
 IsReady (Classic arrivals) begun = one.IsReady (λ r. IsSome (head_of r) × IsTrue (is_live r)) records_given arrivals begun
 IsReady (Blocks arrivals) begun = one.IsReady (λ r. IsTrue (blocks.is_live r)) blocks.packets_given arrivals begun

@@ -1,4 +1,4 @@
--- There are captured bytes of what is left, where that is told.
+-- Captured bytes exist for the packets left, if those are known to the contract.
 use Rattle.std.proofs.Common.{◌≡◌, ◌≤◌, ◌+◌, ◌==◌, ℕ, Bool, true, false, true≢false, if◌then◌else◌, Option, Some, None, List, [], ◌∷◌, refl, sym, ◌∙◌, arith}
 use Rattle.std.specs.Prelude.{option_map}
 use Rattle.std.proofs.lemmas.Bool.{eq-eqb, eqb-true}

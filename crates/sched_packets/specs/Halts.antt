@@ -1,4 +1,4 @@
--- Why no packet of a capture comes.
+-- The reasons why no packet of a capture is read.
 use Rattle.outside_core.specs.declared.shelves.ShelfError.{ShelfError}
 use Rattle.outside_core.specs.declared.shelves.ShelfError.TheVariants.{Failed, NoMemory}
 use Rattle.outside_core.specs.declared.read_error.ReadError.{ReadError}
@@ -6,13 +6,13 @@ use Rattle.outside_core.specs.declared.read_error.ReadError.TheVariants.{Fault, 
 use Rattle.sched_defs.specs.declared.packets.Halt.{Halt}
 use Rattle.sched_defs.specs.declared.packets.Halt.TheVariants as halt
 
--- what a reader's error becomes
+-- the halt for a reader's error
 abbrev pub halt_of : ReadError → Halt
 halt_of (Fault code place) = halt.Fault code place
 halt_of Source = halt.Source
 halt_of Memory = halt.Memory
 
--- what an error of a shelf becomes
+-- the halt for a shelf's error
 abbrev pub halt_unread : ShelfError → Halt
 halt_unread Failed = halt.Source
 halt_unread NoMemory = halt.Memory

@@ -1,4 +1,4 @@
--- How the packet that comes next, and a halt, are of what was left of a capture.
+-- The next packet of a capture, and a halt, by the contents that were left.
 use Rattle.std.specs.Prelude.{◌≡◌, ◌≤◌, ℕ, ◌+◌, Option, Some, List, length, ⊤}
 use Rattle.pcap_defs.specs.Packet.{CapturedPacket}
 use Rattle.pcap_defs.specs.Record.{most_captured}
@@ -11,19 +11,20 @@ use Rattle.sched_defs.specs.declared.packets.Halt.{Halt}
 use Rattle.sched_defs.specs.declared.packets.Halt.TheVariants as halt
 use Rattle.sched_packets.specs.Packets.{packet_of}
 
--- the packet of a capture that a packet with its link type and its captured bytes tells
+-- the captured packet with this link type, this packet's timestamp and length, and these captured
+-- bytes
 abbrev pub packet_told : ℕ → Packet → List ℕ → CapturedPacket
 packet_told link p captured = record { link = link; moment = p.moment; original = p.len; captured = captured }
 
--- A packet with its link type and its captured bytes is the next one of what was left behind so many, and is what a policy
--- makes of it.
+-- The packet, its link type and its captured bytes are the next ones of the contents left after
+-- `given` packets. The policy gives the packet its class.
 pub record IsNext (policy : Resolved) (given : ℕ) (old new : Option Contents) (link : ℕ) (p : Packet) (captured : List ℕ) : Type 0 where
   pub comes : Comes old new (packet_told link p captured)
   pub packet : p ≡ packet_of policy (given + 1) (packet_told link p captured)
   pub sendable : IsSendable policy.policy p
   pub short : length captured ≤ most_captured
 
--- a halt at a fault comes behind the last packet, and tells the fault that is there
+-- a halt at a fault comes after the last packet, and reports the fault that is there
 abbrev pub HaltsAt : Option Contents → Halt → Type 0
 HaltsAt left (halt.Fault c p) = IsAt (Some (record { code = c; place = p })) left
 HaltsAt left _ = ⊤

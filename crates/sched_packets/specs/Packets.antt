@@ -1,4 +1,4 @@
--- The packets that a policy makes of those of a capture.
+-- The packets that a policy makes of captured ones.
 use Rattle.std.specs.Prelude.{◌≡◌, refl, ℕ, ◌+◌, unwrap_or, List, [], ◌∷◌}
 use Rattle.rank_defs.specs.declared.environment.FlowKey.{FlowKey}
 use Rattle.pcap_defs.specs.Packet.{CapturedPacket}
@@ -13,11 +13,13 @@ use Rattle.policy_text_defs.specs.declared.condition.Condition.TheVariants.{Fiel
 use Rattle.policy_defs.specs.Policy.{one_leaf}
 use Rattle.policy_rules.specs.Resolved.{Resolved}
 
--- the class of a packet of this original length: the first all of whose conditions it meets. There is one, since the last class has none
+-- The class of a packet of this original length is the first whose conditions it all meets. There
+-- always is one, because the last class has no conditions.
 abbrev pub class_given : Resolved → Fields → ℕ → ℕ
 class_given policy fields length = unwrap_or (class_of (conditions_of policy.conditions) fields length) 0
 
--- the packet with this number, by the headers in its captured bytes, which its own link type tells
+-- The packet with this number. Its own link type determines the headers read from its captured
+-- bytes.
 abbrev pub packet_of : Resolved → ℕ → CapturedPacket → Packet
 packet_of policy n p = record {
   number = n;
@@ -27,12 +29,13 @@ packet_of policy n p = record {
   flow = flow_of (fields_of p.link p.captured);
 }
 
--- the packets of a capture, of which the first has this number
+-- the packets of a capture, the first of which has this number
 abbrev pub packets_from : Resolved → ℕ → List CapturedPacket → List Packet
 packets_from policy n [] = []
 packets_from policy n (p ∷ packets) = packet_of policy n p ∷ packets_from policy (n + 1) packets
 
--- UDP from port 4096 of 10.0.0.1 to port 53 of 10.0.0.2, without a link header, and the flow of it
+-- a UDP packet from port 4096 of 10.0.0.1 to port 53 of 10.0.0.2, without a link header, and its
+-- flow
 abbrev question : List ℕ
 question =
     69 ∷ 0 ∷ 0 ∷ 28 ∷ 0 ∷ 0 ∷ 0 ∷ 0 ∷ 64 ∷ 17 ∷ 0 ∷ 0 ∷ 10 ∷ 0 ∷ 0 ∷ 1 ∷ 10 ∷ 0 ∷ 0 ∷ 2 ∷ 16 ∷ 0 ∷ 0 ∷ 53 ∷ 0 ∷ 8 ∷ 0 ∷ 0 ∷ []

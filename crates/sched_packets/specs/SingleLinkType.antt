@@ -1,4 +1,5 @@
--- What the packets of a capture that have the link type of its first stand for. The first is read ahead.
+-- The meaning of a capture's packets up to one with another link type. The first packet is read
+-- ahead.
 use Rattle.std.specs.Prelude.{◌≡◌, refl, ◌≤◌, ℕ, ◌+◌, Bool, Option, None, Some, option_map, List, [], ◌∷◌, length, IfSome}
 use Rattle.pcap_defs.specs.Packet.{CapturedPacket}
 use Rattle.pcap_defs.specs.Record.{most_captured}
@@ -17,29 +18,30 @@ use Rattle.sched_packets.specs.CapturedBytes as bytes
 use Rattle.sched_packets.specs.CapturePackets as any
 use Rattle.sched_packets.specs.declared.single_link_type.SingleLinkType.{SingleLinkType}
 
--- ---- of what is in a file
--- what these packets and the fault behind them make of a file: it is no capture where the fault comes first
+-- ---- the contents of a file
+-- the contents of a file by its packets and the fault after them: it is no capture if the fault
+-- comes first
 abbrev pub ahead_in : List CapturedPacket → Option FaultAt → Contents → FileContents
 ahead_in [] None contents = holds contents
 ahead_in [] (Some fault) contents = no_capture fault
 ahead_in (p ∷ packets) fault contents = holds contents
 
--- what is in a file, as the packets up to one with another link type than the first; it is no capture where its first packet is
--- at fault
+-- The contents of a file up to the first packet with another link type. It is no capture if its
+-- first packet is at fault.
 abbrev pub one_link_in : FileContents → FileContents
 one_link_in (no_capture fault) = no_capture fault
 one_link_in (holds contents) = ahead_in contents.packets contents.fault (of_one_link contents)
 
--- the link type of its first packet, or 0 where it has none
+-- the link type of the file's first packet, or 0 without a packet
 abbrev pub link_in : FileContents → ℕ
 link_in (no_capture fault) = 0
 link_in (holds contents) = first_link contents.packets
 
--- P of each file of which all that it holds is left
+-- P holds of each file all of whose contents are left
 abbrev pub EachFileOf : Option Contents → (FileContents → Type 0) → Type 0
 EachFileOf left P = (file : FileContents) → Opens file left → P file
 
--- ---- of the packets
+-- ---- the packets
 abbrev pub resolved_of : {S : Type 0} → SingleLinkType S → Resolved
 resolved_of packets = any.resolved_of packets.arrivals
 
@@ -47,15 +49,15 @@ resolved_of packets = any.resolved_of packets.arrivals
 abbrev pub policy_of : {S : Type 0} → SingleLinkType S → Policy
 policy_of packets = (resolved_of packets).policy
 
--- the link type of the first, or 0 where there is none
+-- the link type of the first packet, or 0 without a packet
 abbrev pub link_of : {S : Type 0} → SingleLinkType S → ℕ
 link_of packets = packets.link
 
--- the captured bytes of the packet that came last, or is read ahead
+-- the captured bytes of the last packet read, or of the one read ahead
 abbrev pub captured_by : {S : Type 0} → SingleLinkType S → List ℕ
 captured_by packets = any.captured_by packets.arrivals
 
--- how many came, where so many were read
+-- the number of packets returned, after n were read: none while the first is read ahead
 abbrev pub given_of : Option Packet → ℕ → ℕ
 given_of None n = n
 given_of (Some ahead) n = 0
@@ -63,22 +65,22 @@ given_of (Some ahead) n = 0
 abbrev pub given_by : {S : Type 0} → SingleLinkType S → ℕ
 given_by packets = given_of packets.ahead (any.given_by packets.arrivals)
 
--- what is left to come, where these contents are left to be read
+-- the contents left, with the packet read ahead in front if there is one
 abbrev pub with_ahead : ℕ → Option Packet → List ℕ → Contents → Contents
 with_ahead link None captured contents = contents
 with_ahead link (Some ahead) captured contents = behind_packet (packet_told link ahead captured) contents
 
--- of contents behind so many packets, those up to one with another link type
+-- of the contents after n packets, those up to one with another link type
 abbrev pub rest_of_link : ℕ → ℕ → Contents → Contents
 rest_of_link link n contents = of_link link (n + 1) contents.packets contents.fault
 
--- what is left of the capture, where the shelf tells what is left of the file
+-- the contents left of the capture, if the bytes left of the file are known to the contract
 abbrev pub contents_of : {S : Type 0} → SingleLinkType S → Option (List ℕ) → Option Contents
 contents_of packets told =
     option_map (λ (contents : Contents). with_ahead packets.link packets.ahead (captured_by packets)
     (rest_of_link packets.link (any.given_by packets.arrivals) contents)) (any.contents_of packets.arrivals told)
 
--- the packets that are left to come
+-- the packets left to read
 abbrev pub left_of : {S : Type 0} → SingleLinkType S → Option (List ℕ) → Option Left
 left_of packets told = option_map (left_in (resolved_of packets) (given_by packets)) (contents_of packets told)
 
@@ -86,18 +88,19 @@ left_of packets told = option_map (left_in (resolved_of packets) (given_by packe
 abbrev pub captures_of : {S : Type 0} → SingleLinkType S → Option (List ℕ) → Captured → Type 0
 captures_of packets told bytes = AreCaptured (contents_of packets told) (given_by packets) bytes
 
--- where it is told what is left, there are such bytes
+-- if the packets left are known, such bytes exist
 pub there : {S : Type 0} (packets : SingleLinkType S) (told : Option (List ℕ)) → AreThere (left_of packets told) (captures_of packets told)
 there packets told = bytes.there (resolved_of packets) (given_by packets) (contents_of packets told)
 
--- a packet with this link type and these captured bytes is what a policy makes of the first of a capture, and no other was read
+-- The packet is the first of a capture with this link type and these captured bytes, as the policy
+-- makes it. No other packet was read.
 pub record IsFirst (policy : Resolved) (read link : ℕ) (captured : List ℕ) (p : Packet) : Type 0 where
   pub one : read ≡ 1
   pub packet : p ≡ packet_of policy 1 (packet_told link p captured)
   pub sendable : IsSendable policy.policy p
   pub short : length captured ≤ most_captured
 
--- more can be read, and the packet that is read ahead is the first
+-- more can be read, and the packet read ahead is the first
 pub record IsReady {S : Type 0} (packets : SingleLinkType S) (begun : Bool) : Type 0 where
   pub arrivals : any.IsReady packets.arrivals begun
   pub ahead : IfSome packets.ahead (IsFirst (resolved_of packets) (any.given_by packets.arrivals) packets.link (captured_by packets))
@@ -106,7 +109,7 @@ pub record IsReady {S : Type 0} (packets : SingleLinkType S) (begun : Bool) : Ty
 abbrev packet_on : ℕ → CapturedPacket
 packet_on link = record { link = link; moment = 0; original = 1; captured = [] }
 
--- a packet of another link type stays behind the first, as the fault at its number
+-- a packet of another link type is left after the first, as a fault at its number
 one_link_in-second : one_link_in (holds (record { packets = packet_on 1 ∷ packet_on 101 ∷ []; fault = None }))
     ≡ holds (record { packets = packet_on 1 ∷ []; fault = Some (record { code = 20; place = 2 }) })
 one_link_in-second = refl

@@ -17,8 +17,9 @@ use sched_defs::Halt;
 use std::alloc::Global;
 use std::marker::PhantomData;
 
-/// The packets of a capture, in their order, each with its own link type and with the class that a policy gives it. The bytes
-/// of one packet are held at a time, 262,144 at most, and after the end of the capture nothing more is read.
+/// Reads the packets of a capture in order, each with its own link type and the class that a policy
+/// gives it. Holds the captured bytes of one packet at a time, at most 262,144, and reads nothing
+/// after the end of the capture.
 #[derive(Drop)]
 pub struct Arrivals<'a, R, S> {
     classifier: Classifier<'a>,
@@ -31,7 +32,8 @@ pub struct Arrivals<'a, R, S> {
 impl<'a, R: CaptureReader + Drop, S: Shelf> Arrivals<'a, R, S> {
     ghost use Rattle.sched_packets.specs.Arrivals.{resolved_of, given_by, captured_by, contents_of, IsReady, Refuses};
 
-    /// Reads the beginning of a file: the bytes that a window holds, and then those left of the begun file.
+    /// Reads the beginning of a file: the bytes already in the window, then the bytes left of the
+    /// begun file.
     pub fn start(
         alloc: Global,
         policy: &'a Policy,
@@ -69,8 +71,8 @@ impl<'a, R: CaptureReader + Drop, S: Shelf> Arrivals<'a, R, S> {
         }
     }
 
-    /// Puts the next packet, if one is left, in place of another, and answers its link type. It may be asked for again where
-    /// none is, and not after an error.
+    /// Writes the next packet, if one is left, through an out-parameter, and returns its link type.
+    /// May be called again after `None`, but not after an error.
     #[inline(always)]
     pub fn next_packet(&mut self, source: &mut S, packet: &mut Packet) -> Result<Option<u16>, Halt>
         requires ready { IsReady R.ready R.given self.old (S.begun source.old) }
@@ -109,8 +111,8 @@ impl<'a, R: CaptureReader + Drop, S: Shelf> Arrivals<'a, R, S> {
         }
     }
 
-    /// Passes over the next packet, and answers whether one was left. It may be called again where none is, and not after an
-    /// error.
+    /// Skips the next packet, and returns whether one was left. May be called again after `false`,
+    /// but not after an error.
     pub fn pass(&mut self, source: &mut S) -> Result<bool, Halt>
         requires ready { IsReady R.ready R.given self.old (S.begun source.old) }
 
@@ -143,7 +145,7 @@ impl<'a, R: CaptureReader + Drop, S: Shelf> Arrivals<'a, R, S> {
         }
     }
 
-    /// The captured bytes of the packet that came last, if it wasn't passed over.
+    /// Returns the captured bytes of the last packet read, unless it was skipped.
     #[inline(always)]
     pub fn captured(&self) -> &[u8]
         ensures { result.now ≡ captured_by self.now }

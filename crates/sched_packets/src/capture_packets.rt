@@ -1,4 +1,4 @@
-//! The packets of a capture, whatever its format.
+//! The packets of a capture of either format.
 ghost use Rattle.std.specs.Prelude.{◌≡◌, ◌+◌, Some, is_some, if◌then◌else◌, IfOk, IfErr, IfSome, IfNone, OnOk, IsErrOf, IsTrue};
 ghost use Rattle.outside_core.specs.Faults.{Rose};
 ghost use Rattle.outside_core.specs.Kept.{KeepsShelf};
@@ -18,19 +18,20 @@ use policy_core::Policy;
 use sched_defs::{Halt, Packets};
 use std::alloc::Global;
 
-/// The packets of a capture in the format in which its file begins.
+/// Reads the packets of a capture in the format with which its file begins.
 #[derive(Drop)]
 pub enum CapturePackets<'a, S> {
-    /// Of a classic capture.
+    /// The packets of a classic capture.
     Classic(Arrivals<'a, Reader, S>),
-    /// Of a pcapng capture.
+    /// The packets of a pcapng capture.
     Blocks(Arrivals<'a, NgReader, S>),
 }
 
 impl<'a, S: Shelf> CapturePackets<'a, S> {
     ghost use Rattle.sched_packets.specs.CapturePackets.{resolved_of, given_by, captured_by, contents_of, left_of, IsReady};
 
-    /// Begins the file of this name, and reads its beginning in the format that its first bytes tell.
+    /// Begins the file of this name, detects its format by its first bytes, and reads its
+    /// beginning.
     pub fn open(
         alloc: Global,
         policy: &'a Policy,
@@ -59,7 +60,7 @@ impl<'a, S: Shelf> CapturePackets<'a, S> {
         }
     }
 
-    /// Reads the beginning of the begun file. The window that its first bytes fill goes on to the reader.
+    /// Reads the beginning of the begun file. The window with the first bytes passes to the reader.
     fn start(
         alloc: Global,
         policy: &'a Policy,
@@ -96,8 +97,8 @@ impl<'a, S: Shelf> CapturePackets<'a, S> {
         }
     }
 
-    /// Puts the next packet, if one is left, in place of another, and answers its link type. It may be asked for again where
-    /// none is, and not after an error.
+    /// Writes the next packet, if one is left, through an out-parameter, and returns its link type.
+    /// May be called again after `None`, but not after an error.
     #[inline(always)]
     pub fn next_packet(&mut self, source: &mut S, packet: &mut Packet) -> Result<Option<u16>, Halt>
         requires ready { IsReady self.old (S.begun source.old) }

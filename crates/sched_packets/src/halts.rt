@@ -1,11 +1,11 @@
-//! Why no more packets come.
+//! The reasons why no more packets are read.
 ghost use Rattle.std.specs.Prelude.{◌≡◌};
 ghost use Rattle.sched_packets.specs.Halts.{halt_of, halt_unread};
 
 use outside_core::{ReadError, ShelfError};
 use sched_defs::Halt;
 
-/// Why no packet comes, where a capture isn't read on.
+/// Converts a capture reader's error to the reason why no packet is read.
 pub(crate) fn halt_of(error: ReadError) -> Halt
     ensures { result ≡ halt_of error }
 {
@@ -16,7 +16,8 @@ pub(crate) fn halt_of(error: ReadError) -> Halt
     }
 }
 
-/// Why no packet comes, where the file can't be begun or its front isn't read.
+/// Converts a shelf's error to the reason why no packet is read. The file can't be begun, or its
+/// front can't be read.
 pub(crate) fn halt_unread(error: ShelfError) -> Halt
     ensures { result ≡ halt_unread error }
 {

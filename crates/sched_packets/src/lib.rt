@@ -1,5 +1,6 @@
-//! The packets of a capture of either format, one by one, each with its own link type, the class that a policy gives it and
-//! its flow, and those of them that have the link type of the first. Begin with specs/CapturePackets.antt.
+//! Reads the packets of a classic or pcapng capture one by one. Each has its own link type, its
+//! flow, and the class that a policy gives it. Can also stop at the first packet with another link
+//! type than the first. Begin with specs/CapturePackets.antt.
 #![tactic(auto)]
 
 mod arrivals;

@@ -1,4 +1,4 @@
-//! The packet of a capture.
+//! The packet that a policy makes of a captured one.
 ghost use Rattle.std.specs.Prelude.{◌≡◌, ◌<◌, ◌^◌};
 ghost use Rattle.capture_core.specs.Captures;
 ghost use Rattle.packet_core.specs.Classifier.{policy_of};
@@ -8,7 +8,7 @@ ghost use Rattle.sched_packets.specs.Packets.{packet_of};
 use capture_core::LinkedFrame;
 use packet_core::{Classifier, Packet};
 
-/// Puts a number, an original length and a timestamp into a packet.
+/// Writes a number, an original length and a timestamp (`moment`, in nanoseconds) into a packet.
 #[inline(always)]
 fn put_frame(number: u64, len: u32, moment: u64, packet: &mut Packet)
     ensures number { packet.new.number ≡ number }
@@ -21,7 +21,8 @@ fn put_frame(number: u64, len: u32, moment: u64, packet: &mut Packet)
     packet.moment = moment;
 }
 
-/// Puts the packet with its class and its flow, of which these bytes were captured, in place of another.
+/// Writes the packet with these captured bytes, with its class and its flow, through an
+/// out-parameter.
 #[inline(always)]
 pub(crate) fn put_packet(
     classifier: &Classifier,

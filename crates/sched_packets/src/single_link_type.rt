@@ -1,4 +1,4 @@
-//! The packets of a capture that have the link type of its first.
+//! The packets of a capture up to the first with another link type.
 ghost use Rattle.std.specs.Prelude.{◌≡◌, IfOk, IfErr, IsErrOf};
 ghost use Rattle.outside_core.specs.Faults.{Rose};
 ghost use Rattle.outside_core.specs.Kept.{KeepsShelf};
@@ -11,11 +11,12 @@ use outside_core::Shelf;
 use packet_core::Packet;
 use sched_defs::{BLANK, Halt, Packets};
 
-/// The code of a packet that has another link type than the first, after those of faults of captures. Its place is the
-/// packet's number.
+/// The fault code of a packet with another link type than the first packet, after the codes of
+/// capture faults. The fault's position (`place`) is the packet's number.
 pub const OTHER_LINK: u32 = 20;
 
-/// The packets of a capture up to one with another link type than the first, which is read ahead.
+/// Reads the packets of a capture up to one with another link type than the first packet. The first
+/// packet is read ahead.
 #[derive(Drop)]
 pub struct SingleLinkType<'a, S> {
     arrivals: CapturePackets<'a, S>,
@@ -72,7 +73,7 @@ impl<'a, S: Shelf> SingleLinkType<'a, S> {
         }
     }
 
-    /// The link type of the first packet, or 0 where there is none.
+    /// Returns the link type of the first packet, or 0 without a packet.
     pub fn link(&self) -> u16
         ensures { result ≡ link_of self.now }
     {

@@ -1,4 +1,4 @@
--- What is made of an agenda, and what of it is still to come.
+-- The part of an agenda that was made, and the part still to come.
 use Rattle.std.proofs.Common.{◌≡◌, ◌≤◌, ◌^◌, ℕ, ◌+◌, Bool, false, Option, None, Some, List, [], ◌++◌, refl, sym, ap, ◌∙◌, subst, arith, append_assoc, append-nil}
 use Rattle.std.specs.Prelude.{IfSome}
 use Rattle.tree_defs.specs.SourceTree.{size}
@@ -24,14 +24,15 @@ use Rattle.sched_run.proofs.MadeEvents.{Stands, can_make, stands_after, makes_no
 use Rattle.sched_run.proofs.PacketsInTurn.{room_after}
 use Rattle.sched_run.proofs.EventCounts.{AreOf, outcomes_of, outcomes_both}
 
--- what was to come over what was left is these events, and then the rest over what is left now
+-- The agenda over the packets left before is these events, followed by the rest over the packets
+-- left now.
 pub record IsBehind (policy : Policy) (whole rest : Agenda) (events : List Event) (before : Left) (now : Option Left) (s : SourceState) (first next : ℕ) : Type 0 where
   pub left : Left
   pub is : now ≡ Some left
   pub joined : whole before s first ≡ behind events (rest left (after policy events s) next)
 
--- A part of what was to come was made, and the rest is still to come. Of so many departures that may find nothing so many
--- are spare.
+-- A part of the agenda was made, and the rest is still to come. Of the `all` departures that may
+-- find no packet, at least `spare` are unused.
 pub record HasRun {C U W : Type 0} (S : Ghosts C U) (R : Recordings W) (policy : Policy) (whole rest : Agenda) (all spare : ℕ) (before now : Option Left) (old new : Stage C U W) : Type 0 where
   pub events : List Event
   pub made : Makes S R policy events old new
@@ -75,7 +76,7 @@ module _ {C U W : Type 0} (S : Ghosts C U) (R : Recordings W) (laws : AreJoined 
           subst (λ (o : Option Left). IfSome o (λ l. (s : SourceState) → IsCourse [] e (rest l s (event_of tally)))) w.is ends (after policy run.events s) in
           subst (IsCourse run.events e) (sym w.joined) (record { are = sym (append-nil run.events) ∙ ap (λ (es : List Event). run.events ++ es) last.are; ends = last.ends })
 
-  -- what was made is all that is made, and a first part of its text is written
+  -- the run stops here, and a prefix of its record is written
   pub run_halts : (whole rest : Agenda) (all spare : ℕ) (a b : Option Left) (old : Stage C U W) (c : C) (u : U) (w : W) (written : Option (List ℕ)) (given : ℕ) (tally : Tally) (sight : Sight) →
       HasRun S R policy whole rest all spare a b old (stage c u w written given tally sight) → StopsAmid S R policy (λ l s. (whole l s (event_of old.tally)).events) a old c u written
   run_halts whole rest all spare a b old c u w written given tally sight run = record {
@@ -151,7 +152,7 @@ module _ {C U W : Type 0} (S : Ghosts C U) (R : Recordings W) (laws : AreJoined 
             subst (λ (o : Option Left). IfSome o (λ l. FromEach S policy mid (λ s. IsCourse more.events e (next l s (event_of mid.tally))))) w.is more.told s' at.sound at.stood at.below in
             subst (IsCourse (run.events ++ more.events) e) (sym w.joined) (record { are = ap (λ (x : List Event). run.events ++ x) last.are; ends = last.ends })
 
-    -- the first events of the rest are the first of all behind those that were made
+    -- the events made, followed by a prefix of the rest, are a prefix of all
     first_behind : (a : Option Left) (events : List Event) → IfSome a (λ l. FromEach S policy old (λ s. IsBehind policy whole next run.events l b s (event_of old.tally) (event_of mid.tally)))
         → IfSome b (λ l. FromEach S policy mid (λ s. AreFirst events (next l s (event_of mid.tally)).events))
         → IfSome a (λ l. FromEach S policy old (λ s. AreFirst (run.events ++ events) (whole l s (event_of old.tally)).events))
@@ -213,12 +214,12 @@ module _ {C U W : Type 0} (S : Ghosts C U) (R : Recordings W) (laws : AreJoined 
       first = first_behind a more.events run.told more.first;
     }
 
-  -- a run that stopped at its last event stopped
+  -- a run that stopped at its last event is a run that stopped
   pub stops_amid : (over : W → Bool) (before : Option Left) (old : Stage C U W) (c : C) (u : U) (written : Option (List ℕ)) → CoursesAmid S R over policy whole before old c u written
       → StopsAmid S R policy (λ l s. (whole l s (event_of old.tally)).events) before old c u written
   stops_amid over before old c u written to = record { events = to.events; stop = stops_at_last S R laws policy accepted over to.events old c u written to.stop; first = to.first }
 
-  -- ---- what the rest needs
+  -- ---- the conditions of the rest
   module _ (rest : Agenda) (spare : ℕ) (a b : Option Left) (old mid : Stage C U W) (given : mid.given + old.tally.came ≡ old.given + mid.tally.came) (few : mid.given ≤ 4294967295)
       (fresh : IsFresh old.tally) (short : all ≤ 4194304)
       (one : StandForOne S.stands policy old.scheduler old.under (CanBegin old.given)) (run : HasRun S R policy whole rest all spare a b old mid) where

@@ -19,7 +19,7 @@ use Rattle.sched_run.proofs.MadeEvents.{length-events}
 use Rattle.sched_run.proofs.AgendaLaws.{IsBehind, HasRun}
 use Rattle.sched_run.specs.Recording.{Recordings}
 
--- ---- the course of a step and others
+-- ---- the course of a step and those after it
 module _ (policy : Policy) (step : Step) (steps : List Step) (l : Left) (s : SourceState) (event : ℕ) where
   abbrev own : List Event
   own = step_events step l.packets s
@@ -117,7 +117,7 @@ module _ {C U W : Type 0} (S : Ghosts C U) (R : Recordings W) (policy : Policy) 
           let begins = course_begins policy (step_of step) (map step_of rest) l s (event_of old.tally) in
           (some.0 ++ begins.0, sym (append_assoc amid.events some.0 begins.0) ∙ ap (λ (x : List Event). x ++ begins.0) some.1 ∙ begins.1)
 
--- no step is left, and the packets left are told
+-- no step is left, and the ending is that of the packets left
 pub no_step : (policy : Policy) (e : Ending) (event : ℕ) (o : Option Left) → IfSome o (λ l. e ≡ at_end l.fault l.packets) → IfSome o (λ l. (s : SourceState) → IsCourse [] e (script_agenda policy [] l s event))
 no_step policy e event None ends = tt
 no_step policy e event (Some l) ends = λ s. record { are = refl; ends = ends }

@@ -1,4 +1,5 @@
--- How many packets come, arrive, are dropped, leave and are found missing.
+-- The numbers of packets that arrive, are pushed, dropped and popped, and of departures that find
+-- none.
 use Rattle.std.proofs.Common.{◌≡◌, ◌≤◌, ℕ, Bool, true, false, zero, suc, ◌+◌, Option, None, Some, Ok, List, [], ◌∷◌, ◌++◌, map, length, replicate, if◌then◌else◌, refl, ap, ◌∙◌, arith}
 use Rattle.tree_defs.specs.SourceTree.{size}
 use Rattle.packet_defs.specs.declared.packet.Packet.{Packet}
@@ -41,8 +42,8 @@ pub departures_in-departures : (n : ℕ) → departures_in (replicate n (Depart 
 departures_in-departures zero = refl
 departures_in-departures (suc n) = omega (arith, departures_in-departures n)
 
--- ---- what comes of them
--- each packet that came was pushed or dropped, and each departure took a packet or found none
+-- ---- their outcomes
+-- each packet that arrived was pushed or dropped, and each departure popped a packet or found none
 pub record AreOf (es : List Event) (os : List Outcome) : Type 0 where
   pub pushed_or_dropped : pushed_in os + dropped_in os ≡ arrivals_in es
   pub asked : asked_in os ≡ departures_in es
@@ -61,7 +62,7 @@ outcomes_of policy [] s = record { pushed_or_dropped = refl; asked = refl }
 outcomes_of policy (Arrive p ∷ es) s = of_arrival p (is_full policy p s) policy s es (outcomes policy es (arrived policy p s)) (outcomes_of policy es (arrived policy p s))
 outcomes_of policy (Depart start ∷ es) s = of_departure start (leaver s) es (outcomes policy es (departed policy s)) (outcomes_of policy es (departed policy s))
 
--- the answer of an arrival tells whether it is a push
+-- the answer of an arrival shows whether it is a push
 pub pushes_are : (policy : Policy) (p : Packet) (s : SourceState) (a : Arrival) → a ≡ arrival_of policy p s → pushes_of (Ok a) ≡ pushed_in (outcomes policy (Arrive p ∷ []) s)
 pushes_are policy p s a e = ap (λ (x : Arrival). pushes_of (Ok x)) e ∙ by_test (is_full policy p s)
   where
@@ -88,15 +89,15 @@ both os qs = record {
 pub outcomes_both : (policy : Policy) (es fs : List Event) (s : SourceState) → AreBoth (outcomes policy (es ++ fs) s) (outcomes policy es s) (outcomes policy fs (after policy es s))
 outcomes_both policy es fs s = rw (outcomes-append policy es fs s) (both (outcomes policy es s) (outcomes policy fs (after policy es s)))
 
--- ---- what is found missing
+-- ---- departures that find no packet
 pub empty_in-arrivals : (policy : Policy) (ps : List Packet) (s : SourceState) → empty_in (outcomes policy (map Arrive ps) s) ≡ 0
 empty_in-arrivals policy ps s = omega (arith, (outcomes_of policy (map Arrive ps) s).asked, departures_in-arrivals ps)
 
--- of so many departures at most so many find nothing
+-- of n departures at most n find no packet
 pub empty_in-departures : (policy : Policy) (n : ℕ) (s : SourceState) → empty_in (outcomes policy (replicate n (Depart None)) s) ≤ n
 empty_in-departures policy n s = omega (arith, (departures_count policy n None s).asked)
 
--- and none where as many packets are held
+-- and all find one if n packets are queued
 pub empty_in-drain : (policy : Policy) (n : ℕ) (s : SourceState) → IsAccepted policy → IsSound policy s → n ≡ size s.tree → empty_in (outcomes policy (replicate n (Depart None)) s) ≡ 0
 empty_in-drain policy n s accepted sound e =
     let d : AreDepartures (outcomes policy (replicate n (Depart None)) s) n = departures_count policy n None s in

@@ -1,4 +1,4 @@
--- What calls in a row keep.
+-- The conditions that consecutive calls keep.
 use Rattle.std.proofs.Common.{◌∙◌, arith}
 use Rattle.sched_defs.specs.declared.packets.Packets as packets
 use Rattle.sched_core.specs.declared.scheduler.Scheduler.{Ghosts}

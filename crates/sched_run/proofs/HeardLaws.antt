@@ -1,4 +1,4 @@
--- What is known of captured bytes, and what is recorded then.
+-- Knowledge of captured bytes, and the records it allows.
 use Rattle.std.proofs.Common.{ℕ, Bool, Option, List, [], ◌∷◌, map}
 use Rattle.policy_defs.specs.Policy.{Policy}
 use Rattle.sched_defs.specs.SourceState.{SourceState}
@@ -27,12 +27,12 @@ heard-joined R laws H = record {
   later = λ policy event os ps w v a b c first cut captured h. (laws captured).later policy event os ps w v a b c (first captured h) (cut captured h);
 }
 
--- ---- what is recorded in one way is recorded in another
+-- ---- one kind of record implies another
 pub record Gives {W : Type 0} (R Q : Recordings W) : Type 0 where
   pub all : (policy : Policy) (event : ℕ) (os : List Outcome) (w v : W) (a b : Option (List ℕ)) → R.records w a policy event os v b → Q.records w a policy event os v b
   pub part : (policy : Policy) (event : ℕ) (os : List Outcome) (w : W) (a b : Option (List ℕ)) → R.cuts w a policy event os b → Q.cuts w a policy event os b
 
--- where less is known
+-- a record for all captured bytes with G is one for all with H, if H implies G
 pub heard_gives : {W : Type 0} (R : recorder.Ghosts W) (G H : Captured → Type 0) → ((captured : Captured) → H captured → G captured) → Gives (heard R G) (heard R H)
 heard_gives R G H known = record {
   all = λ policy event os w v a b all captured h. all captured (known captured h);

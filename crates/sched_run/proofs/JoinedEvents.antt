@@ -1,4 +1,4 @@
--- Events in a row, joined, with what is recorded of them.
+-- Consecutive events, joined, with their records.
 use Rattle.std.proofs.Common.{◌≡◌, ℕ, ◌+◌, suc, Option, None, Some, Ok, List, [], ◌∷◌, ◌++◌, length, refl, sym, ap, ◌∙◌, subst, arith, append_assoc, append-nil}
 use Rattle.tree_defs.specs.Tree.{Tree, Address}
 use Rattle.packet_defs.specs.declared.packet.Packet.{Packet}
@@ -34,7 +34,7 @@ spills_in-append images policy [] fs s = omega arith
 spills_in-append images policy (Arrive p ∷ es) fs s = omega (arith, spills_in-append images policy es fs (arrived policy p s))
 spills_in-append images policy (Depart start ∷ es) fs s = spills_in-append images policy es fs (departed policy s)
 
--- ---- what is left
+-- ---- the events made
 module _ {C U : Type 0} (S : Ghosts C U) (policy : Policy) where
   pub made_none : (s : SourceState) (c : C) (u : U) → S.stands c u s → HasMade S policy [] s c u c u
   made_none s c u stood = record { state = stood; pushed = omega arith; asked = omega arith; origin = refl; spilled = sym (raised_nothing (S.spilled c u)) }
@@ -113,7 +113,7 @@ module _ {C U : Type 0} (S : Ghosts C U) (policy : Policy) where
     leaves = made_both es some.made s c u c' u' c'' u'' first some.leaves;
   }
 
--- ---- with what is recorded of them
+-- ---- with their records
 module _ {C U W : Type 0} (S : Ghosts C U) (R : Recordings W) (laws : AreJoined R.records R.cuts) (policy : Policy) where
   -- the outcomes of events, and then of some more
   all_outcomes : (es fs : List Event) (s : SourceState) → outcomes policy es s ++ outcomes policy fs (after policy es s) ≡ outcomes policy (es ++ fs) s

@@ -1,4 +1,4 @@
--- The numbers and names of leaves, and what is recorded at them.
+-- The numbers and names of leaves, and the outcomes recorded at them.
 use Rattle.std.proofs.Common.{◌≡◌, ◌≤◌, ◌<◌, ℕ, Bool, true, false, if◌then◌else◌, zero, suc, ◌+◌, List, [], ◌∷◌, length, Option, Some, None, IfSome, option_map, refl, sym, ap, ◌∙◌, subst, arith}
 use Rattle.std.specs.Option.{option_map_or}
 use Rattle.text_core.specs.Tokens.{most_name}
@@ -75,7 +75,7 @@ name_short policy a accepted = by_node (node_at policy.tree a) refl
     by_node None e = omega arith
     by_node (Some n) e = (accepted.nodes a n e).name
 
--- what is known of a leaf of the policy
+-- the properties of a leaf of the policy
 pub record IsLeafOf (policy : Policy) (a : Address) : Type 0 where
   pub leads : LeadsToLeaf policy.tree a
   pub address : IsAddressOf policy.tree a
@@ -94,7 +94,7 @@ leaf_of policy a accepted l = record {
   name = name_short policy a accepted;
 }
 
--- the name that is told of a leaf's number
+-- the name of the leaf with this number
 pub named_leaf : (policy named : Policy) (a : Address) (number : ℕ) (name : List ℕ) → named ≡ policy → IsLeafOf policy a → number_at policy.tree a ≡ number
     → ((b : Address) → IsAddressOf named.tree b → number_at named.tree b ≡ number → name ≡ name_at named b) → name ≡ name_at policy a
 named_leaf policy named a number name same at n told =
@@ -102,7 +102,7 @@ named_leaf policy named a number name same at n told =
     (λ h. h a at.address n) told
 
 -- ---- departures
--- the packet that a departure answered, at its leaf
+-- the packet that a departure returned, at its leaf
 pub record Left (policy : Policy) (s : SourceState) (d : Departed) : Type 0 where
   pub leaver_is : Leaver
   pub leaves : leaver s ≡ Some leaver_is
@@ -123,11 +123,11 @@ left policy s d accepted sound e =
       ranks = let k = at.few in let c = leaves.ranks.count in omega arith;
     }
 
--- the ranks that a departure took
+-- the ranks that a departure popped
 pub ranks_left : (policy : Policy) (s : SourceState) (d : Departed) (way : Way) (h : Left policy s d) → IfSome (leaver s) (λ l. IsTaken l way) → way.ranks ≡ h.leaver_is.ranks
 ranks_left policy s d way h t = (subst (λ (o : Option Leaver). IfSome o (λ l. IsTaken l way)) h.leaves t).ranks
 
--- what is recorded of a packet that left
+-- the outcome of a packet that departed
 pub outcome_left : (policy : Policy) (s : SourceState) (d : Departed) (ranks : List ℕ) (start : Option ℕ) (h : Left policy s d) → ranks ≡ h.leaver_is.ranks
     → events.Departed h.leaver_is.packet h.leaver_is.digits ranks start ∷ [] ≡ outcomes policy (Depart start ∷ []) s
 outcome_left policy s d ranks start h r =
@@ -145,7 +145,7 @@ arrival_few policy p s accepted sound can =
     let k = (arrives policy p s accepted can).few in
     omega arith
 
--- what an answer tells of the leaf
+-- what an arrival's answer shows about the leaf
 pub record IsAnswer (policy : Policy) (p : Packet) (s : SourceState) (number : ℕ) (full : Bool) : Type 0 where
   pub leaf_is : leaf_number policy p ≡ number
   pub fullness : is_full policy p s ≡ full
@@ -167,7 +167,7 @@ answer_dropped policy p s number e = by_test (is_full policy p s) refl
     by_test true f = let n : arrival.Dropped number ≡ arrival.Dropped (leaf_number policy p) = answer_by policy p s (arrival.Dropped number) e true f in record { leaf_is = cc; fullness = f }
     by_test false f = let n : arrival.Dropped number ≡ arrival.Pushed (leaf_number policy p) = answer_by policy p s (arrival.Dropped number) e false f in cc
 
--- what is recorded of an arrival, by whether the leaf is full
+-- the outcome of an arrival, by whether the leaf is full
 outcome_by : (policy : Policy) (p : Packet) (s : SourceState) (full : Bool) → is_full policy p s ≡ full
     → (if full then events.Dropped p (class_of policy p).leaf else events.Arrived p (class_of policy p).leaf (arrival_ranks policy p s)) ∷ [] ≡ outcomes policy (Arrive p ∷ []) s
 outcome_by policy p s full f =

@@ -35,12 +35,12 @@ use Rattle.sched_run.proofs.MadeEvents.{Stands, stands_after, makes_none, makes_
 use Rattle.sched_run.proofs.EventCounts.{AreOf, outcomes_of}
 use Rattle.sched_run.proofs.AgendaLaws.{IsBehind, HasRun, run_none, regiven}
 
--- ---- departures in a row
--- events, and then what is sent
+-- ---- consecutive departures
+-- events, and then those of a link
 abbrev then_sent : List Event → Sent → Sent
 then_sent events sent = record sent { events = events ++ sent.events }
 
--- Of what is to be sent where so many are held, these events are the first, one for each of so many packets.
+-- These events are the first `done` departures of the link, which began with `held` packets queued.
 pub record IsPart (policy : Policy) (rate : ℕ) (until : Option ℕ) (held done first now : ℕ) (events : List Event) (s : SourceState) : Type 0 where
   pub joined : send_until policy rate until held s first ≡ then_sent events (send_until policy rate until (held - done) (after policy events s) now)
   pub holds : size (after policy events s).tree ≡ held - done
@@ -50,7 +50,7 @@ part_none policy rate until held first s is =
     let same : held ≡ held - 0 = omega arith in
     record { joined = ap (λ (n : ℕ). send_until policy rate until n s first) same; holds = omega (arith, is) }
 
--- where a packet is held there is one to leave
+-- if a packet is queued, one can depart
 holds_one : (policy : Policy) (s : SourceState) → IsSound policy s → 0 < size s.tree → (l : Leaver) × (leaver s ≡ Some l)
 holds_one policy s sound some = by_leaver (leaver s) refl
   where
@@ -59,12 +59,12 @@ holds_one policy s sound some = by_leaver (leaver s) refl
     by_leaver (Some l) e = (l, e)
 
 module _ (policy : Policy) (rate : ℕ) (until : Option ℕ) where
-  -- where it is due, a packet leaves, and then the others
+  -- if a departure is due, a packet departs, and then the others
   sends_one : (m : ℕ) (s : SourceState) (l : Leaver) (free : ℕ) → is_due until free ≡ true → leaver s ≡ Some l
       → send_until policy rate until (suc m) s free ≡ sent_first (Depart (Some free)) (send_until policy rate until m (departed policy s) (free + send_time l.packet.len rate))
   sends_one m s l free due leaves = rw (due, leaves) refl
 
-  -- where it isn't, none leaves
+  -- if none is due, no packet departs
   waits_here : (m : ℕ) (s : SourceState) (free : ℕ) → is_due until free ≡ false → send_until policy rate until m s free ≡ sent_nothing s free
   waits_here zero s free due = refl
   waits_here (suc m) s free due = rw due refl
@@ -103,7 +103,7 @@ module _ (policy : Policy) (rate : ℕ) (until : Option ℕ) where
           ∙ ap (λ (es : List Event). record (send_until policy rate until (held - (done + 1)) (departed policy mid) (now + send_time one.0.packet.len rate)) { events = es })
           (sym (append_assoc events (Depart (Some now) ∷ []) (send_until policy rate until (held - (done + 1)) (departed policy mid) (now + send_time one.0.packet.len rate)).events))
 
-      -- one more is sent
+      -- one more packet is sent
       pub part_goes : (o : Option Departed) (now' : ℕ) → o ≡ next_departed policy mid → IfSome o (λ d. now' ≡ now + send_time d.len rate) → IsPart policy rate until held (done + 1) first now' (events ++ Depart (Some now) ∷ []) s
       part_goes o now' told free =
           let some : o ≡ Some (departed_packet policy one.0) = told ∙ ap (option_map (departed_packet policy)) one.1 in
@@ -116,11 +116,11 @@ module _ (policy : Policy) (rate : ℕ) (until : Option ℕ) where
             holds = ap (λ (t : SourceState). size t.tree) state ∙ omega (arith, size_departed policy mid sound, part.holds, below);
           }
 
-      -- one more was to be sent
+      -- one more packet was to be sent
       pub part_stops : AreFirst (events ++ Depart (Some now) ∷ []) (send_until policy rate until held s first).events
       part_stops = ((send_until policy rate until (held - (done + 1)) (departed policy mid) (now + send_time one.0.packet.len rate)).events, sym (ap (λ (x : Sent). x.events) unfolded))
 
--- a part of what is to be sent was made
+-- a part of the link's departures was made
 pub record SendsPart {C U W : Type 0} (S : Ghosts C U) (R : Recordings W) (policy : Policy) (rate : ℕ) (until : Option ℕ) (held done first now : ℕ) (old new : Stage C U W) : Type 0 where
   pub events : List Event
   pub made : Makes S R policy events old new
@@ -152,7 +152,7 @@ module _ {C U W : Type 0} (S : Ghosts C U) (R : Recordings W) (laws : AreJoined 
       told = λ s sound stood below. whole s sound stood (part_waits policy rate until held done first now part.events s (part.told s sound stood below) due);
     }
 
-    -- no packet is held any more
+    -- no packet is queued any more
     pub sends_over : held ≤ done → Sends S R policy (λ s. send_until policy rate until (size s.tree) s first) now old mid
     sends_over all = record {
       events = part.events;
@@ -160,7 +160,7 @@ module _ {C U W : Type 0} (S : Ghosts C U) (R : Recordings W) (laws : AreJoined 
       told = λ s sound stood below. whole s sound stood (part_over policy rate until held done first now part.events s (part.told s sound stood below) all);
     }
 
-    -- a state for which they stand now
+    -- the scheduler and its queues represent some state after these departures
     pub sends_stand : StandForOne S.stands policy old.scheduler old.under (λ s. IsHeldBelow (old.given + 1) s.held) → StandForOne S.stands policy mid.scheduler mid.under (λ _. Unit {0})
     sends_stand one =
         let at = part_at one.state one.sound one.stood one.has in
@@ -208,7 +208,7 @@ module _ {C U W : Type 0} (S : Ghosts C U) (R : Recordings W) (laws : AreJoined 
         first = are_first;
       }
 
-      -- one more was made, behind which nothing can be recorded
+      -- one more departure was made, after which nothing more can be recorded
       pub sends_first : (over : W → Bool) (new : Stage C U W) → over mid.recorder ≡ false → Makes S R policy (Depart (Some now) ∷ []) mid new → over new.recorder ≡ true
           → SendsFirst S R over policy (λ s. send_until policy rate until (size s.tree) s first) old new
       sends_first over new going made is_over = record {
@@ -227,14 +227,14 @@ module _ {C U W : Type 0} (S : Ghosts C U) (R : Recordings W) (laws : AreJoined 
         first = are_first;
       }
 
--- the greatest length takes less than 2^62 nanoseconds
+-- the greatest length takes at most 2^62 nanoseconds
 pub sends_soon : (len rate : ℕ) → IsRate rate → len < 4294967296 → send_time len rate ≤ 4611686018427387904
 sends_soon len rate is few =
     let all : len * 1000000000 ≤ len * 1000000000 * rate = grind arith in
     let least = (send_time-least len rate is).least (len * 1000000000) all in
     omega (arith, least, few)
 
--- how many packets came then isn't told by what was sent
+-- the same departures, with an equal number of packets read
 pub same_sends : {C U W : Type 0} (S : Ghosts C U) (R : Recordings W) (policy : Policy) (sent : SourceState → Sent) (free : ℕ) (old : Stage C U W) (c : C) (u : U) (w : W) (written : Option (List ℕ)) (given given' : ℕ) (tally : Tally) (sight : Sight) → given ≡ given'
     → Sends S R policy sent free old (stage c u w written given tally sight) → Sends S R policy sent free old (stage c u w written given' tally sight)
 same_sends S R policy sent free old c u w written given given' tally sight e sends = subst (λ (n : ℕ). Sends S R policy sent free old (stage c u w written n tally sight)) e sends
@@ -260,7 +260,7 @@ same_first S R laws over policy sent old c u w written given given' tally sight 
     }
 
 -- ---- the turns of a link
--- at first the link is free, and all is still to come
+-- at first the link is free, and all events are still to come
 pub link_begins : {C U W : Type 0} (S : Ghosts C U) (R : Recordings W) (laws : AreJoined R.records R.cuts) (policy : Policy) (rate free : ℕ) → free ≡ 0 → (a : Option Left) (c : C) (u : U) (w : W) (written : Option (List ℕ)) (given : ℕ) (tally : Tally) (sight : Sight)
     → HasRun S R policy (link_agenda policy rate 0) (link_agenda policy rate free) 0 0 a a (stage c u w written given tally sight) (stage c u w written given tally sight)
 link_begins S R laws policy rate free e a c u w written given tally sight =
@@ -268,7 +268,7 @@ link_begins S R laws policy rate free e a c u w written given tally sight =
     (run_none S R laws policy (link_agenda policy rate 0) 0 a c u w written given tally sight)
 
 module _ {C U W : Type 0} (S : Ghosts C U) (R : Recordings W) (policy : Policy) (rate free : ℕ) where
-  -- a packet came, and its turn was made
+  -- a packet was read, and its turn was made
   pub link_goes : (p : Packet) (free' : ℕ) (a b : Option Left) (old new : Stage C U W) → Came a b (p ∷ []) → Sends S R policy (λ s. link_turn policy rate p s free) free' old new
       → HasRun S R policy (link_agenda policy rate free) (link_agenda policy rate free') 0 0 a b old new
   link_goes p free' a b old new came sends = record {
@@ -297,7 +297,7 @@ module _ {C U W : Type 0} (S : Ghosts C U) (R : Recordings W) (policy : Policy) 
                 ∙ ap (λ (n : ℕ). behind sends.events (link_course policy rate m.packets m.fault (after policy sends.events s) n)) (sym is.is_free);
           }
 
-  -- the first events of its turn are the first of all
+  -- a prefix of its turn is a prefix of all events
   pub first_in_turn : (p : Packet) (a b : Option Left) (events : List Event) (old : Stage C U W) → Came a b (p ∷ []) → FromEach S policy old (λ s. AreFirst events (link_turn policy rate p s free).events)
       → IfSome a (λ l. FromEach S policy old (λ s. AreFirst events (link_agenda policy rate free l s (event_of old.tally)).events))
   first_in_turn p None b events old came first = tt
@@ -329,7 +329,7 @@ module _ {C U W : Type 0} (S : Ghosts C U) (R : Recordings W) (policy : Policy) 
   over_before (Some l) None came over = absurd came
   over_before (Some l) (Some m) came over = (came.0 ∙ over.0, came.1 ∙ over.1)
 
-  -- all that was held was sent
+  -- all queued packets were sent
   pub link_drains : (free' : ℕ) (a b : Option Left) (old new : Stage C U W) → Came a b [] → IsOver b → Sends S R policy (λ s. send_until policy rate None (size s.tree) s free) free' old new
       → Courses S R policy (link_agenda policy rate free) (Whole 0) a old new
   link_drains free' a b old new came over sends = record { events = sends.events; made = sends.made; told = by_left a (over_before a b came over) }
@@ -340,7 +340,7 @@ module _ {C U W : Type 0} (S : Ghosts C U) (R : Recordings W) (policy : Policy) 
           let e = whole_here l s none.0 none.1 in
           record { are = (sends.told s sound stood below).are ∙ sym (ap (λ (x : Course). x.events) e); ends = sym (ap (λ (x : Course). x.ending) e) }
 
-  -- the first of what was to be sent then are the first of all
+  -- a prefix of these departures is then a prefix of all events
   first_of_all : (a : Option Left) (events : List Event) (old : Stage C U W) → IfSome a (λ l. (l.packets ≡ []) × (l.fault ≡ None)) → FromEach S policy old (λ s. AreFirst events (send_until policy rate None (size s.tree) s free).events)
       → IfSome a (λ l. FromEach S policy old (λ s. AreFirst events (link_agenda policy rate free l s (event_of old.tally)).events))
   first_of_all None events old none first = tt
@@ -352,14 +352,14 @@ module _ {C U W : Type 0} (S : Ghosts C U) (R : Recordings W) (policy : Policy) 
       → SendsAmid S R over policy (λ s. send_until policy rate None (size s.tree) s free) old c u written → CoursesAmid S R over policy (link_agenda policy rate free) a old c u written
   link_drain_stops over a b old c u written came none amid = record { events = amid.events; stop = amid.stop; first = first_of_all a amid.events old (over_before a b came none) amid.first }
 
-  -- nothing more can be recorded then
+  -- nothing more can be recorded among them
   pub link_drain_first : (over : W → Bool) (a b : Option Left) (old new : Stage C U W) → Came a b [] → IsOver b → SendsFirst S R over policy (λ s. send_until policy rate None (size s.tree) s free) old new
       → CoursesFirst S R over policy (link_agenda policy rate free) a old new
   link_drain_first over a b old new came none sends = record { events = sends.events; made = sends.made; first = first_of_all a sends.events old (over_before a b came none) sends.first }
 
 -- ---- one turn
 module _ {C U W : Type 0} (S : Ghosts C U) (R : Recordings W) (laws : AreJoined R.records R.cuts) (policy : Policy) (accepted : IsAccepted policy) (rate free : ℕ) (p : Packet) (moment : ℕ) (old : Stage C U W) (moments : FromEach S policy old (λ s. moment ≡ max s.now p.moment)) where
-  -- what is due is the first part of a turn
+  -- a turn is the due departures, followed by the arrival
   is_turn : (s : SourceState) → moment ≡ max s.now p.moment → (link_turn policy rate p s free).events ≡ (send_until policy rate (Some moment) (size s.tree) s free).events ++ Arrive p ∷ []
   is_turn s e = ap (λ (n : ℕ). (send_until policy rate (Some n) (size s.tree) s free).events ++ Arrive p ∷ []) (sym e)
 
@@ -373,7 +373,7 @@ module _ {C U W : Type 0} (S : Ghosts C U) (R : Recordings W) (laws : AreJoined 
         (first.0 ++ Arrive p ∷ [], sym (append_assoc amid.events first.0 (Arrive p ∷ [])) ∙ ap (λ (es : List Event). es ++ Arrive p ∷ []) first.1 ∙ sym (is_turn s (moments s sound stood below)));
   }
 
-  -- nothing more can be recorded among what is due
+  -- nothing more can be recorded among the due departures
   pub turn_first : (over : W → Bool) (new : Stage C U W) → SendsFirst S R over policy (λ s. send_until policy rate (Some moment) (size s.tree) s free) old new → SendsFirst S R over policy (λ s. link_turn policy rate p s free) old new
   turn_first over new sends = record {
     events = sends.events;
@@ -387,7 +387,7 @@ module _ {C U W : Type 0} (S : Ghosts C U) (R : Recordings W) (laws : AreJoined 
     same_given : mid.given ≡ old.given + arrivals_in sends.events
     same_given = omega (arith, given, came, sends.made.came)
 
-    -- the packet can arrive then, and nothing was pushed
+    -- the packet can arrive after them, and nothing was pushed
     pub turn_stands : StandForOne S.stands policy old.scheduler old.under (λ s. IsHeldBelow p.number s.held × IsHeldBelow (old.given + 1) s.held) → IsSendable policy p
         → StandForOne S.stands policy mid.scheduler mid.under (λ s. CanArrive policy s p)
     turn_stands one sendable =

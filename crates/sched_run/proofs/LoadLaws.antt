@@ -28,7 +28,7 @@ use Rattle.sched_run.proofs.JoinedEvents.{stops_first}
 use Rattle.sched_run.proofs.MadeEvents.{can_make, length-events, makes_both, next_both, stops_later}
 use Rattle.sched_run.proofs.TotalLaws.{IsTallied, Held, held_then, tallied}
 
--- what is to be drawn behind so many events
+-- the drawing after n events
 abbrev pub load_after : ℕ → Drawing → Drawing
 load_after zero d = d
 load_after (suc n) d = load_next (load_after n d)
@@ -37,14 +37,14 @@ load_events-later : (n : ℕ) (d : Drawing) → load_after n (load_next d) ≡ l
 load_events-later zero d = refl
 load_events-later (suc n) d = ap (λ (x : Drawing). load_next x) (load_events-later n d)
 
--- one event more
+-- one more event
 pub load_events-more : (n : ℕ) (d : Drawing) → load_events (suc n) d ≡ load_events n d ++ load_event (load_after n d) ∷ []
 load_events-more zero d = refl
 load_events-more (suc n) d =
     ap (λ (es : List Event). load_event d ∷ es) (load_events-more n (load_next d)
     ∙ ap (λ (x : Drawing). load_events n (load_next d) ++ load_event x ∷ []) (load_events-later n d))
 
--- the first of the events
+-- the first n events and the others
 pub load_events-split : (n k : ℕ) (d : Drawing) → load_events (n + k) d ≡ load_events n d ++ load_events k (load_after n d)
 load_events-split zero k d = let e : 0 + k ≡ k = omega arith in ap (λ (m : ℕ). load_events m d) e
 load_events-split (suc n) k d =
@@ -54,7 +54,7 @@ load_events-split (suc n) k d =
     ∙ ap (λ (x : Drawing). load_events n (load_next d) ++ load_events k x) (load_events-later n d))
 
 -- ---- one draw
--- what an event makes of the number of the next packet and of the moments
+-- the effect of an event on the next packet's number and on the timestamp
 pub record IsDrawn (d : Drawing) : Type 0 where
   pub number : (load_next d).number ≡ d.number + arrivals_in (load_event d ∷ [])
   pub moment : (load_next d).moment ≤ d.moment + 2000
@@ -66,7 +66,7 @@ is_drawn d = by_test (departs d.load) refl
     by_test true e = record { number = rw e (omega arith); moment = rw e (omega arith) }
     by_test false e = record { number = rw e refl; moment = rw e (omega arith) }
 
--- the packet that is drawn can be sent
+-- the drawn packet can be sent
 pub packet_sendable : (policy : Policy) (d : Drawing) → HasLoadClasses policy → d.moment + 2000 ≤ 4611686018427387903 → IsSendable policy (packet_of d)
 packet_sendable policy d classes early = record {
   known = record { class = omega (arith, classes); len = omega arith };
@@ -80,7 +80,7 @@ event_next policy d given classes early number = by_test (departs d.load) refl
     by_test true e = rw e (record { numbered = tt; sendable = tt })
     by_test false e = rw e (record { numbered = (number, tt); sendable = (packet_sendable policy d classes early, tt) })
 
--- a packet that was drawn
+-- a drawn packet
 pub drawn_packet : (d : Drawing) (p : Packet) → Arrive p ≡ load_event d → p ≡ packet_of d
 drawn_packet d p e = by_test (departs d.load) refl
   where
@@ -93,7 +93,7 @@ drawn_can_arrive policy d p s e classes early below =
     let sendable = packet_sendable policy d classes early in
     subst (CanArrive policy s) (sym (drawn_packet d p e)) (record { fresh = held_none s.held d.number below; known = sendable.known; moment = sendable.moment })
 
--- ---- events in a row
+-- ---- consecutive events
 pub length-load : (n : ℕ) (d : Drawing) → length (load_events n d) ≡ n
 length-load zero d = refl
 length-load (suc n) d = ap (λ (m : ℕ). suc m) (length-load n (load_next d))
@@ -101,14 +101,14 @@ length-load (suc n) d = ap (λ (m : ℕ). suc m) (length-load n (load_next d))
 pub load_arrivals : (n : ℕ) (d : Drawing) → arrivals_in (load_events n d) ≤ n
 load_arrivals n d = omega (arith, length-events (load_events n d), length-load n d)
 
--- one event more
+-- one more event
 pub load_arrivals-more : (n : ℕ) (d now : Drawing) → now ≡ load_after n d → arrivals_in (load_events (n + 1) d) ≡ arrivals_in (load_events n d) + arrivals_in (load_event now ∷ [])
 load_arrivals-more n d now is =
     ap (λ (m : ℕ). arrivals_in (load_events m d)) (add-one n) ∙ ap arrivals_in (load_events-more n d)
     ∙ arrivals_in-append (load_events n d) (load_event (load_after n d) ∷ [])
     ∙ ap (λ (x : Drawing). arrivals_in (load_events n d) + arrivals_in (load_event x ∷ [])) (sym is)
 
--- packets come numbered in a row, and each can be sent
+-- the packets are numbered consecutively, and each can be sent
 pub loads_are_next : (policy : Policy) (n : ℕ) (d : Drawing) (given : ℕ) → HasLoadClasses policy → d.moment + 2000 * n ≤ 4611686018427387903 → d.number ≡ given + 1 → AreNext policy given (packets_in (load_events n d))
 loads_are_next policy zero d given classes early number = record { numbered = tt; sendable = tt }
 loads_are_next policy (suc n) d given classes early number =
@@ -117,7 +117,7 @@ loads_are_next policy (suc n) d given classes early number =
     (event_next policy d given classes (omega (arith, early)) number)
     (loads_are_next policy n (load_next d) (given + arrivals_in (load_event d ∷ [])) classes (omega (arith, early, one.moment)) (omega (arith, number, one.number)))
 
--- the counts have room for one event more
+-- the counts have room for one more event
 pub record HasLoadRoom (pushes departures : ℕ) (tally : Tally) : Type 0 where
   pub pushes_fit : pushes < 2 ^ 61
   pub departures_fit : departures < 2 ^ 60 + 1000000
@@ -139,7 +139,7 @@ module _ {C U W : Type 0} (S : Ghosts C U) (R : Recordings W) (laws : AreJoined 
         dropped = omega (arith, made.dropped one.state one.sound one.stood one.has.held, counts.pushed_or_dropped, made.came, fresh.none_came, fresh.none_dropped);
       }
 
-  -- how many packets are held then
+  -- the number of packets queued after the drawn events
   pub load_held : (n : ℕ) (d : Drawing) (old new : Stage C U W) (waiting : ℕ) → n ≤ 1000000 → Makes S R policy (load_events n d) old new → (one : StandForOne S.stands policy old.scheduler old.under (CanBegin old.given)) →
       Held S R laws policy accepted waiting new.scheduler new.under → waiting ≤ 2 ^ 32 + 1000000
   load_held n d old new waiting few made one still =
@@ -150,7 +150,7 @@ module _ {C U W : Type 0} (S : Ghosts C U) (R : Recordings W) (laws : AreJoined 
       let counts : AreOf es (outcomes policy es s) = outcomes_of policy es s in
       omega (arith, later, lost, one.has.few, counts.pushed_or_dropped, length-events es, length-load n d, few)
 
-  -- one event more
+  -- one more event
   pub load_goes : (n : ℕ) (d now : Drawing) (old mid : Stage C U W) (c : C) (u : U) (w : W) (written : Option (List ℕ)) (given given' : ℕ) (tally : Tally) (sight : Sight) → now ≡ load_after n d → mid.given ≡ old.given + arrivals_in (load_events n d) →
       Makes S R policy (load_events n d) old mid → Makes S R policy (load_event now ∷ []) mid (stage c u w written given tally sight) → Makes S R policy (load_events (n + 1) d) old (stage c u w written given' tally sight)
   load_goes n d now old mid c u w written given given' tally sight is at made one =
@@ -160,7 +160,7 @@ module _ {C U W : Type 0} (S : Ghosts C U) (R : Recordings W) (laws : AreJoined 
       (subst (λ (es : List Event). Makes S R policy es old (stage c u w written given tally sight)) whole
       (makes_both S R laws policy accepted (load_events n d) (load_event now ∷ []) old mid (stage c u w written given tally sight) at made one))
 
-  -- one event more, of more to come, stops
+  -- one more event stops, and others were to follow
   pub load_stops : (n count : ℕ) (d now : Drawing) (old mid : Stage C U W) (c : C) (u : U) (written : Option (List ℕ)) → n < count → HasLoadClasses policy → d.moment + 2000 * count ≤ 4611686018427387903 → d.number ≡ old.given + 1 →
       now ≡ load_after n d → mid.given ≡ old.given + arrivals_in (load_events n d) → Makes S R policy (load_events n d) old mid → Stops S R policy (load_event now ∷ []) mid c u written → Stops S R policy (load_events count d) old c u written
   load_stops n count d now old mid c u written below classes early number is at made stop =
@@ -204,7 +204,7 @@ module _ {C U W : Type 0} (S : Ghosts C U) (R : Recordings W) (laws : AreJoined 
         subst (λ (n : ℕ). StopsIn S R policy n (load_run policy seed count s) s old.scheduler old.under old.recorder old.written c u written) one_first
         (subst (λ (es : List Event). StopsIn S R policy (event_of old.tally) es s old.scheduler old.under old.recorder old.written c u written) (drains s sound stood below) (all.stopped s sound stood below))
 
-    -- all was made
+    -- the whole load was made
     pub load_done : (new : Stage C U W) (first held version : ℕ) (t : Totals) → Makes S R policy (replicate waiting (Depart None)) mid new → Held S R laws policy accepted first old.scheduler old.under → Held S R laws policy accepted held new.scheduler new.under →
         AreTotals new.tally first held version t → version ≡ policy.version → (s : SourceState) → IsSound policy s → S.stands old.scheduler old.under s → IsHeldBelow (old.given + 1) s.held →
         MakesLoad S R policy seed count s old.scheduler old.under old.recorder old.written new.scheduler new.under new.recorder new.written t

@@ -1,4 +1,4 @@
--- What a load leaves: its drain takes all that is held.
+-- A generated load leaves no packet queued: its drain pops them all.
 use Rattle.std.proofs.Common.{◌≤◌, ℕ, None, List, ◌++◌, replicate, refl, sym, ap, ◌∙◌, subst, arith}
 use Rattle.tree_defs.specs.SourceTree.{size}
 use Rattle.tree_defs.specs.Topology.{topology_of}

@@ -1,4 +1,4 @@
--- Events that are made in a row.
+-- Consecutive events of a run.
 use Rattle.std.proofs.Common.{◌≡◌, ℕ, zero, suc, ◌+◌, ◌-◌, ◌<◌, Bool, Option, None, List, [], ◌∷◌, ◌++◌, length, replicate, refl, sym, ap, ◌∙◌, subst, arith, append_assoc}
 use Rattle.std.specs.List.{AllByRecursion}
 use Rattle.std.specs.Prelude.{sum_by}
@@ -29,16 +29,16 @@ use Rattle.sched_run.proofs.EventCounts.{arrivals_in-append, departures_in-appen
 pub held_more : (n : ℕ) (held : Held) → IsHeldBelow n held → IsHeldBelow (n + 1) held
 held_more n held below m p e = let l = below m p e in omega arith
 
--- the numbers of the packets that are held have a bound
+-- the numbers of the queued packets have a bound
 pub held_bounded : (policy : Policy) (s : SourceState) → IsSound policy s → (n : ℕ) × IsHeldBelow (n + 1) s.held
 held_bounded policy s sound =
     (sum_by (λ (m : ℕ). m) (values s.tree), λ m p e. let at = sound.stands m p e in omega (arith, get_or-le-sum_by (λ (m : ℕ). m) (values s.tree) at.0 m at.1, at.2))
 
--- the packet that comes next can arrive
+-- the next packet can arrive
 pub can_arrive : (policy : Policy) (s : SourceState) (p : Packet) (given : ℕ) → p.number ≡ given + 1 → IsSendable policy p → IsHeldBelow (given + 1) s.held → CanArrive policy s p
 can_arrive policy s p given number sendable below = record { fresh = ap s.held number ∙ held_none s.held (given + 1) below; known = sendable.known; moment = sendable.moment }
 
--- events whose packets come next can be made
+-- events whose packets are the next ones can be made
 pub can_make : (policy : Policy) (es : List Event) (n : ℕ) (s : SourceState) → AreNumberedFrom n (packets_in es) → AllByRecursion (IsSendable policy) (packets_in es) → IsHeldBelow n s.held → CanMake policy es s
 can_make policy [] n s numbered sendable below = tt
 can_make policy (Arrive p ∷ es) n s numbered sendable below = (
@@ -47,7 +47,7 @@ can_make policy (Arrive p ∷ es) n s numbered sendable below = (
 )
 can_make policy (Depart start ∷ es) n s numbered sendable below = can_make policy es n (departed policy s) numbered sendable (held_departed policy s n below)
 
--- and no later packet is held then
+-- and no later packet is queued after them
 pub held_after : (policy : Policy) (es : List Event) (n : ℕ) (s : SourceState) → AreNumberedFrom n (packets_in es) → IsHeldBelow n s.held → IsHeldBelow (n + arrivals_in es) (after policy es s).held
 held_after policy [] n s numbered below = subst (λ (m : ℕ). IsHeldBelow m s.held) (omega arith) below
 held_after policy (Arrive p ∷ es) n s numbered below =
@@ -175,7 +175,7 @@ module _ {C U W : Type 0} (S : Ghosts C U) (R : Recordings W) (laws : AreJoined 
     shown = λ s sound stood below. shows_none sight;
   }
 
-  -- events that were made, and what is recorded of them is written in part
+  -- all of the events were made, and a prefix of their record is written
   pub stops_here : (es : List Event) (old : Stage C U W) (c : C) (u : U) (w : W) (written : Option (List ℕ)) → AreNext policy old.given (packets_in es)
       → FromEach S policy old (λ s. Plays S R policy (event_of old.tally) es s old.scheduler old.under old.recorder old.written c u w written) → Stops S R policy es old c u written
   stops_here es old c u w written next played = record {
@@ -193,7 +193,7 @@ module _ {C U W : Type 0} (S : Ghosts C U) (R : Recordings W) (laws : AreJoined 
       let none = makes_none c u w written given given tally sight in
       stops_here [] (stage c u w written given tally sight) c u w written none.next none.played
 
--- ---- departures in a row
+-- ---- consecutive departures
 packets_in-departures : (n : ℕ) → packets_in (replicate n (Depart None)) ≡ []
 packets_in-departures zero = refl
 packets_in-departures (suc n) = packets_in-departures n
@@ -209,7 +209,7 @@ module _ {C U W : Type 0} (S : Ghosts C U) (R : Recordings W) (laws : AreJoined 
   pub departures_more : (new : Stage C U W) → Makes S R policy (Depart None ∷ []) mid new → Makes S R policy (replicate (n + 1) (Depart None)) old new
   departures_more new one = rw (replicate_next n (Depart None)) (makes_both S R laws policy accepted (replicate n (Depart None)) (Depart None ∷ []) old mid new same_given made one)
 
-  -- one more departure, of more to come, stops
+  -- one more departure stops, and others were to follow
   pub departures_cut : (count : ℕ) (c : C) (u : U) (written : Option (List ℕ)) → n < count → Stops S R policy (Depart None ∷ []) mid c u written → Stops S R policy (replicate count (Depart None)) old c u written
   departures_cut count c u written below stop =
       let first : List Event = replicate n (Depart None) ++ Depart None ∷ [] in

@@ -1,4 +1,4 @@
--- Packets that come in turn, and arrive.
+-- Packets that are read one after another, and arrive.
 use Rattle.std.proofs.Common.{◌≡◌, ◌<◌, ◌≤◌, ◌^◌, ℕ, ◌+◌, ◌-◌, Option, None, Some, List, [], ◌++◌, map, refl, sym, ap, ◌∙◌, subst, arith, append_assoc, length-append, is_some, true, false}
 use Rattle.std.proofs.lemmas.List.{map-append}
 use Rattle.packet_defs.specs.declared.packet.Packet.{Packet}
@@ -27,7 +27,7 @@ pub none_is : {X : Type 0} (o : Option X) → is_some o ≡ false → o ≡ None
 none_is None e = refl
 none_is (Some x) e = cc
 
--- fewer packets may come after one more
+-- fewer packets may arrive after one more
 pub fewer_left : (given before : ℕ) → given ≡ before + 1 → given ≤ 4294967295 → 4294967296 - given < 4294967296 - before
 fewer_left given before one few = omega (arith, one, few)
 
@@ -67,7 +67,7 @@ until_both (BadCapture x y) event (Some l) None c ps qs came until = absurd came
 until_both (BadCapture x y) event (Some l) (Some m) c ps qs came until =
     (came.0 ∙ ap (λ (z : List Packet). ps ++ z) until.0, came.1 ∙ until.1)
 
--- ---- what the next call needs
+-- ---- the conditions of the next call
 module _ {C U W : Type 0} (S : Ghosts C U) (R : Recordings W) (laws : AreJoined R.records R.cuts) (policy : Policy) (accepted : IsAccepted policy) where
   pub one_after : (es : List Event) (old new : Stage C U W) → new.given + old.tally.came ≡ old.given + new.tally.came → Makes S R policy es old new →
       StandForOne S.stands policy old.scheduler old.under (λ s. IsHeldBelow (old.given + 1) s.held) → StandForOne S.stands policy new.scheduler new.under (λ s. IsHeldBelow (new.given + 1) s.held)
@@ -90,7 +90,7 @@ module _ {C U W : Type 0} (S : Ghosts C U) (R : Recordings W) (laws : AreJoined 
         few_asked = omega (arith, made.asked, short);
       }
 
-  -- ---- arrivals in a row
+  -- ---- consecutive arrivals
   pub arrives_more : (n : ℕ) (a b c : Option Left) (old mid new : Stage C U W) → mid.given + old.tally.came ≡ old.given + mid.tally.came → Arrives S R policy n None a b old mid → Arrives S R policy 1 None b c mid new → Arrives S R policy (n + 1) None a c old new
   arrives_more n a b c old mid new given first second = record {
     packets = first.packets ++ second.packets;

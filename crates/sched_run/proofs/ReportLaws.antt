@@ -1,4 +1,4 @@
--- The report of a course, and how it ends.
+-- The report of a course, and its ending.
 use Rattle.std.proofs.Common.{◌≡◌, ℕ, ◌+◌, Option, None, Some, List, [], ◌++◌, length, refl, sym, ap, ◌∙◌, subst, arith, append_assoc, append-nil}
 use Rattle.std.specs.Prelude.{IfSome}
 use Rattle.outside_core.specs.Written.{Appended}
@@ -35,19 +35,19 @@ use Rattle.sched_run.specs.Totals.{totals_line, AreTotals}
 use Rattle.sched_run.proofs.TotalLaws.{IsTallied, tallied, held_then}
 
 -- ---- lines
--- what such a recorder records of outcomes is a line for each
+-- such a recorder writes a line for each outcome
 pub record TellsLines (R : Recordings Gathered) : Type 0 where
   pub all : (policy : Policy) (event : ℕ) (os : List Outcome) (r r' : Gathered) (a b : Option (List ℕ)) → R.records r a policy event os r' b → adds_lines r a policy event os r' b
   pub part : (policy : Policy) (event : ℕ) (os : List Outcome) (r : Gathered) (a b : Option (List ℕ)) → R.cuts r a policy event os b → cuts_lines r a policy event os b
 
--- lines, which tell nothing of captured bytes
+-- lines, which don't depend on captured bytes
 abbrev pub heard_lines : (Captured → Type 0) → Recordings Gathered
 heard_lines H = record {
   records = λ w a policy event os v b. (bytes : Captured) → H bytes → adds_lines w a policy event os v b;
   cuts = λ w a policy event os b. (bytes : Captured) → H bytes → cuts_lines w a policy event os b;
 }
 
--- they are joined whatever is known of these
+-- they are joined whatever is known of the captured bytes
 pub lines_heard : (H : Captured → Type 0) → AreJoined {W = Gathered} (heard_lines H).records (heard_lines H).cuts
 lines_heard H = record {
   none = λ policy event w a bytes h. lines_are_joined.none policy event w a;
@@ -60,26 +60,27 @@ lines_heard H = record {
 tells_heard : (H : Captured → Type 0) (bytes : Captured) → H bytes → TellsLines (heard_lines H)
 tells_heard H bytes h = record { all = λ policy event os r r' a b is. is bytes h; part = λ policy event os r a b is. is bytes h }
 
--- what holds wherever such bytes are there holds where it is told what is left
+-- If P holds given any such captured bytes, it holds whenever the packets left are known to the
+-- contract.
 where_told : {C U : Type 0} (stands : C → U → SourceState → Type 0) (policy : Policy) (c : C) (u : U) (given : ℕ) (before : Option Left) (agenda : Agenda) (P : SourceState → Course → Type 0) (H : Captured → Type 0)
     → AreThere before H → ((bytes : Captured) → H bytes → OnCourse stands policy c u given before agenda P) → OnCourse stands policy c u given before agenda P
 where_told stands policy c u given None agenda P H there holds = tt
 where_told stands policy c u given (Some l) agenda P H there holds = holds there.0 there.1
 
--- the text of events in a row
+-- the text of consecutive events
 told-append : (policy : Policy) (event : ℕ) (es fs : List Event) (s : SourceState) → told policy event (es ++ fs) s ≡ told policy event es s ++ told policy (event + length es) fs (after policy es s)
 told-append policy event es fs s =
     ap (lines_from policy event) (outcomes-append policy es fs s) ∙ lines_from-append policy event (outcomes policy es s) (outcomes policy fs (after policy es s))
     ∙ ap (λ n. lines_from policy event (outcomes policy es s) ++ lines_from policy (event + n) (outcomes policy fs (after policy es s))) (length-outcomes policy es s)
 
 -- ---- the last line
--- the line of these numbers is the last
+-- the last line shows these totals
 last_is : (policy : Policy) (os : List Outcome) (held : ℕ) (t : Totals) (e : Ending) → IsTallied policy os held t → last_line policy os held e ≡ totals_line t e
 last_is policy os held t (Whole unsent) is = rw (is.same_pushed, is.same_popped, is.same_empty, is.same_held, is.same_dropped) refl
 last_is policy os held t (BadCapture c p) is = refl
 last_is policy os held t (PastLast event) is = refl
 
--- the last line behind these events
+-- the last line after these events
 abbrev last_of : Policy → List Event → SourceState → Ending → List ℕ
 last_of policy events s e = last_line policy (outcomes policy events s) (size (after policy events s).tree) e
 
@@ -92,7 +93,7 @@ report_is policy events e run s t is counts =
     ap (λ (l : List ℕ). told policy 1 events s ++ l) last ∙ ap (λ (es : List Event). told policy 1 es s ++ last_of policy es s run.ending) is.are
 
 module _ {C U : Type 0} (S : Ghosts C U) (R : Recordings Gathered) (laws : AreJoined R.records R.cuts) (tells : TellsLines R) (policy : Policy) where
-  -- the last line is written behind the lines of the events
+  -- the last line is written after the lines of the events
   pub runs_done : (events : List Event) (e : Ending) (run : Course) (old new : Stage C U Gathered) (s : SourceState) (t : Totals) (written : Option (List ℕ)) → event_of old.tally ≡ 1 → Makes S R policy events old new →
       IsSound policy s → S.stands old.scheduler old.under s → IsHeldBelow (old.given + 1) s.held → IsCourse events e run → IsTallied policy (outcomes policy events s) (size (after policy events s).tree) t →
       Appended (text_of new.written new.recorder) written (totals_line t e) → Runs S policy run s old.scheduler old.under new.scheduler new.under (text_of old.written old.recorder) written
@@ -105,7 +106,7 @@ module _ {C U : Type 0} (S : Ghosts C U) (R : Recordings Gathered) (laws : AreJo
         report = subst (Appended (text_of old.written old.recorder) written) (report_is policy events e run s t is counts) (appended_in_turn (text_of old.written old.recorder) (text_of new.written new.recorder) written (told policy 1 events s) (totals_line t e) lines last);
       }
 
-  -- the last line isn't written whole
+  -- the last line is cut short
   pub breaks_last : (events : List Event) (e : Ending) (run : Course) (old new : Stage C U Gathered) (s : SourceState) (t : Totals) (written : Option (List ℕ)) → event_of old.tally ≡ 1 → Makes S R policy events old new →
       IsSound policy s → S.stands old.scheduler old.under s → IsHeldBelow (old.given + 1) s.held → IsCourse events e run → IsTallied policy (outcomes policy events s) (size (after policy events s).tree) t →
       IsCut (text_of new.written new.recorder) (totals_line t e) written → Breaks S policy run s old.scheduler old.under new.scheduler new.under (text_of old.written old.recorder) written
@@ -149,7 +150,7 @@ module _ {C U : Type 0} (S : Ghosts C U) (R : Recordings Gathered) (laws : AreJo
           }
 
 module _ {C U W : Type 0} (S : Ghosts C U) (R : Recordings W) (policy : Policy) where
-  -- the taps were shown what left and what was dropped
+  -- the taps were shown the packets that departed and those that were dropped
   pub watched : (agenda : Agenda) (before : Option Left) (e : Ending) (old new : Stage C U W) → event_of old.tally ≡ 1 → Courses S R policy agenda e before old new →
       OnCourse S.stands policy old.scheduler old.under old.given before agenda (λ s run. Shows (shown_in policy (outcomes policy run.events s)) old.sight new.sight)
   watched agenda before e old new one courses = by_left before courses.told
@@ -193,7 +194,7 @@ module _ {C U : Type 0} (S : Ghosts C U) (R : Recordings Gathered) (laws : AreJo
           let is : IsCourse courses.events e (agenda l s 1) = subst (λ (n : ℕ). IsCourse courses.events e (agenda l s n)) one_first (told s sound stood below) in
           breaks_last S R laws tells policy courses.events e (agenda l s 1) old new s t written one_first courses.made sound stood below is (tallied_at s sound stood below) last
 
--- ---- where such captured bytes are there
+-- ---- if such captured bytes exist
 module _ {C U : Type 0} (S : Ghosts C U) (H : Captured → Type 0) (policy : Policy) (agenda : Agenda) (before : Option Left) (there : AreThere before H) (old : Stage C U Gathered) where
   pub amid_heard : (c : C) (u : U) (written : Option (List ℕ)) → event_of old.tally ≡ 1 → StopsAmid S (heard_lines H) policy (λ l s. (agenda l s (event_of old.tally)).events) before old c u written →
       OnCourse S.stands policy old.scheduler old.under old.given before agenda (λ s run. Breaks S policy run s old.scheduler old.under c u (text_of old.written old.recorder) written)

@@ -1,4 +1,4 @@
--- Where a run can begin.
+-- A run can begin at the start of a policy.
 use Rattle.std.proofs.Common.{ℕ, arith}
 use Rattle.tree_defs.specs.Topology.{topology_of}
 use Rattle.tree_defs.proofs.WellFormedLaws.{size-empty}

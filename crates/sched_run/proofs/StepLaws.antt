@@ -1,4 +1,4 @@
--- What each step of a script leaves.
+-- The results of each step of a script.
 use Rattle.std.proofs.Common.{◌≡◌, ◌<◌, ◌≤◌, ℕ, ◌+◌, ◌-◌, nat_lt, Bool, length-append, Option, None, Some, List, [], ◌++◌, map, length, take, drop, replicate, refl, sym, ap, ◌∙◌, arith, append-nil, true, false}
 use Rattle.std.specs.Prelude.{IfSome, IfOk, OnErr, Result, Ok, Err}
 use Rattle.std.proofs.lemmas.List.{map-append, take_all}
@@ -85,7 +85,7 @@ module _ {C U W : Type 0} (S : Ghosts C U) (R : Recordings W) (policy : Policy) 
       by_left None came = tt
       by_left (Some l) came = λ s sound stood below. rest_broken x y (event_of new.tally) (map Arrive all.packets) all.packets l c s came.0 came.1 refl
 
-  -- all packets that were left arrived, up to the fault if there is one
+  -- all packets left arrived, up to the fault if there is one
   pub rest_done : (m : ℕ) (e : Ending) (a c : Option Left) (old new : Stage C U W) → Arrives S R policy m (Some e) a c old new → Turns S R policy Rest (ends_at_fault e) a c old new
   rest_done m (Whole n) a c old new all = absurd all.came
   rest_done m (PastLast n) a c old new all = turns_rest m n a c old new all
@@ -193,7 +193,7 @@ module _ {C U W : Type 0} (S : Ghosts C U) (R : Recordings W) (policy : Policy) 
       by_left None = tt
       by_left (Some l) = λ s sound stood below. ([], append-nil (replicate n (Depart None)))
 
-  -- as many as are held
+  -- one departure for each queued packet
   pub drain_done : (accepted : IsAccepted policy) (n : ℕ) (a : Option Left) (old new : Stage C U W) → ForEachState S.stands policy old.scheduler old.under (λ s. n ≡ size s.tree) → Makes S R policy (replicate n (Depart None)) old new → Turns S R policy Drain None a a old new
   drain_done accepted n a old new held made = record {
     events = replicate n (Depart None);

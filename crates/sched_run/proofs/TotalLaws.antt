@@ -1,4 +1,4 @@
--- The numbers of a run, by what was counted.
+-- The totals of a run, from its counts.
 use Rattle.std.proofs.Common.{◌≡◌, ◌≤◌, ℕ, ◌+◌, ◌==◌, if◌then◌else◌, None, Some, List, refl, sym, ap, ◌∙◌, arith}
 use Rattle.tree_defs.specs.SourceTree.{size}
 use Rattle.policy_defs.specs.Policy.{Policy}
@@ -18,7 +18,7 @@ use Rattle.sched_run.specs.Totals.{HasTotals, AreTotals}
 use Rattle.sched_run.proofs.MadeEvents.{can_make, stands_after}
 use Rattle.sched_run.proofs.EventCounts.{AreOf, outcomes_of}
 
--- these are the numbers of outcomes behind which so many packets are held
+-- these are the totals of the outcomes, with `held` packets queued after them
 pub record IsTallied (policy : Policy) (os : List Outcome) (held : ℕ) (t : Totals) : Type 0 where
   pub same_pushed : pushed_in os ≡ t.pushed
   pub same_popped : popped_in os ≡ t.popped
@@ -45,7 +45,7 @@ module _ {C U W : Type 0} (S : Ghosts C U) (R : Recordings W) (laws : AreJoined 
         same_dropped = ap (shown_drops policy) dropped ∙ ap (λ (v : ℕ). if v == 2 then Some new.tally.dropped else None) (sym own) ∙ sym totals.shown;
       }
 
-  -- how many are held, from each state
+  -- the number of queued packets in each state
   abbrev pub Held : ℕ → C → U → Type 0
   Held n c u = ForEachState S.stands policy c u (λ s. n ≡ size s.tree)
 

@@ -1,10 +1,10 @@
--- What each call of a generated load needs, and what it leaves.
+-- The conditions that each call of a generated load needs, and its events.
 use Rattle.std.specs.Prelude.{◌≤◌, ℕ, Option, None, Some, length}
 use Rattle.packet_defs.specs.declared.packet.Packet.{Packet}
 use Rattle.policy_defs.specs.Policy.{Policy}
 use Rattle.sched_defs.specs.Events.{Event, Arrive, Depart}
 
--- the event of a packet that was drawn, or of none
+-- the event of a drawn packet, or a departure if none was drawn
 abbrev pub event_by : Option Packet → Event
 event_by None = Depart None
 event_by (Some p) = Arrive p
@@ -13,6 +13,6 @@ event_by (Some p) = Arrive p
 abbrev pub most_load : ℕ
 most_load = 1000000
 
--- the policy has a class for each that is drawn
+-- the policy has a class for each class number that is drawn
 abbrev pub HasLoadClasses : Policy → Type 0
 HasLoadClasses policy = 8 ≤ length policy.classes

@@ -1,4 +1,4 @@
--- What each call of a run needs, and what it keeps.
+-- The conditions that each call of a run needs and keeps.
 use Rattle.std.specs.Prelude.{◌≡◌, ◌≤◌, ◌+◌}
 use Rattle.tree_defs.specs.Tree.{depth}
 use Rattle.policy_defs.specs.Policy.{Policy}
@@ -12,8 +12,8 @@ use Rattle.sched_run.specs.declared.recorder.Recorder as recorder
 use Rattle.sched_run.specs.declared.run.Run.{Run}
 use Rattle.sched_run.specs.declared.tally.Tally.{Tally}
 
--- the policy is accepted, the names are those of its nodes, the version is its own, a path has room, and outcomes can be
--- recorded
+-- the policy is accepted, the node names and the version are the policy's own, the trace has room
+-- for a path, and outcomes can be recorded
 pub record IsSet {C U N W : Type 0} (S : Ghosts C U) (R : recorder.Ghosts W) (named : N → Policy) (run : Run C N W) : Type 0 where
   pub accepted : IsAccepted (S.policy run.scheduler)
   pub names : named run.names.now ≡ S.policy run.scheduler
@@ -21,7 +21,8 @@ pub record IsSet {C U N W : Type 0} (S : Ghosts C U) (R : recorder.Ghosts W) (na
   pub room : depth (S.policy run.scheduler).tree ≤ run.trace.room
   pub live : R.live run.recorder
 
--- the policy, the place of the queues, the names, the version and the room for a path stay
+-- the policy, the origin of the queues, the names, the version and the room for a path are
+-- unchanged
 pub record Continues {C U N W : Type 0} (S : Ghosts C U) (old new : Run C N W) : Type 0 where
   pub policy : S.policy new.scheduler ≡ S.policy old.scheduler
   pub origin : S.origin new.scheduler ≡ S.origin old.scheduler
@@ -29,20 +30,21 @@ pub record Continues {C U N W : Type 0} (S : Ghosts C U) (old new : Run C N W) :
   pub version : new.version ≡ old.version
   pub room : new.trace.room ≡ old.trace.room
 
--- the scheduler and what is under it stand for a sound state of which P holds
+-- the scheduler and its queues represent a sound state with P
 abbrev pub Stand : {C U N W : Type 0} → Ghosts C U → Run C N W → U → (SourceState → Type 0) → Type 0
 Stand S run u P = StandForOne S.stands (S.policy run.scheduler) run.scheduler u P
 
--- P holds of each sound state for which they stand
+-- P holds of each sound state that they represent
 abbrev pub FromAll : {C U N W : Type 0} → Ghosts C U → Run C N W → U → (SourceState → Type 0) → Type 0
 FromAll S run u P = ForEachState S.stands (S.policy run.scheduler) run.scheduler u P
 
--- packets that have the same policy still, from a source whose count of faults doesn't fall
+-- the packets keep their policy, and the fault count of their source doesn't fall
 pub record KeepsPackets {P S : Type 0} (p : packets.Ghosts P S) (old new : P) (source source' : S) : Type 0 where
   pub policy : p.policy new ≡ p.policy old
   pub later : p.faults source ≤ p.faults source'
 
--- as many packets came as were counted, more may come, and what is known of the captured bytes is known of theirs
+-- As many packets were read as were counted, and more may be read. All that is known of the
+-- captured bytes stays known for the packets left.
 pub record IsFurther {P S : Type 0} (p : packets.Ghosts P S) (old new : P) (source source' : S) (before now : Tally) : Type 0 where
   pub ready : p.ready new source'
   pub known : StaysKnown (p.captures old source) (p.captures new source')

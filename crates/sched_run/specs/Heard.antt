@@ -1,11 +1,11 @@
--- What a recorder makes of outcomes, where it is known of the captured bytes of packets what they are.
+-- The recorded outcomes, given knowledge of the packets' captured bytes.
 use Rattle.std.specs.Prelude.{◌≡◌, ℕ, List, [], ⊤}
 use Rattle.packet_defs.specs.declared.packet.Packet.{Packet}
 use Rattle.sched_defs.specs.Packets.{Captured}
 use Rattle.sched_run.specs.declared.recorder.Recorder as recorder
 use Rattle.sched_run.specs.Recording.{Recordings}
 
--- what is recorded whatever the captured bytes are of which H holds
+-- the record that holds for all captured bytes with H
 abbrev pub heard : {W : Type 0} → recorder.Ghosts W → (Captured → Type 0) → Recordings W
 heard R H = record {
   records = λ w a policy event os v b. (captured : Captured) → H captured → R.records captured w a policy event os v b;
@@ -20,14 +20,14 @@ any_bytes captured = ⊤
 abbrev pub IsCapturedAs : Packet → List ℕ → Captured → Type 0
 IsCapturedAs p bytes captured = captured p.number ≡ bytes
 
--- what is recorded whatever the captured bytes are, and where a packet has these
+-- the record for any captured bytes, and the one for a packet that has these bytes
 abbrev pub heard_anyway : {W : Type 0} → recorder.Ghosts W → Recordings W
 heard_anyway R = heard R any_bytes
 
 abbrev pub heard_with : {W : Type 0} → recorder.Ghosts W → Packet → List ℕ → Recordings W
 heard_with R p bytes = heard R (IsCapturedAs p bytes)
 
--- no packet has any
+-- no packet has captured bytes
 abbrev pub no_bytes : Captured → Type 0
 no_bytes captured = (n : ℕ) → captured n ≡ []
 

@@ -15,11 +15,11 @@ use Rattle.sched_run.specs.Recording.{AreJoined}
 abbrev pub adds_lines : Gathered → Option (List ℕ) → Policy → ℕ → List Outcome → Gathered → Option (List ℕ) → Type 0
 adds_lines report written policy event outcomes report' written' = Appended (text_of written report) (text_of written' report') (lines_from policy event outcomes)
 
--- of the text and a line for each outcome a first part is written
+-- a prefix of the text and of a line for each outcome is written
 abbrev pub cuts_lines : Gathered → Option (List ℕ) → Policy → ℕ → List Outcome → Option (List ℕ) → Type 0
 cuts_lines report written policy event outcomes written' = IsCut (text_of written report) (lines_from policy event outcomes) written'
 
--- ---- lines that are joined
+-- ---- joined lines
 pub lines_from-append : (policy : Policy) (event : ℕ) (os ps : List Outcome) → lines_from policy event (os ++ ps) ≡ lines_from policy event os ++ lines_from policy (event + length os) ps
 lines_from-append policy event [] ps = let e : event + 0 ≡ event = omega arith in ap (λ n. lines_from policy n ps) (sym e)
 lines_from-append policy event (o ∷ os) ps =
@@ -27,7 +27,7 @@ lines_from-append policy event (o ∷ os) ps =
     ap (λ ls. outcome_line policy event o ++ ls) (lines_from-append policy (event + 1) os ps ∙ ap (λ n. lines_from policy (event + 1) os ++ lines_from policy n ps) e)
     ∙ sym (append_assoc (outcome_line policy event o) (lines_from policy (event + 1) os) (lines_from policy (event + length (o ∷ os)) ps))
 
--- what is written is a first part of the text, and of all that follows it
+-- the bytes written are a prefix of the text, and of the text with anything after it
 pub cut_unwritten : (written : Option (List ℕ)) (unwritten more : List ℕ) → IsCut (appended written unwritten) more written
 cut_unwritten None unwritten more = tt
 cut_unwritten (Some w) unwritten more = record { rest = unwritten ++ more; joined = append_assoc w unwritten more }

@@ -1,4 +1,4 @@
--- What a link's departures and arrivals in a row leave.
+-- The results of a link's consecutive departures and arrivals.
 use Rattle.std.specs.Prelude.{◌≡◌, ◌≤◌, ◌<◌, ◌^◌, ◌+◌, ◌*◌, ℕ, Bool, true, false, Option, List}
 use Rattle.tree_defs.specs.SourceTree.{size}
 use Rattle.policy_defs.specs.Policy.{Policy}
@@ -12,39 +12,40 @@ use Rattle.sched_run.specs.Stages.{Stage, FromEach, Makes, MakesLast, StopsLast}
 use Rattle.sched_run.specs.Turns.{AreFirst}
 use Rattle.sched_run.specs.Recording.{Recordings}
 
--- these are the events that were to be sent, and the moment from which the link is free then
+-- the events that were to be made, and the timestamp from which the link is free after them
 pub record IsSent (events : List Event) (free : ℕ) (sent : Sent) : Type 0 where
   pub are : events ≡ sent.events
   pub is_free : free ≡ sent.free
 
--- all events that were to be sent were made
+-- all of these events were made
 pub record Sends {C U W : Type 0} (S : Ghosts C U) (R : Recordings W) (policy : Policy) (sent : SourceState → Sent) (free : ℕ) (old new : Stage C U W) : Type 0 where
   pub events : List Event
   pub made : Makes S R policy events old new
   pub told : FromEach S policy old (λ s. IsSent events free (sent s))
 
--- the first of them were made
+-- a prefix of these events was made
 pub record SendsAmid {C U W : Type 0} (S : Ghosts C U) (R : Recordings W) (over : W → Bool) (policy : Policy) (sent : SourceState → Sent) (old : Stage C U W) (c : C) (u : U) (written : Option (List ℕ)) : Type 0 where
   pub events : List Event
   pub stop : StopsLast S R over policy events old c u written
   pub first : FromEach S policy old (λ s. AreFirst events (sent s).events)
 
--- the first of them were made, up to one behind which nothing more can be recorded
+-- a prefix of these events was made; after its last event nothing more can be recorded
 pub record SendsFirst {C U W : Type 0} (S : Ghosts C U) (R : Recordings W) (over : W → Bool) (policy : Policy) (sent : SourceState → Sent) (old new : Stage C U W) : Type 0 where
   pub events : List Event
   pub made : MakesLast S R over policy events old new
   pub first : FromEach S policy old (λ s. AreFirst events (sent s).events)
 
--- all of them were made, or the first of them where nothing more can be recorded
+-- either all of them were made, or a prefix because nothing more can be recorded
 abbrev pub SendsUnless : {C U W : Type 0} → Bool → Ghosts C U → Recordings W → (W → Bool) → Policy → (SourceState → Sent) → ℕ → Stage C U W → Stage C U W → Type 0
 SendsUnless false S R over policy sent free old new = Sends S R policy sent free old new
 SendsUnless true S R over policy sent free old new = SendsFirst S R over policy sent old new
 
--- the moments of packets are below 2^64, and each departure takes less than 2^62 nanoseconds
+-- the timestamps of packets are below 2^64, and each departure takes at most 2^62 nanoseconds
 abbrev pub IsEarly : ℕ → Tally → Type 0
 IsEarly free tally = free ≤ tally.asked * 2 ^ 62 + 2 ^ 64
 
--- packets are held below some number, and so few that the counts have room for their departures
+-- the numbers of queued packets have a bound, and the counts have room for departures of all of
+-- them
 pub record CanSend (tally : Tally) (s : SourceState) : Type 0 where
   pub number : ℕ
   pub below : IsHeldBelow number s.held

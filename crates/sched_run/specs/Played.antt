@@ -1,4 +1,4 @@
--- What a call that makes events in a row leaves.
+-- The results of a call that makes several events.
 use Rattle.std.specs.Prelude.{◌≡◌, ℕ, ◌+◌, Option, List, ◌++◌}
 use Rattle.policy_defs.specs.Policy.{Policy}
 use Rattle.sched_defs.specs.SourceState.{SourceState}
@@ -9,15 +9,16 @@ use Rattle.sched_core.specs.Origins.{images_of}
 use Rattle.sched_core.specs.Spills.{raised, spills_in}
 use Rattle.sched_run.specs.Recording.{Recordings}
 
--- the lines of events from a state, where the first event has this number
+-- the lines of events from a state, if the first event has this number
 abbrev pub told : Policy → ℕ → List Event → SourceState → List ℕ
 told policy event events from = lines_from policy event (outcomes policy events from)
 
--- the line of an event from a state, where it has this number
+-- the line of an event from a state, if it has this number
 abbrev pub line_of : Policy → ℕ → Event → SourceState → List ℕ
 line_of policy event e from = outcome_line policy event (outcome policy e from)
 
--- a departure was asked for: all else of what a scheduler counts and tells of itself stays
+-- one departure was asked for: the scheduler's other counts, its policy and its origin are
+-- unchanged
 pub record AsksOnce {C U : Type 0} (S : Ghosts C U) (c : C) (u : U) (c' : C) (u' : U) : Type 0 where
   pub pushes : S.pushes c' ≡ S.pushes c
   pub departures : S.departures c' ≡ S.departures c + 1
@@ -25,8 +26,9 @@ pub record AsksOnce {C U : Type 0} (S : Ghosts C U) (c : C) (u : U) (c' : C) (u'
   pub origin : S.origin c' ≡ S.origin c
   pub spilled : S.spilled c' u' ≡ S.spilled c u
 
--- The events were made, from a state for which the scheduler c and the queues u under it stood: now c' and u' stand for the
--- state after them. Pushes and departures are counted, and where spills are told they rose by those of the pushes.
+-- The events were made. The scheduler c and the queues u represented the first state; now c' and u'
+-- represent the state after the events. Pushes and departures are counted. The spill count, if
+-- known, rose by the spills of the pushes.
 pub record HasMade {C U : Type 0} (S : Ghosts C U) (policy : Policy) (events : List Event) (from : SourceState) (c : C) (u : U) (c' : C) (u' : U) : Type 0 where
   pub state : S.stands c' u' (after policy events from)
   pub pushed : S.pushes c' ≡ S.pushes c + pushed_in (outcomes policy events from)
@@ -34,7 +36,7 @@ pub record HasMade {C U : Type 0} (S : Ghosts C U) (policy : Policy) (events : L
   pub origin : S.origin c' ≡ S.origin c
   pub spilled : S.spilled c' u' ≡ raised (S.spilled c u) (spills_in (images_of (S.origin c)) policy events from)
 
--- the first of the events were made
+-- a prefix of the events was made
 pub record HasMadeSome {C U : Type 0} (S : Ghosts C U) (policy : Policy) (events : List Event) (from : SourceState) (c : C) (u : U) (c' : C) (u' : U) : Type 0 where
   pub made : List Event
   pub unmade : List Event
@@ -47,7 +49,7 @@ pub record Plays {C U W : Type 0} (S : Ghosts C U) (R : Recordings W) (policy : 
   pub leaves : HasMade S policy events from c u c' u'
   pub recorded : R.records w a policy event (outcomes policy events from) w' a'
 
--- the first of the events were made, and of what is told of all a first part is written
+-- a prefix of the events was made, and a prefix of the record of all of them is written
 pub record StopsIn {C U W : Type 0} (S : Ghosts C U) (R : Recordings W) (policy : Policy) (event : ℕ) (events : List Event) (from : SourceState)
     (c : C) (u : U) (w : W) (a : Option (List ℕ)) (c' : C) (u' : U) (written : Option (List ℕ)) : Type 0 where
   pub leaves : HasMadeSome S policy events from c u c' u'

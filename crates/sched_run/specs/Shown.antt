@@ -1,4 +1,4 @@
--- What taps are shown of a run: each packet that left, and each that was dropped.
+-- What taps are shown of a run: each packet that departed, and each that was dropped.
 use Rattle.std.specs.Prelude.{Option, None, Some, List, [], ◌∷◌, ◌++◌}
 use Rattle.tree_defs.specs.Tree.{Address}
 use Rattle.packet_defs.specs.declared.packet.Packet.{Packet}
@@ -11,7 +11,7 @@ use Rattle.sched_core.specs.declared.scheduler.Arrival.TheVariants as arrival
 use Rattle.tap_core.specs.declared.kinds.Dropped.{Dropped}
 use Rattle.tap_core.specs.Lists.{Shown, departed, dropped}
 
--- a packet that left from a leaf
+-- a packet that departed from a leaf
 abbrev pub gone : Policy → Packet → Address → Departed
 gone policy p a = record { packet = p.number; class = p.class; leaf = number_at policy.tree a; len = p.len }
 
@@ -29,13 +29,13 @@ abbrev pub shown_in : Policy → List events.Outcome → List Shown
 shown_in policy [] = []
 shown_in policy (o ∷ os) = shown_of policy o ++ shown_in policy os
 
--- ---- what one event shows
--- a packet that was dropped, as an arrival tells it
+-- ---- the packets that one event shows
+-- a dropped packet, by the answer of its arrival
 abbrev pub shown_arrival : Packet → Arrival → List Shown
 shown_arrival p (arrival.Pushed leaf) = []
 shown_arrival p (arrival.Dropped leaf) = dropped (record { packet = p.number; class = p.class; leaf = leaf; len = p.len }) ∷ []
 
--- a packet that left, as a departure tells it
+-- a departed packet, by the answer of its departure
 abbrev pub shown_departure : Option Departed → List Shown
 shown_departure None = []
 shown_departure (Some d) = departed d ∷ []

@@ -1,4 +1,4 @@
--- Where a run stands, and what events in a row make of it.
+-- The stage of a run, and the effect of consecutive events on it.
 use Rattle.std.specs.Prelude.{◌≡◌, ◌<◌, ◌≤◌, ◌^◌, ℕ, ◌+◌, Bool, true, false, Option, List, [], ◌∷◌, ◌++◌, length}
 use Rattle.std.specs.List.{AllByRecursion}
 use Rattle.tree_defs.specs.SourceTree.{size}
@@ -19,8 +19,8 @@ use Rattle.sched_run.specs.declared.run.Run.{Run}
 use Rattle.sched_run.specs.declared.tally.Tally.{Tally}
 use Rattle.sched_run.specs.Recording.{Recordings}
 
--- the scheduler with what is under it, the recorder with what is written so far, how many packets came, the tally, and the
--- taps that watch
+-- the scheduler and its queues, the recorder and the bytes written so far, the number of packets
+-- read, the tally, and the taps that watch
 pub record Stage (C U W : Type 0) : Type 0 where
   pub scheduler : C
   pub under : U
@@ -46,30 +46,31 @@ pub record IsFresh (tally : Tally) : Type 0 where
   pub none_dropped : tally.dropped ≡ 0
   pub none_asked : tally.asked ≡ 0
 
--- how many drops the answer of an arrival tells
+-- the drops in an arrival's answer, 0 or 1
 abbrev pub drops_of : Arrival → ℕ
 drops_of (Pushed leaf) = 0
 drops_of (Dropped leaf) = 1
 
--- P holds of each sound state for which they stand and in which no packet yet to come is held
+-- P holds of each sound state that the stage represents and in which no packet yet to arrive is
+-- queued
 abbrev pub FromEach : {C U W : Type 0} → Ghosts C U → Policy → Stage C U W → (SourceState → Type 0) → Type 0
 FromEach S policy at P = ForEachState S.stands policy at.scheduler at.under (λ s. IsHeldBelow (at.given + 1) s.held → P s)
 
--- no packet yet to come is held, and so few are held that the counts have room for their departures
+-- no packet yet to arrive is queued, and the counts have room for departures of all that are
 pub record IsReady (given : ℕ) (tally : Tally) (s : SourceState) : Type 0 where
   pub held : IsHeldBelow (given + 1) s.held
   pub few : tally.asked + size s.tree ≤ 2 ^ 34
 
--- no packet yet to come is held, and not too many are
+-- no packet yet to arrive is queued, and at most 2^32 packets are
 pub record CanBegin (given : ℕ) (s : SourceState) : Type 0 where
   pub held : IsHeldBelow (given + 1) s.held
   pub few : size s.tree ≤ 2 ^ 32
 
--- which is so at the start
+-- this holds at the start of every policy
 abbrev pub StartsCanBegin : Type 0
 StartsCanBegin = (policy : Policy) (given : ℕ) → CanBegin given (start policy)
 
--- the counts have room for all packets that may come
+-- the counts have room for all packets that may arrive
 pub record HasRoom (pushes departures given : ℕ) (tally : Tally) : Type 0 where
   pub pushes_fit : pushes < 2 ^ 60 + tally.came
   pub departures_fit : departures < 2 ^ 60 + tally.asked
@@ -87,7 +88,7 @@ packets_in [] = []
 packets_in (Arrive p ∷ es) = p ∷ packets_in es
 packets_in (Depart start ∷ es) = packets_in es
 
--- how many events are arrivals, and how many departures
+-- the number of arrivals and of departures among events
 abbrev pub arrivals_in : List Event → ℕ
 arrivals_in [] = 0
 arrivals_in (Arrive p ∷ es) = 1 + arrivals_in es
@@ -98,12 +99,13 @@ departures_in [] = 0
 departures_in (Arrive p ∷ es) = departures_in es
 departures_in (Depart start ∷ es) = 1 + departures_in es
 
--- packets as they come behind so many: numbered in a row, and each can be sent
+-- these packets may arrive after `given` others: numbered consecutively, and each can be sent
 pub record AreNext (policy : Policy) (given : ℕ) (packets : List Packet) : Type 0 where
   pub numbered : AreNumberedFrom (given + 1) packets
   pub sendable : AllByRecursion (IsSendable policy) packets
 
--- all of the events were made, their outcomes recorded and counted, and shown to the taps that watch
+-- all of the events were made, their outcomes recorded and counted, and shown to the taps that
+-- watch
 pub record Makes {C U W : Type 0} (S : Ghosts C U) (R : Recordings W) (policy : Policy) (events : List Event) (old new : Stage C U W) : Type 0 where
   pub next : AreNext policy old.given (packets_in events)
   pub came : new.tally.came ≡ old.tally.came + arrivals_in events
@@ -113,7 +115,8 @@ pub record Makes {C U W : Type 0} (S : Ghosts C U) (R : Recordings W) (policy : 
       new.scheduler new.under new.recorder new.written)
   pub shown : FromEach S policy old (λ s. Shows (shown_in policy (outcomes policy events s)) old.sight new.sight)
 
--- Events in a row were made up to one behind which nothing more can be recorded: behind those before it more could be.
+-- The events were made, and after the last of them nothing more can be recorded. After all earlier
+-- ones more could still be recorded.
 pub record MakesLast {C U W : Type 0} (S : Ghosts C U) (R : Recordings W) (over : W → Bool) (policy : Policy) (events : List Event) (old new : Stage C U W) : Type 0 where
   pub before : List Event
   pub last : Event
@@ -125,12 +128,13 @@ pub record MakesLast {C U W : Type 0} (S : Ghosts C U) (R : Recordings W) (over 
   pub made_last : Makes S R policy (last ∷ []) amid new
   pub is_over : over new.recorder ≡ true
 
--- the first of the events were made, and of what is told of all a first part is written
+-- a prefix of the events was made, and a prefix of the record of all of them is written
 pub record Stops {C U W : Type 0} (S : Ghosts C U) (R : Recordings W) (policy : Policy) (events : List Event) (old : Stage C U W) (c : C) (u : U) (written : Option (List ℕ)) : Type 0 where
   pub next : AreNext policy old.given (packets_in events)
   pub stopped : FromEach S policy old (λ s. StopsIn S R policy (event_of old.tally) events s old.scheduler old.under old.recorder old.written c u written)
 
--- Events in a row stopped at the last of them, if there is one: behind those before it more could be recorded.
+-- The events stopped at the last of them, if there is one. After all earlier ones more could still
+-- be recorded.
 pub record StopsLast {C U W : Type 0} (S : Ghosts C U) (R : Recordings W) (over : W → Bool) (policy : Policy) (events : List Event) (old : Stage C U W) (c : C) (u : U) (written : Option (List ℕ)) : Type 0 where
   pub before : List Event
   pub last : List Event

@@ -1,4 +1,4 @@
--- What the lines of a script ask for, and what paces a run.
+-- The steps of a script, and the pace of a run.
 use Rattle.std.specs.Prelude.{◌≤◌, ℕ, map}
 use Rattle.sched_defs.specs.SendTime.{IsRate}
 use Rattle.events_core.specs.Script.{most_count}
@@ -18,7 +18,7 @@ step_of (line_step.Depart n) = Departures n
 step_of line_step.Rest = Rest
 step_of line_step.Drain = Drain
 
--- how many arrivals or departures a step counts
+-- the number of arrivals or departures that a step asks for
 abbrev pub asked_by : Step → ℕ
 asked_by (Arrivals n) = n
 asked_by (Departures n) = n
@@ -38,7 +38,7 @@ abbrev pub CanEndSo : code.Pace → Ending → Type 0
 CanEndSo (code_pace.Script steps) ending = Unit {0}
 CanEndSo (code_pace.Link rate) ending = IsNoPastLast ending
 
--- a script counts few events, and a rate is in range
+-- the counts of a script's steps add up to at most the limit, and a rate is in range
 abbrev pub IsBounded : code.Pace → Type 0
 IsBounded (code_pace.Script steps) = counts_of steps.now ≤ most_count
 IsBounded (code_pace.Link rate) = IsRate rate

@@ -1,4 +1,4 @@
--- A sum as a recorder: the numbers of packets that left are folded into it, and nothing is written.
+-- A sum as a recorder: the numbers of departed packets are folded into it, and nothing is written.
 use Rattle.std.specs.Prelude.{◌≡◌, refl, ℕ, Option, List, [], ◌∷◌, ◌++◌}
 use Rattle.std.proofs.Common.{◌∙◌, ap, sym}
 use Rattle.policy_defs.specs.Policy.{Policy}
@@ -6,7 +6,7 @@ use Rattle.sched_defs.specs.Events.{Outcome}
 use Rattle.sched_run.specs.Load.{sum_with, sum_of}
 use Rattle.sched_run.specs.Recording.{AreJoined}
 
--- the sum took in the outcomes
+-- the sum of the outcomes, with nothing written
 pub record AddsUp (sum : ℕ) (a : Option (List ℕ)) (policy : Policy) (event : ℕ) (os : List Outcome) (sum' : ℕ) (b : Option (List ℕ)) : Type 0 where
   pub total : sum' ≡ sum_of sum os
   pub unwritten : b ≡ a

@@ -1,4 +1,4 @@
--- The numbers of the last line.
+-- The totals of the last line.
 use Rattle.std.specs.Prelude.{◌≡◌, ◌≤◌, ◌<◌, ◌^◌, ◌==◌, ℕ, ◌+◌, if◌then◌else◌, Some, None, List, codes}
 use Rattle.report_defs.specs.Report.{end_line, fault_line}
 use Rattle.sched_defs.specs.declared.ending.Ending.{Ending}
@@ -7,23 +7,23 @@ use Rattle.sched_defs.specs.Report.{past_last}
 use Rattle.sched_run.specs.declared.tally.Tally.{Tally}
 use Rattle.sched_run.specs.declared.tally.Totals.{Totals}
 
--- the last line with these numbers
+-- the last line with these totals
 abbrev pub totals_line : Totals → Ending → List ℕ
 totals_line t (Whole unsent) = end_line t.pushed t.popped t.empty t.held unsent t.dropped
 totals_line t (BadCapture c p) = fault_line (codes "capture") c p
 totals_line t (PastLast event) = fault_line (codes "script") past_last event
 
--- of the packets held at first and those that came no more are held and dropped than there are, and the others may have been
--- popped by the departures
+-- At most as many packets are queued now or dropped as were queued at first or arrived. There were
+-- enough departures to pop the others.
 pub record HasTotals (tally : Tally) (first held : ℕ) : Type 0 where
   pub few : first + tally.came < 2 ^ 63
   pub dropped : tally.dropped ≤ tally.came
   pub holds : held + tally.dropped ≤ first + tally.came
   pub popped : first + tally.came ≤ held + tally.dropped + tally.asked
 
--- The numbers of a run that began with so many packets held, and now holds so many: each packet that came was pushed or
--- dropped, each that was held or pushed was popped or is held, and each departure popped one or found none. Drops are shown
--- for version 2.
+-- The totals of a run that began with `first` packets queued and has `held` queued now. Each packet
+-- that arrived was pushed or dropped. Each that was queued or pushed was popped or is still queued.
+-- Each departure popped a packet or found none. Drops are shown for version 2.
 pub record AreTotals (tally : Tally) (first held version : ℕ) (t : Totals) : Type 0 where
   pub came : t.pushed + tally.dropped ≡ tally.came
   pub passed : t.popped + held ≡ first + t.pushed

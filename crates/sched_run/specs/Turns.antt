@@ -1,4 +1,4 @@
--- What a step of a script leaves.
+-- The results of a step of a script.
 use Rattle.std.specs.Prelude.{◌≡◌, ◌≤◌, ◌<◌, ℕ, Option, None, Some, List, ◌++◌, map, length, IfSome, IfNone, ⊤}
 use Rattle.packet_defs.specs.declared.packet.Packet.{Packet}
 use Rattle.policy_defs.specs.Policy.{Policy}
@@ -14,7 +14,7 @@ use Rattle.sched_run.specs.Stages.{Stage, event_of, FromEach, Makes, Stops}
 use Rattle.sched_run.specs.Recording.{Recordings}
 
 -- ---- arrivals
--- these packets came, and then, where the run ends so, no more
+-- these packets were read, and no more if the run ends this way
 abbrev pub CameUntil : Option Ending → ℕ → Option Left → Option Left → List Packet → Type 0
 CameUntil None event before after packets = Came before after packets
 CameUntil (Some (Whole unsent)) event before after packets = ⊥
@@ -26,23 +26,23 @@ abbrev pub GoesOn : Option Ending → Type 0 → Type 0
 GoesOn (Some (BadCapture c p)) P = ⊤
 GoesOn ending P = P
 
--- all that were asked for, or fewer
+-- as many as were asked for, or fewer if the run ends
 abbrev pub CameOf : Option Ending → ℕ → ℕ → Type 0
 CameOf None asked count = count ≡ asked
 CameOf (Some ending) asked count = count < asked
 
--- up to so many packets came and arrived
+-- the packets asked for, or fewer, were read and arrived
 pub record Arrives {C U W : Type 0} (S : Ghosts C U) (R : Recordings W) (policy : Policy) (asked : ℕ) (ending : Option Ending) (before after : Option Left) (old new : Stage C U W) : Type 0 where
   pub packets : List Packet
   pub count : CameOf ending asked (length packets)
   pub came : CameUntil ending (event_of new.tally) before after packets
   pub made : Makes S R policy (map Arrive packets) old new
 
--- these packets were the first of those that were left
+-- these packets were a prefix of those left
 abbrev pub WereFirst : Option Left → List Packet → Type 0
 WereFirst before packets = IfSome before (λ l. (others : List Packet) × (packets ++ others ≡ l.packets))
 
--- up to so many packets came, and their arrivals stopped
+-- the packets asked for, or fewer, were read, and their arrivals stopped
 pub record ArrivalsStop {C U W : Type 0} (S : Ghosts C U) (R : Recordings W) (policy : Policy) (asked : ℕ) (before : Option Left) (old : Stage C U W) (c : C) (u : U) (written : Option (List ℕ)) : Type 0 where
   pub packets : List Packet
   pub count : length packets ≤ asked
@@ -50,7 +50,8 @@ pub record ArrivalsStop {C U W : Type 0} (S : Ghosts C U) (R : Recordings W) (po
   pub stop : Stops S R policy (map Arrive packets) old c u written
 
 -- ---- steps
--- these are the events of a step over what was left, from a state, and this is what it leaves
+-- the events of a step over the packets left, from a state; how they end the run, or the rest that
+-- they leave
 pub record IsTurn (step : Step) (ending : Option Ending) (event : ℕ) (events : List Event) (before : Left) (after : Option Left) (s : SourceState) : Type 0 where
   pub are : events ≡ step_events step before.packets s
   pub ends : ending ≡ stop_at step before.packets before.fault event
@@ -64,11 +65,11 @@ pub record Turns {C U W : Type 0} (S : Ghosts C U) (R : Recordings W) (policy : 
   pub told : IfSome before (λ l. FromEach S policy old (λ s. IsTurn step ending (event_of new.tally) events l after s))
 
 -- ---- events that stop
--- these are the first of some events
+-- these events are a prefix of all
 abbrev pub AreFirst : List Event → List Event → Type 0
 AreFirst events all = (others : List Event) × (events ++ others ≡ all)
 
--- the first of the events that were to come over what was left were made
+-- a prefix of the events over the packets left was made
 pub record StopsAmid {C U W : Type 0} (S : Ghosts C U) (R : Recordings W) (policy : Policy) (all : Left → SourceState → List Event) (before : Option Left) (old : Stage C U W) (c : C) (u : U) (written : Option (List ℕ)) : Type 0 where
   pub events : List Event
   pub stop : Stops S R policy events old c u written

@@ -1,4 +1,4 @@
-//! Arrivals of the packets that come next.
+//! Arrivals of the next packets.
 ghost use Rattle.std.specs.Prelude.{◌≡◌};
 
 use crate::recorder::Recorder;
@@ -25,7 +25,8 @@ impl<'a, C: Scheduler + Drop, N: NodeNames, W: Recorder> Run<'a, C, N, W> {
     ghost use Rattle.tap_core.specs.Watching.{sight_of, AreNoMore};
     ghost use Rattle.sched_run.specs.Turns.{Arrives, ArrivalsStop, Turns, StopsAmid, GoesOn};
 
-    /// Makes the arrival of a packet with these captured bytes, with its line, counts it, and shows it to the taps that watch.
+    /// Makes the arrival of a packet with these captured bytes, records and counts it, and shows it
+    /// to the taps that watch if it was dropped.
     #[inline(always)]
     pub(crate) fn make_arrival<K: Sink, T: Tap>(
         &mut self,
@@ -71,7 +72,8 @@ impl<'a, C: Scheduler + Drop, N: NodeNames, W: Recorder> Run<'a, C, N, W> {
         Ok(())
     }
 
-    /// Makes the arrival of the next packet, with its line. Where none is left, the answer is how a run ends that asks for one.
+    /// Makes the arrival of the next packet and records it. Returns how the run ends if no packet
+    /// is left.
     #[inline(always)]
     pub(crate) fn arrive_next<P: Packets, K: Sink, T: Tap>(
         &mut self,
@@ -126,8 +128,8 @@ impl<'a, C: Scheduler + Drop, N: NodeNames, W: Recorder> Run<'a, C, N, W> {
         }
     }
 
-    /// Makes the arrivals of the next packets, each with its line. Where fewer are left, the answer is how a run ends that asks
-    /// for one more.
+    /// Makes the arrivals of the next `count` packets and records each. Returns how the run ends if
+    /// fewer are left.
     pub(crate) fn arrive_some<P: Packets, K: Sink, T: Tap>(
         &mut self,
         under: &mut C::Under,
@@ -178,8 +180,8 @@ impl<'a, C: Scheduler + Drop, N: NodeNames, W: Recorder> Run<'a, C, N, W> {
         Ok(None)
     }
 
-    /// Makes the arrivals of all packets that are left, each with its line. The answer is how the capture's fault ends the run,
-    /// if it has one.
+    /// Makes the arrivals of all packets that are left and records each. Returns how the capture's
+    /// fault ends the run, if it has one.
     pub(crate) fn arrive_rest<P: Packets, K: Sink, T: Tap>(
         &mut self,
         under: &mut C::Under,

@@ -20,7 +20,7 @@ use sched_core::Scheduler;
 use sched_defs::{Ending, Halt, PAST_LAST, Packets};
 use tap_core::{Tap, Watching};
 
-/// Reads the packets that are left, and answers how the run ends after them.
+/// Reads the packets that are left, and returns how the run ends after them.
 fn count_unsent<P: Packets>(packets: &mut P, source: &mut P::Source) -> Result<Ending, Stop>
     requires ready { P.ready packets.old source.old }
 
@@ -41,7 +41,7 @@ fn count_unsent<P: Packets>(packets: &mut P, source: &mut P::Source) -> Result<E
     }
 }
 
-/// Puts the last line to the others.
+/// Adds the last line to the report.
 fn last<K: Sink>(
     report: &mut Report,
     sink: &mut K,
@@ -73,7 +73,7 @@ fn last<K: Sink>(
     }
 }
 
-/// Writes the last line, and what the report holds.
+/// Writes the last line, and all text that the report still buffers.
 fn close<K: Sink>(
     report: &mut Report,
     sink: &mut K,
@@ -109,7 +109,8 @@ impl<'a, C: Scheduler + Drop, N: NodeNames, W: Recorder> Run<'a, C, N, W> {
     ghost use Rattle.sched_run.specs.Courses.{script_agenda, course_of, Courses, CoursesUnless};
     ghost use Rattle.sched_run.specs.Steps.{IsBounded, CanEndSo};
 
-    /// Makes the events of a script, each with its line, up to its end or to where no more packets come.
+    /// Makes the events of a script and records each, up to its end or until no more packets
+    /// arrive.
     fn play_steps<P: Packets, K: Sink, T: Tap>(
         &mut self,
         under: &mut C::Under,
@@ -160,8 +161,8 @@ impl<'a, C: Scheduler + Drop, N: NodeNames, W: Recorder> Run<'a, C, N, W> {
         count_unsent(packets, source)
     }
 
-    /// Makes the events of a run, each with its line, up to its end or to where no more packets come. The answer
-    /// is how the run ends, if it isn't over before, since nothing more can be recorded.
+    /// Makes the events of a run and records each, up to its end or until no more packets arrive.
+    /// Returns how the run ends, or `None` if it ended early because nothing more can be recorded.
     fn play_events<P: Packets, K: Sink, T: Tap>(
         &mut self,
         under: &mut C::Under,
@@ -230,9 +231,9 @@ impl<'a, C: Scheduler + Drop, N: NodeNames> Run<'a, C, N, Report> {
     ghost use Rattle.sched_run.specs.Courses.{course_of, OnCourse, Runs, Breaks};
     ghost use Rattle.sched_run.specs.Steps.{IsBounded, CanEndSo};
 
-    /// Makes the events of a run over the packets that come, each with its line, shows each departure and each drop to the
-    /// taps that watch, and writes the report to its end. The answer is how the run ended; where it stops, the text is cut
-    /// short.
+    /// Makes the events of a run over the packets of the source and writes a line for each. Shows
+    /// each departure and each drop to the taps that watch, and writes the report to its end.
+    /// Returns how the run ended. If it stops with an error, the text is cut short.
     pub fn play<P: Packets, K: Sink, T: Tap>(
         &mut self,
         under: &mut C::Under,

@@ -1,11 +1,13 @@
-//! What a generated load draws: departures, and packets with their classes, lengths, flows and timestamps.
+//! The draws of a generated load: departures, and packets with their classes, lengths, flows and
+//! timestamps.
 ghost use Rattle.std.specs.Prelude.{◌≡◌, ◌<◌, ◌^◌};
 
 use events_core::Load;
 use packet_defs::Packet;
 use rank_defs::FlowKey;
 
-/// The generator of a load, the number of its next packet, and the timestamp of the last one in nanoseconds.
+/// The generator of a load, the number of its next packet, and the timestamp (`moment`) of the last
+/// one in nanoseconds.
 #[derive(Drop)]
 pub struct Drawing {
     pub(crate) load: Load,
@@ -27,7 +29,7 @@ impl Drawing {
         }
     }
 
-    /// The next packet, or none where a departure is drawn.
+    /// Draws the next event: a packet that arrives, or `None` for a departure.
     pub(crate) fn draw(&mut self) -> Option<Packet>
         requires early { self.old.moment < 2 ^ 62 }
         requires few { self.old.number < 2 ^ 62 }

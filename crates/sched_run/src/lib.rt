@@ -1,5 +1,5 @@
-//! A run: the course of a script or of a link over packets that come one by one, by any scheduler, with its report, and shown
-//! to the taps that watch. Begin with specs/Courses.antt.
+//! Runs a script or a link over packets that are read one by one, with any scheduler. Writes the
+//! report, and shows departures and drops to the taps that watch. Begin with specs/Courses.antt.
 #![tactic(auto)]
 
 mod arrivals;

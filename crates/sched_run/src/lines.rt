@@ -1,4 +1,4 @@
-//! One event, with what is recorded of it.
+//! One event and its record.
 ghost use Rattle.std.specs.Prelude.{◌≡◌, ◌<◌, ◌≤◌, ◌+◌, ◌^◌, ◌↔◌, [], ◌∷◌, None, option_map, is_ok, IsNone, IsTrue, IfErr, IfOk, OnOk, OnErr, IfSome, IfNone};
 ghost use Rattle.outside_core.specs.Faults.{Rose};
 ghost use Rattle.outside_core.specs.Kept.{KeepsSink, HasSinkCause};
@@ -24,15 +24,14 @@ use sched_core::{Arrival, Scheduler};
 use tap_core::{Tap, Watching};
 use tree_core::Taken;
 
-/// A departure that is to be made: the number of its event, and the time at which it starts, in nanoseconds, where a link
-/// says it.
+/// A departure to make: its event number, and its start in nanoseconds if a link paces it.
 #[derive(Clone, Copy, Debug)]
 pub(crate) struct Departure {
     pub(crate) event: u64,
     pub(crate) start: Option<u128>,
 }
 
-/// Makes a departure, and records it. Takes no memory.
+/// Makes a departure and records it. Allocates no memory.
 #[inline(always)]
 pub(crate) fn record_departure<C: Scheduler, N: NodeNames, W: Recorder, K: Sink>(
     names: &N,
@@ -91,7 +90,7 @@ pub(crate) fn record_departure<C: Scheduler, N: NodeNames, W: Recorder, K: Sink>
     }
 }
 
-/// Makes a departure of a script, and writes its line. Takes no memory.
+/// Makes a departure of a script and writes its line. Allocates no memory.
 pub fn depart_line<C: Scheduler, N: NodeNames, K: Sink>(
     names: &N,
     scheduler: &mut C,
@@ -149,7 +148,7 @@ impl<'a, C: Scheduler + Drop, N: NodeNames, W: Recorder> Run<'a, C, N, W> {
     ghost use Rattle.sched_run.specs.Stages.{stage_of, Makes, Stops};
     ghost use Rattle.tap_core.specs.Watching.{sight_of, AreNoMore};
 
-    /// Makes an arrival, and records it. The answer is what became of the packet.
+    /// Makes an arrival and records it. Returns whether the packet was pushed or dropped.
     #[inline(always)]
     pub(crate) fn record_arrival<K: Sink>(
         &mut self,
@@ -197,8 +196,9 @@ impl<'a, C: Scheduler + Drop, N: NodeNames, W: Recorder> Run<'a, C, N, W> {
         Ok(arrival)
     }
 
-    /// Makes a departure, which starts at a timestamp where a link paces it, records it, counts it, and shows it to the taps
-    /// that watch. The error can mean out of memory for the line of a tap that is done.
+    /// Makes a departure, records and counts it, and shows it to the taps that watch. `start` is
+    /// its timestamp in nanoseconds if a link paces it. The error may mean out of memory for the
+    /// line of a finished tap.
     #[inline(always)]
     pub(crate) fn depart_next<K: Sink, T: Tap>(
         &mut self,

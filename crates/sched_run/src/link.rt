@@ -13,7 +13,7 @@ use sched_core::Scheduler;
 use sched_defs::{BLANK, Ending, Halt, Packets};
 use tap_core::{Tap, Watching};
 
-/// Whether a departure is due before a timestamp, where there is one.
+/// Returns whether a departure is due before the timestamp. Without a timestamp it always is.
 fn is_due(link: &Link, until: Option<u64>) -> bool
     ensures { result ≡ is_due until link.now }
 {
@@ -23,7 +23,7 @@ fn is_due(link: &Link, until: Option<u64>) -> bool
     }
 }
 
-/// Sends a packet that left, if one did.
+/// Keeps the link busy for the send time of the departed packet, if there is one.
 fn take_time(link: &mut Link, departed: Option<Departed>, rate: u64)
     requires early { link.old < 2 ^ 126 }
     requires rate { IsRate rate }
@@ -36,7 +36,7 @@ fn take_time(link: &mut Link, departed: Option<Departed>, rate: u64)
     }
 }
 
-/// Lets the link stand idle up to a timestamp, where nothing is held.
+/// Leaves the link idle up to a timestamp if no packet is queued.
 fn idle_at(link: &mut Link, held: u64, moment: u64)
     ensures { link.new ≡ (if held == 0 then max link.old moment else link.old) }
 {
@@ -63,8 +63,8 @@ impl<'a, C: Scheduler + Drop, N: NodeNames, W: Recorder> Run<'a, C, N, W> {
     ghost use Rattle.sched_run.specs.Steps.{IsNoPastLast};
     ghost use Rattle.sched_run.specs.Courses.{link_agenda, CoursesUnless, CoursesAmid};
 
-    /// Sends what is held as long as the link is free before a timestamp, or all of it where there is none. The answer is whether
-    /// nothing more can be recorded, which ends the run.
+    /// Sends queued packets as long as the link is free before the timestamp, or all of them if
+    /// there is no timestamp. Returns whether nothing more can be recorded, which ends the run.
     fn send_until<K: Sink, T: Tap>(
         &mut self,
         under: &mut C::Under,
@@ -118,8 +118,9 @@ impl<'a, C: Scheduler + Drop, N: NodeNames, W: Recorder> Run<'a, C, N, W> {
         Ok(false)
     }
 
-    /// Sends what is due before a packet's timestamp, and makes the packet's arrival, each with its line. The answer is
-    /// whether nothing more could be recorded before that.
+    /// Sends the packets that are due before a packet's timestamp, then makes that packet's
+    /// arrival, and records each event. Returns whether nothing more could be recorded before the
+    /// arrival.
     fn arrive_paced<K: Sink, T: Tap>(
         &mut self,
         under: &mut C::Under,
@@ -176,8 +177,9 @@ impl<'a, C: Scheduler + Drop, N: NodeNames, W: Recorder> Run<'a, C, N, W> {
         Ok(false)
     }
 
-    /// Makes the events that a link paces over the packets that come, and records the outcome of each. The rate is in bytes a
-    /// second. The answer is how the run ends, if it isn't over before, since nothing more can be recorded.
+    /// Makes the events that a link paces over the packets of the source, and records each outcome.
+    /// The rate is in bytes per second. Returns how the run ends, or `None` if it ended early
+    /// because nothing more can be recorded.
     pub fn play_link<P: Packets, K: Sink, T: Tap>(
         &mut self,
         under: &mut C::Under,

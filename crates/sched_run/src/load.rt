@@ -26,7 +26,7 @@ impl<'a, C: Scheduler + Drop, N: NodeNames, W: Recorder> Run<'a, C, N, W> {
     ghost use Rattle.sched_run.specs.Stages.{stage_of, arrivals_in, IsFresh, CanBegin, Makes, Stops};
     ghost use Rattle.tap_core.specs.Watching.{sight_of, AreNoMore};
 
-    /// Makes the event that is drawn next, and records it.
+    /// Makes the next drawn event and records it.
     fn play_drawn<K: Sink, T: Tap>(
         &mut self,
         under: &mut C::Under,
@@ -71,7 +71,7 @@ impl<'a, C: Scheduler + Drop, N: NodeNames, W: Recorder> Run<'a, C, N, W> {
         }
     }
 
-    /// Makes this many events that are drawn from a seed, and records each.
+    /// Makes `count` events that are drawn from a seed, and records each.
     fn play_drawings<K: Sink, T: Tap>(
         &mut self,
         under: &mut C::Under,
@@ -111,8 +111,9 @@ impl<'a, C: Scheduler + Drop, N: NodeNames, W: Recorder> Run<'a, C, N, W> {
         Ok(())
     }
 
-    /// Makes the events of a generated load: this many that are drawn from a seed, at most 1,000,000, and then departures until no
-    /// packet is held. Each is recorded, and shown to the taps that watch. The answer is their numbers.
+    /// Makes the events of a generated load: `count` events drawn from a seed, at most 1,000,000,
+    /// and then departures until no packet is queued. Records each, and shows departures and drops
+    /// to the taps that watch. Returns the totals.
     pub fn play_load<K: Sink, T: Tap>(
         &mut self,
         under: &mut C::Under,
@@ -155,7 +156,7 @@ impl<'a, C: Scheduler + Drop, N: NodeNames, W: Recorder> Run<'a, C, N, W> {
         Ok(self.tally.totals(first, held, self.version))
     }
 
-    /// What records the outcomes.
+    /// Returns the recorder of the outcomes.
     pub fn recorder(&self) -> &W
         ensures { result.now ≡ self.now.recorder }
     {

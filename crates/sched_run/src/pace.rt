@@ -1,7 +1,7 @@
-//! What paces a run.
+//! The pace of a run.
 use events_core::Step;
 
-/// What paces a run: the steps of a script, or a link that sends one packet after another.
+/// Paces a run: the steps of a script, or a link that sends one packet after another.
 #[derive(Clone, Copy, Debug)]
 pub enum Pace<'a> {
     Script(&'a [Step]),

@@ -1,4 +1,4 @@
-//! The trait of what is known of the outcomes of a run.
+//! The trait for recording the outcomes of a run.
 ghost use Rattle.std.specs.Prelude.{◌≡◌, ◌≤◌, ℕ, Bool, Option, List, [], ◌∷◌, length, IfErr, OnOk, OnErr};
 ghost use Rattle.outside_core.specs.Faults.{Rose};
 ghost use Rattle.outside_core.specs.Kept.{KeepsSink, HasSinkCause};
@@ -16,23 +16,24 @@ use outside_core::{Sink, Stop};
 use packet_defs::{Departed, Packet};
 use report_core::WriteFault;
 
-/// Records the outcomes of a run one by one, each with the number of its event: as lines of a report, as records of a capture,
-/// or in a sum. A recorder of records keeps the captured bytes of packets until they leave; no call but `arrived` takes memory.
+/// Records the outcomes of a run one by one, each with its event number: as report lines, as
+/// capture records, or in a sum. A recorder of capture records keeps the captured bytes of each
+/// packet until it departs. No call but `arrived` allocates memory.
 pub trait Recorder: Drop {
-    /// Where these are the captured bytes of packets by their numbers, outcomes in a row are recorded, the first of which has
-    /// this number.
+    /// With these captured bytes of packets, by packet number, consecutive outcomes are recorded.
+    /// The first outcome has this event number.
     ghost records: { Captured → Self → Option (List ℕ) → Policy → ℕ → List Outcome → Self → Option (List ℕ) → Type 0 };
 
-    /// Of what was recorded and of outcomes that were to follow a first part is written.
+    /// Of the earlier records and the outcomes that were to follow, only a prefix is written.
     ghost cuts: { Captured → Self → Option (List ℕ) → Policy → ℕ → List Outcome → Option (List ℕ) → Type 0 };
 
-    /// No call failed so far.
+    /// No call has failed so far.
     ghost live: { Self → Type 0 };
 
     /// Nothing more can be recorded, and the run has to end.
     ghost over: { Self → Bool };
 
-    /// Records a packet that arrived at a leaf of this name with these ranks from the root down.
+    /// Records a packet that arrived at the leaf of this name. The ranks run from the root down.
     fn arrived<K: Sink>(
         &mut self,
         sink: &mut K,
@@ -63,7 +64,7 @@ pub trait Recorder: Drop {
         ensures live { OnOk result (live self.new) }
         ensures dead { OnErr result (live self.new → ⊥) };
 
-    /// Records a packet that was dropped at a leaf of this name.
+    /// Records a packet that was dropped at the leaf of this name.
     fn dropped<K: Sink>(
         &mut self,
         sink: &mut K,
@@ -87,8 +88,9 @@ pub trait Recorder: Drop {
         ensures live { OnOk result (live self.new) }
         ensures dead { OnErr result (live self.new → ⊥) };
 
-    /// Records a packet that left from a leaf of this name, with the ranks taken from the root down, and with the timestamp at
-    /// which it starts, in nanoseconds, where a link says it.
+    /// Records a packet that departed from the leaf of this name. The ranks are those popped, from
+    /// the root down. `start` is the timestamp at which the departure starts, in nanoseconds, if a
+    /// link paces it.
     fn departed<K: Sink>(
         &mut self,
         sink: &mut K,
@@ -116,7 +118,7 @@ pub trait Recorder: Drop {
         ensures live { OnOk result (live self.new) }
         ensures dead { OnErr result (live self.new → ⊥) };
 
-    /// Records a departure of nothing.
+    /// Records a departure from an empty scheduler.
     fn empty<K: Sink>(&mut self, sink: &mut K, event: u64) -> Result<(), WriteFault>
         requires live { live self.old }
 
@@ -129,10 +131,10 @@ pub trait Recorder: Drop {
         ensures live { OnOk result (live self.new) }
         ensures dead { OnErr result (live self.new → ⊥) };
 
-    /// Whether nothing more can be recorded, so that the run has to end.
+    /// Returns whether nothing more can be recorded, so that the run has to end.
     fn over(&self) -> bool
         ensures { result ≡ over self.now };
 
-    /// Outcomes that are recorded in two calls are recorded as those of one.
+    /// Outcomes recorded in two calls are recorded as if in one.
     ghost joined: { (bytes : Captured) → AreJoined (records bytes) (cuts bytes) };
 }

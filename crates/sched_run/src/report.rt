@@ -1,4 +1,4 @@
-//! A report records each outcome as a line.
+//! A report as a recorder: it records each outcome as a line.
 ghost use Rattle.std.specs.Prelude.{IsTrue, false};
 ghost use Rattle.sched_run.specs.Lines.{adds_lines, cuts_lines, lines_are_joined};
 

@@ -1,12 +1,12 @@
-//! A scheduler at work, with what each of its events needs.
+//! A scheduler in a run, with all that its events need.
 ghost use Rattle.std.specs.Prelude.{◌≡◌, IfOk};
 
 use crate::tally::Tally;
 use std::alloc::{AllocError, Global};
 use tree_core::Taken;
 
-/// A scheduler at work: the names of its policy's nodes and the policy's version, room for the path of a packet, what records
-/// the outcomes, and the count of the events so far.
+/// A scheduler in a run: its policy's node names and version, room for the path of a packet, the
+/// recorder of the outcomes, and the count of the events so far.
 #[derive(Drop)]
 pub struct Run<'a, C: Drop, N, W: Drop> {
     pub(crate) names: &'a N,
@@ -21,9 +21,9 @@ impl<'a, C: Drop, N, W: Drop> Run<'a, C, N, W> {
     ghost use Rattle.std.specs.Prelude.{◌≡◌, IfOk};
     ghost use Rattle.sched_run.specs.Stages.{IsFresh};
 
-    /// A run without an event so far, with room for paths of this many levels below the root. The version is that of the policy's
-    /// language: in version 2 leaves can have limits, and the last line shows how many packets were dropped. The error is want
-    /// of memory.
+    /// Returns a run without events, with room for paths of `depth` levels below the root. The
+    /// version is that of the policy's language. In version 2 leaves can have limits, and the last
+    /// line shows how many packets were dropped. The error means out of memory.
     pub fn new(
         alloc: Global,
         names: &'a N,

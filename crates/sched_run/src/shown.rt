@@ -8,7 +8,7 @@ use sched_core::Arrival;
 use std::alloc::AllocError;
 use tap_core::{Dropped, Tap, Watching};
 
-/// Shows what became of a packet that came. Takes no memory.
+/// Shows a packet to the taps if it was dropped on arrival. Allocates no memory.
 #[inline(always)]
 pub(crate) fn show_arrival<T: Tap>(watch: &mut Watching<T>, packet: &Packet, arrival: Arrival)
     ensures shown { Shows (shown_arrival packet.now arrival)
@@ -26,7 +26,8 @@ pub(crate) fn show_arrival<T: Tap>(watch: &mut Watching<T>, packet: &Packet, arr
     }
 }
 
-/// Shows a packet that left, if one did. The error means out of memory for the line of a tap that is done.
+/// Shows the packet that departed, if there is one. The error means out of memory for the line of a
+/// finished tap.
 #[inline(always)]
 pub(crate) fn show_departure<T: Tap>(
     watch: &mut Watching<T>,

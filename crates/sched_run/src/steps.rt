@@ -24,7 +24,7 @@ impl<'a, C: Scheduler + Drop, N: NodeNames, W: Recorder> Run<'a, C, N, W> {
     ghost use Rattle.sched_run.specs.Turns.{Turns, StopsAmid};
     ghost use Rattle.tap_core.specs.Watching.{sight_of, AreNoMore};
 
-    /// Makes departures, and records each.
+    /// Makes `count` departures and records each.
     pub(crate) fn depart_some<K: Sink, T: Tap>(
         &mut self,
         under: &mut C::Under,
@@ -59,7 +59,7 @@ impl<'a, C: Scheduler + Drop, N: NodeNames, W: Recorder> Run<'a, C, N, W> {
         Ok(())
     }
 
-    /// Makes the events of a step, each with its line. The answer is how they end the run, if they do.
+    /// Makes the events of a step and records each. Returns how they end the run, if they do.
     pub(crate) fn play_step<P: Packets, K: Sink, T: Tap>(
         &mut self,
         under: &mut C::Under,

@@ -1,4 +1,4 @@
-//! A sum of the numbers of packets that left.
+//! A sum over the numbers of departed packets.
 ghost use Rattle.std.specs.Prelude.{◌≡◌, false};
 ghost use Rattle.sched_run.specs.Sums.{AddsUp, StaysUnwritten, sums_are_joined};
 
@@ -8,8 +8,9 @@ use packet_defs::{Departed, Packet};
 use report_core::WriteFault;
 use std::marker::Model;
 
-/// Folds the numbers of the packets that left, in order, into one of 32 bits, which contracts see as this number: at each
-/// departure the sum becomes 31 times itself and the packet's number, modulo 2^32. Nothing is written.
+/// Folds the numbers of departed packets, in order, into one 32-bit number, which is its model in
+/// contracts. Each departure sets the sum to 31 times the sum plus the packet's number, modulo
+/// 2^32. Nothing is written.
 #[derive(Drop)]
 pub struct DepartureSum {
     sum: u64,
@@ -24,7 +25,7 @@ impl Model for DepartureSum {
 }
 
 impl DepartureSum {
-    /// The sum of no departure.
+    /// Returns the sum of no departures.
     pub fn new() -> DepartureSum
         ensures { result ≡ 0 }
     {

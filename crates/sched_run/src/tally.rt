@@ -1,35 +1,35 @@
-//! The events of a run so far, and its numbers.
+//! The count of a run's events so far, and its totals.
 ghost use Rattle.std.specs.Prelude.{◌≡◌, ◌≤◌, ◌<◌, ◌+◌, ◌^◌};
 ghost use Rattle.sched_run.specs.Stages.{event_of, drops_of, IsFresh};
 ghost use Rattle.sched_run.specs.Totals.{HasTotals, AreTotals};
 
 use sched_core::Arrival;
 
-/// The events of a run so far.
+/// The count of a run's events so far.
 #[derive(Clone, Copy, Debug)]
 pub(crate) struct Tally {
-    /// How many packets came.
+    /// How many packets arrived, dropped ones included.
     pub(crate) came: u64,
     /// How many of them were dropped.
     pub(crate) dropped: u64,
-    /// How many departures were made, those of nothing among them.
+    /// How many departures were made, including those that found no packet.
     pub(crate) asked: u64,
 }
 
-/// The numbers of a run.
+/// The totals of a run.
 #[derive(Clone, Copy, Debug)]
 pub struct Totals {
     pub pushed: u64,
     pub popped: u64,
-    /// How many departures were made of nothing.
+    /// How many departures found no packet.
     pub empty: u64,
     pub held: u64,
-    /// How many packets were dropped, where that is shown.
+    /// How many packets were dropped, if the last line shows it.
     pub dropped: Option<u64>,
 }
 
 impl Tally {
-    /// No event so far.
+    /// Returns the count of no events.
     pub(crate) fn new() -> Tally
         ensures { IsFresh result }
     {
@@ -40,7 +40,7 @@ impl Tally {
         }
     }
 
-    /// The number of the next event, from 1.
+    /// Returns the number of the next event, counted from 1.
     #[inline(always)]
     pub(crate) fn event(self) -> u64
         requires few { self.came + self.asked < 2 ^ 63 }
@@ -49,7 +49,7 @@ impl Tally {
         self.came + self.asked + 1
     }
 
-    /// One more packet came, and this became of it.
+    /// Counts one more packet, and its drop if it was dropped.
     #[inline(always)]
     pub(crate) fn count(&mut self, arrival: Arrival)
         requires few { self.old.came < 2 ^ 63 }
@@ -65,7 +65,8 @@ impl Tally {
         }
     }
 
-    /// The numbers of the run, where this many packets were held at first and this many are now.
+    /// Returns the totals of a run that began with `first` packets queued and has `held` queued
+    /// now.
     pub(crate) fn totals(self, first: u64, held: u64, version: u32) -> Totals
         requires { HasTotals self first held }
         ensures { AreTotals self first held version result }

@@ -8,7 +8,7 @@ use Rattle.sched_packets.proofs.SingleLinkTypePackets.{behind_ahead, is_first, o
 use Rattle.sched_packets.proofs.single_link_type.SingleLinkType.start.Given.{Over}
 use Rattle.sched_packets.proofs.single_link_type.SingleLinkType.start.Goals as goal
 
--- ---- a packet that comes
+-- ---- a first packet
 opens_some : (g : Over) (c : goal.In-Ok-Some g) → let b = c.next_packet.new.self in let link = c.in-Ok-Some.link in
     EachFileOf (contents_of c.args.arrivals (g.S.Shelf.left c.args.source.now)) (λ (file : FileContents).
     Opens (one_link_in file) (behind_ahead link (given_by b) (captured_by b) (Some c.next_packet.new.packet) (contents_of b (g.S.Shelf.left c.next_packet.new.source))))
@@ -47,7 +47,7 @@ returns-in-Ok-Some-clause-ready g c =
           (contents_of b (g.S.Shelf.left c.next_packet.new.source)) c.next_packet.new.packet (captured_by b) c.requires.none_given (rw c.in-Ok-Some.field-0-is at e.given) next);
     }
 
--- ---- none
+-- ---- no packet
 opens_end : (g : Over) (c : goal.In-Ok-None g) → let b = c.next_packet.new.self in
     EachFileOf (contents_of c.args.arrivals (g.S.Shelf.left c.args.source.now)) (λ (file : FileContents).
     Opens (one_link_in file) (behind_ahead 0 (given_by b) (captured_by b) None (contents_of b (g.S.Shelf.left c.next_packet.new.source))))

@@ -61,7 +61,7 @@ returns-in-Ok-Some-clause-known g c =
     let gone : c.args.self.now.ahead ≡ None = sym c.in_default.ensures.value in
     rw (gone, c.take.ensures.after) (next_gives g c).known
 
--- ---- one of another
+-- ---- a packet of another link type
 pub returns-in-Ok-Some-2-clause-fault : goal.returns-in-Ok-Some-2-clause-fault
 returns-in-Ok-Some-2-clause-fault g c =
     let o = c.args.self.now in

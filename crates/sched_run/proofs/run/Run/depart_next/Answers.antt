@@ -21,7 +21,7 @@ returns-in_err-departed-clause-err g c =
       };
     })
 
--- the line is written, and the taps aren't shown the departure
+-- the line is written, but the taps aren't shown the departure
 pub returns-in_err-show_departure-clause-err : goal.returns-in_err-show_departure-clause-err
 returns-in_err-show_departure-clause-err g c =
     let p = err_from_is_err_and c.from_residual-in_err-show_departure.result c.from_residual-in_err-show_departure.ensures.1 in

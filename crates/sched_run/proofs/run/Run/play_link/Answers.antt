@@ -159,7 +159,7 @@ returns-then-over-clause-ok g c =
     run_first S (heard g.W.Recorder (g.P.Packets.captures c.args.packets.now c.args.source.now)) (heard-joined g.W.Recorder g.met.W.Recorder.joined (g.P.Packets.captures c.args.packets.now c.args.source.now)) policy c.requires.set.accepted _ _ _ _ _ _ _ _ i.further.given i.run g.W.Recorder.over _
     (link_first S (heard g.W.Recorder (g.P.Packets.captures c.args.packets.now c.args.source.now)) policy c.args.rate c.loop-packets.link g.W.Recorder.over c.next.new.packet _ _ _ _ came (same_first S (heard g.W.Recorder (g.P.Packets.captures c.args.packets.now c.args.source.now)) (heard-joined g.W.Recorder g.met.W.Recorder.joined (g.P.Packets.captures c.args.packets.now c.args.source.now)) g.W.Recorder.over policy _ _ _ _ _ _ _ _ _ _ (sends_first_so S (heard_gives g.W.Recorder (IsCapturedAs c.next.new.packet c.captured-captured.result.now) (g.P.Packets.captures c.args.packets.now c.args.source.now) (λ bytes are. known bytes (i.further.known bytes are) ∙ sym c.captured-captured.ensures)) policy g.W.Recorder.over _ _ _ (sends _ number))))
 
--- nothing more can be recorded behind the last packet
+-- nothing more can be recorded after the last packet
 pub returns-then-over-2-clause-ok : goal.returns-then-over-2-clause-ok
 returns-then-over-2-clause-ok g c =
     let S = g.C.Scheduler in
