@@ -58,7 +58,8 @@ abbrev pub change : Option ℕ → ℕ → ℕ
 change None delay = 0
 change (Some last) delay = abs_diff last delay
 
--- Jitter is the plain mean of the differences between consecutive delays. It isn't the running form of RFC 3550.
+-- Jitter is the plain mean of the differences between consecutive delays. It isn't the running form
+-- of RFC 3550.
 abbrev pub with_times : Times → Counts → Counts
 with_times t c = record c {
   finish = max c.finish t.finish;
@@ -90,8 +91,8 @@ with_event (Arrived len timestamp) c = with_arrival len timestamp c
 with_event (Departed len times) c = with_departure len times c
 with_event Dropped c = with_drop c
 
--- The span of a group on a link, in nanoseconds: from the timestamp of its first packet that arrived to its last finish. A group
--- without a delay has none.
+-- The span of a group on a link, in nanoseconds: from the timestamp of its first packet that
+-- arrived to its last finish. A group without a delay has none.
 abbrev pub span_of : Counts → Option ℕ
 span_of c = if c.delays == 0 then None else option_map (λ first. c.finish - first) c.first
 

@@ -123,7 +123,7 @@ abbrev AtLeast : ℕ → Option ℕ → Type 0
 AtLeast m None = ⊥
 AtLeast m (Some n) = m ≤ n
 
--- a mark of suc m bytes begins the bytes
+-- a mark of `suc m` bytes begins the bytes
 pub record MarkFirst (b : ℕ) (bs : List ℕ) (m : ℕ) : Type 0 where
   pub start : is_word_start b ≡ false
   pub digit : is_digit b ≡ false

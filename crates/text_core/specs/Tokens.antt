@@ -101,7 +101,7 @@ no_letter_follows_a_number : token_at (codes "1a") ≡ None
 no_letter_follows_a_number = refl
 
 -- `_` begins a word, and so do the first and last letters in both cases; the bytes next to these in
--- the code don't
+-- ASCII don't
 first_bytes_of_words : map token_at (codes "_1" ∷ codes "A" ∷ codes "Z" ∷ codes "a" ∷ codes "z" ∷ codes "@" ∷ codes "[" ∷ codes "`" ∷ codes "{" ∷ []) ≡ Some (begun Word 2) ∷ Some (begun Word 1) ∷ Some (begun Word 1) ∷ Some (begun Word 1) ∷ Some (begun Word 1) ∷ None ∷ None ∷ None ∷ None ∷ []
 first_bytes_of_words = refl
 
