@@ -1,4 +1,4 @@
--- A text that isn't too long has steps or a line at fault.
+-- A text that isn't too long can't lack both steps and a first error.
 use Rattle.std.proofs.Common.{◌≡◌, ℕ, ◌+◌, ◌≤◌, List, [], ◌∷◌, ◌++◌, length, inl, inr, sym, ◌∙◌, refl, subst, arith, append_assoc}
 use Rattle.std.proofs.lemmas.Bool.{cases_lt}
 use Rattle.std.proofs.lemmas.List.{append-nil}
@@ -11,9 +11,10 @@ use Rattle.events_core.specs.Script.{most_bytes, most_count, Carries, Carry, ove
 use Rattle.events_core.specs.Laws.{ScriptsHaveAnAnswer}
 use Rattle.events_core.proofs.ScriptLaws.{counts-append, Carry-push}
 
--- neither the text's steps nor a fault of it can be found
+-- assume that neither steps nor a first error of the text can be found
 module _ (text : List ℕ) (short : length text ≤ most_bytes) (no_steps : (steps : List Step) → IsScript text steps → ⊥) (no_fault : (f : ScriptFault) → IsFirstFault text f → ⊥) where
-  -- behind lines that carry steps and don't count too much a line isn't in form, or counts too much, or is one line more
+  -- after well-formed lines within the count limit, the next line is malformed, exceeds the limit,
+  -- or is one more such line
   past : (before after : List (List ℕ)) (line : List ℕ) (steps : List Step) → statements_of text ≡ before ++ line ∷ after → Carry before steps → counts_of steps ≤ most_count
       → ((more : List Step) → statements_of text ≡ (before ++ line ∷ []) ++ after → Carry (before ++ line ∷ []) more → counts_of more ≤ most_count → ⊥)
       → (more : List Step) → Carries line more → ⊥

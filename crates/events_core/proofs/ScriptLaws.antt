@@ -1,4 +1,4 @@
--- A text is one script, or has one first fault.
+-- A text is one script, or has one first error.
 use Rattle.std.proofs.Common.{◌≡◌, ℕ, suc, ◌+◌, ◌<◌, ◌≤◌, List, [], ◌∷◌, ◌++◌, length, drop, map, Some, Ok, Err, Result, ◌⊎◌, inl, inr, sym, refl, ap, ◌∙◌, subst, arith, append_assoc, length-append, length-drop}
 use Rattle.std.specs.Prelude.{MatchResult}
 use Rattle.std.proofs.lemmas.List.{append-nil, map-append, length-map}
@@ -13,7 +13,7 @@ use Rattle.events_core.specs.declared.fault.ScriptFault.TheVariants as fault
 use Rattle.events_core.specs.Steps.{line_steps, counts_of}
 use Rattle.events_core.specs.Script.{most_bytes, most_count, Carries, Carry, over, next, IsScript, IsAtFault, IsFirstFault}
 
--- a line asks for one list of steps
+-- a line requests only one list of steps
 pub Carries-one : (l : List ℕ) (s t : List Step) → Carries l s → Carries l t → s ≡ t
 Carries-one l s t a b =
     let glyphs : a.glyphs ≡ b.glyphs = Says-one l a.glyphs b.glyphs a.says b.says in
@@ -29,12 +29,12 @@ Carry-one [] _ _ over over = refl
 Carry-one (l ∷ ls) _ _ (next _ _ s ss c rest) (next _ _ t ts d more) =
     ap (λ x. x ++ ss) (Carries-one l s t c d) ∙ ap (λ x. t ++ x) (Carry-one ls ss ts rest more)
 
--- one line more
+-- one more line
 pub Carry-push : (ls : List (List ℕ)) (ss : List Step) (l : List ℕ) (s : List Step) → Carry ls ss → Carries l s → Carry (ls ++ l ∷ []) (ss ++ s)
 Carry-push [] _ l s over c = subst (Carry (l ∷ [])) (append-nil s) (next l [] s [] c over)
 Carry-push (k ∷ ls) _ l s (next _ _ t ts d rest) c = subst (Carry (k ∷ (ls ++ l ∷ []))) (sym (append_assoc t ts s)) (next k (ls ++ l ∷ []) t (ts ++ s) d (Carry-push ls ts l s rest c))
 
--- a line in form with which the counts are not too many isn't at fault
+-- a well-formed line that stays within the count limit has no error
 sound_line : (n : ℕ) (l : List ℕ) (s : List Step) (m : ℕ) (f : ScriptFault) → Carries l s → n + counts_of s ≤ most_count → IsAtFault n l m f → ⊥
 sound_line n l s m (fault.Line k) c few f = f.1 s c
 sound_line n l s m (fault.TooMany k) c few f =
@@ -45,7 +45,7 @@ sound_line n l s m (fault.TooMany k) c few f =
 sound_line n l s m fault.TooLong c few f = f
 sound_line n l s m fault.NoMemory c few f = f
 
--- a line has one fault
+-- a line has only one error
 same_fault : (n : ℕ) (l : List ℕ) (m : ℕ) (f g : ScriptFault) → IsAtFault n l m f → IsAtFault n l m g → f ≡ g
 same_fault n l m (fault.Line j) (fault.Line k) a b = ap fault.Line (a.0 ∙ sym b.0)
 same_fault n l m (fault.TooMany j) (fault.TooMany k) a b = ap fault.TooMany (a.0 ∙ sym b.0)
@@ -56,7 +56,7 @@ same_fault n l m fault.NoMemory g a b = absurd a
 same_fault n l m f fault.TooLong a b = absurd b
 same_fault n l m f fault.NoMemory a b = absurd b
 
--- two ways to the first line at fault are one: n is counted before both, and k lines stand before them
+-- two derivations of the first error agree: n is counted and k lines come before both
 first_fault : (n k : ℕ) (b c : List (List ℕ)) (s t : List Step) (l m : List ℕ) (a z : List (List ℕ)) (f g : ScriptFault) → Carry b s → Carry c t → n + counts_of s ≤ most_count → n + counts_of t ≤ most_count → IsAtFault (n + counts_of s) l (k + (length b + 1)) f → IsAtFault (n + counts_of t) m (k + (length c + 1)) g → b ++ l ∷ a ≡ c ++ m ∷ z → f ≡ g
 first_fault n k [] [] _ _ l m a z f g over over few low x y e =
     let same : m ≡ l = cc in
@@ -85,7 +85,7 @@ first_fault n k (_ ∷ _) (_ ∷ _) _ _ l m a z f g (next h b s ss d rest) (next
     (subst (λ v. IsAtFault v m (suc k + (length c + 1)) g) second (subst (λ v. IsAtFault (n + counts_of (t ++ ts)) m v g) place_too y))
     tails
 
--- lines that are all in form, with counts that aren't too many, have no line at fault
+-- well-formed lines within the count limit include no line with an error
 no_fault : (n k : ℕ) (b : List (List ℕ)) (s : List Step) (l : List ℕ) (a : List (List ℕ)) (f : ScriptFault) (ls : List (List ℕ)) (ss : List Step) → Carry b s → Carry ls ss → n + counts_of ss ≤ most_count → IsAtFault (n + counts_of s) l k f → ls ≡ b ++ l ∷ a → ⊥
 no_fault n k [] _ l a f [] _ over over few x e = cc
 no_fault n k [] _ l a f (_ ∷ _) _ over (next h ls t ts d more) few x e =
@@ -125,13 +125,14 @@ IsScript-IsFirstFault text s f a b =
     let x : IsAtFault (0 + counts_of b.steps) b.line (length b.before + 1) f = subst (λ v. IsAtFault v b.line (length b.before + 1) f) count b.at_fault in
     no_fault 0 (length b.before + 1) b.before b.steps b.line b.after f (statements_of text) s b.carry a.lines (omega (arith, a.few)) x b.split
 
--- a fault names a line
+-- the first error is at a line
 pub IsFirstFault-line : (text : List ℕ) → IsFirstFault text fault.TooLong → ⊥
 IsFirstFault-line text a = a.at_fault
 
 -- ---- line by line
 
--- what was read of a text up to a place: so many lines, their steps and what these count
+-- the part of a text that was read, up to an offset: the number of lines, their steps and their
+-- counts
 pub record IsRead (text : List ℕ) (at : ℕ) (steps : List Step) (counted number : ℕ) : Type 0 where
   pub lines : List Line
   pub follow : Follow text 0 lines at
@@ -143,7 +144,7 @@ pub record IsRead (text : List ℕ) (at : ℕ) (steps : List Step) (counted numb
 pub none_read : (text : List ℕ) (steps : List Step) → steps ≡ [] → IsRead text 0 steps 0 0
 none_read text steps none = record { lines = []; follow = refl; carry = subst (Carry []) (sym none) over; count = ap counts_of (sym none); few = omega arith; size = refl }
 
--- a line takes a byte or more, unless it is the last
+-- each line takes at least one byte, except maybe the last
 pub few_lines : (text : List ℕ) (at : ℕ) (steps : List Step) (counted number : ℕ) → IsRead text at steps counted number → at < length text → number ≤ at
 few_lines text at steps counted number read inside =
     let count = (Follow-Hold text 0 read.lines at read.follow).count in
@@ -151,7 +152,7 @@ few_lines text at steps counted number read inside =
     let size = read.size in
     omega arith
 
--- one line more
+-- one more line
 pub line_more : (text : List ℕ) (at to : ℕ) (l : Line) (steps more whole : List Step) (counted number sum : ℕ) → IsRead text at steps counted number → Follow text at (l ∷ []) to → Carries (line_text text l) more → counted + counts_of more ≤ most_count → whole ≡ steps ++ more → sum ≡ counted + counts_of more → IsRead text to whole sum (number + 1)
 line_more text at to l steps more whole counted number sum read follow carries few steps_are sum_is =
     let lines : map (line_text text) read.lines ++ line_text text l ∷ [] ≡ map (line_text text) (read.lines ++ l ∷ []) = sym (map-append (line_text text) read.lines (l ∷ [])) in
@@ -170,7 +171,7 @@ line_more text at to l steps more whole counted number sum read follow carries f
       size = omega arith;
     }
 
--- a fault of the next line is the text's first
+-- an error in the next line is the text's first error
 pub fault_here : (text : List ℕ) (at to : ℕ) (l : Line) (steps : List Step) (counted number : ℕ) (f : ScriptFault) → length text ≤ most_bytes → IsRead text at steps counted number → Follow text at (l ∷ []) to → IsAtFault counted (line_text text l) (number + 1) f → IsFirstFault text f
 fault_here text at to l steps counted number f short read follow wrong =
     let front = map (line_text text) read.lines in
@@ -189,7 +190,7 @@ fault_here text at to l steps counted number f short read follow wrong =
       at_fault = subst (λ n. IsAtFault (counts_of steps) (line_text text l) (n + 1) f) size (subst (λ n. IsAtFault n (line_text text l) (number + 1) f) count wrong);
     }
 
--- what was read to the end is the script
+-- a text that was read to its end is the script
 pub all_lines : (text : List ℕ) (at : ℕ) (steps : List Step) (counted number : ℕ) → length text ≤ most_bytes → IsRead text at steps counted number → length text ≤ at → IsScript text steps
 all_lines text at steps counted number short read end =
     let whole = Hold-whole text read.lines at (Follow-Hold text 0 read.lines at read.follow) end in
@@ -197,12 +198,12 @@ all_lines text at steps counted number short read end =
     let few = read.few in
     record { short = short; lines = subst (λ ls. Carry ls steps) whole read.carry; few = omega arith }
 
--- a fault that is told, if it isn't want of memory
+-- an error that is reported, unless it is out of memory
 pub fault_found : (text : List ℕ) (at to : ℕ) (l : Line) (steps : List Step) (counted number : ℕ) (f : ScriptFault) → length text ≤ most_bytes → IsRead text at steps counted number → Follow text at (l ∷ []) to → (f ≡ fault.NoMemory) ⊎ IsAtFault counted (line_text text l) (number + 1) f → (f ≡ fault.NoMemory) ⊎ IsFirstFault text f
 fault_found text at to l steps counted number f short read follow (inl e) = inl e
 fault_found text at to l steps counted number f short read follow (inr x) = inr (fault_here text at to l steps counted number f short read follow x)
 
--- ---- what an answer tells
+-- ---- the meaning of an answer
 
 abbrev Answer : Type 0
 Answer = Result (List Step) ScriptFault

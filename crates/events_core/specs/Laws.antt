@@ -1,10 +1,10 @@
--- What follows from the definition of a script.
+-- The laws that follow from the definition of a script.
 use Rattle.std.specs.Prelude.{◌≤◌, List, ℕ, length}
 use Rattle.events_core.specs.declared.step.Step.{Step}
 use Rattle.events_core.specs.declared.fault.ScriptFault.{ScriptFault}
 use Rattle.events_core.specs.Script.{most_bytes, IsScript, IsFirstFault}
 
--- it is not so that a text which isn't too long has no steps and no line at fault
+-- a text that isn't too long can't lack both steps and a first error
 abbrev pub ScriptsHaveAnAnswer : Type 0
 ScriptsHaveAnAnswer =
     (text : List ℕ) → length text ≤ most_bytes

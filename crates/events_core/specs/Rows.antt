@@ -1,4 +1,4 @@
--- Worked scripts.
+-- Examples of scripts.
 use Rattle.std.specs.Prelude.{◌≡◌, refl, [], ◌∷◌, map, Some, None, codes}
 use Rattle.std.proofs.Common.{arith}
 use Rattle.text_core.specs.declared.token.TokenKind.TheVariants.{Word, Number}
@@ -9,7 +9,7 @@ use Rattle.events_core.specs.declared.fault.ScriptFault.TheVariants.{Line, TooMa
 use Rattle.events_core.specs.Steps.{word_step, counted_step, line_steps, counts_of}
 use Rattle.events_core.specs.Script.{Carries, Carry, over, next, IsFirstFault, code_of, place_of}
 
--- without a count it is 1, and words are spelled in small letters
+-- the default count is 1, and words are in lower case
 words : map word_step (codes "a" ∷ codes "d" ∷ codes "rest" ∷ codes "drain" ∷ codes "A" ∷ codes "drained" ∷ codes "" ∷ []) ≡ Some (Arrive 1) ∷ Some (Depart 1) ∷ Some Rest ∷ Some Drain ∷ None ∷ None ∷ None ∷ []
 words = refl
 
@@ -40,8 +40,9 @@ a_comment_behind = record { clean = refl; glyphs = text (codes "drain") ∷ []; 
 three_lines : Carry (statements_of (codes "a 2\n\r\ndrain # all")) (Arrive 2 ∷ Drain ∷ [])
 three_lines = next (codes "a 2") ([] ∷ codes "drain " ∷ []) (Arrive 2 ∷ []) (Drain ∷ []) two_arrivals (next [] (codes "drain " ∷ []) [] (Drain ∷ []) nothing_asked (next (codes "drain ") [] (Drain ∷ []) [] a_comment_behind over))
 
--- ---- faults
--- 4,194,304 are not too many, one more is, and lines are counted from 1; what follows the fault isn't looked at
+-- ---- errors
+-- 4,194,304 is allowed, one more is too many, and lines are counted from 1; lines after the error
+-- don't matter
 one_too_many : IsFirstFault (codes "a 4194304\nd 1\nb") (TooMany 2)
 one_too_many = record {
   short = omega arith;

@@ -1,4 +1,4 @@
--- The steps that the lines of a script ask for.
+-- The steps that the lines of a script request.
 use Rattle.std.specs.Prelude.{ℕ, ◌+◌, List, [], ◌∷◌, Option, Some, None, option_map, if◌then◌else◌, codes}
 use Rattle.std.specs.Str.{bytes_eq}
 use Rattle.text_core.specs.Glyphs.{Glyph, text, figure}
@@ -24,21 +24,21 @@ counted_step w n =
 abbrev pub alone : Step → List Step
 alone s = s ∷ []
 
--- the steps of a line that says this, if it is in a form: none where it is empty, else one
+-- the steps of a line with these items, if it is well-formed: none if it is empty, otherwise one
 abbrev pub line_steps : List Glyph → Option (List Step)
 line_steps [] = Some []
 line_steps (text w ∷ []) = option_map alone (word_step w)
 line_steps (text w ∷ figure n ∷ []) = option_map alone (counted_step w n)
 line_steps _ = None
 
--- what a step adds to the counts
+-- the number that a step adds to the counts
 abbrev pub count_of : Step → ℕ
 count_of (Arrive n) = n
 count_of (Depart n) = n
 count_of Rest = 0
 count_of Drain = 0
 
--- the counts of all steps together
+-- the sum of the counts of all steps
 abbrev pub counts_of : List Step → ℕ
 counts_of [] = 0
 counts_of (s ∷ ss) = count_of s + counts_of ss

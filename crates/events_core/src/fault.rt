@@ -1,4 +1,4 @@
-//! Why a script is refused.
+//! Why a script is rejected.
 ghost use Rattle.std.specs.Prelude.{◌≡◌};
 ghost use Rattle.events_core.specs.Script.{code_of, place_of};
 
@@ -9,7 +9,7 @@ use std::alloc::{AllocError, AllocFailed};
 pub enum ScriptFault {
     /// This line is malformed.
     Line(u32),
-    /// With this line the counts are more than `MOST_COUNT` in all.
+    /// At this line the sum of the counts exceeds `MOST_COUNT`.
     TooMany(u32),
     /// The text has more than `MOST_BYTES` bytes.
     TooLong,
@@ -17,7 +17,7 @@ pub enum ScriptFault {
 }
 
 impl ScriptFault {
-    /// The number of the fault in a report; 0 for out of memory.
+    /// Returns the error code in a report; 0 for out of memory.
     pub fn code(&self) -> u32
         ensures { result ≡ code_of self.now }
     {
@@ -29,7 +29,7 @@ impl ScriptFault {
         }
     }
 
-    /// The line at fault, 0 where there is none.
+    /// Returns the number of the line with the error, or 0 if there is none.
     pub fn place(&self) -> u32
         ensures { result ≡ place_of self.now }
     {

@@ -1,7 +1,7 @@
-//! What follows from the definition of a script.
+//! The laws that follow from the definition of a script.
 ghost use Rattle.events_core.specs.Laws.{ScriptsHaveAnAnswer};
 
-/// It is not so that a text which isn't too long has no steps and no line at fault.
+/// A text that isn't too long can't lack both steps and a first error.
 pub fn scripts_have_an_answer()
     ensures law { ScriptsHaveAnAnswer }
 {}

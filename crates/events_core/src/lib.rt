@@ -1,5 +1,5 @@
-//! Scripts of events, with their steps or the line at fault, the clock of a link, and the generator of a load. Begin with
-//! specs/Script.antt.
+//! Scripts of events, with their steps or first error, the clock of a link, and the generator of a
+//! load. Begin with specs/Script.antt.
 #![tactic(auto)]
 
 mod fault;

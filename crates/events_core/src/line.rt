@@ -1,4 +1,4 @@
-//! The step that a line of a script asks for.
+//! The step that a line of a script requests.
 ghost use Rattle.std.specs.Prelude.{◌≡◌, List, [], ◌∷◌, IfOk, IfSome, Some, None};
 ghost use Rattle.std.specs.Option.{option_to_list};
 ghost use Rattle.text_core.specs.Glyphs.{glyphs_of};
@@ -10,7 +10,7 @@ use crate::step::Step;
 use std::alloc::Global;
 use text_core::{Item, Refusal, decimal, items};
 
-/// The step of a line that says these items, if it has one.
+/// Returns the step of a line with these items, if it has one.
 fn step_of(items: &[Item<'_>]) -> Result<Option<Step>, Refusal>
     ensures ok { IfOk result (λ s. line_steps (glyphs_of items.now) ≡ Some (option_to_list s)) }
     ensures none { result ≡ Err Refusal.NoForm → line_steps (glyphs_of items.now) ≡ None }
@@ -27,7 +27,7 @@ fn step_of(items: &[Item<'_>]) -> Result<Option<Step>, Refusal>
     }
 }
 
-/// The step of a line in a usual form: a word alone, or a letter, a space and digits.
+/// Returns the step of a line in a usual form: a word alone, or a letter, a space and digits.
 fn usual_step(statement: &[u8]) -> Option<Step>
     ensures { IfSome result (λ s. Carries statement.now (s ∷ [])) }
 {
@@ -38,7 +38,7 @@ fn usual_step(statement: &[u8]) -> Option<Step>
     }
 }
 
-/// The step of a line, if it has one.
+/// Returns the step of a line, if it has one.
 pub(crate) fn read_line(
     alloc: Global,
     statement: &[u8],

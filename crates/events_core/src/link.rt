@@ -4,13 +4,14 @@ ghost use Rattle.sched_defs.specs.SendTime.{send_time, IsRate};
 
 use std::marker::Model;
 
-/// Nanoseconds of a second.
+/// Nanoseconds per second.
 const SECOND: u64 = 1_000_000_000;
 
 /// The maximum rate, in bytes per second. The minimum is 1.
 pub const MOST_RATE: u64 = 1_000_000_000_000;
 
-/// The nanoseconds that a packet of this many bytes takes at a rate in bytes per second, rounded up.
+/// Returns the nanoseconds that a packet of `len` bytes takes at a rate in bytes per second,
+/// rounded up.
 pub fn send_time(len: u32, rate: u64) -> u64
     requires { IsRate rate }
     ensures { result ≡ send_time len rate }
@@ -18,7 +19,8 @@ pub fn send_time(len: u32, rate: u64) -> u64
     (len as u64 * SECOND).div_ceil(rate)
 }
 
-/// A link that sends one packet after another, which contracts see as the timestamp in nanoseconds from which it is free.
+/// A link that sends one packet after another. Contracts see it as the timestamp from which it is
+/// free, in nanoseconds.
 #[derive(Drop)]
 pub struct Link {
     free: u128,
@@ -39,28 +41,28 @@ impl Link {
         Link { free: 0 }
     }
 
-    /// The timestamp from which the link is free, in nanoseconds.
+    /// Returns the timestamp from which the link is free, in nanoseconds.
     pub fn free(&self) -> u128
         ensures { result ≡ self.now }
     {
         self.free
     }
 
-    /// Whether the link is free before a timestamp.
+    /// Returns whether the link is free before a timestamp (`moment`) in nanoseconds.
     pub fn due(&self, moment: u64) -> bool
         ensures { IsTrue result ↔ (self.now < moment) }
     {
         self.free < moment as u128
     }
 
-    /// Lets the link stand idle up to a timestamp.
+    /// Leaves the link idle until a timestamp (`moment`) in nanoseconds.
     pub fn idle(&mut self, moment: u64)
         ensures { self.new ≡ max self.old moment }
     {
         self.free = self.free.max(moment as u128);
     }
 
-    /// Sends a packet of this many bytes, and answers when it starts.
+    /// Sends a packet of `len` bytes, and returns its start in nanoseconds.
     pub fn send(&mut self, len: u32, rate: u64) -> u128
         requires early { self.old < 2 ^ 126 }
         requires rate { IsRate rate }

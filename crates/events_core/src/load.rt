@@ -1,4 +1,4 @@
-//! The generator of a load that anyone can repeat from its seed.
+//! The generator of a load that can be reproduced from its seed.
 ghost use Rattle.std.specs.Prelude.{◌≡◌, ◌<◌};
 ghost use Rattle.events_core.specs.Draws.{next_draw, drawn};
 
@@ -9,7 +9,7 @@ const MULTIPLIER: u64 = 6_364_136_223_846_793_005;
 
 const INCREMENT: u64 = 1_442_695_040_888_963_407;
 
-/// A generator of numbers below 2^31, which contracts see as its state.
+/// A generator of numbers below 2^31; contracts see it as its state.
 #[derive(Drop)]
 pub struct Load {
     state: u64,
@@ -30,7 +30,7 @@ impl Load {
         Load { state: seed }
     }
 
-    /// The next number.
+    /// Returns the next number.
     pub fn next(&mut self) -> u64
         ensures state { self.new ≡ next_draw self.old }
         ensures number { result ≡ drawn self.new }

@@ -1,4 +1,4 @@
-//! Reading a script: its lines in order, up to the first fault.
+//! Reading a script: its lines in order, up to the first error.
 ghost use Rattle.std.specs.Prelude.{◌≡◌, ◌↔◌, ◌⊎◌, ◌+◌, ◌<◌, ◌≤◌, ℕ, length, List, IfOk, IfErr, MatchResult};
 ghost use Rattle.std.specs.Option.{option_to_list};
 ghost use Rattle.text_core.specs.Lines.{is_clean_text};
@@ -14,13 +14,14 @@ use list_core::List;
 use std::alloc::Global;
 use text_core::{Refusal, line_from};
 
-/// The most bytes of a script.
+/// The greatest length of a script in bytes.
 pub const MOST_BYTES: usize = 1_048_576;
 
-/// The most arrivals and departures that the lines of a script count in all.
+/// The greatest sum of the arrivals and departures that the lines of a script count.
 pub const MOST_COUNT: u64 = 4_194_304;
 
-/// The step of a line, if it has one, after lines whose counts have this sum.
+/// Returns the step of a line, if it has one. `counted` is the sum of the counts of the lines
+/// before it.
 fn next_step(
     alloc: Global,
     statement: &[u8],
@@ -45,7 +46,7 @@ fn next_step(
     }
 }
 
-/// The script of a text that isn't too long.
+/// Returns the script of a text that isn't too long.
 fn read_lines(alloc: Global, text: &[u8]) -> Result<Script, ScriptFault>
     requires { length text.now ≤ most_bytes }
     ensures { MatchResult result (IsScript text.now) (λ f. (f ≡ NoMemory) ⊎ IsFirstFault text.now
@@ -68,7 +69,8 @@ fn read_lines(alloc: Global, text: &[u8]) -> Result<Script, ScriptFault>
     Ok(Script::of(steps))
 }
 
-/// The script that a text is, or its fault: the text is too long, or else the lowest of its lines that is at fault.
+/// Returns the script of a text, or its error: the text is too long, or the first line with an
+/// error.
 pub fn parse_events(alloc: Global, text: &[u8]) -> Result<Script, ScriptFault>
     ensures script { IfOk result (IsScript text.now) }
     ensures too_long { (result ≡ Err TooLong) ↔ (most_bytes < length text.now) }

@@ -5,7 +5,7 @@ use crate::step::Step;
 use list_core::List;
 use std::marker::Model;
 
-/// A script, which contracts see as its steps.
+/// A script; contracts see it as its steps.
 #[derive(Drop)]
 pub struct Script {
     steps: List<Step>,

@@ -1,22 +1,22 @@
-//! What one line of a script asks for.
+//! The step that one line of a script requests.
 ghost use Rattle.std.specs.Prelude.{◌≡◌};
 ghost use Rattle.events_core.specs.Steps.{count_of, word_step, counted_step};
 
-/// What a line of a script asks for.
+/// The step that a line of a script requests.
 #[derive(Clone, Copy, Debug, PartialEq, Eq)]
 pub enum Step {
     /// This many arrivals, each of the next packet.
     Arrive(u64),
     /// This many departures.
     Depart(u64),
-    /// Arrivals as long as a packet is left.
+    /// Arrivals until no packet is left.
     Rest,
-    /// Departures as long as a packet is held.
+    /// Departures until no packet is queued.
     Drain,
 }
 
 impl Step {
-    /// What the step adds to the counts of a script.
+    /// Returns the number that the step adds to the counts of a script.
     pub fn count(self) -> u64
         ensures { result ≡ count_of self }
     {
@@ -26,7 +26,7 @@ impl Step {
         }
     }
 
-    /// The step that a word asks for.
+    /// Returns the step of a word.
     pub(crate) fn of(word: &[u8]) -> Option<Step>
         ensures { result ≡ word_step word.now }
     {
@@ -39,7 +39,7 @@ impl Step {
         }
     }
 
-    /// The step that a word with a count asks for.
+    /// Returns the step of a word with a count.
     pub(crate) fn counted(word: &[u8], count: u64) -> Option<Step>
         ensures { result ≡ counted_step word.now count }
     {

@@ -1,4 +1,4 @@
--- What is kept by one call and then by another.
+-- What one call and then another leave unchanged.
 use Rattle.std.proofs.Common.{ℕ, Bool, Option, None, Some, List, [], ◌++◌, refl, sym, ap, ◌∙◌, arith, append_assoc, append-nil, ◌≡◌, subst}
 use Rattle.std.proofs.lemmas.Option.{none-some, same_Some}
 use Rattle.outside_core.specs.Faults.{Rose}
@@ -8,12 +8,12 @@ use Rattle.outside_core.specs.declared.read_error.ReadError.{ReadError}
 use Rattle.outside_core.specs.declared.read_error.ReadError.TheVariants.{Fault, Source, Memory}
 use Rattle.outside_core.specs.declared.stop.Stop.{Stop}
 
--- what is told begins with itself
+-- a text begins with itself
 pub Begins-same : (a : Option (List ℕ)) → Begins a a
 Begins-same None = tt
 Begins-same (Some now) = record { rest = []; joined = sym (append-nil now) }
 
--- and with what its beginning begins with
+-- `Begins` is transitive
 pub Begins-trans : (a b c : Option (List ℕ)) → Begins a b → Begins b c → Begins a c
 Begins-trans a b None p q = tt
 Begins-trans a None (Some now) p q = absurd q
@@ -46,7 +46,7 @@ module _ {S : Type 0} (lends : S → List ℕ → Bool) (content : S → List �
     later = omega (arith, first.later, second.later);
   }
 
--- ---- a stop where a file isn't read on
+-- ---- why work stops if a file can't be read to its end
 module _ {S : Type 0} (faults : S → ℕ) (source source' : S) where
   pub read_cause : (error : ReadError) (stop : Stop) → stop_of error ≡ Some stop → (error ≡ Source → Rose (faults source) (faults source')) → HasSourceCause stop faults source source'
   read_cause (Fault c p) stop is rose = absurd (none-some stop is)

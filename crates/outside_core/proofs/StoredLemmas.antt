@@ -9,14 +9,14 @@ use Rattle.std.proofs.lemmas.Option.{slice_get_cases, slice_get_past}
 use Rattle.outside_core.specs.Stored.{File, file_of, files_of, first_content, content_or_empty}
 use Rattle.outside_core.specs.Reading.{content_at}
 
--- a file as it is held
+-- a stored file
 abbrev Held : Type 0
 Held = String Global × Vec ℕ Global
 
 abbrev is_named : List ℕ → Held → Bool
 is_named name file = bytes_eq (string_bytes file.0) name
 
--- what is found among what elements are seen as is what the first of them is seen as
+-- finding an element by its image gives the image of the first match
 find-map : {X Y : Type 0} (p : Y → Bool) (f : X → Y) (xs : List X) → option_map f (find (λ x. p (f x)) xs) ≡ find p (map f xs)
 find-map p f [] = refl
 find-map p f (x ∷ xs) = go (p (f x)) (find-map p f xs)
@@ -29,7 +29,7 @@ content-file_of : (o : Option Held) → option_map (λ (file : Held). file.1.ite
 content-file_of None = refl
 content-file_of (Some file) = refl
 
--- the first content of a name, by the place of its file
+-- the first content of a name, by the index of its file
 first_content-at : (files : List Held) (name : List ℕ) → first_content (files_of files) name ≡ option_map (λ (file : Held). file.1.items) (slice_get files (position_or_len (is_named name) files))
 first_content-at files name =
     ap (option_map (λ (file : File). file.1)) (sym (find-map (λ (file : File). bytes_eq file.0 name) file_of files))
@@ -48,7 +48,7 @@ inside : (files : List Held) (o : Option Held) (place : ℕ) → slice_get files
 inside files None place e h = elim (slice_get_cases files place).1 [ inl x ↦ cc (x.2, e) | inr x ↦ absurd (omega (arith, x.0, h)) ]
 inside files (Some file) place e h = refl
 
--- the place at which a name is found holds its first content
+-- the file at the index found for a name has the name's first content
 pub content_where_found : (files : List Held) (name : List ℕ) (place : Option ℕ) → place ≡ position (is_named name) files → IfSome place (λ at. first_content (files_of files) name ≡ Some (content_at files at))
 content_where_found files name None e = tt
 content_where_found files name (Some place) e =
@@ -65,7 +65,7 @@ no_content_where_not_found files name None e =
     let past = not_found _ (position_or_len p files) (length files) refl (sym e) in
     first_content-at files name ∙ ap (option_map (λ (file : Held). file.1.items)) (slice_get_past files (position_or_len p files) past)
 
--- the place of the first content, or the place behind the last file
+-- the index of the first content, or the index past the last file
 pub content_at_place_or_end : (files : List Held) (name : List ℕ) (place : Option ℕ) → IfSome place (λ at. first_content (files_of files) name ≡ Some (content_at files at)) → IfNone place (first_content (files_of files) name ≡ None) → content_at files (unwrap_or place (length files)) ≡ content_or_empty (files_of files) name
 content_at_place_or_end files name (Some place) found none = rw found refl
 content_at_place_or_end files name None found none = rw (none, slice_get_past files (length files) (omega arith)) refl

@@ -2,19 +2,19 @@ use Rattle.std.proofs.Common.{◌≤◌, ◌-◌, ℕ, List, [], ◌++◌, lengt
 use Rattle.std.proofs.lemmas.List.{take-append-drop, take_all}
 use Rattle.outside_core.specs.Written.{Appended, AppendedBefore, AppendedPrefix}
 
--- two growths in turn
+-- two appends in sequence
 pub appended_in_turn : (a b c : Option (List ℕ)) (xs ys : List ℕ) → Appended a b xs → Appended b c ys → Appended a c (xs ++ ys)
 appended_in_turn a b None xs ys first second = tt
 appended_in_turn a None (Some now) xs ys first second = absurd second
 appended_in_turn None (Some mid) (Some now) xs ys first second = absurd first
 appended_in_turn (Some before) (Some mid) (Some now) xs ys first second = second ∙ ap (λ s. s ++ ys) first ∙ append_assoc before xs ys
 
--- no growth
+-- an append of nothing
 pub appended_nothing : (a : Option (List ℕ)) → Appended a a []
 appended_nothing None = tt
 appended_nothing (Some now) = sym (append-nil now)
 
--- a growth and then a growth by a prefix
+-- an append, then an append of a prefix
 pub prefix_in_turn : (a b c : Option (List ℕ)) (xs ys : List ℕ) → Appended a b xs → AppendedPrefix b c ys → AppendedPrefix a c (xs ++ ys)
 prefix_in_turn a b c xs ys first second = record {
   front = xs ++ second.front;
@@ -23,7 +23,7 @@ prefix_in_turn a b c xs ys first second = record {
   grew = appended_in_turn a b c xs second.front first second.grew;
 }
 
--- a growth by a prefix of these bytes is one of more bytes
+-- an append of a prefix of some bytes is an append of a prefix of any longer bytes
 pub prefix_of_longer : (a b : Option (List ℕ)) (xs ys : List ℕ) → AppendedPrefix a b xs → AppendedPrefix a b (xs ++ ys)
 prefix_of_longer a b xs ys prefix = record {
   front = prefix.front;
@@ -32,7 +32,7 @@ prefix_of_longer a b xs ys prefix = record {
   grew = prefix.grew;
 }
 
--- one more piece from the front of what is left to write
+-- one more piece from the front of the rest is written
 pub appended_one_more_piece : (a b c : Option (List ℕ)) (bytes rest : List ℕ) (n : ℕ) → AppendedBefore a b bytes rest → Appended b c (take n rest) → AppendedBefore a c bytes (take (length rest - n) (drop n rest))
 appended_one_more_piece a b c bytes rest n part step =
     let all : length (drop n rest) ≤ length rest - n = omega (arith, length-drop n rest) in
@@ -42,6 +42,6 @@ appended_one_more_piece a b c bytes rest n part step =
       grew = appended_in_turn a b c part.front (take n rest) part.grew step;
     })
 
--- where nothing was written, a prefix was
+-- if nothing was written, a prefix was: the empty one
 pub prefix_of_nothing : (a b : Option (List ℕ)) (xs : List ℕ) → Appended a b [] → AppendedPrefix a b xs
 prefix_of_nothing a b xs nothing = record { front = []; back = xs; whole = refl; grew = nothing }

@@ -1,20 +1,20 @@
--- Counts of 64 bits that never fall, and the calls that are to fail.
+-- 64-bit counts that never fall, and the calls that are set to fail.
 use Rattle.std.specs.Prelude.{◌≡◌, refl, ◌≤◌, ◌+◌, ◌-◌, ◌^◌, ◌==◌, ℕ, Bool, true, false, List, [], ◌∷◌, min, Result, MatchResult}
 use Rattle.std.specs.List.{list_any}
 
--- one more, and the last number of 64 bits after itself
+-- one more; the last 64-bit value stays at itself
 abbrev pub one_more : ℕ → ℕ
 one_more count = min (count + 1) (2 ^ 64 - 1)
 
--- the count rose: it is greater, or stands at its last value
+-- the count rose: it is greater, or is at its last value
 abbrev pub Rose : ℕ → ℕ → Type 0
 Rose before now = one_more before ≤ now
 
--- a call that succeeds leaves the count as it is, and one that fails raises it
+-- a call that succeeds leaves the count unchanged, and one that fails raises it by one
 abbrev pub CountsFaults : {X E : Type 0} → Result X E → ℕ → ℕ → Type 0
 CountsFaults result before now = MatchResult result (λ _. now ≡ before) (λ _. now ≡ one_more before)
 
--- whether the call of this number is among those that are to fail
+-- whether the call with this number is set to fail
 abbrev pub is_to_fail : List ℕ → ℕ → Bool
 is_to_fail fail call = list_any (λ number. number == call) fail
 

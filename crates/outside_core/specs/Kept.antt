@@ -1,4 +1,4 @@
--- What calls on a shelf and on a sink keep, and why work over both stops.
+-- What calls on a shelf and on a sink leave unchanged, and why work that uses both stops.
 use Rattle.std.specs.Prelude.{◌≡◌, refl, ◌≤◌, ℕ, Bool, Option, None, Some, List, [], ◌∷◌, ◌++◌, ⊤}
 use Rattle.outside_core.specs.Faults.{Rose}
 use Rattle.outside_core.specs.Files.{KeepsFiles}
@@ -10,35 +10,36 @@ pub record IsFront (front whole : List ℕ) : Type 0 where
   pub rest : List ℕ
   pub joined : whole ≡ front ++ rest
 
--- what is told now was told before, and begins with what it was then
+-- a text that is observable now was observable before, and begins with what it was then
 abbrev pub Begins : Option (List ℕ) → Option (List ℕ) → Type 0
 Begins before None = ⊤
 Begins None (Some now) = ⊥
 Begins (Some before) (Some now) = IsFront before now
 
--- the same names are lent, with the same contents, and the count of faults doesn't fall
+-- the same names may be opened, their contents are unchanged, and the fault count doesn't fall
 pub record KeepsShelf {S : Type 0} (lends : S → List ℕ → Bool) (content : S → List ℕ → Option (List ℕ)) (faults : S → ℕ) (old new : S) : Type 0 where
   pub files : KeepsFiles lends content old new
   pub later : faults old ≤ faults new
 
--- what is written begins with what was written before, and the count of faults doesn't fall
+-- the text written now begins with the text written before, and the fault count doesn't fall
 pub record KeepsSink {K : Type 0} (written : K → Option (List ℕ)) (faults : K → ℕ) (old new : K) : Type 0 where
   pub begins : Begins (written old) (written new)
   pub later : faults old ≤ faults new
 
--- a stop at the source comes only where the source's count of faults rose, and one at the sink only where the sink's did
+-- work stops at the source only if the source's fault count rose, and at the sink only if the
+-- sink's did
 abbrev pub HasCause : {S K : Type 0} → Stop → (S → ℕ) → S → S → (K → ℕ) → K → K → Type 0
 HasCause Source source_faults source source' sink_faults sink sink' = Rose (source_faults source) (source_faults source')
 HasCause Sink source_faults source source' sink_faults sink sink' = Rose (sink_faults sink) (sink_faults sink')
 HasCause Memory source_faults source source' sink_faults sink sink' = ⊤
 
--- the same where no source is read
+-- the same for work that reads no source
 abbrev pub HasSinkCause : {K : Type 0} → Stop → (K → ℕ) → K → K → Type 0
 HasSinkCause Source faults sink sink' = ⊥
 HasSinkCause Sink faults sink sink' = Rose (faults sink) (faults sink')
 HasSinkCause Memory faults sink sink' = ⊤
 
--- the same where no sink is written
+-- the same for work that writes no sink
 abbrev pub HasSourceCause : {S : Type 0} → Stop → (S → ℕ) → S → S → Type 0
 HasSourceCause Source faults source source' = Rose (faults source) (faults source')
 HasSourceCause Sink faults source source' = ⊥

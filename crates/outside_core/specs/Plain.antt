@@ -1,4 +1,4 @@
--- What files and a sink in memory stand for that meet no fault.
+-- Files and a sink in memory without faults, as contracts see them.
 use Rattle.std.specs.Prelude.{ℕ, Bool, Option, None, Some, List, is_some, if◌then◌else◌}
 use Rattle.outside_core.specs.Stored.{File, files_of}
 use Rattle.outside_core.specs.Reading.{left_at}
@@ -11,7 +11,7 @@ held_files s = files_of s.files.items
 abbrev pub is_begun : PlainShelf → Bool
 is_begun s = is_some s.reading
 
--- the bytes left of the begun file, and none where no file is begun
+-- the bytes of the open file that are still unread; none if no file is open
 abbrev pub bytes_left : PlainShelf → List ℕ
 bytes_left s = left_at s.files.items s.reading
 
@@ -21,10 +21,10 @@ kept_bytes s = s.bytes.items
 abbrev pub sink_room : PlainSink → ℕ
 sink_room s = s.room
 
--- whether all that was written is kept
+-- whether all bytes written are stored
 abbrev pub is_whole : PlainSink → Bool
 is_whole s = s.whole
 
--- the bytes written, told as long as all are kept
+-- the bytes written, observable as long as all of them are stored
 abbrev pub told_bytes : PlainSink → Option (List ℕ)
 told_bytes s = if is_whole s then Some (kept_bytes s) else None

@@ -1,4 +1,4 @@
--- Files in memory, as pairs of a name and a content, and the one that is read.
+-- Files in memory, as pairs of a name and a content, and the contents of a name.
 use Rattle.std.specs.Prelude.{◌≡◌, refl, ℕ, Option, None, Some, List, [], ◌∷◌, map, find, unwrap_or, Vec, String, string_bytes}
 use Rattle.std.specs.Option.{option_map}
 use Rattle.std.specs.Str.{bytes_eq}
@@ -8,19 +8,19 @@ use Rattle.std.specs.declared.alloc.Global.{Global}
 abbrev pub File : Type 0
 File = List ℕ × List ℕ
 
--- the file that a String and a Vec hold
+-- the file that a `String` and a `Vec` represent
 abbrev pub file_of : String Global × Vec ℕ Global → File
 file_of pair = (string_bytes pair.0, pair.1.items)
 
--- the files that pairs of a String and a Vec hold
+-- the files that pairs of a `String` and a `Vec` represent
 abbrev pub files_of : List (String Global × Vec ℕ Global) → List File
 files_of pairs = map file_of pairs
 
--- the content of the first file of this name
+-- the content of the first file with this name
 abbrev pub first_content : List File → List ℕ → Option (List ℕ)
 first_content files name = option_map (λ (file : File). file.1) (find (λ (file : File). bytes_eq file.0 name) files)
 
--- the same, where a name that isn't held is an empty file
+-- the same, but an unknown name is an empty file
 abbrev pub content_or_empty : List File → List ℕ → List ℕ
 content_or_empty files name = unwrap_or (first_content files name) []
 

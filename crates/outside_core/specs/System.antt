@@ -1,4 +1,5 @@
--- What real files and standard output tell: whether a file is begun, and how many faults there were.
+-- What contracts know of real files and standard output: whether a file is open, and the fault
+-- counts.
 use Rattle.std.specs.Prelude.{ℕ, Bool, is_some}
 use Rattle.outside_core.specs.declared.system.FileShelf.{FileShelf}
 use Rattle.outside_core.specs.declared.system.StdSink.{StdSink}

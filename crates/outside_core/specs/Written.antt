@@ -1,19 +1,19 @@
 -- What the calls of a sink do to its bytes.
 use Rattle.std.specs.Prelude.{◌≡◌, refl, ℕ, Option, None, Some, List, [], ◌∷◌, ◌++◌, ⊤}
 
--- bytes that are told now were told before, and grew by these
+-- bytes that are observable now were observable before, and these bytes were appended
 abbrev pub Appended : Option (List ℕ) → Option (List ℕ) → List ℕ → Type 0
 Appended old None bytes = ⊤
 Appended None (Some now) bytes = ⊥
 Appended (Some before) (Some now) bytes = now ≡ before ++ bytes
 
--- they grew by the front of these bytes, and this back wasn't written
+-- the front of these bytes was appended, and this back was not
 pub record AppendedBefore (old new : Option (List ℕ)) (bytes back : List ℕ) : Type 0 where
   pub front : List ℕ
   pub whole : front ++ back ≡ bytes
   pub grew : Appended old new front
 
--- they grew by a prefix of these bytes
+-- a prefix of these bytes was appended
 pub record AppendedPrefix (old new : Option (List ℕ)) (bytes : List ℕ) : Type 0 where
   pub front : List ℕ
   pub back : List ℕ

@@ -1,4 +1,4 @@
-//! Named files that are read, a sink that is written, and the faults of both counted.
+//! Named files to read, a sink to write, and a fault count for each.
 #![tactic(auto)]
 
 mod faults;

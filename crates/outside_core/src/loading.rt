@@ -1,4 +1,4 @@
-//! Reading a whole file up to a limit.
+//! Reading a whole file, up to a limit.
 ghost use Rattle.std.specs.Prelude.{◌≡◌, ◌+◌, ◌^◌, ◌<◌, ◌≤◌, length, drop, vec_len, [], Some, IfOk, IfSome, OnOk, IsTrue, IsErrOf};
 ghost use Rattle.outside_core.specs.Faults.{Rose};
 ghost use Rattle.outside_core.specs.Kept.{KeepsShelf};
@@ -12,9 +12,9 @@ use std::alloc::{AllocError, Global};
 pub enum LoadError {
     /// The shelf met a fault, and counted it.
     Failed,
-    /// The content has more bytes than were asked for at most.
+    /// The content is longer than the limit that the caller gave.
     TooLong,
-    /// There was no memory for the content.
+    /// Out of memory for the content.
     NoMemory,
 }
 
@@ -37,10 +37,10 @@ impl From<AllocError> for LoadError {
     }
 }
 
-/// The greatest size of one read.
+/// The greatest size of one read, in bytes.
 const CHUNK: usize = 4096;
 
-/// The whole content of a name that is lent, if it has at most `most` bytes.
+/// Returns the whole content of a name that may be opened, if it has at most `most` bytes.
 pub fn load<S: Shelf>(
     alloc: Global,
     shelf: &mut S,
@@ -59,7 +59,7 @@ pub fn load<S: Shelf>(
     ensures too_long { IsErrOf result LoadError.TooLong → IfSome (S.content shelf.old name.now)
         (λ bytes. most < length bytes) }
 
-    // One byte more than `most` was read.
+    // `most` + 1 bytes were read.
     ensures read { IsErrOf result LoadError.TooLong → IfSome (S.content shelf.old name.now)
         (λ bytes.
         S.left shelf.new ≡ Some (drop (most + 1) bytes)) }

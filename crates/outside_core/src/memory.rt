@@ -1,4 +1,4 @@
-//! A shelf and a sink in memory of which calls fail as they are told to.
+//! A shelf and a sink in memory whose calls fail as configured.
 ghost use Rattle.std.specs.Prelude.{◌≤◌, vec_len, vec_capacity};
 
 use crate::faults::{Calls, raise};
@@ -7,7 +7,7 @@ use crate::shelves::{Shelf, ShelfError};
 use crate::sinks::{Sink, SinkError};
 use std::alloc::{AllocError, Global};
 
-/// Files in memory, of which calls fail as they are told to.
+/// Files in memory; the calls with the configured numbers fail.
 #[derive(Drop)]
 pub struct MemShelf {
     files: Vec<(String, Vec<u8>)>,
@@ -23,8 +23,8 @@ impl MemShelf {
     ghost use Rattle.outside_core.specs.Stored.{files_of};
     ghost use Rattle.outside_core.specs.Memory.{held_files, is_begun, greatest_read, failing_calls, calls_made, faults_met};
 
-    /// `most` is the greatest size of one read; `fail` are the numbers of the
-    /// calls that fail, counted from 1 over `begin` and `read` together.
+    /// `most` is the greatest size of one read, in bytes. `fail` lists the numbers of the calls
+    /// that fail, counted from 1 over `begin` and `read` together.
     pub fn new(files: Vec<(String, Vec<u8>)>, most: usize, fail: Vec<u64>) -> MemShelf
         requires { 1 ≤ most }
 
@@ -68,7 +68,7 @@ impl Shelf for MemShelf {
             first_content (held_files self.old) name.now) }
         ensures refused { OnErr result (IsFalse (is_begun self.new)) }
 
-        // It fails exactly where it is told to, and at a name that isn't held.
+        // It fails exactly if this call is set to fail or the name is unknown.
         ensures fails { IsOk result ↔ (IsFalse (fails_next self.old) ×
             IsSome (first_content (held_files self.old) name.now)) }
         ensures no_memory_never { IsErrOf result ShelfError.NoMemory → ⊥ }
@@ -124,7 +124,7 @@ impl Shelf for MemShelf {
     }
 }
 
-/// Bytes in memory, of which writes fail as they are told to.
+/// Bytes in memory; the writes with the configured numbers fail.
 #[derive(Drop)]
 pub struct MemSink {
     bytes: Vec<u8>,
@@ -141,7 +141,7 @@ impl MemSink {
     ghost use Rattle.std.specs.Prelude.{◌≡◌, ◌≤◌, [], IfOk};
     ghost use Rattle.outside_core.specs.Memory.{sink_bytes, sink_room, greatest_write, failing_writes, writes_made, write_faults};
 
-    /// `room` bytes are taken at most, `most` bytes in one write; `fail` are
+    /// The sink stores at most `room` bytes, and at most `most` bytes in one write. `fail` lists
     /// the numbers of the writes that fail, counted from 1.
     pub fn new(
         alloc: Global,
@@ -168,7 +168,7 @@ impl MemSink {
         })
     }
 
-    /// The bytes kept.
+    /// Returns the bytes stored.
     pub fn bytes(&self) -> &[u8]
         ensures { result.now ≡ sink_bytes self.now }
     {
@@ -194,7 +194,7 @@ impl Sink for MemSink {
             sink_bytes self.old ++ take n piece.now) }
         ensures refused { OnErr result (sink_bytes self.new ≡ sink_bytes self.old) }
 
-        // It fails exactly where it is told to, and where no room is left.
+        // It fails exactly if this write is set to fail or no room is left.
         ensures fails { IsOk result ↔ (IsFalse (write_fails_next self.old) ×
             (0 < room_left self.old)) }
 

@@ -6,7 +6,7 @@ use crate::shelves::{Shelf, ShelfError};
 use crate::sinks::{Sink, SinkError};
 use std::alloc::{AllocError, Global};
 
-/// Files in memory. A name that isn't held is an empty file.
+/// Files in memory. An unknown name is an empty file.
 #[derive(Drop)]
 pub struct PlainShelf {
     files: Vec<(String, Vec<u8>)>,
@@ -74,7 +74,7 @@ impl Shelf for PlainShelf {
     }
 }
 
-/// Bytes in memory. It takes every write, and keeps the first `room` bytes.
+/// Bytes in memory. Every write succeeds; only the first `room` bytes are stored.
 #[derive(Drop)]
 pub struct PlainSink {
     bytes: Vec<u8>,
@@ -101,7 +101,7 @@ impl PlainSink {
         })
     }
 
-    /// The bytes kept.
+    /// Returns the bytes stored.
     pub fn bytes(&self) -> &[u8]
         ensures { result.now ≡ kept_bytes self.now }
     {
@@ -124,7 +124,7 @@ impl Sink for PlainSink {
         ensures kept { kept_bytes self.new ≡ take (sink_room self.old)
             (kept_bytes self.old ++ piece.now) }
 
-        // It tells its bytes as long as all that was written is kept.
+        // Its bytes stay observable as long as all bytes written are stored.
         ensures whole { IsTrue (is_whole self.new) ↔
             (IsTrue (is_whole self.old) × (length (kept_bytes self.old) + length piece.now ≤ sink_room self.old)) }
         ensures room { sink_room self.new ≡ sink_room self.old }

@@ -1,4 +1,4 @@
-//! Why a file isn't read on.
+//! Why a file can't be read further.
 ghost use Rattle.std.specs.Prelude.{◌≡◌};
 ghost use Rattle.outside_core.specs.ReadErrors.{read_error};
 ghost use Rattle.outside_core.specs.declared.read_error.ReadError.TheVariants.{Memory};
@@ -7,14 +7,14 @@ use crate::shelves::ShelfError;
 use crate::stop::Stop;
 use std::alloc::AllocError;
 
-/// Why a file isn't read on.
+/// Why a file can't be read further.
 #[derive(Clone, Copy, PartialEq, Eq, Debug)]
 pub enum ReadError {
-    /// The file has a fault of this code, at the record or block of this number, 0 for none.
+    /// The file has an error: its code, and the number of the record or block, or 0 for none.
     Fault(u32, u64),
     /// The file can't be read.
     Source,
-    /// There is no memory.
+    /// Out of memory.
     Memory,
 }
 
@@ -41,7 +41,8 @@ impl ReadError {
     ghost use Rattle.std.specs.Prelude.{◌≡◌, Some, IfOk, IfErr};
     ghost use Rattle.outside_core.specs.ReadErrors.{stop_of};
 
-    /// Returns the code and the place of the file's fault. If the file isn't at fault, the error is why work on it stops.
+    /// Returns the code and position of an error in the file. For any other error, returns why work
+    /// stops.
     pub fn fault(self) -> Result<(u32, u64), Stop>
         ensures fault { IfOk result (λ at. self ≡ ReadError.Fault at.0 at.1) }
         ensures stop { IfErr result (λ stop. stop_of self ≡ Some stop) }

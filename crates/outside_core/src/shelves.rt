@@ -1,4 +1,4 @@
-//! The trait of named files that are read.
+//! The trait of named files to read.
 ghost use Rattle.std.specs.Prelude.{◌≡◌, ◌<◌, ◌≤◌, ℕ, List, Bool, Option, length, IfOk, OnOk, OnErr, IsTrue, IsFalse, IsErrOf};
 ghost use Rattle.outside_core.specs.Faults.{Rose};
 ghost use Rattle.outside_core.specs.Files.{KeepsFiles, Takes, EndsWhereEmpty};
@@ -8,9 +8,9 @@ use std::alloc::AllocError;
 
 #[derive(Clone, Copy, Debug, PartialEq, Eq)]
 pub enum ShelfError {
-    /// A fault was met, and counted.
+    /// A fault occurred, and was counted.
     Failed,
-    /// There was no memory for the call.
+    /// Out of memory for the call.
     NoMemory,
 }
 
@@ -22,24 +22,24 @@ impl From<AllocError> for ShelfError {
     }
 }
 
-/// A set of named files, of which one at a time is read.
+/// A set of named files, one of which is open at a time.
 pub trait Shelf {
-    /// Whether a name is lent.
+    /// Whether a name may be opened.
     ghost lends: { Self → List ℕ → Bool };
 
-    /// The content of a name, where told.
+    /// The content of a name, if it is known to the contract.
     ghost content: { Self → List ℕ → Option (List ℕ) };
 
-    /// Whether a file is begun.
+    /// Whether a file is open.
     ghost begun: { Self → Bool };
 
-    /// The bytes left of the begun file, where told.
+    /// The unread bytes of the open file, if they are known to the contract.
     ghost left: { Self → Option (List ℕ) };
 
-    /// How many faults there were, in 64 bits; the last value stands.
+    /// The number of faults so far, in 64 bits; it stays at the last value.
     ghost faults: { Self → ℕ };
 
-    /// Begins a file, and closes the one before.
+    /// Opens a file, and closes the previous one.
     fn begin(&mut self, name: &str) -> Result<(), ShelfError>
         requires lent { IsTrue (lends self.old name.now) }
 
@@ -52,7 +52,7 @@ pub trait Shelf {
         ensures cause { IsErrOf result ShelfError.Failed → Rose (faults self.old)
             (faults self.new) };
 
-    /// Reads the next bytes of the begun file into the front of the buffer.
+    /// Reads the next bytes of the open file into the front of the buffer, and returns how many.
     fn read(&mut self, buf: &mut [u8]) -> Result<usize, ShelfError>
         requires started { IsTrue (begun self.old) }
 

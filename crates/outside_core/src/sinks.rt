@@ -1,23 +1,23 @@
-//! The trait of a place that is written to, and writing all of some bytes.
+//! The trait of an output for bytes, and writing a whole piece to it.
 ghost use Rattle.std.specs.Prelude.{◌<◌, ◌≤◌, ℕ, List, Option, length, take, IfOk, OnOk, OnErr, IsErrOf, []};
 ghost use Rattle.outside_core.specs.Faults.{Rose};
 ghost use Rattle.outside_core.specs.Written.{Appended, AppendedPrefix};
 
 #[derive(Clone, Copy, Debug, PartialEq, Eq)]
 pub enum SinkError {
-    /// A fault was met, and counted.
+    /// A fault occurred, and was counted.
     Failed,
 }
 
-/// A place that bytes are written to.
+/// An output for bytes.
 pub trait Sink {
-    /// The bytes written, where told.
+    /// The bytes written so far, if they are known to the contract.
     ghost written: { Self → Option (List ℕ) };
 
-    /// How many faults there were, in 64 bits; the last value stands.
+    /// The number of faults so far, in 64 bits; it stays at the last value.
     ghost faults: { Self → ℕ };
 
-    /// Appends some bytes from the front of the piece, one at least.
+    /// Appends a prefix of the piece, at least one byte, and returns its length.
     fn write(&mut self, piece: &[u8]) -> Result<usize, SinkError>
         requires some { 0 < length piece.now }
 

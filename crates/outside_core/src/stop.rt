@@ -1,4 +1,4 @@
-//! Why work over a source and a sink stops.
+//! Why work that reads a source and writes a sink stops.
 ghost use Rattle.std.specs.Prelude.{◌≡◌};
 ghost use Rattle.outside_core.specs.declared.stop.Stop.TheVariants.{Memory};
 
@@ -11,7 +11,7 @@ pub enum Stop {
     Source,
     /// The sink can't be written.
     Sink,
-    /// There is no memory.
+    /// Out of memory.
     Memory,
 }
 

@@ -8,7 +8,7 @@ use std::fs;
 use std::io::{self, Read, Write};
 use std::rt::Files;
 
-/// Real files. A file that can't be opened is a fault.
+/// Real files. A file that can't be opened counts as a fault.
 #[derive(Drop)]
 pub struct FileShelf<R: Files + Drop> {
     rt: R,
@@ -88,7 +88,7 @@ impl<R: Files + Drop> Shelf for FileShelf<R> {
     }
 }
 
-/// Standard output, flushed at each write.
+/// Standard output, flushed after each write.
 #[derive(Drop)]
 pub struct StdSink<R: Print + Drop> {
     rt: R,
@@ -133,7 +133,7 @@ impl<R: Print + Drop> Sink for StdSink<R> {
     }
 }
 
-/// Writes some bytes and flushes them.
+/// Writes some of the bytes and flushes them.
 fn write_flushed<W: Write + Drop>(mut writer: W, piece: &[u8]) -> io::Result<usize>
     ensures { IfOk result (λ n. n ≤ length piece.now) }
 {

@@ -1,10 +1,10 @@
--- The digits of a number apart from its last one, and the last one after them.
+-- The digits of a number without its last one, and the last one after them.
 use Rattle.std.proofs.Common.{◌≡◌, ℕ, zero, suc, ◌+◌, ◌-◌, ◌*◌, ◌/◌, ◌%◌, ◌^◌, ◌<◌, ◌≤◌, List, [], ◌∷◌, ◌++◌, take, length, decimal, sym, ap, ◌∙◌, append_assoc, arith, length-append}
 use Rattle.std.proofs.lemmas.Fmt.{decimal_digit, decimal_step}
 use Rattle.report_core.specs.Digits.{tens_text, AreTens}
 use Rattle.report_core.proofs.LineSteps.{part_put}
 
--- the digits of the tens and then the last one are those of the number
+-- the digits of the tens followed by the last digit are the digits of the number
 last_digit : (tens ones : ℕ) → ones < 10 → 10 * tens + ones < 2 ^ 64 → tens_text tens ++ (48 + ones) ∷ [] ≡ decimal (10 * tens + ones)
 last_digit zero ones few fits =
     let number : 0 + ones ≡ ones = omega arith in
@@ -16,7 +16,8 @@ last_digit (suc tens) ones few fits =
     let step : decimal number ≡ decimal (number / 10) ++ ((48 + number % 10) ∷ []) = decimal_step number (omega arith) fits in
     sym (step ∙ ap (λ n. decimal n ++ ((48 + number % 10) ∷ [])) front ∙ ap (λ n. decimal (suc tens) ++ ((48 + n) ∷ [])) last)
 
--- where a line holds such bytes, and then the last digit after the first ones of them, it holds the number
+-- a line that holds such bytes, with the last digit after the first `count` of them, holds the
+-- number
 pub digits_in_line : (least count value at room end : ℕ) (bytes first line old : List ℕ) → AreTens least count bytes → least ≤ value → value < least + 10 → value < 2 ^ 64
     → at ≤ length old → room ≡ at + length bytes → take room first ≡ take at old ++ bytes
     → take end line ≡ take (at + count) first ++ (48 + (value - least)) ∷ [] → take end line ≡ take at old ++ decimal value
@@ -29,7 +30,7 @@ digits_in_line least count value at room end bytes first line old kept low high 
     ∙ append_assoc (take at old) (tens_text kept.tens) ((48 + ones) ∷ [])
     ∙ ap (λ l. take at old ++ l) (digits ∙ ap decimal number)
 
--- how many digits a number has
+-- the number of digits of a number
 pub count_of_digits : (k n : ℕ) → 10 ^ k ≤ n → n < 10 * 10 ^ k → n < 2 ^ 64 → length (decimal n) ≡ k + 1
 count_of_digits zero n low high fits = ap length (decimal_digit n (omega arith))
 count_of_digits (suc k) n low high fits =

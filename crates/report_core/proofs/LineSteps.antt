@@ -1,9 +1,9 @@
--- How what is put on a line follows what stands before it.
+-- Bytes written on a line follow the bytes before them.
 use Rattle.std.proofs.Common.{◌≡◌, ℕ, ◌+◌, ◌-◌, ◌≤◌, List, ◌++◌, length, take, drop, sym, ap, ◌∙◌, append_assoc, arith, length-append, take-append-drop}
 use Rattle.std.proofs.lemmas.List.{take-take, take_at, length-take-le}
 use Rattle.std.proofs.Math.Seq.{take-append-add}
 
--- what was put from `at` up to `end` follows what stood before
+-- the bytes written from `at` to `end` follow the bytes before them
 pub put_between : (at start end : ℕ) (line old text behind : List ℕ) → start ≡ at → start + length text ≡ end → at ≤ length old
     → take start line ≡ take start old → drop start line ≡ text ++ behind → take end line ≡ take at old ++ text
 put_between at start end line old text behind same long within before after =
@@ -12,7 +12,7 @@ put_between at start end line old text behind same long within before after =
     ∙ take_at (take start old ++ text) behind end front
     ∙ ap (λ n. take n old ++ text) same
 
--- the first part of what was put
+-- a prefix of the bytes written
 pub part_put : (at few room : ℕ) (old bytes line : List ℕ) → at ≤ length old → few ≤ length bytes → room ≡ at + length bytes
     → take room line ≡ take at old ++ bytes → take (at + few) line ≡ take at old ++ take few bytes
 part_put at few room old bytes line within short whole put =
@@ -21,7 +21,7 @@ part_put at few room old bytes line within short whole put =
     ∙ ap (λ k. take (k + few) (take at old ++ bytes)) (sym (length-take-le at old within))
     ∙ take-append-add (take at old) bytes few
 
--- the first `n` bytes and then the last `n`, which may overlap
+-- the first `n` bytes and the last `n`, which may overlap
 pub put_both : (at n middle one_end end : ℕ) (bytes old one two first last : List ℕ) → at ≤ length old → length bytes ≤ n + n → n ≤ length bytes
     → middle + n ≡ at + length bytes → one_end ≡ at + n → first ≡ take n bytes → last ≡ drop (length bytes - n) bytes
     → take one_end one ≡ take at old ++ first → take end two ≡ take middle one ++ last → take end two ≡ take at old ++ bytes

@@ -17,7 +17,7 @@ two_words t e = simp append_assoc
 pub fault_words : (t k c p : List ℕ) → t ++ codes "fault " ++ k ++ 32 ∷ [] ++ c ++ 32 ∷ [] ++ p ++ 10 ∷ [] ≡ t ++ line_of (codes "fault" ∷ k ∷ c ∷ p ∷ [])
 fault_words t k c p = simp append_assoc
 
--- also where the start is shown
+-- also if the start is shown
 pub departure_words : (start : Option ℕ) (event packet : ℕ) (leaf ranks t before after : List ℕ)
     → before ≡ t ++ 100 ∷ [] ++ 32 ∷ [] ++ decimal event ++ 32 ∷ [] ++ decimal packet ++ 32 ∷ [] ++ leaf ++ 32 ∷ [] ++ ranks_text ranks
     → MatchOption start (after ≡ before) (λ moment. after ≡ before ++ 32 ∷ [] ++ decimal moment)
@@ -32,7 +32,7 @@ counts_text t pushed popped empty held unsent =
     t ++ codes "end" ++ codes " pushed " ++ decimal pushed ++ codes " popped " ++ decimal popped ++ codes " empty " ++ decimal empty
     ++ codes " held " ++ decimal held ++ codes " unsent " ++ decimal unsent
 
--- also where the count of what was dropped is shown
+-- also if the count of dropped packets is shown
 pub end_words : (dropped : Option ℕ) (pushed popped empty held unsent : ℕ) (t before after : List ℕ)
     → before ≡ counts_text t pushed popped empty held unsent
     → MatchOption dropped (after ≡ before) (λ count. after ≡ before ++ codes " dropped " ++ decimal count)

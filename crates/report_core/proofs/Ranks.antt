@@ -1,9 +1,9 @@
--- Ranks that are joined, the first one first.
+-- Joined ranks, the first one first.
 use Rattle.std.proofs.Common.{◌≡◌, ℕ, ◌+◌, ◌-◌, ◌<◌, ◌≤◌, List, [], ◌∷◌, ◌++◌, length, get_or, take, drop, decimal, sym, ap, ◌∙◌, append_assoc, append-nil, arith, length-drop}
 use Rattle.std.proofs.lemmas.List.{take_all, take_rest, drop_more, drop_all}
 use Rattle.report_defs.specs.Report.{ranks_text}
 
--- ranks after others
+-- the ranks after others
 abbrev pub later_ranks : List ℕ → List ℕ
 later_ranks [] = []
 later_ranks (n ∷ ns) = 47 ∷ decimal n ++ later_ranks ns

@@ -1,4 +1,4 @@
--- What is said of a report that is begun and finished by one call.
+-- The text of a report that one call begins and finishes.
 use Rattle.std.proofs.Common.{◌≡◌, ℕ, Option, None, Some, List, [], ◌++◌, subst, append-nil}
 use Rattle.std.specs.Prelude.{IfSome}
 use Rattle.outside_core.specs.Written.{Appended, AppendedPrefix}
@@ -8,7 +8,7 @@ use Rattle.report_defs.specs.Text.{appended, IsCut}
 use Rattle.outside_core.proofs.KeptLaws.{Begins-trans}
 use Rattle.report_core.proofs.TextLaws.{IsCut-append, Appended-from_start, AppendedPrefix-from_cut}
 
--- a write failed in the text of a report that held nothing
+-- a write failed within the text of a report that was empty
 pub cut_part : (before written : Option (List ℕ)) (held text : List ℕ) → held ≡ [] → Begins before written → IsCut (appended before held) text written → AppendedPrefix before written text
 cut_part before written held text none begins cut =
     AppendedPrefix-from_cut before written text begins (subst (λ (h : List ℕ). IsCut (appended before h) text written) none cut)
@@ -21,12 +21,12 @@ cut_end before mid written held last text none first second ok cut =
     cut_part before written held text none (Begins-trans before mid written first second)
     (subst (λ (t : List ℕ). IsCut (appended before held) t written) (append-nil text) all)
 
--- a report that held nothing is written to its end
+-- the text of a report that was empty is written completely
 pub whole_text : (before written : Option (List ℕ)) (held text : List ℕ) → held ≡ [] → Appended (appended before held) written text → Appended before written text
 whole_text before written held text none ok =
     Appended-from_start before written text (subst (λ (h : List ℕ). Appended (appended before h) written text) none ok)
 
--- also where its end adds nothing
+-- also if the end adds nothing
 pub whole_end : (before mid written : Option (List ℕ)) (held last text : List ℕ) → held ≡ []
     → Appended (appended before held) (appended mid last) text → Appended (appended mid last) written [] → Appended before written text
 whole_end before mid written held last text none ok done =

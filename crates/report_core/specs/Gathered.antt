@@ -1,14 +1,14 @@
--- What contracts see of a report.
+-- A report as contracts see it.
 use Rattle.std.specs.Prelude.{ℕ, ◌≡◌, ◌+◌, ◌≤◌, Bool, Option, List, length}
 use Rattle.outside_core.specs.Written.{Appended}
 use Rattle.report_defs.specs.Text.{appended, IsCut}
 
--- the bytes that it holds and hasn't written, and whether each write so far was taken
+-- the bytes held but not yet written, and whether each write so far succeeded
 pub record Gathered : Type 0 where
   pub unwritten : List ℕ
   pub live : Bool
 
--- the text of a report with its sink: what is written, and then what the report holds
+-- the text of a report with its sink: the bytes written, then the bytes held
 abbrev pub text_of : Option (List ℕ) → Gathered → Option (List ℕ)
 text_of written report = appended written report.unwritten
 
@@ -16,18 +16,18 @@ text_of written report = appended written report.unwritten
 abbrev pub Tells : {K : Type 0} → (K → Option (List ℕ)) → K → Gathered → K → Gathered → List ℕ → Type 0
 Tells written sink report sink' report' bytes = Appended (text_of (written sink) report) (text_of (written sink') report') bytes
 
--- of the text and the bytes that were to follow it, a first part is written
+-- a prefix of the text and the bytes after it was written
 abbrev pub CutsOff : {K : Type 0} → (K → Option (List ℕ)) → K → Gathered → K → List ℕ → Type 0
 CutsOff written sink report sink' bytes = IsCut (text_of (written sink) report) bytes (written sink')
 
--- how many bytes it holds at most between two calls
+-- the greatest number of bytes held between two calls
 abbrev pub limit : ℕ
 limit = 65536
 
--- room for the longest line
+-- room for the longest line, in bytes
 abbrev pub line_room : ℕ
 line_room = 2048
 
--- so many of the bytes are held, and after them there is room for a line
+-- the first `held` bytes are in use, and after them there is room for a line
 abbrev pub HasRoom : ℕ → List ℕ → Type 0
 HasRoom held bytes = (held ≤ limit) × (length bytes ≡ limit + line_room)

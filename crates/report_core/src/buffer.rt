@@ -12,10 +12,10 @@ use crate::line::LINE;
 use outside_core::{Sink, write_all};
 use std::alloc::{AllocError, Global};
 
-/// How many bytes are held between two calls.
+/// The greatest number of bytes held between two calls.
 pub const LIMIT: usize = 65_536;
 
-/// Bytes that wait for the sink, and after them room for a line. Its memory is taken at once.
+/// Bytes that wait for the sink, and room for a line after them. All memory is allocated at once.
 #[derive(Drop)]
 pub struct Buffer {
     pub bytes: Vec<u8>,
@@ -45,7 +45,7 @@ impl Buffer {
         })
     }
 
-    /// Writes all that is held.
+    /// Writes all bytes held.
     #[inline(never)]
     pub fn flush<K: Sink>(&mut self, sink: &mut K) -> Result<(), WriteFault>
         requires within { self.old.held ≤ length self.old.bytes.items }
@@ -63,7 +63,8 @@ impl Buffer {
         sent
     }
 
-    /// Takes a line that was put after what is held, up to its end, and writes all that is held where that is too much.
+    /// Adds a line that was written after the bytes held and ends at `end`. Writes all bytes held
+    /// if they exceed the limit.
     #[inline(always)]
     pub fn close<K: Sink>(&mut self, sink: &mut K, end: usize) -> Result<(), WriteFault>
         requires within { end ≤ length self.old.bytes.items }
@@ -83,7 +84,7 @@ impl Buffer {
         self.flush(sink)
     }
 
-    /// Takes bytes of any number, and writes through what doesn't fit.
+    /// Adds any number of bytes. If they don't fit, the bytes held are written first.
     #[inline(always)]
     pub fn put_or_send<K: Sink>(&mut self, sink: &mut K, bytes: &[u8]) -> Result<(), WriteFault>
         requires room { HasRoom self.old.held self.old.bytes.items }
@@ -102,7 +103,8 @@ impl Buffer {
         self.flush_and_put(sink, bytes)
     }
 
-    /// Takes bytes of any number once all that is held is written.
+    /// Writes all bytes held, then adds any number of bytes. More than `LIMIT` bytes go to the sink
+    /// directly.
     #[cold]
     fn flush_and_put<K: Sink>(&mut self, sink: &mut K, bytes: &[u8]) -> Result<(), WriteFault>
         requires room { HasRoom self.old.held self.old.bytes.items }

@@ -1,11 +1,11 @@
-//! What a report says was refused, and a write that failed.
+//! The kinds of rejected input in a report, and failed writes.
 ghost use Rattle.std.specs.Prelude.{◌≡◌};
 ghost use Rattle.outside_core.specs.declared.stop.Stop.TheVariants.{Sink};
 ghost use Rattle.report_core.specs.Faults.{word_of};
 
 use outside_core::{SinkError, Stop};
 
-/// The input that was refused.
+/// The kind of the rejected input.
 #[derive(Clone, Copy, Debug, PartialEq, Eq)]
 pub enum FaultKind {
     Words,
@@ -19,7 +19,7 @@ pub enum FaultKind {
 }
 
 impl FaultKind {
-    /// The word that a report shows.
+    /// Returns the word that a report shows.
     pub fn word(self) -> &'static str
         ensures { result.now ≡ word_of self }
     {

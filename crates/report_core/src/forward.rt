@@ -1,10 +1,11 @@
-//! What is put at a place of a line, which is written from its beginning to its end. After what is put, bytes may change.
+//! Writing bytes at an offset of a line, from its beginning to its end. The bytes after those
+//! written may change.
 ghost use Rattle.std.specs.Prelude.{◌≡◌, ◌+◌, ◌*◌, ◌≤◌, ◌<◌, [], ◌∷◌, ◌++◌, length, take, decimal};
 ghost use Rattle.report_defs.specs.Report.{ranks_text};
 
 use itoa::{Buffer, write_digits};
 
-/// Puts a byte at a place, and says where it ends.
+/// Writes a byte at an offset, and returns the offset after it.
 #[inline(always)]
 pub fn put_byte(line: &mut [u8], at: usize, byte: u8) -> usize
     requires room { at < length line.old }
@@ -16,7 +17,7 @@ pub fn put_byte(line: &mut [u8], at: usize, byte: u8) -> usize
     at + 1
 }
 
-/// The same for bytes of a known number.
+/// Writes a fixed number of bytes in the same way.
 #[inline(always)]
 pub fn put_array<const N: usize>(line: &mut [u8], at: usize, bytes: [u8; N]) -> usize
     requires room { at + N ≤ length line.old }
@@ -29,7 +30,7 @@ pub fn put_array<const N: usize>(line: &mut [u8], at: usize, bytes: [u8; N]) -> 
     at + N
 }
 
-/// The same for bytes of any number.
+/// Writes any number of bytes in the same way.
 pub fn put_bytes(line: &mut [u8], at: usize, bytes: &[u8]) -> usize
     requires room { at + length bytes.now ≤ length line.old }
     ensures text { take result line.new ≡ take at line.old ++ bytes.now }
@@ -41,7 +42,7 @@ pub fn put_bytes(line: &mut [u8], at: usize, bytes: &[u8]) -> usize
     end
 }
 
-/// The same for N to twice N bytes, as the first N of them and the last N.
+/// Writes N to 2 N bytes in the same way, as the first N of them and the last N.
 #[inline(always)]
 fn put_ends<const N: usize>(line: &mut [u8], at: usize, bytes: &[u8]) -> usize
     requires long { N ≤ length bytes.now }
@@ -58,7 +59,7 @@ fn put_ends<const N: usize>(line: &mut [u8], at: usize, bytes: &[u8]) -> usize
     put_array(line, at + bytes.len() - N, *last)
 }
 
-/// The same for a name, most of which are short.
+/// Writes a name in the same way. Most names are short.
 #[inline(always)]
 pub fn put_name(line: &mut [u8], at: usize, name: &[u8]) -> usize
     requires room { at + length name.now ≤ length line.old }
@@ -75,7 +76,7 @@ pub fn put_name(line: &mut [u8], at: usize, name: &[u8]) -> usize
     put_bytes(line, at, name)
 }
 
-/// The same for the digits of a number.
+/// Writes the digits of a number in the same way.
 #[inline(always)]
 pub fn put_number(line: &mut [u8], at: usize, value: u64) -> usize
     requires room { at + 20 ≤ length line.old }
@@ -102,7 +103,7 @@ fn put_long(line: &mut [u8], at: usize, value: u64) -> usize
     end
 }
 
-/// The same for a number of up to 128 bits.
+/// Writes a number of up to 128 bits in the same way.
 #[inline(always)]
 pub fn put_wide(line: &mut [u8], at: usize, value: u128) -> usize
     requires room { at + 39 ≤ length line.old }
@@ -116,7 +117,7 @@ pub fn put_wide(line: &mut [u8], at: usize, value: u128) -> usize
     }
 }
 
-/// The same for ranks, joined by `/`.
+/// Writes ranks in the same way, joined by `/`.
 #[inline(always)]
 pub fn put_ranks(line: &mut [u8], at: usize, ranks: &[u64]) -> usize
     requires few { length ranks.now ≤ 65 }

@@ -9,10 +9,10 @@ use crate::fault::FaultKind;
 use crate::forward::{put_array, put_byte, put_bytes, put_name, put_number, put_ranks, put_wide};
 use crate::tens::Tens;
 
-/// Room for the longest line, and for what changes after it.
+/// Room for the longest line and for the bytes after it that may change, in bytes.
 pub const LINE: usize = 2_048;
 
-/// The digits of numbers of the lines before.
+/// The leading digits of the numbers in earlier lines.
 #[derive(Drop)]
 pub struct Line {
     events: Tens,
@@ -20,7 +20,7 @@ pub struct Line {
     departures: Tens,
 }
 
-/// A leaf and ranks, with a space before each.
+/// Writes a leaf and its ranks, with a space before each.
 #[inline(always)]
 fn put_leaf(line: &mut [u8], at: usize, leaf: &str, ranks: &[u64]) -> usize
     requires leaf { length leaf.now ≤ most_name }
@@ -37,7 +37,7 @@ fn put_leaf(line: &mut [u8], at: usize, leaf: &str, ranks: &[u64]) -> usize
     put_ranks(line, ranks_at, ranks)
 }
 
-/// The letter of an outcome and its event, with a space after each.
+/// Writes the letter of an outcome and its event number, with a space after each.
 #[inline(always)]
 fn put_event(line: &mut [u8], at: usize, letter: u8, events: &mut Tens, event: u64) -> usize
     requires room { at + 24 ≤ length line.old }
@@ -52,7 +52,7 @@ fn put_event(line: &mut [u8], at: usize, letter: u8, events: &mut Tens, event: u
     put_byte(line, event_end, b' ')
 }
 
-/// The moment at which a departure starts, where one is shown.
+/// Writes the timestamp at which a departure starts, if it is shown.
 #[inline(always)]
 fn put_start(line: &mut [u8], at: usize, start: Option<u128>) -> usize
     requires room { at + 40 ≤ length line.old }
@@ -68,7 +68,7 @@ fn put_start(line: &mut [u8], at: usize, start: Option<u128>) -> usize
     put_wide(line, start_at, start)
 }
 
-/// A number of the last line, with its word before it.
+/// Writes a number of the last line, with its word before it.
 fn put_count(line: &mut [u8], at: usize, word: &[u8], count: u64) -> usize
     requires word { length word.now ≤ 9 }
     requires room { at + 29 ≤ length line.old }
@@ -80,7 +80,7 @@ fn put_count(line: &mut [u8], at: usize, word: &[u8], count: u64) -> usize
     put_number(line, word_end, count)
 }
 
-/// The count of the packets that were dropped, where it is shown.
+/// Writes the count of dropped packets, if it is shown.
 fn put_dropped(line: &mut [u8], at: usize, dropped: Option<u64>) -> usize
     requires room { at + 29 ≤ length line.old }
     ensures text { MatchOption dropped (take result line.new ≡ take at line.old)
@@ -103,7 +103,8 @@ impl Line {
         }
     }
 
-    /// Each puts a line at a place, and says where it ends.
+    /// Writes the line of an arrival at an offset, and returns the offset after it. The other lines
+    /// work the same way.
     #[inline(always)]
     pub fn arrival(
         &mut self,

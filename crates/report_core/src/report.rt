@@ -1,4 +1,4 @@
-//! A report: lines that gather and go on to the sink.
+//! A report: lines that are gathered and passed on to the sink.
 ghost use Rattle.std.specs.Prelude.{◌≡◌, ◌≤◌, [], length, IsTrue, is_ok, IfOk, OnOk, OnErr};
 ghost use Rattle.outside_core.specs.Faults.{Rose};
 ghost use Rattle.outside_core.specs.Kept.{KeepsSink};
@@ -15,8 +15,8 @@ use outside_core::Sink;
 use std::alloc::{AllocError, Global};
 use std::marker::Model;
 
-/// Lines for a sink. They gather in memory that is taken once, and go on to the sink once they are more than it holds and at
-/// `finish`. It is live until a write fails.
+/// Lines for a sink. They are gathered in memory that is allocated once. They are written when they
+/// exceed its limit, and at `finish`. The report is live until a write fails.
 #[derive(Drop)]
 pub struct Report {
     buffer: Buffer,
@@ -53,7 +53,7 @@ impl Report {
         self.live
     }
 
-    /// Notes whether the bytes were taken.
+    /// Records whether the bytes were written.
     #[inline(always)]
     fn noted(&mut self, sent: Result<(), WriteFault>) -> Result<(), WriteFault>
         ensures same { result ≡ sent }
@@ -64,7 +64,7 @@ impl Report {
         sent
     }
 
-    /// A packet came to a leaf, with the ranks pushed from the root down.
+    /// Reports a packet that arrived at a leaf, with the ranks pushed from the root down.
     #[inline(always)]
     pub fn arrived<K: Sink>(
         &mut self,
@@ -99,7 +99,8 @@ impl Report {
         self.noted(sent)
     }
 
-    /// A packet left a leaf, with the ranks taken from the root down. The start is in nanoseconds.
+    /// Reports a packet that departed from a leaf, with the ranks popped from the root down. The
+    /// start is in nanoseconds.
     #[inline(always)]
     pub fn departed<K: Sink>(
         &mut self,
@@ -136,7 +137,7 @@ impl Report {
         self.noted(sent)
     }
 
-    /// A departure found nothing to send.
+    /// Reports a departure that found nothing to send.
     pub fn empty<K: Sink>(&mut self, sink: &mut K, event: u64) -> Result<(), WriteFault>
         requires live { IsTrue self.old.live }
 
@@ -156,7 +157,7 @@ impl Report {
         self.noted(sent)
     }
 
-    /// A packet was dropped at a leaf that was full.
+    /// Reports a packet that was dropped at a full leaf.
     pub fn dropped<K: Sink>(
         &mut self,
         sink: &mut K,
@@ -187,8 +188,9 @@ impl Report {
         self.noted(sent)
     }
 
-    /// The run ended: how many packets were pushed, popped, found missing, are held and weren't sent, and how many were
-    /// dropped, where that is shown.
+    /// Reports the end of the run: how many packets were pushed and popped, how many departures
+    /// found none, how many packets are queued and unsent, and how many were dropped, if that is
+    /// shown.
     pub fn end<K: Sink>(
         &mut self,
         sink: &mut K,
@@ -224,7 +226,8 @@ impl Report {
         self.noted(sent)
     }
 
-    /// An input was refused. Its place is a line, a record or an event, and 0 where there is none.
+    /// Reports a rejected input. The position (`place`) is a line, record or event number, or 0 if
+    /// there is none.
     pub fn fault<K: Sink>(
         &mut self,
         sink: &mut K,
@@ -248,7 +251,7 @@ impl Report {
         self.noted(sent)
     }
 
-    /// Bytes of any number, as they are.
+    /// Adds any number of bytes, unchanged.
     pub fn piece<K: Sink>(&mut self, sink: &mut K, bytes: &[u8]) -> Result<(), WriteFault>
         requires live { IsTrue self.old.live }
 
@@ -263,7 +266,7 @@ impl Report {
         self.noted(sent)
     }
 
-    /// Writes what is held. The sink then has the whole text.
+    /// Writes the bytes held. The sink then has the whole text.
     pub fn finish<K: Sink>(&mut self, sink: &mut K) -> Result<(), WriteFault>
         requires live { IsTrue self.old.live }
 

@@ -1,13 +1,14 @@
-//! Numbers that follow one another in a report, as those of its events: the next one often differs in its last digit alone.
+//! Numbers that follow one another in a report, such as event numbers. The next one often differs
+//! only in its last digit.
 ghost use Rattle.std.specs.Prelude.{◌≡◌, ◌+◌, ◌*◌, ◌/◌, ◌<◌, ◌≤◌, ◌++◌, length, take, decimal};
 
 use crate::forward::{put_array, put_byte, put_number};
 use std::marker::Model;
 
-/// Room for the digits of any number.
+/// Room for the digits of any number, in bytes.
 const DIGITS: usize = 20;
 
-/// The digits of a number before its last one, kept for the next number.
+/// The digits of a number without its last one, stored for the next number.
 #[derive(Drop)]
 pub struct Tens {
     /// The least number with these digits.
@@ -36,7 +37,7 @@ impl Tens {
         }
     }
 
-    /// Puts the digits of a number at a place, and says where they end.
+    /// Writes the digits of a number at an offset, and returns the offset after them.
     #[inline(always)]
     pub fn put(&mut self, line: &mut [u8], at: usize, value: u64) -> usize
         requires room { at + 21 ≤ length line.old }
@@ -49,7 +50,7 @@ impl Tens {
         put_byte(line, at + self.count, b'0' + (value - self.least) as u8)
     }
 
-    /// Has the digits be those before the last one of this number.
+    /// Sets the digits to those of this number without its last one.
     #[inline(always)]
     fn turn_to(&mut self, value: u64)
         ensures least { self.new ≤ value }

@@ -10,7 +10,8 @@ use crate::report::Report;
 use outside_core::{Sink, Stop};
 use std::alloc::Global;
 
-/// Writes the line of a refusal as the whole report. The place is a line, a record or an event, and 0 where there is none.
+/// Writes the line of a rejected input as the whole report. The position (`place`) is a line,
+/// record or event number, or 0 if there is none.
 pub fn write_fault<K: Sink>(
     alloc: Global,
     sink: &mut K,

@@ -1,4 +1,4 @@
--- The lines of a report. Its words are separated by one space, and each line ends with a line feed.
+-- The lines of a report. Words are separated by one space, and each line ends with a line feed.
 use Rattle.std.specs.Prelude.{◌≡◌, refl, ℕ, Option, None, Some, List, [], ◌∷◌, ◌++◌, map, decimal, codes}
 use Rattle.std.specs.List.{join_with_byte}
 use Rattle.std.specs.Fmt.{digits}
@@ -16,17 +16,17 @@ abbrev pub arrival_line : ℕ → ℕ → List ℕ → List ℕ → List ℕ
 arrival_line event packet leaf ranks =
     line_of (codes "a" ∷ decimal event ∷ decimal packet ∷ leaf ∷ ranks_text ranks ∷ [])
 
--- the moment at which a departure starts, in nanoseconds, where one is shown
+-- the timestamp at which a departure starts, in nanoseconds, if it is shown
 abbrev pub start_words : Option ℕ → List (List ℕ)
 start_words None = []
 start_words (Some start) = decimal start ∷ []
 
--- a packet left from a leaf, with the ranks taken
+-- a packet departed from a leaf, with the ranks popped
 abbrev pub departure_line : ℕ → ℕ → List ℕ → List ℕ → Option ℕ → List ℕ
 departure_line event packet leaf ranks start =
     line_of (codes "d" ∷ decimal event ∷ decimal packet ∷ leaf ∷ ranks_text ranks ∷ start_words start)
 
--- a packet was dropped at a leaf that was full
+-- a packet was dropped at a full leaf
 abbrev pub drop_line : ℕ → ℕ → List ℕ → List ℕ
 drop_line event packet leaf = line_of (codes "x" ∷ decimal event ∷ decimal packet ∷ leaf ∷ [])
 
@@ -34,18 +34,19 @@ drop_line event packet leaf = line_of (codes "x" ∷ decimal event ∷ decimal p
 abbrev pub empty_line : ℕ → List ℕ
 empty_line event = line_of (codes "e" ∷ decimal event ∷ [])
 
--- the count of packets that were dropped, where it is shown
+-- the count of dropped packets, if it is shown
 abbrev pub drop_words : Option ℕ → List (List ℕ)
 drop_words None = []
 drop_words (Some dropped) = codes "dropped" ∷ decimal dropped ∷ []
 
--- a run ended: how many packets were pushed, popped, found missing, are held and weren't sent, and how many were dropped
+-- a run ended: how many packets were pushed and popped, how many departures found none, how many
+-- packets are queued and unsent, and how many were dropped
 abbrev pub end_line : ℕ → ℕ → ℕ → ℕ → ℕ → Option ℕ → List ℕ
 end_line pushed popped empty held unsent dropped =
     line_of (codes "end" ∷ codes "pushed" ∷ decimal pushed ∷ codes "popped" ∷ decimal popped ∷ codes "empty" ∷ decimal empty
     ∷ codes "held" ∷ decimal held ∷ codes "unsent" ∷ decimal unsent ∷ drop_words dropped)
 
--- an input was refused: its kind, the code of the fault and its place
+-- an input was rejected: its kind, the error code and the position
 abbrev pub fault_line : List ℕ → ℕ → ℕ → List ℕ
 fault_line kind code place = line_of (codes "fault" ∷ kind ∷ decimal code ∷ decimal place ∷ [])
 
@@ -85,7 +86,7 @@ pub departure_line-at_0 : departure_line 2 1 (codes "root") (7 ∷ 5 ∷ []) (So
 unfolding digits
 departure_line-at_0 = refl
 
--- no ranks leave the two spaces of their word
+-- without ranks, two spaces remain around their empty word
 pub arrival_line-no_ranks : arrival_line 12 3 (codes "q") [] ≡ codes "a 12 3 q \n"
 unfolding digits
 arrival_line-no_ranks = refl
@@ -105,7 +106,7 @@ pub fault_line-policy : fault_line (codes "policy") 5 12 ≡ codes "fault policy
 unfolding digits
 fault_line-policy = refl
 
--- the event's number, and then the packet's
+-- the event's number comes first, then the packet's
 pub drop_line-event_first : drop_line 9 4 (codes "web") ≡ codes "x 9 4 web\n"
 unfolding digits
 drop_line-event_first = refl
@@ -114,7 +115,7 @@ pub end_line-all_differ : end_line 9 6 5 3 1 (Some 2) ≡ codes "end pushed 9 po
 unfolding digits
 end_line-all_differ = refl
 
--- a count of 0 is shown where counts are
+-- a count of 0 is shown if drops are counted
 pub end_line-none_dropped : end_line 0 0 0 0 0 (Some 0) ≡ codes "end pushed 0 popped 0 empty 0 held 0 unsent 0 dropped 0\n"
 unfolding digits
 end_line-none_dropped = refl

@@ -1,13 +1,13 @@
--- A text that grows, and of which a first part is written. What is written may not be told.
+-- A growing text of which a prefix is written. The bytes written may not be known to the contract.
 use Rattle.std.specs.Prelude.{◌≡◌, refl, ℕ, Option, None, Some, List, [], ◌∷◌, ◌++◌, ⊤}
 use Rattle.outside_core.specs.Kept.{IsFront}
 
--- a text and what follows it
+-- a text, with more bytes after it
 abbrev pub appended : Option (List ℕ) → List ℕ → Option (List ℕ)
 appended None more = None
 appended (Some text) more = Some (text ++ more)
 
--- of a text and what was to follow it, a first part is written, maybe not even the whole text
+-- a prefix of a text and the bytes after it was written; it may be shorter than the text alone
 abbrev pub IsCut : Option (List ℕ) → List ℕ → Option (List ℕ) → Type 0
 IsCut text more None = ⊤
 IsCut None more (Some written) = ⊥
@@ -28,7 +28,7 @@ IsCut-in_the_text = record { rest = 2 ∷ 3 ∷ []; joined = refl }
 IsCut-stops_telling : IsCut (Some (1 ∷ [])) (2 ∷ []) None
 IsCut-stops_telling = tt
 
--- all of it may be written, and nothing
+-- the prefix may be all of it, or empty
 IsCut-all : IsCut (Some (1 ∷ [])) (2 ∷ []) (Some (1 ∷ 2 ∷ []))
 IsCut-all = record { rest = []; joined = refl }
 

@@ -1,2 +1,2 @@
-//! The lines of a report, and what is said of a text that is written in parts.
+//! The lines of a report, and definitions for a text that is written in parts.
 #![tactic(auto)]

@@ -1,4 +1,5 @@
--- The timestamps that are kept are those of the packets that are queued, so that events by them are those by the packets' own.
+-- The stored timestamps are those of the queued packets, so events by them are the events by the
+-- packets' own timestamps.
 use Rattle.std.proofs.Common.{◌≡◌, ◌==◌, ℕ, Bool, true, false, if◌then◌else◌, Option, None, Some, List, [], ◌∷◌, refl, sym, ap, ◌∙◌, subst}
 use Rattle.std.specs.Prelude.{option_map}
 use Rattle.tree_defs.specs.Tree.{Address, Popping, option_bind}
@@ -13,12 +14,12 @@ use Rattle.sched_defs.proofs.Soundness.{sound_start, sound_arrived, sound_depart
 use Rattle.summary_core.specs.declared.event.PacketEvent.TheVariants as event
 use Rattle.summary_core.specs.Summing.{ClassEvent, of_class, times_of, Timestamps, no_timestamps, stamps_after, events_by, class_events}
 
--- of each packet that is queued the timestamp is kept
+-- the timestamp of each queued packet is stored
 abbrev AreKept : SourceState → Timestamps → Type 0
 AreKept s k = (n : ℕ) (p : Packet) → s.held n ≡ Some p → k n ≡ Some p.moment
 
 -- ---- a departure
--- what holds of a state in which nothing departs, and of each packet that departs, holds of a departure
+-- a property that holds if nothing departs, and for each packet that departs, holds for a departure
 by_departure : (policy : Policy) (s : SourceState) (P : SourceState → Option Leaver → Type 0) → IsSound policy s → P s None
     → ((taken : Popping SourceTree) (p : Packet) → s.held taken.value ≡ Some p → P (left_with policy s taken (Some p)) (Some (leaving taken p))) → P (departed policy s) (leaver s)
 by_departure policy s P sound nothing something = by_pop (pop s.tree) refl
@@ -32,7 +33,7 @@ by_departure policy s P sound nothing something = by_pop (pop s.tree) refl
 no_packet : {X : Type 0} {x : X} → None ≡ Some x → ⊥
 no_packet e = cc
 
--- what is kept of the others stays
+-- the timestamps of the other packets stay
 others_stay : (t : Bool) (held : Option Packet) (kept : Option ℕ) (q : Packet) → (held ≡ Some q → kept ≡ Some q.moment)
     → (if t then None else held) ≡ Some q → (if t then None else kept) ≡ Some q.moment
 others_stay true held kept q given e = absurd (no_packet e)
@@ -46,7 +47,7 @@ kept_departed policy start s k sound kept =
     (sym (sound.numbered taken.value p held)) (others_stay (n == taken.value) (s.held n) (k n) q (kept n q)))
 
 -- ---- an arrival
--- the timestamp of the packet that arrived is kept, and those of the others stay
+-- the timestamp of the packet that arrived is stored, and those of the others stay
 one_more : (t : Bool) (p : Packet) (held : Option Packet) (kept : Option ℕ) (q : Packet)
     → (held ≡ Some q → kept ≡ Some q.moment) → (if t then Some p else held) ≡ Some q → (if t then Some p.moment else kept) ≡ Some q.moment
 one_more true p held kept q given e = ap (λ (o : Option Packet). option_map (λ r. r.moment) o) e
@@ -89,6 +90,6 @@ module _ (policy : Policy) (accepted : IsAccepted policy) (rate : ℕ) where
       departure_first rate policy from s k sound kept (outcomes policy es (departed policy s))
       (events_from es (departed policy s) (stamps_after k (departure from (leaver s))) (sound_departed policy s accepted sound) can (kept_departed policy from s k sound kept))
 
-  -- the events from the start are those by the packets' own timestamps
+  -- from the start, the events are those by the packets' own timestamps
   pub events_told : (es : List Event) → CanMake policy es (start policy) → events_by rate no_timestamps (outcomes policy es (start policy)) ≡ class_events rate (outcomes policy es (start policy))
   events_told es can = events_from es (start policy) no_timestamps (sound_start policy accepted) can (λ n p e. cc)

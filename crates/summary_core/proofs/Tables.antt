@@ -3,12 +3,12 @@ use Rattle.std.proofs.Common.{◌≡◌, ℕ, zero, suc, Bool, true, false, if�
 use Rattle.std.specs.Prelude.{option_map}
 use Rattle.summary_core.specs.Summing.{items_at}
 
--- with nothing more at any index
+-- nothing is added at any index
 pub none_more : (o : Option (List ℕ)) → o ≡ option_map (λ l. l ++ []) o
 none_more None = refl
 none_more (Some l) = ap (λ (x : List ℕ). Some x) (sym (append-nil l))
 
--- one list is longer, and the others stay, where t tells the index
+-- one list is longer, and the others stay; t is whether i is its index
 pub one_longer : (lists : List (Vec ℕ Global)) (index : ℕ) (old new : Vec ℕ Global) (more : List ℕ) → slice_get lists index ≡ Some old → new.items ≡ old.items ++ more
     → (i : ℕ) (t : Bool) → (t ≡ true → i ≡ index) → (t ≡ false → i ≡ index → ⊥)
     → items_at (slice_set lists index new) i ≡ option_map (λ l. l ++ (if t then more else [])) (items_at lists i)
@@ -23,7 +23,7 @@ one_longer (v ∷ vs) (suc k) old new more e is zero true same other = let e : 0
 one_longer (v ∷ vs) (suc k) old new more e is zero false same other = none_more (Some v.items)
 one_longer (v ∷ vs) (suc k) old new more e is (suc i) t same other = one_longer vs k old new more e is i t (λ is_true. omega (arith, same is_true)) (λ is_false at. other is_false (ap suc at))
 
--- no list is there
+-- there is no list at the index
 pub none_longer : (lists : List (Vec ℕ Global)) (index : ℕ) (more : List ℕ) → slice_get lists index ≡ None
     → (i : ℕ) (t : Bool) → (t ≡ true → i ≡ index) → items_at lists i ≡ option_map (λ l. l ++ (if t then more else [])) (items_at lists i)
 none_longer [] index more e i t same = refl

@@ -6,7 +6,7 @@ use Rattle.summary_core.specs.declared.event.PacketEvent.{PacketEvent}
 use Rattle.summary_core.specs.declared.event.PacketEvent.TheVariants.{Arrived, Departed, Dropped}
 use Rattle.summary_core.specs.declared.counts.Counts.{Counts}
 
--- of no packet
+-- the sums of no packet
 abbrev pub no_counts : Counts
 no_counts = record {
   arrived = 0;
@@ -25,7 +25,7 @@ no_counts = record {
   jitter_sum = 0;
 }
 
--- each sum can take in one more packet
+-- each sum has room for one more packet
 pub record IsRoomy (c : Counts) : Type 0 where
   pub arrived : c.arrived < 2 ^ 63
   pub departed : c.departed < 2 ^ 63
@@ -37,12 +37,12 @@ pub record IsRoomy (c : Counts) : Type 0 where
   pub delay_sum : c.delay_sum < 2 ^ 127
   pub jitter_sum : c.jitter_sum < 2 ^ 127
 
--- the first of two that is there
+-- the first timestamp, if there is one, otherwise this one
 abbrev pub first_of : Option ℕ → ℕ → Option ℕ
 first_of None n = Some n
 first_of (Some first) n = Some first
 
--- A packet joins the backlog, which is measured with it.
+-- A packet joins the backlog, and the maximum includes it.
 abbrev pub with_arrival : ℕ → ℕ → Counts → Counts
 with_arrival len timestamp c = record c {
   arrived = c.arrived + 1;
@@ -53,12 +53,13 @@ with_arrival len timestamp c = record c {
   first = first_of c.first timestamp;
 }
 
--- by how much a delay differs from the one before it, if there is one
+-- how much a delay differs from the previous one, if there is one
 abbrev pub change : Option ℕ → ℕ → ℕ
 change None delay = 0
 change (Some last) delay = abs_diff last delay
 
--- Jitter is the plain mean of the differences between consecutive delays. It isn't the running form of RFC 3550.
+-- Jitter is the plain mean of the differences between consecutive delays. It isn't the running form
+-- of RFC 3550.
 abbrev pub with_times : Times → Counts → Counts
 with_times t c = record c {
   finish = max c.finish t.finish;
@@ -81,7 +82,7 @@ with_departure len times c = record (with_any_times times c) {
   queued_bytes = c.queued_bytes - len;
 }
 
--- A packet that is dropped joins no backlog.
+-- A dropped packet doesn't join the backlog.
 abbrev pub with_drop : Counts → Counts
 with_drop c = record c { dropped = c.dropped + 1 }
 
@@ -90,12 +91,12 @@ with_event (Arrived len timestamp) c = with_arrival len timestamp c
 with_event (Departed len times) c = with_departure len times c
 with_event Dropped c = with_drop c
 
--- The span of a group on a link, in nanoseconds: from the timestamp of its first packet that arrived to its last finish. A group
--- without a delay has none.
+-- The span of a group on a link, in nanoseconds: from the timestamp of its first packet that
+-- arrived to its last finish. A group without a delay has none.
 abbrev pub span_of : Counts → Option ℕ
 span_of c = if c.delays == 0 then None else option_map (λ first. c.finish - first) c.first
 
--- bytes a second over a span, rounded down
+-- bytes per second over a span, rounded down
 abbrev pub over_span : ℕ → Option ℕ → Option ℕ
 over_span bytes None = None
 over_span bytes (Some span) = if span == 0 then None else Some (bytes * 1000000000 / span)

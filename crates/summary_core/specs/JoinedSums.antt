@@ -1,4 +1,4 @@
--- Outcomes that are summed in two calls are summed as those of one.
+-- Summing outcomes in two calls gives the same sums as in one call.
 use Rattle.std.proofs.Common.{◌≡◌, ℕ, ◌==◌, Bool, if◌then◌else◌, Option, None, Some, List, [], ◌∷◌, ◌++◌, slice_get, refl, sym, ap, ◌∙◌, subst, append_assoc, append-nil}
 use Rattle.std.specs.Prelude.{option_map}
 use Rattle.sched_defs.specs.Events as run
@@ -10,7 +10,7 @@ use Rattle.summary_core.specs.declared.event.PacketEvent.TheVariants.{Departed}
 use Rattle.summary_core.specs.declared.summary.Summary.{Summary}
 use Rattle.summary_core.specs.Summary.{timestamp_at, AddsEvents, Sums}
 
--- ---- events in a row
+-- ---- events in sequence
 pub counted-append : (member : ℕ → Bool) (c : Counts) (es fs : List ClassEvent) → counted member c (es ++ fs) ≡ counted member (counted member c es) fs
 counted-append member c [] fs = refl
 counted-append member c (e ∷ es) fs = counted-append member (if member e.class then with_event e.event c else c) es fs
@@ -19,7 +19,7 @@ pub delays_in-append : (k : ℕ) (es fs : List ClassEvent) → delays_in k (es +
 delays_in-append k [] fs = refl
 delays_in-append k (e ∷ es) fs = ap (λ (l : List ℕ). delays_at k e.class e.event ++ l) (delays_in-append k es fs) ∙ sym (append_assoc (delays_at k e.class e.event) (delays_in k es) (delays_in k fs))
 
--- ---- timestamps that are the same
+-- ---- equal timestamps
 same_after : (j k : Timestamps) (o : Outcome) → ((n : ℕ) → j n ≡ k n) → (n : ℕ) → stamps_after j o n ≡ stamps_after k o n
 same_after j k (run.Arrived p a ranks) same n = ap (λ (x : Option ℕ). if n == p.number then Some p.moment else x) (same n)
 same_after j k (run.Departed p a ranks start) same n = ap (λ (x : Option ℕ). if n == p.number then None else x) (same n)
@@ -42,7 +42,7 @@ same_events rate j k (o ∷ os) same =
     ap (λ (es : List ClassEvent). es ++ events_by rate (stamps_after j o) os) (same_event rate j k o same)
     ∙ ap (λ (es : List ClassEvent). event_by rate k o ++ es) (same_events rate (stamps_after j o) (stamps_after k o) os (same_after j k o same))
 
--- ---- outcomes in a row
+-- ---- outcomes in sequence
 stamps-append : (k : Timestamps) (os ps : List Outcome) (n : ℕ) → stamps_behind k (os ++ ps) n ≡ stamps_behind (stamps_behind k os) ps n
 stamps-append k [] ps n = refl
 stamps-append k (o ∷ os) ps n = stamps-append (stamps_after k o) os ps n

@@ -5,15 +5,17 @@ use Rattle.std.specs.Ordering.{nat_cmp}
 use Rattle.std.specs.List.Sorted.{IsPermutation, IsSorted}
 use Rattle.summary_core.specs.declared.delays.Delays.{Delays}
 
--- The rank from 1 of a percentile among N numbers: the first one that has that many percent of the numbers at or below it.
+-- The rank of a percentile among N numbers, counted from 1. It is the first rank with at least that
+-- percentage of the numbers at or below it.
 abbrev pub nearest_rank : ℕ → ℕ → ℕ
 nearest_rank percent n = div_ceil (percent * n) 100
 
--- the number of this rank in ascending order
+-- the number at the rank of this percentile, in ascending order
 abbrev pub value_at : ℕ → List ℕ → ℕ
 value_at percent sorted = slice_index_or sorted (nearest_rank percent (length sorted) - 1) 0
 
--- the minimum, the median, two high percentiles and the maximum of delays, of which the sorted ones are those in ascending order
+-- the minimum, the median, two high percentiles and the maximum of delays; `sorted` holds the
+-- delays in ascending order
 pub record ArePercentiles (delays sorted : List ℕ) (d : Delays) : Type 0 where
   pub same : IsPermutation delays sorted
   pub ascend : IsSorted nat_cmp sorted

@@ -1,11 +1,11 @@
--- Sums that are worked out.
+-- Examples of sums.
 use Rattle.std.specs.Prelude.{◌≡◌, refl, ℕ, true, false, None, Some, map, List, [], ◌∷◌}
 use Rattle.sched_defs.specs.Rows.{packet}
 use Rattle.sched_defs.specs.Events.{Outcome, Arrived, Departed, Dropped, Empty}
 use Rattle.summary_core.specs.Counting.{no_counts, throughput_of}
 use Rattle.summary_core.specs.Summing.{class_events, no_timestamps, events_by, counted, any_class, is_class, is_at_leaf, delays_in}
 
--- a link that sends a byte a nanosecond
+-- a link that sends one byte per nanosecond
 abbrev byte_a_nanosecond : ℕ
 byte_a_nanosecond = 1000000000
 
@@ -35,7 +35,7 @@ sums-two_sent = refl
 delays-two_sent : delays_in 0 (class_events byte_a_nanosecond two_sent) ≡ 100 ∷ 450 ∷ []
 delays-two_sent = refl
 
--- the timestamps that are kept are the packets' own
+-- the stored timestamps are the packets' own
 events-two_sent : events_by byte_a_nanosecond no_timestamps two_sent ≡ class_events byte_a_nanosecond two_sent
 events-two_sent = refl
 
@@ -51,6 +51,6 @@ throughput-two_sent = refl
 script-no_times : map (λ os. throughput_of (counted any_class no_counts (class_events byte_a_nanosecond os))) ((Arrived (packet 1 100 0) [] (0 ∷ []) ∷ Departed (packet 1 100 0) [] (0 ∷ []) None ∷ []) ∷ []) ≡ None ∷ []
 script-no_times = refl
 
--- the second class has the leaf of index 5
+-- the second class has the leaf with index 5
 classes-of_a_leaf : map (is_at_leaf (3 ∷ 5 ∷ []) 5) (0 ∷ 1 ∷ 2 ∷ []) ≡ false ∷ true ∷ false ∷ []
 classes-of_a_leaf = refl

@@ -1,4 +1,4 @@
--- What a summary holds, and what outcomes add to it.
+-- The contents of a summary, and what outcomes add to it.
 use Rattle.std.specs.Prelude.{◌≡◌, ℕ, nat_eq, None, option_map, IsTrue, List, [], ◌++◌, length, replicate, slice_get}
 use Rattle.std.specs.List.{AllByRecursion}
 use Rattle.summary_core.specs.Counting.{no_counts}
@@ -7,7 +7,7 @@ use Rattle.sched_defs.specs.Events.{Outcome}
 use Rattle.summary_core.specs.Summing.{ClassEvent, Timestamps, stamps_behind, events_by, counted, any_class, is_class, is_at_leaf, items_at, delays_in}
 use Rattle.summary_core.specs.declared.summary.Summary.{Summary}
 
--- the timestamp that is kept under a packet's number, if one is
+-- the timestamp stored under a packet's number, if there is one
 abbrev pub timestamp_at : Summary → Timestamps
 timestamp_at s n = get nat_eq s.timestamps n
 
@@ -34,14 +34,14 @@ pub record AddsEvents (w v : Summary) (es : List ClassEvent) : Type 0 where
   pub classes : (k : ℕ) → slice_get v.classes.items k ≡ option_map (λ c. counted (is_class k) c es) (slice_get w.classes.items k)
   pub delays : (k : ℕ) → items_at v.delays.items k ≡ option_map (λ l. l ++ delays_in k es) (items_at w.delays.items k)
 
--- The sums of outcomes: those of their events, where each sum had room.
+-- The sums of outcomes are the sums of their events, if each sum had room.
 pub record Sums (w v : Summary) (os : List Outcome) : Type 0 where
   pub rate : v.rate ≡ w.rate
   pub table : v.table ≡ w.table
   pub timestamps : (n : ℕ) → timestamp_at v n ≡ stamps_behind (timestamp_at w) os n
   pub sums : IsTrue v.whole → AddsEvents w v (events_by w.rate (timestamp_at w) os)
 
--- nothing was summed, where the table gives the index of each class's leaf
+-- nothing was summed; the table gives the index of each class's leaf
 pub record SumsNothing (bytes_a_second : ℕ) (leaf_of : List ℕ) (count : ℕ) (s : Summary) : Type 0 where
   pub rate : s.rate ≡ bytes_a_second
   pub table : s.table.items ≡ leaf_of

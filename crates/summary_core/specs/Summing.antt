@@ -1,4 +1,4 @@
--- What the outcomes of a run mean to the packets of a group, and what a summary holds of them.
+-- The events that the outcomes of a run mean for the packets of a group, and their sums.
 use Rattle.std.specs.Prelude.{ℕ, ◌+◌, ◌-◌, ◌==◌, Bool, true, false, if◌then◌else◌, Option, None, Some, option_map, Vec, List, [], ◌∷◌, ◌++◌, slice_get}
 use Rattle.std.specs.declared.alloc.Global.{Global}
 use Rattle.std.specs.Option.{option_map_or}
@@ -10,7 +10,7 @@ use Rattle.summary_core.specs.declared.event.PacketEvent.TheVariants.{Arrived, D
 use Rattle.summary_core.specs.declared.counts.Counts.{Counts}
 use Rattle.summary_core.specs.Counting.{with_event}
 
--- the list of an index, if there is one
+-- the list at an index, if there is one
 abbrev pub items_at : List (Vec ℕ Global) → ℕ → Option (List ℕ)
 items_at lists i = option_map (λ v. v.items) (slice_get lists i)
 
@@ -22,13 +22,13 @@ pub record ClassEvent : Type 0 where
 abbrev pub of_class : ℕ → PacketEvent → ClassEvent
 of_class class event = record { class = class; event = event }
 
--- the delay and the finish of a packet of this length with this timestamp, which starts at a time if a link says it
+-- the delay and the finish of a packet of this length, if its start and its timestamp are known
 abbrev pub times_of : ℕ → ℕ → Option ℕ → Option ℕ → Option Times
 times_of rate len None timestamp = None
 times_of rate len (Some start) None = None
 times_of rate len (Some start) (Some timestamp) = Some (record { delay = start - timestamp; finish = start + send_time len rate })
 
--- ---- plainly, by each packet's own timestamp
+-- ---- by each packet's own timestamp
 abbrev pub class_event : ℕ → run.Outcome → List ClassEvent
 class_event rate (run.Arrived p a ranks) = of_class p.class (Arrived p.len p.moment) ∷ []
 class_event rate (run.Departed p a ranks start) = of_class p.class (Departed p.len (times_of rate p.len start (Some p.moment))) ∷ []
@@ -39,7 +39,7 @@ abbrev pub class_events : ℕ → List run.Outcome → List ClassEvent
 class_events rate [] = []
 class_events rate (o ∷ os) = class_event rate o ++ class_events rate os
 
--- ---- by the timestamps that are kept while packets are queued
+-- ---- by the timestamps stored while packets are queued
 abbrev pub Timestamps : Type 0
 Timestamps = ℕ → Option ℕ
 
@@ -75,7 +75,7 @@ counted member c (e ∷ es) = counted member (if member e.class then with_event 
 abbrev pub any_class : ℕ → Bool
 any_class c = true
 
--- the group of a class, and that of a leaf, where each class has the leaf of this index
+-- the group of a class, and the group of a leaf; the list gives the index of each class's leaf
 abbrev pub is_class : ℕ → ℕ → Bool
 is_class c d = c == d
 

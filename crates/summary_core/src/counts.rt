@@ -7,13 +7,13 @@ use crate::event::{PacketEvent, Times};
 /// The sums of one group of packets: of a leaf, of a class, or of all.
 #[derive(Clone, Copy, PartialEq, Eq, Debug)]
 pub struct Counts {
-    /// How many packets arrived at their leaf. Those that were dropped are not among them.
+    /// The number of packets that arrived at their leaf, without the dropped ones.
     pub arrived: u64,
     pub departed: u64,
     pub dropped: u64,
     /// The bytes of the packets that departed, by their original lengths.
     pub bytes: u64,
-    /// How many packets are queued, and their bytes.
+    /// The number of queued packets, and their bytes.
     pub queued: u64,
     pub queued_bytes: u64,
     /// The maximum backlog so far, in packets and in bytes.
@@ -23,7 +23,7 @@ pub struct Counts {
     pub first: Option<u64>,
     /// The latest time at which a packet was sent, in nanoseconds.
     pub finish: u128,
-    /// How many departures have a delay, and the sum of these delays in nanoseconds.
+    /// The number of departures with a delay, and the sum of these delays in nanoseconds.
     pub delays: u64,
     pub delay_sum: u128,
     /// The delay of the last departure that has one.
@@ -39,7 +39,7 @@ const MOST: u64 = 1 << 63;
 const MOST_LONG: u128 = 1 << 127;
 
 impl Counts {
-    /// The sums of no packet.
+    /// Returns the sums of no packet.
     pub fn new() -> Counts
         ensures { result ≡ no_counts }
     {
@@ -61,7 +61,7 @@ impl Counts {
         }
     }
 
-    /// Whether each sum can take in one more packet.
+    /// Returns whether each sum has room for one more packet.
     fn has_room(&self) -> bool
         ensures { IsTrue result → IsRoomy self.now }
     {
@@ -116,7 +116,8 @@ impl Counts {
         self.queued_bytes = self.queued_bytes.saturating_sub(u64::from(len));
     }
 
-    /// The span on a link in nanoseconds: from the timestamp of the first packet that arrived to the last finish.
+    /// Returns the span on a link in nanoseconds, from the timestamp of the first packet that
+    /// arrived to the last finish.
     pub fn span(&self) -> Option<u128>
         ensures { result ≡ span_of self.now }
     {
@@ -127,7 +128,7 @@ impl Counts {
         Some(self.finish.saturating_sub(u128::from(first)))
     }
 
-    /// The throughput on a link in bytes a second, rounded down.
+    /// Returns the throughput on a link in bytes per second, rounded down.
     pub fn throughput(&self) -> Option<u128>
         ensures { result ≡ throughput_of self.now }
     {
@@ -138,7 +139,8 @@ impl Counts {
         Some(u128::from(self.bytes) * 1_000_000_000 / span)
     }
 
-    /// Counts an event of a packet. The answer is whether the sums had room for it; a run of less than 2^32 packets always has.
+    /// Counts an event of a packet, and returns whether the sums had room for it. A run of less
+    /// than 2^32 packets always has room.
     pub fn add(&mut self, event: PacketEvent) -> bool
         ensures { IsTrue result → self.new ≡ with_event event self.old }
     {

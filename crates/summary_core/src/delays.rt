@@ -12,7 +12,7 @@ pub struct Delays {
     pub maximum: u64,
 }
 
-/// A percentile by nearest rank, of delays in ascending order.
+/// Returns a percentile by nearest rank, of delays in ascending order.
 fn at_percent(sorted: &[u64], percent: u32) -> u64
     requires some { 0 < length sorted.now }
     requires least { 1 ≤ percent }

@@ -1,7 +1,8 @@
-//! What follows from the definitions of sums.
+//! The laws that follow from the definitions of sums.
 ghost use Rattle.summary_core.specs.Laws.{TimestampsAreKept};
 
-/// The timestamp that is kept of a packet until it departs is the packet's own, so that sums are those of the outcomes alone.
+/// The timestamp stored for a packet until it departs is the packet's own. So the sums depend on
+/// the outcomes alone.
 pub fn kept_timestamps_are_those_of_the_packets()
     ensures { TimestampsAreKept }
 {}

@@ -13,14 +13,14 @@ use indexmap::IndexMap;
 use packet_defs::{Departed, Packet};
 use std::alloc::{AllocError, Global};
 
-/// The nanoseconds of a second.
+/// Nanoseconds per second.
 const SECOND: u128 = 1_000_000_000;
 
 /// Starts in nanoseconds stay below this number.
 const MOST_START: u128 = 1 << 126;
 
-/// The times of a departure, where its start and the timestamp of its packet are known. The answer is an error if they need
-/// more bits than there are.
+/// Returns the times of a departure, if its start and the timestamp of its packet are known. It is
+/// an error if the rate is 0, the start is 2^126 or more, or the delay is 2^64 or more.
 fn times(
     rate: u64,
     len: u32,
@@ -46,7 +46,7 @@ fn times(
     }))
 }
 
-/// Empty lists, as many as there are classes.
+/// Returns `count` empty lists, one for each class.
 fn no_lists(alloc: Global, count: usize) -> Result<Vec<Vec<u64>>, AllocError>
     ensures many { IfOk result (λ v. length v.items ≡ count) }
     ensures empty { IfOk result (λ v. AllByRecursion (λ l. l.items ≡ []) v.items) }
@@ -58,11 +58,12 @@ fn no_lists(alloc: Global, count: usize) -> Result<Vec<Vec<u64>>, AllocError>
     Ok(lists)
 }
 
-/// The sums of a run: of all packets, of those of each leaf and of those of each class. The delays of each class are kept in a
-/// list, and the timestamp of each queued packet.
+/// The sums of a run: of all packets, of the packets of each leaf, and of the packets of each
+/// class. It also stores the delays of each class in a list, and the timestamp of each queued
+/// packet.
 #[derive(Drop)]
 pub struct Summary {
-    /// The link's rate in bytes a second.
+    /// The link's rate in bytes per second.
     rate: u64,
     /// The index of each class's leaf.
     table: Vec<u32>,
@@ -71,9 +72,9 @@ pub struct Summary {
     classes: Vec<Counts>,
     delays: Vec<Vec<u64>>,
     timestamps: IndexMap<u64, u64>,
-    /// There was room in each sum so far.
+    /// Whether there was room in each sum so far.
     whole: bool,
-    /// No call failed so far.
+    /// Whether each call so far succeeded.
     pub(crate) live: bool,
 }
 
@@ -81,8 +82,8 @@ impl Summary {
     ghost use Rattle.std.specs.Prelude.{◌≡◌, List, ◌∷◌, [], ℕ, ◌==◌, if◌then◌else◌, Some, None, Option, slice_get, IsTrue, IfOk, OnOk};
     ghost use Rattle.summary_core.specs.Summary.{timestamp_at, AddsEvents, Stays, HoldsAlike, Sums, SumsNothing};
 
-    /// Sums of no packet, for a link of this rate in bytes a second, where the table gives the index of each class's leaf among
-    /// that many leaves. The error is out of memory.
+    /// Returns the sums of no packet, for a link of `rate` bytes per second. The table gives the
+    /// index of each class's leaf among that many leaves. The error is out of memory.
     pub fn new(
         alloc: Global,
         rate: u64,
@@ -105,35 +106,35 @@ impl Summary {
         })
     }
 
-    /// Whether there was room in each sum. If not, the sums say nothing.
+    /// Returns whether there was room in each sum. If not, nothing is guaranteed about the sums.
     pub fn is_whole(&self) -> bool
         ensures { result ≡ self.now.whole }
     {
         self.whole
     }
 
-    /// The sums of all packets.
+    /// Returns the sums of all packets.
     pub fn all(&self) -> Counts
         ensures { result ≡ self.now.all }
     {
         self.all
     }
 
-    /// The sums of the packets of the leaf of this index.
+    /// Returns the sums of the packets of the leaf with this index.
     pub fn leaf(&self, index: usize) -> Option<Counts>
         ensures { result ≡ slice_get self.now.leaves.items index }
     {
         self.leaves.get(index).copied()
     }
 
-    /// The sums of the packets of this class.
+    /// Returns the sums of the packets of this class.
     pub fn class(&self, class: usize) -> Option<Counts>
         ensures { result ≡ slice_get self.now.classes.items class }
     {
         self.classes.get(class).copied()
     }
 
-    /// The delays of each class, in the order of its departures.
+    /// Returns the delays of each class, in the order of its departures.
     pub fn into_delays(self) -> Vec<Vec<u64>>
         ensures { result ≡ self.delays }
     {
@@ -154,7 +155,7 @@ impl Summary {
         self.whole = self.whole && all && in_class && in_leaf && in_list;
     }
 
-    /// How many packets of a class are queued.
+    /// Returns the number of queued packets of a class.
     fn queued(&self, class: u32) -> usize {
         match self.classes.get(class as usize) {
             Some(counts) => counts.queued as usize,
@@ -162,7 +163,8 @@ impl Summary {
         }
     }
 
-    /// Keeps the timestamp of a packet, and makes room for its delay.
+    /// Stores the timestamp of a packet, and reserves room for its delay. The error is out of
+    /// memory.
     fn keep(&mut self, packet: &Packet) -> Result<(), AllocError>
         ensures alike { HoldsAlike self.old self.new }
         ensures stays { Stays self.old self.new }
@@ -197,7 +199,7 @@ impl Summary {
         self.add(packet.class, PacketEvent::Dropped);
     }
 
-    /// Counts a packet that departed, with its start in nanoseconds where a link sends it.
+    /// Counts a packet that departed, with its start in nanoseconds if a link sends it.
     pub(crate) fn count_departure(&mut self, departed: &Departed, start: Option<u128>)
         ensures ok { (p : Packet) (a : Address) (ranks : List ℕ) → p.number ≡ departed.now.packet →
             p.class ≡ departed.now.class → p.len ≡ departed.now.len →

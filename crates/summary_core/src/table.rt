@@ -7,7 +7,7 @@ use crate::counts::Counts;
 use crate::event::PacketEvent;
 use std::alloc::AllocError;
 
-/// Counts an event in the sums of this index, if there are any. The answer is whether they had room for it.
+/// Counts an event in the sums at this index, if there are any, and returns whether they had room.
 pub(crate) fn count_at(sums: &mut Vec<Counts>, index: u32, event: PacketEvent) -> bool
     ensures { IsTrue result → (i : ℕ) → slice_get sums.new.items i ≡
         option_map (λ c. if i == index then with_event event c else c) (slice_get sums.old.items i) }
@@ -18,7 +18,8 @@ pub(crate) fn count_at(sums: &mut Vec<Counts>, index: u32, event: PacketEvent) -
     }
 }
 
-/// Counts an event in the sums of a class's leaf, where the table gives the index of each class's leaf.
+/// Counts an event in the sums of a class's leaf, and returns whether they had room. The table
+/// gives the index of each class's leaf.
 pub(crate) fn count_at_leaf(
     leaves: &mut Vec<Counts>,
     table: &[u32],
@@ -35,7 +36,8 @@ pub(crate) fn count_at_leaf(
     }
 }
 
-/// Adds the delay of a departure, if it has one, to a list that has room for it. The answer is whether it had.
+/// Adds the delay of a departure, if it has one, to a list that has room, and returns whether it
+/// had.
 fn push_delay(delays: &mut Vec<u64>, event: PacketEvent) -> bool
     ensures { IsTrue result → delays.new.items ≡ delays.old.items ++ delay_of event }
 {
@@ -53,7 +55,8 @@ fn push_delay(delays: &mut Vec<u64>, event: PacketEvent) -> bool
     }
 }
 
-/// Adds the delay of a departure to the list of this index, if there is one. The answer is whether the list had room for it.
+/// Adds the delay of a departure to the list at this index, if there is one, and returns whether
+/// the list had room.
 pub(crate) fn delay_at(lists: &mut Vec<Vec<u64>>, index: u32, event: PacketEvent) -> bool
     ensures { IsTrue result → (i : ℕ) → items_at lists.new.items i ≡
         option_map (λ l. l ++ delays_at i index event) (items_at lists.old.items i) }
@@ -64,7 +67,7 @@ pub(crate) fn delay_at(lists: &mut Vec<Vec<u64>>, index: u32, event: PacketEvent
     }
 }
 
-/// Makes room for N more delays in the list of this index, if there is one.
+/// Reserves room for `more` delays in the list at this index, if there is one.
 pub(crate) fn reserve_at(
     lists: &mut Vec<Vec<u64>>,
     index: u32,

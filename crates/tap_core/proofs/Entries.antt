@@ -1,4 +1,4 @@
--- Lists of taps, through the steps of a loop.
+-- Lists of taps in the steps of a loop.
 use Rattle.std.proofs.Common.{◌≡◌, ℕ, zero, suc, Bool, true, false, cond, not, ◌||◌, List, [], ◌∷◌, ◌++◌, map, filter, take, drop, remove, refl, ap, subst, sym, ◌∙◌, ◌≤◌, arith, ◌<◌, length, get_or, set, append-nil}
 use Rattle.std.specs.List.Retain.{IsFiltered}
 use Rattle.std.proofs.lemmas.Fn.{filter_same}
@@ -7,7 +7,7 @@ use Rattle.tap_core.specs.declared.kinds.TapKind.{TapKind}
 use Rattle.tap_core.specs.declared.kinds.Dropped.{Dropped}
 use Rattle.tap_core.specs.Lists.{Shown, dropped, Entry, entry, entries, step, stepped, is_done, left_after_one, answers_done, entry_after, left_after}
 
--- a filter by kind, seen as entries
+-- a filter by kind, on entries
 pub entries-filter : {T : Type 0} (kind_of : T → TapKind) (state_of : T → List ℕ) (p : TapKind → Bool) (ts : List T) → entries kind_of state_of (filter (λ t. p (kind_of t)) ts) ≡ filter (λ e. p e.0) (entries kind_of state_of ts)
 entries-filter kind_of state_of p [] = refl
 entries-filter kind_of state_of p (t ∷ ts) =
@@ -16,7 +16,7 @@ entries-filter kind_of state_of p (t ∷ ts) =
       | false ↦ entries-filter kind_of state_of p ts
     ]
 
--- a step over a tap that wants more
+-- a step over a tap that needs more departures
 pub pass-more : {T : Type 0} (kind_of : T → TapKind) (state_of : T → List ℕ) (d : Shown) (ts : List T) (i : ℕ) (t old : T) → i < length ts → old ≡ get_or ts i old → entry (kind_of t) (state_of t) ≡ stepped d (entry (kind_of old) (state_of old)) → is_done d (entry (kind_of t) (state_of t)) ≡ false → take i (entries kind_of state_of ts) ++ left_after_one d (drop i (entries kind_of state_of ts)) ≡ take (suc i) (entries kind_of state_of (set ts i t)) ++ left_after_one d (drop (suc i) (entries kind_of state_of (set ts i t)))
 pass-more kind_of state_of d [] i t old h is after ends = absurd (omega (arith, h))
 pass-more {T} kind_of state_of d (x ∷ ts) zero t old h is after more =
@@ -25,7 +25,7 @@ pass-more {T} kind_of state_of d (x ∷ ts) zero t old h is after more =
 pass-more kind_of state_of d (x ∷ ts) (suc i) t old h is after more =
     ap (λ es. entry (kind_of x) (state_of x) ∷ es) (pass-more kind_of state_of d ts i t old (omega (arith, h)) is after more)
 
--- a step over a tap that is done, which goes
+-- a step over a tap that is done, which is removed
 pub pass-done : {T : Type 0} (kind_of : T → TapKind) (state_of : T → List ℕ) (d : Shown) (ts : List T) (i : ℕ) (t old : T) → i < length ts → old ≡ get_or ts i old → entry (kind_of t) (state_of t) ≡ stepped d (entry (kind_of old) (state_of old)) → is_done d (entry (kind_of t) (state_of t)) ≡ true → take i (entries kind_of state_of ts) ++ left_after_one d (drop i (entries kind_of state_of ts)) ≡ take i (entries kind_of state_of (remove (set ts i t) i)) ++ left_after_one d (drop i (entries kind_of state_of (remove (set ts i t) i)))
 pass-done kind_of state_of d [] i t old h is after ends = absurd (omega (arith, h))
 pass-done {T} kind_of state_of d (x ∷ ts) zero t old h is after more =
@@ -34,16 +34,16 @@ pass-done {T} kind_of state_of d (x ∷ ts) zero t old h is after more =
 pass-done kind_of state_of d (x ∷ ts) (suc i) t old h is after more =
     ap (λ es. entry (kind_of x) (state_of x) ∷ es) (pass-done kind_of state_of d ts i t old (omega (arith, h)) is after more)
 
--- what `retain` leaves, by what its closure answers
+-- the elements that `retain` leaves, by the result of its closure
 pub kept_by : {X F : Type 0} (R : F → X → Bool → F → Type 0) (f : F) (xs ys : List X) → IsFiltered R f xs ys → (test : X → Bool) → ((x : X) (b : Bool) (f' : F) → R f x b f' → (b ≡ test x) × (f' ≡ f)) → ys ≡ filter test xs
 kept_by R f xs ys h test answers = filter_same R test f answers xs ys h
 
--- nothing shown leaves the taps as they are
+-- an empty list of events leaves the taps unchanged
 pub left_after-none : (es : List Entry) → left_after [] es ≡ es
 left_after-none [] = refl
 left_after-none (e ∷ es) = ap (λ rest. e ∷ rest) (left_after-none es)
 
--- one thing shown, and then others
+-- one event, and then others
 pub left_after-cons : (d : Shown) (ds : List Shown) (es : List Entry) → left_after (d ∷ ds) es ≡ left_after ds (left_after_one d es)
 left_after-cons d ds [] = refl
 left_after-cons d ds (e ∷ es) =
@@ -55,17 +55,17 @@ left_after-cons d ds (e ∷ es) =
       ]
     ]
 
--- no tap answers Done at a drop
+-- no tap returns `Done` at a drop
 pub left_after_one-dropped : (d : Dropped) (es : List Entry) → left_after_one (dropped d) es ≡ map (stepped (dropped d)) es
 left_after_one-dropped d [] = refl
 left_after_one-dropped d (e ∷ es) = ap (λ rest. stepped (dropped d) e ∷ rest) (left_after_one-dropped d es)
 
--- at the end of a pass the taps are those that are left
+-- after a pass, the taps are those that are left
 pub pass_over : (d : Shown) (es es0 : List Entry) (i : ℕ) → length es ≤ i → left_after_one d es0 ≡ take i es ++ left_after_one d (drop i es) → es ≡ left_after_one d es0
 pass_over d es es0 i past h =
     sym (h ∙ ap (λ rest. take i es ++ left_after_one d rest) (drop_all i es past) ∙ append-nil (take i es) ∙ take_all i es past)
 
--- a step over a tap that a loop reads in its place
+-- a step over a tap that a loop reads in place
 pub pass-read : {T : Type 0} (kind_of : T → TapKind) (state_of : T → List ℕ) (d : Shown) (ts : List T) (i : ℕ) (t old : T) → i < length ts → old ≡ get_or ts i old → entry (kind_of t) (state_of t) ≡ stepped d (entry (kind_of (get_or ts i old)) (state_of (get_or ts i old))) → is_done d (entry (kind_of t) (state_of t)) ≡ false → take i (entries kind_of state_of ts) ++ left_after_one d (drop i (entries kind_of state_of ts)) ≡ take (suc i) (entries kind_of state_of (set ts i t)) ++ left_after_one d (drop (suc i) (entries kind_of state_of (set ts i t)))
 pass-read {T} kind_of state_of d ts i t old h is after more =
     pass-more kind_of state_of d ts i t old h is (after ∙ ap (λ (y : T). stepped d (entry (kind_of y) (state_of y))) (sym is)) more

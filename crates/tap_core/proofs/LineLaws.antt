@@ -1,17 +1,17 @@
--- The words of a tap's line, one number more at a time.
+-- The words of a tap's line, one more number at a time.
 use Rattle.std.proofs.Common.{◌≡◌, ℕ, ◌+◌, ◌<◌, List, [], ◌∷◌, ◌++◌, length, map, take, get_or, decimal, refl, ap, sym, ◌∙◌, append_assoc}
 use Rattle.std.proofs.lemmas.List.{map-append, take_more}
 use Rattle.std.specs.List.{join_with_byte}
 use Rattle.tap_core.specs.Lines.{words_of}
 
--- one word more behind others
+-- one more word after others
 join_more : (c : ℕ) (w : List ℕ) (ws : List (List ℕ)) (v : List ℕ) → join_with_byte c (w ∷ (ws ++ v ∷ [])) ≡ join_with_byte c (w ∷ ws) ++ (c ∷ v)
 join_more c w [] v = refl
 join_more c w (x ∷ xs) v =
     ap (λ s. w ++ (c ∷ s)) (join_more c x xs v)
     ∙ sym (append_assoc w (c ∷ join_with_byte c (x ∷ xs)) (c ∷ v))
 
--- a loop over the numbers has come one further
+-- one more pass of a loop over the numbers
 pub words_step : (name ns : List ℕ) (i : ℕ) → i < length ns
     → join_with_byte 32 (words_of name (take (i + 1) ns)) ≡ join_with_byte 32 (words_of name (take i ns)) ++ (32 ∷ decimal (get_or ns i 0))
 words_step name ns i h =

@@ -1,4 +1,4 @@
--- One departure, shown to the taps of all slots in turn.
+-- One event, passed to the taps of all slots in order.
 use Rattle.std.proofs.Common.{◌≡◌, ℕ, zero, suc, true, false, List, [], ◌∷◌, ◌++◌, Option, Some, None, Vec, map, take, drop, remove, refl, ap, sym, ◌∙◌, arith, ◌+◌, ◌<◌, ◌≤◌, length, get_or, set, add-one}
 use Rattle.std.specs.declared.alloc.Global.{Global}
 use Rattle.std.specs.Prelude.{slice_get}
@@ -10,7 +10,7 @@ use Rattle.tap_core.proofs.Entries.{pass-more, pass-done, pass_over}
 use Rattle.tap_core.proofs.SlotLaws.{partly, more_said, more_waiting, more_done, waiting-take_none, waiting-take_said, waiting-take_set, waiting-Tracks, no_tap_missing, Tracks-all, lines-said, lines-waiting, lines-all}
 
 module _ {T : Type 0} (kind_of : T → TapKind) (state_of : T → List ℕ) where
-  -- the first j slots have been passed, and i is the place of the next tap
+  -- the first j slots are done, and i is the index of the next tap
   pub record Pass (d : Shown) (j i : ℕ) (slots0 : List (Option (Vec ℕ Global))) (taps0 : List T) (slots : List (Option (Vec ℕ Global))) (taps : List T) : Type 0 where
     pub place : i ≡ waiting (take j slots)
     pub fewer : length taps ≤ length taps0
@@ -48,7 +48,7 @@ module _ {T : Type 0} (kind_of : T → TapKind) (state_of : T → List ℕ) wher
   length-set_any (x ∷ ts) zero t = refl
   length-set_any (x ∷ ts) (suc i) t = ap suc (length-set_any ts i t)
 
-  -- what was shown to the tap at i, seen in the entries
+  -- the step of the tap at i, as entries
   shown : (d : Shown) (ts : List T) (i : ℕ) (t old : T) → i < length ts → old ≡ get_or ts i old → entry (kind_of t) (state_of t) ≡ stepped d (entry (kind_of old) (state_of old)) → entry (kind_of t) (state_of t) ≡ stepped d (get_or (entries kind_of state_of ts) i (entry (kind_of t) (state_of t)))
   shown d ts i t old h is after =
       after ∙ ap (λ (k : T). stepped d (entry (kind_of k) (state_of k))) is ∙ ap (stepped d) (sym (entries-get_or ts i old (entry (kind_of t) (state_of t)) h))
@@ -82,7 +82,7 @@ module _ {T : Type 0} (kind_of : T → TapKind) (state_of : T → List ℕ) wher
         tracked = λ all start. rw (add-one, entries-remove, entries-set, remove-set, p.place) (more_done d all slots (entries kind_of state_of taps) j (entry (kind_of t) (state_of t)) said at (rw p.place at new) f l (p.tracked all start));
       }
 
-  -- at the end of a pass the taps are those that are left
+  -- after a pass, the taps are those that are left
   pub pass_left : (d : Shown) (j i : ℕ) (slots0 : List Slot) (taps0 : List T) (slots : List Slot) (taps : List T)
       → Pass d j i slots0 taps0 slots taps → length slots ≤ j
       → (all : List Entry) → Tracks all slots0 (entries kind_of state_of taps0)
@@ -107,7 +107,7 @@ module _ {T : Type 0} (kind_of : T → TapKind) (state_of : T → List ℕ) wher
       in no_tap_missing (partly d j all) slots (entries kind_of state_of taps) j at (omega (arith, past, p.place, same))
       (p.tracked all start)
 
-  -- i is the place of the next tap, and the text is the lines of the first j slots
+  -- i is the index of the next tap, and the text is the lines of the first j slots
   pub record LinesUpTo (j i : ℕ) (slots : List (Option (Vec ℕ Global))) (taps : List T) (text : List ℕ) : Type 0 where
     pub place : i ≡ waiting (take j slots)
     pub said : (all : List Entry) → Tracks all slots (entries kind_of state_of taps) → text ≡ lines_of (take j all)

@@ -23,7 +23,7 @@ partly-all d zero (e ∷ all) h = absurd (omega (arith, h))
 partly-all d (suc j) [] h = refl
 partly-all d (suc j) (e ∷ all) h = ap (λ es. stepped d e ∷ es) (partly-all d j all (omega (arith, h)))
 
--- a tap that is full stays as it is
+-- a tap that is full doesn't change
 full_stays : (d : Shown) (e : Entry) → full e ≡ true → stepped d e ≡ e
 full_stays d (Bytes, s) h = cc
 full_stays d (Order, s) h = cc
@@ -43,7 +43,7 @@ more_said d (e ∷ all) (None ∷ slots) [] (suc j) said at h = absurd h
 more_said d (e ∷ all) (None ∷ slots) (t ∷ taps) (suc j) said at h = (h.0, more_said d all slots taps j said at h.1)
 more_said d (e ∷ all) (Some v ∷ slots) taps (suc j) said at h = (h.0, h.1, more_said d all slots taps j said at h.2)
 
--- past a tap that wants more
+-- past a tap that needs more departures
 pub more_waiting : (d : Shown) (all : List Entry) (slots : List Slot) (taps : List Entry) (j : ℕ) (t : Entry) → slice_get slots j ≡ Some None → t ≡ stepped d (get_or taps (waiting (take j slots)) t) → Tracks (partly d j all) slots taps → Tracks (partly d (suc j) all) slots (set taps (waiting (take j slots)) t)
 more_waiting d all [] taps j t at is h = cc
 more_waiting d [] (s ∷ slots) taps zero t at is h = absurd h
@@ -57,7 +57,7 @@ more_waiting d (e ∷ all) (None ∷ slots) (t0 ∷ taps) (suc j) t at is h =
 more_waiting d (e ∷ all) (Some v ∷ slots) taps (suc j) t at is h =
     (h.0, h.1, more_waiting d all slots taps j t at is h.2)
 
--- past a tap that is done, whose line takes its slot
+-- past a tap that is done, whose line is written to its slot
 pub more_done : (d : Shown) (all : List Entry) (slots : List Slot) (taps : List Entry) (j : ℕ) (t : Entry) (said : Vec ℕ Global) → slice_get slots j ≡ Some None → t ≡ stepped d (get_or taps (waiting (take j slots)) t) → full t ≡ true → said.items ≡ line t.0 t.1 → Tracks (partly d j all) slots taps → Tracks (partly d (suc j) all) (set slots j (Some said)) (remove taps (waiting (take j slots)))
 more_done d all [] taps j t said at is f l h = cc
 more_done d [] (s ∷ slots) taps zero t said at is f l h = absurd h
@@ -125,7 +125,7 @@ length-Tracks (e ∷ all) (None ∷ slots) [] h = absurd h
 length-Tracks (e ∷ all) (None ∷ slots) (t ∷ taps) h = let k = length-Tracks all slots taps h.1 in omega (arith, k)
 length-Tracks (e ∷ all) (Some v ∷ slots) taps h = let k = length-Tracks all slots taps h.2 in omega (arith, k)
 
--- as many slots have no line as taps are left
+-- there are as many slots without a line as taps left
 pub waiting-Tracks : (all : List Entry) (slots : List Slot) (taps : List Entry)
     → Tracks all slots taps → waiting slots ≡ length taps
 waiting-Tracks [] [] [] h = refl
@@ -136,18 +136,18 @@ waiting-Tracks (e ∷ all) (None ∷ slots) [] h = absurd h
 waiting-Tracks (e ∷ all) (None ∷ slots) (t ∷ taps) h = let k = waiting-Tracks all slots taps h.1 in omega (arith, k)
 waiting-Tracks (e ∷ all) (Some v ∷ slots) taps h = waiting-Tracks all slots taps h.2
 
--- a slot without a line has its tap
+-- a slot without a line has a tap
 pub no_tap_missing : (all : List Entry) (slots : List Slot) (taps : List Entry) (j : ℕ)
     → slice_get slots j ≡ Some None → length taps ≤ waiting (take j slots) → Tracks all slots taps → ⊥
 no_tap_missing all slots taps j at past h =
     omega (arith, past, waiting-below slots j at, waiting-Tracks all slots taps h)
 
--- at the end of the pass all have stepped
+-- after the pass, all entries are stepped
 pub Tracks-all : (d : Shown) (j : ℕ) (all : List Entry) (before after : List Slot) (was taps : List Entry) → length before ≤ j → Tracks all before was → Tracks (partly d j all) after taps → Tracks (map (stepped d) all) after taps
 Tracks-all d j all before after was taps past start h =
     subst (λ (k : List Entry). Tracks k after taps) (partly-all d j all (omega (arith, length-Tracks all before was start))) h
 
--- a drop leaves the lines of the taps that are done, and those that wait stay
+-- a drop leaves the lines of finished taps unchanged, and no tap finishes
 pub Tracks-dropped : (d : Dropped) (all : List Entry) (slots : List Slot) (taps : List Entry) → Tracks all slots taps → Tracks (map (stepped (dropped d)) all) slots (map (stepped (dropped d)) taps)
 Tracks-dropped d [] [] [] h = h
 Tracks-dropped d [] [] (t ∷ taps) h = absurd h
@@ -158,7 +158,7 @@ Tracks-dropped d (e ∷ all) (None ∷ slots) (t ∷ taps) h = (ap (stepped (dro
 Tracks-dropped d (e ∷ all) (Some v ∷ slots) taps h =
     subst (λ (k : Entry). (full k ≡ true) × (v.items ≡ line k.0 k.1) × Tracks (map (stepped (dropped d)) all) slots (map (stepped (dropped d)) taps)) (sym (full_stays (dropped d) e h.0)) (h.0, h.1, Tracks-dropped d all slots taps h.2)
 
--- the same at the end of a pass over the taps
+-- the same after a pass over the taps
 pub tracked-dropped : {T : Type 0} (kind_of : T → TapKind) (state_of : T → List ℕ) (d : Dropped) (ts ts0 : List T) (i : ℕ) → length ts ≤ i → left_after_one (dropped d) (entries kind_of state_of ts0) ≡ take i (entries kind_of state_of ts) ++ left_after_one (dropped d) (drop i (entries kind_of state_of ts)) → (all : List Entry) (slots : List Slot) → Tracks all slots (entries kind_of state_of ts0) → Tracks (map (stepped (dropped d)) all) slots (entries kind_of state_of ts)
 tracked-dropped kind_of state_of d ts ts0 i past h all slots start =
     let es = entries kind_of state_of ts in
@@ -170,7 +170,7 @@ pub all_waiting : (n : ℕ) → waiting (replicate n None) ≡ n
 all_waiting zero = refl
 all_waiting (suc n) = rw (all_waiting n) (add-one n)
 
--- where no slot has a line, all taps are left
+-- if no slot has a line, all taps are left
 pub all_left : (taps : List Entry) → Tracks taps (replicate (length taps) None) taps
 all_left [] = tt
 all_left (t ∷ taps) = (refl, all_left taps)
@@ -192,7 +192,7 @@ lines-said (e ∷ all) (None ∷ slots) (t ∷ taps) (suc j) said at h =
 lines-said (e ∷ all) (Some v ∷ slots) taps (suc j) said at h =
     ap (λ s. line e.0 e.1 ++ s) (lines-said all slots taps j said at h.2) ∙ sym (append_assoc (line e.0 e.1) (lines_of (take j all)) said.items)
 
--- the lines up to a slot without one, and that of the tap that is left
+-- the lines up to a slot without a line, and the line of the tap that is left
 pub lines-waiting : (all : List Entry) (slots : List Slot) (taps : List Entry) (j : ℕ) (t : Entry) → slice_get slots j ≡ Some None → t ≡ get_or taps (waiting (take j slots)) t → Tracks all slots taps → lines_of (take (suc j) all) ≡ lines_of (take j all) ++ line t.0 t.1
 lines-waiting all [] taps j t at is h = cc
 lines-waiting [] (s ∷ slots) taps j t at is h = absurd h

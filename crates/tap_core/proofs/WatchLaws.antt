@@ -1,4 +1,4 @@
--- Taps that are shown one thing after another.
+-- Taps that observe several events in sequence.
 use Rattle.std.proofs.Common.{◌≡◌, ℕ, List, [], ◌∷◌, ◌++◌, map, refl, ap, subst, sym, ◌∙◌, Result, Ok, Err}
 use Rattle.std.specs.Prelude.{OnOk}
 use Rattle.tap_core.specs.declared.kinds.TapKind.{TapKind}
@@ -30,7 +30,7 @@ left_after-both (x ∷ xs) ys es =
     ∙ left_after-both xs ys (left_after_one x es)
     ∙ sym (left_after-cons x (xs ++ ys) es)
 
--- nothing shown changes nothing
+-- an empty list of events changes nothing
 pub shows_none : (a : Sight) → Shows [] a a
 shows_none a = record {
   named = refl;
@@ -38,7 +38,7 @@ shows_none a = record {
   tracked = λ all start. subst (λ (k : List Entry). Tracks k a.slots a.taps) (sym (entries_after-none all)) start;
 }
 
--- what was shown first, and what was shown behind it
+-- some events, and then others
 pub shows_both : (xs ys : List Shown) (a b c : Sight) → Shows xs a b → Shows ys b c → Shows (xs ++ ys) a c
 shows_both xs ys a b c first next = record {
   named = next.named ∙ first.named;
@@ -51,7 +51,7 @@ shows_both xs ys a b c first next = record {
       (next.tracked (map (entry_after xs) all) (first.tracked all start));
 }
 
--- what is shown from the beginning on
+-- events from the beginning of the run
 pub begins_shows : (xs : List Shown) (a b c : Sight) → Begins a b → Shows xs b c → Watches xs a c
 begins_shows xs a b c begun shown = record {
   named = shown.named ∙ begun.named;
@@ -62,7 +62,7 @@ begins_shows xs a b c begun shown = record {
 }
 
 module _ {T : Type 0} (kind_of : T → TapKind) (state_of : T → List ℕ) where
-  -- one thing shown: s and t are the slots and the taps that a call was given, and s' and t' those that it left
+  -- one event: s and t are the slots and taps before the call, s' and t' those after it
   pub shows_one : (d : Shown) (n : Named) (s s' ss ss' : List Slot) (t t' ts ts' : List T)
       → ss ≡ s → ss' ≡ s' → ts ≡ t → ts' ≡ t'
       → ((all : List Entry) → Tracks all s (entries kind_of state_of t)
@@ -82,7 +82,7 @@ module _ {T : Type 0} (kind_of : T → TapKind) (state_of : T → List ℕ) wher
         tracked = tracked;
       }
 
-  -- the same of a call that may fail
+  -- the same for a call that may fail
   pub shows_one_on_ok : {E : Type 0} (r : Result (Unit {0}) E) (d : Shown) (n : Named)
       (s s' ss ss' : List Slot) (t t' ts ts' : List T)
       → ss ≡ s → ss' ≡ s' → ts ≡ t → ts' ≡ t'

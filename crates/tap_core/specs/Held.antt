@@ -1,4 +1,4 @@
--- What the taps of this crate hold, as a kind and a state.
+-- The taps of this crate as a kind and a state.
 use Rattle.std.specs.Prelude.{ℕ, List, [], ◌∷◌}
 use Rattle.tap_core.specs.declared.kinds.TapKind.{TapKind}
 use Rattle.tap_core.specs.declared.kinds.TapKind.TheVariants.{First}

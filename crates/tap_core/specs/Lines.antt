@@ -1,10 +1,10 @@
--- The line that a tap says.
+-- The line that a tap prints.
 use Rattle.std.specs.Prelude.{ℕ, List, [], ◌∷◌, map, decimal, codes}
 use Rattle.report_defs.specs.Report.{line_of}
 use Rattle.tap_core.specs.declared.kinds.TapKind.{TapKind}
 use Rattle.tap_core.specs.declared.kinds.TapKind.TheVariants.{Bytes, Order, First, Drops}
 
--- the word by which a command names taps of this kind
+-- the word that names taps of this kind on the command line
 abbrev pub name_of : TapKind → List ℕ
 name_of Bytes = codes "bytes"
 name_of Order = codes "order"
@@ -15,7 +15,8 @@ name_of Drops = codes "drops"
 abbrev pub words_of : List ℕ → List ℕ → List (List ℕ)
 words_of name numbers = codes "tap" ∷ name ∷ map decimal numbers
 
--- the line of a tap in this state: its numbers, of Order how many left late before the greatest number
+-- the line of a tap in this state: its numbers; for `Order`, the count of late packets precedes the
+-- greatest packet number
 abbrev pub line : TapKind → List ℕ → List ℕ
 line Order (greatest ∷ late ∷ []) = line_of (words_of (name_of Order) (late ∷ greatest ∷ []))
 line kind state = line_of (words_of (name_of kind) state)

@@ -1,4 +1,4 @@
--- The kinds of taps that words name.
+-- The kinds of taps that the command line names.
 use Rattle.std.specs.Prelude.{◌≡◌, refl, ℕ, Bool, true, false, if◌then◌else◌, Option, None, Some, List, [], codes}
 use Rattle.std.specs.Str.{bytes_eq}
 use Rattle.tap_core.specs.declared.watch.Named.{Named}
@@ -8,12 +8,12 @@ use Rattle.tap_core.specs.declared.kinds.TapKind.TheVariants.{Bytes, Order, Drop
 abbrev pub none_named : Named
 none_named = record { bytes = false; order = false; first = false; drops = false }
 
--- some kinds and one more, unless it is named already
+-- some kinds and one more, unless that is named already
 abbrev pub named_once : Bool → Named → Option Named
 named_once true more = None
 named_once false more = Some more
 
--- these kinds and that of this name, where a kind has it and isn't named already
+-- these kinds and the kind with this name, if there is one and it isn't named already
 abbrev pub named_with : Named → List ℕ → Option Named
 named_with n name =
     if bytes_eq name (name_of Bytes) then named_once n.bytes (record { bytes = true; order = n.order; first = n.first; drops = n.drops })
@@ -33,7 +33,7 @@ named_with-unknown = refl
 named_with-drops : named_with none_named (codes "drops") ≡ Some (record { bytes = false; order = false; first = false; drops = true })
 named_with-drops = refl
 
--- in any order, and the others stay
+-- in any order, and the other kinds stay
 named_with-more : named_with (record { bytes = false; order = true; first = false; drops = true }) (codes "bytes") ≡ Some (record { bytes = true; order = true; first = false; drops = true })
 named_with-more = refl
 

@@ -1,4 +1,4 @@
--- Worked rows of taps.
+-- Examples of taps.
 use Rattle.std.specs.Prelude.{◌≡◌, refl, ℕ, true, false, List, [], ◌∷◌, map, codes}
 use Rattle.std.specs.Fmt.{digits}
 use Rattle.rank_defs.specs.Programs.{max_rank}
@@ -9,7 +9,7 @@ use Rattle.tap_core.specs.declared.kinds.Dropped.{Dropped}
 use Rattle.tap_core.specs.Steps.{first_state, departure_step, drop_step, is_full}
 use Rattle.tap_core.specs.Lines.{line}
 
--- a packet of this number and length that left, and one that was dropped
+-- a departed packet and a dropped packet, with this number and length
 abbrev gone : ℕ → ℕ → Departed
 gone packet len = record { packet = packet; class = 0; leaf = 0; len = len }
 

@@ -1,4 +1,4 @@
--- What a tap of each kind holds, and how a departure and a drop change it.
+-- The state of a tap of each kind, and how a departure and a drop change it.
 use Rattle.std.specs.Prelude.{ℕ, ◌+◌, min, Bool, false, nat_lt, nat_le, if◌then◌else◌, List, [], ◌∷◌, ◌++◌, length}
 use Rattle.rank_defs.specs.Programs.{max_rank}
 use Rattle.packet_defs.specs.declared.packet.Departed.{Departed}
@@ -6,37 +6,38 @@ use Rattle.tap_core.specs.declared.kinds.TapKind.{TapKind}
 use Rattle.tap_core.specs.declared.kinds.TapKind.TheVariants.{Bytes, Order, First, Drops}
 use Rattle.tap_core.specs.declared.kinds.Dropped.{Dropped}
 
--- how many numbers a tap of the kind First keeps at most
+-- the greatest number of packet numbers that a tap of the kind `First` stores
 abbrev pub max_limit : ℕ
 max_limit = 64
 
--- a sum, and the greatest rank where it is above that
+-- a sum, or the greatest rank if the sum is greater
 abbrev pub sum_up_to_max : ℕ → ℕ → ℕ
 sum_up_to_max a b = min (a + b) max_rank
 
--- a count of packets and of their bytes, with one packet more of this length
+-- a count of packets and of their bytes, with one more packet of this length
 abbrev pub counted : ℕ → List ℕ → List ℕ
 counted len (packets ∷ bytes ∷ []) = sum_up_to_max packets 1 ∷ sum_up_to_max bytes len ∷ []
 counted len state = state
 
--- the greatest packet number that left, and how many left behind one that isn't less, with one packet more
+-- the greatest packet number that departed, and how many packets departed after one with the same
+-- or a greater number, with one more packet
 abbrev pub put_in_order : ℕ → List ℕ → List ℕ
 put_in_order packet (greatest ∷ late ∷ []) =
     if nat_lt greatest packet then packet ∷ late ∷ [] else greatest ∷ sum_up_to_max late 1 ∷ []
 put_in_order packet state = state
 
--- the numbers of the packets that left first, with one more where there are fewer than the limit
+-- the numbers of the first packets to depart, with one more if there are fewer than the limit
 abbrev pub kept_first : ℕ → ℕ → List ℕ → List ℕ
 kept_first limit packet state = if nat_lt (length state) limit then state ++ packet ∷ [] else state
 
--- the state of a tap that was shown nothing
+-- the state of a tap that observed no event
 abbrev pub first_state : TapKind → List ℕ
 first_state Bytes = 0 ∷ 0 ∷ []
 first_state Order = 0 ∷ 0 ∷ []
 first_state (First limit) = []
 first_state Drops = 0 ∷ 0 ∷ []
 
--- the state after a packet left
+-- the state after a packet departed
 abbrev pub departure_step : TapKind → Departed → List ℕ → List ℕ
 departure_step Bytes d state = counted d.len state
 departure_step Order d state = put_in_order d.packet state
@@ -50,7 +51,8 @@ drop_step Order d state = state
 drop_step (First limit) d state = state
 drop_step Drops d state = counted d.len state
 
--- whether a tap in this state wants to see no more departures: it keeps first numbers, as many as its limit
+-- whether a tap in this state needs no more departures: only a tap of the kind `First`, once it has
+-- as many numbers as its limit
 abbrev pub is_full : TapKind → List ℕ → Bool
 is_full Bytes state = false
 is_full Order state = false

@@ -1,11 +1,11 @@
--- Taps that watch a run, and what they are shown.
+-- Taps that observe a run, and the events that they observe.
 use Rattle.std.specs.Prelude.{◌≡◌, ◌≤◌, ℕ, List, length, map}
 use Rattle.tap_core.specs.declared.kinds.TapKind.{TapKind}
 use Rattle.tap_core.specs.declared.watch.Named.{Named}
 use Rattle.tap_core.specs.declared.watching.Watching.{Watching}
 use Rattle.tap_core.specs.Lists.{Shown, Entry, Slot, entries, Tracks, named_entries, entry_after, left_after}
 
--- the kinds that are named, and the taps that are left, with a slot for each that watched
+-- the named kinds, and the taps that are left, with a slot for each tap that observed the run
 pub record Sight : Type 0 where
   pub named : Named
   pub slots : List Slot
@@ -21,18 +21,18 @@ pub record Begins (a b : Sight) : Type 0 where
   pub taps : b.taps ≡ named_entries a.named a.taps
   pub tracked : Tracks b.taps b.slots b.taps
 
--- the taps were shown this, and those that are done went, each with its line kept
+-- the taps observed these events; taps that are done were removed, and their lines stored
 pub record Shows (shown : List Shown) (a b : Sight) : Type 0 where
   pub named : b.named ≡ a.named
   pub left : (all : List Entry) → Tracks all a.slots a.taps → b.taps ≡ left_after shown a.taps
   pub tracked : (all : List Entry) → Tracks all a.slots a.taps → Tracks (map (entry_after shown) all) b.slots b.taps
 
--- taps of the named kinds watched from the beginning on, and were shown this
+-- taps of the named kinds observed these events from the beginning of the run
 pub record Watches (shown : List Shown) (a b : Sight) : Type 0 where
   pub named : b.named ≡ a.named
   pub left : b.taps ≡ left_after shown (named_entries a.named a.taps)
   pub tracked : Tracks (map (entry_after shown) (named_entries a.named a.taps)) b.slots b.taps
 
--- there are no more taps than before
+-- there are at most as many taps as before
 abbrev pub AreNoMore : Sight → Sight → Type 0
 AreNoMore a b = length b.taps ≤ length a.taps

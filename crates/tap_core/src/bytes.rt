@@ -1,4 +1,4 @@
-//! The tap that counts the packets that leave, and their bytes.
+//! The tap that counts departed packets and their bytes.
 ghost use Rattle.std.specs.Prelude.{◌≡◌};
 ghost use Rattle.tap_core.specs.Steps.{first_state};
 
@@ -9,7 +9,7 @@ use crate::tap::Tap;
 use packet_defs::Departed;
 use std::alloc::AllocError;
 
-/// Counts the packets that leave, and their bytes.
+/// Counts departed packets and their bytes.
 #[derive(Drop)]
 pub struct BytesTap {
     tally: Tally,
@@ -19,7 +19,7 @@ impl BytesTap {
     ghost use Rattle.tap_core.specs.declared.kinds.TapKind.TheVariants.{Bytes};
     ghost use Rattle.tap_core.specs.Held.{bytes_state};
 
-    /// A tap that has counted nothing.
+    /// Returns a tap that has counted nothing.
     pub fn new() -> BytesTap
         ensures { bytes_state result ≡ first_state Bytes }
     {

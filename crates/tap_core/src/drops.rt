@@ -1,4 +1,4 @@
-//! The tap that counts the packets that are dropped, and their bytes.
+//! The tap that counts dropped packets and their bytes.
 ghost use Rattle.std.specs.Prelude.{◌≡◌};
 ghost use Rattle.tap_core.specs.Steps.{first_state};
 
@@ -9,7 +9,7 @@ use crate::tap::Tap;
 use packet_defs::Departed;
 use std::alloc::AllocError;
 
-/// Counts the packets that are dropped, and their bytes.
+/// Counts dropped packets and their bytes.
 #[derive(Drop)]
 pub struct DropsTap {
     tally: Tally,
@@ -19,7 +19,7 @@ impl DropsTap {
     ghost use Rattle.tap_core.specs.declared.kinds.TapKind.TheVariants.{Drops};
     ghost use Rattle.tap_core.specs.Held.{drops_state};
 
-    /// A tap that has counted nothing.
+    /// Returns a tap that has counted nothing.
     pub fn new() -> DropsTap
         ensures { drops_state result ≡ first_state Drops }
     {

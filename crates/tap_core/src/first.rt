@@ -1,4 +1,4 @@
-//! The tap that keeps the numbers of the packets that leave first.
+//! The tap that stores the numbers of the first packets to depart.
 ghost use Rattle.std.specs.Prelude.{◌≡◌, ◌≤◌, vec_capacity, IfOk};
 ghost use Rattle.tap_core.specs.declared.kinds.TapKind.TheVariants.{First};
 ghost use Rattle.tap_core.specs.Steps.{first_state, max_limit};
@@ -9,10 +9,10 @@ use crate::tap::Tap;
 use packet_defs::Departed;
 use std::alloc::{AllocError, Global};
 
-/// How many numbers a tap keeps at most.
+/// The greatest number of packet numbers that a tap stores.
 pub const MAX_LIMIT: u32 = 64;
 
-/// Keeps the numbers of the packets that leave first, up to a limit.
+/// Stores the numbers of the first packets to depart, up to a limit.
 #[derive(Drop)]
 pub struct FirstTap {
     limit: u32,
@@ -23,7 +23,8 @@ pub struct FirstTap {
 impl FirstTap {
     ghost use Rattle.tap_core.specs.Held.{first_kind, numbers_seen};
 
-    /// A tap that has seen nothing. It takes all its memory now; the error is want of it.
+    /// Returns a tap that has seen nothing. All its memory is allocated here; the error is out of
+    /// memory.
     pub fn new(alloc: Global, limit: u32) -> Result<FirstTap, AllocError>
         requires { limit ≤ max_limit }
         ensures kind { IfOk result (λ tap. first_kind tap ≡ First limit) }

@@ -1,15 +1,15 @@
-//! The kinds of taps, and a packet that was dropped.
+//! The kinds of taps, and a dropped packet.
 
-/// What a tap counts.
+/// The kind of a tap, by what it counts.
 #[derive(Clone, Copy, PartialEq, Eq, Debug)]
 pub enum TapKind {
-    /// The packets that left, and their bytes.
+    /// Departed packets, and their bytes.
     Bytes,
-    /// The packets that left behind one whose number isn't less.
+    /// Packets that departed after a packet with the same or a greater number.
     Order,
-    /// The numbers of the packets that left first, up to so many.
+    /// The numbers of the first packets to depart, up to this limit.
     First(u32),
-    /// The packets that were dropped, and their bytes.
+    /// Dropped packets, and their bytes.
     Drops,
 }
 
@@ -17,7 +17,7 @@ impl TapKind {
     ghost use Rattle.std.specs.Prelude.{◌≡◌};
     ghost use Rattle.tap_core.specs.Lines.{name_of};
 
-    /// The word by which a command names taps of this kind, and their lines too.
+    /// Returns the word for taps of this kind, on the command line and in their lines.
     pub fn name(self) -> &'static str
         ensures { result.now ≡ name_of self }
     {
@@ -30,17 +30,17 @@ impl TapKind {
     }
 }
 
-/// Whether a tap wants to see more departures.
+/// Whether a tap needs more departures.
 #[derive(Clone, Copy, PartialEq, Eq, Debug)]
 pub enum Seen {
     More,
     Done,
 }
 
-/// A packet that was dropped, since its leaf was full.
+/// A packet that was dropped because its leaf was full.
 #[derive(Clone, Copy, PartialEq, Eq, Debug)]
 pub struct Dropped {
-    /// Its place in the capture, from 1.
+    /// Its index in the capture, counted from 1.
     pub packet: u64,
     pub class: u32,
     /// The number of the leaf, in preorder from the root.

@@ -1,4 +1,4 @@
-//! Taps, which watch the departures and drops of a run. Begin with specs/Steps.antt.
+//! Taps, which observe the departures and drops of a run. Begin with specs/Steps.antt.
 #![tactic(auto)]
 
 mod bytes;

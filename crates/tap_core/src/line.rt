@@ -1,4 +1,4 @@
-//! The line that a tap says.
+//! The line that a tap prints.
 ghost use Rattle.std.specs.Prelude.{◌≡◌, ◌++◌, OnOk, OnErr};
 ghost use Rattle.report_defs.specs.Report.{line_of};
 ghost use Rattle.tap_core.specs.Lines.{words_of};
@@ -6,7 +6,7 @@ ghost use Rattle.tap_core.specs.Lines.{words_of};
 use std::alloc::AllocError;
 use text_core::put_decimal;
 
-/// Appends the line of a tap: the name of its kind, and its numbers. The error is want of memory.
+/// Appends the line of a tap: the name of its kind, and its numbers. The error is out of memory.
 pub fn put_line(into: &mut Vec<u8>, name: &str, numbers: &[u64]) -> Result<(), AllocError>
     ensures ok { OnOk result (into.new.items ≡ into.old.items ++ line_of
         (words_of name.now numbers.now)) }

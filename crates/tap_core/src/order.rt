@@ -1,4 +1,4 @@
-//! The tap that counts the packets that leave out of order.
+//! The tap that counts packets that depart out of order.
 ghost use Rattle.std.specs.Prelude.{◌≡◌};
 ghost use Rattle.tap_core.specs.Steps.{first_state};
 
@@ -9,7 +9,7 @@ use crate::tap::Tap;
 use packet_defs::Departed;
 use std::alloc::AllocError;
 
-/// Counts the packets that leave behind one whose number isn't less.
+/// Counts packets that depart after a packet with the same or a greater number.
 #[derive(Drop)]
 pub struct OrderTap {
     greatest: u64,
@@ -20,7 +20,7 @@ impl OrderTap {
     ghost use Rattle.tap_core.specs.declared.kinds.TapKind.TheVariants.{Order};
     ghost use Rattle.tap_core.specs.Held.{order_state};
 
-    /// A tap that has counted nothing.
+    /// Returns a tap that has counted nothing.
     pub fn new() -> OrderTap
         ensures { order_state result ≡ first_state Order }
     {

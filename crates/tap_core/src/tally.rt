@@ -5,14 +5,14 @@ ghost use Rattle.tap_core.specs.Held.{numbers_of};
 
 use rank_defs::MAX_RANK;
 
-/// A sum, and `MAX_RANK` where it is above that.
+/// Returns the sum of two counts, or `MAX_RANK` if the sum is greater.
 pub fn sum_up_to_max(a: u64, b: u64) -> u64
     ensures { result ≡ sum_up_to_max a b }
 {
     a.saturating_add(b).min(MAX_RANK)
 }
 
-/// How many packets, and how many bytes they have together.
+/// The number of packets, and the sum of their lengths in bytes.
 #[derive(Clone, Copy, PartialEq, Eq, Debug)]
 pub struct Tally {
     packets: u64,

@@ -8,19 +8,19 @@ use crate::kinds::{Dropped, Seen, TapKind};
 use packet_defs::Departed;
 use std::alloc::AllocError;
 
-/// Watches the packets that leave and those that are dropped.
+/// Observes the packets that depart and the packets that are dropped.
 pub trait Tap: Drop {
-    /// What it counts.
+    /// The kind of the tap.
     ghost kind_of: { Self → TapKind };
 
-    /// What it has counted so far.
+    /// The state of the tap: its counts so far.
     ghost state_of: { Self → List ℕ };
 
-    /// What it counts.
+    /// Returns the kind of the tap.
     fn kind(&self) -> TapKind
         ensures { result ≡ kind_of self.now };
 
-    /// Takes notice of a packet that left. Takes no memory.
+    /// Observes a packet that departed. Allocates no memory.
     fn see(&mut self, departed: &Departed) -> Seen
         ensures kind { kind_of self.new ≡ kind_of self.old }
         ensures state { state_of self.new ≡ departure_step (kind_of self.old) departed.now
@@ -28,13 +28,13 @@ pub trait Tap: Drop {
         ensures done { (result ≡ Seen.Done) ↔ IsTrue (is_full (kind_of self.new)
             (state_of self.new)) };
 
-    /// Takes notice of a packet that was dropped. Takes no memory.
+    /// Observes a packet that was dropped. Allocates no memory.
     fn lose(&mut self, dropped: &Dropped)
         ensures kind { kind_of self.new ≡ kind_of self.old }
         ensures state { state_of self.new ≡ drop_step (kind_of self.old) dropped.now
             (state_of self.old) };
 
-    /// Appends its line. The error is want of memory.
+    /// Appends its line. The error is out of memory.
     fn say(&self, into: &mut Vec<u8>) -> Result<(), AllocError>
         ensures ok { OnOk result (into.new.items ≡ into.old.items ++ line (kind_of self.now)
             (state_of self.now)) }

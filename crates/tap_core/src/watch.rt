@@ -1,4 +1,4 @@
-//! A list of taps during a run, and the lines of those that are done.
+//! A list of taps during a run, and the lines of the taps that are done.
 ghost use Rattle.std.specs.Prelude.{◌≡◌, ◌≤◌, ◌↔◌, ◌++◌, None, List, map, replicate, vec_len, length, OnOk, IfOk, IsTrue};
 ghost use Rattle.tap_core.specs.Lines.{line};
 ghost use Rattle.tap_core.specs.Lists.{Entry, entry, entries, is_named, named_entries, departed, dropped, stepped, full, left_after_one, lines_of, Slot, Tracks, waiting};
@@ -8,7 +8,7 @@ use crate::tap::Tap;
 use packet_defs::Departed;
 use std::alloc::{AllocError, Global};
 
-/// The kinds that are named, whatever their limits.
+/// The kinds of taps that are named, with any limit.
 #[derive(Clone, Copy, PartialEq, Eq, Debug)]
 pub struct Named {
     pub bytes: bool,
@@ -21,7 +21,7 @@ impl Named {
     ghost use Rattle.tap_core.specs.Lists.{is_named};
     ghost use Rattle.tap_core.specs.Names.{none_named, named_with};
 
-    /// No kind.
+    /// Returns the set without any kind.
     pub fn none() -> Named
         ensures { result ≡ none_named }
     {
@@ -33,7 +33,8 @@ impl Named {
         }
     }
 
-    /// These kinds and that of this name. `None` where no kind has the name, and where it is named already.
+    /// Returns these kinds and the kind with this name, or `None` if no kind has the name or it is
+    /// named already.
     pub fn with(self, name: &str) -> Option<Named>
         ensures { result ≡ named_with self name.now }
     {
@@ -58,7 +59,7 @@ impl Named {
         }
     }
 
-    /// Whether taps of this kind are named.
+    /// Returns whether taps of this kind are named.
     pub fn has(self, kind: TapKind) -> bool
         ensures { result ≡ is_named self kind }
     {
@@ -71,7 +72,7 @@ impl Named {
     }
 }
 
-/// Drops the taps whose kind isn't named. Takes no memory.
+/// Drops the taps whose kind isn't named. Allocates no memory.
 pub fn keep_named<T: Tap>(taps: &mut Vec<T>, named: Named)
     ensures kept { entries T.kind_of T.state_of taps.new.items
         ≡ named_entries named (entries T.kind_of T.state_of taps.old.items) }
@@ -84,7 +85,7 @@ pub fn keep_named<T: Tap>(taps: &mut Vec<T>, named: Named)
     );
 }
 
-/// Shows a departure to one tap.
+/// Passes a departure to one tap.
 fn show_departure_to<T: Tap>(tap: &mut T, packet: &Departed) -> Seen
     ensures after { entry (T.kind_of tap.new) (T.state_of tap.new)
         ≡ stepped (departed packet.now) (entry (T.kind_of tap.old) (T.state_of tap.old)) }
@@ -94,7 +95,7 @@ fn show_departure_to<T: Tap>(tap: &mut T, packet: &Departed) -> Seen
     tap.see(packet)
 }
 
-/// Shows a drop to one tap.
+/// Passes a drop to one tap.
 fn show_drop_to<T: Tap>(tap: &mut T, packet: &Dropped)
     ensures after { entry (T.kind_of tap.new) (T.state_of tap.new)
         ≡ stepped (dropped packet.now) (entry (T.kind_of tap.old) (T.state_of tap.old)) }
@@ -110,7 +111,7 @@ fn append_line_of<T: Tap>(tap: &T, into: &mut Vec<u8>) -> Result<(), AllocError>
     tap.say(into)
 }
 
-/// The line of a tap.
+/// Returns the line of a tap.
 fn line_of<T: Tap>(alloc: Global, tap: &T) -> Result<Vec<u8>, AllocError>
     ensures { IfOk result (λ said. said.items ≡ line (T.kind_of tap.now) (T.state_of tap.now)) }
 {
@@ -129,7 +130,7 @@ fn empty_slots(alloc: Global, count: usize) -> Result<Vec<Option<Vec<u8>>>, Allo
     Ok(slots)
 }
 
-/// A slot without a line for each tap. The error is want of memory.
+/// Returns one slot for each tap, each without a line. The error is out of memory.
 #[tactic(auto, using(crate::proofs::SlotLaws::slots_at_first, crate::proofs::SlotLaws::all_waiting))]
 pub fn slots<T: Tap>(alloc: Global, taps: &[T]) -> Result<Vec<Option<Vec<u8>>>, AllocError>
     ensures counted { IfOk result (λ slots. waiting slots.items ≡ length taps.now) }
@@ -140,7 +141,7 @@ pub fn slots<T: Tap>(alloc: Global, taps: &[T]) -> Result<Vec<Option<Vec<u8>>>, 
     empty_slots(alloc, taps.len())
 }
 
-/// Shows a drop to each tap. None is done by it. Takes no memory.
+/// Passes a drop to each tap. No tap is done after a drop. Allocates no memory.
 pub fn show_dropped<T: Tap>(taps: &mut [T], packet: &Dropped)
     ensures left { entries T.kind_of T.state_of taps.new
         ≡ left_after_one (dropped packet.now) (entries T.kind_of T.state_of taps.old) }
@@ -153,8 +154,9 @@ pub fn show_dropped<T: Tap>(taps: &mut [T], packet: &Dropped)
     }
 }
 
-/// Shows a departure to each tap in turn. A tap that is done is dropped after its line was put into its slot: there is a
-/// slot for each tap that was there at first, in order. The error is want of memory for a line, and the tap stays then.
+/// Passes a departure to each tap in order. When a tap is done, its line is written to its slot and
+/// the tap is dropped. `slots` has one slot for each tap of the initial list, in order. The error
+/// is out of memory for a line; that tap then stays in the list.
 pub fn show_departed<T: Tap>(
     alloc: Global,
     slots: &mut [Option<Vec<u8>>],
@@ -189,8 +191,8 @@ pub fn show_departed<T: Tap>(
     Ok(())
 }
 
-/// The lines of all taps, in order: those in the slots, and in place of an empty slot that of the tap that is left. The
-/// error is want of memory.
+/// Returns the lines of all taps, in order: the lines in the slots, and for each empty slot the
+/// line of the remaining tap. The error is out of memory.
 pub fn lines<T: Tap>(
     alloc: Global,
     slots: &[Option<Vec<u8>>],

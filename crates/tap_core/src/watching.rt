@@ -1,4 +1,4 @@
-//! Taps that watch a run.
+//! Taps that observe a run.
 ghost use Rattle.std.specs.Prelude.{◌≡◌, [], ◌∷◌, List, OnOk, IfOk};
 ghost use Rattle.tap_core.specs.Lists.{Entry, Tracks, departed, dropped, lines_of};
 ghost use Rattle.tap_core.specs.Watching.{sight_of, Begins, Shows, AreNoMore};
@@ -9,7 +9,7 @@ use crate::watch::{Named, keep_named, lines, show_departed, show_dropped, slots}
 use packet_defs::Departed;
 use std::alloc::{AllocError, Global};
 
-/// Taps that watch a run, those of the named kinds, each until it is done.
+/// Taps of the named kinds that observe a run, each until it is done.
 #[derive(Drop)]
 pub struct Watching<T: Drop> {
     alloc: Global,
@@ -19,7 +19,7 @@ pub struct Watching<T: Drop> {
 }
 
 impl<T: Tap> Watching<T> {
-    /// These taps are to watch, where their kind is named.
+    /// Takes the taps that are to observe a run if their kind is named.
     pub fn new(alloc: Global, named: Named, taps: Vec<T>) -> Watching<T>
         ensures named { result.named ≡ named }
         ensures slots { result.slots.items ≡ [] }
@@ -33,14 +33,14 @@ impl<T: Tap> Watching<T> {
         }
     }
 
-    /// The taps that are left.
+    /// Returns the taps that are left.
     pub fn into_taps(self) -> Vec<T>
         ensures { result ≡ self.taps }
     {
         self.taps
     }
 
-    /// Begins to watch. Taps whose kind isn't named are dropped. The error is want of memory.
+    /// Begins to observe. Taps whose kind isn't named are dropped. The error is out of memory.
     pub fn begin(&mut self) -> Result<(), AllocError>
         ensures begun { OnOk result (Begins (sight_of T.kind_of T.state_of self.old)
             (sight_of T.kind_of T.state_of self.new)) }
@@ -52,7 +52,8 @@ impl<T: Tap> Watching<T> {
         Ok(())
     }
 
-    /// Shows a departure to each tap. The error is want of memory for the line of a tap that is done.
+    /// Passes a departure to each tap. The error is out of memory for the line of a tap that is
+    /// done.
     #[inline(always)]
     pub fn departed(&mut self, packet: &Departed) -> Result<(), AllocError>
         ensures shown { OnOk result (Shows (departed packet.now ∷ [])
@@ -63,7 +64,7 @@ impl<T: Tap> Watching<T> {
         show_departed(self.alloc, &mut self.slots, &mut self.taps, packet)
     }
 
-    /// Shows a drop to each tap. Takes no memory.
+    /// Passes a drop to each tap. Allocates no memory.
     pub fn dropped(&mut self, packet: &Dropped)
         ensures shown { Shows (dropped packet.now ∷ [])
             (sight_of T.kind_of T.state_of self.old) (sight_of T.kind_of T.state_of self.new) }
@@ -73,7 +74,7 @@ impl<T: Tap> Watching<T> {
         show_dropped(&mut self.taps, packet);
     }
 
-    /// The lines of all taps that watched, in order. The error is want of memory.
+    /// Returns the lines of all taps that observed the run, in order. The error is out of memory.
     pub fn lines(&self) -> Result<Vec<u8>, AllocError>
         ensures text { IfOk result (λ text. (all : List Entry)
             → Tracks all (sight_of T.kind_of T.state_of self.now).slots (sight_of T.kind_of T.state_of self.now).taps

@@ -1,4 +1,4 @@
--- The number that digits write when they follow those of another.
+-- The number that digits represent when they follow the digits of another.
 use Rattle.std.proofs.Common.{length, ◌≡◌, ℕ, ◌+◌, ◌-◌, ◌*◌, ◌/◌, ◌<◌, ◌≤◌, ◌&&◌, true, List, [], ◌∷◌, Option, Some, None, refl, arith}
 use Rattle.std.specs.Prelude.{nat_le, if◌then◌else◌}
 use Rattle.std.specs.Char.{digit_value, is_ascii_digit}
@@ -14,18 +14,18 @@ use Rattle.std.proofs.lemmas.Str.{digit_value_digit}
 use Rattle.std.proofs.Math.Bool.{and-false}
 use Rattle.text_core.specs.Decimals.{max, is_numeral, number_of}
 
--- the number that the bytes write behind the digits of n
+-- the number that the digits of n followed by these bytes represent
 abbrev pub number_after : ℕ → List ℕ → Option ℕ
 number_after n bs = if all_ascii_digits bs && nat_le (digits_value_after 10 n bs) max then Some (digits_value_after 10 n bs) else None
 
--- digits behind a number make it no less
+-- more digits never make a number smaller
 pub digits_value_after-least : (n : ℕ) (bs : List ℕ) → n ≤ digits_value_after 10 n bs
 digits_value_after-least n [] = omega arith
 digits_value_after-least n (b ∷ bs) =
     let more = digits_value_after-least (n * 10 + digit_value b) bs in
     omega arith
 
--- a number that is too large stays so
+-- a number that is too large stays too large
 pub number_after-large : (n : ℕ) (bs : List ℕ) → max < n → number_after n bs ≡ None
 number_after-large n bs large =
     let least = digits_value_after-least n bs in
@@ -35,7 +35,7 @@ number_after-large n bs large =
 pub digit_range : (b : ℕ) → is_ascii_digit b ≡ true → IsInRange 48 57 b
 digit_range b digit = grind (arith, nat_tests)
 
--- and so does a digit more make it
+-- one more digit makes it too large
 pub number_after-stop : (n b : ℕ) (bs : List ℕ) → is_ascii_digit b ≡ true → (max - (b - 48)) / 10 < n → number_after n (b ∷ bs) ≡ None
 number_after-stop n b bs digit large =
     let value = digit_value_digit b (digit_range b digit) in
@@ -52,14 +52,14 @@ numeral_test : (ds : List ℕ) → 0 < length ds → all_ascii_digits ds ≡ tru
 numeral_test [] some all = absurd (omega arith)
 numeral_test (d ∷ ds) some all = all
 
--- what is written of a number is digits
+-- a number prints as digits only
 pub decimal-digits : (n : ℕ) → n ≤ max → all_ascii_digits (decimal n) ≡ true
 decimal-digits n low = digits_test (decimal n) (decimal_is_IsNumeral n (omega arith)).0.1
 
 pub decimal-numeral : (n : ℕ) → n ≤ max → is_numeral (decimal n) ≡ true
 decimal-numeral n low = numeral_test (decimal n) (decimal_is_IsNumeral n (omega arith)).0.0 (decimal-digits n low)
 
--- and reads back as that number
+-- and reads back as the same number
 pub number_of-decimal : (n : ℕ) → n ≤ max → number_of (decimal n) ≡ Some n
 number_of-decimal n low =
     let written = decimal_is_IsNumeral n (omega arith) in

@@ -1,4 +1,4 @@
--- The token that begins some bytes is the longest of their fronts that is one.
+-- The token at the start of some bytes is the longest prefix that is a token.
 use Rattle.std.proofs.Common.{◌≡◌, ℕ, zero, suc, ◌+◌, ◌<◌, ◌≤◌, ◌↔◌, Bool, true, false, cond, ◌&&◌, ◌||◌, List, [], ◌∷◌, length, take, drop, Option, Some, None, option_map, sym, refl, ap, ◌∙◌, subst, arith}
 use Rattle.std.specs.List.{prefix_len, list_all}
 use Rattle.std.specs.Str.{all_ascii_digits}
@@ -26,12 +26,12 @@ pass-step p b bs true e rest =
     let here : list_all p (take (suc (prefix_len p bs)) (b ∷ bs)) ≡ true = rw e rest in
     subst (λ n. list_all p (take n (b ∷ bs)) ≡ true) one here
 
--- each byte of a run passes
+-- each byte of a run passes the test
 run_passes : (p : ℕ → Bool) (bs : List ℕ) → list_all p (take (prefix_len p bs) bs) ≡ true
 run_passes p [] = refl
 run_passes p (b ∷ bs) = pass-step p b bs (p b) refl (run_passes p bs)
 
--- and no longer front passes
+-- and no longer prefix passes
 run_longest : (p : ℕ → Bool) (bs : List ℕ) (n : ℕ) → n ≤ length bs → list_all p (take n bs) ≡ true → n ≤ prefix_len p bs
 run_longest p bs zero fits all = omega arith
 run_longest p [] (suc n) fits all = absurd (omega arith)
@@ -93,7 +93,7 @@ pair_mark b c e = either (b == 46 && c == 46) (before b && c == 61) e
     (λ e. pair_is b c 46 46 m.DotDot refl (both_left (b == 46) (c == 46) e) (both_right (b == 46) (c == 46) e))
     (λ e. before_equal b (both_left (before b) (c == 61) e) c (both_right (before b) (c == 61) e))
 
--- the mark of this length begins the bytes
+-- a mark of this length begins the bytes
 pub record HasMark (bs : List ℕ) (n : ℕ) : Type 0 where
   pub inside : n ≤ length bs
   pub mark : Mark
@@ -118,12 +118,12 @@ mark_has [] n e = absurd cc
 mark_has (b ∷ []) n e = byte_has b [] n (is_mark b) refl e
 mark_has (b ∷ c ∷ bs) n e = pair_has b c bs n (is_double_mark b c) refl e
 
--- there is a length, and it is no less
+-- there is a length, and it is at least m
 abbrev AtLeast : ℕ → Option ℕ → Type 0
 AtLeast m None = ⊥
 AtLeast m (Some n) = m ≤ n
 
--- a mark of suc m bytes begins the bytes
+-- a mark of `suc m` bytes begins the bytes
 pub record MarkFirst (b : ℕ) (bs : List ℕ) (m : ℕ) : Type 0 where
   pub start : is_word_start b ≡ false
   pub digit : is_digit b ≡ false
@@ -197,14 +197,14 @@ mark_some m.NotEqual e = cc
 mark_some m.LessEq e = cc
 mark_some m.MoreEq e = cc
 
--- ---- fronts
+-- ---- prefixes
 
 pub token_some : (kind : TokenKind) → IsToken kind [] → ⊥
 token_some k.Word token = let wrong = token.0 in cc
 token_some k.Number token = cc
 token_some k.Mark token = mark_some token.0 token.1
 
--- the token of this kind and length is the longest front that is one
+-- the token of this kind and length is the longest prefix that is a token
 pub record Front (bs : List ℕ) (kind : TokenKind) (n : ℕ) : Type 0 where
   pub inside : n ≤ length bs
   pub token : IsToken kind (take n bs)
@@ -268,7 +268,7 @@ number_front b bs start digit =
       longest = number_longest b bs start digit;
     }
 
--- what no letter, `_` or digit begins can begin a mark alone
+-- bytes that don't begin with a letter, `_` or a digit can begin only with a mark
 other_front : (b : ℕ) (bs : List ℕ) → is_word_start b ≡ false → is_digit b ≡ false → (other : TokenKind) (m : ℕ) → m ≤ length (b ∷ bs) → IsToken other (take m (b ∷ bs)) → AtLeast m (mark_length (b ∷ bs)) × (other ≡ k.Mark)
 other_front b bs start digit k.Word zero fits token = absurd (token_some k.Word token)
 other_front b bs start digit k.Word (suc m) fits token = let begins = token.0 in absurd cc

@@ -42,7 +42,7 @@ less-one false m n le = le
 pub statement_length-within : (line : List ℕ) → statement_length line ≤ length line
 statement_length-within line = less-one _ _ _ (prefix_len-le-length no_comment line)
 
--- the first line, and those behind the byte that ends it
+-- the first line, and the lines after the byte that ends it
 abbrev Begins : List ℕ → Type 0
 Begins bs = lines_of bs ≡ take (prefix_len is_text bs) bs ∷ lines_of (drop (prefix_len is_text bs + 1) bs)
 
@@ -64,7 +64,7 @@ pub lines_of-step : (bs : List ℕ) → 0 < length bs → Begins bs
 lines_of-step [] some = absurd (omega arith)
 lines_of-step (b ∷ bs) some = by_test b bs (λ more. lines_of-step bs more) (is_text b) refl
 
--- the span of a line that stands at a place has the statement of the line there
+-- the span of the line at an offset holds the statement of that line
 text_at : (text : List ℕ) (from : ℕ) (l : Line) → l.start ≡ from → l.end ≡ from + statement_length (line_at text from) → line_text text l ≡ statement_of (line_at text from)
 text_at text from l start end =
     let n = prefix_len is_text (drop from text) in
@@ -75,7 +75,8 @@ text_at text from l start end =
     ap (λ m. take m (drop l.start text)) count ∙ ap (λ m. take (statement_length (line_at text from)) (drop m text)) start
     ∙ sym (take-take (statement_length (line_at text from)) n (drop from text) (omega arith))
 
--- what the spans of lines that go up to a place hold, line by line, and that the statements behind them are those of what is left
+-- for lines up to an offset: what their spans hold, and that the remaining statements are those of
+-- the rest
 pub record Hold (text : List ℕ) (from : ℕ) (ls : List Line) (to : ℕ) : Type 0 where
   pub texts : statements_of (drop from text) ≡ map (line_text text) ls ++ statements_of (drop to text)
   pub clean : AllByRecursion (IsMarked text) ls
@@ -109,13 +110,13 @@ Follow-Hold text from (l ∷ ls) to follow =
       count = omega arith;
     }
 
--- lines that go to the end are all
+-- lines that reach the end are all lines
 pub Hold-whole : (text : List ℕ) (ls : List Line) (to : ℕ) → Hold text 0 ls to → length text ≤ to → map (line_text text) ls ≡ statements_of text
 Hold-whole text ls to hold over =
     let none : map (line_text text) ls ++ statements_of (drop to text) ≡ map (line_text text) ls ++ [] = ap (λ bs. map (line_text text) ls ++ statements_of bs) (drop-over to text over) in
     sym (hold.texts ∙ none ∙ append-nil (map (line_text text) ls))
 
--- as many lines as bytes at most
+-- there are at most as many lines as bytes
 pub Hold-count : (text : List ℕ) (ls : List Line) (to : ℕ) → Hold text 0 ls to → length ls ≤ length text
 Hold-count text ls to hold = let count = hold.count in omega arith
 

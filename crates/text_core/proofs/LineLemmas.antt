@@ -1,4 +1,4 @@
--- Lines behind those that follow one another.
+-- One more line after others.
 use Rattle.std.proofs.Common.{ℕ, ◌+◌, List, [], ◌∷◌, ◌++◌, drop, subst}
 use Rattle.std.specs.List.{prefix_len}
 use Rattle.text_core.specs.declared.line.Line.{Line}

@@ -1,4 +1,4 @@
--- What bytes say as tokens is one list, and the spans of the tokens lead to it.
+-- Bytes have one meaning as tokens, and the spans of the tokens lead to it.
 use Rattle.std.proofs.Common.{◌≡◌, ℕ, ◌+◌, ◌-◌, List, [], ◌∷◌, length, take, drop, Option, Some, None, sym, refl, ap, ◌∙◌, subst, arith}
 use Rattle.std.specs.List.{prefix_len}
 use Rattle.text_core.specs.declared.token.Token.{Token}
@@ -11,7 +11,7 @@ abbrev pub pick : {A : Type 0} {B : Type 0} → Option A → B → (A → B) →
 pick None d f = d
 pick (Some x) d f = f x
 
--- bytes have one list of tokens
+-- bytes have only one list of tokens
 pub SaysFrom-one : (bytes : List ℕ) (gs hs : List Glyph) → SaysFrom bytes gs → SaysFrom bytes hs → gs ≡ hs
 SaysFrom-one bytes [] [] a b = refl
 SaysFrom-one bytes [] (h ∷ hs) a b = let wrong : None ≡ Some (begun b.0 b.1) = ap token_at (sym a) ∙ b.2 in absurd cc
@@ -32,7 +32,7 @@ Says-one bytes gs hs a b = SaysFrom-one (skipped bytes) gs hs a b
 pub skipped-at : (line : List ℕ) (from : ℕ) → skipped (drop from line) ≡ drop (after_blanks line from) line
 skipped-at line from = drop-drop from (prefix_len is_blank (drop from line)) line
 
--- the tokens that stand in a line, with their spans, say what its bytes say
+-- the tokens of a line, with their spans, have the meaning of its bytes
 pub Stand-Says : (line : List ℕ) (from : ℕ) (ts : List Token) (gs : List Glyph) → Stand line from ts (length line) → AreSaid line ts gs → Says (drop from line) gs
 Stand-Says line from [] [] stand say = skipped-at line from ∙ ap (λ n. drop n line) (sym stand) ∙ drop-over (length line) line (omega arith)
 Stand-Says line from [] (g ∷ gs) stand say = absurd say

@@ -1,4 +1,4 @@
--- Words, numbers and marks side by side say what they say apart.
+-- The meaning of words, numbers and marks in sequence is the sequence of their meanings.
 use Rattle.std.proofs.Common.{◌≡◌, ℕ, suc, ◌+◌, ◌≤◌, List, [], ◌∷◌, ◌++◌, length, take, drop, Some, option_map, Bool, true, false, cond, eqb, sym, refl, ap, ◌∙◌, subst, arith}
 use Rattle.std.specs.List.{prefix_len}
 use Rattle.std.specs.Prelude.{◌||◌, ◌&&◌, ◌==◌, not}
@@ -34,7 +34,7 @@ drop-front : (xs ys : List ℕ) → drop (length xs) (xs ++ ys) ≡ ys
 drop-front [] ys = refl
 drop-front (x ∷ xs) ys = drop-front xs ys
 
--- what begins with no blank is as it is
+-- bytes that don't begin with a blank are unchanged
 skipped-none : (b : ℕ) (bs : List ℕ) → is_blank b ≡ false → skipped (b ∷ bs) ≡ b ∷ bs
 skipped-none b bs none = rw none refl
 
@@ -88,7 +88,7 @@ word_whole : (w rest : List ℕ) → begins_word w ≡ true → skipped (w ++ re
 word_whole [] rest begins = absurd cc
 word_whole (b ∷ bs) rest begins = skipped-none b (bs ++ rest) (start_not_blank b begins)
 
--- one token, and what follows it
+-- one token, and the tokens after it
 pub says_token : (kind : TokenKind) (w : List ℕ) (g : Glyph) (rest : List ℕ) (gs : List Glyph) → skipped (w ++ rest) ≡ w ++ rest → token_at (w ++ rest) ≡ Some (begun kind (length w)) → said kind w ≡ Some g → Says rest gs → Says (w ++ rest) (g ∷ gs)
 says_token kind w g rest gs whole token is later =
     let P : List ℕ → Type 0 = λ l. SaysFrom l (g ∷ gs) in

@@ -1,4 +1,4 @@
--- A line has one list of tokens or one fault, and only what they say is said.
+-- A line has either one list of tokens or one error, and its meaning is that of its tokens.
 use Rattle.std.proofs.Common.{◌<◌, refl, ◌≡◌, ℕ, zero, suc, ◌+◌, ◌-◌, ◌≤◌, ◌⊎◌, inl, inr, List, [], ◌∷◌, ◌++◌, get_or, length, take, drop, Some, None, sym, ap, ◌∙◌, subst, arith, length-drop}
 use Rattle.std.specs.List.{All}
 use Rattle.text_core.specs.declared.token.Token.{Token}
@@ -13,7 +13,7 @@ use Rattle.text_core.specs.Refusals.{refusal_of}
 use Rattle.text_core.proofs.LineLaws.{drop-drop, drop-over}
 use Rattle.text_core.proofs.SaysLaws.{pick, skipped-at, Stand-Says}
 
--- a token begins in one way
+-- a token begins in only one way
 pub same_kind : (bs : List ℕ) (a b : Begun) → token_at bs ≡ Some a → token_at bs ≡ Some b → a.0 ≡ b.0
 same_kind bs a b p q = ap (λ v. pick v a.0 (λ x. x.0)) (sym p ∙ q)
 
@@ -29,7 +29,7 @@ Stand-All line from [] to stand k d inside = absurd (omega arith)
 Stand-All line from (t ∷ ts) to stand zero d inside = (stand.1, stand.2)
 Stand-All line from (t ∷ ts) to stand (suc k) d inside = Stand-All line t.end ts to stand.4 k d (omega arith)
 
--- no token begins there: the line is over, or a byte is at fault
+-- no token begins there: the line is over, or a byte is invalid
 abbrev IsOver : List ℕ → ℕ → Type 0
 IsOver line to = (length line ≤ to) ⊎ IsBadAt line to
 
@@ -37,7 +37,7 @@ over_none : (line : List ℕ) (to : ℕ) → IsOver line to → token_at (drop t
 over_none line to (inl over) = ap token_at (drop-over to line over)
 over_none line to (inr bad) = bad.none
 
--- tokens stand up to one place only
+-- tokens cover a line up to one offset only
 pub Stand-one : (line : List ℕ) (from : ℕ) (ts us : List Token) (p q : ℕ) → Stand line from ts p → IsOver line p → Stand line from us q → IsOver line q → p ≡ q
 Stand-one line from [] [] p q a over b end = a ∙ sym b
 Stand-one line from [] (u ∷ us) p q a over b end =
@@ -55,7 +55,7 @@ Stand-one line from (t ∷ ts) (u ∷ us) p q a over b end =
     let same : u.end ≡ t.end = omega arith in
     Stand-one line t.end ts us p q a.4 over (subst (λ n. Stand line n us q) same b.4) end
 
--- what is said of a line whose tokens stand is said by them
+-- the tokens of a line have the meaning of its bytes
 pub Says-AreSaid : (line : List ℕ) (from : ℕ) (ts : List Token) (gs : List Glyph) → Stand line from ts (length line) → Says (drop from line) gs → AreSaid line ts gs
 Says-AreSaid line from [] [] stand say = tt
 Says-AreSaid line from [] (g ∷ gs) stand say =
@@ -77,7 +77,7 @@ Says-AreSaid line from (t ∷ ts) (g ∷ gs) stand say =
     let P : List ℕ → Type 0 = λ l. SaysFrom (skipped l) gs in
     (is, Says-AreSaid line t.end ts gs stand.4 (subst P behind say.4))
 
--- a line with a fault says nothing
+-- a line with an error has no meaning
 pub Fault-silent : (line : List ℕ) (from : ℕ) (ts : List Token) (p : ℕ) (gs : List Glyph) → Stand line from ts p → IsBadAt line p → Says (drop from line) gs → ⊥
 Fault-silent line from [] p [] stand bad say =
     let left : length (drop p line) ≡ 0 = ap length (ap (λ n. drop n line) stand ∙ sym (skipped-at line from) ∙ say) in
@@ -100,11 +100,11 @@ Fault-silent line from (t ∷ ts) p (g ∷ gs) stand bad say =
     let P : List ℕ → Type 0 = λ l. SaysFrom (skipped l) gs in
     Fault-silent line t.end ts p gs stand.4 bad (subst P behind say.4)
 
--- the tokens that stand in a line say what its bytes say
+-- the tokens of a line have the same meaning as its bytes
 pub tokens_say : TokensSayTheLine
 tokens_say line ts gs stand = (λ say. Stand-Says line 0 ts gs stand say, λ says. Says-AreSaid line 0 ts gs stand says)
 
--- a line has one fault, and then its tokens don't reach its end
+-- a line has only one error, and then no tokens cover it to its end
 pub Fault-one : (line : List ℕ) (p q : ℕ) → IsFaultOf line p → IsFaultOf line q → p ≡ q
 Fault-one line p q a b = Stand-one line 0 a.before b.before p q a.stand (inr a.bad) b.stand (inr b.bad)
 
@@ -114,19 +114,19 @@ Fault-whole line p ts fault stand =
     let inside = fault.bad.inside in
     omega arith
 
--- a refusal for a bad token is right
+-- an error for a bad token is correct: the line has no meaning
 pub Bad-silent : (line : List ℕ) (f : TokenFault) → ((p : ℕ) → f ≡ fault.Bad p → IsFaultOf line p) → refusal_of f ≡ refusal.NoForm → (gs : List Glyph) → Says line gs → ⊥
 Bad-silent line (fault.Bad p) bad none gs say = let found = bad p refl in Fault-silent line 0 found.before p gs found.stand found.bad say
 Bad-silent line fault.NoMemory bad none gs say = cc
 
--- one token more that says its glyph
+-- one more token that means its glyph
 pub AreSaid-push : (line : List ℕ) (ts : List Token) (gs : List Glyph) (t : Token) (g : Glyph) → AreSaid line ts gs → said t.kind (token_text line t) ≡ Some g → AreSaid line (ts ++ t ∷ []) (gs ++ g ∷ [])
 AreSaid-push line [] [] t g say is = (is, tt)
 AreSaid-push line [] (h ∷ gs) t g say is = absurd say
 AreSaid-push line (u ∷ ts) [] t g say is = absurd say
 AreSaid-push line (u ∷ ts) (h ∷ gs) t g say is = (say.0, AreSaid-push line ts gs t g say.1 is)
 
--- a token that says nothing leaves the line unsaid
+-- a token without a meaning leaves the line without one
 pub AreSaid-each : (line : List ℕ) (ts : List Token) (gs : List Glyph) (i : ℕ) (d : Token) → AreSaid line ts gs → i < length ts → said (get_or ts i d).kind (token_text line (get_or ts i d)) ≡ None → ⊥
 AreSaid-each line [] gs i d say inside none = absurd (omega arith)
 AreSaid-each line (t ∷ ts) [] i d say inside none = say

@@ -1,4 +1,4 @@
--- What the longest token takes, and a token more behind those that stand.
+-- The extent of the longest token, and one more token after others.
 use Rattle.std.proofs.Common.{◌≡◌, ℕ, ◌+◌, ◌-◌, ◌<◌, ◌≤◌, Bool, true, false, cond, ◌||◌, ◌⊎◌, inl, inr, List, [], ◌∷◌, ◌++◌, length, take, drop, get_or, Some, sym, refl, ap, subst, arith, length-drop}
 use Rattle.std.specs.List.{prefix_len}
 use Rattle.std.proofs.lemmas.List.{take_all}
@@ -6,29 +6,29 @@ use Rattle.text_core.specs.declared.token.TokenKind.{TokenKind}
 use Rattle.text_core.specs.declared.token.Token.{Token}
 use Rattle.text_core.specs.Tokens.{token_at, begun, after_blanks, Stand}
 
--- the token has a byte at least, and lies in the bytes
+-- the token has at least one byte, and lies in the bytes
 pub record Fits (n : ℕ) (bs : List ℕ) : Type 0 where
   pub some : 0 < n
   pub inside : n ≤ length bs
 
--- which way a test went
+-- the outcome of a test
 pub chosen : {A : Type 0} (b : Bool) (x y z : A) → cond b x y ≡ z → ((b ≡ true) × (x ≡ z)) ⊎ ((b ≡ false) × (y ≡ z))
 chosen true x y z e = inl (refl, e)
 chosen false x y z e = inr (refl, e)
 
--- a run that begins has a byte at least
+-- a run whose first byte passes has at least one byte
 pub prefix_len-some : (p : ℕ → Bool) (bs : List ℕ) → 0 < length bs → p (get_or bs 0 0) ≡ true → 0 < prefix_len p bs
 prefix_len-some p [] some first = absurd (omega arith)
 prefix_len-some p (b ∷ bs) some first = rw first (omega arith)
 
--- what is left from a place on
+-- the rest from an offset on
 pub rest-from : (i : ℕ) (line : List ℕ) → take (length line - i) (drop i line) ≡ drop i line
 rest-from i line = take_all _ (drop i line) (omega (arith, length-drop i line))
 
 pub either : (a b : Bool) → true ≡ a → a || b ≡ true
 either a b e = ap (λ v. v || b) (sym e)
 
--- a token more stands behind those before it
+-- one more token follows the others
 pub Stand-push : (line : List ℕ) (from : ℕ) (ts : List Token) (k : TokenKind) (at n : ℕ) → Stand line from ts at → token_at (drop at line) ≡ Some (begun k n) → 0 < n → at + n ≤ length line → Stand line from (ts ++ record { kind = k; start = at; end = at + n } ∷ []) (after_blanks line (at + n))
 Stand-push line from [] k at n stand token some inside =
     let same : n ≡ at + n - at = omega arith in

@@ -1,4 +1,4 @@
--- The numbers that digits write.
+-- The numbers that digits represent.
 use Rattle.std.specs.Prelude.{◌≡◌, refl, codes, ℕ, ◌&&◌, Bool, false, nat_le, if◌then◌else◌, List, [], ◌∷◌, map, Option, Some, None}
 use Rattle.std.specs.Str.{all_ascii_digits}
 use Rattle.std.specs.Str.Parse.{digits_value}
@@ -7,12 +7,12 @@ use Rattle.std.specs.Str.Parse.{digits_value}
 abbrev pub max : ℕ
 max = 4611686018427387903
 
--- a digit or more, and nothing else
+-- at least one digit, and nothing else
 abbrev pub is_numeral : List ℕ → Bool
 is_numeral [] = false
 is_numeral (b ∷ bs) = all_ascii_digits (b ∷ bs)
 
--- the number that the bytes write: digits alone, of a value up to `max`
+-- the number that the bytes represent: digits only, with a value up to `max`
 abbrev pub number_of : List ℕ → Option ℕ
 number_of bytes = if is_numeral bytes && nat_le (digits_value 10 bytes) max then Some (digits_value 10 bytes) else None
 

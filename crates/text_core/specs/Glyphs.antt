@@ -1,4 +1,4 @@
--- What the tokens of a line say, apart from where they lie in memory.
+-- The meaning of a line's tokens, without their location in memory.
 use Rattle.std.specs.Prelude.{ℕ, List, map}
 use Rattle.text_core.specs.declared.mark.Mark.{Mark}
 use Rattle.text_core.specs.declared.item.Item.{Item}

@@ -1,4 +1,4 @@
--- What follows from the definitions.
+-- The laws that follow from the definitions.
 use Rattle.std.specs.Prelude.{◌≡◌, ◌↔◌, ◌<◌, ◌≤◌, ℕ, true, false, List, length, take, drop, Some, decimal}
 use Rattle.std.specs.List.{list_all}
 use Rattle.text_core.specs.declared.token.TokenKind.{TokenKind}
@@ -11,30 +11,31 @@ use Rattle.text_core.specs.Marks.{mark_text}
 use Rattle.text_core.specs.Says.{Says, AreSaid}
 use Rattle.text_core.specs.Tokens.{is_word_byte, begins_word, token_at, begun, Stand}
 
--- the bytes are a token: a letter or `_`, then letters, digits and `_`; or digits; or one of the 16 marks
+-- the bytes are a token: a letter or `_`, then letters, digits and `_`; or digits; or one of the 16
+-- marks
 abbrev pub IsToken : TokenKind → List ℕ → Type 0
 IsToken k.Word bytes = (begins_word bytes ≡ true) × (list_all is_word_byte bytes ≡ true)
 IsToken k.Number bytes = is_numeral bytes ≡ true
 IsToken k.Mark bytes = (mark : Mark) × (bytes ≡ mark_text mark)
 
--- the first n bytes are a token, no longer front is one, and no letter or `_` follows a number
+-- the first n bytes are a token, no longer prefix is one, and no letter or `_` follows a number
 pub record BeginsWith (bytes : List ℕ) (kind : TokenKind) (n : ℕ) : Type 0 where
   pub inside : n ≤ length bytes
   pub token : IsToken kind (take n bytes)
   pub longest : (other : TokenKind) (m : ℕ) → n < m → m ≤ length bytes → ¬ IsToken other (take m bytes)
   pub apart : kind ≡ k.Number → begins_word (drop n bytes) ≡ false
 
--- a token begins exactly where this is so
+-- a token begins the bytes exactly if this holds
 abbrev pub LongestTokenIsTaken : Type 0
 LongestTokenIsTaken = (bytes : List ℕ) (kind : TokenKind) (n : ℕ) → (token_at bytes ≡ Some (begun kind n)) ↔ BeginsWith bytes kind n
 
 abbrev pub BytesSayOneList : Type 0
 BytesSayOneList = (bytes : List ℕ) (gs hs : List Glyph) → Says bytes gs → Says bytes hs → gs ≡ hs
 
--- the tokens that stand in a line to its end say what its bytes say
+-- tokens that cover a line to its end have the same meaning as its bytes
 abbrev pub TokensSayTheLine : Type 0
 TokensSayTheLine = (line : List ℕ) (ts : List Token) (gs : List Glyph) → Stand line 0 ts (length line) → AreSaid line ts gs ↔ Says line gs
 
--- what is printed of a number reads back as that number
+-- a number printed in decimal reads back as the same number
 abbrev pub PrintedNumberReadsBack : Type 0
 PrintedNumberReadsBack = (n : ℕ) → n ≤ max → number_of (decimal n) ≡ Some n

@@ -1,9 +1,9 @@
--- What the lines of a text are.
+-- The definition of the lines of a text.
 use Rattle.std.specs.Prelude.{◌≡◌, ℕ, ◌+◌, ◌-◌, ◌<◌, ◌≤◌, ◌==◌, Bool, true, false, not, ◌&&◌, ◌||◌, nat_le, if◌then◌else◌, List, [], ◌∷◌, length, drop, take, slice_index, map, codes, refl}
 use Rattle.std.specs.List.{prefix_len, list_all}
 use Rattle.text_core.specs.declared.line.Line.{Line}
 
--- no byte that ends a line
+-- the byte doesn't end a line
 abbrev pub is_text : ℕ → Bool
 is_text b = not (b == 10)
 
@@ -17,7 +17,7 @@ no_comment b = not (b == 35)
 abbrev pub ends_with_return : List ℕ → Bool
 ends_with_return line = slice_index line (length line - 1) == 13
 
--- the bytes before the first `#`, or without one all but a carriage return at the end
+-- the number of bytes before the first `#`; without one, all bytes except a final carriage return
 abbrev pub statement_length : List ℕ → ℕ
 statement_length line =
     let before = prefix_len no_comment line in
@@ -48,7 +48,7 @@ statements_of text = map statement_of (lines_of text)
 abbrev pub line_text : List ℕ → Line → List ℕ
 line_text text l = take (l.end - l.start) (drop l.start text)
 
--- `clean` says whether each byte of the line's span is allowed
+-- `clean` is whether each byte of the line's span is allowed
 abbrev pub IsMarked : List ℕ → Line → Type 0
 IsMarked text l = l.clean ≡ is_clean_text (line_text text l)
 
@@ -56,23 +56,24 @@ IsMarked text l = l.clean ≡ is_clean_text (line_text text l)
 abbrev pub LiesIn : List ℕ → Line → Type 0
 LiesIn text l = (l.start ≤ l.end) × (l.end ≤ length text)
 
--- the bytes of the line that begins at a place
+-- the bytes of the line that begins at an offset
 abbrev pub line_at : List ℕ → ℕ → List ℕ
 line_at text from = take (prefix_len is_text (drop from text)) (drop from text)
 
--- the lines follow one another from a place up to another, which is the first after the last line's end
+-- the lines follow one another from one offset to another, where the second is the first after the
+-- last line's end
 abbrev pub Follow : List ℕ → ℕ → List Line → ℕ → Type 0
 Follow text from [] to = to ≡ from
 Follow text from (l ∷ ls) to =
     (from < length text) × (l.start ≡ from) × (l.end ≡ from + statement_length (line_at text from)) × (l.clean ≡ list_all is_clean (take (statement_length (line_at text from)) (line_at text from))) × Follow text (from + prefix_len is_text (drop from text) + 1) ls to
 
--- the lines of a text, which go to its end
+-- the lines of a text, up to its end
 pub record AreLines (text : List ℕ) (ls : List Line) : Type 0 where
   pub end : ℕ
   pub follow : Follow text 0 ls end
   pub over : length text ≤ end
 
--- a tab, and all from the space to `~`
+-- a tab, and all bytes from the space to `~`
 clean_bytes : map is_clean (8 ∷ 9 ∷ 10 ∷ 13 ∷ 31 ∷ 32 ∷ 126 ∷ 127 ∷ 195 ∷ []) ≡ false ∷ true ∷ false ∷ false ∷ false ∷ true ∷ true ∷ false ∷ false ∷ []
 clean_bytes = refl
 

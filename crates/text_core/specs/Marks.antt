@@ -4,7 +4,7 @@ use Rattle.std.specs.Str.{bytes_eq}
 use Rattle.text_core.specs.declared.mark.Mark.{Mark}
 use Rattle.text_core.specs.declared.mark.Mark.TheVariants as m
 
--- how a mark is written
+-- the spelling of a mark
 abbrev pub mark_text : Mark → List ℕ
 mark_text m.DotDot = codes ".."
 mark_text m.Dot = codes "."
@@ -26,7 +26,7 @@ mark_text m.MoreEq = codes ">="
 abbrev pub is_mark_text : List ℕ → Mark → Bool
 is_mark_text w m = bytes_eq w (mark_text m)
 
--- the mark that is written so, if any
+-- the mark with this spelling, if any
 abbrev pub mark_of : List ℕ → Option Mark
 mark_of w =
     if is_mark_text w m.DotDot then Some m.DotDot

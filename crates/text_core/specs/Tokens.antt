@@ -1,4 +1,4 @@
--- What the tokens of a line are.
+-- The definition of the tokens of a line.
 use Rattle.std.specs.Prelude.{◌≡◌, ℕ, ◌+◌, ◌-◌, ◌<◌, ◌≤◌, ◌==◌, Bool, true, false, ◌&&◌, ◌||◌, if◌then◌else◌, List, [], ◌∷◌, length, drop, Option, Some, None, option_map, map, codes, refl}
 use Rattle.std.specs.List.{prefix_len}
 use Rattle.std.specs.Char.{is_ascii_digit, is_ascii_alphabetic}
@@ -19,11 +19,11 @@ is_word_start b = is_ascii_alphabetic b || b == 95
 abbrev pub is_word_byte : ℕ → Bool
 is_word_byte b = is_word_start b || is_digit b
 
--- the most bytes of a name
+-- the greatest length of a name in bytes
 abbrev pub most_name : ℕ
 most_name = 64
 
--- what begins with a letter or `_`
+-- the first byte is a letter or `_`
 abbrev pub begins_word : List ℕ → Bool
 begins_word [] = false
 begins_word (b ∷ bs) = is_word_start b
@@ -39,7 +39,7 @@ is_double_mark b c = (b == 46 && c == 46) || ((b == 61 || b == 33 || b == 60 || 
 abbrev pub single_mark : ℕ → Option ℕ
 single_mark b = if is_mark b then Some 1 else None
 
--- how long the longest mark is with which the bytes begin
+-- the length of the longest mark at the start of the bytes
 abbrev pub mark_length : List ℕ → Option ℕ
 mark_length [] = None
 mark_length (b ∷ []) = single_mark b
@@ -51,11 +51,11 @@ Begun = TokenKind × ℕ
 abbrev pub begun : TokenKind → ℕ → Begun
 begun kind n = (kind, n)
 
--- a number ends before whatever isn't a digit, but no letter may stand there
+-- a number ends before the first byte that isn't a digit; that byte may not be a letter or `_`
 abbrev pub number_at : List ℕ → ℕ → Option Begun
 number_at bs n = if begins_word (drop n bs) then None else Some (begun Number n)
 
--- the kind and the length of the longest token with which the bytes begin
+-- the kind and the length of the longest token at the start of the bytes
 abbrev pub token_at : List ℕ → Option Begun
 token_at [] = None
 token_at (b ∷ bs) =
@@ -63,25 +63,26 @@ token_at (b ∷ bs) =
     else (if is_digit b then number_at (b ∷ bs) (prefix_len is_digit (b ∷ bs))
     else option_map (begun Mark) (mark_length (b ∷ bs)))
 
--- the place after the blanks that stand from a place on
+-- the offset after the blanks at an offset
 abbrev pub after_blanks : List ℕ → ℕ → ℕ
 after_blanks line from = from + prefix_len is_blank (drop from line)
 
--- the tokens stand in the line one after another from a place on, each the longest, with blanks alone before and between them, up to a place before which blanks stand
+-- from one offset to another, the line is these tokens in order, each the longest, and blanks
+-- before, between and after them
 abbrev pub Stand : List ℕ → ℕ → List Token → ℕ → Type 0
 Stand line from [] to = to ≡ after_blanks line from
 Stand line from (t ∷ ts) to = (t.start ≡ after_blanks line from) × (t.start < t.end) × (t.end ≤ length line) × (token_at (drop t.start line) ≡ Some (begun t.kind (t.end - t.start))) × Stand line t.end ts to
 
--- the token's span has a byte or more, and lies in the line
+-- the token's span has at least one byte, and lies in the line
 abbrev pub StandsIn : List ℕ → Token → Type 0
 StandsIn line t = (t.start < t.end) × (t.end ≤ length line)
 
--- no token begins at this place, where the line isn't over
+-- the offset is inside the line, and no token begins there
 pub record IsBadAt (line : List ℕ) (place : ℕ) : Type 0 where
   pub inside : place < length line
   pub none : token_at (drop place line) ≡ None
 
--- it is the first such place: tokens stand up to it
+-- the first such offset: the line up to it is tokens and blanks
 pub record IsFaultOf (line : List ℕ) (place : ℕ) : Type 0 where
   pub before : List Token
   pub stand : Stand line 0 before place
@@ -99,7 +100,8 @@ at_most_is_one_mark = refl
 no_letter_follows_a_number : token_at (codes "1a") ≡ None
 no_letter_follows_a_number = refl
 
--- `_` begins a word, and so do the first and the last letter of both cases; what stands beside them does not
+-- `_` begins a word, and so do the first and last letters in both cases; the bytes next to these in
+-- ASCII don't
 first_bytes_of_words : map token_at (codes "_1" ∷ codes "A" ∷ codes "Z" ∷ codes "a" ∷ codes "z" ∷ codes "@" ∷ codes "[" ∷ codes "`" ∷ codes "{" ∷ []) ≡ Some (begun Word 2) ∷ Some (begun Word 1) ∷ Some (begun Word 1) ∷ Some (begun Word 1) ∷ Some (begun Word 1) ∷ None ∷ None ∷ None ∷ None ∷ []
 first_bytes_of_words = refl
 
@@ -114,11 +116,11 @@ single_marks = refl
 double_marks : map mark_length (codes ".." ∷ codes "==" ∷ codes "!=" ∷ codes "<=" ∷ codes ">=" ∷ codes "+=" ∷ codes "<<" ∷ codes "=." ∷ codes "=<" ∷ []) ≡ Some 2 ∷ Some 2 ∷ Some 2 ∷ Some 2 ∷ Some 2 ∷ Some 1 ∷ Some 1 ∷ Some 1 ∷ Some 1 ∷ []
 double_marks = refl
 
--- a mark at the end
+-- a mark at the end of the bytes
 last_marks : map mark_length (codes "<" ∷ codes "!" ∷ codes "" ∷ []) ≡ Some 1 ∷ None ∷ None ∷ []
 last_marks = refl
 
--- spaces and tabs alone are blanks
+-- only spaces and tabs are blanks
 blanks : map is_blank (9 ∷ 10 ∷ 13 ∷ 32 ∷ 160 ∷ []) ≡ true ∷ false ∷ false ∷ true ∷ false ∷ []
 blanks = refl
 

@@ -1,4 +1,4 @@
-//! What the tokens of a line say.
+//! The meaning of the tokens of a line.
 ghost use Rattle.std.specs.Prelude.{◌≡◌, List, IfOk};
 ghost use Rattle.text_core.specs.Glyphs.{Glyph, glyphs_of};
 ghost use Rattle.text_core.specs.Says.{Says};
@@ -10,7 +10,7 @@ use crate::token::{TokenKind, tokens};
 use list_core::List;
 use std::alloc::Global;
 
-/// What a token says.
+/// The meaning of a token: a word, a number or a mark.
 #[derive(Clone, Copy, Debug)]
 pub enum Item<'a> {
     Word(&'a [u8]),
@@ -23,7 +23,8 @@ impl<'a> Item<'a> {
     ghost use Rattle.text_core.specs.Glyphs.{glyph_of};
     ghost use Rattle.text_core.specs.Says.{said};
 
-    /// What a token of this kind with these bytes says; nothing where its number is too large.
+    /// Returns the meaning of a token of this kind with these bytes, or `None` if its number is too
+    /// large.
     pub fn of(kind: TokenKind, bytes: &'a [u8]) -> Option<Item<'a>>
         ensures { option_map glyph_of result ≡ said kind bytes.now }
     {
@@ -35,7 +36,8 @@ impl<'a> Item<'a> {
     }
 }
 
-/// What the tokens of a line say. A line with a bad token, or with a number above `MAX`, is in no form.
+/// Returns the meaning of the tokens of a line. A line is malformed if it has a bad token or a
+/// number above `MAX`.
 pub fn items<'a>(alloc: Global, line: &'a [u8]) -> Result<List<Item<'a>>, Refusal>
     ensures said { IfOk result (λ is. Says line.now (glyphs_of is)) }
     ensures silent { result ≡ Err Refusal.NoForm → (gs : List Glyph) → Says line.now gs → ⊥ }

@@ -1,4 +1,5 @@
-//! Lines and tokens of a text as spans, what tokens say, and decimal numbers. Begin with specs/Tokens.antt.
+//! Lines and tokens of a text as spans, the meaning of tokens, and decimal numbers. Begin with
+//! specs/Tokens.antt.
 #![tactic(auto)]
 
 mod item;

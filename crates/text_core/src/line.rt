@@ -1,4 +1,4 @@
-//! Where a line ends, and which of its bytes are the statement's.
+//! The ends of lines, and the statement bytes of each line.
 ghost use Rattle.std.specs.Prelude.{◌≡◌, ◌<◌, ◌≤◌, [], ◌∷◌, length, map, IfOk, IsTrue};
 ghost use Rattle.std.specs.List.{prefix_len, list_all, All};
 ghost use Rattle.text_core.specs.Lines.{is_text, is_clean, no_comment, ends_with_return, statement_length, AreLines, line_text, statements_of, IsMarked, LiesIn, Follow};
@@ -14,7 +14,7 @@ pub struct Line {
     pub clean: bool,
 }
 
-/// How many bytes stand before the end of the first line.
+/// Returns the number of bytes before the end of the first line.
 fn line_length(bytes: &[u8]) -> usize
     ensures count { result ≡ prefix_len is_text bytes.now }
     ensures within { result ≤ length bytes.now }
@@ -30,7 +30,7 @@ fn is_clean(bytes: &[u8]) -> bool
         .all(|byte| matches!(*byte, b'\t' | b' '..=b'~'))
 }
 
-/// How many bytes stand before a comment.
+/// Returns the number of bytes before the comment; without a comment, the length of the line.
 fn before_comment(line: &[u8]) -> usize
     ensures count { result ≡ prefix_len no_comment line.now }
     ensures within { result ≤ length line.now }
@@ -48,7 +48,7 @@ fn ends_with_return(line: &[u8]) -> bool
     }
 }
 
-/// How many bytes of a line are its statement.
+/// Returns the number of statement bytes of a line.
 fn statement_length(line: &[u8]) -> usize
     ensures count { result ≡ statement_length line.now }
     ensures within { result ≤ length line.now }
@@ -61,7 +61,8 @@ fn statement_length(line: &[u8]) -> usize
     }
 }
 
-/// The line that begins at a place of a text, and the place from which the next one would.
+/// Returns the line that begins at an offset of a text, and the offset at which the next one would
+/// begin.
 pub fn line_from(text: &[u8], at: usize) -> (Line, usize)
     requires { at < length text.now }
     ensures line { Follow text.now at (result.0 ∷ []) result.1 }
@@ -80,7 +81,7 @@ pub fn line_from(text: &[u8], at: usize) -> (Line, usize)
     (found, at + length + 1)
 }
 
-/// The lines of a text.
+/// Returns the lines of a text.
 pub fn lines(alloc: Global, text: &[u8]) -> Result<List<Line>, AllocError>
     ensures spans { IfOk result (λ ls. AreLines text.now ls) }
     ensures texts { IfOk result (λ ls. map (line_text text.now) ls ≡ statements_of text.now) }

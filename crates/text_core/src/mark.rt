@@ -24,7 +24,7 @@ pub enum Mark {
 }
 
 impl Mark {
-    /// The mark that is written so.
+    /// Returns the mark with this spelling.
     pub fn of(bytes: &[u8]) -> Option<Mark>
         ensures { result ≡ mark_of bytes.now }
     {

@@ -8,7 +8,8 @@ use std::alloc::AllocError;
 /// The greatest number of the language, 2^62 - 1.
 pub const MAX: u64 = (1 << 62) - 1;
 
-/// The number that the digits write.
+/// Returns the number that the digits represent, or `None` if a byte isn't a digit, there are no
+/// digits, or the number is above `MAX`.
 pub fn decimal(token: &[u8]) -> Option<u64>
     ensures value { result ≡ number_of token.now }
     ensures limit { IfSome result (λ n. n ≤ max) }
@@ -30,7 +31,7 @@ pub fn decimal(token: &[u8]) -> Option<u64>
     Some(value)
 }
 
-/// Appends the digits of a number, with no zero before them.
+/// Appends the digits of a number, without leading zeros.
 pub fn put_decimal(into: &mut Vec<u8>, value: u128) -> Result<(), AllocError>
     ensures ok { OnOk result (into.new.items ≡ into.old.items ++ decimal value) }
     ensures err { OnErr result (into.new.items ≡ into.old.items) }

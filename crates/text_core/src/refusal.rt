@@ -1,11 +1,11 @@
-//! Why a line isn't read.
+//! Why a line isn't accepted.
 use crate::token::TokenFault;
 use std::alloc::{AllocError, AllocFailed};
 
-/// Why a line isn't read.
+/// Why a line isn't accepted.
 #[derive(Debug, Drop)]
 pub enum Refusal {
-    /// It is in no form.
+    /// The line is malformed.
     NoForm,
     NoMemory,
 }

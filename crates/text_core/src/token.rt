@@ -6,7 +6,7 @@ ghost use Rattle.text_core.specs.Tokens.{is_blank, is_digit, is_word_byte, is_wo
 use list_core::List;
 use std::alloc::{AllocError, AllocFailed, Global};
 
-/// What a token is.
+/// The kind of a token.
 #[derive(Clone, Copy, Debug, PartialEq, Eq)]
 pub enum TokenKind {
     Word,
@@ -22,10 +22,10 @@ pub struct Token {
     pub end: usize,
 }
 
-/// Why a line has no tokens.
+/// Why a line can't be split into tokens.
 #[derive(Debug, Drop)]
 pub enum TokenFault {
-    /// No token begins at this place.
+    /// No token begins at this offset.
     Bad(usize),
     NoMemory,
 }
@@ -76,7 +76,7 @@ fn is_word_byte(byte: u8) -> bool
     is_word_start(byte) || is_digit(byte)
 }
 
-/// How many blanks the bytes begin with.
+/// Returns the number of leading blanks.
 fn blanks(bytes: &[u8]) -> usize
     ensures count { result ≡ prefix_len is_blank bytes.now }
     ensures within { result ≤ length bytes.now }
@@ -84,21 +84,21 @@ fn blanks(bytes: &[u8]) -> usize
     bytes.iter().take_while(|byte| is_blank(**byte)).count()
 }
 
-/// How many bytes of a word the bytes begin with.
+/// Returns the number of leading word bytes.
 fn word_bytes(bytes: &[u8]) -> usize
     ensures { result ≡ prefix_len is_word_byte bytes.now }
 {
     bytes.iter().take_while(|byte| is_word_byte(**byte)).count()
 }
 
-/// How many digits the bytes begin with.
+/// Returns the number of leading digits.
 fn digits(bytes: &[u8]) -> usize
     ensures { result ≡ prefix_len is_digit bytes.now }
 {
     bytes.iter().take_while(|byte| is_digit(**byte)).count()
 }
 
-/// How long the longest mark is with which the bytes begin.
+/// Returns the length of the longest mark at the start of the bytes.
 fn mark_length(bytes: &[u8]) -> Option<usize>
     ensures { result ≡ mark_length bytes.now }
 {
@@ -112,7 +112,7 @@ fn mark_length(bytes: &[u8]) -> Option<usize>
     }
 }
 
-/// The longest token with which the bytes begin.
+/// Returns the kind and the length of the longest token at the start of the bytes.
 fn token_at(bytes: &[u8]) -> Option<(TokenKind, usize)>
     ensures token { result ≡ token_at bytes.now }
     ensures fits { IfSome result (λ r. (0 < r.1) × (r.1 ≤ length bytes.now)) }
@@ -131,7 +131,7 @@ fn token_at(bytes: &[u8]) -> Option<(TokenKind, usize)>
     Some((TokenKind::Number, length))
 }
 
-/// The tokens of a line.
+/// Returns the tokens of a line.
 pub fn tokens(alloc: Global, line: &[u8]) -> Result<List<Token>, TokenFault>
     ensures ok { IfOk result (λ ts. Stand line.now 0 ts (length line.now)) }
     ensures within { IfOk result (λ ts. All (StandsIn line.now) ts) }

@@ -3,6 +3,6 @@ use Rattle.tap_core.specs.Lines.{words_of}
 use Rattle.std.specs.List.{join_with_byte}
 use Rattle.tap_core.proofs.line.put_line.Given as goal
 
--- the line so far is the words and the numbers that were passed
+-- the line so far is the words and the numbers already written
 abbrev pub invariant-loop-number : goal.invariant-loop-number
 invariant-loop-number l = l.line.items ≡ join_with_byte 32 (words_of l.name (take l.number-index l.numbers))

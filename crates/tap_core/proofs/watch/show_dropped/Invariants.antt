@@ -2,7 +2,7 @@ use Rattle.std.proofs.Common.{◌≡◌, ◌++◌, take, drop}
 use Rattle.tap_core.specs.Lists.{entries, dropped, left_after_one}
 use Rattle.tap_core.proofs.watch.show_dropped.Given as goal
 
--- the taps after the whole pass are those passed over, and what the pass makes of the others
+-- the taps after the whole pass are the taps already passed, then the rest after the pass
 abbrev pub invariant-loop-tap : goal.invariant-loop-tap
 invariant-loop-tap g l =
     let entries_of = entries g.T.Tap.kind_of g.T.Tap.state_of

@@ -1,7 +1,7 @@
 use Rattle.std.proofs.Common.{refl}
 use Rattle.summary_core.proofs.recorder.SummaryRecorder.arrived.Goals as goal
 
--- after the call only `live` changes, of which sums say nothing
+-- after the call only `live` changes, which `Sums` doesn't mention
 pub returns-clause-ok : goal.returns-clause-ok
 returns-clause-ok g c bytes policy a same name =
     let ok = rw c.in_ok-counted.was at c.count_arrival-counted.ensures.ok in

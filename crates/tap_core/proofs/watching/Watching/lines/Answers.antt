@@ -5,7 +5,7 @@ use Rattle.tap_core.specs.declared.kinds.TapKind.{TapKind}
 use Rattle.tap_core.specs.Lists.{Entry, entries, lines_of, Slot, Tracks}
 use Rattle.tap_core.proofs.watching.Watching.lines.Goals as goal
 
--- the text for all entries, where it is that for each list of them
+-- the text for every list of entries, if it holds for each of them
 lines_for_all : {T E : Type 0} (kind_of : T → TapKind) (state_of : T → List ℕ) (r : Result (Vec ℕ Global) E)
     (s ss : List Slot) (t ts : List T) → s ≡ ss → t ≡ ts
     → ((all : List Entry) → Tracks all s (entries kind_of state_of t) → IfOk r (λ text. text.items ≡ lines_of all))
