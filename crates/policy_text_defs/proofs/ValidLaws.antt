@@ -34,7 +34,7 @@ back (g ∷ gs) hs all = back gs hs all.1
 
 -- ---- expressions
 
--- what is spelled by tokens of a line has names
+-- an expression that tokens of a line spell has valid operands
 abbrev Sound : Form → Type 0
 Sound Part = (ts : List Glyph) (a : Phrase) → AreLexed ts → Part ts a → HasOperands a
 

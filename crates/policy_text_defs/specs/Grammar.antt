@@ -33,7 +33,7 @@ relation (sign m.MoreEq) = Some op.MoreEq
 relation (sign m.More) = Some op.More
 relation _ = None
 
--- { OP PART } after a first part, grouped from the left
+-- { OP PART } after a term, grouped from the left
 pub data GoesOn (op : Glyph → Option Op) (Part : Form) : Phrase → List Glyph → Phrase → Type 0 where
   ends : (a : Phrase) → GoesOn op Part a [] a
   more : (o : Op) (g : Glyph) (ts us : List Glyph) (a b c : Phrase) → op g ≡ Some o → Part ts b → GoesOn op Part (two o a b) us c → GoesOn op Part a (g ∷ ts ++ us) c

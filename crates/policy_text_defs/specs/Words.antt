@@ -35,7 +35,7 @@ is_word w = begins_word w && list_all is_word_byte w
 abbrev pub is_name : List ℕ → Bool
 is_name w = is_word w && (nat_le (length w) most_name && not (is_reserved w))
 
--- the reserved words that stand for numbers in expressions
+-- the reserved words that denote numbers in expressions
 abbrev pub variables : List (List ℕ)
 variables = codes "len" ∷ codes "now" ∷ codes "prio" ∷ codes "weight" ∷ codes "slack" ∷ codes "rank" ∷ []
 

@@ -51,7 +51,7 @@ const RESERVED: [&str; 39] = [
     "limit",
 ];
 
-/// The reserved words that stand for numbers in expressions.
+/// The reserved words that denote numbers in expressions.
 const VARIABLES: [&str; 6] = ["len", "now", "prio", "weight", "slack", "rank"];
 
 /// Returns whether a word is spelled like the text.
