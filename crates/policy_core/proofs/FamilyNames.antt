@@ -15,8 +15,7 @@ use Rattle.policy_rules.specs.Accepted.{AreFew}
 use Rattle.policy_rules.proofs.Lines.{entry_of, within-entries, entry-at}
 use Rattle.policy_rules.proofs.Spaces.{declared-distinct, declared-few}
 
--- each node's name is declared once, each listed child is declared, and the nodes are within the
--- limit
+-- each node's name is declared once, each listed child is declared, and there aren't too many nodes
 pub record IsNamed (es : List Entry) : Type 0 where
   pub distinct : IsDistinct bytes_eq (declared node_name es)
   pub known : All (λ e. list_all (has (declared node_name es)) (children e.1) ≡ true) es

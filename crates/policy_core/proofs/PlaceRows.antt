@@ -9,8 +9,8 @@ use Rattle.tree_graph.specs.Preorder.{labels, IsTreeOf, AreTreesOf, rows, rows_b
 use Rattle.tree_graph.proofs.PreorderLaws.{at-first, at-second}
 use Rattle.policy_core.specs.Labels.{map_tree, map_trees}
 
--- a row's address leads from a node to the row's own node, which is a leaf if the graph gives it no
--- children
+-- a row's address leads from a node to the row's own, which is a leaf if it has no children in the
+-- graph
 pub record IsNodeRow (g : Graph) (f : ℕ → Node) (t : Tree ℕ) (a : Address) (r : Row) : Type 0 where
   pub rest : Address
   pub address : r.address ≡ a ++ rest

@@ -10,8 +10,7 @@ use Rattle.tree_graph.proofs.GrowthLemmas.{length-rows}
 use Rattle.policy_core.specs.Numbering.{nodes_from, nodes_from_below}
 use Rattle.policy_core.specs.Labels.{map_tree, map_trees}
 
--- a function of numbers agrees with a function of nodes on the rows, the first of which has number
--- n
+-- a function of numbers agrees with a function of nodes on rows; the first row has number n
 abbrev Agrees : {Q : Type 0} → (ℕ → Q) → (ℕ → Q) → ℕ → List Row → ℕ → Type 0
 Agrees h f n all count = (k : ℕ) → k < count → h (n + k) ≡ f (row_at all k).node
 

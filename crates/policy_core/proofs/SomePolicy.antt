@@ -1,4 +1,5 @@
--- Accepted statements give a policy: the tree of their graph below the root, and for each class the leaf that lists it.
+-- Accepted statements give a policy: the tree of their graph below the root, and for each class the
+-- leaf that lists it.
 use Rattle.std.proofs.Common.{◌≡◌, ℕ, suc, ◌<◌, ◌∙◌, true, List, [], ◌∷◌, length, get_or, map, refl, sym, ap, subst, arith, inl, inr, cond, nat_eq, Some, Any, Contains}
 use Rattle.std.specs.List.{AllByRecursion, AllZip}
 use Rattle.std.proofs.lemmas.Bool.{cases_Bool, eqb-true}

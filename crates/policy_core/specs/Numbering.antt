@@ -4,8 +4,7 @@ use Rattle.tree_defs.specs.Tree.{Tree, leaf, inner, Trees, none, more, Address, 
 use Rattle.tree_defs.specs.Topology.{Topology, office}
 use Rattle.policy_defs.specs.Policy.{Node, node_at}
 
--- a tree of this shape, with the value of each node's number at the node; the first node has number
--- n
+-- a tree of this shape, with the value of each node's number at the node; numbers start at n
 abbrev mutual
   pub nodes_from : {Q : Type 0} → (ℕ → Q) → ℕ → Topology → Tree Q
   nodes_from f n (leaf u) = leaf (f n)

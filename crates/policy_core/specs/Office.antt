@@ -1,4 +1,5 @@
--- The policy of an office: eight classes of packets, each with its leaf, and two groups of four leaves below the root.
+-- The policy of an office: eight classes of packets, each with its leaf, and two groups of four
+-- leaves below the root.
 use Rattle.std.specs.Prelude.{◌≡◌, ℕ, refl, Option, Some, None, List, [], ◌∷◌, ◌++◌, length, codes}
 use Rattle.std.specs.List.{concat}
 use Rattle.std.specs.Fmt.{digits}

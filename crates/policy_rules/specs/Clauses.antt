@@ -50,8 +50,7 @@ is_placed (e ∷ es) s = not (is_version s) && (not (is_body s) || may_follow (o
 abbrev pub IsMisplaced : List Entry → Entry → Type 0
 IsMisplaced entries e = IsTrue (not (is_placed (before e.0 entries) e.1))
 
--- ---- 2: a name that is declared on an earlier line of its space, or that is a built-in
--- transaction's
+-- ---- 2: a name declared on an earlier line of its space, or a transaction with a built-in name
 abbrev pub is_declared : List Entry → Sense → Bool
 is_declared earlier (version v) = false
 is_declared earlier (transaction n) = is_some (builtin n) || has (declared transaction_name earlier) n

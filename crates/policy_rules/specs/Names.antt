@@ -19,7 +19,7 @@ times names a = count_by (bytes_eq a) names
 abbrev pub is_once : List Name → Name → Bool
 is_once names a = nat_eq (times names a) 1
 
--- ---- the spaces: transactions, classes, nodes and leaves together, and the variables of a transaction
+-- ---- the spaces: transactions; classes; nodes and leaves together; a transaction's variables
 abbrev pub transaction_name : Sense → Option Name
 transaction_name (transaction n) = Some n
 transaction_name s = None

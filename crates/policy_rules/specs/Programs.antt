@@ -19,8 +19,7 @@ use Rattle.policy_rules.specs.Bodies.{Body, bodies}
 abbrev pub place : List Name → Name → ℕ
 place names a = unwrap_or (position (bytes_eq a) names) 0
 
--- the variable that a word denotes, given the names of the node's variables and of each child's or
--- flow's
+-- the variable that a word denotes, given the node's variables and each child's or flow's
 abbrev pub variable_of : List Name → List Name → Name → Var
 variable_of keeps eaches w =
     if bytes_eq w (codes "len") then var.Len else

@@ -101,8 +101,7 @@ again_and_unknown = numbered 1 (version 1 ∷ leaf_of root (codes "b" ∷ []) �
 pub again_before_unknown : IsFault again_and_unknown (Twice 4) × IsUnknown again_and_unknown (entry 2 (leaf_of root (codes "b" ∷ [])))
 again_before_unknown = ((none_passes (misplaced again_and_unknown) again_and_unknown refl, least_passes (again again_and_unknown) again_and_unknown 3 (entry 4 all_packets) (omega arith) refl refl refl), refl)
 
--- ---- 3 before 4: the seventeenth variable is on line 19, and a variable that isn't declared on
--- line 20
+-- ---- 3 before 4: the 17th variable is on line 19, and a variable that isn't declared on line 20
 abbrev unknown_and_beyond : List Entry
 unknown_and_beyond = numbered 1 (version 1 ∷ transaction (codes "t") ∷ variables 17 97 (push (codes "rank") (word (codes "zz")) ∷ []))
 
@@ -133,7 +132,7 @@ may_be_by_zero = two Div (number 1) (word (codes "prio"))
 parts_by_zero : ArePartsNarrow (declared fifo) (formula.two Div (formula.number 1) (formula.variable (var.Prio)))
 parts_by_zero = (record { low = le_z_yes tt; high = le_z_yes tt }, record { low = le_z_yes tt; high = le_z_yes tt }, record { low = le_z_yes tt; high = le_z_yes tt })
 
--- 4 before 5: a truth value on line 3, and the seventeenth variable of another transaction on line 21
+-- 4 before 5: a truth value on line 3, and the 17th variable of another transaction on line 21
 abbrev beyond_and_clash : List Entry
 beyond_and_clash = numbered 1 (version 1 ∷ transaction (codes "t") ∷ push (codes "rank") truth_value ∷ transaction (codes "u") ∷ variables 17 97 [])
 
@@ -149,8 +148,7 @@ clash_before_wide = ((are_few (two_pushes too_wide truth_value) refl refl refl r
     least other (inr (inl h)) = let on : 4 ≡ other = h.0 in omega arith
     least other (inr (inr none)) = absurd none
 
--- 6 before 7: an expression that may divide by zero is on line 3, and one that is too wide on line
--- 4
+-- 6 before 7: a possible division by zero is on line 3, and an expression too wide on line 4
 pub wide_before_zero : IsFault (two_pushes may_be_by_zero too_wide) (Wide 4) × SomeAt MayDivideByZero (assignments_of (programs (two_pushes may_be_by_zero too_wide))) 3
 wide_before_zero = ((are_few (two_pushes may_be_by_zero too_wide) refl refl refl refl, record { typed = typed; wide = record { here = inr (inl (refl, λ parts. clash_ℤ (lt_z_yes tt) parts.2.high)); least = least } }), inl (refl, refl))
   where
@@ -164,8 +162,7 @@ wide_before_zero = ((are_few (two_pushes may_be_by_zero too_wide) refl refl refl
     least other (inr (inl h)) = let on : 4 ≡ other = h.0 in omega arith
     least other (inr (inr none)) = absurd none
 
--- ---- 7 before 8: a node that no other lists is on line 2, and an expression that may divide by
--- zero on line 4
+-- ---- 7 before 8: an unlisted node is on line 2, and a possible division by zero on line 4
 abbrev zero_and_orphan : List Entry
 zero_and_orphan = numbered 1 (version 1 ∷ leaf_of (codes "x") [] ∷ transaction (codes "t") ∷ push (codes "rank") may_be_by_zero ∷ [])
 
@@ -204,7 +201,7 @@ b_lists_a = (2, entry 3 (node_of (codes "b") (codes "a" ∷ [])), omega arith, r
 pub no_root_before_cycle : IsFault no_root_and_cycle NoRoot × IsCyclic no_root_and_cycle (entry 3 (node_of (codes "b") (codes "a" ∷ [])))
 no_root_before_cycle = ((((are_few no_root_and_cycle refl refl refl refl, tt), none_passes (orphan no_root_and_cycle) no_root_and_cycle refl), refl), (1, (codes "a", b_lists_a, (codes "b", a_lists_b, refl))))
 
--- ---- 10 before 11: a root that lists itself is among its own descendants, and 65 levels below itself
+-- ---- 10 before 11: a root that lists itself: its own descendant, and 65 levels below itself
 abbrev cycle_and_deep : List Entry
 cycle_and_deep = numbered 1 (version 1 ∷ node_of root (root ∷ []) ∷ [])
 

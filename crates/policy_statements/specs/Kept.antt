@@ -40,8 +40,7 @@ AreVariables entries variables = (n : Name) → has variables n ≡ has (open_va
 abbrev pub AreVariablesAfter : List Name → Sense → List Name → Type 0
 AreVariablesAfter before s after = (earlier : List Entry) (line : ℕ) → AreVariables earlier before → AreVariables (earlier ++ entry line s ∷ []) after
 
--- how many more statements are allowed; variables and assignments are counted in the last
--- transaction
+-- how many more are allowed; variables and assignments are counted in the last transaction
 pub record IsRoom (entries : List Entry) (room : Room) : Type 0 where
   pub for_classes : length (declared class_name entries) + room.classes ≡ most_classes
   pub for_nodes : length (declared node_name entries) + room.nodes ≡ most_nodes

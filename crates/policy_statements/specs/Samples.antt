@@ -9,8 +9,7 @@ use Rattle.policy_rules.specs.Clauses.{are_operands_known}
 abbrev pub digit : Span
 digit = record { low = 0; high = 9; first = 0 }
 
--- `n` is the node's variable, `m` each child's or flow's; line 5 sets the rank, and line 6 sets `n`
--- to `m`
+-- `n` is the node's variable, `m` each child's or flow's; line 5 ranks, and line 6 sets `n` to `m`
 abbrev pub ranking : Phrase → List Entry
 ranking rank =
     numbered 1 (version 1 ∷ transaction (codes "t") ∷ keep (codes "n") digit ∷ each (codes "m") digit ∷ push (codes "rank") rank ∷ pop (codes "n") (word (codes "m")) ∷ [])

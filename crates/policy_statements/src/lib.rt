@@ -1,6 +1,6 @@
-//! Checks what the statements of a policy declare and list: names, variables, transactions, the
-//! children of nodes, the classes of leaves, and limits by version. Begin with specs/Names.antt and
-//! specs/Kept.antt.
+//! Checks the declarations and lists in the statements of a policy: names, variables, transactions,
+//! the children of nodes, the classes of leaves, and limits by version. Begin with specs/Names.antt
+//! and specs/Kept.antt.
 #![tactic(auto)]
 
 mod bodies;

@@ -63,8 +63,7 @@ infix_text op left right = left ++ (codes " " ++ (op_text op ++ (codes " " ++ ri
 abbrev pub call_text : Op → List ℕ → List ℕ → List ℕ
 call_text op left right = op_text op ++ (codes "(" ++ (left ++ (codes ", " ++ (right ++ codes ")"))))
 
--- an operand of `+ - * /` or of a comparison is in parentheses exactly if it is itself such an
--- expression
+-- an operand of `+ - * /` or of a comparison has parentheses exactly if it is such an expression
 abbrev pub term_text : Phrase → List ℕ
 term_text (number n) = decimal n
 term_text (word w) = w

@@ -72,9 +72,9 @@ pub data IsOperand (w : List ℕ) : Type 0 where
   variable : is_variable w ≡ true → IsOperand w
 
 -- ATOM, given the form of an expression inside its parentheses:
--- NUMBER | NAME | len | now | prio | weight | slack | rank | ( EXPR ) | min(EXPR, EXPR) | max(EXPR,
--- EXPR)
--- | and(EXPR, EXPR) | or(EXPR, EXPR) | not(EXPR) | if(EXPR, EXPR, EXPR)
+-- NUMBER | NAME | len | now | prio | weight | slack | rank | ( EXPR )
+-- | min(EXPR, EXPR) | max(EXPR, EXPR) | and(EXPR, EXPR) | or(EXPR, EXPR) | not(EXPR)
+-- | if(EXPR, EXPR, EXPR)
 pub data AtomOver (Inside : Form) : List Glyph → Phrase → Type 0 where
   number_atom : (n : ℕ) → AtomOver Inside (figure n ∷ []) (number n)
   word_atom : (w : List ℕ) → IsOperand w → AtomOver Inside (text w ∷ []) (word w)

@@ -96,7 +96,8 @@ pub data Address : List Glyph → ℕ → ℕ → Type 0 where
   whole : (o : Octets) → AreOctets o → Address (octet_tokens o) (address_of o) most_prefix
   prefix : (o : Octets) (l : ℕ) → AreOctets o → l ≤ most_prefix → Address (octet_tokens o ++ sign m.Slash ∷ figure l ∷ []) (address_of o) l
 
--- COND: `vlan R`, `dscp R`, `proto R`, `sport R`, `dport R`, `len R`, `proto tcp`, `proto udp`, `proto icmp`, `src A`, `dst A`, `ipv4`, `ipv6`
+-- COND: `vlan R`, `dscp R`, `proto R`, `sport R`, `dport R`, `len R`, `proto tcp`, `proto udp`,
+-- `proto icmp`, `src A`, `dst A`, `ipv4`, `ipv6`
 pub data IsCondition : List Glyph → Condition → Type 0 where
   field : (f : FieldName) (ts : List Glyph) (low high : ℕ) → Range ts low high → high ≤ field_most f → IsCondition (text (field_word f) ∷ ts) (condition.Field f low high)
   protocol : (w : List ℕ) (n : ℕ) → protocol_of w ≡ Some n → IsCondition (text (codes "proto") ∷ text w ∷ []) (condition.Field field_name.Proto n n)

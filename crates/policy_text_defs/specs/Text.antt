@@ -41,8 +41,7 @@ pub data Entries : ℕ → List (List ℕ) → List Entry → Type 0 where
   empty : (n : ℕ) (line : List ℕ) (lines : List (List ℕ)) (es : List Entry) → list_all is_blank line ≡ true → Entries (suc n) lines es → Entries n (line ∷ lines) es
   carried : (n : ℕ) (line : List ℕ) (lines : List (List ℕ)) (s : Sense) (es : List Entry) → Carries line s → Entries (suc n) lines es → Entries n (line ∷ lines) (entry n s ∷ es)
 
--- the text isn't too long, each line parses or is blank, and these are its statements with their
--- line numbers
+-- the text isn't too long, each line parses or is blank, and these are its statements by line
 pub record HasEntries (text : List ℕ) (es : List Entry) : Type 0 where
   pub short : length text ≤ most_text
   pub entries : Entries 1 (statements_of text) es
@@ -79,8 +78,7 @@ pub record IsFirstFault (text : List ℕ) (n : ℕ) (f : Fault) : Type 0 where
   pub short : length text ≤ most_text
   pub first : FirstFault 1 (statements_of text) n f
 
--- leading blanks are skipped, and the first word ends before a byte that isn't a letter, digit or
--- `_`
+-- leading blanks are skipped; the first word ends before any byte but a letter, a digit or `_`
 first_words : map first_word (codes "\t shape=9 w" ∷ codes "shapes w" ∷ codes "9 shape" ∷ []) ≡ codes "shape" ∷ codes "shapes" ∷ codes "9" ∷ []
 first_words = refl
 

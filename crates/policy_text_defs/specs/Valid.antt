@@ -1,5 +1,4 @@
--- The statements that can be written: names are valid, numbers are in range, expressions aren't too
--- deep.
+-- The statements that can be written: valid names, numbers in range, expressions not too deep.
 use Rattle.std.specs.Prelude.{◌≡◌, refl, ℕ, ◌<◌, ◌≤◌, ◌^◌, true, Option, Some, None, IfSome, codes}
 use Rattle.std.proofs.Common.{lit≤}
 use Rattle.std.specs.List.{AllByRecursion}

@@ -147,8 +147,7 @@ no_names = refl
 sixty_four_bytes_are_a_name : map (λ n. is_name (replicate n 97)) (1 ∷ 64 ∷ 65 ∷ []) ≡ true ∷ true ∷ false ∷ []
 sixty_four_bytes_are_a_name = refl
 
--- an expression may read any of these variables, a push may write only the rank; a keyword is
--- neither
+-- an expression may read any variable, a push may set only the rank, and a keyword is neither
 operands : map is_operand (codes "vt" ∷ codes "rank" ∷ codes "len" ∷ codes "leaf" ∷ []) ≡ true ∷ true ∷ true ∷ false ∷ []
 operands = refl
 
