@@ -1,4 +1,4 @@
--- What accepted statements are known to have.
+-- Properties of accepted statements.
 use Rattle.std.proofs.Common.{◌≡◌, ℕ, ◌<◌, Bool, true, false, not, List, length, get_or, refl}
 use Rattle.policy_text_defs.specs.Sense.{Entry}
 use Rattle.rank_defs.specs.Checks.{AreChecked}
@@ -7,7 +7,7 @@ use Rattle.policy_rules.specs.Clauses.{NoLine, IsUnknown, is_known, IsNotListedO
 use Rattle.policy_rules.specs.Programs.{programs}
 use Rattle.policy_rules.specs.Accepted.{AreAccepted, AreKnown, HaveRoot}
 
--- what is refused where it fails holds
+-- a test holds if its failure is rejected
 pub holds : (b : Bool) → (not b ≡ true → ⊥) → b ≡ true
 holds true h = refl
 holds false h = absurd (h refl)
@@ -27,6 +27,6 @@ strays-none es accepted = accepted.0.0.1
 pub catch_all-there : (es : List Entry) → AreAccepted es → has_catch_all es ≡ true
 catch_all-there es accepted = accepted.0.1
 
--- what the statement at a place uses is declared
+-- the names that the statement at an index uses are declared
 pub known-at : (es : List Entry) (k : ℕ) (d : Entry) → NoLine (IsUnknown es) es → k < length es → is_known es (before (get_or es k d).0 es) (get_or es k d).1 ≡ true
 known-at es k d known l = holds _ (known k d l)

@@ -1,4 +1,4 @@
--- The parts that are made of accepted statements are the parts of their policy.
+-- The parts built from accepted statements are the parts of their policy.
 use Rattle.std.proofs.Common.{◌≡◌, ◌<◌, ◌≤◌, ℕ, suc, Option, List, [], ◌∷◌, refl, sym, ap, subst, ◌∙◌, length, map, get_or, position, arith}
 use Rattle.std.specs.Prelude.{unwrap_or}
 use Rattle.std.specs.Str.{bytes_eq}
@@ -68,7 +68,7 @@ pub record AreParts (es : List Entry) (tree : Numbered) (ss : List PolicyNode) (
   pub homes : AreHomes es tree.rows ns
   pub classes : map made cs ≡ made_of (classes_in es) ns
 
--- what each call makes, put together
+-- the results of the calls, put together
 pub parts-made : (es : List Entry) (g : List (List ℕ)) (r : ℕ) (tree : Numbered) (ss : List PolicyNode) (ps : List Program) (ns leaves : List ℕ) (cs : List Class) → g ≡ graph_of es → r ≡ place (declared node_name es) root → IsTreeBelow g r tree
     → ps ≡ known_programs es → nodes_told (known_programs es) ss ≡ nodes_in es → ns ≡ leaves → AreHomes es tree.rows leaves → map made cs ≡ made_of (classes_in es) ns → AreParts es tree ss ps ns cs
 parts-made es g r tree ss ps ns leaves cs graph at below known stations same homes classes = record {
@@ -109,7 +109,7 @@ module _ (es : List Entry) (accepted : AreAccepted es) (tree : Numbered) (ss : L
   homes-below : AreHomes es (rows 0 [] below.tree) ns
   homes-below = subst (λ (all : List Row). AreHomes es all ns) below.numbered.rows_are homes
 
-  -- the row of a number has the address of the number
+  -- the row with a number has the address of the number
   address-there : (k : ℕ) → k < length (rows 0 [] below.tree) → address_at (nodes_at es below.tree) k ≡ (row_at (rows 0 [] below.tree) k).address
   address-there k within =
       sym (address_at-topology (nodes_at es below.tree) k)
@@ -154,7 +154,7 @@ module _ (es : List Entry) (accepted : AreAccepted es) (tree : Numbered) (ss : L
   pub conditions-made : map (λ (c : Class). c.conditions) cs ≡ map (λ (d : Declared). d.conditions) (classes_in es)
   conditions-made = conditions-of cs ∙ ap (map (λ (m : Made). m.conditions)) classes ∙ told-of (classes_in es) ns leaves-count
 
-  -- what was made is the policy of the statements
+  -- the assembled policy is the policy of the statements
   pub resolved-made : (v : ℕ) → v ≡ version_of es → AreValid es → IsResolved es (resolved v tree ss ps cs)
   resolved-made v version valid =
       let t : IsNodeTree es below.tree = node-tree es below.tree accepted valid below.is_tree below.root_is in
@@ -170,7 +170,7 @@ module _ (es : List Entry) (accepted : AreAccepted es) (tree : Numbered) (ss : L
   pub built-in-made : (v : ℕ) → v ≡ version_of es → AreValid es → AreBuiltIn (resolved v tree ss ps cs).policy
   built-in-made v version valid = built-in es (resolved v tree ss ps cs) (resolved-made v version valid)
 
-  -- ---- the conditions under which a policy may be made of them
+  -- ---- the conditions under which a policy may be built from them
   home-leaves : (ds : List Declared) (names : List Name) (ms : List ℕ) → AllZip (IsHome es tree.rows) names ms → AllByRecursion (λ (m : Made). m.leaf < length tree.rows) (made_of ds ms)
   home-leaves [] names ms h = tt
   home-leaves (d ∷ ds) names [] h = tt
@@ -216,7 +216,7 @@ module _ (es : List Entry) (accepted : AreAccepted es) (tree : Numbered) (ss : L
       (omega (arith, sound.levels, depth-topology (tree_of tree ss ps), ap (λ (u : Topology). depth u) made_topology, depth-topology sound.tree))
       (omega (arith, sound.few, nodes-topology (tree_of tree ss ps), ap (λ (u : Topology). nodes u) made_topology, nodes-topology sound.tree))
 
--- the place of the root
+-- the index of the root
 pub root-is : (es : List Entry) (nodes : List Name) (r : Option ℕ) (n : ℕ) → AreAccepted es → nodes ≡ declared node_name es → r ≡ position (bytes_eq root) nodes → n ≡ unwrap_or r 0 → n ≡ place (declared node_name es) root
 root-is es nodes r n accepted names at is =
     is ∙ ap (λ o. unwrap_or o 0) (at ∙ ap (λ (all : List Name). position (bytes_eq root) all) names ∙ found (declared node_name es) root (root-there es accepted))

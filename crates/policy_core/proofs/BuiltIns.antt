@@ -1,4 +1,4 @@
--- A policy that accepted statements give uses the names of the built-in transactions for these alone.
+-- A policy that accepted statements give uses the names of built-in transactions only for these.
 use Rattle.std.proofs.Common.{◌≡◌, ℕ, zero, suc, List, ◌∷◌, [], sym, ap, ◌∙◌, subst, Option, Some, None}
 use Rattle.tree_defs.specs.Tree.{Tree, leaf as leaf_of, inner, Trees, none, more, Address}
 use Rattle.rank_defs.specs.Programs.{Program}

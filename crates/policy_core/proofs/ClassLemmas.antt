@@ -1,4 +1,4 @@
--- Classes that are made of statements, one by one.
+-- Classes built from statements, one by one.
 use Rattle.std.proofs.Common.{◌≡◌, ◌<◌, ◌+◌, ℕ, List, [], ◌∷◌, ◌++◌, Some, None, refl, sym, ap, ◌∙◌, length, map, take, get_or, slice_index, append-nil, length-append, arith}
 use Rattle.std.specs.List.{cons_option}
 use Rattle.std.proofs.lemmas.List.{map_push}

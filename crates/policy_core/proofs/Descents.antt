@@ -17,7 +17,7 @@ use Rattle.policy_core.proofs.FamilyNames.{IsNamed, some-entry}
 
 -- ---- a child by name is one by number
 
--- the place of a node's own name
+-- the index of a node's own name
 pub own-place : (es : List Entry) (i : ℕ) (e : Entry) (a : Name) → IsNamed es → IsNodeAt es i e → node_name e.1 ≡ Some a → place (declared node_name es) a ≡ i
 own-place es i e a named at name =
     let inside : i < length (node_entries es) = at.within in
@@ -89,7 +89,7 @@ leads-down es zero i j named inside same = ap (λ n. get_or (declared node_name 
 leads-down es (suc k) i j named inside way =
     (get_or (declared node_name es) way.0 [], child-down es i way.0 named inside way.1, leads-down es k way.0 j named (child-inside es i way.0 named inside way.1) way.2)
 
--- the end of a way is a node where its start is
+-- the end of a path is a node if its start is one
 pub leads-inside : (es : List Entry) (k i j : ℕ) → IsNamed es → i < length (node_entries es) → Leads (graph_of es) k i j → j < length (node_entries es)
 leads-inside es zero i j named inside same = subst (λ (n : ℕ). n < length (node_entries es)) same inside
 leads-inside es (suc k) i j named inside way = leads-inside es k way.0 j named (child-inside es i way.0 named inside way.1) way.2
@@ -114,6 +114,6 @@ descendants-same es a b named there also = (
   λ way. (way.0, (leads-same es (suc way.0) a b named there also).1 way.1),
 )
 
--- a node that is below anything, or above anything, is a node
+-- a node that is below or above any node is a node
 pub below-inside : (es : List Entry) (i j : ℕ) → IsBelow (graph_of es) i j → i < length (graph_of es)
 below-inside es i j way = (let inside : i < length (node_entries es) = parent-inside es i way.1.0 way.1.1 in omega (arith, inside, length-graph es))

@@ -1,4 +1,4 @@
--- Where no name is declared again, the classes are apart.
+-- If no name is declared again, the classes are distinct.
 use Rattle.std.proofs.Common.{◌≡◌, ℕ, zero, suc, ◌<◌, ◌∙◌, true, false, ◌||◌, cond, List, [], ◌∷◌, length, get_or, refl, ap, arith, inl, inr}
 use Rattle.std.proofs.lemmas.Bool.{eqb-true, cases_Bool}
 use Rattle.std.proofs.lemmas.List.Sums.{sum_by-cons}
@@ -27,8 +27,8 @@ new-class earlier (node m u a ns) new = refl
 pub distinct-classes : (es : List Entry) → AreRising es → NoLine (IsRepeated es) es → IsDistinct bytes_eq (declared class_name es)
 distinct-classes es rising fine = declared-distinct class_name es rising new-class fine
 
--- ---- classes that aren't stray are listed
--- one for the same name
+-- ---- classes that pass the clause are listed
+-- 1 for the same name
 abbrev is : Name → Name → ℕ
 is c y = cond (bytes_eq c y) 1 0
 

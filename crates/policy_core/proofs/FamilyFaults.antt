@@ -1,4 +1,4 @@
--- What the first node on a cycle and the first deep one say of the statements.
+-- Consequences of the first node on a cycle and of the first deep node for the statements.
 use Rattle.std.proofs.Common.{◌≡◌, ℕ, ◌<◌, ◌^◌, ◌↔◌, true, List, length, sym, ap, subst, ◌∙◌, arith, Vec}
 use Rattle.std.specs.declared.alloc.Global.{Global}
 use Rattle.tree_defs.specs.Tree.{most_levels}
@@ -54,7 +54,7 @@ is-shallow es rising h a deep =
     let inside : a < length (node_entries es) = leads-inside es deep.0 (root_at es) a n (omega (arith, top, length-names es)) deep.2 in
     no-number es n (IsFar es) (IsDeep (graph_of es) (root_at es)) (deep-same es n h.0.0.1) h.1 a inside deep
 
--- ---- what was found in the graph
+-- ---- results found in the graph
 
 module _ (es : List Entry) (rising : AreRising es) (rooted : HaveRoot es) (g : List (Vec ℕ Global)) (is : lists g ≡ graph_of es) where
   pub graph-range : AreInRange (lists g)

@@ -1,4 +1,4 @@
--- Where no name is declared again and none is unknown, names stand for nodes.
+-- If no name is declared again and none is unknown, names identify nodes.
 use Rattle.std.proofs.Common.{◌≡◌, ◌≢◌, ℕ, ◌<◌, ◌≤◌, true, false, not, List, [], ◌∷◌, ◌++◌, length, refl, sym, ap, subst, arith, All, get_or}
 use Rattle.std.proofs.lemmas.Bool.{and_parts, true_from_ne_false, eqb-false}
 use Rattle.std.proofs.lemmas.List.{length-append}
@@ -15,13 +15,13 @@ use Rattle.policy_rules.specs.Accepted.{AreFew}
 use Rattle.policy_rules.proofs.Lines.{entry_of, within-entries, entry-at}
 use Rattle.policy_rules.proofs.Spaces.{declared-distinct, declared-few}
 
--- each node's name is declared once, each listed child is declared, and the nodes are few
+-- each node's name is declared once, each listed child is declared, and there aren't too many nodes
 pub record IsNamed (es : List Entry) : Type 0 where
   pub distinct : IsDistinct bytes_eq (declared node_name es)
   pub known : All (λ e. list_all (has (declared node_name es)) (children e.1) ≡ true) es
   pub few : length (declared node_name es) ≤ most_nodes
 
--- ---- what the clauses say of a node or leaf
+-- ---- consequences of the clauses for a node or leaf
 
 not-again : (earlier : List Entry) (s : Sense) → is_declared earlier s ≡ false → option_map_or (has (declared node_name earlier)) (node_name s) false ≡ false
 not-again earlier (version v) h = refl

@@ -1,4 +1,4 @@
--- Statements without a fault are accepted.
+-- Statements without an error are accepted.
 use Rattle.std.proofs.Common.{◌≡◌, ◌<◌, ℕ, zero, suc, Bool, true, false, List, length, get_or, refl, inl, inr, arith}
 use Rattle.std.proofs.lemmas.Bool.{cases_lt}
 use Rattle.std.proofs.lemmas.List.{get_or_default}
@@ -13,7 +13,7 @@ use Rattle.policy_rules.specs.declared.fault.PolicyFault.{PolicyFault}
 use Rattle.policy_rules.specs.declared.fault.PolicyFault.TheVariants.{Misplaced, Twice, Unknown, TooMany, TypeClash, Wide, DivZero, Parents, NoRoot, Cycle, Deep, ClassLeaf, NoCatchAll, OldVersion, NoMemory}
 use Rattle.policy_core.specs.TextLaws.{FaultlessAreAccepted}
 
--- ---- where no line is the least, there is none
+-- ---- if no line is the first in error, none is in error
 module _ (Fails : Entry → Type 0) (es : List Entry) (none : (n : ℕ) → IsLeastLine Fails es n → ⊥) where
   none-below : (m k : ℕ) (d : Entry) → (get_or es k d).0 < m → k < length es → Fails (get_or es k d) → ⊥
   none-below zero k d low within fails = omega arith

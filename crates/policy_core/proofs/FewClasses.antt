@@ -1,4 +1,4 @@
--- How many classes accepted statements declare, and what the last of them is.
+-- The number of classes that accepted statements declare, and the last of them.
 use Rattle.std.proofs.Common.{◌≡◌, ◌≢◌, ◌≤◌, suc, Bool, true, false, true≢false, List, [], ◌∷◌, ◌++◌, refl, sym, ap, subst, length, map, append-nil, append_assoc, length-append, arith}
 use Rattle.std.specs.List.{cons_option}
 use Rattle.std.proofs.lemmas.Bool.{eqb-false}
@@ -11,7 +11,7 @@ use Rattle.policy_rules.specs.Resolved.{Declared, classes_in}
 use Rattle.policy_rules.proofs.Spaces.{declared-few}
 use Rattle.policy_core.specs.Parts.{HasCatchAll}
 
--- ---- at most so many
+-- ---- the limit on classes
 one-more : (earlier : List Entry) (s : Sense) → is_one_too_many earlier s ≡ false → length (declared class_name earlier) ≤ most_classes → length (declared class_name earlier ++ cons_option (class_name s) []) ≤ most_classes
 one-more earlier (version v) h few = omega (arith, few, length-append (declared class_name earlier) [])
 one-more earlier (transaction n) h few = omega (arith, few, length-append (declared class_name earlier) [])
@@ -44,7 +44,7 @@ few-classes es rising fine =
 abbrev conditions_in : List Entry → List (List Condition)
 conditions_in es = map (λ (d : Declared). d.conditions) (classes_in es)
 
--- what was found before ends with no condition, or nothing was found
+-- if one was found, the last class seen has no condition
 record IsCaught (found : Bool) (seen : List (List Condition)) : Type 0 where
   caught : found ≡ true → HasCatchAll seen
 

@@ -1,4 +1,4 @@
--- Where each node but the root is listed once, the graph is a forest.
+-- If each node except the root is listed once, the graph is a forest.
 use Rattle.std.proofs.Common.{◌≡◌, ◌≢◌, ℕ, zero, suc, ◌<◌, ◌≤◌, ◌⊎◌, ◌&&◌, Bool, true, false, not, cond, List, [], ◌∷◌, ◌++◌, length, refl, sym, ap, subst, ◌∙◌, arith, inl, inr, true≢false, get_or, map, Some, is_some, Contains, All, sum_by, count_by}
 use Rattle.std.proofs.lemmas.Bool.{cases_Bool, cases_eq, cases_lt, and_parts, eqb-true, eq-eqb, ne_eqb}
 use Rattle.std.proofs.lemmas.List.{get_or_default}
@@ -98,7 +98,7 @@ count-flat a (ns ∷ K) =
     let rest : count_by (bytes_eq a) (flat_map (λ ns. ns) K) ≡ sum_by (count_by (bytes_eq a)) K = count-flat a K in
     omega (arith, rest, sum_by-append (λ x. cond (bytes_eq a x) 1 0) ns (flat_map (λ ns. ns) K), sum_by-cons (count_by (bytes_eq a)) ns K)
 
--- one for the same name
+-- 1 for the same name
 abbrev is_name : Name → Name → ℕ
 is_name a x = cond (bytes_eq a x) 1 0
 

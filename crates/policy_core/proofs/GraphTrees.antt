@@ -1,4 +1,4 @@
--- A graph has a tree below a node from which no way down is long.
+-- A graph has a tree below a node if no path down from the node is too long.
 use Rattle.std.proofs.Common.{◌≡◌, ℕ, zero, suc, ◌+◌, ◌≤◌, ◌∙◌, List, [], ◌∷◌, length, refl, sym, ap, Contains, arith}
 use Rattle.std.proofs.lemmas.List.Elements.{Contains-append_right}
 use Rattle.tree_defs.specs.Tree.{Tree, leaf, inner, Trees, none, more, HasChild, root_of}
@@ -40,7 +40,7 @@ tree-above g i (j ∷ is) are have = record {
   root_is = refl;
 }
 
--- `left` levels may still come
+-- `left` more levels are allowed
 tree-within : (g : Graph) (limit left above i : ℕ) → limit ≤ left + above → IsWithin g i limit above → HasTree g i
 tree-within g limit zero above i room within =
     tree-above g i (children g i) refl (each-tree g (children g i) (λ j there. let deeper : suc above ≤ limit = child-within g i j limit above within there in absurd (omega arith)))

@@ -1,4 +1,4 @@
--- A pass over statements that gives each class that leaves list its leaf.
+-- A pass over statements that finds the leaf of each class that leaves list.
 use Rattle.std.proofs.Common.{◌≡◌, ◌⊎◌, ℕ, suc, ◌+◌, ◌<◌, ◌||◌, ◌∙◌, true, false, List, [], ◌∷◌, ◌++◌, length, map, take, drop, get_or, slice_index, refl, sym, ap, subst, arith, inl, inr, true≢false, Some, None, Contains, append-nil, append_assoc, Option, length-append, if◌then◌else◌}
 use Rattle.std.proofs.lemmas.Bool.{cases_Bool}
 use Rattle.std.proofs.lemmas.Slice.Eq.{bytes_eq-Decides}
@@ -32,7 +32,7 @@ listed-step : (names : Sense → List Name) (es : List Entry) (e : Entry) → li
 listed-step names [] e = append-nil (names e.1)
 listed-step names (f ∷ es) e = ap (λ l. names f.1 ++ l) (listed-step names es e) ∙ sym (append_assoc (names f.1) (listed names es) (names e.1))
 
--- ---- counts of what is declared
+-- ---- counts of the declared names
 listed-more : (lines : List (ℕ × Statement)) (i : ℕ) (l : ℕ × Statement) → i < length lines → l ≡ get_or lines i l
     → listed leaf_classes (entries_of (take (i + 1) lines)) ≡ listed leaf_classes (entries_of (take i lines)) ++ leaf_classes (sense_of l.1)
 listed-more lines i l short is = ap (listed leaf_classes) (entries-more lines i l short is) ∙ listed-step leaf_classes (entries_of (take i lines)) (entry l.0 (sense_of l.1))
@@ -84,13 +84,13 @@ leaf-with es before after n m u at limit ns a split there = record {
     own = sym (name-at es i ∙ ap (λ l. get_or l i []) names ∙ get_or-append_seam (declared node_name before) m (declared node_name after) [])
 
 -- ---- the pass
--- a leaf that lists the class has this place
+-- a leaf that lists the class has this preorder number
 pub record IsLeafPlace (es : List Entry) (places : List ℕ) (a : Name) (k : ℕ) : Type 0 where
   pub number : ℕ
   pub leaf : IsLeafWith es a number
   pub at : k ≡ slice_index places number
 
--- after the first lines: how many nodes came, and the leaf of each class that leaves listed
+-- after the first lines: the number of nodes so far, and the leaf of each class listed so far
 pub record IsPassing (lines : List (ℕ × Statement)) (classes : List Name) (places : List ℕ) (i node : ℕ) (leaves : List ℕ) : Type 0 where
   pub node_is : node ≡ length (declared node_name (entries_of (take i lines)))
   pub len : length leaves ≡ length classes
@@ -103,7 +103,7 @@ pass-start lines classes places leaves size = record {
   placed = λ a there known. absurd (true≢false (sym there));
 }
 
--- the node that comes next has a place
+-- the next node has an index
 pub node-within : (lines : List (ℕ × Statement)) (classes : List Name) (places leaves : List ℕ) (i node : ℕ) (l : ℕ × Statement) (a : Name) → i < length lines → l ≡ get_or lines i l
     → node_name (sense_of l.1) ≡ Some a → length places ≡ length (graph_of (entries_of lines)) → IsPassing lines classes places i node leaves → node < length places
 node-within lines classes places leaves i node l a short is declares size so_far = omega (arith, given-within node_name lines i l a short is declares, length-graph (entries_of lines), size, so_far.node_is)

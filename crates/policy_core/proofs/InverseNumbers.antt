@@ -16,7 +16,7 @@ use Rattle.policy_core.specs.Numbers.{ArePlaces}
 abbrev pub IsEachOnce : ℕ → List ℕ → Type 0
 IsEachOnce n xs = (a : ℕ) → a < n → times a xs ≡ 1
 
--- one for the same number
+-- 1 for the same number
 abbrev same : ℕ → ℕ → ℕ
 same c x = cond (nat_eq c x) 1 0
 
@@ -31,7 +31,7 @@ some-at [] i c l e = absurd (omega arith)
 some-at (x ∷ xs) zero c l e = omega (arith, times-cons c x xs, is-one c x e)
 some-at (x ∷ xs) (suc i) c l e = omega (arith, times-cons c x xs, some-at xs i c (omega arith) e)
 
--- what stands at two places occurs twice
+-- a value at two indices occurs twice
 twice : (xs : List ℕ) (i j c : ℕ) → i < j → j < length xs → get_or xs i 0 ≡ c → get_or xs j 0 ≡ c → 2 ≤ times c xs
 twice [] i j c l m e f = absurd (omega arith)
 twice (x ∷ xs) zero zero c l m e f = absurd (omega arith)
@@ -39,7 +39,7 @@ twice (x ∷ xs) zero (suc j) c l m e f = omega (arith, times-cons c x xs, is-on
 twice (x ∷ xs) (suc i) zero c l m e f = absurd (omega arith)
 twice (x ∷ xs) (suc i) (suc j) c l m e f = omega (arith, times-cons c x xs, twice xs i j c (omega arith) (omega arith) e f)
 
--- a place where it stands
+-- an index at which the value is found
 record IsFoundIn (c : ℕ) (xs : List ℕ) : Type 0 where
   place : ℕ
   within : place < length xs
@@ -75,7 +75,7 @@ still-there i q (x ∷ xs) other found = at i found.place other found.within fou
     at (suc i) zero other l is rest = ap (λ b. b || list_any (nat_eq q) (without i xs)) (eq-eqb q x (sym is))
     at (suc i) (suc k) other l is rest = ap (λ b. nat_eq q x || b) (rest i other (record { place = k; within = omega arith; is = is })) ∙ or-true (nat_eq q x)
 
--- where each number below the length occurs, no other does
+-- if each number below the length occurs once, no other number occurs
 pub each-within : (n : ℕ) (xs : List ℕ) (i : ℕ) → length xs ≡ n → IsEachOnce n xs → i < n → get_or xs i 0 < n
 each-within n xs i size once l = elim (cases_lt (get_or xs i 0) n) [
   | inl lower ↦ lower
@@ -83,7 +83,7 @@ each-within n xs i size once l = elim (cases_lt (get_or xs i 0) n) [
 ]
 
 -- ---- the numbers of the nodes
--- so far as the first rows go
+-- as far as the first rows go
 pub record ArePlacesTo (rows : List Row) (number : ℕ) (places : List ℕ) : Type 0 where
   pub len : length places ≡ length rows
   pub each : (k : ℕ) → k < number → slice_index places (row_at rows k).node ≡ k

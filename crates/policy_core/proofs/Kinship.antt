@@ -17,7 +17,7 @@ use Rattle.tree_graph.specs.Descent.{Graph, lists, children as kids}
 use Rattle.tree_graph.proofs.MarkLemmas.{length-lists}
 use Rattle.policy_core.specs.Lines.{node_entries}
 
--- ---- the loop that makes the graph
+-- ---- the loop that builds the graph
 
 abbrev pub by_numbers : List Name → List Entry → Graph
 by_numbers names entries = map (λ ns. map (place names) ns) (filter_map (λ e. family e.1) entries)
@@ -86,7 +86,7 @@ name-is e h = named-some (node_name e.1) [] ∙ ap (λ b. cond b (Some (name_of 
 pub some-name : (e : Entry) (a : Name) → node_name e.1 ≡ Some a → (is_node e ≡ true) × (name_of e ≡ a)
 some-name e a is = (ap is_some is, ap (λ o. unwrap_or o []) is)
 
--- ---- what a filter keeps
+-- ---- the elements that a filter keeps
 
 module _ {X : Type 0} (p : X → Bool) where
   kept-cons : (b : Bool) (y x : X) (xs : List X) → Contains xs x → Contains (cond b (y ∷ xs) xs) x
@@ -114,7 +114,7 @@ module _ {X : Type 0} (p : X → Bool) where
   was-there [] k x l is = absurd (omega arith)
   was-there (y ∷ ys) k x l is = was-step (p y) y x ys k l is (λ j short same. was-there ys j x short same)
 
--- a place among the nodes, and its statement
+-- an index among the nodes, and its statement
 pub record IsNodeAt (es : List Entry) (i : ℕ) (e : Entry) : Type 0 where
   pub within : i < length (node_entries es)
   pub at : get_or (node_entries es) i e ≡ e

@@ -12,7 +12,7 @@ use Rattle.policy_core.specs.Labels.{node_numbered, nodes_at}
 use Rattle.policy_core.specs.Homes.{IsHome, AreHomes, classes_at}
 use Rattle.policy_core.proofs.PlaceRows.{IsNodeAt, node-of_row}
 
--- the classes that are declared have the names that are declared
+-- the declared classes have the declared names
 pub names-classes : (es : List Entry) → map (λ (d : Declared). d.name) (classes_in es) ≡ declared class_name es
 names-classes [] = refl
 names-classes ((n, version v) ∷ es) = names-classes es

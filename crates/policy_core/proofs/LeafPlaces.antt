@@ -1,4 +1,4 @@
--- A leaf at the places of the classes that it lists.
+-- Setting a leaf at the indices of the classes that it lists.
 use Rattle.std.proofs.Common.{◌≡◌, ◌≢◌, ◌⊎◌, ℕ, ◌+◌, ◌<◌, ◌||◌, ◌∙◌, true, false, List, [], length, take, set, get_or, slice_index, sym, ap, subst, arith, inl, inr, true≢false, position, Some, None, if◌then◌else◌}
 use Rattle.std.proofs.lemmas.Bool.{cases_Bool}
 use Rattle.std.proofs.lemmas.Slice.Eq.{bytes_eq-Decides}
@@ -13,7 +13,7 @@ use Rattle.policy_rules.proofs.Places.{found, place-within, at-place}
 use Rattle.policy_core.specs.Homes.{ArePut}
 use Rattle.policy_core.proofs.PlacePrograms.{none-some, some-same}
 
--- names at one place are one name
+-- names with the same index are equal
 same-place : (names : List Name) (a b : Name) → has names a ≡ true → has names b ≡ true → place names a ≡ place names b → a ≡ b
 same-place names a b there there' same = sym (at-place names a [] there) ∙ ap (λ k. get_or names k []) same ∙ at-place names b [] there'
 

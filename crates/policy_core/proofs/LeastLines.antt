@@ -1,4 +1,4 @@
--- A fact of a name as one of its number, and the least line at fault.
+-- A fact about a name as one about its number, and the first line in error.
 use Rattle.std.proofs.Common.{◌≡◌, ℕ, ◌<◌, ◌≤◌, ◌⊎◌, ◌↔◌, true, List, length, refl, sym, ap, subst, ◌∙◌, arith, inl, inr, get_or, Option, None, Some, is_some, Contains, IsSomeAnd}
 use Rattle.std.proofs.lemmas.Bool.{cases_order}
 use Rattle.std.proofs.lemmas.List.{get_or-map, get_or_default}
@@ -15,7 +15,7 @@ use Rattle.policy_core.proofs.Kinship.{IsNodeAt, node-of, node-at, node-was, nam
 use Rattle.policy_core.proofs.FamilyNames.{IsNamed, some-entry}
 use Rattle.policy_core.proofs.Descents.{own-place}
 
--- the statement's node or leaf is at fault
+-- the statement's node or leaf is in error
 abbrev pub Fails : (Name → Type 0) → Entry → Type 0
 Fails N e = IsSomeAnd (node_name e.1) N
 

@@ -1,4 +1,4 @@
--- The ways of names that a tree goes down.
+-- The paths of names down a tree.
 use Rattle.std.proofs.Common.{◌≡◌, ℕ, zero, suc, ◌<◌, ◌∙◌, ◌++◌, true, List, [], ◌∷◌, length, get_or, refl, sym, ap, subst, arith, Option, Some, Any}
 use Rattle.std.specs.Prelude.{IsSomeAnd}
 use Rattle.tree_defs.specs.Tree.{Tree, leaf as leaf_of, inner, Trees, none, more, Address, root_of}
@@ -12,16 +12,16 @@ use Rattle.policy_core.proofs.PlacePrograms.{none-some, some-same}
 use Rattle.policy_core.proofs.Statements.{declared-there}
 use Rattle.policy_core.proofs.OneTree.{leaf-name, inner-name, inner-children}
 
--- a name stands at a place of a list
+-- a name is at an index of a list
 pub record StandsAt (names : List Name) (i : ℕ) (x : Name) : Type 0 where
   pub within : i < length names
   pub is : get_or names i x ≡ x
 
--- the statement that declares a lists b as the child of a place
+-- the statement that declares a lists b as the child at an index
 abbrev pub ListsAt : List Entry → Name → ℕ → Name → Type 0
 ListsAt es a i b = Any (λ (e : Entry). (node_name e.1 ≡ Some a) × StandsAt (children e.1) i b) es
 
--- the root stands at the empty address
+-- the root is at the empty address
 pub at-top : (t : Tree Node) (n : Node) → node_at t [] ≡ Some n → root_of t ≡ n
 at-top (leaf_of m) n at = some-same at
 at-top (inner m ts) n at = some-same at
@@ -30,7 +30,7 @@ inner-lists : (es : List Entry) (n : Node) (names : List Name) (i : ℕ) (x : Na
 inner-lists es n names i x (k, e, within, is, said) stands =
     (k, e, within, is, (inner-name es n names e.1 said, subst (λ (l : List Name). StandsAt l i x) (inner-children es n names e.1 said) stands))
 
--- ---- what stands at an address is declared
+-- ---- the node at an address is declared
 declares-named : (es : List Entry) (n : Node) (P : Sense → Type 0) → ((s : Sense) → P s → node_name s ≡ Some n.name) → Any (λ (e : Entry). P e.1) es → has (declared node_name es) n.name ≡ true
 declares-named es n P name (k, e, within, is, p) = declared-there node_name es k e n.name within (subst (λ (f : Entry). node_name f.1 ≡ Some n.name) (sym is) (name e.1 p))
 
@@ -46,13 +46,13 @@ mutual
   nodes-declared es (more t ts) zero a n said at = node-declared es t a n said.0 at
   nodes-declared es (more t ts) (suc i) a n said at = nodes-declared es ts i a n said.1 at
 
--- ---- the last step: what stands above lists what stands below
+-- ---- the last step: the node above lists the node below
 at-child : (ts : Trees Node) (i : ℕ) (n : Node) → node_below ts i [] ≡ Some n → StandsAt (names_of ts) i n.name
 at-child none i n at = absurd (none-some at)
 at-child (more t ts) zero n at = record { within = omega arith; is = ap (λ (m : Node). m.name) (at-top t n at) }
 at-child (more t ts) (suc i) n at = (let r : StandsAt (names_of ts) i n.name = at-child ts i n at in record { within = omega (arith, r.within); is = r.is })
 
--- a node stands at an address and lists a name at a place
+-- a node is at an address and lists a name at an index
 pub record IsAbove (es : List Entry) (o : Option Node) (i : ℕ) (x : Name) : Type 0 where
   pub upper : Node
   pub at : o ≡ Some upper
@@ -71,7 +71,7 @@ mutual
   last-step_below es (more t ts) (suc j) a i n said at = last-step_below es ts j a i n said.1 at
 
 -- ---- all steps: the names lead down
--- a name of some places down leads to what stands there
+-- a name leads in some steps to the node at the address below
 record IsLed (es : List Entry) (names : List Name) (k : ℕ) (x : Name) : Type 0 where
   place : ℕ
   child : Name
@@ -95,7 +95,7 @@ mutual
       let led : IsLed es (names_of ts) (length a) n.name = way-below es ts i a n said.1 at in
       record { place = suc led.place; child = led.child; stands = record { within = omega (arith, led.stands.within); is = led.stands.is }; leads = led.leads }
 
--- ---- no name comes again below itself
+-- ---- no name occurs again below itself
 no-way_back : (es : List Entry) (x : Name) → NoLine (IsCyclic es) es → Any (λ (e : Entry). node_name e.1 ≡ Some x) es → IsDescendant es x x → ⊥
 no-way_back es x acyclic (k, e, within, is, name) below =
     acyclic k e within (subst (λ (o : Option Name). IsSomeAnd o (λ a. IsDescendant es a a)) (sym name ∙ ap (λ (f : Entry). node_name f.1) (sym is)) below)

@@ -1,4 +1,4 @@
--- The name at a number is that at its address.
+-- The name at a number is the name at its address.
 use Rattle.std.proofs.Common.{◌≡◌, ℕ, Option, Some, None, List, [], sym, ap, subst, ◌∙◌}
 use Rattle.std.specs.Prelude.{IsSomeAnd}
 use Rattle.std.specs.Option.{option_map_or}

@@ -12,7 +12,7 @@ families es = filter_map (λ e. family e.1) es
 abbrev pub nodes_over : List Entry → List Entry → List Node
 nodes_over all es = filter_map (λ e. node_in all e.1) es
 
--- a statement says so of the node or leaf of number i
+-- a statement declares the node or leaf with number i: its name, its children and its properties
 pub record IsStated (all es : List Entry) (i : ℕ) : Type 0 where
   pub entry : Entry
   pub place : ℕ
@@ -22,13 +22,13 @@ pub record IsStated (all es : List Entry) (i : ℕ) : Type 0 where
   pub family : (d : List Name) → family entry.1 ≡ Some (get_or (families es) i d)
   pub node : (d : Node) → node_in all entry.1 ≡ Some (get_or (nodes_over all es) i d)
 
--- a statement of neither
+-- a statement that declares neither
 record IsOther (all : List Entry) (s : Sense) : Type 0 where
   name : node_name s ≡ None
   family : family s ≡ None
   node : node_in all s ≡ None
 
--- a statement of a node or leaf
+-- a statement that declares a node or leaf
 record IsOne (all : List Entry) (s : Sense) : Type 0 where
   own : Name
   listed : List Name
@@ -74,7 +74,7 @@ counted : (all : List Entry) (e : Entry) (es : List Entry) (i : ℕ) → IsOne a
 counted all e es zero one rest l = first all e es one
 counted all e es (suc i) one rest l = next all e es i one (rest i (omega arith))
 
--- by number, in order
+-- the statements by number, in order
 pub stated : (all es : List Entry) (i : ℕ) → i < length (declared node_name es) → IsStated all es i
 stated all [] i l = absurd (omega arith)
 stated all ((n, version v) ∷ es) i l = later all (n, version v) es i (record { name = refl; family = refl; node = refl }) (stated all es i l)
@@ -87,7 +87,7 @@ stated all ((n, class m a cs) ∷ es) i l = later all (n, class m a cs) es i (re
 stated all ((n, leaf m u a l ns) ∷ es) i k = counted all (n, leaf m u a l ns) es i (record { own = m; listed = []; said = _; name = refl; family = refl; node = refl }) (λ j m. stated all es j m) k
 stated all ((n, node m u a ns) ∷ es) i l = counted all (n, node m u a ns) es i (record { own = m; listed = ns; said = _; name = refl; family = refl; node = refl }) (λ j m. stated all es j m) l
 
--- as many of each kind
+-- there are as many families as declared names
 pub length-families : (es : List Entry) → length (families es) ≡ length (declared node_name es)
 length-families [] = refl
 length-families ((n, version v) ∷ es) = length-families es

@@ -1,4 +1,5 @@
--- Numbers and addresses give each other, in any tree; and what a tree made of a topology has at them.
+-- Numbers and addresses determine each other in any tree, and a tree built from a topology has the
+-- expected nodes at them.
 use Rattle.std.proofs.Common.{◌≡◌, ℕ, zero, suc, ◌+◌, ◌-◌, ◌<◌, [], ◌∷◌, Some, None, refl, sym, ap, subst, ◌∙◌, arith, inl, inr, nat_lt}
 use Rattle.std.proofs.lemmas.Bool.{cases_lt, lt-ltb, le-ltb}
 use Rattle.std.specs.Prelude.{if◌then◌else◌}
@@ -9,7 +10,7 @@ use Rattle.policy_defs.specs.Policy.{Node, node_at, node_below}
 use Rattle.policy_defs.specs.Numbers.{number_at, number_below}
 use Rattle.policy_core.specs.Numbering.{nodes_from, nodes_from_below, sibling_of, address_at, address_below}
 
--- ---- the sibling below which a number stands
+-- ---- the sibling whose subtree has a number
 module _ {Q : Type 0} (t : Tree Q) (ts : Trees Q) where
   pub sibling-first : (n : ℕ) → n < nodes t → sibling_of (more t ts) n ≡ 0
   sibling-first n l = ap (λ b. if b then 0 else suc (sibling_of ts (n - nodes t))) (lt-ltb n (nodes t) l)
@@ -137,7 +138,7 @@ mutual
   address-up_below (more t ts) zero a p = address-up t a p
   address-up_below (more t ts) (suc i) a p = address-up_below ts i a p
 
--- ---- a tree that is made of a topology
+-- ---- a tree built from a topology
 mutual
   pub topology_of-nodes : {Q : Type 0} (f : ℕ → Q) (n : ℕ) (t : Topology) → topology_of (nodes_from f n t) ≡ t
   topology_of-nodes f n (leaf u) = refl
@@ -148,7 +149,7 @@ mutual
   topologies_of-nodes f n (more t ts) = ap (λ (z : Topology). more z (topologies_of (nodes_from_below f (n + nodes t) ts))) (topology_of-nodes f n t) ∙ ap (more t) (topologies_of-nodes f (n + nodes t) ts)
 
 mutual
-  -- at an address stands what its number gives
+  -- the node at an address is the value of its number
   pub node_at-nodes : (f : ℕ → Node) (n : ℕ) (t : Topology) (a : Address) → IsAddressOf t a → node_at (nodes_from f n t) a ≡ Some (f (n + number_at t a))
   node_at-nodes f n (leaf u) [] p = (let e : n ≡ n + 0 = omega arith in ap (λ k. Some (f k)) e)
   node_at-nodes f n (leaf u) (i ∷ a) p = (let e : None ≡ Some p.0 = p.1 in cc)
@@ -170,7 +171,7 @@ nodes-made f t = sym (nodes-topology (nodes_from f 0 t)) ∙ ap nodes (topology_
 pub address-made : {Q : Type 0} (f : ℕ → Q) (t : Topology) (n : ℕ) → address_at (nodes_from f 0 t) n ≡ address_at t n
 address-made f t n = sym (address_at-topology (nodes_from f 0 t) n) ∙ ap (λ (u : Topology). address_at u n) (topology_of-nodes f 0 t)
 
--- at the address of a number stands what the number gives
+-- the node at the address of a number is the value of the number
 pub node_numbered : (f : ℕ → Node) (t : Topology) (n : ℕ) → n < nodes t → node_at (nodes_from f 0 t) (address_at (nodes_from f 0 t) n) ≡ Some (f n)
 node_numbered f t n l =
     let a : IsAddress t n (address_at t n) = address-undone t n l in

@@ -1,4 +1,4 @@
--- Places of names.
+-- Indices of names.
 use Rattle.std.proofs.Common.{◌≡◌, ℕ, zero, suc, ◌<◌, Bool, true, List, [], ◌∷◌, length, refl, sym, ap, subst, ◌∙◌, arith, Contains, get_or, map, None, Some, position}
 use Rattle.std.proofs.lemmas.Bool.{and_parts}
 use Rattle.std.proofs.lemmas.List.Elements.{Contains-append_right}
@@ -10,7 +10,7 @@ use Rattle.policy_rules.specs.Names.{Name, has}
 use Rattle.policy_rules.specs.Programs.{place}
 use Rattle.policy_rules.proofs.Places.{found, has-at, place-at}
 
--- a name that is there has a place
+-- a name in the list has an index
 pub not-found : (names : List Name) (a : Name) → position (bytes_eq a) names ≡ None → has names a ≡ true → ⊥
 not-found names a none h = none-some (sym (found names a h) ∙ none)
   where
@@ -25,7 +25,7 @@ all-at p (y ∷ ys) (suc k) x h l is = all-at p ys k x (and_parts (p y) (list_al
 pub has-there : (names : List Name) (k : ℕ) (a : Name) → k < length names → get_or names k a ≡ a → has names a ≡ true
 has-there names k a l is = subst (λ (n : Name). has names n ≡ true) is (has-at names k a l)
 
--- where names are distinct, the name at a place has that place
+-- if names are distinct, the name at an index has that index
 pub only-place : (names : List Name) (k : ℕ) (a : Name) → IsDistinct bytes_eq names → k < length names → get_or names k a ≡ a → place names a ≡ k
 only-place names k a distinct l is = ap (place names) (sym is) ∙ place-at names k a distinct l
 

@@ -32,6 +32,6 @@ pub only-want : (es : List Entry) (f : PolicyFault) → es ≡ office_lines → 
 only-want es NoMemory is fault = refl
 only-want es f is fault = absurd (accepted-fault office_lines f (λ same. cc) (subst (λ (l : List Entry). IsFault l f) is fault) office-accepted)
 
--- some statements were put last, and then one more
+-- some statements were appended, and then one more
 pub one-more : (old mid all front : List Sense) (s : Sense) → mid ≡ old ++ front → all ≡ mid ++ s ∷ [] → all ≡ old ++ (front ++ s ∷ [])
 one-more old mid all front s first last = last ∙ ap (λ l. l ++ s ∷ []) first ∙ append_assoc old front (s ∷ [])

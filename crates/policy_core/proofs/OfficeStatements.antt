@@ -1,4 +1,4 @@
--- The statements of the office are such as lines have, and fail no clause.
+-- The statements of the office can be written as lines, and fail no clause.
 use Rattle.std.proofs.Common.{◌≡◌, ◌≤◌, ◌<◌, ◌+◌, ◌∙◌, ℕ, zero, suc, Bool, true, not, nat_lt, if◌then◌else◌, List, [], ◌∷◌, refl, sym, ap, subst, arith, Option, Some, None, IsTrue, length, get_or}
 use Rattle.std.specs.Prelude.{IsSomeAnd, codes, ◌||◌, ◌&&◌, ◌==◌}
 use Rattle.std.specs.List.{list_all, AllByRecursion}
@@ -21,7 +21,7 @@ use Rattle.policy_rules.specs.Clauses.{NoLine, is_placed, is_declared, is_known,
 use Rattle.policy_rules.specs.Families.{ListsChild, NamesLead, IsDescendant, IsCyclic, IsTooDeep}
 use Rattle.policy_core.specs.Office.{exactly, tcp, udp, backup_network, of_weight, of_prio, office_statements, office_lines, OfficeIsAccepted}
 
--- ---- each is one that some line has
+-- ---- each statement can be written
 no-attribute : AreValidAttributes unset
 no-attribute = record { prio = tt; weight = tt; slack = tt }
 
@@ -78,7 +78,7 @@ office-valid =
 no-line : (fails : Entry → Bool) (es : List Entry) → list_all (λ e. not (fails e)) es ≡ true → NoLine (λ e. IsTrue (fails e)) es
 no-line fails es all = λ k d within here. (let passes : not (fails (get_or es k d)) ≡ true = AllPass-from_list_all (λ e. not (fails e)) es all k d within in cc)
 
--- ---- children stand on a lower level than their node
+-- ---- children are on a lower level than their node
 abbrev is_above : (Name → ℕ) → Sense → Bool
 is_above level s = option_map_or (λ a. list_all (λ b. nat_lt (level b) (level a)) (children s)) (node_name s) true
 

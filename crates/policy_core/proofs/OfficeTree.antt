@@ -1,4 +1,5 @@
--- Policies that the statements of the office give have the same tree of nodes, and as many classes.
+-- All policies that the statements of the office give have the same tree of nodes and the same
+-- number of classes.
 use Rattle.std.proofs.Common.{◌≡◌, ◌∙◌, suc, Bool, true≢false, true, false, not, List, [], ◌∷◌, refl, sym, ap, subst, length, get_or, drop, Any, IsTrue, arith}
 use Rattle.std.specs.Prelude.{codes, ◌||◌, ◌&&◌}
 use Rattle.std.specs.List.{list_all, AllByRecursion}
@@ -15,11 +16,11 @@ use Rattle.policy_rules.specs.Clauses.{root}
 use Rattle.policy_rules.specs.Resolved.{IsLeafOf, IsInnerOf, IsTreeIn, AreTreesIn, names_of, Declared, AreClassesOf, classes_in}
 use Rattle.policy_core.specs.Office.{office_lines, OfficesAreAlike}
 
--- ---- a name tells the shape of the tree below it
+-- ---- a name determines the shape of the tree below it
 abbrev HasShape : List Entry → Topology → Name → Type 0
 HasShape es shape a = (t : Tree Node) → IsTreeIn es t → (root_of t).name ≡ a → topology_of t ≡ shape
 
--- what holds of each statement holds of one
+-- a property of each statement is one of some statement
 at-some : (P : Entry → Type 0) (test : Entry → Bool) (es : List Entry) → Any P es → list_all test es ≡ true → (e : Entry) × P e × (test e ≡ true)
 at-some P test es (k, e, within, is, p) all = (e, p, subst (λ (f : Entry). test f ≡ true) is (AllPass-from_list_all test es all k e within))
 

@@ -1,4 +1,4 @@
--- A name stands at one address of a tree.
+-- A name is at one address of a tree.
 use Rattle.std.proofs.Common.{◌≡◌, ℕ, zero, suc, ◌+◌, ◌<◌, ◌≤◌, ◌∙◌, ◌++◌, true, List, [], ◌∷◌, length, get_or, cond, refl, sym, ap, subst, arith, inl, inr, Some, Contains, length-append}
 use Rattle.std.specs.List.{sum_by}
 use Rattle.std.specs.Str.{bytes_eq}
@@ -18,8 +18,8 @@ use Rattle.policy_core.proofs.PlacePrograms.{some-same}
 use Rattle.policy_core.proofs.Statements.{at-one_place}
 use Rattle.policy_core.proofs.NameWays.{StandsAt, ListsAt, IsAbove, at-top, last-step, node-declared, no-second_root}
 
--- ---- places of a list
--- one for the same name
+-- ---- indices in a list
+-- 1 for the same name
 abbrev same_as : Name → Name → ℕ
 same_as x y = cond (bytes_eq x y) 1 0
 
@@ -41,7 +41,7 @@ twice (y ∷ ys) zero (suc j) x below within is_i is_j = omega (arith, times-con
 twice (y ∷ ys) (suc i) zero x below within is_i is_j = absurd (omega arith)
 twice (y ∷ ys) (suc i) (suc j) x below within is_i is_j = omega (arith, times-cons x y ys, twice ys i j x (omega arith) (omega arith) is_i is_j)
 
--- a name that comes at most once has one place
+-- a name that occurs at most once has one index
 one-place : (ys : List Name) (i j : ℕ) (x : Name) → times ys x ≤ 1 → StandsAt ys i x → StandsAt ys j x → i ≡ j
 one-place ys i j x once at_i at_j = elim (cases_order i j) [
   | inl same ↦ same
@@ -49,7 +49,7 @@ one-place ys i j x once at_i at_j = elim (cases_order i j) [
   | inr (inr above) ↦ absurd (omega (arith, once, twice ys j i x above at_i.within at_j.is at_i.is))
 ]
 
--- ---- one statement lists a child, at one place
+-- ---- one statement lists a child, at one index
 times-once : (es : List Entry) (x : Name) (k : ℕ) (e : Entry) → is_once (listed children es) x ≡ true → k < length es → get_or es k e ≡ e → times (children e.1) x ≤ 1
 times-once es x k e once within is =
     let one : times (listed children es) x ≡ 1 = eqb-true (times (listed children es) x) 1 once in
@@ -90,7 +90,8 @@ module _ (es : List Entry) (acyclic : NoLine (IsCyclic es) es) (parents : NoLine
   below-once : (i : ℕ) (a : Address) (n : Node) → node_at t (i ∷ a) ≡ Some n → is_once (listed children es) n.name ≡ true
   below-once i a n at = child-once es n.name parents (node-declared es t (i ∷ a) n said at) (λ same. no-second_root es t i a n acyclic said at (same ∙ sym top))
 
-  -- nodes of one name stand at one address: each is listed at one place of one node, which again stands at one address
+  -- nodes of one name are at one address: the name is listed at one index of one node, and that
+  -- node is again at one address
   by-length : (k : ℕ) (a b : Address) (n m : Node) → length a ≤ k → node_at t a ≡ Some n → node_at t b ≡ Some m → n.name ≡ m.name → a ≡ b
   by-length k [] [] n m short at_a at_b same = refl
   by-length k [] (j ∷ b) n m short at_a at_b same = absurd (no-second_root es t j b m acyclic said at_b (sym same ∙ ap (λ (x : Node). x.name) (sym (at-top t n at_a))))

@@ -22,7 +22,7 @@ use Rattle.policy_core.proofs.Statements.{at-one_place}
 use Rattle.policy_core.proofs.OneTree.{one-tree}
 use Rattle.policy_core.proofs.OnePlace.{one-address}
 
--- ---- what accepted statements have
+-- ---- properties of accepted statements
 new-there : (es : List Entry) → AreAccepted es → NoLine (IsRepeated es) es
 new-there es accepted = (let r : HaveRoot es = accepted.0.0.0.0.0 in let known : AreKnown es = r.0.0.0.0 in known.0.1)
 
@@ -55,7 +55,7 @@ lister-classes n c (class m a cs) h = absurd h
 lister-classes n c (leaf m u a l ns) h = h.1
 lister-classes n c (node m u a ns) h = absurd h
 
--- leaves that list one class have one name
+-- leaves that list the same class have the same name
 one-name : (es : List Entry) (c : Name) → NoLine (IsNotListedOnce es) es → has (declared class_name es) c ≡ true → (n m : Name) → Any (λ (e : Entry). ListsClass n c e.1) es → Any (λ (e : Entry). ListsClass m c e.1) es → n ≡ m
 one-name es c none there n m (k, e, within_k, is_e, p) (l, f, within_l, is_f, q) = some-same (sym (lister-name n c e.1 p) ∙ ap (λ (g : Entry). node_name g.1) same ∙ lister-name m c f.1 q)
   where

@@ -1,4 +1,4 @@
--- Two trees of one root are one.
+-- Two trees with the same root are equal.
 use Rattle.std.proofs.Common.{◌≡◌, ℕ, suc, ◌∙◌, List, [], length, drop, get_or, refl, sym, ap, arith, Option, Some, None, Any}
 use Rattle.tree_defs.specs.Tree.{Tree, leaf as leaf_of, inner, Trees, none, more, root_of}
 use Rattle.rank_defs.specs.Programs.{Program}
@@ -13,7 +13,7 @@ use Rattle.policy_core.proofs.PlacePrograms.{some-same}
 use Rattle.policy_core.proofs.Statements.{of-one_statement}
 
 -- ---- one statement
--- it declares the node that it speaks of
+-- it declares the node that it is about
 pub leaf-name : (es : List Entry) (n : Node) (s : Sense) → IsLeafOf es n s → node_name s ≡ Some n.name
 leaf-name es n (version v) h = absurd h
 leaf-name es n (transaction t) h = absurd h
@@ -36,7 +36,7 @@ inner-name es n names (class m a cs) h = absurd h
 inner-name es n names (leaf m u a l ns) h = absurd h
 inner-name es n names (node m u a ns) h = ap Some (sym h.0.name_is)
 
--- and lists the children
+-- it lists the children
 pub inner-children : (es : List Entry) (n : Node) (names : List Name) (s : Sense) → IsInnerOf es n names s → names ≡ children s
 inner-children es n names (version v) h = absurd h
 inner-children es n names (transaction t) h = absurd h
@@ -89,7 +89,7 @@ leaf-not_inner es n m names (class w a cs) h k = h
 leaf-not_inner es n m names (leaf w u a l ns) h k = k
 leaf-not_inner es n m names (node w u a ns) h k = h
 
--- ---- trees, whose statements are the same all the way down
+-- ---- trees whose statements are the same at every level
 module _ (es : List Entry) (rising : AreRising es) (new : NoLine (IsRepeated es) es) where
   of-both : (n m : Node) (P Q : Sense → Type 0) → n.name ≡ m.name → ((s : Sense) → P s → node_name s ≡ Some n.name) → ((s : Sense) → Q s → node_name s ≡ Some m.name)
       → Any (λ (e : Entry). P e.1) es → Any (λ (e : Entry). Q e.1) es → (s : Sense) × P s × Q s

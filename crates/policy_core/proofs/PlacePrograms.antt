@@ -1,4 +1,4 @@
--- The programs that names of transactions have.
+-- The programs that names of transactions denote.
 use Rattle.std.proofs.Common.{◌≡◌, ◌||◌, ◌∙◌, Bool, true, false, cond, List, [], ◌∷◌, map, refl, sym, ap, subst, inl, inr, true≢false, Option, Some, None, is_some, unwrap_or, find, option_map}
 use Rattle.std.proofs.lemmas.Bool.{cases_Bool}
 use Rattle.std.specs.List.{AllByRecursion}
@@ -21,7 +21,7 @@ some-unwrapped : {X : Type 0} (o : Option X) (d : X) → is_some o ≡ true → 
 some-unwrapped None d h = absurd (true≢false (sym h))
 some-unwrapped (Some x) d h = refl
 
--- ---- a program is there
+-- ---- there is a program
 -- the transactions in the order of their lines
 names-bodies : (es : List Entry) → map (λ (b : Body). b.name) (bodies es) ≡ declared transaction_name es
 names-bodies [] = refl
@@ -54,7 +54,7 @@ program-there es u known =
     (either-some (builtin u) (body_named es u) (has (declared transaction_name es) u) known
     (λ declared. find-there u (bodies es) (ap (λ names. has names u) (names-bodies es) ∙ declared)))
 
--- ---- what holds of all programs holds of it
+-- ---- a property of all programs is one of this program
 found-holds : {X : Type 0} (P : X → Type 0) (test : X → Bool) (xs : List X) (x : X) → AllByRecursion P xs → find test xs ≡ Some x → P x
 found-holds P test [] x all e = absurd (none-some e)
 found-holds {X} P test (y ∷ ys) x all e = by (test y) e (λ later. found-holds P test ys x all.1 later)

@@ -9,7 +9,8 @@ use Rattle.tree_graph.specs.Preorder.{labels, IsTreeOf, AreTreesOf, rows, rows_b
 use Rattle.tree_graph.proofs.PreorderLaws.{at-first, at-second}
 use Rattle.policy_core.specs.Labels.{map_tree, map_trees}
 
--- a row's address leads from a node to the row's own, which is a leaf where the graph gives it no children
+-- a row's address leads from a node to the row's own, which is a leaf if it has no children in the
+-- graph
 pub record IsNodeRow (g : Graph) (f : ℕ → Node) (t : Tree ℕ) (a : Address) (r : Row) : Type 0 where
   pub rest : Address
   pub address : r.address ≡ a ++ rest
@@ -26,7 +27,7 @@ record IsNodeRowBelow (g : Graph) (f : ℕ → Node) (ts : Trees ℕ) (a : Addre
 some-child : (g : Graph) (i : ℕ) (t : Tree ℕ) (ts : Trees ℕ) → labels (more t ts) ≡ children g i → children g i ≡ [] → ⊥
 some-child g i t ts own childless = (let e : suc (length (labels ts)) ≡ 0 = ap length own ∙ ap length childless in absurd (omega arith))
 
--- a row below the first child on stands below their parent
+-- a row below the siblings from the first on is below their parent
 below-first : (g : Graph) (f : ℕ → Node) (i : ℕ) (t : Tree ℕ) (ts : Trees ℕ) (a : Address) (r : Row) → IsNodeRowBelow g f (more t ts) a 0 r → IsNodeRow g f (inner i (more t ts)) a r
 below-first g f i t ts a r p =
     let digit : 0 + p.digit ≡ p.digit = omega arith in

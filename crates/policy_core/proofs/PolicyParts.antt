@@ -1,4 +1,4 @@
--- What the parts of a policy say of its value.
+-- Consequences of the parts of a policy for its value.
 use Rattle.std.proofs.Common.{◌≡◌, ℕ, ◌<◌, ◌≤◌, ◌↔◌, Bool, List, [], ◌∷◌, ◌++◌, length, Option, Some, sym, ap, subst, ◌∙◌, arith, zero, suc, get_or}
 use Rattle.std.specs.Prelude.{IsSomeAnd, IsTrue}
 use Rattle.std.specs.List.{AllByRecursion}

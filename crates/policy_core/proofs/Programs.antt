@@ -1,4 +1,4 @@
--- The program at the place that a name has.
+-- The program at the index of a name.
 use Rattle.std.proofs.Common.{◌≡◌, ◌<◌, ℕ, zero, suc, true, true≢false, Option, Some, None, List, [], ◌∷◌, sym, ◌∙◌, length, slice_index_or, arith}
 use Rattle.std.specs.Prelude.{slice_get, is_some, unwrap_or}
 use Rattle.std.specs.Option.{option_and_then}
@@ -12,7 +12,7 @@ use Rattle.policy_core.proofs.PlacePrograms.{program-there}
 use Rattle.policy_core.specs.Made.{IsPlaceOf}
 use Rattle.policy_core.specs.Parts.{no_program}
 
--- what is got stands there
+-- the value found is at the index
 record IsGot {X : Type 0} (xs : List X) (i : ℕ) (d x : X) : Type 0 where
   within : i < length xs
   there : slice_index_or xs i d ≡ x
@@ -22,7 +22,7 @@ got [] i d x h = absurd cc
 got (y ∷ ys) zero d x h = record { within = omega arith; there = (let e : y ≡ x = cc in e) }
 got (y ∷ ys) (suc i) d x h = (let rest : IsGot ys i d x = got ys i d x h in record { within = omega (arith, rest.within); there = rest.there })
 
--- a place that is told gives the program of a name that is known
+-- an index that is found gives the program of a known name
 pub place-of : (es : List Entry) (used : Name) (r : Option ℕ) → option_and_then (λ place. slice_get (known_programs es) place) r ≡ program_named es used → is_some r ≡ true → is_transaction_known es used ≡ true
     → IsPlaceOf es used (unwrap_or r 0)
 place-of es used None at some known = absurd (true≢false (sym some))

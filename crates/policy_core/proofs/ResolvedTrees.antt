@@ -49,7 +49,7 @@ is-inner es earlier n names ns (class m a cs) some same f e known = absurd (none
 is-inner es earlier n names ns (leaf m u a l ms) some same f e known = (let none : length ns ≡ 0 = ap length (sym (some-same f)) in absurd (omega (arith, none, some)))
 is-inner es earlier n names ns (node m u a ms) some same f e known = (is-node es n m u a None e (and_parts _ _ known).0, same ∙ sym (some-same f))
 
--- what a node lists is known
+-- the names that a node lists are known
 pub family-known : (es earlier : List Entry) (ns : List Name) (s : Sense) → family s ≡ Some ns → is_known es earlier s ≡ true → list_all (has (declared node_name es)) ns ≡ true
 family-known es earlier ns (version v) f known = absurd (none-some f)
 family-known es earlier ns (transaction t) f known = absurd (none-some f)

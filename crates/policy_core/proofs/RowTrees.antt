@@ -1,4 +1,4 @@
--- A tree that is made of what rows tell.
+-- A tree built from the contents of rows.
 use Rattle.std.proofs.Common.{◌≡◌, ℕ, suc, ◌+◌, ◌<◌, List, [], ◌∷◌, ◌++◌, length, refl, ap, ◌∙◌, arith}
 use Rattle.std.proofs.lemmas.List.{get_or_append_left, get_or-append-add}
 use Rattle.tree_defs.specs.Tree.{Tree, leaf, inner, Trees, none, more, Address, nodes, nodes_below}
@@ -10,7 +10,7 @@ use Rattle.tree_graph.proofs.GrowthLemmas.{length-rows}
 use Rattle.policy_core.specs.Numbering.{nodes_from, nodes_from_below}
 use Rattle.policy_core.specs.Labels.{map_tree, map_trees}
 
--- a function of numbers agrees with one of nodes on rows, the first of which has number n
+-- a function of numbers agrees with a function of nodes on rows; the first row has number n
 abbrev Agrees : {Q : Type 0} → (ℕ → Q) → (ℕ → Q) → ℕ → List Row → ℕ → Type 0
 Agrees h f n all count = (k : ℕ) → k < count → h (n + k) ≡ f (row_at all k).node
 

@@ -1,4 +1,4 @@
--- A tree keeps its shape where what stands at its nodes changes.
+-- A tree keeps its shape if only the values at its nodes change.
 use Rattle.std.proofs.Common.{◌≡◌, ◌+◌, max, refl, ap, ap₂}
 use Rattle.tree_defs.specs.Tree.{Tree, leaf, inner, Trees, none, more, nodes, nodes_below, depth, depth_below}
 use Rattle.tree_defs.specs.Topology.{topology_of, topologies_of}

@@ -1,4 +1,5 @@
--- Accepted statements give a policy: the tree of their graph below the root, and for each class the leaf that lists it.
+-- Accepted statements give a policy: the tree of their graph below the root, and for each class the
+-- leaf that lists it.
 use Rattle.std.proofs.Common.{◌≡◌, ℕ, suc, ◌<◌, ◌∙◌, true, List, [], ◌∷◌, length, get_or, map, refl, sym, ap, subst, arith, inl, inr, cond, nat_eq, Some, Any, Contains}
 use Rattle.std.specs.List.{AllByRecursion, AllZip}
 use Rattle.std.proofs.lemmas.Bool.{cases_Bool, eqb-true}
@@ -47,7 +48,7 @@ lister-childless n c (class m a cs) h = absurd h
 lister-childless n c (leaf m u a l ns) h = refl
 lister-childless n c (node m u a ns) h = absurd h
 
--- the statement of a node lists the class, and so it is a leaf
+-- a statement that lists the class declares this node, so the node is a leaf
 leaf-of : (es : List Entry) (c n : Name) (k : ℕ) (e : Entry) (i : ℕ) → k < length es → get_or es k e ≡ e → node_name e.1 ≡ Some n → ListsClass n c e.1 → IsNodeAt es i e → IsLeafWith es c i
 leaf-of es c n k e i within is named lists at = record {
   within = omega (arith, at.within, length-nodes es, length-graph es);
@@ -55,7 +56,7 @@ leaf-of es c n k e i within is named lists at = record {
   lists = (k, e, within, is, subst (λ (x : Name). ListsClass x c e.1) (sym (resolving.name-at es i ∙ name-at es i e [] at ∙ (some-name e n named).1)) lists);
 }
 
--- each class that is declared has one
+-- each declared class has a leaf
 leaf-there : (es : List Entry) → AreAccepted es → (c : Name) → has (declared class_name es) c ≡ true → (i : ℕ) × IsLeafWith es c i
 leaf-there es accepted c declares = listed (class-leaf es c (strays-none es accepted) declares)
   where
@@ -71,7 +72,7 @@ record StandsIn (i : ℕ) (is : List ℕ) : Type 0 where
   within : at < length is
   there : get_or is at 0 ≡ i
 
--- one for the same number
+-- 1 for the same number
 abbrev same : ℕ → ℕ → ℕ
 same i j = cond (nat_eq i j) 1 0
 
@@ -85,7 +86,7 @@ stands i (j ∷ is) some = elim (cases_Bool (nat_eq i j)) [
       record { at = suc r.at; within = omega (arith, r.within); there = r.there })
 ]
 
--- the leaf stands in the tree
+-- the leaf is in the tree
 home-at : (es : List Entry) (t : Tree ℕ) (c : Name) (i : ℕ) → IsLeafWith es c i → StandsIn i (preorder t) → (k : ℕ) × IsHome es (rows 0 [] t) c k
 home-at es t c i with_leaf stands_in =
     let nodes : nodes_of (rows 0 [] t) ≡ preorder t = nodes_of-rows 0 [] t in
@@ -121,7 +122,7 @@ module _ (es : List Entry) (rising : AreRising es) (accepted : AreAccepted es) w
   homes = all-homes es (rows 0 [] below.tree) (declared class_name es)
       (recursion_from_All (λ (c : Name). (k : ℕ) × IsHome es (rows 0 [] below.tree) c k) (declared class_name es) (λ k d within. home (get_or (declared class_name es) k d) (has-at (declared class_name es) k d within)))
 
--- what a tree and its homes give
+-- the policy that a tree and the homes of its classes give
 policy-of : (es : List Entry) (t : Tree ℕ) (ks : List ℕ) → IsTreeOf (graph_of es) t → IsNodeTree es t → AreHomes es (rows 0 [] t) ks → (r : Resolved) × IsResolved es r
 policy-of es t ks is_tree named at = (
   record {

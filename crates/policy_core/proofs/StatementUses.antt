@@ -1,4 +1,4 @@
--- What a statement uses, of a list of lines.
+-- The names that a statement uses, in a list of lines.
 use Rattle.std.proofs.Common.{◌≡◌, ◌<◌, ℕ, true, List, subst, length, get_or}
 use Rattle.policy_text_defs.specs.declared.statement.Statement.{Statement}
 use Rattle.policy_text_defs.specs.Sense.{Entry, sense_of}
@@ -8,7 +8,7 @@ use Rattle.policy_rules.specs.Clauses.{NoLine, IsUnknown, is_known}
 use Rattle.policy_rules.proofs.Lines.{entry_of, within-entries, entry-at}
 use Rattle.policy_core.proofs.AcceptedStatements.{known-at}
 
--- what a line uses is declared
+-- the names that a line uses are declared
 pub known-here : (lines : List (ℕ × Statement)) (i : ℕ) (l : ℕ × Statement) → NoLine (IsUnknown (entries_of lines)) (entries_of lines) → i < length lines → l ≡ get_or lines i l
     → is_known (entries_of lines) (before l.0 (entries_of lines)) (sense_of l.1) ≡ true
 known-here lines i l known within is =

@@ -1,4 +1,4 @@
--- No two statements declare one node or leaf.
+-- No two statements declare the same node or leaf.
 use Rattle.std.proofs.Common.{◌≡◌, ℕ, zero, suc, ◌<◌, ◌||◌, ◌∙◌, true, List, [], ◌∷◌, length, take, get_or, refl, sym, ap, subst, arith, inl, inr, Option, Some, None, Any}
 use Rattle.std.specs.List.{cons_option}
 use Rattle.std.specs.Str.{bytes_eq}
@@ -17,7 +17,7 @@ later : (o : Option Name) (names : List Name) (a : Name) → has names a ≡ tru
 later None names a there = there
 later (Some n) names a there = ap (λ b. bytes_eq a n || b) there ∙ or-true (bytes_eq a n)
 
--- what a statement declares is declared
+-- a name that a statement declares is among the declared names
 pub declared-there : (space : Sense → Option Name) (es : List Entry) (k : ℕ) (d : Entry) (a : Name) → k < length es → space (get_or es k d).1 ≡ Some a → has (declared space es) a ≡ true
 declared-there space [] k d a within is = absurd (omega arith)
 declared-there space (e ∷ es) zero d a within is =
@@ -35,7 +35,7 @@ declares-again earlier (class m c cs) a is there = absurd (none-some is)
 declares-again earlier (leaf m u c l ns) a is there = ap (has (declared node_name earlier)) (some-same is) ∙ there
 declares-again earlier (node m u c ns) a is there = ap (has (declared node_name earlier)) (some-same is) ∙ there
 
--- of two statements the later one declares another name
+-- the later of two statements declares a different name
 module _ (es : List Entry) (rising : AreRising es) (new : NoLine (IsRepeated es) es) where
   apart : (i j : ℕ) (d : Entry) (a : Name) → i < j → j < length es → node_name (get_or es i d).1 ≡ Some a → node_name (get_or es j d).1 ≡ Some a → ⊥
   apart i j d a below within first second =
@@ -51,11 +51,11 @@ module _ (es : List Entry) (rising : AreRising es) (new : NoLine (IsRepeated es)
     | inr (inr above) ↦ absurd (apart j i d a above within_i second first)
   ]
 
--- what stands at one place is one
+-- the elements at one index are equal
 pub at-one_place : (es : List Entry) (i j : ℕ) (e f : Entry) → i ≡ j → i < length es → get_or es i e ≡ e → get_or es j f ≡ f → e ≡ f
 at-one_place es i j e f same within is_e is_f = sym is_e ∙ get_or_default es i e f within ∙ ap (λ k. get_or es k f) same ∙ is_f
 
--- two statements that declare one node or leaf are one
+-- statements that declare the same node or leaf are at the same index
 pub one-statement : (es : List Entry) → AreRising es → NoLine (IsRepeated es) es → (i j : ℕ) (e f : Entry) (a : Name)
     → i < length es → j < length es → get_or es i e ≡ e → get_or es j f ≡ f → node_name e.1 ≡ Some a → node_name f.1 ≡ Some a → e ≡ f
 one-statement es rising new i j e f a within_i within_j is_e is_f first second =
@@ -65,7 +65,7 @@ one-statement es rising new i j e f a within_i within_j is_e is_f first second =
     (subst (λ (g : Entry). node_name g.1 ≡ Some a) (sym is_f ∙ get_or_default es j f e within_j) second))
     within_i is_e is_f
 
--- a fact of one statement and a fact of another are facts of one, if both statements declare one node or leaf
+-- facts of two statements are facts of one statement, if both declare the same node or leaf
 pub of-one_statement : (es : List Entry) → AreRising es → NoLine (IsRepeated es) es → (a : Name) (P Q : Sense → Type 0)
     → ((s : Sense) → P s → node_name s ≡ Some a) → ((s : Sense) → Q s → node_name s ≡ Some a)
     → Any (λ (e : Entry). P e.1) es → Any (λ (e : Entry). Q e.1) es → (s : Sense) × P s × Q s

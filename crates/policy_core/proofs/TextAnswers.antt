@@ -1,4 +1,5 @@
--- A text that isn't too long has statements or a line at fault, and its statements rise and are valid.
+-- A text within the length limit has statements or a line in error; its statements are on
+-- increasing lines and valid.
 use Rattle.std.proofs.Common.{◌≡◌, ◌<◌, ℕ, suc, Bool, true, false, List, [], ◌∷◌, refl, arith}
 use Rattle.std.specs.List.{All, list_all}
 use Rattle.std.proofs.lemmas.List.Elements.{All-nil, All-cons}
@@ -13,8 +14,8 @@ use Rattle.policy_rules.specs.Entries.{AreRising}
 use Rattle.policy_core.specs.PlaceLaws.{AreValid}
 use Rattle.policy_core.specs.TextLaws.{PolicyTextsHaveAnAnswer, TextsHaveSoundEntries}
 
--- ---- an answer
--- lines have statements, or one is the first at fault
+-- ---- statements or an error
+-- the lines have statements, or one is the first in error
 abbrev NoAnswer : ℕ → List (List ℕ) → Type 0
 NoAnswer n lines = ((es : List Entry) → Entries n lines es → ⊥) × ((m : ℕ) (f : Fault) → FirstFault n lines m f → ⊥)
 

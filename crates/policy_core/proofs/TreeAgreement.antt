@@ -1,4 +1,4 @@
--- Trees of nodes that agree where a number stands.
+-- Trees of nodes that agree at each number.
 use Rattle.std.proofs.Common.{◌≡◌, ℕ, ◌<◌, ◌∙◌, List, [], length, map, refl, sym, ap, ap₂, subst, arith, true, get_or}
 use Rattle.std.specs.List.{AllByRecursion, list_all}
 use Rattle.tree_defs.specs.Tree.{Tree, leaf, inner, Trees, none, more, root_of}
@@ -19,7 +19,7 @@ use Rattle.policy_core.proofs.AcceptedStatements.{known-there, root-there}
 use Rattle.policy_core.proofs.HomeLaws.{length-nodes}
 use Rattle.policy_core.proofs.HomePasses.{length-graph}
 
--- functions that agree at the numbers of a tree give one tree
+-- functions that agree at the numbers of a tree give the same tree
 mutual
   pub map-agree : {Q : Type 0} (f h : ℕ → Q) (t : Tree ℕ) → AllByRecursion (λ i. f i ≡ h i) (preorder t) → map_tree f t ≡ map_tree h t
   map-agree f h (leaf i) agree = ap leaf agree.0
@@ -48,7 +48,7 @@ mutual
   numbers-within_below es none known h within = tt
   numbers-within_below es (more t ts) known h within = all-append (IsNumber es) (preorder t) (preorder_below ts) (numbers-within es t known h.0 within.0) (numbers-within_below es ts known h.1 within.1)
 
--- what agrees with the statements at each node's number gives the tree that they declare
+-- a function that agrees with the statements at each node's number gives the tree that they declare
 pub nodes-agree : (es : List Entry) (t : Tree ℕ) (f : ℕ → Node) → AreAccepted es → IsTreeOf (graph_of es) t → root_of t ≡ place (declared node_name es) root
     → ((i : ℕ) → i < length (nodes_in es) → f i ≡ node_numbered es i) → map_tree f t ≡ nodes_at es t
 nodes-agree es t f accepted tree top agree =

@@ -1,4 +1,4 @@
--- Lines that rise and are written, as entries.
+-- Lines with increasing numbers and statements that can be written, as entries.
 use Rattle.std.proofs.Common.{◌≡◌, ◌<◌, ℕ, List, sym, ap, subst, length, get_or, arith}
 use Rattle.std.proofs.lemmas.List.{get_or-map}
 use Rattle.policy_text_defs.specs.declared.statement.Statement.{Statement}

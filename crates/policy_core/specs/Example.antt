@@ -1,4 +1,4 @@
--- Two policies whose families are worked out.
+-- Examples of policies, with the results for their families.
 use Rattle.std.specs.Prelude.{◌≡◌, refl, None, List, [], ◌∷◌, codes}
 use Rattle.policy_text_defs.specs.Sense.{Entry, numbered, version, leaf, node}
 use Rattle.policy_rules.specs.Rows.{nothing_set}

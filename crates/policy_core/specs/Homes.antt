@@ -1,4 +1,4 @@
--- The leaves that hold the packets of classes.
+-- The leaves that queue the packets of classes.
 use Rattle.std.specs.Prelude.{◌≡◌, ◌<◌, ℕ, true, if◌then◌else◌, slice_index, List, [], ◌∷◌, length, Any}
 use Rattle.std.specs.List.{AllZip}
 use Rattle.policy_text_defs.specs.Sense.{Entry}
@@ -11,27 +11,27 @@ use Rattle.tree_graph.specs.Descent.{children}
 use Rattle.tree_graph.specs.Row.{Row, row_at}
 use Rattle.policy_core.specs.Labels.{node_numbered}
 
--- a leaf of this number, in the order of the statements, lists the class
+-- the leaf with this number, in the order of the statements, lists the class
 pub record IsLeafWith (entries : List Entry) (class_name : Name) (i : ℕ) : Type 0 where
   pub within : i < length (nodes_in entries)
   pub childless : children (graph_of entries) i ≡ []
   pub lists : Any (λ e. ListsClass (node_numbered entries i).name class_name e.1) entries
 
--- a row of this number has a leaf that lists the class
+-- the row with this number belongs to a leaf that lists the class
 pub record IsHome (entries : List Entry) (rows : List Row) (class_name : Name) (number : ℕ) : Type 0 where
   pub within : number < length rows
   pub leaf : IsLeafWith entries class_name (row_at rows number).node
 
--- for each class that is declared, in order, a row that has a leaf of it
+-- for each declared class, in order, the row of a leaf that lists it
 abbrev pub AreHomes : List Entry → List Row → List ℕ → Type 0
 AreHomes entries rows numbers = AllZip (IsHome entries rows) (declared class_name entries) numbers
 
--- the classes of a list have the leaf, and the others what they had
+-- the listed classes have the leaf, and the others are unchanged
 pub record ArePut (classes listed : List Name) (leaf : ℕ) (old new : List ℕ) : Type 0 where
   pub len : length new ≡ length old
   pub put : (a : Name) → has classes a ≡ true → slice_index new (place classes a) ≡ (if has listed a then leaf else slice_index old (place classes a))
 
--- the classes that are declared, each at the row of a number
+-- the declared classes, each with the address of its row
 abbrev pub classes_at : List Row → List Declared → List ℕ → List Class
 classes_at rows [] numbers = []
 classes_at rows (d ∷ ds) [] = []

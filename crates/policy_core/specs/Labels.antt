@@ -6,7 +6,7 @@ use Rattle.policy_text_defs.specs.Sense.{Entry}
 use Rattle.policy_defs.specs.Policy.{Node, no_marks}
 use Rattle.policy_rules.specs.Graph.{nodes_in}
 
--- a tree with what a function gives at each node
+-- a tree with a function applied at each node
 abbrev mutual
   pub map_tree : {Q R : Type 0} → (Q → R) → Tree Q → Tree R
   map_tree f (leaf q) = leaf (f q)
@@ -16,10 +16,10 @@ abbrev mutual
   map_trees f none = none
   map_trees f (more t ts) = more (map_tree f t) (map_trees f ts)
 
--- the node that has a number, where nodes are numbered in the order of their statements
+-- the node with a number, if nodes are numbered in the order of their statements
 abbrev pub node_numbered : List Entry → ℕ → Node
 node_numbered entries i = slice_index_or (nodes_in entries) i (record { name = []; using = []; program = fifo; marks = no_marks; limit = None })
 
--- the nodes where their numbers stand
+-- the tree with nodes in place of their numbers
 abbrev pub nodes_at : List Entry → Tree ℕ → Tree Node
 nodes_at entries t = map_tree (node_numbered entries) t

@@ -1,4 +1,4 @@
--- What is made of statements: the stations of nodes and leaves, and the classes.
+-- The results built from statements: the stations of nodes and leaves, and the classes.
 use Rattle.std.specs.Prelude.{◌≡◌, ◌<◌, ℕ, Option, List, [], ◌∷◌, ◌++◌, map, length, slice_index_or, unwrap_or}
 use Rattle.std.specs.List.{cons_option}
 use Rattle.rank_defs.specs.Builtins.{fifo}
@@ -20,22 +20,22 @@ use Rattle.policy_core.specs.Parts.{told, node_of, no_program, HavePrograms}
 abbrev pub nodes_told : List Program → List PolicyNode → List Node
 nodes_told programs stations = map (node_of programs) stations
 
--- the place of the program that a name means
+-- the index of the program that a name denotes
 pub record IsPlaceOf (es : List Entry) (used : Name) (place : ℕ) : Type 0 where
   pub within : place < length (known_programs es)
   pub program_is : slice_index_or (known_programs es) place no_program ≡ unwrap_or (program_named es used) fifo
 
--- the station has a program, and is what is said of the node
+-- the station has a program and the properties declared for the node
 pub record IsStationOf (es : List Entry) (name used : Name) (a : Attrs) (limit : Option ℕ) (s : PolicyNode) : Type 0 where
   pub within : s.program < length (known_programs es)
   pub node_is : node_of (known_programs es) s ≡ said es name used a limit
 
--- the stations got one more, where the statement declares a node or leaf
+-- the stations have one more at the end, if the statement declares a node or leaf
 pub record AreMore (es : List Entry) (s : Sense) (old new : List PolicyNode) : Type 0 where
   pub nodes : nodes_told (known_programs es) new ≡ nodes_told (known_programs es) old ++ cons_option (node_in es s) []
   pub programs : HavePrograms new (known_programs es)
 
--- what a class says, with the number of its leaf
+-- the properties of a class, with the number of its leaf
 pub record Made : Type 0 where
   pub marks : Told
   pub conditions : List Condition
@@ -44,7 +44,7 @@ pub record Made : Type 0 where
 abbrev pub made : Class → Made
 made c = record { marks = told c.marks; conditions = c.conditions; leaf = c.leaf }
 
--- classes that are declared, each with a leaf
+-- declared classes, each with a leaf
 abbrev pub made_of : List Declared → List ℕ → List Made
 made_of [] leaves = []
 made_of (d ∷ ds) [] = []

@@ -1,4 +1,5 @@
--- The policy of an office: eight classes of packets, each with its leaf, and two groups of four leaves below the root.
+-- The policy of an office: eight classes of packets, each with its leaf, and two groups of four
+-- leaves below the root.
 use Rattle.std.specs.Prelude.{◌≡◌, ℕ, refl, Option, Some, None, List, [], ◌∷◌, ◌++◌, length, codes}
 use Rattle.std.specs.List.{concat}
 use Rattle.std.specs.Fmt.{digits}
@@ -58,7 +59,7 @@ office_leaves =
     leaf (codes "backup") (codes "fifo") unset None (codes "backup" ∷ []) ∷
     leaf (codes "other") (codes "fifo") unset None (codes "other" ∷ []) ∷ []
 
--- two groups of four leaves; the urgent one goes first
+-- two groups of four leaves; the urgent group is served first
 abbrev pub office_nodes : List Sense
 office_nodes =
     node (codes "urgent") (codes "stfq") (of_prio (Some 0)) (codes "voice" ∷ codes "video" ∷ codes "ssh" ∷ codes "dns" ∷ []) ∷
@@ -68,15 +69,15 @@ office_nodes =
 abbrev pub office_statements : List Sense
 office_statements = version 1 ∷ office_classes ++ (office_leaves ++ office_nodes)
 
--- each on a line of its own
+-- the statements, each on a line of its own
 abbrev pub office_lines : List Entry
 office_lines = numbered 1 office_statements
 
 abbrev pub OfficeIsAccepted : Type 0
 OfficeIsAccepted = AreAccepted office_lines
 
--- what is known of a policy that these statements give: its version, how many classes it has, and that its tree is a root
--- with two nodes of four leaves each
+-- properties of each policy that these statements give: its version, its number of classes, and its
+-- tree, a root with two nodes of four leaves each
 pub record IsOffice (r : Resolved) : Type 0 where
   pub version : r.policy.version ≡ 1
   pub classes : length r.policy.classes ≡ 8

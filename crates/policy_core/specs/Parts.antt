@@ -1,4 +1,4 @@
--- The policy that a tree of numbered nodes, stations, transactions and classes give.
+-- The policy given by a tree of numbered nodes, stations, transactions and classes.
 use Rattle.std.specs.Prelude.{◌≡◌, ◌<◌, ◌≤◌, ℕ, None, List, [], ◌∷◌, ◌++◌, map, length, slice_index_or}
 use Rattle.std.specs.List.{AllByRecursion}
 use Rattle.tree_defs.specs.Tree.{Tree, most_nodes}
@@ -19,7 +19,7 @@ use Rattle.policy_core.specs.Numbering.{nodes_from, address_at}
 abbrev pub told : Marks → Told
 told m = record { prio = m.prio; weight = m.weight; slack = m.slack }
 
--- what stands past the end of a list
+-- the default for an index past the end of a list
 abbrev pub no_station : PolicyNode
 no_station = record { name = []; using = []; program = 0; marks = record { prio = 0; weight = 1; slack = 0 }; limit = None }
 
@@ -33,7 +33,7 @@ station_at stations i = slice_index_or stations i no_station
 abbrev pub node_of : List Program → PolicyNode → Node
 node_of programs s = record { name = s.name; using = s.using; program = slice_index_or programs s.program no_program; marks = told s.marks; limit = s.limit }
 
--- at each node the station that its row names
+-- the tree that has at each node the station of its row
 abbrev pub tree_of : Numbered → List PolicyNode → List Program → Tree Node
 tree_of tree stations programs = nodes_from (λ n. node_of programs (station_at stations (row_at tree.rows n).node)) 0 tree.topology
 
@@ -51,11 +51,11 @@ resolved version tree stations programs classes = record {
 abbrev pub AreNumbered : Numbered → Type 0
 AreNumbered tree = (t : Tree ℕ) × IsNumberedBy t tree.rows tree.topology
 
--- each node of the tree is the place of a station
+-- each node of the tree is the index of a station
 abbrev pub HaveStations : Numbered → List PolicyNode → Type 0
 HaveStations tree stations = AllByRecursion (λ r. r.node < length stations) tree.rows
 
--- each station has the place of a transaction
+-- each station has the index of a transaction
 abbrev pub HavePrograms : List PolicyNode → List Program → Type 0
 HavePrograms stations programs = AllByRecursion (λ s. s.program < length programs) stations
 

@@ -1,4 +1,4 @@
--- What follows for accepted statements.
+-- Consequences for accepted statements.
 use Rattle.std.specs.Prelude.{◌≡◌, ◌≤◌, ◌<◌, ◌^◌, ℕ, List, [], All}
 use Rattle.std.specs.List.{AllByRecursion}
 use Rattle.tree_defs.specs.Tree.{Tree, root_of, depth, nodes, most_levels}
@@ -16,11 +16,11 @@ use Rattle.tree_graph.specs.Preorder.{IsTreeOf, rows}
 use Rattle.policy_core.specs.Labels.{nodes_at}
 use Rattle.policy_core.specs.Homes.{AreHomes, classes_at}
 
--- each statement is one that some line has
+-- each statement can be written as a line
 abbrev pub AreValid : List Entry → Type 0
 AreValid entries = All (λ e. IsValid e.1) entries
 
--- the tree of the numbers below the root is that of the nodes that are declared
+-- the tree of numbers below the root is the tree of the declared nodes
 pub record IsNodeTree (entries : List Entry) (t : Tree ℕ) : Type 0 where
   pub root_is : (root_of (nodes_at entries t)).name ≡ root
   pub tree : IsTreeIn entries (nodes_at entries t)
@@ -29,7 +29,7 @@ abbrev pub GraphsGiveTheTree : Type 0
 GraphsGiveTheTree =
     (entries : List Entry) (t : Tree ℕ) → AreAccepted entries → AreValid entries → IsTreeOf (graph_of entries) t → root_of t ≡ place (declared node_name entries) root → IsNodeTree entries t
 
--- each class that is declared, at a row whose leaf lists it, is a class of the policy
+-- each declared class, at a row whose leaf lists it, is a class of the policy
 abbrev pub HomesGiveTheClasses : Type 0
 HomesGiveTheClasses =
     (entries : List Entry) (t : Tree ℕ) (numbers : List ℕ) → IsTreeOf (graph_of entries) t → AreHomes entries (rows 0 [] t) numbers

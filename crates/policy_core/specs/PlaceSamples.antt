@@ -1,4 +1,4 @@
--- Statements of four nodes, whose tree is worked out.
+-- An example of statements with four nodes, and their tree.
 use Rattle.std.specs.Prelude.{◌≡◌, refl, ℕ, Option, Some, None, List, [], ◌∷◌, codes}
 use Rattle.tree_defs.specs.Tree.{leaf as leaf_of, inner, none, more}
 use Rattle.rank_defs.specs.Builtins.{fifo}
@@ -15,7 +15,8 @@ use Rattle.policy_core.specs.Homes.{classes_at}
 abbrev pub nothing_set : Attrs
 nothing_set = record { prio = None; weight = None; slack = None }
 
--- below the root an inner node with one leaf, and a leaf that holds ten packets; each leaf has a class
+-- below the root are an inner node with one leaf, and a leaf with a limit of ten packets; each leaf
+-- has a class
 abbrev pub four_nodes : List Entry
 four_nodes = numbered 1 (
     version 2 ∷

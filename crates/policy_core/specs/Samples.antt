@@ -15,11 +15,11 @@ plain = record { prio = 0; weight = 1; slack = 0 }
 abbrev pub urgent : Marks
 urgent = record { prio = 7; weight = 2; slack = 500 }
 
--- a station without a limit: its name, the name of its transaction and that one's place
+-- a station without a limit: its name, the name of its transaction and the transaction's index
 abbrev pub station : List ℕ → List ℕ → ℕ → Marks → PolicyNode
 station name used program marks = record { name = name; using = used; program = program; marks = marks; limit = None }
 
--- a node without a limit: its name, the name of its transaction and that one's program
+-- a node without a limit: its name, the name of its transaction and the transaction's program
 abbrev pub node : List ℕ → List ℕ → Program → Marks → Node
 node name used program m = record { name = name; using = used; program = program; marks = told m; limit = None }
 

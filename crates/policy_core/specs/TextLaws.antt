@@ -1,4 +1,4 @@
--- What follows for the texts of policies, their statements, and the policies that accepted statements give.
+-- Consequences for policy texts, their statements, and the policies that accepted statements give.
 use Rattle.std.specs.Prelude.{◌≡◌, ◌≢◌, ◌≤◌, ℕ, List, length}
 use Rattle.policy_text_defs.specs.Ranges.{most_text}
 use Rattle.policy_text_defs.specs.Sense.{Entry}
@@ -10,7 +10,7 @@ use Rattle.policy_rules.specs.declared.fault.PolicyFault.{PolicyFault}
 use Rattle.policy_rules.specs.declared.fault.PolicyFault.TheVariants.{NoMemory}
 use Rattle.policy_core.specs.PlaceLaws.{AreValid}
 
--- it is not so that a text which isn't too long has no statements and no line at fault
+-- in a text within the length limit, statements and a line in error can't both be missing
 abbrev pub PolicyTextsHaveAnAnswer : Type 0
 PolicyTextsHaveAnAnswer =
     (text : List ℕ) → length text ≤ most_text
@@ -18,7 +18,7 @@ PolicyTextsHaveAnAnswer =
     → ((n : ℕ) (fault : Fault) → IsFirstFault text n fault → ⊥)
     → ⊥
 
--- the statements of a text stand on rising lines, and each is one that some line has
+-- the statements of a text are on increasing lines, and each can be written as a line
 pub record HasSoundEntries (entries : List Entry) : Type 0 where
   pub rising : AreRising entries
   pub valid : AreValid entries
@@ -26,12 +26,12 @@ pub record HasSoundEntries (entries : List Entry) : Type 0 where
 abbrev pub TextsHaveSoundEntries : Type 0
 TextsHaveSoundEntries = (text : List ℕ) (entries : List Entry) → HasEntries text entries → HasSoundEntries entries
 
--- statements that have no fault are accepted
+-- statements without an error are accepted
 abbrev pub FaultlessAreAccepted : Type 0
 FaultlessAreAccepted =
     (entries : List Entry) → ((fault : PolicyFault) → fault ≢ NoMemory → IsFault entries fault → ⊥) → AreAccepted entries
 
--- no two policies are those of the same statements
+-- the same statements give at most one policy
 abbrev pub StatementsGiveOnePolicy : Type 0
 StatementsGiveOnePolicy = (entries : List Entry) (r s : Resolved) → AreRising entries → AreAccepted entries → IsResolved entries r → IsResolved entries s → r ≡ s
 

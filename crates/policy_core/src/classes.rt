@@ -31,7 +31,8 @@ fn class(
     })
 }
 
-/// The classes, in the order of their statements, each with its leaf. The error means out of memory.
+/// Returns the classes in the order of their statements, each with its leaf. The error means out of
+/// memory.
 pub(crate) fn classes(
     alloc: Global,
     lines: &[(u32, Statement)],

@@ -1,12 +1,12 @@
-//! Laws of the graph of statements that pass.
+//! Laws of the graph of nodes, for statements that pass the clauses.
 ghost use Rattle.policy_core.specs.FamilyLaws.{FamiliesAreForests, FamiliesAreShallow};
 
-/// Where parents are single and no cycle is, the graph is a forest below the root.
+/// If each node has a single parent and there is no cycle, the graph is a forest below the root.
 pub fn families_are_forests()
     ensures law { FamiliesAreForests }
 {}
 
-/// Where also no name is too deep, no node is.
+/// If also no name is too deep, no node of the graph is.
 pub fn families_are_shallow()
     ensures law { FamiliesAreShallow }
 {}

@@ -1,4 +1,4 @@
-//! The first node on a cycle, and the first that is too deep, by their lines.
+//! Finds the lines of the first node on a cycle and of the first node that is too deep.
 ghost use Rattle.std.specs.Prelude.{◌≡◌, ◌<◌, is_some, length, OnOk, IfErr};
 ghost use Rattle.policy_text_defs.specs.Sense.{sense_of};
 ghost use Rattle.policy_rules.specs.Names.{declared, node_name};
@@ -15,7 +15,8 @@ use policy_text_defs::Statement;
 use std::alloc::Global;
 use tree_graph::{first_deep, first_on_cycle, parents};
 
-/// Refuses a node among its own descendants, and then a node or leaf that is too deep below the root.
+/// Rejects a node that is among its own descendants, and then a node or leaf that is too deep below
+/// the root.
 pub fn check_family(
     alloc: Global,
     lines: &[(u32, Statement)],
@@ -39,7 +40,7 @@ pub fn check_family(
     Ok(())
 }
 
-/// The number of the line that declares a node.
+/// Returns the number of the line that declares a node.
 fn line_of(lines: &[(u32, Statement)], node: u32) -> u32
     requires declared { node < length (node_entries (entries_of lines.now)) }
     ensures { result ≡ line_at (entries_of lines.now) node }

@@ -1,4 +1,4 @@
-//! From names to the graph of numbers.
+//! Builds the graph of node numbers from names.
 ghost use Rattle.std.specs.Prelude.{◌≡◌, ◌<◌, ◌≤◌, ◌^◌, true, map, length, ◌++◌, IfOk, OnOk};
 ghost use Rattle.std.specs.List.{list_all};
 ghost use Rattle.std.specs.Option.{option_to_list};
@@ -16,7 +16,7 @@ use policy_statements::Names;
 use policy_text_defs::Statement;
 use std::alloc::{AllocError, Global};
 
-/// The number of a node that is declared.
+/// Returns the number of a declared node.
 pub fn number(nodes: &Names<'_>, name: &str) -> u32
     requires small { length nodes.now < 2 ^ 32 }
     requires declared { has nodes.now name.now ≡ true }
@@ -40,7 +40,7 @@ fn numbers(alloc: Global, nodes: &Names<'_>, names: &[Name]) -> Result<Vec<u32>,
     Ok(numbers)
 }
 
-/// Adds the numbers of a node's children, and none for a leaf.
+/// Adds the numbers of a node's children, or none for a leaf.
 fn add_family(
     alloc: Global,
     graph: &mut Vec<Vec<u32>>,
@@ -62,7 +62,8 @@ fn add_family(
     Ok(())
 }
 
-/// For each node and leaf, in the order of their lines, the numbers of its children. The error means out of memory.
+/// Returns the numbers of the children of each node and leaf, in the order of their lines. The
+/// error means out of memory.
 pub fn graph(
     alloc: Global,
     lines: &[(u32, Statement)],

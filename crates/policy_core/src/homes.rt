@@ -1,4 +1,4 @@
-//! The leaves that list classes.
+//! Finds the leaf that lists each class.
 ghost use Rattle.std.specs.Prelude.{◌≡◌, ℕ, ◌<◌, length, IfOk};
 ghost use Rattle.policy_rules.specs.Names.{declared, class_name};
 ghost use Rattle.policy_rules.specs.Entries.{entries_of, AreRising};
@@ -15,7 +15,7 @@ use policy_text_defs::Statement;
 use std::alloc::{AllocError, Global};
 use tree_graph::Preorder;
 
-/// Puts a leaf at the places of the classes that it lists.
+/// Stores the number of a leaf at the indices of the classes that it lists.
 fn put(leaves: &mut [u32], classes: &Names<'_>, listed: &[Name], leaf: u32)
     requires len { length leaves.old ≡ length classes.now }
     ensures { ArePut classes.now listed.now leaf leaves.old leaves.new }
@@ -27,7 +27,8 @@ fn put(leaves: &mut [u32], classes: &Names<'_>, listed: &[Name], leaf: u32)
     }
 }
 
-/// For each class, in the order of the statements, the number in preorder of the leaf that lists it. The error means out of memory.
+/// Returns for each class, in the order of the statements, the preorder number of the leaf that
+/// lists it. The error means out of memory.
 pub fn leaves(
     alloc: Global,
     lines: &[(u32, Statement)],

@@ -7,12 +7,14 @@ pub fn addresses_undo_numbers()
     ensures law { AddressesUndoNumbers }
 {}
 
-/// Each number below the count of nodes has an address of the tree, which gives the number.
+/// Each number below the count of nodes has an address in the tree, and the address gives the
+/// number.
 pub fn numbers_undo_addresses()
     ensures law { NumbersUndoAddresses }
 {}
 
-/// What is read by number from the rows of a tree stands where the tree has the row's node.
+/// A tree built by number from the rows of a tree has each row's node at the same address as that
+/// tree.
 pub fn rows_tell_the_tree()
     ensures law { RowsTellTheTree }
 {}
@@ -22,7 +24,8 @@ pub fn the_office_is_accepted()
     ensures law { OfficeIsAccepted }
 {}
 
-/// Each policy that they give is of version 1, has eight classes, and has two nodes of four leaves each below the root.
+/// Each policy that these statements give is of version 1, has eight classes, and has two nodes
+/// with four leaves each below the root.
 pub fn offices_are_alike()
     ensures law { OfficesAreAlike }
 {}

@@ -1,5 +1,6 @@
-//! A policy that can be run: a tree of numbered nodes, each with its transaction, and classes of packets, each with its leaf; and
-//! how statements give it. Begin with specs/Parts.antt.
+//! A policy that can be run: a tree of numbered nodes, each with its transaction, and classes of
+//! packets, each with its leaf. Also builds the policy from its statements. Begin with
+//! specs/Parts.antt.
 #![tactic(auto)]
 
 mod classes;

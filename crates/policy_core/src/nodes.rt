@@ -17,7 +17,7 @@ use policy_statements::{Names, program_place};
 use policy_text_defs::{Attrs, Statement};
 use std::alloc::{AllocError, Global};
 
-/// The marks that attributes set. The others are 0, 1 and 0.
+/// Returns the marks that attributes set. The defaults are priority 0, weight 1 and slack 0.
 pub(crate) fn marks(attrs: &Attrs) -> Marks
     ensures { told result ≡ marks_of attrs.now }
 {
@@ -28,7 +28,7 @@ pub(crate) fn marks(attrs: &Attrs) -> Marks
     }
 }
 
-/// The place of the program that a name means.
+/// Returns the index of the program that a name denotes.
 fn program(transactions: &Names<'_>, used: &str) -> usize
     ensures program { WhereDeclared transactions.now (λ es. is_transaction_known es used.now ≡
         true → IsPlaceOf es used.now result) }
@@ -36,7 +36,7 @@ fn program(transactions: &Names<'_>, used: &str) -> usize
     program_place(transactions, used).unwrap_or(0)
 }
 
-/// The station of a node or leaf.
+/// Builds the station of a node or leaf.
 fn station(
     alloc: Global,
     transactions: &Names<'_>,
@@ -57,7 +57,7 @@ fn station(
     })
 }
 
-/// Adds the station of a statement that declares a node or leaf.
+/// Adds the station of a statement, if it declares a node or leaf.
 fn add_station(
     alloc: Global,
     stations: &mut List<PolicyNode>,
@@ -79,7 +79,8 @@ fn add_station(
     }
 }
 
-/// The stations of all nodes and leaves, in the order of their statements. The error means out of memory.
+/// Returns the stations of all nodes and leaves, in the order of their statements. The error means
+/// out of memory.
 pub(crate) fn stations(
     alloc: Global,
     lines: &[(u32, Statement)],

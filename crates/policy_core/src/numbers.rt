@@ -7,7 +7,7 @@ ghost use Rattle.policy_core.specs.Numbers.{ArePlaces};
 use std::alloc::{AllocError, Global};
 use tree_graph::Preorder;
 
-/// For each node of the graph its number in preorder. The error means out of memory.
+/// Returns the preorder number of each node of the graph. The error means out of memory.
 pub fn places(alloc: Global, tree: &Preorder) -> Result<Vec<u32>, AllocError>
     requires once { (a : ℕ) → a < length tree.now.rows → times a (nodes_of tree.now.rows) ≡ 1 }
     ensures places { IfOk result (λ p. ArePlaces tree.now.rows p.items) }

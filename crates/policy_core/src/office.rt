@@ -54,7 +54,7 @@ fn add_class(
     all.push(Statement::Class(name, UNSET, conditions))
 }
 
-/// Adds a leaf for the class of its own name.
+/// Adds a leaf for the class of the same name.
 fn add_leaf(
     alloc: Global,
     all: &mut List<Statement>,
@@ -126,7 +126,7 @@ fn add_nodes(alloc: Global, all: &mut List<Statement>) -> Result<(), AllocError>
     add_node(alloc, all, "root", "strict", None, &["urgent", "normal"])
 }
 
-/// The statements of the office. The error means out of memory.
+/// Returns the statements of the office. The error means out of memory.
 pub(crate) fn statements(alloc: Global) -> Result<List<Statement>, AllocError>
     ensures { IfOk result (λ all. map sense_of all ≡ office_statements) }
 {
@@ -138,7 +138,7 @@ pub(crate) fn statements(alloc: Global) -> Result<List<Statement>, AllocError>
     Ok(all)
 }
 
-/// Out of memory, the one fault of statements that fail no clause.
+/// Converts the only possible error of statements that fail no clause: out of memory.
 fn want(fault: PolicyFault) -> AllocError
     requires want { fault ≡ NoMemory }
 {
@@ -149,7 +149,8 @@ fn want(fault: PolicyFault) -> AllocError
 }
 
 impl Policy {
-    /// The policy of the office. The error means out of memory: its statements fail no clause.
+    /// Returns the policy of the office. The error means out of memory; the statements themselves
+    /// fail no clause.
     pub fn office(alloc: Global) -> Result<Policy, AllocError>
         ensures accepted { OnOk result (AreAccepted office_lines) }
         ensures policy { IfOk result (IsResolved office_lines) }

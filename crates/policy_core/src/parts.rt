@@ -1,8 +1,9 @@
-//! What a policy is made of.
+//! The parts of a policy.
 use list_core::{List, Name};
 use policy_text_defs::Condition;
 
-/// What steps know of a node or a class: the priority, the weight, and the slack in nanoseconds.
+/// The values that steps can read of a node or a class: the priority, the weight, and the slack in
+/// nanoseconds.
 #[derive(Clone, Copy, PartialEq, Eq, Debug)]
 pub struct Marks {
     pub prio: u32,
@@ -10,8 +11,8 @@ pub struct Marks {
     pub slack: u64,
 }
 
-/// A node or a leaf: its name, the name of its transaction and its place among the checked ones, its marks, and the most
-/// packets that it holds, where it is a leaf with a limit.
+/// A node or a leaf: its name, the name of its transaction and its index among the checked ones,
+/// its marks, and its limit in packets if it is a leaf with a limit.
 #[derive(Drop)]
 pub struct PolicyNode {
     pub name: Name,
@@ -21,7 +22,8 @@ pub struct PolicyNode {
     pub limit: Option<u32>,
 }
 
-/// A class of packets: its marks, what a packet of it has to meet, and the number in preorder of the leaf that holds its packets.
+/// A class of packets: its marks, the conditions that a packet must meet, and the preorder number
+/// of the leaf that queues its packets.
 #[derive(Drop)]
 pub struct Class {
     pub marks: Marks,

@@ -1,4 +1,4 @@
-//! An accepted policy and what its nodes and classes say.
+//! An accepted policy, and the properties of its nodes and classes.
 ghost use Rattle.std.specs.Prelude.{◌≡◌, ◌<◌, ◌≤◌, ◌++◌, ◌∷◌, [], ◌↔◌, map, length, IsTrue};
 ghost use Rattle.std.specs.List.{AllByRecursion};
 ghost use Rattle.tree_defs.specs.Tree.{depth as levels, nodes, IsAddressOf, LeadsToLeaf, most_levels, most_nodes};
@@ -46,7 +46,8 @@ impl Model for Policy {
 }
 
 impl Policy {
-    /// A policy of this version and these parts: each node of the tree is the place of its station, each station has the place of its transaction.
+    /// Builds a policy of this version from its parts. Each node of the tree is the index of its
+    /// station, and each station has the index of its transaction.
     pub fn new(
         version: u32,
         tree: Preorder,
@@ -74,14 +75,14 @@ impl Policy {
         }
     }
 
-    /// The version that the policy's first line says.
+    /// Returns the version that the policy's first line gives.
     pub fn version(&self) -> u32
         ensures version { result ≡ self.now.policy.version }
     {
         self.version
     }
 
-    /// The shape of the tree.
+    /// Returns the shape of the tree.
     pub fn topo(&self) -> &Topo
         ensures topology { topology result.now ≡ topology_of self.now.policy.tree }
         ensures branched { IsBranched (topology_of self.now.policy.tree) }
@@ -92,7 +93,7 @@ impl Policy {
         self.tree.topo()
     }
 
-    /// How many levels lie below the root.
+    /// Returns the number of levels below the root.
     pub fn depth(&self) -> u32
         ensures levels { result ≡ levels self.now.policy.tree }
         ensures limit { result ≤ most_levels }
@@ -101,7 +102,7 @@ impl Policy {
         self.tree.depth()
     }
 
-    /// The number of nodes and leaves.
+    /// Returns the number of nodes and leaves.
     pub fn count(&self) -> u32
         ensures count { result ≡ nodes self.now.policy.tree }
         ensures limit { result ≤ most_nodes }
@@ -109,7 +110,7 @@ impl Policy {
         self.tree.count()
     }
 
-    /// The name of a node or leaf.
+    /// Returns the name of a node or leaf.
     pub fn name(&self, node: u32) -> &str
         requires there { node < nodes self.now.policy.tree }
         ensures name { HasAt self.now.policy.tree node (λ n. result.now ≡ n.name) }
@@ -120,7 +121,7 @@ impl Policy {
             .as_str()
     }
 
-    /// The digits on the way from the root to a node or leaf.
+    /// Returns the digits of the path from the root to a node or leaf.
     pub fn address(&self, node: u32) -> &[u32]
         requires there { node < nodes self.now.policy.tree }
         ensures address { result.now ≡ address_at self.now.policy.tree node }
@@ -136,7 +137,7 @@ impl Policy {
         self.tree.is_leaf(node)
     }
 
-    /// The number of a node's child at a digit.
+    /// Returns the number of a node's child at a digit.
     pub fn child(&self, node: u32, digit: u32) -> u32
         requires there { node < nodes self.now.policy.tree }
         requires child { IsAddressOf self.now.policy.tree (address_at self.now.policy.tree node ++
@@ -150,7 +151,7 @@ impl Policy {
         self.tree.child(node, digit)
     }
 
-    /// The transaction of a node or leaf.
+    /// Returns the transaction of a node or leaf.
     pub fn checked(&self, node: u32) -> &Checked
         requires there { node < nodes self.now.policy.tree }
         ensures program { HasAt self.now.policy.tree node (λ n. result.now ≡ n.program) }
@@ -159,7 +160,7 @@ impl Policy {
         &self.programs.as_slice()[station.program]
     }
 
-    /// The marks of a node or leaf.
+    /// Returns the marks of a node or leaf.
     pub fn attrs(&self, node: u32) -> Marks
         requires there { node < nodes self.now.policy.tree }
         ensures marks { HasAt self.now.policy.tree node (λ n. told result ≡ n.marks) }
@@ -167,7 +168,8 @@ impl Policy {
         station_of(&self.tree, self.stations.as_slice(), node).marks
     }
 
-    /// The most packets that a leaf holds. None for an inner node and for a leaf without a limit.
+    /// Returns the most packets that a leaf queues, or `None` for an inner node or a leaf without a
+    /// limit.
     pub fn limit(&self, node: u32) -> Option<u32>
         requires there { node < nodes self.now.policy.tree }
         ensures limit { HasAt self.now.policy.tree node (λ n. result ≡ n.limit) }
@@ -175,7 +177,7 @@ impl Policy {
         station_of(&self.tree, self.stations.as_slice(), node).limit
     }
 
-    /// The name of a node's or leaf's transaction, as it is written.
+    /// Returns the name of a node's or leaf's transaction, as written.
     pub fn using(&self, node: u32) -> &str
         requires there { node < nodes self.now.policy.tree }
         ensures using { HasAt self.now.policy.tree node (λ n. result.now ≡ n.using) }
@@ -186,7 +188,7 @@ impl Policy {
             .as_str()
     }
 
-    /// The classes, the first to be tried first, each with the number of its leaf.
+    /// Returns the classes in the order in which they are tried, each with the number of its leaf.
     pub fn classes(&self) -> &[Class]
         ensures classes { map (class_in self.now.policy.tree) result.now ≡ self.now.policy.classes }
         ensures conditions { map (λ c. c.conditions) result.now ≡ self.now.conditions }
@@ -207,7 +209,7 @@ impl NodeNames for Policy {
     }
 }
 
-/// The station of a node of the tree.
+/// Returns the station of a node of the tree.
 fn station_of<'a>(tree: &Preorder, stations: &'a [PolicyNode], node: u32) -> &'a PolicyNode
     requires there { node < length tree.now.rows }
     requires stations { HaveStations tree.now stations.now }

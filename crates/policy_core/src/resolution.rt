@@ -1,4 +1,4 @@
-//! The policy that statements give.
+//! Builds the policy that statements give.
 ghost use Rattle.std.specs.Prelude.{◌≡◌, IfOk, IfErr, OnOk};
 ghost use Rattle.policy_rules.specs.Accepted.{AreAccepted, AreComputable, AreShallow, HaveRoot, IsFault};
 ghost use Rattle.policy_rules.specs.Entries.{entries_of, AreRising};
@@ -26,7 +26,7 @@ use range_core::Checked;
 use std::alloc::{AllocError, Global};
 use tree_graph::Preorder;
 
-/// Puts the parts of accepted statements together. The error means out of memory.
+/// Builds a policy from accepted statements. The error means out of memory.
 fn assemble(
     alloc: Global,
     lines: &[(u32, Statement)],
@@ -50,7 +50,7 @@ fn assemble(
     Ok(Policy::new(version(lines), tree, stations, programs, classes))
 }
 
-/// Refuses statements whose leaves or limits break a rule.
+/// Rejects statements whose leaves or limits break a rule.
 fn check_listings(alloc: Global, lines: &[(u32, Statement)]) -> Result<(), PolicyFault>
     requires rising { AreRising (entries_of lines.now) }
     requires shallow { AreShallow (entries_of lines.now) }
@@ -61,7 +61,8 @@ fn check_listings(alloc: Global, lines: &[(u32, Statement)]) -> Result<(), Polic
     check_limits(lines)
 }
 
-/// The policy of statements whose nodes have this graph, or the first clause that they fail.
+/// Returns the policy of statements whose nodes have this graph, or the first clause that they
+/// fail.
 fn accept_graph(
     alloc: Global,
     lines: &[(u32, Statement)],
@@ -84,7 +85,7 @@ fn accept_graph(
     Ok(assemble(alloc, lines, spaces, programs, graph)?)
 }
 
-/// The policy of statements whose transactions are these, or the first clause that they fail.
+/// Returns the policy of statements with these transactions, or the first clause that they fail.
 fn accept_transactions(
     alloc: Global,
     lines: &[(u32, Statement)],
@@ -105,7 +106,7 @@ fn accept_transactions(
     accept_graph(alloc, lines, spaces, programs, graph.as_slice())
 }
 
-/// The policy that statements give, or the first clause that they fail.
+/// Returns the policy that statements give, or the first clause that they fail.
 fn accept(alloc: Global, lines: &[(u32, Statement)]) -> Result<Policy, PolicyFault>
     requires rising { AreRising (entries_of lines.now) }
     requires valid { AreValid (entries_of lines.now) }
@@ -118,8 +119,9 @@ fn accept(alloc: Global, lines: &[(u32, Statement)]) -> Result<Policy, PolicyFau
     accept_transactions(alloc, lines, &spaces, programs)
 }
 
-/// The policy that statements give, or the first clause that they fail, with its lowest line. Names may be used before the
-/// line that declares them. The work grows with the text: names are looked up in maps.
+/// Returns the policy that statements give, or the first clause that they fail with its lowest
+/// line. Names may be used before the line that declares them. The work grows with the text: names
+/// are looked up in maps.
 pub fn resolve(alloc: Global, lines: &Lines) -> Result<Policy, PolicyFault>
     ensures accepts { OnOk result (AreAccepted (entries_of lines.now.held)) }
     ensures policy { IfOk result (IsResolved (entries_of lines.now.held)) }

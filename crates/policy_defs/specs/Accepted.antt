@@ -1,4 +1,4 @@
--- What is needed of a policy, so that its queues can be run.
+-- The conditions that a policy must meet so that its queues can be run.
 use Rattle.std.specs.Prelude.{◌≡◌, ◌≤◌, ◌<◌, ◌^◌, Some, None, length}
 use Rattle.std.specs.List.{AllByRecursion}
 use Rattle.text_core.specs.Tokens.{most_name}
@@ -13,7 +13,7 @@ pub record AreMarksInRange (m : Marks) : Type 0 where
   pub weight_high : m.weight ≤ max_weight
   pub slack : m.slack ≤ max_slack
 
--- a node whose transaction is checked, with marks in range and a name that isn't too long
+-- a node whose transaction is checked, with marks in range and a name within the length limit
 pub record IsNodeReady (n : Node) : Type 0 where
   pub shaped : IsShaped n.program
   pub checked : IsChecked n.program
@@ -30,12 +30,12 @@ abbrev mutual
   HaveLimitsAtLeaves none = Unit {0}
   HaveLimitsAtLeaves (more t ts) = HasLimitsAtLeaves t × HaveLimitsAtLeaves ts
 
--- a class whose packets have a leaf
+-- a class with marks in range and a leaf for its packets
 pub record IsClassReady (tree : Tree Node) (c : Class) : Type 0 where
   pub marks : AreMarksInRange c.marks
   pub leaf_address : LeadsToLeaf tree c.leaf
 
--- each inner node has so few children that 32 bits hold their indices
+-- each inner node has few enough children that 32 bits hold their indices
 abbrev mutual
   pub HasFewChildren : Tree Node → Type 0
   HasFewChildren (leaf n) = Unit {0}
@@ -45,7 +45,8 @@ abbrev mutual
   HaveFewChildren none = Unit {0}
   HaveFewChildren (more t ts) = HasFewChildren t × HaveFewChildren ts
 
--- each transaction is checked, each class has a leaf and there is one at least, and sizes are within the limits
+-- each transaction is checked, each class has a leaf, there is at least one class, and sizes are
+-- within the limits
 pub record IsAccepted (policy : Policy) : Type 0 where
   pub nodes : (a : Address) (n : Node) → node_at policy.tree a ≡ Some n → IsNodeReady n
   pub classes : AllByRecursion (IsClassReady policy.tree) policy.classes

@@ -1,4 +1,4 @@
--- The names of the built-in transactions are used for these alone.
+-- The names of the built-in transactions are reserved for them.
 use Rattle.std.specs.Prelude.{◌≡◌, Some}
 use Rattle.tree_defs.specs.Tree.{Address}
 use Rattle.rank_defs.specs.Programs.{Program}

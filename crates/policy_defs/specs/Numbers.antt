@@ -16,7 +16,7 @@ abbrev mutual
   number_below (more t ts) zero a = number_at t a
   number_below (more t ts) (suc i) a = nodes t + number_below ts i a
 
--- the name of the node or leaf of a number
+-- the name of the node or leaf with this number
 abbrev pub IsNameOf : Policy → ℕ → List ℕ → Type 0
 IsNameOf policy number name = (a : Address) → IsAddressOf policy.tree a → number_at policy.tree a ≡ number → name ≡ name_at policy a
 

@@ -1,5 +1,5 @@
--- An accepted policy: a tree of nodes, each with a transaction, and classes of packets, each with a leaf, which may have a
--- limit on its packets.
+-- An accepted policy: a tree of nodes and classes of packets. Each node has a transaction, and each
+-- class a leaf. A leaf may have a limit on its packets.
 use Rattle.std.specs.Prelude.{ℕ, zero, suc, List, [], ◌∷◌, Option, Some, None, codes, slice_get}
 use Rattle.std.specs.Option.{option_map_or}
 use Rattle.tree_defs.specs.Tree.{Tree, leaf, inner, Trees, none, more, Address}
@@ -12,21 +12,21 @@ pub record Marks : Type 0 where
   pub weight : ℕ
   pub slack : ℕ
 
--- the marks where none are written
+-- the marks if none are written
 abbrev pub no_marks : Marks
 no_marks = record { prio = 0; weight = 1; slack = 0 }
 
--- what the policy says of a node or a leaf
+-- the properties of a node or leaf
 pub record Node : Type 0 where
   pub name : List ℕ
-  -- the transaction's name, as it is written
+  -- the transaction's name, as written
   pub using : List ℕ
   pub program : Program
   pub marks : Marks
-  -- the most packets that a leaf holds, where it has a limit
+  -- the most packets that a leaf queues, if it has a limit
   pub limit : Option ℕ
 
--- a class of packets: its marks, and the address of the leaf that holds its packets
+-- a class of packets: its marks, and the address of the leaf that queues its packets
 pub record Class : Type 0 where
   pub marks : Marks
   pub leaf : Address
@@ -57,11 +57,11 @@ name_at policy a = option_map_or (λ n. n.name) (node_at policy.tree a) []
 abbrev pub limit_at : Policy → Address → Option ℕ
 limit_at policy a = option_map_or (λ n. n.limit) (node_at policy.tree a) None
 
--- the class of a number
+-- the class with this number
 abbrev pub class_at : Policy → ℕ → Option Class
 class_at policy n = slice_get policy.classes n
 
--- one leaf, `root`, served first in first out, for all packets
+-- one leaf, `root`, which serves all packets first in, first out
 abbrev pub one_leaf : Policy
 one_leaf = record {
   version = 1;

@@ -1,4 +1,5 @@
-//! What an accepted policy is, and what tells the names of its nodes. Begin with specs/Policy.antt.
+//! Defines accepted policies, and the trait that gives the names of their nodes. Begin with
+//! specs/Policy.antt.
 #![tactic(auto)]
 
 mod names;

@@ -1,4 +1,5 @@
--- Lines that rise: the statements before one are those on earlier lines, and the first at fault has the least line.
+-- Increasing line numbers: the statements before one are those on earlier lines, and the first in
+-- error has the lowest line number.
 use Rattle.std.proofs.Common.{◌≡◌, ℕ, ◌+◌, ◌<◌, ◌≤◌, ◌⊎◌, ◌≢◌, Bool, true, false, List, [], ◌∷◌, ◌++◌, refl, sym, ap, subst, ◌∙◌, cond, nat_lt, suc, arith, inl, inr, length, take, drop, get_or, filter}
 use Rattle.std.proofs.lemmas.Bool.{cases_eq, cases_order, lt-ltb, le-ltb, false_from_ne_true}
 use Rattle.std.proofs.lemmas.List.Elements.{filter-append, AllWithin-more, at_read}
@@ -39,12 +40,12 @@ before-take entries i d rising within =
         at_least k e l (inl z) = (let same : i + k ≡ i = omega arith in subst (λ (j : ℕ). nat_lt (get_or entries j e).0 (get_or entries i e).0 ≡ false) (sym same) (le-ltb _ _ (omega arith)))
         at_least k e l (inr nz) = (let above : (get_or entries i e).0 < (get_or entries (i + k) e).0 = rising i (i + k) e (omega arith) l in le-ltb _ _ (omega arith))
 
--- a test of a statement over those on earlier lines is a test over those before it
+-- a test against the statements on earlier lines is a test against those before it in the list
 pub passes-at : (es : List Entry) → AreRising es → (test : List Entry → Sense → Bool) → ((k : ℕ) (d : Entry) → k < length es → test (before (get_or es k d).0 es) (get_or es k d).1 ≡ true → ⊥)
     → (i : ℕ) (d : Entry) → i < length es → test (take i es) (get_or es i d).1 ≡ false
 passes-at es rising test none i d within = subst (λ (ls : List Entry). test ls (get_or es i d).1 ≡ false) (before-take es i d rising within) (false_from_ne_true _ (none i d within))
 
--- the first at fault has the least line
+-- the first statement in error has the lowest line number
 pub least_here : (Fails : Entry → Type 0) (entries : List Entry) (i : ℕ) (e : Entry) → AreRising entries → i < length entries → e ≡ get_or entries i e → AllWithin (λ k. ¬ Fails k) entries 0 i → Fails e → IsLeastLine Fails entries e.0
 least_here Fails entries i l rising within is fine fails = record {
   there = (i, l, within, sym is, (fails, refl));
@@ -58,6 +59,6 @@ least_here Fails entries i l rising within is fine fails = record {
         let e : l ≡ get_or entries i d = is ∙ get_or_default entries i l d within in
         subst (λ (m : Entry). m.0 ≤ (get_or entries k d).0) (sym e) (omega arith))
 
--- a pass that goes on past a statement that isn't at fault
+-- a pass goes on past a statement that isn't in error
 pub fine-more : (Fails : Entry → Type 0) (entries : List Entry) (i : ℕ) (e : Entry) → i < length entries → e ≡ get_or entries i e → AllWithin (λ k. ¬ Fails k) entries 0 i → (¬ Fails e) → AllWithin (λ k. ¬ Fails k) entries 0 (i + 1)
 fine-more Fails entries i e within is fine here = AllWithin-more (λ k. ¬ Fails k) entries 0 i fine (at_read entries (λ k. ¬ Fails k) i e within is here)

@@ -1,4 +1,4 @@
--- What holds of each element of a list, and of its parts.
+-- Properties of each element of a list, and of parts of the list.
 use Rattle.std.proofs.Common.{List, [], ◌∷◌, ◌++◌}
 use Rattle.std.specs.List.{AllByRecursion}
 

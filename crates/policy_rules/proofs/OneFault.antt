@@ -1,4 +1,4 @@
--- Statements have at most one fault, and none where they are accepted.
+-- Statements have at most one error, and accepted statements none.
 use Rattle.std.proofs.Common.{◌≡◌, ◌≢◌, ◌≤◌, ◌⊎◌, inl, inr, ℕ, Bool, true, false, List, refl, ap, sym, subst, ◌∙◌, arith}
 use Rattle.std.specs.Prelude.{All, Any}
 use Rattle.rank_defs.specs.Checks.{Clashes, IsWide, MayDivideByZero, ClashesFirstAt, IsWideFirstAt, DividesByZeroFirstAt, AreChecked, entries as assignments_of}
@@ -13,9 +13,9 @@ use Rattle.policy_rules.specs.Programs.{programs}
 use Rattle.policy_rules.specs.declared.fault.PolicyFault.{PolicyFault}
 use Rattle.policy_rules.specs.declared.fault.PolicyFault.TheVariants.{Misplaced, Twice, Unknown, TooMany, TypeClash, Wide, DivZero, Parents, NoRoot, Cycle, Deep, ClassLeaf, NoCatchAll, OldVersion, NoMemory}
 
--- ---- clauses in a row: what each says, and how it fails
+-- ---- clauses in order: what each requires, and how it fails
 
--- a clause fails in one way, and not where it holds
+-- a clause fails in one way at most, and doesn't fail if it holds
 record IsSharp (Says : Type 0) (Fails : PolicyFault → Type 0) : Type 0 where
   one : (f g : PolicyFault) → Fails f → Fails g → f ≡ g
   none : (f : PolicyFault) → Fails f → Says → ⊥
@@ -29,7 +29,7 @@ abbrev Hold : Clauses → Type 0
 Hold (first Says Fails sharp) = Says
 Hold (next earlier Says Fails sharp) = Hold earlier × Says
 
--- the first to fail fails so
+-- the first clause to fail gives this error
 abbrev FailFirst : Clauses → PolicyFault → Type 0
 FailFirst (first Says Fails sharp) f = Fails f
 FailFirst (next earlier Says Fails sharp) f = FailFirst earlier f ⊎ (Hold earlier × Fails f)
@@ -51,7 +51,7 @@ one-fails (next earlier Says Fails sharp) f g (inr h) (inr k) = sharp.one f g h.
 abbrev AtLine : (Entry → Type 0) → List Entry → (ℕ → PolicyFault) → PolicyFault → Type 0
 AtLine Fails entries fault f = (n : ℕ) × IsLeastLine Fails entries n × (f ≡ fault n)
 
--- what holds of each line holds of one
+-- a property of each line is one of some line
 at-some : (P Q : Entry → Type 0) (entries : List Entry) → Any P entries → All Q entries → (e : Entry) × P e × Q e
 at-some P Q entries (k, e, within, is, p) all = (e, p, subst Q is (all k e within))
 
@@ -142,7 +142,7 @@ clauses entries =
     let caught = more_whole (more shallow (IsNotListedOnce entries) entries ClassLeaf) (has_catch_all entries) NoCatchAll in
     more caught (NeedsVersion2 entries) entries OldVersion
 
--- a fault is that of the first clause to fail
+-- an error is that of the first clause to fail
 fault-first : (entries : List Entry) (f : PolicyFault) → f ≢ NoMemory → IsFault entries f → FailFirst (clauses entries) f
 fault-first entries NoMemory some h = absurd (some refl)
 fault-first entries (OldVersion n) some h = inr (h.0, (n, h.1, refl))

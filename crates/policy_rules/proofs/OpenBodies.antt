@@ -1,4 +1,4 @@
--- The open body behind one line more.
+-- The open body after one more line.
 use Rattle.std.proofs.Common.{◌≡◌, Bool, true, false, ◌||◌, List, [], ◌∷◌, ◌++◌, refl, ◌∙◌}
 use Rattle.std.specs.List.{list_any}
 use Rattle.std.proofs.Math.Bool.{or-true, or-false}
@@ -21,7 +21,7 @@ open_step f e fs true b any own more later = rw (any, more) later
 open_step f e fs false true any own more later = rw (any, own, more) refl
 open_step f e fs false false any own more later = rw (any, own, more) refl
 
--- any other line goes to the body that is open
+-- any other line is added to the open body
 pub open_body-line : (lines : List Entry) (e : Entry) → is_transaction e ≡ false → open_body (lines ++ e ∷ []) ≡ open_body lines ++ e ∷ []
 open_body-line [] e is = rw is refl
 open_body-line (f ∷ fs) e is = open_step f e fs (list_any is_transaction fs) (is_transaction f) refl refl (any_push fs e false is ∙ or-false (list_any is_transaction fs)) (open_body-line fs e is)

@@ -1,4 +1,4 @@
--- Places of names.
+-- The indices of names.
 use Rattle.std.proofs.Common.{◌≡◌, ℕ, ◌+◌, ◌<◌, ◌⊎◌, ◌||◌, ◌∙◌, Bool, true, not, cond, List, [], ◌∷◌, length, map, get_or, sym, refl, ap, arith, inl, inr, true≢false, IsTrue, position, unwrap_or, Some, None, lt-ltb}
 use Rattle.std.proofs.lemmas.Bool.{cases_Bool, cases_order, and_parts}
 use Rattle.std.proofs.lemmas.Slice.Eq.{bytes_eq-Decides}
@@ -18,7 +18,7 @@ first-within p (x ∷ xs) h = elim (cases_Bool (p x)) [
       let e : position_or_len p (x ∷ xs) ≡ 1 + position_or_len p xs = ap (λ b. cond (not b) (1 + position_or_len p xs) 0) other in omega (arith, r, e))
 ]
 
--- a known name is found at its place
+-- a known name is found at its index
 pub found : (names : List Name) (a : Name) → has names a ≡ true → position (bytes_eq a) names ≡ Some (place names a)
 found names a h = some ∙ ap Some (sym (ap (λ o. unwrap_or o 0) some))
   where
@@ -37,11 +37,11 @@ at-place names a d h = ap (λ k. get_or names k d) (place-first names a h) ∙ s
 same-name : (a b : Name) → a ≡ b → bytes_eq a b ≡ true
 same-name a b e = (bytes_eq-Decides a b).1 e
 
--- a name that stands at a place is there
+-- a name at an index is among the names
 pub has-at : (names : List Name) (k : ℕ) (d : Name) → k < length names → has names (get_or names k d) ≡ true
 has-at names k d l = list_any_at (bytes_eq (get_or names k d)) names k d l (same-name (get_or names k d) (get_or names k d) refl)
 
--- among names that are apart each stands at its place
+-- among distinct names, each has its own index
 pub place-at : (names : List Name) (k : ℕ) (d : Name) → IsDistinct bytes_eq names → k < length names → place names (get_or names k d) ≡ k
 place-at names k d distinct l = by (place names (get_or names k d)) refl (cases_order (place names (get_or names k d)) k)
   where
@@ -57,7 +57,7 @@ place-at names k d distinct l = by (place names (get_or names k d)) refl (cases_
     by j is (inr (inr above)) =
         absurd (true≢false (sym (same-name _ _ (sym (same j is))) ∙ apart_from_distinct bytes_eq names k j d distinct (omega (arith, is, above)) (omega (arith, is, place-within names (get_or names k d) there))))
 
--- the names at the places of known names are these names
+-- the names at the indices of known names are these names
 pub at-places : (names : List Name) (d : Name) (ns : List Name) → list_all (has names) ns ≡ true → map (λ i. get_or names i d) (map (place names) ns) ≡ ns
 at-places names d [] known = refl
 at-places names d (n ∷ ns) known =

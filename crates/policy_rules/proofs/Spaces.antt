@@ -1,4 +1,4 @@
--- What statements declare in a space, where no clause refuses them.
+-- The names that statements declare in a space, if no clause rejects them.
 use Rattle.std.proofs.Common.{◌≡◌, ℕ, zero, suc, ◌+◌, ◌<◌, ◌≤◌, false, List, [], ◌++◌, length, take, get_or, Option, Some, None, sym, ap, subst, ◌∙◌, arith}
 use Rattle.std.specs.List.{IsDistinct, cons_option}
 use Rattle.std.specs.Option.{option_map_or}
@@ -39,7 +39,7 @@ module _ (space : Sense → Option Name) (es : List Entry) (rising : AreRising e
         subst (λ (ns : List Name). IsDistinct bytes_eq ns) (sym (names-more i (omega arith)))
         (distinct-more (declared space (take i es)) (space (get_or es i no-entry).1) (distinct-front i (omega arith)) (new (take i es) (get_or es i no-entry).1 (passes-at es rising is_declared fine i no-entry (omega arith))))
 
-    -- names of a space in which none is declared again are apart
+    -- the names of a space are distinct, if none is declared again
     pub declared-distinct : IsDistinct bytes_eq (declared space es)
     declared-distinct = subst (λ (ls : List Entry). IsDistinct bytes_eq (declared space ls)) (take-length es) (distinct-front (length es) (omega arith))
 
@@ -50,6 +50,6 @@ module _ (space : Sense → Option Name) (es : List Entry) (rising : AreRising e
         subst (λ (ns : List Name). length ns ≤ most) (sym (names-more i (omega arith)))
         (room (take i es) (get_or es i no-entry).1 (passes-at es rising is_one_too_many fine i no-entry (omega arith)) (few-front i (omega arith)))
 
-    -- a space that no statement goes beyond has few names
+    -- a space has at most as many names as its limit, if no statement is beyond it
     pub declared-few : length (declared space es) ≤ most
     declared-few = subst (λ (ls : List Entry). length (declared space ls) ≤ most) (take-length es) (few-front (length es) (omega arith))

@@ -1,4 +1,4 @@
--- Which statements are accepted, and the first clause to fail of those that aren't.
+-- The accepted statements, and the first clause that other statements fail.
 use Rattle.std.specs.Prelude.{◌≡◌, true, false, List}
 use Rattle.rank_defs.specs.Checks.{ClashesFirstAt, IsWideFirstAt, DividesByZeroFirstAt, AreChecked}
 use Rattle.policy_text_defs.specs.Sense.{Entry}
@@ -8,7 +8,7 @@ use Rattle.policy_rules.specs.Programs.{programs}
 use Rattle.policy_rules.specs.declared.fault.PolicyFault.{PolicyFault}
 use Rattle.policy_rules.specs.declared.fault.PolicyFault.TheVariants.{Misplaced, Twice, Unknown, TooMany, TypeClash, Wide, DivZero, Parents, NoRoot, Cycle, Deep, ClassLeaf, NoCatchAll, OldVersion, NoMemory}
 
--- no line fails a clause up to this one
+-- no line fails this clause or an earlier one
 abbrev pub ArePlaced : List Entry → Type 0
 ArePlaced entries = NoLine (IsMisplaced entries) entries
 
@@ -47,7 +47,7 @@ HaveCatchAll entries = HaveLeaves entries × (has_catch_all entries ≡ true)
 abbrev pub AreAccepted : List Entry → Type 0
 AreAccepted entries = HaveCatchAll entries × NoLine (NeedsVersion2 entries) entries
 
--- the first clause to fail, and its least line; want of memory may come at any time
+-- the first clause to fail, and its first line; memory may run out at any time
 abbrev pub IsFault : List Entry → PolicyFault → Type 0
 IsFault entries (Misplaced n) = IsLeastLine (IsMisplaced entries) entries n
 IsFault entries (Twice n) = ArePlaced entries × IsLeastLine (IsRepeated entries) entries n

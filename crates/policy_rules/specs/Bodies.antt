@@ -1,4 +1,5 @@
--- The bodies of transactions: the lines behind a `transaction` line that say what it keeps and does.
+-- The bodies of transactions: the lines after a `transaction` line that declare its variables and
+-- assign to them.
 use Rattle.std.specs.Prelude.{ℕ, Bool, true, false, if◌then◌else◌, Option, Some, None, List, [], ◌∷◌, ◌++◌, take_while}
 use Rattle.std.specs.List.{list_any}
 use Rattle.policy_text_defs.specs.Sense.{Sense, Entry, transaction, keep, each, push, pop}
@@ -8,7 +9,7 @@ abbrev pub is_transaction : Entry → Bool
 is_transaction (n, transaction t) = true
 is_transaction e = false
 
--- how far into a transaction a line stands: its name, then its variables, its push lines, its pop lines
+-- the stage of a line in a transaction: its name, then its variables, its push lines, its pop lines
 abbrev pub stage : Sense → Option ℕ
 stage (transaction n) = Some 0
 stage (keep n s) = Some 1
@@ -29,7 +30,7 @@ is_assignment (push n t) = true
 is_assignment (pop n t) = true
 is_assignment s = false
 
--- the statements behind the last `transaction` line, or all where there is none
+-- the statements after the last `transaction` line, or all if there is none
 abbrev pub open_body : List Entry → List Entry
 open_body [] = []
 open_body (e ∷ es) = if list_any is_transaction es then open_body es else if is_transaction e then es else e ∷ es

@@ -1,4 +1,4 @@
--- The clauses that one statement can fail, each over the list as a whole.
+-- The clauses that a single statement can fail, each over the whole list.
 use Rattle.std.specs.Prelude.{ℕ, ◌≡◌, ◌≤◌, ◌==◌, nat_le, Bool, true, false, not, ◌&&◌, ◌||◌, IsTrue, Option, Some, None, MatchOption, is_some, List, [], ◌∷◌, length, filter, All, Any, codes}
 use Rattle.std.specs.List.{list_all}
 use Rattle.std.specs.Option.{option_map_or}
@@ -11,7 +11,7 @@ use Rattle.policy_text_defs.specs.Sense.{Sense, Entry, version, transaction, kee
 use Rattle.policy_rules.specs.Names.{Name, has, is_once, transaction_name, class_name, node_name, variable_name, declared, children, leaf_classes, listed, before}
 use Rattle.policy_rules.specs.Bodies.{stage, is_body, is_assignment, open_body}
 
--- n is the number of a line at fault, and no line at fault has a lower one
+-- n is the number of a line in error, and no line in error has a lower one
 pub record IsLeastLine (Fails : Entry → Type 0) (entries : List Entry) (n : ℕ) : Type 0 where
   pub there : Any (λ e. Fails e × (e.0 ≡ n)) entries
   pub least : All (λ e. Fails e → n ≤ e.0) entries
@@ -19,29 +19,30 @@ pub record IsLeastLine (Fails : Entry → Type 0) (entries : List Entry) (n : �
 abbrev pub NoLine : (Entry → Type 0) → List Entry → Type 0
 NoLine Fails entries = All (λ e. ¬ Fails e) entries
 
--- the least line at fault, where there is one
+-- the first line in error, if there is one
 abbrev pub IsFirstLine : (Entry → Type 0) → List Entry → Option ℕ → Type 0
 IsFirstLine Fails entries found = MatchOption found (NoLine Fails entries) (IsLeastLine Fails entries)
 
--- ---- 1: a statement stands where it may not
+-- ---- 1: a statement is out of order
 abbrev pub is_version : Sense → Bool
 is_version (version v) = true
 is_version s = false
 
--- the last of some statements, if there are any
+-- the last statement, if there is one
 abbrev pub last_of : List Entry → Option Entry
 last_of [] = None
 last_of (e ∷ []) = Some e
 last_of (e ∷ f ∷ es) = last_of (f ∷ es)
 
--- a line of a body may follow a line that stands as far into the transaction, or less far
+-- a line of a body may follow a line of the same or an earlier stage
 abbrev pub may_follow : Option ℕ → Option ℕ → Bool
 may_follow (Some earlier) (Some own) = nat_le earlier own
 may_follow None (Some own) = false
 may_follow earlier None = true
 
--- `policy` is the first statement and no other; a line of a body stands right behind its transaction's line or another
--- line of the body, variables before push lines and push lines before pop lines
+-- `policy` is the first statement and no other. A line of a body directly follows its transaction's
+-- line or another line of the body. Variables come before push lines, and push lines before pop
+-- lines.
 abbrev pub is_placed : List Entry → Sense → Bool
 is_placed [] s = is_version s
 is_placed (e ∷ es) s = not (is_version s) && (not (is_body s) || may_follow (option_map_or (λ f. stage f.1) (last_of (e ∷ es)) None) (stage s))
@@ -49,7 +50,7 @@ is_placed (e ∷ es) s = not (is_version s) && (not (is_body s) || may_follow (o
 abbrev pub IsMisplaced : List Entry → Entry → Type 0
 IsMisplaced entries e = IsTrue (not (is_placed (before e.0 entries) e.1))
 
--- ---- 2: a name that was declared on an earlier line of its space, or that is a built-in transaction's
+-- ---- 2: a name declared on an earlier line of its space, or a transaction with a built-in name
 abbrev pub is_declared : List Entry → Sense → Bool
 is_declared earlier (version v) = false
 is_declared earlier (transaction n) = is_some (builtin n) || has (declared transaction_name earlier) n
@@ -64,8 +65,9 @@ is_declared earlier (node n u a ns) = has (declared node_name earlier) n
 abbrev pub IsRepeated : List Entry → Entry → Type 0
 IsRepeated entries e = IsTrue (is_declared (before e.0 entries) e.1)
 
--- ---- 3: a name that is declared nowhere
--- each word of an expression is a number of the packet, its class or its way, or one of these variables
+-- ---- 3: a name that isn't declared
+-- each word of an expression is a number of the packet, its class or its path, or one of these
+-- variables
 abbrev pub are_operands_known : List Name → Phrase → Bool
 are_operands_known variables (number n) = true
 are_operands_known variables (word w) = is_variable w || has variables w
@@ -76,7 +78,8 @@ are_operands_known variables (choice c a b) = are_operands_known variables c && 
 abbrev pub is_transaction_known : List Entry → Name → Bool
 is_transaction_known entries n = is_some (builtin n) || has (declared transaction_name entries) n
 
--- what a statement uses is declared; the variables are those of its body, which stand before its push and pop lines
+-- the names that a statement uses are declared; the variables are those of its body, declared
+-- before its push and pop lines
 abbrev pub is_known : List Entry → List Entry → Sense → Bool
 is_known entries earlier (push n t) =
     (bytes_eq n (codes "rank") || has (declared variable_name (open_body earlier)) n) && are_operands_known (declared variable_name (open_body earlier)) t
@@ -102,11 +105,11 @@ most_variables = 16
 abbrev pub most_assignments : ℕ
 most_assignments = 64
 
--- how many lines of a body assign
+-- the number of assignments in a body
 abbrev pub assignments_in : List Entry → ℕ
 assignments_in body = length (filter (λ e. is_assignment e.1) body)
 
--- as many were declared before as there may be
+-- the limit was already reached on earlier lines
 abbrev pub is_one_too_many : List Entry → Sense → Bool
 is_one_too_many earlier (version v) = false
 is_one_too_many earlier (transaction n) = length (declared transaction_name earlier) == most_transactions
@@ -143,7 +146,7 @@ is_not_listed_once all s = option_map_or (λ n. not (is_once all n)) (class_name
 abbrev pub IsNotListedOnce : List Entry → Entry → Type 0
 IsNotListedOnce entries e = IsTrue (is_not_listed_once (listed leaf_classes entries) e.1)
 
--- whether the last class, if there is one, has no condition; `found` is what was seen so far
+-- whether the last class, if there is one, has no condition; `found` is the result so far
 abbrev pub has_catch_all_behind : Bool → List Entry → Bool
 has_catch_all_behind found [] = found
 has_catch_all_behind found ((n, class c a []) ∷ es) = has_catch_all_behind true es
@@ -154,7 +157,7 @@ abbrev pub has_catch_all : List Entry → Bool
 has_catch_all entries = has_catch_all_behind false entries
 
 -- ---- 14: a limit in version 1, which has none
--- the version that the first statement says
+-- the version that the first statement gives, or 0
 abbrev pub version_of : List Entry → ℕ
 version_of ((n, version v) ∷ es) = v
 version_of es = 0

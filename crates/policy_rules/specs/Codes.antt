@@ -1,9 +1,9 @@
--- The numbers with which a refusal is told.
+-- The numbers that report an error.
 use Rattle.std.specs.Prelude.{ℕ}
 use Rattle.policy_rules.specs.declared.fault.PolicyFault.{PolicyFault}
 use Rattle.policy_rules.specs.declared.fault.PolicyFault.TheVariants.{Misplaced, Twice, Unknown, TooMany, TypeClash, Wide, DivZero, Parents, NoRoot, Cycle, Deep, ClassLeaf, NoCatchAll, OldVersion, NoMemory}
 
--- the clause that fails
+-- the number of the clause that fails
 abbrev pub code_of : PolicyFault → ℕ
 code_of (Misplaced n) = 1
 code_of (Twice n) = 2
@@ -21,7 +21,7 @@ code_of NoCatchAll = 13
 code_of (OldVersion n) = 14
 code_of NoMemory = 0
 
--- its least line, and 0 where the clause is of no one line
+-- its first line, and 0 if no single line is in error
 abbrev pub line_of : PolicyFault → ℕ
 line_of (Misplaced n) = n
 line_of (Twice n) = n

@@ -18,7 +18,7 @@ use Rattle.policy_rules.specs.Accepted.{AreFew, IsFault}
 use Rattle.policy_rules.specs.declared.fault.PolicyFault.TheVariants.{Deep}
 use Rattle.policy_rules.specs.TwoFaults.{leaf_of, node_of, some_packets, none_passes, are_few, or_less, in_some, orphan, none}
 
--- ---- the children of a name, and what they lead to
+-- ---- the children of a name, and the names that they lead to
 
 abbrev is_named : Name → Sense → Bool
 is_named a s = option_map_or (λ n. bytes_eq a n) (node_name s) false
@@ -27,7 +27,7 @@ abbrev children_of : List Entry → Name → List Name
 children_of [] a = []
 children_of (e ∷ es) a = (if is_named a e.1 then children e.1 else []) ++ children_of es a
 
--- the names that so many steps lead to
+-- the names that N steps lead to
 abbrev led_to : List Entry → ℕ → List Name → List Name
 led_to es zero names = names
 led_to es (suc k) names = led_to es k (flat_map (children_of es) names)
@@ -75,13 +75,13 @@ stepped es (n ∷ names) a b here lists = at (bytes_eq a n) refl (λ there. step
     at true is rest = in_first (children_of es n) (flat_map (children_of es) names) b (subst (λ m. has (children_of es m) b ≡ true) ((bytes_eq-Decides a n).0 is) (children-there es a b lists))
     at false is rest = in_second (children_of es n) (flat_map (children_of es) names) b (rest (subst (λ t. (t || has names a) ≡ true) is here))
 
--- where m steps lead to none, no more than that lead anywhere
+-- if m steps lead nowhere, no greater number of steps leads anywhere
 ends : (es : List Entry) (m : ℕ) (names : List Name) → led_to es m names ≡ [] → (k : ℕ) (a b : Name) → m ≤ k → NamesLead es k a b → has names a ≡ true → ⊥
 ends es zero names none k a b le lead here = let gone : has [] a ≡ true = subst (λ l. has l a ≡ true) none here in cc
 ends es (suc m) names none zero a b le lead here = omega arith
 ends es (suc m) names none (suc k) a b le lead here = ends es m (flat_map (children_of es) names) none k lead.0 b (omega arith) lead.2 (stepped es names a lead.0 here lead.1)
 
--- what steps lead to is listed
+-- a name that steps lead to is listed as a child
 led-listed : (es : List Entry) (k : ℕ) (a b : Name) → NamesLead es (suc k) a b → has (listed children es) b ≡ true
 led-listed es zero a b lead = subst (λ m. has (listed children es) m ≡ true) lead.2 (children-listed es a lead.0 lead.1)
 led-listed es (suc k) a b lead = led-listed es k lead.0 b lead.2
@@ -115,7 +115,7 @@ chain (suc left) n = node_of (level n) (level (suc n) ∷ []) ∷ chain left (su
 pub IsTooDeep-64_levels : ¬ IsTooDeep (numbered 1 (chain 64 0)) (entry 65 (leaf_of (64 ∷ []) []))
 IsTooDeep-64_levels deep = ends (numbered 1 (chain 64 0)) 65 (root ∷ []) refl deep.0 root (64 ∷ []) (omega (arith, deep.1)) deep.2 refl
 
--- which it is: 64 steps lead to it, and one step less leads to the node above
+-- 64 steps lead to this leaf, and 63 to the node above it
 pub chain-last : led_to (numbered 1 (chain 64 0)) 64 (root ∷ []) ≡ (64 ∷ []) ∷ []
 chain-last = refl
 
@@ -130,7 +130,7 @@ no_fewer : (k n : ℕ) → n ≤ steps_more k n
 no_fewer zero n = omega arith
 no_fewer (suc k) n = omega (arith, no_fewer k n)
 
--- one walk after another
+-- two walks in a row
 walk_both : (es : List Entry) (k n : ℕ) (a b c : Name) → NamesLead es k a b → NamesLead es n b c → NamesLead es (steps_more k n) a c
 walk_both es zero n a b c first next = subst (λ m. NamesLead es n m c) (sym first) next
 walk_both es (suc k) n a b c first next = (first.0, first.1, walk_both es k n first.0 b c first.2 next)

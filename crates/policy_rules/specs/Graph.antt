@@ -1,4 +1,4 @@
--- Nodes by number, in the order in which they are declared.
+-- Nodes by number, in the order of their declarations.
 use Rattle.std.specs.Prelude.{ℕ, Option, Some, None, List, [], map, filter_map, unwrap_or}
 use Rattle.rank_defs.specs.Builtins.{fifo}
 use Rattle.policy_text_defs.specs.declared.attribute.Attrs.{Attrs}
@@ -18,7 +18,7 @@ family s = None
 abbrev pub graph_of : List Entry → List (List ℕ)
 graph_of entries = map (λ names. map (place (declared node_name entries)) names) (filter_map (λ e. family e.1) entries)
 
--- what is said of a node or leaf; that its transaction is there was seen before
+-- the properties of a node or leaf; that its transaction is declared is already checked
 abbrev pub said : List Entry → Name → Name → Attrs → Option ℕ → Node
 said entries n u a l = record { name = n; using = u; program = unwrap_or (program_named entries u) fifo; marks = marks_of a; limit = l }
 
@@ -27,6 +27,6 @@ node_in entries (leaf n u a l ns) = Some (said entries n u a l)
 node_in entries (node n u a ns) = Some (said entries n u a None)
 node_in entries s = None
 
--- what is said of each node and leaf
+-- the properties of each node and leaf
 abbrev pub nodes_in : List Entry → List Node
 nodes_in entries = filter_map (λ e. node_in entries e.1) entries

@@ -1,4 +1,4 @@
--- What statements declare and list, by name. A name is its bytes.
+-- The names that statements declare and list. A name is its bytes.
 use Rattle.std.specs.Prelude.{ℕ, nat_lt, nat_eq, Bool, Option, Some, None, List, [], filter, count_by, filter_map, flat_map}
 use Rattle.std.specs.List.{list_any}
 use Rattle.std.specs.Str.{bytes_eq}
@@ -11,15 +11,15 @@ Name = List ℕ
 abbrev pub has : List Name → Name → Bool
 has names a = list_any (bytes_eq a) names
 
--- how often a name comes
+-- how often a name occurs
 abbrev pub times : List Name → Name → ℕ
 times names a = count_by (bytes_eq a) names
 
--- whether a name comes exactly once
+-- whether a name occurs exactly once
 abbrev pub is_once : List Name → Name → Bool
 is_once names a = nat_eq (times names a) 1
 
--- ---- the spaces: transactions, classes, nodes and leaves together, and the variables of a transaction
+-- ---- the spaces: transactions; classes; nodes and leaves together; a transaction's variables
 abbrev pub transaction_name : Sense → Option Name
 transaction_name (transaction n) = Some n
 transaction_name s = None
@@ -47,11 +47,11 @@ variable_name (keep n s) = Some n
 variable_name (each n s) = Some n
 variable_name s = None
 
--- the names that statements declare in a space, in their order
+-- the names that statements declare in a space, in order
 abbrev pub declared : (Sense → Option Name) → List Entry → List Name
 declared space entries = filter_map (λ e. space e.1) entries
 
--- ---- what is listed
+-- ---- the names that statements list
 abbrev pub children : Sense → List Name
 children (node n u a ns) = ns
 children s = []

@@ -1,4 +1,4 @@
--- What the body of a transaction computes, once its names are variables.
+-- The program of a transaction's body, once its names are variables.
 use Rattle.std.specs.Prelude.{ℕ, if◌then◌else◌, Option, Some, None, List, map, find, filter_map, option_map, position, unwrap_or, codes}
 use Rattle.std.specs.Str.{bytes_eq}
 use Rattle.rank_defs.specs.declared.expression.Var.{Var}
@@ -15,11 +15,11 @@ use Rattle.policy_text_defs.specs.Sense.{Sense, Entry, keep, each, push, pop}
 use Rattle.policy_rules.specs.Names.{Name, has, declared, keep_name, each_name}
 use Rattle.policy_rules.specs.Bodies.{Body, bodies}
 
--- the place of a name among the names
+-- the index of a name among the names
 abbrev pub place : List Name → Name → ℕ
 place names a = unwrap_or (position (bytes_eq a) names) 0
 
--- the variable of a word, where these names are the node's variables and these each child's or flow's
+-- the variable that a word denotes, given the node's variables and each child's or flow's
 abbrev pub variable_of : List Name → List Name → Name → Var
 variable_of keeps eaches w =
     if bytes_eq w (codes "len") then var.Len else
@@ -37,7 +37,7 @@ formula_in keeps eaches (two op a b) = formula.two op (formula_in keeps eaches a
 formula_in keeps eaches (negation a) = formula.negation (formula_in keeps eaches a)
 formula_in keeps eaches (choice c a b) = formula.choice (formula_in keeps eaches c) (formula_in keeps eaches a) (formula_in keeps eaches b)
 
--- what a line sets
+-- the variable that a line sets
 abbrev pub aim_of : List Name → List Name → Name → Aim
 aim_of keeps eaches n =
     if bytes_eq n (codes "rank") then aim.Rank else
@@ -46,7 +46,7 @@ aim_of keeps eaches n =
 abbrev pub assignment_in : List Name → List Name → ℕ → Name → Phrase → Assignment
 assignment_in keeps eaches line n t = record { line = line; aim = aim_of keeps eaches n; formula = formula_in keeps eaches t }
 
--- the ranges of variables, and the lines that assign
+-- the ranges of variables, and the assignments
 abbrev pub keep_span : Sense → Option Span
 keep_span (keep n s) = Some s
 keep_span s = None
@@ -63,7 +63,7 @@ abbrev pub pop_in : List Name → List Name → Entry → Option Assignment
 pop_in keeps eaches (line, pop n t) = Some (assignment_in keeps eaches line n t)
 pop_in keeps eaches e = None
 
--- what lines compute that stand in one body
+-- the program of the lines of one body
 abbrev pub program_in : List Entry → Program
 program_in lines = record {
   keeps = filter_map (λ e. keep_span e.1) lines;
@@ -76,7 +76,7 @@ program_in lines = record {
 abbrev pub programs : List Entry → List Program
 programs entries = map (λ b. program_in b.lines) (bodies entries)
 
--- the transaction that is written under a name
+-- the transaction that is written with this name
 abbrev pub body_named : List Entry → Name → Option Body
 body_named entries n = find (λ b. bytes_eq n b.name) (bodies entries)
 
@@ -84,6 +84,6 @@ abbrev pub or_written : Option Program → Option Body → Option Program
 or_written (Some p) written = Some p
 or_written None written = option_map (λ b. program_in b.lines) written
 
--- the program of a name: that of the built-in transaction, or else of the one that is written under it
+-- the program of a name: that of the built-in transaction, or else of the written one
 abbrev pub program_named : List Entry → Name → Option Program
 program_named entries n = or_written (builtin n) (body_named entries n)

@@ -9,16 +9,17 @@ use Rattle.policy_rules.specs.Names.{Name}
 use Rattle.policy_rules.specs.Clauses.{root, version_of}
 use Rattle.policy_rules.specs.Programs.{program_named}
 
--- a policy, with the conditions of its classes in their order
+-- a policy, with the conditions of its classes in order
 pub record Resolved : Type 0 where
   pub policy : Policy
   pub conditions : List (List Condition)
 
--- the marks that attributes set, and the others as they are where none are written
+-- the marks that attributes set; the others have their defaults
 abbrev pub marks_of : Attrs → Marks
 marks_of a = record { prio = unwrap_or a.prio no_marks.prio; weight = unwrap_or a.weight no_marks.weight; slack = unwrap_or a.slack no_marks.slack }
 
--- a node has this name, this transaction and its program, the marks of these attributes, and this limit or none
+-- a node has this name, this transaction and its program, the marks of these attributes, and this
+-- limit or none
 pub record IsNodeOf (entries : List Entry) (n : Node) (name used : Name) (a : Attrs) (limit : Option ℕ) : Type 0 where
   pub name_is : n.name ≡ name
   pub using_is : n.using ≡ used
@@ -26,7 +27,7 @@ pub record IsNodeOf (entries : List Entry) (n : Node) (name used : Name) (a : At
   pub marks_are : n.marks ≡ marks_of a
   pub limit_is : n.limit ≡ limit
 
--- the statement of a leaf is this one, and that of an inner node, whose children have these names
+-- the statement declares this leaf, or this inner node whose children have these names
 abbrev pub IsLeafOf : List Entry → Node → Sense → Type 0
 IsLeafOf entries n (leaf name used a l ns) = IsNodeOf entries n name used a l
 IsLeafOf entries n s = ⊥
@@ -39,7 +40,7 @@ abbrev pub names_of : Trees Node → List Name
 names_of none = []
 names_of (more t ts) = (root_of t).name ∷ names_of ts
 
--- each node of the tree is declared by a statement, and the children stand in the order of their list
+-- each node of the tree is declared by a statement, and the children are in the order of their list
 abbrev mutual
   pub IsTreeIn : List Entry → Tree Node → Type 0
   IsTreeIn entries (leaf_of n) = Any (λ e. IsLeafOf entries n e.1) entries
@@ -61,7 +62,7 @@ pub record IsLeafFor (entries : List Entry) (tree : Tree Node) (class_name : Nam
   pub at : node_at tree a ≡ Some node_is
   pub lists : Any (λ e. ListsClass node_is.name class_name e.1) entries
 
--- the classes that statements declare, in their order: the name, the marks and the conditions
+-- the classes that statements declare, in order: the name, the marks and the conditions
 pub record Declared : Type 0 where
   pub name : Name
   pub marks : Marks
@@ -74,7 +75,7 @@ class_in s = None
 abbrev pub classes_in : List Entry → List Declared
 classes_in entries = filter_map (λ e. class_in e.1) entries
 
--- class by class: its marks, and the leaf that lists it
+-- for each class: its marks, and the leaf that lists it
 abbrev pub AreClassesOf : List Entry → Tree Node → List Declared → List Class → Type 0
 AreClassesOf entries tree [] [] = Unit {0}
 AreClassesOf entries tree (d ∷ ds) (c ∷ cs) = (c.marks ≡ d.marks) × IsLeafFor entries tree d.name c.leaf × AreClassesOf entries tree ds cs

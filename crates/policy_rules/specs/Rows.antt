@@ -1,4 +1,4 @@
--- Statements whose clauses are worked out.
+-- Examples of statements with the results of the clauses.
 use Rattle.std.specs.Prelude.{◌≡◌, refl, ℕ, true, false, Some, None, List, [], ◌∷◌, ◌++◌, map, replicate, codes}
 use Rattle.rank_defs.specs.declared.expression.Op.TheVariants.{Add}
 use Rattle.rank_defs.specs.declared.expression.Var.TheVariants as var
@@ -74,11 +74,11 @@ a_leaf = leaf (codes "l") (codes "fifo") nothing_set None []
 abbrev a_node : Sense
 a_node = node (codes "n") (codes "fifo") nothing_set []
 
--- so many statements of a form
+-- N statements of one form
 abbrev so_many : ℕ → Sense → List Entry
 so_many n s = replicate n (entry 1 s)
 
--- the 256th class has room, and no class behind it
+-- a 256th class is within the limit, and a 257th isn't
 pub is_one_too_many-classes : map (λ n. is_one_too_many (so_many n a_class) a_class) (255 ∷ 256 ∷ []) ≡ false ∷ true ∷ []
 is_one_too_many-classes = refl
 
@@ -86,21 +86,21 @@ is_one_too_many-classes = refl
 pub is_one_too_many-nodes_and_leaves : map (λ s. map (λ n. is_one_too_many (so_many 1000 a_leaf ++ so_many n a_node) s) (23 ∷ 24 ∷ [])) (a_leaf ∷ a_node ∷ []) ≡ replicate 2 (false ∷ true ∷ [])
 is_one_too_many-nodes_and_leaves = refl
 
--- classes and nodes are not
+-- classes and nodes are counted separately
 pub is_one_too_many-each_its_own : map (is_one_too_many (so_many 256 a_class ++ so_many 64 a_transaction)) (a_node ∷ a_leaf ∷ version 1 ∷ a_keep ∷ a_push ∷ []) ≡ replicate 5 false
 is_one_too_many-each_its_own = refl
 
 pub is_one_too_many-transactions : map (λ n. is_one_too_many (so_many n a_transaction) a_transaction) (63 ∷ 64 ∷ []) ≡ false ∷ true ∷ []
 is_one_too_many-transactions = refl
 
--- both kinds of variables are counted together, and those of an earlier transaction aren't
+-- both kinds of variables are counted together, and those of an earlier transaction aren't counted
 pub is_one_too_many-variables : map (λ s. map (λ n. is_one_too_many (so_many 1 a_transaction ++ so_many 8 a_keep ++ so_many n an_each) s) (7 ∷ 8 ∷ [])) (a_keep ∷ an_each ∷ []) ≡ replicate 2 (false ∷ true ∷ [])
 is_one_too_many-variables = refl
 
 pub is_one_too_many-variables_of_another : is_one_too_many (so_many 1 a_transaction ++ so_many 16 a_keep ++ so_many 1 a_transaction) a_keep ≡ false
 is_one_too_many-variables_of_another = refl
 
--- so are push and pop lines
+-- push and pop lines are counted together
 pub is_one_too_many-assignments : map (λ s. map (λ n. is_one_too_many (so_many 1 a_transaction ++ so_many 40 a_push ++ so_many n a_pop) s) (23 ∷ 24 ∷ [])) (a_push ∷ a_pop ∷ []) ≡ replicate 2 (false ∷ true ∷ [])
 is_one_too_many-assignments = refl
 
@@ -116,7 +116,7 @@ has_root-counting = refl
 pub has_catch_all-counting : has_catch_all counting ≡ true
 has_catch_all-counting = refl
 
--- one leaf, which holds ten packets
+-- one leaf with a limit of ten packets
 abbrev pub limited : ℕ → List Entry
 limited v = numbered 1 (version v ∷ class (codes "all") nothing_set [] ∷ leaf (codes "root") (codes "fifo") nothing_set (Some 10) (codes "all" ∷ []) ∷ [])
 

@@ -1,4 +1,4 @@
--- Statements with two faults: the clause that goes first is told, whatever its line.
+-- Statements with two errors: the earlier clause is reported, whatever its line.
 use Rattle.std.specs.Prelude.{◌≡◌, refl, ℕ, zero, suc, ◌<◌, ◌≤◌, nat_le, nat_eq, Bool, true, false, not, ◌||◌, IsTrue, Option, Some, None, IsSomeAnd, List, [], ◌∷◌, length, slice_index_or, codes}
 use Rattle.std.specs.List.{list_all}
 use Rattle.std.proofs.Common.{arith, subst, inl, inr}
@@ -37,7 +37,7 @@ pub or_less : (b : Bool) (m n : ℕ) → (not b || nat_le m n) ≡ true → b �
 or_less true m n le h = grind (arith, nat_tests)
 or_less false m n le h = cc
 
--- the statement at a place passes, and no other that passes stands on a lower line
+-- the statement at this index passes, and no other that passes is on a lower line
 least_passes : (test : Entry → Bool) (es : List Entry) (k : ℕ) (e : Entry) → k < length es → slice_index_or es k e ≡ e → test e ≡ true → list_all (λ x. not (test x) || nat_le e.0 x.0) es ≡ true → IsLeastLine (λ x. IsTrue (test x)) es e.0
 least_passes test es k e short is passes least = record {
   there = (k, e, short, is, (passes, refl));
@@ -82,33 +82,33 @@ leaf_of n classes = leaf n (codes "fifo") nothing_set None classes
 abbrev pub node_of : Name → List Name → Sense
 node_of n names = node n (codes "fifo") nothing_set names
 
--- so many variables, each of another name
+-- N variables with different names
 abbrev variables : ℕ → ℕ → List Sense → List Sense
 variables zero first rest = rest
 variables (suc n) first rest = keep (first ∷ []) (record { low = 0; high = 9; first = 0 }) ∷ variables n (suc first) rest
 
--- ---- 1 before 2: a name comes again on line 3, and `policy` on line 4
+-- ---- 1 before 2: a name is declared again on line 3, and `policy` is on line 4
 abbrev misplaced_and_again : List Entry
 misplaced_and_again = numbered 1 (version 1 ∷ all_packets ∷ all_packets ∷ version 1 ∷ [])
 
 pub misplaced_before_again : IsFault misplaced_and_again (Misplaced 4) × IsRepeated misplaced_and_again (entry 3 all_packets)
 misplaced_before_again = (least_passes (misplaced misplaced_and_again) misplaced_and_again 3 (entry 4 (version 1)) (omega arith) refl refl refl, refl)
 
--- ---- 2 before 3: a class that isn't there on line 2, and a name comes again on line 4
+-- ---- 2 before 3: a class that isn't declared is on line 2, and a name is declared again on line 4
 abbrev again_and_unknown : List Entry
 again_and_unknown = numbered 1 (version 1 ∷ leaf_of root (codes "b" ∷ []) ∷ all_packets ∷ all_packets ∷ [])
 
 pub again_before_unknown : IsFault again_and_unknown (Twice 4) × IsUnknown again_and_unknown (entry 2 (leaf_of root (codes "b" ∷ [])))
 again_before_unknown = ((none_passes (misplaced again_and_unknown) again_and_unknown refl, least_passes (again again_and_unknown) again_and_unknown 3 (entry 4 all_packets) (omega arith) refl refl refl), refl)
 
--- ---- 3 before 4: the seventeenth variable on line 19, and a variable that isn't there on line 20
+-- ---- 3 before 4: the 17th variable is on line 19, and a variable that isn't declared on line 20
 abbrev unknown_and_beyond : List Entry
 unknown_and_beyond = numbered 1 (version 1 ∷ transaction (codes "t") ∷ variables 17 97 (push (codes "rank") (word (codes "zz")) ∷ []))
 
 pub unknown_before_beyond : IsFault unknown_and_beyond (Unknown 20) × IsOneTooMany unknown_and_beyond (entry 19 (keep (113 ∷ []) (record { low = 0; high = 9; first = 0 })))
 unknown_before_beyond = (((none_passes (misplaced unknown_and_beyond) unknown_and_beyond refl, none_passes (again unknown_and_beyond) unknown_and_beyond refl), least_passes (unknown unknown_and_beyond) unknown_and_beyond 19 (entry 20 (push (codes "rank") (word (codes "zz")))) (omega arith) refl refl refl), refl)
 
--- ---- 4 before 8: a node that no other lists on line 2, and the seventeenth variable on line 20
+-- ---- 4 before 8: a node that no other lists is on line 2, and the seventeenth variable on line 20
 abbrev beyond_and_orphan : List Entry
 beyond_and_orphan = numbered 1 (version 1 ∷ leaf_of (codes "x") [] ∷ transaction (codes "t") ∷ variables 17 97 [])
 
@@ -128,11 +128,11 @@ too_wide = two Mul (word (codes "now")) (word (codes "now"))
 abbrev may_be_by_zero : Phrase
 may_be_by_zero = two Div (number 1) (word (codes "prio"))
 
--- the parts of what may be divided by zero are narrow
+-- the parts of the expression that may divide by zero are narrow
 parts_by_zero : ArePartsNarrow (declared fifo) (formula.two Div (formula.number 1) (formula.variable (var.Prio)))
 parts_by_zero = (record { low = le_z_yes tt; high = le_z_yes tt }, record { low = le_z_yes tt; high = le_z_yes tt }, record { low = le_z_yes tt; high = le_z_yes tt })
 
--- 4 before 5: a truth value on line 3, and the seventeenth variable of another transaction on line 21
+-- 4 before 5: a truth value on line 3, and the 17th variable of another transaction on line 21
 abbrev beyond_and_clash : List Entry
 beyond_and_clash = numbered 1 (version 1 ∷ transaction (codes "t") ∷ push (codes "rank") truth_value ∷ transaction (codes "u") ∷ variables 17 97 [])
 
@@ -148,7 +148,7 @@ clash_before_wide = ((are_few (two_pushes too_wide truth_value) refl refl refl r
     least other (inr (inl h)) = let on : 4 ≡ other = h.0 in omega arith
     least other (inr (inr none)) = absurd none
 
--- 6 before 7: what may be divided by zero on line 3, and too wide on line 4
+-- 6 before 7: a possible division by zero is on line 3, and an expression too wide on line 4
 pub wide_before_zero : IsFault (two_pushes may_be_by_zero too_wide) (Wide 4) × SomeAt MayDivideByZero (assignments_of (programs (two_pushes may_be_by_zero too_wide))) 3
 wide_before_zero = ((are_few (two_pushes may_be_by_zero too_wide) refl refl refl refl, record { typed = typed; wide = record { here = inr (inl (refl, λ parts. clash_ℤ (lt_z_yes tt) parts.2.high)); least = least } }), inl (refl, refl))
   where
@@ -162,7 +162,7 @@ wide_before_zero = ((are_few (two_pushes may_be_by_zero too_wide) refl refl refl
     least other (inr (inl h)) = let on : 4 ≡ other = h.0 in omega arith
     least other (inr (inr none)) = absurd none
 
--- 7 before 8: a node that no other lists on line 2, and what may be divided by zero on line 4
+-- ---- 7 before 8: an unlisted node is on line 2, and a possible division by zero on line 4
 abbrev zero_and_orphan : List Entry
 zero_and_orphan = numbered 1 (version 1 ∷ leaf_of (codes "x") [] ∷ transaction (codes "t") ∷ push (codes "rank") may_be_by_zero ∷ [])
 
@@ -201,7 +201,7 @@ b_lists_a = (2, entry 3 (node_of (codes "b") (codes "a" ∷ [])), omega arith, r
 pub no_root_before_cycle : IsFault no_root_and_cycle NoRoot × IsCyclic no_root_and_cycle (entry 3 (node_of (codes "b") (codes "a" ∷ [])))
 no_root_before_cycle = ((((are_few no_root_and_cycle refl refl refl refl, tt), none_passes (orphan no_root_and_cycle) no_root_and_cycle refl), refl), (1, (codes "a", b_lists_a, (codes "b", a_lists_b, refl))))
 
--- ---- 10 before 11: a root that lists itself is among its own descendants, and 65 levels below itself
+-- ---- 10 before 11: a root that lists itself: its own descendant, and 65 levels below itself
 abbrev cycle_and_deep : List Entry
 cycle_and_deep = numbered 1 (version 1 ∷ node_of root (root ∷ []) ∷ [])
 

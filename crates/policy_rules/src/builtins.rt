@@ -1,3 +1,4 @@
 //! The names of the built-in transactions.
-/// The names of the built-in transactions, in the order in which they stand before those that are written.
+/// The names of the built-in transactions. They come first in the list of all transactions, in this
+/// order.
 pub const BUILTINS: [&str; 6] = ["fifo", "strict", "shortest", "lstf", "rr", "stfq"];

@@ -1,23 +1,26 @@
-//! Why statements in form are no accepted policy.
+//! The reasons why parsed statements are rejected as a policy.
 ghost use Rattle.std.specs.Prelude.{◌≡◌};
 ghost use Rattle.policy_rules.specs.declared.fault.PolicyFault.TheVariants.{NoMemory};
 ghost use Rattle.policy_rules.specs.Codes.{code_of, line_of};
 
 use std::alloc::AllocError;
 
-/// Why statements in form are no accepted policy. The number is that of the least line at fault.
+/// The reason why parsed statements are rejected as a policy. The number is that of the first line
+/// in error.
 #[derive(Clone, Copy, PartialEq, Eq, Debug)]
 pub enum PolicyFault {
-    /// The first statement isn't `policy`, or a later one is, or a line of a transaction doesn't stand where it may.
+    /// The first statement isn't `policy`, a later one is, or a line of a transaction is out of
+    /// order.
     Misplaced(u32),
-    /// A name was declared on an earlier line, or a transaction has the name of a built-in one.
+    /// A name is already declared on an earlier line, or a transaction has the name of a built-in
+    /// one.
     Twice(u32),
-    /// A transaction, child, class or variable that is used is declared nowhere.
+    /// A transaction, child, class or variable is used but not declared.
     Unknown(u32),
-    /// The line is the first beyond a limit: 256 classes, 1,024 nodes and leaves, 64 transactions, and in each transaction 16
-    /// variables and 64 assignments.
+    /// The line is the first beyond a limit: 256 classes, 1,024 nodes and leaves, 64 transactions,
+    /// and in each transaction 16 variables and 64 assignments.
     TooMany(u32),
-    /// Types don't agree, or what is assigned isn't a number.
+    /// Types don't agree, or the value that is assigned isn't a number.
     TypeClash(u32),
     /// An expression may have a value beyond 2^100 or below -2^100.
     Wide(u32),
@@ -35,7 +38,7 @@ pub enum PolicyFault {
     ClassLeaf(u32),
     /// The last class has a condition, or there is no class.
     NoCatchAll,
-    /// A leaf has a limit, and the policy is of version 1, which has none.
+    /// A leaf has a limit, but the policy is of version 1, which has no limits.
     OldVersion(u32),
     NoMemory,
 }
@@ -52,7 +55,7 @@ impl From<AllocError> for PolicyFault {
 }
 
 impl PolicyFault {
-    /// The number of the clause that fails, from 1 to 14. `NoMemory` has 0.
+    /// Returns the number of the clause that fails, from 1 to 14, or 0 for `NoMemory`.
     pub fn code(self) -> u32
         ensures { result ≡ code_of self }
     {
@@ -75,7 +78,7 @@ impl PolicyFault {
         }
     }
 
-    /// The number of the line at fault, and 0 where no one line is.
+    /// Returns the number of the line in error, or 0 if no single line is.
     pub fn line(self) -> u32
         ensures { result ≡ line_of self }
     {

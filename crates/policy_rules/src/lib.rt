@@ -1,5 +1,5 @@
-//! Which statements are an accepted policy, why others are refused, and which policy they are. Begin with
-//! specs/Accepted.antt.
+//! Defines which statements are accepted, why others are rejected, and the policy that accepted
+//! ones give. Begin with specs/Accepted.antt.
 #![tactic(auto)]
 
 mod builtins;

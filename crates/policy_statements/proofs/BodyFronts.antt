@@ -1,4 +1,4 @@
--- The lines with which some lines begin.
+-- The leading lines that belong to a body.
 use Rattle.std.proofs.Common.{◌≡◌, ℕ, ◌≤◌, Bool, true, false, cond, not, List, [], ◌∷◌, length, take, map, position, Some, None, nat_lt, sym, ap, ◌∙◌, refl, arith}
 use Rattle.std.specs.List.{prefix_len, position_or_len, take_while}
 use Rattle.std.proofs.lemmas.List.{take_all, take-map, length-map}

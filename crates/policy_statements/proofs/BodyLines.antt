@@ -1,4 +1,4 @@
--- Lines as they are kept.
+-- Parsed lines of a body.
 use Rattle.std.proofs.Common.{◌≡◌, ℕ, ◌+◌, ◌<◌, List, ◌∷◌, length, take, drop, get_or, sym, ap, ◌∙◌}
 use Rattle.std.proofs.lemmas.List.{drop_more}
 use Rattle.policy_text_defs.specs.Sense.{Entry, sense_of}
@@ -8,7 +8,7 @@ use Rattle.policy_rules.proofs.Lines.{Line, entry_of, within-entries, entry-at}
 use Rattle.policy_statements.specs.Bodies.{with_names, IsSoundBody}
 use Rattle.policy_statements.proofs.SoundBodies.{keeps_more, eaches_more}
 
--- what is left at a line
+-- the lines left from an index
 pub drop_line : (lines : List Line) (i : ℕ) (x : Line) → i < length lines → x ≡ get_or lines i x → drop i (entries_of lines) ≡ entry_of x ∷ drop (i + 1) (entries_of lines)
 drop_line lines i x within is =
     drop_more (entries_of lines) i (entry_of x) (within-entries lines i within) ∙ ap (λ e. e ∷ drop (i + 1) (entries_of lines)) (entry-at lines i x (entry_of x) within is)

@@ -47,7 +47,7 @@ caught found true n a (c ∷ cs) told = absurd (not_nil c cs (told.0 refl))
         is_nil (x ∷ xs) = false
 caught found false n a (c ∷ cs) told = refl
 
--- at a class, and at any other statement
+-- the step at a class, and at any other statement
 pub at_class : (found empty : Bool) (s : Statement) (n : Name) (a : Attrs) (cs : List Condition) → s ≡ Class n a cs → IsTrue empty ↔ (cs ≡ []) → empty ≡ is_catch_all found (sense_of s)
 at_class found empty s n a cs is told = caught found empty n a cs told ∙ sym (ap (λ t. is_catch_all found (sense_of t)) is)
 

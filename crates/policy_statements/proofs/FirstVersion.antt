@@ -5,6 +5,6 @@ use Rattle.policy_rules.specs.Clauses.{has_limit, version_of}
 use Rattle.policy_rules.specs.Entries.{entries_of}
 use Rattle.policy_rules.proofs.Lines.{Line}
 
--- in version 1 a line is ahead where it has a limit
+-- in version 1, a line needs version 2 exactly if it has a limit
 pub first-version : (lines : List Line) (l : Line) → version_of (entries_of lines) ≡ 1 → (version_of (entries_of lines) == 1 && has_limit (sense_of l.1)) ≡ has_limit (sense_of l.1)
 first-version lines l is = ap (λ v. v == 1 && has_limit (sense_of l.1)) is

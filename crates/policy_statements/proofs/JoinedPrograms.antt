@@ -1,4 +1,4 @@
--- Programs of lines, one behind another.
+-- Programs of lines, one after another.
 use Rattle.std.proofs.Common.{◌≡◌, ℕ, ◌+◌, ◌<◌, List, [], ◌∷◌, ◌++◌, length, take, get_or, sym, ap, ◌∙◌, refl}
 use Rattle.std.proofs.lemmas.List.Elements.{filter_map-append}
 use Rattle.rank_defs.specs.declared.transaction.Span.{Span}

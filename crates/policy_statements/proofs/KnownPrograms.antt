@@ -1,4 +1,4 @@
--- All programs that names mean: shaped, and refused where those that are written are.
+-- All programs that names denote: they are shaped, and they are rejected if the written ones are.
 use Rattle.std.proofs.Common.{◌≡◌, inl, inr, ℕ, List, [], ◌∷◌, ◌++◌, map, refl, sym, ap, subst, ◌∙◌}
 use Rattle.std.specs.Prelude.{All, Result, Ok, Err, MatchResult, IsErrAnd, IfErr}
 use Rattle.std.specs.List.{AllByRecursion}
@@ -46,7 +46,7 @@ shaped_known es rising few valid =
 pub checked_known : (es : List Entry) → AreChecked (programs es) → AreChecked (known_programs es)
 checked_known es written = all-append IsChecked built_in (programs es) checked_built_in written
 
--- ---- faults
+-- ---- errors
 
 entries-append : (ps qs : List Program) → entries (ps ++ qs) ≡ entries ps ++ entries qs
 entries-append [] qs = refl
@@ -85,7 +85,7 @@ zero_written es line at = record {
   zero = least_right MayDivideByZero built_in (programs es) faultless.divides line at.zero;
 }
 
--- a refusal of all programs is one of the policy
+-- an error of all programs is one of the policy
 pub fault_written : (es : List Entry) (ps : List Program) → ps ≡ known_programs es → AreFew es → (fault : RangeFault)
     → ((line : ℕ) → fault ≡ range.TypeClash line → ClashesFirstAt ps line) → ((line : ℕ) → fault ≡ range.Wide line → IsWideFirstAt ps line) → ((line : ℕ) → fault ≡ range.DivZero line → DividesByZeroFirstAt ps line) → IsFault es (fault_of fault)
 fault_written es ps are few (range.TypeClash n) clash wide zero = (few, clash_written es n (subst (λ (l : List Program). ClashesFirstAt l n) are (clash n refl)))
@@ -93,7 +93,7 @@ fault_written es ps are few (range.Wide n) clash wide zero = (few, wide_written 
 fault_written es ps are few (range.DivZero n) clash wide zero = (few, zero_written es n (subst (λ (l : List Program). DividesByZeroFirstAt l n) are (zero n refl)))
 fault_written es ps are few range.NoMemory clash wide zero = tt
 
--- the same of what is answered
+-- the same for results
 pub fault_answered : {X : Type 0} (es : List Entry) (ps : List Program) → ps ≡ known_programs es → AreFew es → (checked : Result X RangeFault) (result : Result X PolicyFault)
     → MatchResult checked (λ x. result ≡ Ok x) (λ e. IsErrAnd result (λ f. f ≡ fault_of e))
     → ((line : ℕ) → checked ≡ Err (range.TypeClash line) → ClashesFirstAt ps line) → ((line : ℕ) → checked ≡ Err (range.Wide line) → IsWideFirstAt ps line) → ((line : ℕ) → checked ≡ Err (range.DivZero line) → DividesByZeroFirstAt ps line) → IfErr result (IsFault es)

@@ -25,7 +25,7 @@ times-listed names (e ∷ es) a =
     ∙ ap (λ n. times (names e.1) a + n) (times-listed names es a)
     ∙ sym (sum_by-cons (λ f. times (names f.1) a) e es)
 
--- a list holds a name exactly where the name comes in it
+-- a list holds a name exactly if the name occurs in it
 pub Contains-times : (ns : List Name) (a : Name) → 0 < times ns a → Contains ns a
 Contains-times [] a some = absurd (omega (arith, some))
 Contains-times (n ∷ ns) a some = elim (cases_Bool (bytes_eq a n)) [
@@ -57,7 +57,7 @@ lister names entries a once =
     let one : sum_by (λ e. times (names e.1) a) entries ≡ 1 = sym (times-listed names entries a) ∙ once-1 (times (listed names entries) a) once in
     some-lister names entries a (omega (arith, one))
 
--- and by no other
+-- no other statement lists it
 pub one_lister : (names : Sense → List Name) (entries : List Entry) (a : Name) → is_once (listed names entries) a ≡ true
     → (i j : ℕ) (d : Entry) → i < length entries → j < length entries → Contains (names (get_or entries i d).1) a → Contains (names (get_or entries j d).1) a → i ≡ j
 one_lister names entries a once i j d in_i in_j at_i at_j = elim (cases_order i j) [
@@ -98,7 +98,7 @@ not-not true h = refl
 not-not false h = absurd (h refl)
 
 -- ---- classes
--- where no class is stray, each declared class is listed once
+-- if no line fails this clause, each declared class is listed exactly once
 pub class-once : (entries : List Entry) (a : Name) → NoLine (IsNotListedOnce entries) entries → has (declared class_name entries) a ≡ true → is_once (listed leaf_classes entries) a ≡ true
 class-once entries a none there = at (declaring class_name entries a there)
   where
@@ -106,16 +106,16 @@ class-once entries a none there = at (declaring class_name entries a there)
     at (k, e, within, is, named) = not-not (is_once (listed leaf_classes entries) a) (λ stray. none k e within
         (subst (λ (f : Entry). IsNotListedOnce entries f) (sym is) (ap (λ o. option_map_or (λ n. not (is_once (listed leaf_classes entries) n)) o false) named ∙ stray)))
 
--- by some leaf
+-- some leaf lists it
 pub class-leaf : (entries : List Entry) (a : Name) → NoLine (IsNotListedOnce entries) entries → has (declared class_name entries) a ≡ true → Any (λ e. Contains (leaf_classes e.1) a) entries
 class-leaf entries a none there = lister leaf_classes entries a (class-once entries a none there)
 
--- and by no second one
+-- no second leaf lists it
 pub class-one_leaf : (entries : List Entry) (a : Name) → NoLine (IsNotListedOnce entries) entries → has (declared class_name entries) a ≡ true
     → (i j : ℕ) (d : Entry) → i < length entries → j < length entries → Contains (leaf_classes (get_or entries i d).1) a → Contains (leaf_classes (get_or entries j d).1) a → i ≡ j
 class-one_leaf entries a none there = one_lister leaf_classes entries a (class-once entries a none there)
 
--- a statement that lists a class is that of a leaf
+-- a statement that lists a class declares a leaf
 pub lists-leaf : (s : Sense) (a : Name) → Contains (leaf_classes s) a → (n : Name) × ((node_name s ≡ Some n) × ListsClass n a s)
 lists-leaf (leaf n u m l ns) a lists = (n, (refl, (refl, lists)))
 lists-leaf (version v) a lists = absurd (omega (arith, lists.1))
@@ -128,7 +128,7 @@ lists-leaf (class n m cs) a lists = absurd (omega (arith, lists.1))
 lists-leaf (node n u m ns) a lists = absurd (omega (arith, lists.1))
 
 -- ---- children
--- where no node is an orphan, each declared node or leaf but the root is listed once
+-- if no node is an orphan, each declared node or leaf except the root is listed once
 pub child-once : (entries : List Entry) (a : Name) → NoLine (IsOrphan entries) entries → has (declared node_name entries) a ≡ true → a ≢ root → is_once (listed children entries) a ≡ true
 child-once entries a none there other = at (declaring node_name entries a there)
   where

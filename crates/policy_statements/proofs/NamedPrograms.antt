@@ -1,4 +1,4 @@
--- The place of a name's program among all programs.
+-- The index of a name's program among all programs.
 use Rattle.std.proofs.Common.{◌≡◌, ◌≢◌, ℕ, zero, suc, ◌+◌, ◌<◌, ◌≤◌, ◌^◌, nat_lt, nat_eq, Bool, true, false, cond, ◌||◌, List, [], ◌∷◌, ◌++◌, length, map, position, Option, Some, None, is_some, refl, sym, ap, subst, ◌∙◌, arith, rules, true≢false}
 use Rattle.std.specs.Prelude.{find, option_map, option_and_then, slice_get, SomeIff}
 use Rattle.std.specs.List.{list_any, position_or_len, cons_option}
@@ -40,7 +40,7 @@ not_built_in name (b ∷ bs) none =
     let other : same_name name b.name ≡ false = same_bytes name b.name ∙ parts.0 in
     rw other (not_built_in name bs parts.1)
 
--- a name at no place in the table
+-- a name without an index in the table
 free : (name : Name) → position (bytes_eq name) (map (λ b. b.name) builtins) ≡ None → builtin name ≡ None
 free name none = not_built_in name builtins (any_position (bytes_eq name) (map (λ b. b.name) builtins) ∙ ap is_some none)
 
@@ -78,11 +78,11 @@ slice_get-map f [] i = refl
 slice_get-map f (x ∷ xs) zero = refl
 slice_get-map f (x ∷ xs) (suc i) = slice_get-map f xs i
 
--- six programs stand before those that are written
+-- six programs come before those that are written
 behind_six : (es : List Entry) (i : ℕ) → slice_get (known_programs es) (i + 6) ≡ slice_get (programs es) i
 behind_six es i = (let six : i + 6 ≡ suc (suc (suc (suc (suc (suc i))))) = omega arith in ap (slice_get (known_programs es)) six)
 
--- ---- how many there are
+-- ---- the number of transactions
 
 room : (n : ℕ) → n ≤ most_transactions → nat_eq n most_transactions ≡ false → n + 1 ≤ most_transactions
 room n few other = (let differs : n ≢ most_transactions = eqb-false n most_transactions other in omega (arith, few, differs))
@@ -101,7 +101,7 @@ few_push pre (node a u c ns) beyond few = subst (λ (l : List Name). length l �
 pub few_transactions : (es : List Entry) → AreRising es → AreFew es → length (declared transaction_name es) ≤ most_transactions
 few_transactions es rising few = declared-few transaction_name es rising most_transactions few_push few.1
 
--- ---- the place of a name that isn't built in
+-- ---- the index of a name that isn't built in
 
 module _ (name : Name) (names : List Name) (apart : position (bytes_eq name) (map (λ b. b.name) builtins) ≡ None) where
   other : builtin name ≡ None

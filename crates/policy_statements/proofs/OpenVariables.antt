@@ -15,11 +15,11 @@ use Rattle.policy_statements.specs.Names.{with_name}
 use Rattle.policy_statements.proofs.TallyLaws.{has-with_name}
 use Rattle.policy_statements.specs.Kept.{AreVariables, open_variables}
 
--- a transaction begins with none
+-- a transaction begins with no variables
 pub variables-opened : (earlier : List Entry) (e : Entry) (vs : List Name) → is_transaction e ≡ true → vs ≡ [] → AreVariables (earlier ++ e ∷ []) vs
 variables-opened earlier e vs opens none = λ n. ap (λ l. has l n) none ∙ sym (ap (λ b. has (declared variable_name b) n) (open_body-opened earlier e opens))
 
--- what another statement declares comes last
+-- the variable that another statement declares comes last
 pub open_variables-line : (earlier : List Entry) (e : Entry) → is_transaction e ≡ false → open_variables (earlier ++ e ∷ []) ≡ open_variables earlier ++ cons_option (variable_name e.1) []
 open_variables-line earlier e other = ap (declared variable_name) (open_body-line earlier e other) ∙ declared-push variable_name (open_body earlier) e
 
@@ -33,7 +33,7 @@ pub variables-same : (earlier : List Entry) (e : Entry) (vs : List Name) → is_
 variables-same earlier e vs other names kept = λ n.
     kept n ∙ sym (ap (λ l. has l n) (open_variables-line earlier e other ∙ ap (λ o. open_variables earlier ++ cons_option o []) names ∙ append-nil (open_variables earlier)))
 
--- the same for a statement of which one of several forms is known
+-- the same for a statement with one of several known forms
 module _ (earlier : List Entry) (line : ℕ) (s : Statement) (vs : List Name) (kept : AreVariables earlier vs) where
   pub same_at : (form : Statement) → s ≡ form → is_transaction (entry line (sense_of form)) ≡ false → variable_name (sense_of form) ≡ None → AreVariables (earlier ++ entry line (sense_of s) ∷ []) vs
   same_at form is other none = variables-same earlier (entry line (sense_of s)) vs (ap (λ f. is_transaction (entry line (sense_of f))) is ∙ other) (ap (λ f. variable_name (sense_of f)) is ∙ none) kept

@@ -8,7 +8,7 @@ use Rattle.policy_rules.specs.Names.{Name, has}
 use Rattle.policy_rules.specs.Clauses.{is_known, are_operands_known}
 use Rattle.policy_statements.specs.Kept.{AreVariables, open_variables}
 
--- which words are known depends only on which names are among the variables
+-- the known words depend only on the set of the variables' names
 pub operands_same : (vs ws : List Name) → ((n : Name) → has vs n ≡ has ws n) → (t : Phrase) → are_operands_known vs t ≡ are_operands_known ws t
 operands_same vs ws same (number n) = refl
 operands_same vs ws same (word w) = ap (λ b. is_variable w || b) (same w)

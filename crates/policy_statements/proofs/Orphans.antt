@@ -9,7 +9,7 @@ use Rattle.policy_text_defs.specs.Sense.{Sense, sense_of}
 use Rattle.policy_rules.specs.Names.{Name, is_once, node_name}
 use Rattle.policy_rules.specs.Clauses.{root, is_orphan}
 
--- one that isn't the root, and was counted
+-- a node or leaf that isn't the root and was counted
 pub orphan-counted : (all : List Name) (s : Sense) (a : Name) (differs once : Bool) → node_name s ≡ Some a → differs ≡ not (bytes_eq a root) → once ≡ is_once all a → differs ≡ true
     → not once ≡ is_orphan all s
 orphan-counted all s a differs once named told counted was_true =

@@ -13,7 +13,7 @@ use Rattle.policy_statements.specs.declared.room.Room.{Room}
 use Rattle.policy_statements.specs.Kept.{IsRoom, open_variables}
 use Rattle.policy_statements.proofs.OpenVariables.{open_variables-line}
 
--- how many names an answer has
+-- the number of names in an option
 abbrev pub size : Option Name → ℕ
 size None = 0
 size (Some n) = 1
@@ -22,7 +22,7 @@ length-one : (o : Option Name) → length (cons_option o []) ≡ size o
 length-one None = refl
 length-one (Some n) = refl
 
--- room for one space
+-- the room for one space
 space-room : (space : Sense → Option Name) (earlier : List Entry) (e : Entry) (left left' most : ℕ) → length (declared space earlier) + left ≡ most → left' + size (space e.1) ≡ left
     → length (declared space (earlier ++ e ∷ [])) + left' ≡ most
 space-room space earlier e left left' most are taken =
@@ -48,7 +48,7 @@ assignment-room earlier e left left' most other are taken =
     one false = refl
 
 module _ (earlier : List Entry) (line : ℕ) (s form : Sense) (is : s ≡ form) {left left' : Room} (room : IsRoom earlier left) where
-  -- a statement that isn't a transaction's first takes what it needs
+  -- a statement that doesn't begin a transaction takes the room it needs
   pub room_for : is_transaction (entry line form) ≡ false → left'.classes + size (class_name form) ≡ left.classes → left'.nodes + size (node_name form) ≡ left.nodes → left'.transactions + size (transaction_name form) ≡ left.transactions → left'.variables + size (variable_name form) ≡ left.variables
       → left'.assignments + cond (is_assignment form) 1 0 ≡ left.assignments → IsRoom (earlier ++ entry line s ∷ []) left'
   room_for other of_classes of_nodes of_transactions of_variables of_assignments = subst (λ (f : Sense). IsRoom (earlier ++ entry line f ∷ []) left') (sym is) (record {

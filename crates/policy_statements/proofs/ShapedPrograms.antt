@@ -107,7 +107,7 @@ or_more : (a b : Bool) → a ≡ true → (a || b) ≡ true
 or_more true b is = refl
 or_more false b is = absurd (true≢false (sym is))
 
--- what is declared stays declared behind more lines
+-- a declared name stays declared after more lines
 still : (a : Name) (earlier lines : List Entry) → has (declared variable_name earlier) a ≡ true → has (declared variable_name (earlier ++ lines)) a ≡ true
 still a earlier lines is =
     ap (λ (l : List Name). has l a) (filter_map-append (λ e. variable_name e.1) earlier lines)
@@ -164,7 +164,7 @@ same_depth keeps eaches (two op a b) = rw (same_depth keeps eaches a, same_depth
 same_depth keeps eaches (negation a) = ap suc (same_depth keeps eaches a)
 same_depth keeps eaches (choice c a b) = rw (same_depth keeps eaches c, same_depth keeps eaches a, same_depth keeps eaches b) refl
 
--- `rank` is no name
+-- `rank` is not a name
 pub name_not_rank : (a : Name) → is_name a ≡ true → bytes_eq a (codes "rank") ≡ false
 name_not_rank a is = elim (cases_Bool (bytes_eq a (codes "rank"))) [
   | inl same ↦ absurd (true≢false (sym is ∙ ap is_name ((bytes_eq-Decides a (codes "rank")).0 same)))

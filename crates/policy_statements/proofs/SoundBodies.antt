@@ -13,7 +13,7 @@ use Rattle.policy_rules.specs.Clauses.{is_declared, is_one_too_many, most_variab
 use Rattle.policy_rules.proofs.Lines.{declared-push}
 use Rattle.policy_statements.specs.Bodies.{with_names, IsSoundLine, AreSoundBehind, IsSoundBody}
 
--- ---- what is open behind the lines of a body
+-- ---- the open body after the lines of a body
 
 abbrev pub AreBody : List Entry → Type 0
 AreBody lines = list_all (λ e. is_body e.1) lines ≡ true
@@ -44,7 +44,7 @@ open_own (e ∷ es) all =
 pub AreBody-push : (lines : List Entry) (e : Entry) → AreBody lines → is_body e.1 ≡ true → AreBody (lines ++ e ∷ [])
 AreBody-push lines e all is = list_all-append (λ f. is_body f.1) lines (e ∷ []) ∙ rw (all, is) refl
 
--- ---- lines by their places
+-- ---- lines by index
 
 pub sound_at : (earlier es : List Entry) (i : ℕ) (d : Entry) → i < length es → AreSoundBehind earlier es → IsSoundLine (earlier ++ take i es) (get_or es i d)
 sound_at earlier [] i d within sound = absurd (omega (arith, within))
@@ -73,7 +73,7 @@ or_both : (a b c : Bool) → (a || b) ≡ false → (b ≡ false → c ≡ false
 or_both true b c e later = e
 or_both false b c e later = later e
 
--- a name that no variable has is that of none of the node's
+-- a name that no variable has isn't a variable of the node
 pub no_keep : (a : Name) (lines : List Entry) → has (declared variable_name lines) a ≡ false → has (declared keep_name lines) a ≡ false
 no_keep a [] none = refl
 no_keep a ((n, version v) ∷ es) none = no_keep a es none
@@ -139,7 +139,7 @@ eaches_more es i d within sound =
     added (declared each_name (take i es)) (each_name (get_or es i d).1) (each_new (take i es) (get_or es i d) (front_body es i (all_body [] es sound)) (sound_at [] es i d within sound).new)
     ∙ sym (declared-push each_name (take i es) (get_or es i d)) ∙ ap (declared each_name) (sym (take_more es i d within))
 
--- ---- how many variables there are
+-- ---- the number of variables
 
 longer : (m n : ℕ) → m ≤ n → m ≤ suc n
 longer m n le = omega (arith, le)
@@ -171,7 +171,7 @@ few_eaches-variables ((n, node b u c ns) ∷ es) = few_eaches-variables es
 short : (n m : ℕ) → n ≤ m → n ≢ m → n + 1 ≤ m
 short n m le other = omega (arith, le, other)
 
--- where a line isn't one too many, there is room for its variable
+-- if a line isn't beyond the limit, there is room for its variable
 room : (earlier : List Entry) (e : Entry) → AreBody earlier → length (declared variable_name earlier) ≤ most_variables → is_body e.1 ≡ true → is_one_too_many earlier e.1 ≡ false
     → length (declared variable_name earlier ++ cons_option (variable_name e.1) []) ≤ most_variables
 room earlier (n, keep b s) all few is beyond =
@@ -203,7 +203,7 @@ few_keeps es sound = omega (arith, few_keeps-variables es, few_variables es soun
 pub few_eaches : (es : List Entry) → IsSoundBody es → length (declared each_name es) ≤ most_variables
 few_eaches es sound = omega (arith, few_eaches-variables es, few_variables es sound)
 
--- of the first few lines
+-- the same for the first lines
 shorter : (space : Sense → Option Name) (es : List Entry) (i : ℕ) → length (declared space (take i es)) ≤ length (declared space es)
 shorter space es i = subst (λ (l : List Entry). length (declared space (take i es)) ≤ length (declared space l)) (take-append-drop i es)
     (subst (λ (l : List Name). length (declared space (take i es)) ≤ length l) (sym (filter_map-append (λ f. space f.1) (take i es) (drop i es)))

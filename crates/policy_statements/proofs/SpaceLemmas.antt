@@ -19,7 +19,7 @@ use Rattle.policy_statements.specs.Kept.{AreSpaces}
 added : (names : List Name) (a : Name) → has names a ≡ false → with_name names a ≡ names ++ a ∷ []
 added names a new = ap (λ b. if b then names else names ++ a ∷ []) new
 
--- a new name comes last in its space, and the other spaces stay
+-- a new name comes last in its space, and the other spaces are unchanged
 module _ (space : Sense → Option Name) (earlier : List Entry) (e : Entry) (names : List Name) (are : names ≡ declared space earlier) where
   pub space-more : (a : Name) (names' : List Name) → space e.1 ≡ Some a → has (declared space earlier) a ≡ false → names' ≡ with_name names a → names' ≡ declared space (earlier ++ e ∷ [])
   space-more a names' is new after =
@@ -33,7 +33,7 @@ second_false : (a b : Bool) → (a || b) ≡ false → b ≡ false
 second_false true b e = absurd (true≢false e)
 second_false false b e = e
 
--- forms of statements
+-- the forms of statements
 module _ (earlier : List Entry) (spaces : Spaces) (are : AreSpaces earlier spaces) (line : ℕ) (s : Statement) (new : is_declared earlier (sense_of s) ≡ false) where
   abbrev here : Entry
   here = entry line (sense_of s)
@@ -67,7 +67,7 @@ module _ (earlier : List Entry) (spaces : Spaces) (are : AreSpaces earlier space
     nodes_are = space-same node_name earlier here spaces.nodes are.nodes_are (ap node_name is ∙ no_node);
   }
 
-  -- a statement that declares in none of them
+  -- a statement that declares no name in these spaces
   pub nothing_more : ((v : ℕ) × (s ≡ Version v)) ⊎ ((n : Name) × (r : Span) × (s ≡ Keep n r)) ⊎ ((n : Name) × (r : Span) × (s ≡ Each n r)) ⊎ ((n : Name) × (t : Term) × (s ≡ Push n t)) ⊎ ((n : Name) × (t : Term) × (s ≡ Pop n t)) → AreSpaces (earlier ++ here ∷ []) spaces
   nothing_more (inl (v, is)) = nothing-more _ (ap sense_of is) refl refl refl
   nothing_more (inr (inl (n, r, is))) = nothing-more _ (ap sense_of is) refl refl refl

@@ -1,4 +1,4 @@
--- Statements that no clause up to the limits refuses have sound bodies.
+-- Statements have sound bodies if no clause up to the limits rejects them.
 use Rattle.std.proofs.Common.{◌≡◌, ℕ, ◌+◌, ◌<◌, Bool, true, false, cond, not, List, [], ◌∷◌, ◌++◌, length, take, drop, get_or, refl, sym, ap, subst, ◌∙◌, arith, true≢false}
 use Rattle.std.specs.Prelude.{All, take_while}
 use Rattle.std.specs.List.{AllByRecursion}
@@ -18,7 +18,7 @@ use Rattle.policy_rules.proofs.OpenBodies.{open_body-line, open_body-opened}
 use Rattle.policy_statements.specs.Bodies.{IsSoundLine, AreSoundBehind, IsSoundBody}
 use Rattle.policy_statements.proofs.SoundBodies.{AreBody, AreBody-push, body_line, open_own}
 
--- ---- a line of a body is seen alike behind lines with the same open body
+-- ---- a line of a body is checked alike after lines with the same open body
 
 module _ (a b : List Entry) (same : open_body a ≡ open_body b) where
   declared_alike : (s : Sense) → is_body s ≡ true → is_declared b s ≡ is_declared a s

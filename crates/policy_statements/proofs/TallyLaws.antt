@@ -18,7 +18,7 @@ times a all = count_by (bytes_eq a) all
 pub times-push : (a x : List ℕ) (all : List (List ℕ)) → times a (all ++ x ∷ []) ≡ times a all + cond (bytes_eq a x) 1 0
 times-push a x all = sum_by-append (λ y. cond (bytes_eq a y) 1 0) all (x ∷ []) ∙ ap (λ n. times a all + n) (omega arith)
 
--- a name is among the names with x exactly where it was or is x
+-- a name is among the names with x exactly if it was among them or is x
 pub has-with_name : (names : List (List ℕ)) (x a : List ℕ) → has (with_name names x) a ≡ (has names a || bytes_eq a x)
 has-with_name names x a = elim (cases_Bool (has names x)) [
   | inl there ↦ ap (λ b. has (if b then names else names ++ x ∷ []) a) there ∙ sym (elim (cases_Bool (bytes_eq a x)) [
@@ -64,7 +64,7 @@ IsTally-again seen again all x t there = record {
   more = λ a. has-with_name again x a ∙ more-push (has again a) (bytes_eq a x) true (times a all) (t.more a) (λ same. subst (λ y. nat_lt 0 (times y all) ≡ true) (sym ((bytes_eq-Decides a x).0 same)) (sym (t.some x) ∙ there)) ∙ ap (λ n. nat_lt 1 n) (sym (times-push a x all));
 }
 
--- seen and not again is once
+-- a name seen, but not more than once, occurs exactly once
 pub once : (seen again all : List (List ℕ)) (a : List ℕ) → IsTally seen again all → (has seen a && not (has again a)) ≡ is_once all a
 once seen again all a t = ap (λ b. b && not (has again a)) (t.some a) ∙ ap (λ b. nat_lt 0 (times a all) && not b) (t.more a) ∙ counted (times a all)
   where

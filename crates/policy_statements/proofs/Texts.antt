@@ -15,7 +15,7 @@ use Rattle.std.proofs.lemmas.Slice.Eq.{bytes_eq-Decides}
 use Rattle.policy_rules.specs.Names.{has}
 use Rattle.policy_statements.specs.Places.{texts, ArePlaces}
 
--- the first that passes stands at the same place among what a function makes of each
+-- the index of the first match is unchanged by mapping
 position_or_len-map : {X Y : Type 0} (f : X → Y) (t : Y → Bool) (xs : List X) → position_or_len t (map f xs) ≡ position_or_len (λ x. t (f x)) xs
 position_or_len-map f t [] = refl
 position_or_len-map f t (x ∷ xs) = ap (λ n. cond (not (t (f x))) (1 + n) 0) (position_or_len-map f t xs)
@@ -25,7 +25,7 @@ position-map f t xs =
     ap (λ n. cond (nat_lt n (length xs)) (Some n) None) (sym (position_or_len-map f t xs))
     ∙ ap (λ n. cond (nat_lt (position_or_len t (map f xs)) n) (Some (position_or_len t (map f xs))) None) (sym (length-map xs f))
 
--- something passes exactly where the first that passes is before the end
+-- an element passes exactly if the first one that passes is before the end
 pub any-first : {X : Type 0} (p : X → Bool) (xs : List X) → nat_lt (position_or_len p xs) (length xs) ≡ list_any p xs
 any-first p [] = refl
 any-first p (x ∷ xs) = by (p x) (any-first p xs)
@@ -34,7 +34,7 @@ any-first p (x ∷ xs) = by (p x) (any-first p xs)
     by true rest = grind (arith, nat_tests)
     by false rest = grind (arith, nat_tests)
 
--- a name that has a place is among the names
+-- a name that has an index is among the names
 pub has-place : (q : List ℕ) (names : List (List ℕ)) → is_some (position (bytes_eq q) names) ≡ has names q
 has-place q names = some (nat_lt (position_or_len (bytes_eq q) names) (length names)) (position_or_len (bytes_eq q) names) ∙ any-first (bytes_eq q) names
   where
@@ -42,16 +42,16 @@ has-place q names = some (nat_lt (position_or_len (bytes_eq q) names) (length na
     some true n = refl
     some false n = refl
 
--- the place of the first that passes, where there is one
+-- the index of the first match, if there is one
 abbrev place_at : ℕ → ℕ → Option ℕ
 place_at n l = cond (nat_lt n l) (Some n) None
 
--- one more at the end passes, or not, and nothing before it passes where it does
+-- one more element passes or doesn't, and if it passes, none before it does
 with_last : (passes : Bool) (n l : ℕ) → n ≤ l → (passes ≡ true → nat_lt n l ≡ false) → place_at (cond (eqb n l) (l + cond passes 0 1) n) (l + 1) ≡ cond passes (Some l) (place_at n l)
 with_last true n l le none = let none' : nat_lt n l ≡ false = none refl in grind (arith, nat_tests, common_steps)
 with_last false n l le none = grind (arith, nat_tests, common_steps)
 
--- the place of a new name is how many there were, and the others keep theirs
+-- the index of a new name is the number of names before it, and the others keep theirs
 pub position-push : (names : List (List ℕ)) (x q : List ℕ) → has names x ≡ false → position (bytes_eq q) (names ++ x ∷ []) ≡ cond (bytes_eq x q) (Some (length names)) (position (bytes_eq q) names)
 position-push names x q new =
     rw (length-append names (x ∷ []), position_or_len_push (bytes_eq q) names x)

@@ -25,7 +25,7 @@ told : (b : Bool) (n : ℕ) → b ≡ is_some (cond b (Some n) None)
 told true n = refl
 told false n = refl
 
--- some element passes exactly where there is a first place
+-- an element passes exactly if there is a first index
 pub any_position : {X : Type 0} (p : X → Bool) (xs : List X) → list_any p xs ≡ is_some (position p xs)
 any_position p xs = first p xs ∙ told (nat_lt (position_or_len p xs) (length xs)) (position_or_len p xs)
 

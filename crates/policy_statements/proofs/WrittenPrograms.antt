@@ -15,7 +15,7 @@ use Rattle.policy_statements.specs.Bodies.{IsSoundBody}
 use Rattle.policy_statements.proofs.BodyLines.{drop_line}
 use Rattle.policy_statements.proofs.StatementBodies.{sound_begun}
 
--- the entries behind a line
+-- the entries after a line
 behind : (lines : List Line) (i : ℕ) → entries_of (take (length lines - i) (drop i lines)) ≡ drop i (entries_of lines)
 behind lines i = ap entries_of (take_rest lines i) ∙ sym (drop-map entry_of i lines)
 

@@ -1,4 +1,4 @@
--- The lines of a body, and what they compute.
+-- The lines of a body, and the program that they give.
 use Rattle.std.specs.Prelude.{◌≡◌, true, false, Option, Some, None, List, [], ◌∷◌, ◌++◌, map, filter_map}
 use Rattle.rank_defs.specs.declared.transaction.Transaction.{Transaction}
 use Rattle.rank_defs.specs.Programs.{Program, program_of}
@@ -15,7 +15,8 @@ abbrev pub with_names : List Name → Option Name → List Name
 with_names names None = names
 with_names names (Some a) = with_name names a
 
--- a line of a body, behind these: its name is new, what it uses is declared, and it isn't one too many
+-- a line of a body after earlier lines: its name is new, the names it uses are declared, and it
+-- isn't beyond a limit
 pub record IsSoundLine (earlier : List Entry) (e : Entry) : Type 0 where
   pub body : is_body e.1 ≡ true
   pub new : is_declared earlier e.1 ≡ false
@@ -31,7 +32,7 @@ AreSoundBehind earlier (e ∷ es) = IsSoundLine earlier e × AreSoundBehind (ear
 abbrev pub IsSoundBody : List Entry → Type 0
 IsSoundBody lines = AreSoundBehind [] lines
 
--- what lines compute where these names are the node's variables and these each child's or flow's
+-- the program of the lines, given the names of the node's variables and of each child's or flow's
 abbrev pub program_over : List Name → List Name → List Entry → Program
 program_over keeps eaches lines = record {
   keeps = filter_map (λ e. keep_span e.1) lines;
@@ -40,14 +41,14 @@ program_over keeps eaches lines = record {
   pop = filter_map (pop_in keeps eaches) lines;
 }
 
--- the program that a statement begins, if it does, with these lines behind it
+-- the program that a statement begins, if it begins one, given the lines after it
 abbrev pub programs_begun : Sense → List Entry → List Program
 programs_begun s behind = map (λ b. program_in b.lines) (opened s behind)
 
--- the transactions got those of these programs behind them
+-- the programs are appended to the transactions
 abbrev pub AreMore : List Program → List Transaction → List Transaction → Type 0
 AreMore programs old new = map program_of new ≡ map program_of old ++ programs
 
--- the lines of one program, and those of another behind them
+-- the lines of one program followed by those of another
 abbrev pub joined : Program → Program → Program
 joined p q = record { keeps = p.keeps ++ q.keeps; eaches = p.eaches ++ q.eaches; push = p.push ++ q.push; pop = p.pop ++ q.pop }

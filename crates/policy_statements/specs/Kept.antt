@@ -1,4 +1,4 @@
--- What passes keep of the statements that they saw.
+-- The state that passes keep about earlier statements.
 use Rattle.std.specs.Prelude.{◌≡◌, ◌+◌, ◌++◌, ◌∷◌, [], ℕ, Bool, false, not, ◌&&◌, ◌||◌, Option, Some, None, List, length, option_map}
 use Rattle.policy_text_defs.specs.Sense.{Sense, Entry, entry}
 use Rattle.policy_statements.specs.declared.spaces.Spaces.{Spaces}
@@ -12,12 +12,12 @@ use Rattle.tree_defs.specs.Tree.{most_nodes}
 abbrev pub last_sense : List Entry → Option Sense
 last_sense entries = option_map (λ e. e.1) (last_of entries)
 
--- whether a statement may stand behind another, or first
+-- whether a statement may follow another, or come first
 abbrev pub is_placed_behind : Option Sense → Sense → Bool
 is_placed_behind None s = is_version s
 is_placed_behind (Some last) s = not (is_version s) && (not (is_body s) || may_follow (stage last) (stage s))
 
--- the names of the three spaces in which all statements declare
+-- the names that all statements declare in the three spaces
 pub record AreSpaces (entries : List Entry) (spaces : Spaces) : Type 0 where
   pub transactions_are : spaces.transactions ≡ declared transaction_name entries
   pub classes_are : spaces.classes ≡ declared class_name entries
@@ -32,7 +32,7 @@ AreSpacesAfter before s after =
 abbrev pub open_variables : List Entry → List Name
 open_variables entries = declared variable_name (open_body entries)
 
--- a name is among these variables exactly where the last transaction has it
+-- a name is among these variables exactly if the last transaction declares it
 abbrev pub AreVariables : List Entry → List Name → Type 0
 AreVariables entries variables = (n : Name) → has variables n ≡ has (open_variables entries) n
 
@@ -40,7 +40,7 @@ AreVariables entries variables = (n : Name) → has variables n ≡ has (open_va
 abbrev pub AreVariablesAfter : List Name → Sense → List Name → Type 0
 AreVariablesAfter before s after = (earlier : List Entry) (line : ℕ) → AreVariables earlier before → AreVariables (earlier ++ entry line s ∷ []) after
 
--- so many more may come, the variables and assignments in the last transaction
+-- how many more are allowed; variables and assignments are counted in the last transaction
 pub record IsRoom (entries : List Entry) (room : Room) : Type 0 where
   pub for_classes : length (declared class_name entries) + room.classes ≡ most_classes
   pub for_nodes : length (declared node_name entries) + room.nodes ≡ most_nodes
@@ -48,6 +48,6 @@ pub record IsRoom (entries : List Entry) (room : Room) : Type 0 where
   pub for_variables : length (open_variables entries) + room.variables ≡ most_variables
   pub for_assignments : assignments_in (open_body entries) + room.assignments ≡ most_assignments
 
--- the room after one more statement, for which there was room
+-- the room after one more statement within the limits
 abbrev pub IsRoomAfter : Room → Sense → Room → Type 0
 IsRoomAfter before s after = (earlier : List Entry) (line : ℕ) → IsRoom earlier before → IsRoom (earlier ++ entry line s ∷ []) after

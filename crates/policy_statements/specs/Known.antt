@@ -1,4 +1,4 @@
--- All programs that names mean.
+-- All programs that names denote.
 use Rattle.std.specs.Prelude.{◌≡◌, ℕ, Option, option_and_then, slice_get, List, map, ◌++◌, All}
 use Rattle.std.specs.List.{AllByRecursion}
 use Rattle.rank_defs.specs.Shapes.{IsShaped}
@@ -16,30 +16,31 @@ use Rattle.policy_rules.specs.declared.fault.PolicyFault.TheVariants.{TypeClash,
 use Rattle.policy_rules.specs.Names.{Name, declared, transaction_name}
 use Rattle.policy_rules.specs.Programs.{programs}
 
--- the built-in programs, and those that are written behind them
+-- the built-in programs, followed by those that are written
 abbrev pub known_programs : List Entry → List Program
 known_programs entries = map (λ b. b.program) builtins ++ programs entries
 
--- the program at a place among all, if there is one
+-- the program at an index, if there is one
 abbrev pub program_at : List Entry → Option ℕ → Option Program
 program_at entries place = option_and_then (λ i. slice_get (known_programs entries) i) place
 
--- what holds of all statements that declare these transactions in their order, where no clause up to the limits fails
+-- a property of all statements that declare these transactions in order, if no clause up to the
+-- limits fails
 abbrev pub WhereDeclared : List Name → (List Entry → Type 0) → Type 0
 WhereDeclared transactions Holds = (es : List Entry) → AreRising es → AreFew es → transactions ≡ declared transaction_name es → Holds es
 
--- a refusal of transactions, as a refusal of the policy
+-- an error of transactions, as an error of the policy
 abbrev pub fault_of : RangeFault → PolicyFault
 fault_of (range.TypeClash n) = TypeClash n
 fault_of (range.Wide n) = Wide n
 fault_of (range.DivZero n) = DivZero n
 fault_of range.NoMemory = NoMemory
 
--- where no clause up to the limits fails, all programs are shaped
+-- if no clause up to the limits fails, all programs are shaped
 abbrev pub KnownAreShaped : Type 0
 KnownAreShaped =
     (entries : List Entry) → AreRising entries → AreFew entries → All (λ e. IsValid e.1) entries → AllByRecursion IsShaped (known_programs entries)
 
--- and where those that are written are checked, all are
+-- if the written programs are checked, all programs are
 abbrev pub ComputableAreChecked : Type 0
 ComputableAreChecked = (entries : List Entry) → AreComputable entries → AreChecked (known_programs entries)

@@ -1,4 +1,4 @@
--- What one statement declares or lists.
+-- The declarations and lists of one statement.
 use Rattle.std.specs.Prelude.{Bool, true, false, [], ◌∷◌}
 use Rattle.std.specs.Option.{option_map_or}
 use Rattle.std.specs.Str.{bytes_eq}
@@ -10,7 +10,7 @@ use Rattle.policy_rules.specs.Clauses.{root}
 abbrev pub is_root : Sense → Bool
 is_root s = option_map_or (bytes_eq root) (node_name s) false
 
--- whether the last class has no condition, where this was so of the statements before
+-- whether the last class has no condition, given the same for the statements before
 abbrev pub is_catch_all : Bool → Sense → Bool
 is_catch_all found (class c a []) = true
 is_catch_all found (class c a (x ∷ cs)) = false

@@ -1,4 +1,4 @@
-//! All transactions that are written.
+//! Collects all transactions that are written.
 ghost use Rattle.std.specs.Prelude.{◌≡◌, All, take_while, OnOk};
 ghost use Rattle.std.specs.List.{AllByRecursion};
 ghost use Rattle.policy_text_defs.specs.Sense.{sense_of};
@@ -27,7 +27,7 @@ fn is_body(statement: &Statement) -> bool
     }
 }
 
-/// The lines of a body with which some lines begin.
+/// Returns the leading lines that belong to a body.
 fn body(lines: &[(u32, Statement)]) -> &[(u32, Statement)]
     ensures { entries_of result.now ≡ take_while (λ e. is_body e.1) (entries_of lines.now) }
 {
@@ -37,7 +37,7 @@ fn body(lines: &[(u32, Statement)]) -> &[(u32, Statement)]
     }
 }
 
-/// Adds the transaction that a statement begins, if it does, with these lines after it.
+/// Adds the transaction that a statement begins, if it begins one, given the lines after it.
 fn add_begun(
     alloc: Global,
     transactions: &mut List<Transaction>,
@@ -55,7 +55,8 @@ fn add_begun(
     }
 }
 
-/// Adds the transactions that are written, in the order of their lines. The error means out of memory.
+/// Adds the transactions that are written, in the order of their lines. The error means out of
+/// memory.
 pub fn add_written(
     alloc: Global,
     transactions: &mut List<Transaction>,

@@ -30,7 +30,7 @@ impl<'a> Variables<'a> {
         }
     }
 
-    /// The variables that the lines of a body declare. The error means out of memory.
+    /// Returns the variables that the lines of a body declare. The error means out of memory.
     pub fn declared(
         alloc: Global,
         body: &'a [(u32, Statement)],
@@ -68,7 +68,7 @@ impl<'a> Variables<'a> {
         Ok(())
     }
 
-    /// The variable of a word.
+    /// Returns the variable that a word denotes.
     pub fn variable(&self, word: &str) -> Var
         requires few_keeps { length self.now.keeps ≤ most_variables }
         requires few_eaches { length self.now.eaches ≤ most_variables }
@@ -88,7 +88,7 @@ impl<'a> Variables<'a> {
         }
     }
 
-    /// What a line under this name sets.
+    /// Returns the variable or rank that a line with this name sets.
     pub fn aim(&self, name: &str) -> Aim
         requires few_keeps { length self.now.keeps ≤ most_variables }
         requires few_eaches { length self.now.eaches ≤ most_variables }

@@ -24,8 +24,9 @@ fn fault(fault: RangeFault) -> PolicyFault
     }
 }
 
-/// The built-in transactions, and after them those that are written, in the order of their lines. Refuses types that
-/// don't agree, then intervals that are too wide, then divisors that may be 0, each at its lowest line; or memory runs out.
+/// Returns the built-in transactions and then those that are written, in the order of their lines.
+/// Rejects types that don't agree, then intervals that are too wide, then divisors that may be 0,
+/// each at its lowest line. `NoMemory` means out of memory.
 pub fn checked_transactions(
     alloc: Global,
     lines: &[(u32, Statement)],

@@ -1,4 +1,4 @@
-//! The names that statements declare, by the first clauses of an accepted policy.
+//! Checks the first four clauses and collects the names that statements declare.
 ghost use Rattle.std.specs.Prelude.{◌≤◌, IfOk, OnOk, IfErr};
 ghost use Rattle.policy_rules.specs.Accepted.{AreFew, IsFault};
 ghost use Rattle.policy_rules.specs.Codes.{code_of};
@@ -13,7 +13,8 @@ use policy_rules::PolicyFault;
 use policy_text_defs::Statement;
 use std::alloc::Global;
 
-/// The names that statements declare, where none fails one of the first four clauses of an accepted policy.
+/// Returns the names that statements declare, if none fails one of the first four clauses of an
+/// accepted policy.
 pub fn declarations<'a>(
     alloc: Global,
     lines: &'a [(u32, Statement)],

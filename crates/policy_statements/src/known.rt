@@ -1,4 +1,4 @@
-//! The words that expressions and push lines may use.
+//! Checks that the names that statements use are declared.
 ghost use Rattle.std.specs.Prelude.{◌≡◌, List, IfOk, codes, ◌||◌};
 ghost use Rattle.std.specs.List.{list_all};
 ghost use Rattle.std.specs.Str.{bytes_eq};
@@ -17,7 +17,7 @@ use list_core::Name;
 use policy_text_defs::{Statement, Term, is_variable};
 use std::alloc::{AllocError, Global};
 
-/// Whether each word of an expression is a number of the packet or a variable.
+/// Returns whether each word of an expression is a built-in variable or one of the variables.
 fn are_operands_known(variables: &Names, term: &Term) -> bool
     ensures { result ≡ are_operands_known variables.now (phrase_of term.now) }
 {
@@ -38,21 +38,21 @@ fn are_operands_known(variables: &Names, term: &Term) -> bool
     }
 }
 
-/// Whether a push line may set this: the rank, or a variable.
+/// Returns whether a push line may set this name: the rank, or a variable.
 fn is_target_known(variables: &Names, name: &str) -> bool
     ensures { result ≡ (bytes_eq name.now (codes "rank") || has variables.now name.now) }
 {
     name == "rank" || variables.contains(name)
 }
 
-/// Whether each name is among those that were declared.
+/// Returns whether each name is among the declared ones.
 fn are_among(names: &[Name], declared: &Names) -> bool
     ensures { result ≡ list_all (has declared.now) names.now }
 {
     names.iter().all(|name| declared.contains(name.as_str()))
 }
 
-/// Whether a transaction is built in or declared.
+/// Returns whether a transaction is built in or declared.
 fn is_transaction_known(spaces: &Spaces, name: &str) -> bool
     ensures { (entries : List Entry) → AreSpaces entries spaces.now →
         result ≡ is_transaction_known entries name.now }
@@ -60,7 +60,7 @@ fn is_transaction_known(spaces: &Spaces, name: &str) -> bool
     is_builtin(name) || spaces.transactions.contains(name)
 }
 
-/// Whether all names that a statement uses are declared.
+/// Returns whether all names that a statement uses are declared.
 fn is_known(spaces: &Spaces, variables: &Names, statement: &Statement) -> bool
     ensures { (entries earlier : List Entry) → AreSpaces entries spaces.now →
         AreVariables earlier variables.now
@@ -89,7 +89,7 @@ fn is_known(spaces: &Spaces, variables: &Names, statement: &Statement) -> bool
     }
 }
 
-/// The line of the first statement that uses a name that is declared nowhere.
+/// Returns the line of the first statement that uses a name that isn't declared.
 pub fn first_unknown(
     alloc: Global,
     lines: &[(u32, Statement)],

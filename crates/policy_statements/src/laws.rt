@@ -1,8 +1,9 @@
-//! Laws of the programs that names mean.
+//! Laws of the programs that names denote.
 
 ghost use Rattle.policy_statements.specs.Known.{KnownAreShaped, ComputableAreChecked};
 
-/// All programs that names mean are shaped where no clause up to the limits fails, and checked where they are computable.
+/// All programs that names denote are shaped if no clause up to the limits fails, and checked if
+/// they are computable.
 pub fn known_programs_are_checked()
     ensures shaped { KnownAreShaped }
     ensures checked { ComputableAreChecked }

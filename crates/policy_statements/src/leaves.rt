@@ -1,4 +1,4 @@
-//! The leaf of each class, and the class for all packets.
+//! Checks the leaf of each class, and the class for all packets.
 ghost use Rattle.std.specs.Prelude.{◌≡◌, List, true, OnOk, IfErr};
 ghost use Rattle.policy_text_defs.specs.Sense.{sense_of};
 ghost use Rattle.policy_rules.specs.Entries.{entries_of, AreRising};
@@ -13,7 +13,7 @@ use policy_rules::PolicyFault;
 use policy_text_defs::Statement;
 use std::alloc::Global;
 
-/// Whether a statement declares a class that isn't listed once.
+/// Returns whether a statement declares a class that isn't listed exactly once.
 fn is_not_listed_once(tally: &Tally, statement: &Statement) -> bool
     ensures { (all : List Name) → IsTallyOf tally.now all → result ≡
         is_not_listed_once all (sense_of statement.now) }
@@ -24,7 +24,7 @@ fn is_not_listed_once(tally: &Tally, statement: &Statement) -> bool
     }
 }
 
-/// The first line whose class isn't listed once.
+/// Returns the first line whose class isn't listed exactly once.
 fn first_stray(lines: &[(u32, Statement)], tally: &Tally) -> Option<u32>
     requires rising { AreRising (entries_of lines.now) }
     requires tally { IsTallyOf tally.now (listed leaf_classes (entries_of lines.now)) }
@@ -39,7 +39,7 @@ fn first_stray(lines: &[(u32, Statement)], tally: &Tally) -> Option<u32>
     None
 }
 
-/// Whether there is a class, and the last has no condition.
+/// Returns whether there is a class, and the last class has no condition.
 fn has_catch_all(lines: &[(u32, Statement)]) -> bool
     ensures { result ≡ has_catch_all (entries_of lines.now) }
 {
@@ -52,7 +52,8 @@ fn has_catch_all(lines: &[(u32, Statement)]) -> bool
     found
 }
 
-/// Refuses a class that leaves don't list exactly once, and then a policy whose last class has a condition or that has no class.
+/// Rejects a class that leaves don't list exactly once. Then rejects a policy that has no class, or
+/// whose last class has a condition.
 pub fn check_leaves(alloc: Global, lines: &[(u32, Statement)]) -> Result<(), PolicyFault>
     requires rising { AreRising (entries_of lines.now) }
     ensures leaves { OnOk result (NoLine (IsNotListedOnce (entries_of lines.now))

@@ -1,5 +1,6 @@
-//! What the statements of an accepted policy declare and list: names, variables, transactions, the children of nodes and the
-//! classes of leaves, and in which version leaves have limits. Begin with specs/Names.antt and specs/Kept.antt.
+//! Checks the declarations and lists in the statements of a policy: names, variables, transactions,
+//! the children of nodes, the classes of leaves, and limits by version. Begin with specs/Names.antt
+//! and specs/Kept.antt.
 #![tactic(auto)]
 
 mod bodies;

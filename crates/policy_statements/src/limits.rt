@@ -1,4 +1,4 @@
-//! The version of a policy, and the limits of leaves, which version 1 has not.
+//! Checks the limits of leaves, which version 1 doesn't have.
 ghost use Rattle.std.specs.Prelude.{◌≡◌, OnOk, IfErr};
 ghost use Rattle.policy_text_defs.specs.Sense.{sense_of};
 ghost use Rattle.policy_rules.specs.Entries.{entries_of, AreRising};
@@ -8,7 +8,7 @@ ghost use Rattle.policy_rules.specs.Accepted.{HaveCatchAll, IsFault};
 use policy_rules::PolicyFault;
 use policy_text_defs::Statement;
 
-/// The version that the first statement says, and 0 where it says none.
+/// Returns the version that the first statement gives, or 0 if it gives none.
 pub fn version(lines: &[(u32, Statement)]) -> u32
     ensures { result ≡ version_of (entries_of lines.now) }
 {
@@ -18,14 +18,14 @@ pub fn version(lines: &[(u32, Statement)]) -> u32
     }
 }
 
-/// Whether a statement declares a leaf with a limit.
+/// Returns whether a statement declares a leaf with a limit.
 fn has_limit(statement: &Statement) -> bool
     ensures { result ≡ has_limit (sense_of statement.now) }
 {
     matches!(statement, Statement::Leaf(_, _, _, Some(_), _))
 }
 
-/// The first line with a limit, in version 1.
+/// Returns the first line with a limit, if the policy is of version 1.
 fn first_ahead(lines: &[(u32, Statement)]) -> Option<u32>
     requires rising { AreRising (entries_of lines.now) }
     ensures first { IsFirstLine (NeedsVersion2 (entries_of lines.now)) (entries_of lines.now)
@@ -42,7 +42,7 @@ fn first_ahead(lines: &[(u32, Statement)]) -> Option<u32>
     None
 }
 
-/// Refuses a limit in a policy of version 1.
+/// Rejects a limit in a policy of version 1.
 pub fn check_limits(lines: &[(u32, Statement)]) -> Result<(), PolicyFault>
     requires rising { AreRising (entries_of lines.now) }
     ensures limits { OnOk result (NoLine (NeedsVersion2 (entries_of lines.now))

@@ -1,4 +1,4 @@
-//! Names in their order, and the place of each.
+//! Distinct names in order, each with its index.
 ghost use Rattle.std.specs.Prelude.{◌≡◌, [], ◌∷◌, ◌++◌, length, position, IfOk, OnErr, if◌then◌else◌, not, OnOk};
 ghost use Rattle.std.specs.Str.{bytes_eq};
 ghost use Rattle.policy_rules.specs.Names.{has};
@@ -8,8 +8,9 @@ use std::alloc::{AllocError, Global};
 use std::collections::BTreeMap;
 use std::marker::Model;
 
-/// Names, each once, in the order in which they came. Policies choose the names, so they are found by order: where they
-/// were hashed with a seed that is known, a policy could make each look-up pass all names.
+/// Distinct names, in the order in which they were added. Policies choose the names, so look-ups
+/// use an ordered map. With a hash map of known seed, a policy could make each look-up pass over
+/// all names.
 #[derive(Drop)]
 pub struct Names<'a> {
     names: Vec<&'a str>,
@@ -37,28 +38,28 @@ impl<'a> Names<'a> {
         }
     }
 
-    /// How many names stand there.
+    /// Returns the number of names.
     pub fn len(&self) -> usize
         ensures { result ≡ length self.now }
     {
         self.names.len()
     }
 
-    /// The place of a name.
+    /// Returns the index of a name.
     pub fn place(&self, name: &str) -> Option<usize>
         ensures { result ≡ position (bytes_eq name.now) self.now }
     {
         self.places.get(name).copied()
     }
 
-    /// Whether the name came.
+    /// Returns whether the name is present.
     pub fn contains(&self, name: &str) -> bool
         ensures { result ≡ has self.now name.now }
     {
         self.places.contains_key(name)
     }
 
-    /// Adds a name that may be there. False where it was.
+    /// Adds a name if it isn't present yet. Returns false if it was present.
     pub fn add(&mut self, name: &'a str) -> Result<bool, AllocError>
         ensures new { IfOk result (λ new. new ≡ not (has self.old name.entry.now)) }
         ensures ok { OnOk result (self.new ≡ with_name self.old name.entry.now) }

@@ -1,4 +1,4 @@
-//! The parent of each node and leaf, and the root.
+//! Checks the parent of each node and leaf, and the root.
 ghost use Rattle.std.specs.Prelude.{◌≡◌, List, true, OnOk, IfErr};
 ghost use Rattle.policy_text_defs.specs.Sense.{sense_of};
 ghost use Rattle.policy_rules.specs.Entries.{entries_of, AreRising};
@@ -14,7 +14,8 @@ use policy_rules::PolicyFault;
 use policy_text_defs::Statement;
 use std::alloc::Global;
 
-/// Whether a statement declares a node or leaf that isn't the root and isn't listed once.
+/// Returns whether a statement declares a node or leaf that isn't the root and isn't listed exactly
+/// once.
 fn is_orphan(tally: &Tally, statement: &Statement) -> bool
     ensures { (all : List Name) → IsTallyOf tally.now all → result ≡
         is_orphan all (sense_of statement.now) }
@@ -27,7 +28,7 @@ fn is_orphan(tally: &Tally, statement: &Statement) -> bool
     }
 }
 
-/// The first line whose node or leaf isn't the root and isn't listed once.
+/// Returns the first line whose node or leaf isn't the root and isn't listed exactly once.
 fn first_orphan(lines: &[(u32, Statement)], tally: &Tally) -> Option<u32>
     requires rising { AreRising (entries_of lines.now) }
     requires tally { IsTallyOf tally.now (listed children (entries_of lines.now)) }
@@ -41,7 +42,7 @@ fn first_orphan(lines: &[(u32, Statement)], tally: &Tally) -> Option<u32>
     None
 }
 
-/// Whether a statement declares the root.
+/// Returns whether a statement declares the root.
 fn is_root(statement: &Statement) -> bool
     ensures { result ≡ is_root (sense_of statement.now) }
 {
@@ -51,14 +52,15 @@ fn is_root(statement: &Statement) -> bool
     }
 }
 
-/// Whether a node or leaf is named `root`.
+/// Returns whether a node or leaf is named `root`.
 fn has_root(lines: &[(u32, Statement)]) -> bool
     ensures { result ≡ has_root (entries_of lines.now) }
 {
     lines.iter().any(|(_, statement)| is_root(statement))
 }
 
-/// Refuses a node or leaf other than `root` that isn't listed as a child exactly once, and then the want of a root.
+/// Rejects a node or leaf other than `root` that isn't listed as a child exactly once. Then rejects
+/// a policy without a root.
 pub fn check_parents(alloc: Global, lines: &[(u32, Statement)]) -> Result<(), PolicyFault>
     requires rising { AreRising (entries_of lines.now) }
     ensures parents { OnOk result (NoLine (IsOrphan (entries_of lines.now))

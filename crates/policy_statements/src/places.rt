@@ -1,4 +1,4 @@
-//! The places of transactions in the list of all, by name.
+//! The indices of transactions in the list of all, by name.
 ghost use Rattle.std.specs.Prelude.{◌≡◌, map, position, is_some, IfOk};
 ghost use Rattle.std.specs.Str.{bytes_eq};
 ghost use Rattle.rank_defs.specs.Builtins.{builtins};
@@ -14,7 +14,7 @@ use rank_core::builtin;
 use rank_defs::Transaction;
 use std::alloc::{AllocError, Global};
 
-/// The built-in transactions. The error means out of memory.
+/// Returns the built-in transactions. The error means out of memory.
 pub fn builtin_transactions(alloc: Global) -> Result<List<Transaction>, AllocError>
     ensures { IfOk result (λ ts. map program_of ts ≡ map (λ b. b.program) builtins) }
 {
@@ -27,15 +27,15 @@ pub fn builtin_transactions(alloc: Global) -> Result<List<Transaction>, AllocErr
     Ok(transactions)
 }
 
-/// The place of a built-in transaction.
+/// Returns the index of a built-in transaction.
 fn builtin_place(name: &str) -> Option<usize>
     ensures { result ≡ position (bytes_eq name.now) (map (λ b. b.name) builtins) }
 {
     BUILTINS.iter().position(|builtin| name == *builtin)
 }
 
-/// The place of the transaction with this name among all, as `checked_transactions` lists them. `transactions` are the
-/// names of those that are written, in the order of their lines.
+/// Returns the index of the transaction with this name in the list that `checked_transactions`
+/// returns. `transactions` are the names of those that are written, in the order of their lines.
 pub fn program_place(transactions: &Names<'_>, name: &str) -> Option<usize>
     ensures place { WhereDeclared transactions.now (λ es. program_at es result ≡
         program_named es name.now) }

@@ -1,4 +1,4 @@
-//! Which statement may follow which.
+//! Checks the order of statements.
 ghost use Rattle.std.specs.Prelude.{◌≡◌, option_map};
 ghost use Rattle.policy_text_defs.specs.Sense.{sense_of};
 ghost use Rattle.policy_rules.specs.Clauses.{IsFirstLine, IsMisplaced};
@@ -7,7 +7,7 @@ ghost use Rattle.policy_statements.specs.Kept.{is_placed_behind};
 
 use policy_text_defs::Statement;
 
-/// Whether a statement may follow the last one, or first where there is none.
+/// Returns whether a statement may follow the last one, or come first if there is no last one.
 fn is_placed(last: Option<&Statement>, statement: &Statement) -> bool
     ensures { result ≡ is_placed_behind (option_map (λ s. sense_of s.now) last.entry)
         (sense_of statement.now) }
@@ -43,7 +43,7 @@ fn is_placed(last: Option<&Statement>, statement: &Statement) -> bool
     }
 }
 
-/// The line of the first statement that stands where it may not.
+/// Returns the line of the first statement that is out of order.
 pub fn first_misplaced(lines: &[(u32, Statement)]) -> Option<u32>
     requires rising { AreRising (entries_of lines.now) }
     ensures { IsFirstLine (IsMisplaced (entries_of lines.now)) (entries_of lines.now) result }

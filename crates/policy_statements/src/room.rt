@@ -1,4 +1,4 @@
-//! How many transactions, classes and nodes a policy has room for.
+//! Checks the limits on transactions, classes, nodes, variables and assignments.
 ghost use Rattle.std.specs.Prelude.{◌≡◌, ◌+◌, [], List, true, not, ◌==◌};
 ghost use Rattle.policy_text_defs.specs.Sense.{Entry, sense_of};
 ghost use Rattle.policy_rules.specs.Clauses.{IsFirstLine, IsOneTooMany, is_one_too_many};
@@ -18,7 +18,8 @@ const MOST_VARIABLES: u32 = 16;
 /// The most assignments of a transaction.
 const MOST_ASSIGNMENTS: u32 = 64;
 
-/// How many more may come, the last two in the transaction that is open.
+/// How many more statements of each kind are allowed; the last two counts are for the open
+/// transaction.
 #[derive(Drop)]
 struct Room {
     classes: u32,
@@ -28,7 +29,7 @@ struct Room {
     assignments: u32,
 }
 
-/// Takes one of those that are left. False where none is.
+/// Takes one of those that are left. Returns false if none is left.
 fn take_one(left: &mut u32) -> bool
     ensures none { not result ≡ (left.old == 0) }
     ensures one { result ≡ true → left.new + 1 ≡ left.old }
@@ -53,7 +54,7 @@ impl Room {
         }
     }
 
-    /// Gives a statement its room. False where there is none.
+    /// Counts a statement against its limit. Returns false if the limit is already reached.
     fn admit(&mut self, statement: &Statement) -> bool
         ensures beyond { (earlier : List Entry) → IsRoom earlier self.old →
             not result ≡ is_one_too_many earlier (sense_of statement.now) }
@@ -74,7 +75,7 @@ impl Room {
     }
 }
 
-/// The line of the first statement that is one too many.
+/// Returns the line of the first statement that is beyond a limit.
 pub fn first_beyond(lines: &[(u32, Statement)]) -> Option<u32>
     requires rising { AreRising (entries_of lines.now) }
     ensures { IsFirstLine (IsOneTooMany (entries_of lines.now)) (entries_of lines.now) result }

@@ -33,7 +33,7 @@ impl<'a> Spaces<'a> {
         }
     }
 
-    /// Whether the statement's name is taken.
+    /// Returns whether the statement's name is already declared in its space.
     fn is_declared(&self, variables: &Names, statement: &Statement) -> bool
         ensures { (earlier : List Entry) → AreSpaces earlier self.now →
             AreVariables earlier variables.now
@@ -54,7 +54,7 @@ impl<'a> Spaces<'a> {
         }
     }
 
-    /// Adds the name of a statement whose name isn't taken.
+    /// Adds the name of a statement whose name isn't declared yet.
     fn add(&mut self, statement: &'a Statement) -> Result<(), AllocError>
         ensures { OnOk result (AreSpacesAfter self.old (sense_of statement.entry.now) self.new) }
     {
@@ -80,7 +80,7 @@ impl<'a> Spaces<'a> {
     }
 }
 
-/// The names that all statements declare, where none declares one that is taken.
+/// Returns the names that all statements declare, if no name is declared twice.
 pub fn declared<'a>(alloc: Global, lines: &'a [(u32, Statement)]) -> Result<Spaces<'a>, PolicyFault>
     requires rising { AreRising (entries_of lines.now) }
     requires placed { ArePlaced (entries_of lines.now) }

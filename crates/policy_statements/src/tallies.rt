@@ -1,4 +1,4 @@
-//! How often names are listed.
+//! Counts how often names are listed.
 ghost use Rattle.std.specs.Prelude.{List, ◌++◌, OnOk, IfOk};
 ghost use Rattle.policy_rules.specs.Entries.{entries_of};
 ghost use Rattle.policy_rules.specs.Names.{Name as Bytes, listed, children, leaf_classes};
@@ -20,7 +20,7 @@ fn tally_names<'a>(tally: &mut Tally<'a>, names: &'a [Name]) -> Result<(), Alloc
     Ok(())
 }
 
-/// How often nodes list each name as a child. The error means out of memory.
+/// Counts how often nodes list each name as a child. The error means out of memory.
 pub fn tally_children<'a>(
     alloc: Global,
     lines: &'a [(u32, Statement)],
@@ -36,7 +36,7 @@ pub fn tally_children<'a>(
     Ok(tally)
 }
 
-/// How often leaves list each class. The error means out of memory.
+/// Counts how often leaves list each class. The error means out of memory.
 pub fn tally_classes<'a>(
     alloc: Global,
     lines: &'a [(u32, Statement)],

@@ -1,4 +1,4 @@
-//! Which names came, and which came again.
+//! The names seen, and those seen more than once.
 ghost use Rattle.std.specs.Prelude.{◌≡◌, ◌∷◌, ◌++◌, [], List, OnOk, OnErr};
 ghost use Rattle.policy_rules.specs.Names.{Name as Bytes, is_once};
 ghost use Rattle.policy_statements.specs.Names.{IsTallyOf};
@@ -6,7 +6,7 @@ ghost use Rattle.policy_statements.specs.Names.{IsTallyOf};
 use crate::names::Names;
 use std::alloc::{AllocError, Global};
 
-/// Which names came, and which of them came again.
+/// The names seen, and those seen more than once.
 #[derive(Drop)]
 pub struct Tally<'a> {
     pub(crate) seen: Names<'a>,
@@ -23,7 +23,8 @@ impl<'a> Tally<'a> {
         }
     }
 
-    /// One more name came. The error means out of memory, and leaves what came before.
+    /// Adds one occurrence of a name. The error means out of memory, and leaves the tally
+    /// unchanged.
     pub fn add(&mut self, name: &'a str) -> Result<(), AllocError>
         ensures tally { (all : List Bytes) → IsTallyOf self.old all →
             OnOk result (IsTallyOf self.new (all ++ name.entry.now ∷ [])) }
@@ -36,7 +37,7 @@ impl<'a> Tally<'a> {
         Ok(())
     }
 
-    /// Whether the name came exactly once.
+    /// Returns whether the name occurred exactly once.
     pub fn is_once(&self, name: &str) -> bool
         ensures { (all : List Bytes) → IsTallyOf self.now all → result ≡ is_once all name.now }
     {

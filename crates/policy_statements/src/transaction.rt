@@ -1,4 +1,4 @@
-//! One transaction, of the lines of its body.
+//! Builds one transaction from the lines of its body.
 ghost use Rattle.std.specs.Prelude.{◌≡◌, ◌≤◌, [], ◌∷◌, length, IfOk, OnOk};
 ghost use Rattle.rank_defs.specs.Formulas.{formula_of};
 ghost use Rattle.rank_defs.specs.Programs.{assignment_of, program_of};
@@ -69,7 +69,7 @@ fn empty(alloc: Global) -> Transaction
     }
 }
 
-/// Adds what a line of the body says.
+/// Adds a line of the body to the transaction.
 fn add(
     alloc: Global,
     transaction: &mut Transaction,
@@ -96,7 +96,7 @@ fn add(
     Ok(())
 }
 
-/// The transaction of a body. The error means out of memory.
+/// Returns the transaction of a body. The error means out of memory.
 pub fn transaction(alloc: Global, body: &[(u32, Statement)]) -> Result<Transaction, AllocError>
     requires { IsSoundBody (entries_of body.now) }
     ensures { IfOk result (λ t. program_of t ≡ program_in (entries_of body.now)) }

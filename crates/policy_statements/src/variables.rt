@@ -1,4 +1,4 @@
-//! The variables of a transaction.
+//! Tracks the variables of the open transaction.
 ghost use Rattle.std.specs.Prelude.{IfOk};
 ghost use Rattle.policy_text_defs.specs.Sense.{sense_of};
 ghost use Rattle.policy_statements.specs.Kept.{AreVariablesAfter};
@@ -7,7 +7,8 @@ use crate::names::Names;
 use policy_text_defs::Statement;
 use std::alloc::{AllocError, Global};
 
-/// The variables of a transaction with the one that a statement declares. A transaction begins with none.
+/// Returns the variables of the open transaction after one more statement. A `transaction` line
+/// begins with none.
 pub fn variables_after<'a>(
     alloc: Global,
     mut variables: Names<'a>,

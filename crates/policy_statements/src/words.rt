@@ -1,11 +1,11 @@
-//! The names that are built in.
+//! The built-in names.
 ghost use Rattle.std.specs.Prelude.{◌≡◌, is_some};
 ghost use Rattle.rank_defs.specs.Builtins.{builtin};
 
 use policy_rules::BUILTINS;
 use policy_text_defs::is_among;
 
-/// Whether a transaction of this name is built in.
+/// Returns whether a transaction with this name is built in.
 pub fn is_builtin(name: &str) -> bool
     ensures { result ≡ is_some (builtin name.now) }
 {

@@ -1,4 +1,4 @@
--- What the numbers of lines and the statements of entries are.
+-- The line numbers and the statements of entries.
 use Rattle.std.proofs.Common.{◌≡◌, ℕ, suc, ◌+◌, ◌<◌, ◌≤◌, List, [], ◌∷◌, ◌++◌, length, map, sym, refl, ap, ◌∙◌, subst, arith, append_assoc, length-append}
 use Rattle.std.proofs.lemmas.List.{append-nil}
 use Rattle.std.specs.List.{All, AllByRecursion}
@@ -9,7 +9,7 @@ use Rattle.policy_text_defs.specs.Sense.{Sense, Entry, entry, sense_of, numbered
 use Rattle.policy_text_defs.specs.Text.{IsWritten, Entries, over, empty, carried}
 use Rattle.policy_text.specs.Entries.{Numbered, entry_of, IsRising, AreWritten}
 
--- numbers rise strictly, the first being at least this one
+-- numbers are strictly increasing, and the first is at least N
 abbrev pub Rises : ℕ → List Entry → Type 0
 Rises n [] = Unit {0}
 Rises n (e ∷ es) = (n ≤ e.0) × Rises (suc e.0) es
@@ -35,7 +35,7 @@ pub rising : (n : ℕ) (ls : List Numbered) → Rises n (map entry_of ls) → Is
 rising n [] r = λ i j d less within. absurd (omega arith)
 rising n (l ∷ ls) r = AllPairs-cons (λ a b. a.0 < b.0) l ls (above l.0 (suc l.0) ls (omega arith) r.1) (rising (suc l.0) ls r.1)
 
--- the statements of entries are ones that some line has
+-- the statements of entries can be written as lines
 abbrev pub Written : List Entry → Type 0
 Written es = AllByRecursion (λ e. IsWritten e.1) es
 
@@ -82,7 +82,7 @@ map_self : {A : Type 0} (xs : List A) → map (λ x. x) xs ≡ xs
 map_self [] = refl
 map_self (x ∷ xs) = ap (λ l. x ∷ l) (map_self xs)
 
--- all statements have come
+-- all statements are numbered
 pub of_all : (held : List Numbered) (ys ts : List Statement) → map entry_of held ≡ numbered 1 (map sense_of ys) → map (λ t. t) ys ≡ ts → map entry_of held ≡ numbered 1 (map sense_of ts)
 of_all held ys ts before all = before ∙ ap (λ l. numbered 1 (map sense_of l)) (sym (map_self ys) ∙ all)
 
@@ -92,7 +92,7 @@ of_rising held ts is = rising 1 held (subst (Rises 1) (sym is) (numbered_rises 1
 pub of_written : (held : List Numbered) (ts : List Statement) → map entry_of held ≡ numbered 1 (map sense_of ts) → All (λ t. IsWritten (sense_of t)) ts → AreWritten held
 of_written held ts is all = written held (subst Written (sym is) (numbered_written 1 ts all))
 
--- where nothing is left to come, what came is all
+-- if none is left, the statements seen are all
 pub all_came : (ys rest ts : List Statement) → ys ++ rest ≡ ts → rest ≡ [] → map (λ t. t) ys ≡ ts
 all_came ys rest ts whole none = map_self ys ∙ sym (append-nil ys) ∙ ap (λ l. ys ++ l) (sym none) ∙ whole
 

@@ -27,6 +27,6 @@ pub names_start : (w : List ℕ) (gs hs : List Glyph) → name gs ≡ Some (w, h
 unfolding names
 names_start w gs hs read = rw read (repeats_start (ahead name_ahead) name_last (w ∷ []) hs)
 
--- the same loop at a value that is the same
+-- the same loop at an equal value
 pub repeats_at : {K A : Type 0} (take : List Glyph → Outcome K) (step : K → A → Reader A) (whole : Outcome A) (a b : A) (gs : List Glyph) → Repeats take step whole a gs → b ≡ a → Repeats take step whole b gs
 repeats_at take step whole a b gs before same = subst (λ c. Repeats take step whole c gs) (sym same) before

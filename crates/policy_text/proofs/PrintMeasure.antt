@@ -1,4 +1,4 @@
--- How many parts a term has, which falls as its text is written.
+-- The number of parts of a term, which decreases as its text is written.
 use Rattle.std.proofs.Common.{ℕ, ◌+◌}
 use Rattle.policy_text_defs.specs.Phrase.{Phrase, number, word, two, negation, choice}
 

@@ -1,4 +1,4 @@
--- What reading all tokens of a line says of its statement.
+-- Consequences of reading all tokens of a line for its statement.
 use Rattle.std.proofs.Common.{◌≡◌, List, [], ◌∷◌, Some, true, false, length, sym, refl, ap, ◌∙◌, arith}
 use Rattle.std.proofs.lemmas.Bool.{eqb-true}
 use Rattle.std.specs.Prelude.{◌==◌}

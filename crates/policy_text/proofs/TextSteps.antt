@@ -44,7 +44,7 @@ length_taken f (x ∷ xs) (suc i) within = ap suc (length_taken f xs i (omega ar
 
 -- ---- one line more
 
--- the lines before a place have these entries
+-- the lines before an index have these entries
 abbrev pub SoFar : List ℕ → ℕ → List Numbered → Type 0
 SoFar text i held = Entries 1 (take i (statements_of text)) (map entry_of held)
 
@@ -100,7 +100,7 @@ all_taken text ls i held texts behind sofar =
 pub sofar_start : (text : List ℕ) (held : List Numbered) → held ≡ [] → SoFar text 0 held
 sofar_start text held none = subst (λ h. Entries 1 [] (map entry_of h)) (sym none) (over 1)
 
--- a text in form has no cause of a refusal
+-- a text whose lines parse has no cause of an error
 pub entries_no_cause : (text : List ℕ) (es : List Entry) (e : TextFault) → HasEntries text es → IsCause text e → ⊥
 entries_no_cause text es fault.TooLong has cause = let short = has.short in absurd (omega arith)
 entries_no_cause text es (fault.NotText n) has cause = entries_no_fault 1 (statements_of text) es n not_text has.entries cause.first
@@ -115,7 +115,7 @@ want_or_not text es (fault.Syntax n) has cause = entries_no_cause text es (fault
 want_or_not text es (fault.Shaping n) has cause = entries_no_cause text es (fault.Shaping n) has cause
 want_or_not text es fault.NoMemory has cause = tt
 
--- what a result says of the text
+-- the result is right for the text
 abbrev pub Told : List ℕ → Result Lines TextFault → Type 0
 Told text (Ok lines) = HasEntries text (map entry_of lines.held)
 Told text (Err e) = HasCause text e
@@ -132,7 +132,7 @@ tag not_text = 0
 tag shaping = 1
 tag syntax_fault = 2
 
--- a cause is one that is told
+-- a cause is a valid one for its error
 told_cause : (text : List ℕ) (e : TextFault) → IsCause text e → HasCause text e
 told_cause text fault.TooLong p = p
 told_cause text (fault.NotText n) p = p
@@ -140,7 +140,7 @@ told_cause text (fault.Syntax n) p = p
 told_cause text (fault.Shaping n) p = p
 told_cause text fault.NoMemory p = tt
 
--- want of memory has no cause
+-- `NoMemory` has no cause
 no_want : (text : List ℕ) (e : TextFault) → IsCause text e → IsWant e → ⊥
 no_want text fault.TooLong p want = want
 no_want text (fault.NotText n) p want = want
@@ -148,7 +148,7 @@ no_want text (fault.Syntax n) p want = want
 no_want text (fault.Shaping n) p want = want
 no_want text fault.NoMemory p want = p
 
--- a cause that is told is one, but for want of memory
+-- an error other than `NoMemory` has its cause
 pub cause_told : (text : List ℕ) (e : TextFault) → e ≢ fault.NoMemory → HasCause text e → IsCause text e
 cause_told text fault.TooLong some p = p
 cause_told text (fault.NotText n) some p = p
@@ -156,7 +156,7 @@ cause_told text (fault.Syntax n) some p = p
 cause_told text (fault.Shaping n) some p = p
 cause_told text fault.NoMemory some p = some refl
 
--- two causes of one text are causes of one fault
+-- two causes in one text belong to the same error
 same_cause : (text : List ℕ) (e f : TextFault) → HasCause text e → IsCause text f → (e ≡ f) ⊎ IsWant e
 same_cause text fault.NoMemory f p q = inr tt
 same_cause text e fault.NoMemory p q = absurd q
@@ -177,7 +177,7 @@ same_cause text (fault.Shaping n) (fault.NotText m) p q = let differ = ap tag (f
 same_cause text (fault.Shaping n) (fault.Syntax m) p q = let differ = ap tag (first_one text n m shaping syntax_fault p q).1 in absurd (omega arith)
 same_cause text (fault.Shaping n) (fault.Shaping m) p q = inl (ap fault.Shaping (first_one text n m shaping shaping p q).0)
 
--- a text has one cause of a refusal
+-- a text has the cause of at most one error
 pub one_cause : (text : List ℕ) (e f : TextFault) → IsCause text e → IsCause text f → e ≡ f
 one_cause text e f p q = elim (same_cause text e f (told_cause text e p) q) [
   | inl same ↦ same
@@ -192,7 +192,7 @@ pub told_of : (text : List ℕ) (result : Result Lines TextFault) → IfOk resul
 told_of text (Ok lines) ok err = ok
 told_of text (Err e) ok err = err
 
--- the tokens that a line says are the ones of its form
+-- the tokens that a line spells have its form
 pub form_of_said : (line : List ℕ) (gs hs : List Glyph) (s : Sense) → Says line gs → hs ≡ gs → HasForm line s → IsForm hs s
 form_of_said line gs hs s says same has = subst (λ l. IsForm l s) (Says-one line has.tokens gs has.says says ∙ sym same) has.form
 

@@ -1,4 +1,4 @@
--- Statements with the numbers of their lines.
+-- Statements with their line numbers.
 use Rattle.std.specs.Prelude.{ℕ, ◌<◌, List, All, AllPairs}
 use Rattle.policy_text_defs.specs.declared.statement.Statement.{Statement}
 use Rattle.policy_text_defs.specs.Sense.{Sense, Entry, entry, sense_of}
@@ -11,14 +11,14 @@ Numbered = ℕ × Statement
 abbrev pub entry_of : Numbered → Entry
 entry_of l = entry l.0 (sense_of l.1)
 
--- line numbers rise strictly
+-- line numbers are strictly increasing
 abbrev pub IsRising : List Numbered → Type 0
 IsRising ls = AllPairs (λ a b. a.0 < b.0) ls
 
--- each statement is one that some line has
+-- each statement can be written as a line
 abbrev pub AreWritten : List Numbered → Type 0
 AreWritten ls = All (λ l. IsWritten (sense_of l.1)) ls
 
--- the statement of a line, apart from where it lies in memory
+-- the statement of a line, without its location in memory
 abbrev pub sense_at : Numbered → Sense
 sense_at l = sense_of l.1

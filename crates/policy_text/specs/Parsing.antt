@@ -1,4 +1,4 @@
--- What `parse` answers a text.
+-- The result of `parse` for a text.
 use Rattle.std.specs.Prelude.{◌≡◌, ◌⊎◌, ℕ, ◌<◌, List, [], ◌∷◌, ◌++◌, length, map, Option, Some, None, Result, Ok, Err, true}
 use Rattle.std.specs.List.{list_all}
 use Rattle.text_core.specs.Tokens.{is_blank}
@@ -14,7 +14,7 @@ use Rattle.policy_text.specs.declared.fault.TextFault.{TextFault}
 use Rattle.policy_text.specs.declared.fault.TextFault.TheVariants as fault
 use Rattle.policy_text.specs.Entries.{Numbered, entry_of}
 
--- why a text is refused with this fault; want of memory has no cause
+-- the cause for which a text is rejected with this error; `NoMemory` has no cause
 abbrev pub IsCause : List ℕ → TextFault → Type 0
 IsCause text fault.TooLong = most_text < length text
 IsCause text (fault.NotText n) = IsFirstFault text n not_text
@@ -22,43 +22,43 @@ IsCause text (fault.Syntax n) = IsFirstFault text n syntax_fault
 IsCause text (fault.Shaping n) = IsFirstFault text n shaping
 IsCause text fault.NoMemory = ⊥
 
--- want of memory
+-- the error is that memory ran out
 abbrev pub IsWant : TextFault → Type 0
 IsWant fault.NoMemory = Unit {0}
 IsWant _ = ⊥
 
--- a fault has its cause, unless it is want of memory
+-- an error has its cause, unless memory ran out
 abbrev pub HasCause : List ℕ → TextFault → Type 0
 HasCause text fault.NoMemory = Unit {0}
 HasCause text f = IsCause text f
 
--- these statements are answered, unless memory ran out
+-- the result is these statements, unless memory ran out
 abbrev pub Gives : Result Lines TextFault → List Entry → Type 0
 Gives (Ok lines) es = map entry_of lines.held ≡ es
 Gives (Err e) es = IsWant e
 
--- this fault is answered, unless memory ran out
+-- the result is this error, unless memory ran out
 abbrev pub Fails : Result Lines TextFault → TextFault → Type 0
 Fails (Ok lines) f = ⊥
 Fails (Err e) f = (e ≡ f) ⊎ IsWant e
 
--- the statements of a text in form are answered
+-- a text whose lines parse gives its statements
 abbrev pub AcceptsAll : List ℕ → Result Lines TextFault → Type 0
 AcceptsAll text result = (es : List Entry) → HasEntries text es → Gives result es
 
--- a text with a cause of a fault is refused with this fault
+-- a text with the cause of an error is rejected with this error
 abbrev pub RefusesAll : List ℕ → Result Lines TextFault → Type 0
 RefusesAll text result = (f : TextFault) → IsCause text f → Fails result f
 
 -- ---- one line
 
--- the line's tokens are a form of the statement
+-- the line's tokens have the form of the statement
 pub record HasForm (line : List ℕ) (s : Sense) : Type 0 where
   pub tokens : List Glyph
   pub says : Says line tokens
   pub form : IsForm tokens s
 
--- a fault of the line with this number
+-- the error of the line with this number; it may also be that memory ran out
 abbrev pub LineFault : List ℕ → ℕ → TextFault → Type 0
 LineFault line n fault.TooLong = ⊥
 LineFault line n (fault.NotText m) = (m ≡ n) × IsFault line not_text
@@ -66,7 +66,7 @@ LineFault line n (fault.Syntax m) = (m ≡ n) × IsFault line syntax_fault
 LineFault line n (fault.Shaping m) = (m ≡ n) × IsFault line shaping
 LineFault line n fault.NoMemory = Unit {0}
 
--- what a line has
+-- the statement of a line, or none if the line is blank
 abbrev pub LineHas : List ℕ → Option Statement → Type 0
 LineHas line None = list_all is_blank line ≡ true
 LineHas line (Some t) = Carries line (sense_of t)
@@ -75,7 +75,7 @@ abbrev pub LineIs : List ℕ → ℕ → Result (Option Statement) TextFault →
 LineIs line n (Ok found) = LineHas line found
 LineIs line n (Err e) = LineFault line n e
 
--- what was found on a line is last
+-- the statement found on a line is appended, if there is one
 abbrev pub Kept : ℕ → Option Statement → List Numbered → List Numbered → Type 0
 Kept n None old new = new ≡ old
 Kept n (Some t) old new = new ≡ old ++ (n, t) ∷ []

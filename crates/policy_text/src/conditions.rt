@@ -1,4 +1,4 @@
-//! Reading a condition.
+//! Reads a condition.
 ghost use Rattle.policy_text_defs.specs.StatementReading as forms;
 ghost use Rattle.policy_text_defs.specs.Words as words;
 ghost use Rattle.policy_text.specs.Reads.{Reads, Makes, same};
@@ -12,10 +12,10 @@ use text_core::{Item, Mark, Refusal};
 
 const MOST_OCTET: u32 = 255;
 
-/// The length of the longest prefix, a whole IPv4 address.
+/// The greatest prefix length, in bits: a whole IPv4 address.
 const MOST_PREFIX: u32 = 32;
 
-/// The condition that a field has a value with a name.
+/// Returns the condition that a field has the value with this name.
 fn named_value(field: FieldName, word: &[u8]) -> Result<Condition, Refusal>
     ensures { Makes same (forms.named_value field word.now) result }
 {
@@ -35,7 +35,7 @@ fn protocol(word: &[u8]) -> Result<Condition, Refusal>
 }
 
 impl<'a> Cursor<'a> {
-    /// The number after `..`, or the low one where that doesn't follow.
+    /// Reads the number after `..`, or returns the low one if no `..` follows.
     #[tactic(auto, unfolding(policy_text_defs::specs::StatementReading::upper))]
     fn upper(&mut self, low: u64) -> Result<u64, Refusal>
         ensures { Reads same (forms.upper low) result self.old.rest.now self.new.rest.now }
@@ -69,7 +69,7 @@ impl<'a> Cursor<'a> {
         }
     }
 
-    /// `N.N.N.N`
+    /// Reads `N.N.N.N`.
     #[tactic(auto, unfolding(policy_text_defs::specs::StatementReading::address))]
     fn address(&mut self) -> Result<u32, Refusal>
         ensures { Reads same forms.address result self.old.rest.now self.new.rest.now }
@@ -84,7 +84,7 @@ impl<'a> Cursor<'a> {
         Ok(first * 16_777_216 + second * 65_536 + third * 256 + fourth)
     }
 
-    /// The number after `/`, or the longest length where that doesn't follow.
+    /// Reads the number after `/`, or returns the greatest length if no `/` follows.
     #[tactic(auto, unfolding(policy_text_defs::specs::StatementReading::prefix_length))]
     fn prefix_length(&mut self) -> Result<u32, Refusal>
         ensures { Reads same forms.prefix_length result self.old.rest.now self.new.rest.now }
@@ -129,7 +129,7 @@ impl<'a> Cursor<'a> {
     }
 }
 
-/// Conditions with `and` between them.
+/// Reads conditions with `and` between them.
 #[tactic(auto, unfolding(policy_text_defs::specs::StatementReading::conditions), using(policy_text_defs::proofs::RepeatLoops::repeats_start, policy_text_defs::proofs::RepeatLoops::repeats_over))]
 fn conditions(alloc: Global, cursor: &mut Cursor<'_>) -> Result<List<Condition>, Refusal>
     ensures { Reads same forms.conditions result cursor.old.rest.now cursor.new.rest.now }
@@ -142,7 +142,7 @@ fn conditions(alloc: Global, cursor: &mut Cursor<'_>) -> Result<List<Condition>,
     Ok(conditions)
 }
 
-/// The conditions after `when`, or none where that doesn't follow.
+/// Reads the conditions after `when`, or returns none if no `when` follows.
 #[tactic(auto, unfolding(policy_text_defs::specs::StatementReading::guard))]
 pub fn guard(alloc: Global, cursor: &mut Cursor<'_>) -> Result<List<Condition>, Refusal>
     ensures { Reads same forms.guard result cursor.old.rest.now cursor.new.rest.now }

@@ -1,4 +1,4 @@
-//! What is left of a line's tokens.
+//! The remaining tokens of a line.
 ghost use Rattle.std.specs.Prelude.{◌≡◌, ◌≤◌, IfOk};
 ghost use Rattle.policy_text_defs.specs.Grammar as grammar;
 ghost use Rattle.policy_text_defs.specs.Reading as spec;
@@ -10,7 +10,7 @@ use policy_text_defs::{Attribute, is, name_of, target_of};
 use rank_defs::Op;
 use text_core::{Item, Mark, Refusal};
 
-/// What is left of a line's tokens.
+/// The remaining tokens of a line.
 #[derive(Drop)]
 pub struct Cursor<'a> {
     pub rest: &'a [Item<'a>],
@@ -65,7 +65,7 @@ impl<'a> Cursor<'a> {
         Ok(())
     }
 
-    /// Takes a mark where it stands first.
+    /// Takes a mark if it is the next token, and returns whether it did.
     pub fn takes_mark(&mut self, mark: Mark) -> bool
         ensures { TakesIf (λ g. spec.unit_if (spec.is_sign mark g)) result self.old.rest.now
             self.new.rest.now }
@@ -79,7 +79,7 @@ impl<'a> Cursor<'a> {
         }
     }
 
-    /// Takes a word where it stands first.
+    /// Takes a word if it is the next token, and returns whether it did.
     pub fn takes_word(&mut self, word: &str) -> bool
         ensures { TakesIf (forms.word_ahead word.now) result self.old.rest.now self.new.rest.now }
     {
@@ -110,7 +110,7 @@ impl<'a> Cursor<'a> {
         }
     }
 
-    /// A number that is at most `most`.
+    /// Reads a number that is at most `most`.
     #[tactic(auto, unfolding(policy_text_defs::specs::StatementReading::within))]
     pub fn number_to(&mut self, most: u32) -> Result<u32, Refusal>
         ensures reads { Reads same (forms.number_to most) result self.old.rest.now
@@ -134,7 +134,7 @@ impl<'a> Cursor<'a> {
         }
     }
 
-    /// A name, or `rank`.
+    /// Reads a name, or `rank`.
     #[tactic(auto, unfolding(policy_text_defs::specs::StatementReading::target_by))]
     pub fn target(&mut self) -> Result<&'a str, Refusal>
         ensures { Reads (λ n. n.now) forms.target result self.old.rest.now self.new.rest.now }
@@ -145,7 +145,7 @@ impl<'a> Cursor<'a> {
         }
     }
 
-    /// Takes the operator with which a product goes on.
+    /// Takes an operator that continues a product, if it is the next token.
     pub fn product_operator(&mut self) -> Option<Op>
         ensures { Takes same grammar.product_op result self.old.rest.now self.new.rest.now }
     {
@@ -157,7 +157,7 @@ impl<'a> Cursor<'a> {
         Some(op)
     }
 
-    /// Takes the operator with which a sum goes on.
+    /// Takes an operator that continues a sum, if it is the next token.
     pub fn sum_operator(&mut self) -> Option<Op>
         ensures { Takes same grammar.sum_op result self.old.rest.now self.new.rest.now }
     {
@@ -169,7 +169,7 @@ impl<'a> Cursor<'a> {
         Some(op)
     }
 
-    /// Takes the operator of a comparison.
+    /// Takes the operator of a comparison, if it is the next token.
     pub fn relation(&mut self) -> Option<Op>
         ensures { Takes same grammar.relation result self.old.rest.now self.new.rest.now }
     {
@@ -181,7 +181,7 @@ impl<'a> Cursor<'a> {
         Some(op)
     }
 
-    /// Takes the word of an attribute.
+    /// Takes the word of an attribute, if it is the next token.
     pub fn attribute(&mut self) -> Option<Attribute>
         ensures { Takes same forms.attribute_at result self.old.rest.now self.new.rest.now }
     {
@@ -193,7 +193,7 @@ impl<'a> Cursor<'a> {
         Some(attribute)
     }
 
-    /// Takes a name where one stands first.
+    /// Takes a name, if it is the next token.
     pub fn takes_name(&mut self) -> Option<&'a str>
         ensures { Takes (λ n. n.now) forms.name_ahead result self.old.rest.now self.new.rest.now }
     {

@@ -1,17 +1,17 @@
-//! Why a text has no statements.
+//! The errors of policy texts.
 ghost use Rattle.std.specs.Prelude.{◌≡◌};
 ghost use Rattle.policy_text.specs.Codes.{code_of, line_of};
 
 use std::alloc::{AllocError, AllocFailed};
 
-/// Why a text has no statements. A line is named by its number, counted from 1.
+/// The reason why a text is rejected. The number is that of the line in error, counted from 1.
 #[derive(Debug, Drop)]
 pub enum TextFault {
-    /// It has more than 1,048,576 bytes.
+    /// The text has more than 1,048,576 bytes.
     TooLong,
     /// The line has bytes that aren't text.
     NotText(u32),
-    /// The line is in no form.
+    /// The line is malformed: it isn't a statement.
     Syntax(u32),
     /// The line asks for a shaping transaction.
     Shaping(u32),
@@ -19,7 +19,7 @@ pub enum TextFault {
 }
 
 impl TextFault {
-    /// The number of the fault in a report; 0 for want of memory.
+    /// Returns the number of the error in a report; 0 if memory ran out.
     pub fn code(&self) -> u32
         ensures { result ≡ code_of self.now }
     {
@@ -32,7 +32,7 @@ impl TextFault {
         }
     }
 
-    /// The line at fault, 0 where there is none.
+    /// Returns the number of the line in error, or 0 if no single line is.
     pub fn line(&self) -> u32
         ensures { result ≡ line_of self.now }
     {

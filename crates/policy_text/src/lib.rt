@@ -1,4 +1,4 @@
-//! Policy texts: reading their statements, and printing statements as canonical text. Begin with
+//! Reads the statements of policy texts, and prints statements as canonical text. Begin with
 //! specs/Parsing.antt.
 #![tactic(auto)]
 

@@ -1,4 +1,4 @@
-//! The blanks and the first word of a line.
+//! Reads one line: its blanks, its first word and its statement.
 ghost use Rattle.std.specs.Prelude.{◌≡◌, ◌≤◌, length, IfOk};
 ghost use Rattle.std.specs.List.{prefix_len, list_all};
 ghost use Rattle.policy_text_defs.specs.Sense.{Sense, sense_of};
@@ -26,7 +26,7 @@ fn are_blanks(bytes: &[u8]) -> bool
     bytes.iter().all(|byte| is_blank(*byte))
 }
 
-/// How many blanks the bytes begin with.
+/// Returns how many leading bytes are blanks.
 fn blanks(bytes: &[u8]) -> usize
     ensures count { result ≡ prefix_len is_blank bytes.now }
     ensures within { result ≤ length bytes.now }
@@ -40,7 +40,7 @@ fn is_word_byte(byte: u8) -> bool
     byte.is_ascii_alphabetic() || byte == b'_' || byte.is_ascii_digit()
 }
 
-/// How many bytes of a word the bytes begin with.
+/// Returns how many leading bytes belong to a word.
 fn word_bytes(bytes: &[u8]) -> usize
     ensures count { result ≡ prefix_len is_word_byte bytes.now }
     ensures within { result ≤ length bytes.now }
@@ -48,7 +48,7 @@ fn word_bytes(bytes: &[u8]) -> usize
     bytes.iter().take_while(|byte| is_word_byte(**byte)).count()
 }
 
-/// Whether the first word of a line is `shape`.
+/// Returns whether the first word of a line is `shape`.
 fn is_shaping(line: &[u8]) -> bool
     ensures { result ≡ is_shaping line.now }
 {
@@ -56,7 +56,7 @@ fn is_shaping(line: &[u8]) -> bool
     is(&rest[..word_bytes(rest)], "shape")
 }
 
-/// The statement that the tokens of a line are.
+/// Returns the statement that the tokens of a line form.
 fn statement_of(alloc: Global, line: &[u8]) -> Result<Statement, Refusal>
     ensures found { IfOk result (λ t. HasForm line.now (sense_of t)) }
     ensures only { (s : Sense) → HasForm line.now s → States result s }
@@ -65,7 +65,7 @@ fn statement_of(alloc: Global, line: &[u8]) -> Result<Statement, Refusal>
     parse_statement(alloc, items.as_slice())
 }
 
-/// What stands on a line with this number, if anything.
+/// Returns the statement of the line with this number, or `None` if the line is blank.
 pub fn read_line(
     alloc: Global,
     line: &[u8],

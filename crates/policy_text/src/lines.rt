@@ -1,4 +1,4 @@
-//! Statements with the numbers of their lines.
+//! Statements with their line numbers.
 ghost use Rattle.std.specs.Prelude.{◌≡◌, ℕ, ◌<◌, ◌^◌, List, map, length, All, IfOk};
 ghost use Rattle.policy_text_defs.specs.Sense.{sense_of, numbered};
 ghost use Rattle.policy_text_defs.specs.Text.{IsWritten};
@@ -8,7 +8,7 @@ use list_core::List;
 use policy_text_defs::Statement;
 use std::alloc::{AllocError, Global};
 
-/// Statements with the numbers of their lines.
+/// Statements with their line numbers.
 #[derive(Drop)]
 pub struct Lines {
     pub(crate) held: List<(u32, Statement)>,
@@ -17,7 +17,7 @@ pub struct Lines {
 }
 
 impl Lines {
-    /// These statements, numbered from line 1.
+    /// Numbers the statements from line 1.
     pub fn of(alloc: Global, statements: List<Statement>) -> Result<Lines, AllocError>
         requires written { All (λ s. IsWritten (sense_of s)) statements }
         requires few { length statements < 2 ^ 32 }

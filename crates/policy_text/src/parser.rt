@@ -1,4 +1,4 @@
-//! Reading an expression.
+//! Reads an expression.
 ghost use Rattle.std.specs.Prelude.{◌≡◌};
 ghost use Rattle.policy_text_defs.specs.Phrase.{phrase_of, two, negation, choice};
 ghost use Rattle.policy_text_defs.specs.Reading as spec;
@@ -59,7 +59,7 @@ fn chosen(alloc: Global, test: Part, then: Part, other: Part) -> Result<Part, Re
     Ok(Part { term, depth })
 }
 
-/// A word that stands by itself.
+/// Reads a word that is an operand by itself.
 #[tactic(auto, unfolding(policy_text_defs::specs::Reading::operand))]
 fn operand(alloc: Global, word: &[u8]) -> Result<Part, Refusal>
     ensures { Makes phrase_of_part (spec.operand word.now) result }
@@ -74,7 +74,7 @@ fn operand(alloc: Global, word: &[u8]) -> Result<Part, Refusal>
     })
 }
 
-/// An expression inside of one more pair of parentheses, where `room` pairs may be opened.
+/// Reads an expression inside one more pair of parentheses; `room` pairs may be opened.
 #[tactic(auto, using(policy_text_defs::proofs::ChainLemmas::inside_more))]
 #[cycle(expression)]
 fn inside(alloc: Global, cursor: &mut Cursor<'_>, room: u32) -> Result<Part, Refusal>
@@ -87,7 +87,7 @@ fn inside(alloc: Global, cursor: &mut Cursor<'_>, room: u32) -> Result<Part, Ref
     expression(alloc, cursor, room - 1)
 }
 
-/// An expression up to this mark, and the mark.
+/// Reads an expression up to this mark, and the mark.
 #[tactic(auto, unfolding(policy_text_defs::specs::Reading::argument))]
 #[cycle(expression)]
 fn argument(alloc: Global, cursor: &mut Cursor<'_>, room: u32, mark: Mark) -> Result<Part, Refusal>
@@ -99,7 +99,7 @@ fn argument(alloc: Global, cursor: &mut Cursor<'_>, room: u32, mark: Mark) -> Re
     Ok(part)
 }
 
-/// The arguments of a function of two, and the parentheses round them.
+/// Reads the two arguments of a function, and the parentheses around them.
 #[tactic(auto, unfolding(policy_text_defs::specs::Reading::call))]
 #[cycle(expression)]
 fn call(alloc: Global, cursor: &mut Cursor<'_>, room: u32, op: Op) -> Result<Part, Refusal>
@@ -112,7 +112,7 @@ fn call(alloc: Global, cursor: &mut Cursor<'_>, room: u32, op: Op) -> Result<Par
     pair(alloc, op, first, second)
 }
 
-/// The argument of `not`.
+/// Reads the argument of `not`.
 #[tactic(auto, unfolding(policy_text_defs::specs::Reading::opposite))]
 #[cycle(expression)]
 fn opposite(alloc: Global, cursor: &mut Cursor<'_>, room: u32) -> Result<Part, Refusal>
@@ -124,7 +124,7 @@ fn opposite(alloc: Global, cursor: &mut Cursor<'_>, room: u32) -> Result<Part, R
     negated(alloc, part)
 }
 
-/// The arguments of `if`.
+/// Reads the arguments of `if`.
 #[tactic(auto, unfolding(policy_text_defs::specs::Reading::alternative))]
 #[cycle(expression)]
 fn alternative(alloc: Global, cursor: &mut Cursor<'_>, room: u32) -> Result<Part, Refusal>
@@ -201,7 +201,7 @@ fn sum(alloc: Global, cursor: &mut Cursor<'_>, room: u32) -> Result<Part, Refusa
     Ok(left)
 }
 
-/// An expression in which at most `room` parentheses are open at once.
+/// Reads an expression in which at most `room` parentheses are open at once.
 #[tactic(auto, unfolding(policy_text_defs::specs::Reading::expression))]
 #[cycle(expression)]
 pub fn expression(alloc: Global, cursor: &mut Cursor<'_>, room: u32) -> Result<Part, Refusal>

@@ -4,7 +4,7 @@ ghost use Rattle.policy_text_defs.specs.Phrase as phrase;
 
 use policy_text_defs::Term;
 
-/// The most parentheses that are open at once.
+/// The most parentheses that may be open at once.
 pub const MOST_OPEN: u32 = 64;
 
 /// An expression and its depth.

@@ -1,4 +1,4 @@
-//! Statements as canonical text.
+//! Prints statements as canonical text.
 
 mod condition;
 mod expression;
@@ -36,7 +36,7 @@ fn put_lines(into: &mut Vec<u8>, entries: &[(u32, Statement)]) -> Result<(), All
     Ok(())
 }
 
-/// The canonical text of the statements: one a line, whatever lines they stood on.
+/// Returns the canonical text of the statements, one a line; their line numbers are ignored.
 #[tactic(auto, using(crate::proofs::PrintLaws::canonical_reads_back))]
 pub fn print(alloc: Global, lines: &Lines) -> Result<List<u8>, AllocError>
     ensures text { IfOk result (λ text. text ≡ canonical_text (map sense_at lines.now.held)) }

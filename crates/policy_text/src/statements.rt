@@ -1,4 +1,4 @@
-//! Reading a statement.
+//! Reads a statement.
 ghost use Rattle.std.specs.Prelude.{◌≡◌, ◌≤◌, List, Some, IfOk};
 ghost use Rattle.policy_text_defs.specs.declared.keyword.Keyword.TheVariants as keyword;
 ghost use Rattle.policy_text_defs.specs.Ranges.{attribute_most};
@@ -23,10 +23,10 @@ const FIRST_VERSION: u64 = 1;
 
 const LAST_VERSION: u64 = 2;
 
-/// The fewest packets that a leaf may be limited to.
+/// The least limit of a leaf, in packets.
 const LIMIT_LEAST: u64 = 1;
 
-/// The most packets that a leaf may be limited to.
+/// The greatest limit of a leaf, in packets.
 const LIMIT_MOST: u64 = 4_194_304;
 
 const UNSET: Attrs = Attrs {
@@ -45,7 +45,7 @@ fn is_unset(attribute: Attribute, attrs: &Attrs) -> bool
     }
 }
 
-/// The attributes with this one set to a number of its range.
+/// Returns the attributes with this one set to a number in its range.
 fn with(attribute: Attribute, number: u64, attrs: Attrs) -> Attrs
     requires { number ≤ attribute_most attribute }
     ensures { result ≡ with_attribute attribute number attrs }
@@ -66,7 +66,7 @@ fn with(attribute: Attribute, number: u64, attrs: Attrs) -> Attrs
     }
 }
 
-/// Sets an attribute that isn't set.
+/// Sets an attribute that isn't set yet, to a number in its range; otherwise the line is malformed.
 #[tactic(auto, unfolding(policy_text_defs::specs::StatementReading::set_to))]
 fn set(attribute: Attribute, number: u64, attrs: Attrs) -> Result<Attrs, Refusal>
     ensures { Makes same (forms.set_to attribute attrs number) result }
@@ -78,7 +78,7 @@ fn set(attribute: Attribute, number: u64, attrs: Attrs) -> Result<Attrs, Refusal
 }
 
 impl<'a> Cursor<'a> {
-    /// `LOW..HIGH = FIRST`
+    /// Reads `LOW..HIGH = FIRST`.
     #[tactic(auto, unfolding(policy_text_defs::specs::StatementReading::span, policy_text_defs::specs::StatementReading::spanned))]
     fn span(&mut self) -> Result<Span, Refusal>
         ensures { Reads same forms.span result self.old.rest.now self.new.rest.now }
@@ -94,7 +94,7 @@ impl<'a> Cursor<'a> {
         Ok(Span { low, high, first })
     }
 
-    /// Attributes in any order, each at most once.
+    /// Reads attributes in any order, each at most once.
     #[tactic(auto, using(policy_text_defs::proofs::RepeatLoops::repeats_start, policy_text_defs::proofs::RepeatLoops::repeats_over))]
     fn attributes(&mut self) -> Result<Attrs, Refusal>
         ensures { Reads same forms.attributes result self.old.rest.now self.new.rest.now }
@@ -107,7 +107,7 @@ impl<'a> Cursor<'a> {
         Ok(attrs)
     }
 
-    /// The number after `limit`, or none where that doesn't follow.
+    /// Reads the number after `limit`, or returns `None` if no `limit` follows.
     #[tactic(auto, unfolding(policy_text_defs::specs::StatementReading::limit, policy_text_defs::specs::StatementReading::limit_by))]
     fn limit(&mut self) -> Result<Option<u32>, Refusal>
         ensures { Reads same forms.limit result self.old.rest.now self.new.rest.now }
@@ -123,7 +123,7 @@ impl<'a> Cursor<'a> {
     }
 }
 
-/// One name or more.
+/// Reads one or more names.
 #[tactic(auto, unfolding(policy_text_defs::specs::StatementReading::names), using(policy_text_defs::proofs::RepeatLoops::repeats_start, policy_text_defs::proofs::RepeatLoops::repeats_over))]
 fn names(alloc: Global, cursor: &mut Cursor<'_>) -> Result<List<Name>, Refusal>
     ensures { Reads same forms.names result cursor.old.rest.now cursor.new.rest.now }
@@ -251,7 +251,7 @@ fn statement(alloc: Global, cursor: &mut Cursor<'_>) -> Result<Statement, Refusa
     }
 }
 
-/// The statement that all the tokens of a line are.
+/// Reads all the tokens of a line as one statement.
 pub fn parse_statement(alloc: Global, items: &[Item<'_>]) -> Result<Statement, Refusal>
     ensures found { IfOk result (λ t. IsForm (glyphs_of items.now) (sense_of t)) }
     ensures only { (s : Sense) → IsForm (glyphs_of items.now) s → States result s }

@@ -1,4 +1,4 @@
-//! Reading a whole policy text.
+//! Reads a whole policy text.
 ghost use Rattle.std.specs.Prelude.{map, IfOk, IfErr, OnOk};
 ghost use Rattle.policy_text_defs.specs.Text.{HasEntries};
 ghost use Rattle.policy_text.specs.Entries.{entry_of};
@@ -12,10 +12,10 @@ use policy_text_defs::Statement;
 use std::alloc::{AllocError, Global};
 use text_core::lines;
 
-/// The most bytes of a policy text.
+/// The greatest length of a policy text, in bytes.
 pub const MOST_TEXT: usize = 1_048_576;
 
-/// Puts what was found on a line last.
+/// Appends the statement found on a line, if there is one.
 fn keep(
     held: &mut List<(u32, Statement)>,
     number: u32,
@@ -48,7 +48,7 @@ fn read(alloc: Global, text: &[u8]) -> Result<Lines, TextFault>
     Ok(Lines { held })
 }
 
-/// The statements of a text with the numbers of their lines.
+/// Returns the statements of a text with their line numbers.
 pub fn parse(alloc: Global, text: &[u8]) -> Result<Lines, TextFault>
     ensures statements { IfOk result (λ lines. HasEntries text.now (map entry_of lines.held)) }
     ensures cause { IfErr result (HasCause text.now) }

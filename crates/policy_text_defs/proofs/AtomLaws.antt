@@ -1,4 +1,4 @@
--- Comparisons and atoms: what is read is in the grammar, and what is in the grammar is read.
+-- Comparisons and atoms: the reader accepts exactly the grammar.
 use Rattle.std.proofs.Common.{◌≡◌, ℕ, zero, suc, ◌≤◌, max, List, [], ◌∷◌, ◌++◌, Option, Some, None, Bool, true, false, sym, refl, ap, ◌∙◌, subst, codes, arith, append_assoc}
 use Rattle.std.specs.Prelude.{◌||◌}
 use Rattle.rank_defs.specs.declared.expression.Op.{Op}
@@ -124,10 +124,10 @@ operand_was : (w : List ℕ) (c : Phrase) (gs rest : List Glyph) → operand w g
 unfolding operand
 operand_was w c gs rest e = operand_case (is_name w) (is_variable w) w c gs rest refl refl e
 
--- ---- atoms, by a reader of what stands in the parentheses
+-- ---- atoms, given a reader for the expressions inside parentheses
 
 module _ {Inside : Form} {InsideEnds : List Glyph → Type 0} {reads : Reader Phrase} (exact : Exact Inside InsideEnds reads) where
-  -- what stands before a mark is read up to the mark
+  -- a form before a mark is read up to the mark
   before_mark : (s : Mark) → ((gs : List Glyph) → InsideEnds (sign s ∷ gs)) → (us vs rest : List Glyph) (a : Phrase) → Inside us a → depth a ≤ most_depth → reads ((us ++ sign s ∷ vs) ++ rest) ≡ Some (a, sign s ∷ (vs ++ rest))
   before_mark s ends us vs rest a part low = ap reads (append_assoc us (sign s ∷ vs) rest) ∙ exact.again us (sign s ∷ (vs ++ rest)) a part low (ends (vs ++ rest))
 
@@ -183,7 +183,7 @@ module _ {Inside : Form} {InsideEnds : List Glyph → Type 0} {reads : Reader Ph
       let same : first.value ≡ a = same_value first.value a second.left left second.next in
       record { front = part.front; split = part.split ∙ ap (λ l. part.front ++ l) (closed ∙ ap (λ l. sign s ∷ l) over); is = subst (Inside part.front) same part.is }
 
-  -- an argument and what follows it are a list of tokens
+  -- an argument and the tokens after it form one list of tokens
   onto : (s : Mark) (gs left ts rest : List Glyph) (a : Phrase) (arg : Argument s gs left a) → left ≡ ts ++ rest → gs ≡ (arg.front ++ sign s ∷ ts) ++ rest
   onto s gs left ts rest a arg e = arg.split ∙ ap (λ l. arg.front ++ sign s ∷ l) e ∙ sym (append_assoc arg.front (sign s ∷ ts) rest)
 
@@ -255,7 +255,7 @@ module _ {Inside : Form} {InsideEnds : List Glyph → Type 0} {reads : Reader Ph
   pub AtomOver-exact : ((gs : List Glyph) → InsideEnds (sign m.Close ∷ gs)) → ((gs : List Glyph) → InsideEnds (sign m.Comma ∷ gs)) → Exact (AtomOver Inside) (λ _. Unit {0}) (next >>= atom_at reads)
   AtomOver-exact close comma = record { sound = atom_sound; again = atom_again close comma }
 
--- ---- the whole
+-- ---- the whole expression
 
 -- what may follow an expression
 abbrev pub Ends : List Glyph → Type 0

@@ -1,4 +1,4 @@
--- Attributes and lists of names: what is read is their form, and their form is read.
+-- Attributes and lists of names: the readers accept exactly their forms.
 use Rattle.std.proofs.Common.{◌≡◌, ℕ, zero, suc, ◌<◌, ◌≤◌, List, [], ◌∷◌, ◌++◌, length, map, Option, Some, None, Bool, true, false, cond, leb, sym, refl, ap, ◌∙◌, subst, codes, arith, append_assoc}
 use Rattle.std.proofs.lemmas.List.{append-nil}
 use Rattle.std.specs.Prelude.{◌&&◌}

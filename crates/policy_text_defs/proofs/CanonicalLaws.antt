@@ -1,4 +1,4 @@
--- The canonical text of statements that lines have is in form and has them.
+-- The canonical text of statements that can be written parses and has exactly these statements.
 use Rattle.std.proofs.Common.{◌≡◌, ℕ, zero, suc, ◌-◌, ◌≤◌, ◌&&◌, ◌==◌, List, [], ◌∷◌, ◌++◌, length, map, Bool, true, false, cond, sym, refl, ap, ◌∙◌, subst, arith}
 use Rattle.std.specs.Prelude.{codes, slice_index, ◌↔◌}
 use Rattle.std.specs.List.{prefix_len, list_all, All, AllByRecursion}
@@ -70,7 +70,7 @@ plain_statement bs plain =
     let all : statement_length bs ≡ length bs = whole_case (prefix_len no_comment bs == length bs) (ends_with_return bs) (prefix_len no_comment bs) (length bs) (no_comments bs plain) (no_return_at bs (length bs - 1) plain) in
     take_all (statement_length bs) bs (omega arith)
 
--- a plain line and its end begin a text
+-- a plain line and its line feed begin a text
 line_first : (bs rest : List ℕ) → ArePlain bs → lines_of (bs ++ (codes "\n" ++ rest)) ≡ bs ∷ lines_of rest
 line_first [] rest plain = refl
 line_first (b ∷ bs) rest plain = rw (plain_text b (first_plain b bs plain)) (ap (onto_first b) (line_first bs rest (others_plain b bs plain)))
@@ -106,11 +106,11 @@ statement_carried s is = record {
   form = statement_form s is;
 }
 
--- the canonical line of a statement that some line has carries it
+-- the canonical line of a statement that can be written spells it
 pub statement_text_carries : (s : Sense) → IsWritten s → Carries (statement_text s) s
 statement_text_carries s written = statement_carried s (IsWritten_IsValid s written)
 
--- what is valid is written
+-- a valid statement can be written
 pub IsValid_IsWritten : (s : Sense) → IsValid s → IsWritten s
 IsValid_IsWritten s is = ∣ record { line = statement_text s; carries = statement_carried s is } ∣₁
 
@@ -138,7 +138,7 @@ canonical_text_HasEntries ss all short =
     let P : List (List ℕ) → Type 0 = λ ls. Entries 1 ls (numbered 1 ss) in
     record { short = short; entries = subst P (sym (canonical_lines ss valid)) (canonical_entries 1 ss valid) }
 
--- the canonical text of statements that lines have is in form and has just them, numbered from 1
+-- the canonical text of statements that can be written has exactly these, numbered from 1
 pub canonical_text_has : (ss : List Sense) → All IsWritten ss → length (canonical_text ss) ≤ most_text → (es : List Entry) → HasEntries (canonical_text ss) es ↔ (es ≡ numbered 1 ss)
 canonical_text_has ss all short es =
     let has = canonical_text_HasEntries ss all short in

@@ -1,4 +1,4 @@
--- Conditions: what is read is their form, and their form is read.
+-- Conditions: the reader accepts exactly their form.
 use Rattle.std.proofs.Common.{◌≡◌, ℕ, ◌≤◌, List, [], ◌∷◌, ◌++◌, Option, Some, None, Bool, true, false, leb, sym, refl, ap, ◌∙◌, subst, codes, arith}
 use Rattle.std.specs.Prelude.{◌&&◌}
 use Rattle.std.proofs.lemmas.Bool.{le-leb, leb-true}
@@ -38,7 +38,7 @@ word_follows w gs hs u e =
     let stand = stands (word_ahead w) gs hs u e in
     stand.split ∙ ap (λ g. g ∷ hs) (text_is w stand.glyph (unit_case (is_text w stand.glyph) u stand.is))
 
--- what follows a condition and can't belong to it
+-- the tokens after a condition can't belong to it
 pub record Apart (rest : List Glyph) : Type 0 where
   pub dots : ahead (sign_ahead m.DotDot) rest ≡ None
   pub slash : ahead (sign_ahead m.Slash) rest ≡ None
@@ -238,7 +238,7 @@ condition_was c gs left e =
     let rest = condition_by_was first.value c first.left left (subject_of first.value) refl first.next in
     record { front = text first.value ∷ rest.front; split = a_word_was gs first.left first.value first.read ∙ ap (λ l. text first.value ∷ l) rest.split; is = rest.is }
 
--- ---- what is in the form is read
+-- ---- each form is read
 
 upper_alone : (low : ℕ) (rest : List Glyph) → Apart rest → upper low rest ≡ Some (low, rest)
 unfolding upper

@@ -1,4 +1,4 @@
--- What reading all tokens says of the grammar.
+-- Consequences of reading all tokens for the grammar.
 use Rattle.std.proofs.Common.{◌≡◌, List, [], ◌++◌, Some, sym, refl, ap, ◌∙◌, subst}
 use Rattle.std.proofs.lemmas.List.{append-nil}
 use Rattle.text_core.specs.Glyphs.{Glyph}

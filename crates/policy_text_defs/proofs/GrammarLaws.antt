@@ -1,4 +1,4 @@
--- What is read is in the grammar, and what is in the grammar is read.
+-- The reader accepts exactly the grammar.
 use Rattle.std.proofs.Common.{◌≡◌, ℕ, zero, suc, ◌+◌, ◌≤◌, max, List, [], ◌∷◌, ◌++◌, Option, Some, None, Bool, true, false, sym, refl, ap, ◌∙◌, subst, leb, arith, append_assoc}
 use Rattle.std.proofs.lemmas.Bool.{le-leb, leb-true}
 use Rattle.rank_defs.specs.declared.expression.Op.{Op}
@@ -9,7 +9,7 @@ use Rattle.policy_text_defs.specs.Grammar.{Form, GoesOn, ends, more, Grouped, gr
 use Rattle.policy_text_defs.proofs.ChainLemmas.{limited_by, chain_ends}
 use Rattle.policy_text_defs.proofs.StepLaws.{steps, stands, ahead_at}
 
--- a front of the tokens is a form of the term, before the rest
+-- a prefix of the tokens is a form of the term, before the rest
 pub record Begins (Is : Form) (gs : List Glyph) (a : Phrase) (rest : List Glyph) : Type 0 where
   pub front : List Glyph
   pub split : gs ≡ front ++ rest
@@ -19,17 +19,17 @@ pub record Begins (Is : Form) (gs : List Glyph) (a : Phrase) (rest : List Glyph)
 pub low_along : (t c : Phrase) → t ≡ c → depth t ≤ most_depth → depth c ≤ most_depth
 low_along t c same low = subst (λ p. depth p ≤ most_depth) same low
 
--- reading from the left gives exactly the form, where what follows can't belong to it
+-- reading from the left gives exactly the form, if the tokens after it can't belong to it
 pub record Exact (Is : Form) (Ends : List Glyph → Type 0) (read : Reader Phrase) : Type 0 where
   pub sound : (gs rest : List Glyph) (a : Phrase) → read gs ≡ Some (a, rest) → Begins Is gs a rest
   pub again : (ts rest : List Glyph) (a : Phrase) → Is ts a → depth a ≤ most_depth → Ends rest → read (ts ++ rest) ≡ Some (a, rest)
 
--- what stands before the operators isn't deeper than the whole
+-- the part before the operators isn't deeper than the whole
 pub GoesOn-rises : {op : Glyph → Option Op} {Part : Form} (a c : Phrase) (us : List Glyph) → GoesOn op Part a us c → depth a ≤ depth c
 GoesOn-rises a c us (ends _) = omega arith
 GoesOn-rises a c us (more o g ts vs _ b _ is part on) = let later = GoesOn-rises (two o a b) c vs on in let deeper : depth (two o a b) ≡ suc (max (depth a) (depth b)) = refl in omega arith
 
--- a term that isn't too deep passes
+-- the limit lets a term through that isn't too deep
 pub limited_low : (t : Phrase) (gs : List Glyph) → depth t ≤ most_depth → limited t gs ≡ Some (t, gs)
 unfolding limited
 limited_low t gs low = ap (λ v. limited_by v t gs) (le-leb (depth t) most_depth low)
@@ -47,7 +47,7 @@ pub passed : (t c : Phrase) (gs hs : List Glyph) → limited t gs ≡ Some (c, h
 unfolding limited
 passed t c gs hs e = passed_case (leb (depth t) most_depth) t c gs hs refl e
 
--- a front of the tokens goes on to the term
+-- a prefix of the tokens continues the chain up to the term
 pub record Chained (op : Glyph → Option Op) (Part : Form) (gs : List Glyph) (a c : Phrase) (rest : List Glyph) : Type 0 where
   pub front : List Glyph
   pub split : gs ≡ front ++ rest
@@ -59,7 +59,7 @@ unfolding chain
 chain_step op read k a b o gs hs is operated reads low = rw (operated, reads, low) refl
 
 module _ {op : Glyph → Option Op} {Part : Form} {PartEnds : List Glyph → Type 0} {read : Reader Phrase} (exact : Exact Part PartEnds read) where
-  -- ---- what is in the grammar is read
+  -- ---- each form of the grammar is read
 
   ends_before : (a c : Phrase) (us rest : List Glyph) → ((g : Glyph) (o : Op) (gs : List Glyph) → op g ≡ Some o → PartEnds (g ∷ gs)) → GoesOn op Part a us c → PartEnds rest → PartEnds (us ++ rest)
   ends_before a c us rest stop (ends _) end = end
@@ -78,7 +78,7 @@ module _ {op : Glyph → Option Op} {Part : Form} {PartEnds : List Glyph → Typ
       chain_step op read k a b o (g ∷ ((ts ++ vs) ++ rest)) ((ts ++ vs) ++ rest) (vs ++ rest) (ahead_at op g _ o is) reads (limited_low (two o a b) (vs ++ rest) pair_low)
       ∙ chain-again stop k vs rest (two o a b) c on low pair_enough end none
 
-  -- ---- what is read is in the grammar
+  -- ---- each result of reading is in the grammar
 
   chained_end : (gs rest : List Glyph) (a c : Phrase) → depth a ≤ most_depth → pure a gs ≡ Some (c, rest) → Chained op Part gs a c rest
   chained_end gs rest a c low e = record { front = []; split = ap (λ v. pick v gs (λ p. p.1)) e; on = subst (GoesOn op Part a []) (ap (λ v. pick v a (λ p. p.0)) e) (ends a); low = low_along a c (ap (λ v. pick v a (λ p. p.0)) e) low }
@@ -124,6 +124,6 @@ module _ {op : Glyph → Option Op} {Part : Form} {PartEnds : List Glyph → Typ
       let first : (read >>= chain op read most_depth) ((us ++ vs) ++ rest) ≡ chain op read most_depth a (vs ++ rest) = ap (λ v. and_then v (chain op read most_depth)) reads in
       first ∙ chain-again stop most_depth vs rest a c on low enough end.0 end.1
 
-  -- a group is read exactly, where its operators end its parts
+  -- a group is read exactly, if its operators end its parts
   pub Grouped-exact : ((g : Glyph) (o : Op) (gs : List Glyph) → op g ≡ Some o → PartEnds (g ∷ gs)) → Exact (Grouped op Part) (λ rest. PartEnds rest × (ahead op rest ≡ None)) (read >>= chain op read most_depth)
   Grouped-exact stop = record { sound = grouped_sound; again = grouped_again stop }

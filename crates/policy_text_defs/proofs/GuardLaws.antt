@@ -1,4 +1,4 @@
--- Lists of conditions: what is read is their form, and their form is read.
+-- Lists of conditions: the reader accepts exactly their form.
 use Rattle.std.proofs.Common.{◌≡◌, ℕ, zero, suc, ◌<◌, ◌≤◌, List, [], ◌∷◌, ◌++◌, length, Some, None, sym, refl, ap, ◌∙◌, subst, codes, arith, append_assoc, length-append}
 use Rattle.std.proofs.lemmas.List.{append-nil}
 use Rattle.text_core.specs.Glyphs.{Glyph, text}
@@ -72,7 +72,7 @@ pub guard_was : (cs : List Condition) (gs left : List Glyph) → guard gs ≡ So
 unfolding guard
 guard_was cs gs left e = guard_case cs gs left (ahead (word_ahead (codes "when")) gs) refl e
 
--- ---- what is in the form is read
+-- ---- each form is read
 
 alone_reads : (ts : List Glyph) (c : Condition) → IsCondition ts c → a_condition ts ≡ Some (c, [])
 alone_reads ts c is = ap a_condition (sym (append-nil ts)) ∙ condition_reads ts [] c is apart_end

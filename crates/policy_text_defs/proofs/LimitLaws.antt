@@ -1,4 +1,4 @@
--- The limit of a leaf: what is read is its form, and its form is read.
+-- The limit of a leaf: the reader accepts exactly its form.
 use Rattle.std.proofs.Common.{◌≡◌, ℕ, List, [], ◌∷◌, ◌++◌, Option, Some, None, leb, refl, ap, ◌∙◌, subst, codes}
 use Rattle.std.specs.Prelude.{◌&&◌}
 use Rattle.std.proofs.lemmas.Bool.{le-leb, leb-true}
@@ -35,7 +35,7 @@ unfolding limit limit_by
 read_limit l ls gs unlimited = refl
 read_limit l ls gs (limited n is) = rw (le-leb limit_least n is.above, le-leb n limit_most is.below) refl
 
--- neither a limit nor what follows it is an attribute
+-- neither a limit nor the token after it is an attribute
 pub limit_ends : (l : Option ℕ) (ls gs : List Glyph) → Limit ls l → ahead attribute_at (ls ++ text (codes "classes") ∷ gs) ≡ None
 limit_ends l ls gs unlimited = refl
 limit_ends l ls gs (limited n is) = refl

@@ -1,4 +1,4 @@
--- The numbers that tokens say aren't too large.
+-- The numbers in tokens aren't too large.
 use Rattle.std.proofs.Common.{◌≡◌, ℕ, ◌≤◌, ◌&&◌, List, [], ◌∷◌, take, drop, Option, Some, None, option_map, Bool, true, false, cond, refl, subst, arith}
 use Rattle.std.specs.Prelude.{nat_le}
 use Rattle.std.specs.List.{AllByRecursion}

@@ -1,4 +1,4 @@
--- Bytes that say tokens whatever follows, piece by piece.
+-- Bytes that spell the same tokens before any continuation, piece by piece.
 use Rattle.std.proofs.Common.{◌≡◌, ℕ, ◌≤◌, ◌&&◌, List, [], ◌∷◌, ◌++◌, length, Bool, true, sym, refl, subst, arith, append_assoc}
 use Rattle.std.specs.Prelude.{codes, not, ◌==◌, ◌||◌}
 use Rattle.std.specs.List.{prefix_len, list_all}
@@ -18,7 +18,7 @@ use Rattle.text_core.proofs.TextLaws.{says_token, says_blank, says_word, says_nu
 use Rattle.policy_text_defs.specs.Words.{is_word}
 use Rattle.policy_text_defs.proofs.TokenLaws.{both_true}
 
--- what may follow
+-- a set of continuations
 abbrev pub Ending : Type 1
 Ending = List ℕ → Type 0
 
@@ -37,12 +37,12 @@ boundary-append (b ∷ bytes) rest first end = first
 abbrev pub is_plain : ℕ → Bool
 is_plain b = is_clean b && no_comment b
 
--- plain bytes that say these tokens, and then what follows says, where that ends them
+-- plain bytes that spell these tokens, followed by the tokens of any continuation in the set
 pub record IsPiece (End : Ending) (bytes : List ℕ) (tokens : List Glyph) : Type 0 where
   pub plain : list_all is_plain bytes ≡ true
   pub says : (rest : List ℕ) (gs : List Glyph) → End rest → Says rest gs → Says (bytes ++ rest) (tokens ++ gs)
 
--- what each byte of a text has, each has that follows from it
+-- a property of each byte of a text extends to any property that follows from it
 all_step : (p q : ℕ → Bool) → ((b : ℕ) → p b ≡ true → q b ≡ true) → (bs : List ℕ) → list_all p bs ≡ true → list_all q bs ≡ true
 all_step p q step [] all = refl
 all_step p q step (b ∷ bs) all =
@@ -75,7 +75,7 @@ digits_plain (d ∷ ds) all =
 decimal_plain : (n : ℕ) → n ≤ max → list_all is_plain (decimal n) ≡ true
 decimal_plain n low = digits_plain (decimal n) (decimal-digits n low)
 
--- one text behind another that it ends
+-- two pieces in a row, if the second may follow the first
 pub join : {E F : Ending} {bs cs : List ℕ} {ts us : List Glyph} → IsPiece E bs ts → ((rest : List ℕ) → F rest → E (cs ++ rest)) → IsPiece F cs us → IsPiece F (bs ++ cs) (ts ++ us)
 join {E} {F} {bs} {cs} {ts} {us} t ends u = record {
   plain = rw (list_all-append is_plain bs cs, t.plain, u.plain) refl;
@@ -86,11 +86,11 @@ join {E} {F} {bs} {cs} {ts} {us} t ends u = record {
       subst Q (sym (append_assoc bs cs rest)) (subst P (sym (append_assoc ts us gs)) all);
 }
 
--- after what needs no end of its own
+-- a piece after one that anything may follow
 pub after : {F : Ending} {bs cs : List ℕ} {ts us : List Glyph} → IsPiece Anything bs ts → IsPiece F cs us → IsPiece F (bs ++ cs) (ts ++ us)
 after t u = join t (λ rest end. tt) u
 
--- after what ends before a word
+-- a piece after one that a byte of a word may not follow
 pub before : {bs cs : List ℕ} {ts us : List Glyph} → IsPiece IsBoundary bs ts → IsBoundary cs → IsPiece IsBoundary cs us → IsPiece IsBoundary (bs ++ cs) (ts ++ us)
 before {bs} {cs} t first u = join t (λ rest end. boundary-append cs rest first end) u
 
@@ -100,7 +100,7 @@ ends_early t = record { plain = t.plain; says = λ rest gs end later. t.says res
 pub text_blank : IsPiece Anything (codes " ") []
 text_blank = record { plain = refl; says = λ rest gs end later. says_blank rest gs later }
 
--- marks that no byte makes longer
+-- marks that no following byte makes longer
 
 says_open : (rest : List ℕ) (gs : List Glyph) → Says rest gs → Says (40 ∷ rest) (sign m.Open ∷ gs)
 says_open [] gs later = says_token k.Mark (40 ∷ []) (sign m.Open) [] gs refl refl refl later
@@ -152,7 +152,7 @@ numeral_ends : (ds rest : List ℕ) → is_numeral ds ≡ true → ends_mark (ds
 numeral_ends [] rest is = absurd cc
 numeral_ends (d ∷ ds) rest is = digit_ends d (both_true (is_digit d) (all_ascii_digits ds) is).0
 
--- a point and the number behind it
+-- a point and the number after it
 pub text_dot : (n : ℕ) → n ≤ max → IsPiece IsBoundary (codes "." ++ decimal n) (sign m.Dot ∷ figure n ∷ [])
 text_dot n low = record {
   plain = decimal_plain n low;

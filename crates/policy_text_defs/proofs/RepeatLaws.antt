@@ -1,11 +1,11 @@
--- What is read again and again while the tokens begin with something.
+-- Reading repeatedly while the tokens begin with something.
 use Rattle.std.proofs.Common.{◌≡◌, ℕ, zero, suc, ◌<◌, List, [], ◌++◌, length, Some, None, sym, refl, ap, ◌∙◌, subst, arith, append_assoc, length-append}
 use Rattle.text_core.specs.Glyphs.{Glyph}
 use Rattle.policy_text_defs.specs.Reading.{Outcome, Reader, ◌>>=◌, pick, pure, refuse}
 use Rattle.policy_text_defs.specs.StatementReading.{repeated, many}
 use Rattle.policy_text_defs.proofs.StepLaws.{steps, same_value, same_rest}
 
--- a front of the tokens leads from one value to another
+-- a prefix of the tokens leads from one value to another
 pub record Leads {A : Type 0} (Step : A → List Glyph → A → Type 0) (a : A) (gs : List Glyph) (b : A) (rest : List Glyph) : Type 0 where
   pub front : List Glyph
   pub split : gs ≡ front ++ rest
@@ -51,6 +51,6 @@ module _ {K A : Type 0} (take : List Glyph → Outcome K) (step : K → A → Re
     unfolding many
     many_was a c gs left e = repeated_was (length gs) a c gs left e
 
--- what leads on takes tokens, where its front has any
+-- a step takes tokens if its prefix isn't empty
 pub leads_shrink : {A : Type 0} {Step : A → List Glyph → A → Type 0} (a b : A) (gs rest : List Glyph) (l : Leads Step a gs b rest) → 0 < length l.front → length rest < length gs
 leads_shrink a b gs rest l some = omega (arith, ap length l.split, length-append l.front rest)

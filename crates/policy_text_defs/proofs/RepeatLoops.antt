@@ -1,11 +1,11 @@
--- Loops that read again and again: how far they came.
+-- Loops that read repeatedly: how far they got.
 use Rattle.std.proofs.Common.{◌≡◌, ℕ, zero, suc, ◌<◌, ◌≤◌, List, length, Some, None, refl, ◌∙◌, arith}
 use Rattle.text_core.specs.Glyphs.{Glyph}
 use Rattle.policy_text_defs.specs.Reading.{Outcome, Reader}
 use Rattle.policy_text_defs.specs.StatementReading.{repeated, many}
 use Rattle.policy_text_defs.proofs.RepeatLaws.{repeated_ends, repeated_more}
 
--- what is read in whole is what so many turns give from here on
+-- the result of the whole reading is the result of N turns from here
 pub record Repeats {K A : Type 0} (take : List Glyph → Outcome K) (step : K → A → Reader A) (whole : Outcome A) (a : A) (gs : List Glyph) : Type 0 where
   pub turns : ℕ
   pub enough : length gs ≤ turns
@@ -15,7 +15,7 @@ pub repeats_start : {K A : Type 0} (take : List Glyph → Outcome K) (step : K �
 unfolding many
 repeats_start take step a gs = record { turns = length gs; enough = omega arith; same = refl }
 
--- where nothing more is taken, this is what was read
+-- if nothing more is taken, this is the result
 pub repeats_over : {K A : Type 0} (take : List Glyph → Outcome K) (step : K → A → Reader A) (whole : Outcome A) (a : A) (gs : List Glyph) → Repeats take step whole a gs → take gs ≡ None → whole ≡ Some (a, gs)
 repeats_over take step whole a gs before none = before.same ∙ repeated_ends take step before.turns a gs none
 
@@ -23,7 +23,7 @@ more_from : {K A : Type 0} (take : List Glyph → Outcome K) (step : K → A →
 more_from take step zero whole t a b gs hs is enough same found read less = absurd (omega arith)
 more_from take step (suc k) whole t a b gs hs is enough same found read less = record { turns = k; enough = omega arith; same = same ∙ repeated_more take step k t a b gs hs is found read }
 
--- a turn
+-- one turn
 pub repeats_more : {K A : Type 0} (take : List Glyph → Outcome K) (step : K → A → Reader A) (whole : Outcome A) (t : K) (a b : A) (gs hs is : List Glyph) → Repeats take step whole a gs → take gs ≡ Some (t, hs) → step t a hs ≡ Some (b, is) → length is < length gs → Repeats take step whole b is
 repeats_more take step whole t a b gs hs is before found read less = more_from take step before.turns whole t a b gs hs is before.enough before.same found read less
 
@@ -32,6 +32,6 @@ unfolding repeated
 stuck_from take step zero t a gs hs found none = rw found refl
 stuck_from take step (suc k) t a gs hs found none = rw (found, none) refl
 
--- where something is taken and nothing can be read after it, nothing is read
+-- if something is taken and nothing can be read after it, nothing is read
 pub repeats_stuck : {K A : Type 0} (take : List Glyph → Outcome K) (step : K → A → Reader A) (whole : Outcome A) (t : K) (a : A) (gs hs : List Glyph) → Repeats take step whole a gs → take gs ≡ Some (t, hs) → step t a hs ≡ None → whole ≡ None
 repeats_stuck take step whole t a gs hs before found none = before.same ∙ stuck_from take step before.turns t a gs hs found none

@@ -1,4 +1,4 @@
--- The tokens of a canonical line are a form of its statement.
+-- The tokens of a canonical line have the form of its statement.
 use Rattle.std.proofs.Common.{◌≡◌, ℕ, ◌<◌, ◌≤◌, eqb, cond, Bool, true, false, List, [], ◌∷◌, ◌++◌, Option, Some, None, sym, refl, subst, arith}
 use Rattle.std.specs.Prelude.{codes, ◌||◌, IfSome}
 use Rattle.std.specs.Str.{bytes_eq}
@@ -103,7 +103,7 @@ target_case w false false p q is = absurd cc
 IsTarget-from : (w : List ℕ) → is_target w ≡ true → IsTarget w
 IsTarget-from w is = target_case w (is_name w) (bytes_eq w (codes "rank")) refl refl is
 
--- the tokens of a statement's canonical line are a form of it
+-- the tokens of a statement's canonical line have the form of the statement
 pub statement_form : (s : Sense) → IsValid s → IsForm (statement_tokens s) s
 statement_form (version v) is = version_form v is
 statement_form (transaction n) is = transaction_form n is

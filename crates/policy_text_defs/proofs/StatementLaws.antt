@@ -1,4 +1,4 @@
--- Statements: what is read of all tokens is in a form, and what is in a form is read.
+-- Statements: reading all tokens accepts exactly the forms.
 use Rattle.std.proofs.Common.{◌≡◌, ℕ, List, [], ◌∷◌, ◌++◌, map, Option, Some, None, leb, sym, refl, ap, ◌∙◌, subst, codes}
 use Rattle.std.proofs.lemmas.List.{append-nil}
 use Rattle.std.proofs.lemmas.Bool.{le-leb, leb-true}
@@ -49,7 +49,7 @@ keyword_is w k e =
     (in_table P w (codes "node") keyword.Node k _ (λ h. h)
     (λ none. absurd cc))))))))) e
 
--- ---- what is read is in a form
+-- ---- each result of reading has its form
 
 -- the tokens after the first word, and the value, as they were read
 formed : (w : List ℕ) (ts gs : List Glyph) (r s : Sense) → IsForm (text w ∷ ts) r → gs ≡ ts → r ≡ s → IsForm (text w ∷ gs) s
@@ -129,7 +129,7 @@ class_sound gs s e =
     let split : gs ≡ text a.value ∷ w.front ++ g.front = n.split ∙ ap (λ l. text a.value ∷ l) (w.split ∙ ap (λ l. w.front ++ l) guards) in
     formed (codes "class") (text a.value ∷ w.front ++ g.front) gs r s (class_form a.value w.front g.front b.value c.value n.is w.is g.is) split (same_value r s c.left [] c.next)
 
--- a leaf or node, under its keyword, with what may follow its attributes and what it lists behind another word
+-- a leaf or node after its keyword, given the form between its attributes and its list
 module _ {L : Type 0} (w list : List ℕ) (further : Reader L) (Is : List Glyph → L → Type 0) (further_was : (l : L) (gs left : List Glyph) → further gs ≡ Some (l, left) → With Is gs l left) (made : List ℕ → List ℕ → Attrs → L → List (List ℕ) → Sense)
     (form : (n u : List ℕ) (ts ls : List Glyph) (a : Attrs) (l : L) (ns : List (List ℕ)) → IsName n → IsName u → Attributes ts a → Is ls l → AreNames ns → IsForm (text w ∷ text n ∷ text (codes "using") ∷ text u ∷ ts ++ (ls ++ text list ∷ map text ns)) (made n u a l ns)) where
   abbrev vertex_rest : Reader Sense
@@ -206,7 +206,7 @@ IsForm-read gs s e =
     let a = steps _ _ _ _ e in
     subst (λ l. IsForm l s) (sym (a_word_was gs a.left a.value a.read)) (by_keyword a.value a.left s (keyword_of a.value) refl a.next)
 
--- ---- what is in a form is read
+-- ---- each form is read
 
 guard_ends : (ts : List Glyph) (cs : List Condition) → Guard ts cs → ahead attribute_at ts ≡ None
 guard_ends ts cs unguarded = refl
@@ -229,6 +229,6 @@ read-IsForm gs s (leaf_form n u ts ls a l ns is using attrs may are) =
     rw (named_reads n (text (codes "using") ∷ text u ∷ (ts ++ (ls ++ list))) is, named_reads u (ts ++ (ls ++ list)) using, read_attributes a ts (ls ++ list) attrs (limit_ends l ls (map text ns) may), read_limit l ls (map text ns) may, read_names ns are) refl
 read-IsForm gs s (node_form n u ts a ns is using attrs are) = rw (named_reads n (text (codes "using") ∷ text u ∷ (ts ++ text (codes "children") ∷ map text ns)) is, named_reads u (ts ++ text (codes "children") ∷ map text ns) using, read_attributes a ts (text (codes "children") ∷ map text ns) attrs refl, read_names ns are) refl
 
--- tokens are a form of one statement
+-- tokens are the form of at most one statement
 pub IsForm-one : (gs : List Glyph) (s t : Sense) → IsForm gs s → IsForm gs t → s ≡ t
 IsForm-one gs s t one other = same_value s t [] [] (sym (read-IsForm gs s one) ∙ read-IsForm gs t other)

@@ -1,4 +1,4 @@
--- The canonical line of a statement says the statement's tokens.
+-- The canonical line of a statement spells the statement's tokens.
 use Rattle.std.proofs.Common.{◌≡◌, ℕ, ◌≤◌, eqb, cond, Bool, true, false, List, [], ◌∷◌, ◌++◌, map, Option, Some, None, refl, arith}
 use Rattle.std.specs.Prelude.{codes, IfSome}
 use Rattle.std.specs.Fmt.{decimal}
@@ -30,7 +30,7 @@ use Rattle.policy_text_defs.proofs.StatementForms.{octets_are}
 text_nothing : IsPiece IsBoundary [] []
 text_nothing = record { plain = refl; says = λ rest gs end later. later }
 
--- a word and the space behind it
+-- a word and the space after it
 text_key : {w : List ℕ} → is_word w ≡ true → IsPiece Anything (w ++ codes " ") (text w ∷ [])
 text_key {w} is = join (text_word w is) (λ rest end. refl) text_blank
 
@@ -150,11 +150,11 @@ text_names (n ∷ ns) all = after text_blank (before (text_word n (name_is_word 
 text_span : (s : Span) → IsValidSpan s → IsPiece IsBoundary (span_text s) (span_tokens s)
 text_span s is = before (text_between s.low s.high is.low is.high) refl (after text_is (text_number s.first is.first))
 
--- a keyword, a name, and what follows that begins with no byte of a word
+-- a keyword, a name, and bytes after them that don't continue a word
 text_named : {w n bs : List ℕ} {ts : List Glyph} → is_word w ≡ true → is_word n ≡ true → IsBoundary bs → IsPiece IsBoundary bs ts → IsPiece IsBoundary ((w ++ codes " ") ++ (n ++ bs)) (text w ∷ text n ∷ ts)
 text_named {n = n} key is end t = after (text_key key) (before (text_word n is) end t)
 
--- the canonical line of a statement says its tokens
+-- the canonical line of a statement spells its tokens
 pub text_statement : (s : Sense) → IsValid s → IsPiece IsBoundary (statement_text s) (statement_tokens s)
 text_statement (version v) is =
     let below = is.below in

@@ -1,4 +1,4 @@
--- The tokens of a statement's canonical line, and what holds of a statement that has one.
+-- The tokens of a statement's canonical line, and the properties of a statement that has one.
 use Rattle.std.specs.Prelude.{ℕ, ◌==◌, if◌then◌else◌, List, [], ◌∷◌, ◌++◌, map, Option, Some, None, codes}
 use Rattle.text_core.specs.declared.mark.Mark.TheVariants as m
 use Rattle.text_core.specs.Glyphs.{Glyph, text, figure, sign}

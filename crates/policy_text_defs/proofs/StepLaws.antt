@@ -1,4 +1,4 @@
--- Steps of reading: what each took of the tokens.
+-- Steps of reading: the tokens that each took.
 use Rattle.std.proofs.Common.{◌≡◌, ℕ, List, [], ◌∷◌, ◌++◌, Option, Some, None, Bool, true, false, cond, sym, refl, ap, ◌∙◌, subst}
 use Rattle.std.specs.Str.{bytes_eq}
 use Rattle.std.proofs.lemmas.Slice.Eq.{bytes_eq-Decides}
@@ -8,7 +8,7 @@ use Rattle.text_core.specs.Glyphs.{Glyph, text, sign}
 use Rattle.text_core.proofs.TextLaws.{mark_of-text}
 use Rattle.policy_text_defs.specs.Reading.{Outcome, Reader, and_then, pick, pure, refuse, ahead, with_rest, is_sign, is_text, expect, mark, literal}
 
--- an outcome by two steps comes of two outcomes
+-- an outcome of two steps is made of two outcomes
 pub record Steps {A B : Type 0} (first : Outcome A) (then : A → Reader B) (b : B) (rest : List Glyph) : Type 0 where
   pub value : A
   pub left : List Glyph
@@ -19,20 +19,20 @@ pub steps : {A B : Type 0} (first : Outcome A) (then : A → Reader B) (b : B) (
 steps None then b rest e = absurd cc
 steps (Some p) then b rest e = record { value = p.0; left = p.1; read = refl; next = e }
 
--- two outcomes that are the same have the same values and leave the same
+-- equal outcomes have the same value and leave the same tokens
 pub same_value : {A : Type 0} (a b : A) (gs hs : List Glyph) → pure a gs ≡ Some (b, hs) → a ≡ b
 same_value a b gs hs e = ap (λ v. pick v a (λ p. p.0)) e
 
 pub same_rest : {A : Type 0} (a b : A) (gs hs : List Glyph) → pure a gs ≡ Some (b, hs) → gs ≡ hs
 same_rest a b gs hs e = ap (λ v. pick v gs (λ p. p.1)) e
 
--- a front of the tokens is the form of a value
+-- a prefix of the tokens is the form of a value
 pub record With {A : Type 0} (Is : List Glyph → A → Type 0) (gs : List Glyph) (a : A) (left : List Glyph) : Type 0 where
   pub front : List Glyph
   pub split : gs ≡ front ++ left
   pub is : Is front a
 
--- the first token is something
+-- the first token passes the test with a value
 pub record Stands {A : Type 0} (test : Glyph → Option A) (gs : List Glyph) (a : A) (hs : List Glyph) : Type 0 where
   pub glyph : Glyph
   pub split : gs ≡ glyph ∷ hs
@@ -87,6 +87,6 @@ table_case : {A : Type 0} (P : A → Type 0) (v : Bool) (x k : A) (other : Optio
 table_case P true x k other here later e = subst P (ap (λ o. pick o x (λ y. y)) e) (here refl)
 table_case P false x k other here later e = later e
 
--- what a table gives, it gives at the first word that is the word, or further down
+-- a table gives its value at the first word that matches, or further down
 pub in_table : {A : Type 0} (P : A → Type 0) (w v : List ℕ) (x k : A) (other : Option A) → (w ≡ v → P x) → (other ≡ Some k → P k) → cond (bytes_eq w v) (Some x) other ≡ Some k → P k
 in_table P w v x k other here later e = table_case P (bytes_eq w v) x k other (λ t. here ((bytes_eq-Decides w v).0 t)) later e

@@ -13,7 +13,7 @@ use Rattle.policy_text_defs.specs.Canonical.{is_infix, is_infix_op, op_text}
 use Rattle.policy_text_defs.specs.Valid.{HasOperands}
 use Rattle.policy_text_defs.proofs.TermTokens.{wrapped_tokens, infix_tokens, call_tokens, tokens_of}
 
--- at each number of parentheses that is large enough, as a whole, and as an atom where it isn't infix
+-- spelled within any large enough limit of parentheses: as a whole, and as an atom if not infix
 pub record IsSpelled (a : Phrase) : Type 0 where
   pub whole : (room : ℕ) → depth a ≤ suc room → Expression (Atom room) (tokens_of a) a
   pub bare : is_infix a ≡ false → (room : ℕ) → depth a ≤ suc room → Atom room (tokens_of a) a

@@ -1,4 +1,4 @@
--- The canonical text of a term says the term's tokens.
+-- The canonical text of a term spells the term's tokens.
 use Rattle.std.proofs.Common.{◌≡◌, ℕ, List, [], ◌∷◌, ◌++◌, Bool, true, false, cond, sym, refl, subst}
 use Rattle.std.specs.Prelude.{codes}
 use Rattle.std.specs.List.{list_all}
@@ -87,7 +87,7 @@ text_two : (op : Op) (v : Bool) → is_infix_op op ≡ v → (a b : Phrase) → 
 text_two op true is a b t u = text_infix op is (text_wrapped (is_infix a) t) (text_wrapped (is_infix b) u)
 text_two op false is a b t u = text_call op is t u
 
--- the canonical text of a term says the term's tokens
+-- the canonical text of a term spells the term's tokens
 pub text_term : (a : Phrase) → HasOperands a → IsPiece IsBoundary (term_text a) (tokens_of a)
 text_term (number n) low = text_number n low
 text_term (word w) is = text_word w (operand_is_word w is)

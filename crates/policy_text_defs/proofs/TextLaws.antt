@@ -1,4 +1,4 @@
--- The statements of a text and its first fault are one, and no text has both.
+-- The statements of a text are unique, its first error is unique, and no text has both.
 use Rattle.std.proofs.Common.{◌≡◌, ℕ, suc, ◌+◌, List, [], ◌∷◌, ◌++◌, length, drop, Some, Bool, true, false, sym, refl, ap, ◌∙◌, subst, arith}
 use Rattle.std.specs.Prelude.{◌==◌, ◌||◌}
 use Rattle.std.specs.List.{prefix_len, list_all}
@@ -50,7 +50,7 @@ nothing_read s rest e = absurd cc
 no_form : (gs : List Glyph) (s : Sense) → gs ≡ [] → IsForm gs s → ⊥
 no_form gs s none is = nothing_read s [] (read-IsForm [] s (subst (λ l. IsForm l s) none is))
 
--- a line of blanks carries nothing
+-- a line of blanks has no statement
 blank_carries : (line : List ℕ) (s : Sense) → list_all is_blank line ≡ true → Carries line s → ⊥
 blank_carries line s all c =
     let says : SaysFrom [] c.tokens = subst (λ l. SaysFrom l c.tokens) (blank_skipped line all) c.says in
@@ -61,7 +61,7 @@ blank_carries line s all c =
 pub Carries-one : (line : List ℕ) (s t : Sense) → Carries line s → Carries line t → s ≡ t
 Carries-one line s t c d = IsForm-one d.tokens s t (subst (λ l. IsForm l s) (Says-one line c.tokens d.tokens c.says d.says) c.form) d.form
 
--- a line that is sound isn't at fault
+-- a line that is sound isn't in error
 pub sound_no_fault : (line : List ℕ) (f : Fault) → IsSound line → IsFault line f → ⊥
 sound_no_fault line not_text (blank_line all) fault = let clean = blank_clean line all in absurd cc
 sound_no_fault line shaping (blank_line all) fault = let un = blank_unshaped line all in let is = fault.1 in absurd cc
@@ -70,7 +70,7 @@ sound_no_fault line not_text (statement_line s c) fault = let clean = c.clean in
 sound_no_fault line shaping (statement_line s c) fault = let un = c.unshaped in let is = fault.1 in absurd cc
 sound_no_fault line syntax_fault (statement_line s c) fault = fault.3 s c
 
--- a line has one fault
+-- a line has at most one error
 IsFault-one : (line : List ℕ) (f g : Fault) → IsFault line f → IsFault line g → f ≡ g
 IsFault-one line not_text not_text p q = refl
 IsFault-one line not_text shaping p q = let clean = q.0 in absurd cc
@@ -124,7 +124,7 @@ entries_more n m lines es line s (over _) at c = let same : m ≡ n = omega arit
 entries_more n m lines es line s (empty _ first rest _ blank on) at c = empty n first (rest ++ line ∷ []) (es ++ entry m s ∷ []) blank (entries_more (suc n) m rest es line s on (omega arith) c)
 entries_more n m lines es line s (carried _ first rest t ds d on) at c = carried n first (rest ++ line ∷ []) t (ds ++ entry m s ∷ []) d (entries_more (suc n) m rest ds line s on (omega arith) c)
 
--- a line at fault behind lines that have statements is the first one
+-- a line in error after lines that have statements is the first one
 pub first_after : (n m : ℕ) (before after : List (List ℕ)) (es : List Entry) (line : List ℕ) (f : Fault) → Entries n before es → m ≡ n + length before → IsFault line f → FirstFault n (before ++ line ∷ after) m f
 first_after n m before after es line f (over _) at fault = let same : m ≡ n = omega arith in subst (λ k. FirstFault n (line ∷ after) k f) (sym same) (here n line after f fault)
 first_after n m before after es line f (empty _ first rest _ blank on) at fault = later n m first (rest ++ line ∷ after) f (blank_line blank) (first_after (suc n) m rest after es line f on (omega arith) fault)

@@ -1,4 +1,4 @@
--- Single tokens and short runs of them: what is read, and what was read.
+-- Single tokens and short runs of them: tokens that are read, and tokens that were read.
 use Rattle.std.proofs.Common.{◌≡◌, ℕ, ◌≤◌, List, [], ◌∷◌, ◌++◌, Some, Bool, true, false, cond, leb, sym, refl, ap, ◌∙◌, subst, codes}
 use Rattle.std.specs.Prelude.{◌&&◌, ◌||◌}
 use Rattle.std.specs.Str.{bytes_eq}
@@ -25,7 +25,7 @@ a_word_was (text v ∷ gs) left w e = ap (λ l. text v ∷ l) (same_rest v w gs 
 a_word_was (figure n ∷ gs) left w e = absurd cc
 a_word_was (sign s ∷ gs) left w e = absurd cc
 
--- ---- numbers up to a greatest
+-- ---- numbers up to a maximum
 
 pub within_reads : (most n : ℕ) (gs : List Glyph) → n ≤ most → within most n gs ≡ Some (n, gs)
 unfolding within
@@ -46,7 +46,7 @@ pub kept : {A : Type 0} (v : Bool) (a b : A) (gs left : List Glyph) → cond v (
 kept true a b gs left e = record { is = refl; same = same_value a b gs left e; rest = same_rest a b gs left e }
 kept false a b gs left e = absurd cc
 
--- a word passed a test, and something was made of it
+-- a word passed a test, and a value was made of it
 pub given_was : {A : Type 0} (v : Bool) (f : List ℕ → A) (w : List ℕ) (b : A) (gs left : List Glyph) → given f (some_if v w) gs ≡ Some (b, left) → Kept v (f w) b gs left
 given_was true f w b gs left e = record { is = refl; same = same_value (f w) b gs left e; rest = same_rest (f w) b gs left e }
 given_was false f w b gs left e = absurd cc
@@ -82,7 +82,7 @@ name_was w gs left e =
     let passed = named_was first.value w first.left left first.next in
     record { split = a_word_was gs first.left first.value first.read ∙ ap (λ l. text first.value ∷ l) passed.rest ∙ ap (λ v. text v ∷ left) passed.same; is = subst IsName passed.same passed.is }
 
--- ---- what a push writes
+-- ---- the target of a push
 
 pub target_reads : (w : List ℕ) (gs : List Glyph) → IsTarget w → target_by w gs ≡ Some (w, gs)
 unfolding target_by

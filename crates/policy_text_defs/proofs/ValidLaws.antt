@@ -1,4 +1,4 @@
--- What holds of a statement that some line has.
+-- Statements that can be written are valid.
 use Rattle.std.proofs.Common.{◌≡◌, ℕ, zero, suc, ◌≤◌, List, [], ◌∷◌, ◌++◌, Option, Some, None, Bool, true, false, cond, refl, arith}
 use Rattle.std.specs.Prelude.{codes, IfSome}
 use Rattle.std.specs.Str.{bytes_eq}
@@ -34,7 +34,7 @@ back (g ∷ gs) hs all = back gs hs all.1
 
 -- ---- expressions
 
--- what is spelled by tokens of a line has names
+-- an expression that tokens of a line spell has valid operands
 abbrev Sound : Form → Type 0
 Sound Part = (ts : List Glyph) (a : Phrase) → AreLexed ts → Part ts a → HasOperands a
 
@@ -156,6 +156,6 @@ form_valid gs s all (node_form n u ts a ns name used attributes names) = (name, 
 line_valid : (s : Sense) → LineOf s → IsValid s
 line_valid s line = form_valid line.carries.tokens s (Says-lexed line.line line.carries.tokens line.carries.says) line.carries.form
 
--- a statement that some line has
+-- a statement that can be written is valid
 pub IsWritten_IsValid : (s : Sense) → IsWritten s → IsValid s
 IsWritten_IsValid s written = ∥∥₁_elim written (IsValid-prop s) (line_valid s)

@@ -1,4 +1,4 @@
--- That a statement can be printed has one proof.
+-- Any two proofs that a statement can be printed are equal.
 use Rattle.std.proofs.Common.{ℕ, List, Option, Some, None}
 use Rattle.std.specs.Prelude.{IfSome}
 use Rattle.std.specs.List.{AllByRecursion, AllByRecursion-prop}

@@ -1,5 +1,6 @@
--- The canonical text of statements: one line each, one space between tokens, none around `..`, none inside an address,
--- none between a function's name and `(`, none after `(`, none before `)` and `,`.
+-- The canonical text of statements: one statement a line and one space between tokens. There is no
+-- space around `..`, inside an address, between a function's name and `(`, after `(`, or before `)`
+-- and `,`.
 use Rattle.std.specs.Prelude.{◌≡◌, refl, ℕ, ◌==◌, ◌/◌, ◌%◌, if◌then◌else◌, Bool, true, false, List, [], ◌∷◌, ◌++◌, Option, Some, None, codes}
 use Rattle.std.specs.Fmt.{decimal, digits}
 use Rattle.rank_defs.specs.declared.expression.Op.{Op}
@@ -33,7 +34,7 @@ op_text Max = codes "max"
 op_text And = codes "and"
 op_text Or = codes "or"
 
--- whether it stands between its operands
+-- whether the operator is written between its operands
 abbrev pub is_infix_op : Op → Bool
 is_infix_op Min = false
 is_infix_op Max = false
@@ -49,7 +50,7 @@ is_infix (negation a) = false
 is_infix (choice a b c) = false
 is_infix (two op a b) = is_infix_op op
 
--- in parentheses, or as it is
+-- in parentheses if true, otherwise unchanged
 abbrev pub wrapped : Bool → List ℕ → List ℕ
 wrapped true bytes = codes "(" ++ (bytes ++ codes ")")
 wrapped false bytes = bytes
@@ -62,7 +63,7 @@ infix_text op left right = left ++ (codes " " ++ (op_text op ++ (codes " " ++ ri
 abbrev pub call_text : Op → List ℕ → List ℕ → List ℕ
 call_text op left right = op_text op ++ (codes "(" ++ (left ++ (codes ", " ++ (right ++ codes ")"))))
 
--- an operand of `+ - * /` or of a comparison is in parentheses exactly where it is itself such an expression
+-- an operand of `+ - * /` or of a comparison has parentheses exactly if it is such an expression
 abbrev pub term_text : Phrase → List ℕ
 term_text (number n) = decimal n
 term_text (word w) = w
@@ -80,7 +81,7 @@ between_text low high = decimal low ++ (codes ".." ++ decimal high)
 abbrev pub span_text : Span → List ℕ
 span_text s = between_text s.low s.high ++ (codes " = " ++ decimal s.first)
 
--- `N` where both ends are equal, else `LOW..HIGH`
+-- `N` if both ends are equal, otherwise `LOW..HIGH`
 abbrev pub range_text : ℕ → ℕ → List ℕ
 range_text low high = if low == high then decimal low else between_text low high
 
@@ -101,7 +102,7 @@ condition_text (condition.Dest a l) = codes "dst " ++ address_text a l
 condition_text condition.Ipv4 = codes "ipv4"
 condition_text condition.Ipv6 = codes "ipv6"
 
--- ` and COND`, each
+-- ` and COND` for each condition
 abbrev pub more_conditions_text : List Condition → List ℕ
 more_conditions_text [] = []
 more_conditions_text (c ∷ cs) = codes " and " ++ (condition_text c ++ more_conditions_text cs)
@@ -111,16 +112,16 @@ abbrev pub guard_text : List Condition → List ℕ
 guard_text [] = []
 guard_text (c ∷ cs) = codes " when " ++ (condition_text c ++ more_conditions_text cs)
 
--- an attribute that was written, with the space before it
+-- an attribute with the space before it, or nothing if it isn't set
 abbrev pub attribute_text : Attribute → Option ℕ → List ℕ
 attribute_text k None = []
 attribute_text k (Some n) = codes " " ++ (attribute_word k ++ (codes " " ++ decimal n))
 
--- the attributes that were written, in the order prio, weight, slack
+-- the attributes that are set, in the order prio, weight, slack
 abbrev pub attributes_text : Attrs → List ℕ
 attributes_text a = attribute_text attribute.Prio a.prio ++ (attribute_text attribute.Weight a.weight ++ attribute_text attribute.Slack a.slack)
 
--- a limit that was written, with the space before it
+-- a limit with the space before it, or nothing if there is none
 abbrev pub limit_text : Option ℕ → List ℕ
 limit_text None = []
 limit_text (Some n) = codes " limit " ++ decimal n
@@ -138,7 +139,7 @@ declaration_text keyword n s = keyword ++ (n ++ (codes " " ++ span_text s))
 abbrev pub assignment_text : List ℕ → List ℕ → Phrase → List ℕ
 assignment_text keyword n a = keyword ++ (n ++ (codes " = " ++ term_text a))
 
--- the line of a statement, without its end
+-- the line of a statement, without its line feed
 abbrev pub statement_text : Sense → List ℕ
 statement_text (version v) = codes "policy " ++ decimal v
 statement_text (transaction n) = codes "transaction " ++ n

@@ -1,4 +1,4 @@
--- The grammar of expressions, over whole lists of tokens.
+-- The grammar of expressions, over complete lists of tokens.
 use Rattle.std.specs.Prelude.{◌≡◌, refl, ℕ, zero, suc, ◌≤◌, true, List, [], ◌∷◌, ◌++◌, Option, Some, None, codes}
 use Rattle.rank_defs.specs.declared.expression.Op.{Op}
 use Rattle.rank_defs.specs.declared.expression.Op.TheVariants as op
@@ -7,7 +7,7 @@ use Rattle.policy_text_defs.specs.Words.{is_name, is_variable}
 use Rattle.text_core.specs.Glyphs.{Glyph, text, figure, sign}
 use Rattle.policy_text_defs.specs.Phrase.{Phrase, number, word, two, negation, choice, depth, most_depth, most_open}
 
--- which lists of tokens are which expressions
+-- a relation between lists of tokens and the expressions that they spell
 abbrev pub Form : Type 1
 Form = List Glyph → Phrase → Type 0
 
@@ -33,7 +33,7 @@ relation (sign m.MoreEq) = Some op.MoreEq
 relation (sign m.More) = Some op.More
 relation _ = None
 
--- { OP PART }, with what stands before it, grouped from the left
+-- { OP PART } after a term, grouped from the left
 pub data GoesOn (op : Glyph → Option Op) (Part : Form) : Phrase → List Glyph → Phrase → Type 0 where
   ends : (a : Phrase) → GoesOn op Part a [] a
   more : (o : Op) (g : Glyph) (ts us : List Glyph) (a b c : Phrase) → op g ≡ Some o → Part ts b → GoesOn op Part (two o a b) us c → GoesOn op Part a (g ∷ ts ++ us) c
@@ -71,9 +71,10 @@ pub data IsOperand (w : List ℕ) : Type 0 where
   named : is_name w ≡ true → IsOperand w
   variable : is_variable w ≡ true → IsOperand w
 
--- ATOM, given what stands inside of its parentheses:
--- NUMBER | NAME | len | now | prio | weight | slack | rank | ( EXPR ) | min(EXPR, EXPR) | max(EXPR, EXPR)
--- | and(EXPR, EXPR) | or(EXPR, EXPR) | not(EXPR) | if(EXPR, EXPR, EXPR)
+-- ATOM, given the form of an expression inside its parentheses:
+-- NUMBER | NAME | len | now | prio | weight | slack | rank | ( EXPR )
+-- | min(EXPR, EXPR) | max(EXPR, EXPR) | and(EXPR, EXPR) | or(EXPR, EXPR) | not(EXPR)
+-- | if(EXPR, EXPR, EXPR)
 pub data AtomOver (Inside : Form) : List Glyph → Phrase → Type 0 where
   number_atom : (n : ℕ) → AtomOver Inside (figure n ∷ []) (number n)
   word_atom : (w : List ℕ) → IsOperand w → AtomOver Inside (text w ∷ []) (word w)
@@ -82,16 +83,16 @@ pub data AtomOver (Inside : Form) : List Glyph → Phrase → Type 0 where
   not_atom : (ts : List Glyph) (a : Phrase) → Inside ts a → AtomOver Inside (text (codes "not") ∷ sign m.Open ∷ ts ++ sign m.Close ∷ []) (negation a)
   if_atom : (ts us vs : List Glyph) (a b c : Phrase) → Inside ts a → Inside us b → Inside vs c → AtomOver Inside (text (codes "if") ∷ sign m.Open ∷ ts ++ (sign m.Comma ∷ us ++ (sign m.Comma ∷ vs ++ (sign m.Close ∷ [])))) (choice a b c)
 
--- no tokens are an expression
+-- no tokens form an expression
 abbrev pub NoForm : Form
 NoForm ts a = ⊥
 
--- an atom in which at most so many parentheses are open at once
+-- an atom in which at most N parentheses are open at once
 abbrev pub Atom : ℕ → Form
 Atom zero = AtomOver NoForm
 Atom (suc room) = AtomOver (Expression (Atom room))
 
--- all the tokens spell the expression, within both limits
+-- all the tokens spell the expression, within the limits of depth and of open parentheses
 pub record Spells (gs : List Glyph) (a : Phrase) : Type 0 where
   pub form : Expression (Atom most_open) gs a
   pub low : depth a ≤ most_depth

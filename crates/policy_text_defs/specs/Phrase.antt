@@ -1,4 +1,4 @@
--- An expression apart from where it lies in memory.
+-- Expressions without their location in memory.
 use Rattle.std.specs.Prelude.{◌≡◌, refl, ℕ, suc, max, List, codes}
 use Rattle.rank_defs.specs.declared.expression.Op.{Op}
 use Rattle.rank_defs.specs.declared.expression.Op.TheVariants as op
@@ -20,7 +20,7 @@ phrase_of (Two' op p a q b) = two op (phrase_of a) (phrase_of b)
 phrase_of (Not' p a) = negation (phrase_of a)
 phrase_of (If' p a q b r c) = choice (phrase_of a) (phrase_of b) (phrase_of c)
 
--- 1 for a number or word, else 1 more than the greatest depth of the parts
+-- 1 for a number or word, otherwise 1 more than the greatest depth of the parts
 abbrev pub depth : Phrase → ℕ
 depth (number n) = 1
 depth (word w) = 1
@@ -28,14 +28,14 @@ depth (two op a b) = suc (max (depth a) (depth b))
 depth (negation a) = suc (depth a)
 depth (choice a b c) = suc (max (depth a) (max (depth b) (depth c)))
 
--- the greatest depth of an expression, and the most parentheses that are open at once
+-- the greatest depth of an expression, and the greatest number of parentheses that are open at once
 abbrev pub most_depth : ℕ
 most_depth = max_depth
 
 abbrev pub most_open : ℕ
 most_open = 64
 
--- a number or word counts, and the deepest part decides
+-- a number or word has depth 1, and the deepest part decides
 depth_of_a_sum : depth (two op.Add (word (codes "len")) (two op.Mul (number 2) (word (codes "vt")))) ≡ 3
 depth_of_a_sum = refl
 

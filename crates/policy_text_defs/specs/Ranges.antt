@@ -1,4 +1,4 @@
--- The ranges of the numbers that are written.
+-- The ranges of the numbers in policy texts.
 use Rattle.std.specs.Prelude.{◌≡◌, refl, ℕ, ◌-◌, ◌^◌, [], ◌∷◌, map}
 use Rattle.rank_defs.specs.Shapes.{max_len, max_prio, max_weight, max_slack}
 use Rattle.policy_text_defs.specs.declared.attribute.Attribute.{Attribute}
@@ -6,7 +6,7 @@ use Rattle.policy_text_defs.specs.declared.attribute.Attribute.TheVariants as at
 use Rattle.policy_text_defs.specs.declared.condition.FieldName.{FieldName}
 use Rattle.policy_text_defs.specs.declared.condition.FieldName.TheVariants as field
 
--- a number that an attribute may have; slack is in nanoseconds
+-- the least and greatest value of an attribute; a slack is in nanoseconds
 abbrev pub attribute_least : Attribute → ℕ
 attribute_least attribute.Prio = 0
 attribute_least attribute.Weight = 1
@@ -24,14 +24,14 @@ first_version = 1
 abbrev pub last_version : ℕ
 last_version = 2
 
--- how many packets a leaf may be limited to
+-- the least and greatest limit of a leaf, in packets
 abbrev pub limit_least : ℕ
 limit_least = 1
 
 abbrev pub limit_most : ℕ
 limit_most = 4194304
 
--- the greatest number of a field
+-- the greatest value of a field
 abbrev pub field_most : FieldName → ℕ
 field_most field.Vlan = 4095
 field_most field.Dscp = 63
@@ -40,14 +40,14 @@ field_most field.Sport = 65535
 field_most field.Dport = 65535
 field_most field.Len = max_len
 
--- the greatest of the four numbers of an address, and the longest prefix
+-- the greatest of the four numbers of an address, and the greatest prefix length
 abbrev pub most_octet : ℕ
 most_octet = 255
 
 abbrev pub most_prefix : ℕ
 most_prefix = 32
 
--- the most bytes of a policy text
+-- the greatest length of a policy text, in bytes
 abbrev pub most_text : ℕ
 most_text = 1048576
 

@@ -1,5 +1,6 @@
--- Reading from the left, token by token: what a reader gives of a list of tokens, and what it leaves.
--- It serves proofs; the laws in proofs/ say that it gives exactly the forms of Grammar and Statements.
+-- Reading from the left, token by token: the value that a reader makes of a list of tokens, and the
+-- tokens it leaves. It serves the proofs; laws in proofs/ show that it accepts exactly the forms of
+-- Grammar and Statements.
 use Rattle.std.specs.Prelude.{◌≡◌, refl, ℕ, zero, suc, nat_le, Bool, false, if◌then◌else◌, List, [], ◌∷◌, Option, Some, None, option_map, codes}
 use Rattle.std.specs.Str.{bytes_eq}
 use Rattle.rank_defs.specs.declared.expression.Op.{Op}
@@ -38,12 +39,12 @@ pure a = λ gs. Some (a, gs)
 abbrev pub refuse : {A : Type 0} → Reader A
 refuse = λ gs. None
 
--- what an option gives, or else
+-- the value made of an option, or a default if there is none
 abbrev pub pick : {A B : Type 0} → Option A → B → (A → B) → B
 pick None other f = other
 pick (Some x) other f = f x
 
--- what is made of a word that passed a test
+-- the value made of a word that passed a test
 abbrev pub given : {A : Type 0} → (List ℕ → A) → Option (List ℕ) → Reader A
 given f None = refuse
 given f (Some w) = pure (f w)
@@ -60,7 +61,7 @@ abbrev pub is_text : List ℕ → Glyph → Bool
 is_text w (text v) = bytes_eq v w
 is_text w _ = false
 
--- takes a token that passes
+-- takes a token that passes the test
 abbrev pub expect : (Glyph → Bool) → Reader (Unit {0})
 expect test = next >>= (λ g. if test g then pure tt else refuse)
 
@@ -73,7 +74,7 @@ literal w = expect (is_text w)
 abbrev pub with_rest : {A : Type 0} → List Glyph → Option A → Outcome A
 with_rest gs found = option_map (λ a. (a, gs)) found
 
--- what the first token is, if it is anything, and what follows it
+-- the value of the first token, if it has one, and the tokens after it
 abbrev pub ahead : {A : Type 0} → (Glyph → Option A) → List Glyph → Outcome A
 ahead test [] = None
 ahead test (g ∷ gs) = with_rest gs (test g)
@@ -83,11 +84,11 @@ unit_if b = if b then Some tt else None
 
 -- ---- expressions
 
--- an expression of no more than the greatest depth
+-- an expression of at most the greatest depth
 unfoldable pub limited : Phrase → Reader Phrase
 limited a = λ gs. if nat_le (depth a) most_depth then Some (a, gs) else None
 
--- goes on with operators and parts, at most so many, grouped from the left
+-- goes on with operators and parts, at most N times, grouped from the left
 unfoldable pub chain : (Glyph → Option Op) → Reader Phrase → ℕ → Phrase → Reader Phrase
 chain op part zero a gs = pick (ahead op gs) (Some (a, gs)) (λ o. None)
 chain op part (suc k) a gs =
@@ -108,9 +109,9 @@ expression atom = sum atom >>= comparison (sum atom)
 unfoldable pub operand : List ℕ → Reader Phrase
 operand w = given word (passing is_operand w)
 
--- The reader is of expressions inside one more pair of parentheses.
+-- The given reader reads expressions inside one more pair of parentheses.
 module _ (inside : Reader Phrase) where
-  -- up to a mark, and the mark
+  -- an expression up to a mark, and the mark
   unfoldable pub argument : Mark → Reader Phrase
   argument s = do
     a ← inside
@@ -153,7 +154,7 @@ module _ (inside : Reader Phrase) where
   atom_at (text w) = word_at w (function_of w)
   atom_at (sign m) = mark_at m
 
--- The number is how many parentheses may be opened.
+-- The number says how many parentheses may be opened.
 unfoldable pub atom : ℕ → Reader Phrase
 atom zero = next >>= atom_at refuse
 atom (suc room) = next >>= atom_at (expression (atom room))
@@ -169,12 +170,12 @@ products_before_sums :
 unfolding expression sum product chain limited atom operand
 products_before_sums = refl
 
--- one comparison alone, and what follows is left
+-- only one comparison is read, and the tokens after it are left
 a_comparison_ends : expression (atom 0) (figure 1 ∷ sign m.Less ∷ figure 2 ∷ sign m.Less ∷ figure 3 ∷ []) ≡ Some (two op.Less (number 1) (number 2), sign m.Less ∷ figure 3 ∷ [])
 unfolding expression sum product chain limited atom operand
 a_comparison_ends = refl
 
--- where no parentheses may be opened
+-- no parentheses may be opened
 no_room : expression (atom 0) (sign m.Open ∷ figure 1 ∷ sign m.Close ∷ []) ≡ None
 unfolding expression sum product chain limited atom operand argument
 no_room = refl

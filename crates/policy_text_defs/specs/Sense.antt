@@ -1,4 +1,4 @@
--- A statement apart from where it lies in memory.
+-- Statements without their location in memory.
 use Rattle.std.specs.Prelude.{◌≡◌, refl, ℕ, suc, List, [], ◌∷◌, Option, codes}
 use Rattle.rank_defs.specs.declared.transaction.Span.{Span}
 use Rattle.policy_text_defs.specs.declared.attribute.Attrs.{Attrs}
@@ -36,7 +36,7 @@ Entry = ℕ × Sense
 abbrev pub entry : ℕ → Sense → Entry
 entry n s = (n, s)
 
--- statements with the numbers of lines that follow one another, the first being this one
+-- statements with consecutive line numbers, from N
 abbrev pub numbered : ℕ → List Sense → List Entry
 numbered n [] = []
 numbered n (s ∷ ss) = entry n s ∷ numbered (suc n) ss

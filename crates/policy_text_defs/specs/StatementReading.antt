@@ -20,7 +20,7 @@ use Rattle.policy_text_defs.specs.Sense.{Sense, version, transaction, keep, each
 use Rattle.policy_text_defs.specs.Statements.{unset, attribute_value, with_attribute, Octets, address_of}
 use Rattle.policy_text_defs.specs.Reading.{Outcome, Reader, ◌>>=◌, ◌>>◌, pure, refuse, pick, given, next, is_sign, is_text, mark, literal, ahead, unit_if, expression, atom}
 
--- goes on, at most so often, while the tokens begin with what take finds
+-- repeats a step, at most N times, while `take` accepts the next tokens
 unfoldable pub repeated : {K A : Type 0} → (List Glyph → Outcome K) → (K → A → Reader A) → ℕ → A → Reader A
 repeated take step zero a gs = pick (take gs) (Some (a, gs)) (λ t. None)
 repeated take step (suc k) a gs = pick (take gs) (Some (a, gs)) (λ t. (step t.0 a >>= repeated take step k) t.1)
@@ -111,13 +111,13 @@ word_ahead w g = unit_if (is_text w g)
 unfoldable pub limit_by : ℕ → Reader (Option ℕ)
 limit_by n = if nat_le limit_least n && nat_le n limit_most then pure (Some n) else refuse
 
--- the number after `limit`, or else none
+-- the number after `limit`, or none if there is no `limit`
 unfoldable pub limit : Reader (Option ℕ)
 limit gs = pick (ahead (word_ahead (codes "limit")) gs) (Some (None, gs)) (λ t. (a_number >>= limit_by) t.1)
 
 -- ---- conditions
 
--- the number after `..`, or else the low one
+-- the number after `..`, or the low one if there is no `..`
 unfoldable pub upper : ℕ → Reader ℕ
 upper low gs = pick (ahead (λ g. unit_if (is_sign m.DotDot g)) gs) (Some (low, gs)) (λ t. a_number t.1)
 
@@ -157,7 +157,7 @@ address = do
   d ← number_to most_octet
   pure (address_of (octets_at a b c d))
 
--- the number after `/`, or else the longest
+-- the number after `/`, or the greatest length if there is no `/`
 unfoldable pub prefix_length : Reader ℕ
 prefix_length gs = pick (ahead (λ g. unit_if (is_sign m.Slash g)) gs) (Some (most_prefix, gs)) (λ t. number_to most_prefix t.1)
 
@@ -284,17 +284,17 @@ last_octets : map (λ n. address (figure 0 ∷ sign m.Dot ∷ figure 0 ∷ sign 
 unfolding address within
 last_octets = refl
 
--- a prefix has 0 to 32 bits, and 32 where none is written
+-- a prefix has 0 to 32 bits, and 32 if none is written
 prefixes : map prefix_length ((sign m.Slash ∷ figure 0 ∷ []) ∷ (sign m.Slash ∷ figure 32 ∷ []) ∷ (sign m.Slash ∷ figure 33 ∷ []) ∷ [] ∷ []) ≡ Some (0, []) ∷ Some (32, []) ∷ None ∷ Some (32, []) ∷ []
 unfolding prefix_length within
 prefixes = refl
 
--- a range's ends may be equal, and not the wrong way round; the last number is the greatest alone
+-- a range's ends may be equal, but LOW may not be above HIGH; the last pair is too large for a port
 ranges : map (λ (p : ℕ × ℕ). bounds field_name.Dport (figure p.0 ∷ sign m.DotDot ∷ figure p.1 ∷ [])) ((80, 80) ∷ (81, 80) ∷ (0, 65535) ∷ (0, 65536) ∷ []) ≡ Some (condition.Field field_name.Dport 80 80, []) ∷ None ∷ Some (condition.Field field_name.Dport 0 65535, []) ∷ None ∷ []
 unfolding upper bounded
 ranges = refl
 
--- an attribute that is set is not set again, and a weight is 1 or more
+-- an attribute may not be set twice, and a weight is at least 1
 attributes_once : map (λ (k : List ℕ × ℕ). attributes (text (codes "weight") ∷ figure 3 ∷ text k.0 ∷ figure k.1 ∷ [])) ((codes "prio", 0) ∷ (codes "weight", 3) ∷ []) ≡ Some (record { prio = Some 0; weight = Some 3; slack = None }, []) ∷ None ∷ []
 unfolding many repeated set_to
 attributes_once = refl

@@ -1,4 +1,4 @@
--- The forms of statements, over whole lists of tokens.
+-- The forms of statements, over complete lists of tokens.
 use Rattle.std.specs.Prelude.{◌≡◌, refl, ℕ, ◌+◌, ◌*◌, ◌≤◌, ◌<◌, true, List, [], ◌∷◌, ◌++◌, length, map, Option, Some, None, codes}
 use Rattle.std.proofs.Common.{lit≤}
 use Rattle.std.specs.List.{AllByRecursion}
@@ -40,7 +40,7 @@ span_tokens s = figure s.low ∷ sign m.DotDot ∷ figure s.high ∷ sign m.Is �
 abbrev pub unset : Attrs
 unset = record { prio = None; weight = None; slack = None }
 
--- what an attribute is set to
+-- the value of an attribute, if it is set
 abbrev pub attribute_value : Attribute → Attrs → Option ℕ
 attribute_value attribute.Prio a = a.prio
 attribute_value attribute.Weight a = a.weight
@@ -51,13 +51,13 @@ with_attribute attribute.Prio n a = record a { prio = Some n }
 with_attribute attribute.Weight n a = record a { weight = Some n }
 with_attribute attribute.Slack n a = record a { slack = Some n }
 
--- the number is in the attribute's range, and the attribute isn't set before
+-- the number is in the attribute's range, and the attribute isn't set yet
 pub record MaySet (k : Attribute) (n : ℕ) (a : Attrs) : Type 0 where
   pub unset : attribute_value k a ≡ None
   pub above : attribute_least k ≤ n
   pub below : n ≤ attribute_most k
 
--- attributes in any order, each at most once, and none that was set before
+-- attributes in any order, each at most once, and none that is already set
 pub data AttributesFrom : Attrs → List Glyph → Attrs → Type 0 where
   no_more : (a : Attrs) → AttributesFrom a [] a
   set : (k : Attribute) (n : ℕ) (ts : List Glyph) (a b : Attrs) → MaySet k n a → AttributesFrom (with_attribute k n a) ts b → AttributesFrom a (text (attribute_word k) ∷ figure n ∷ ts) b
@@ -96,7 +96,8 @@ pub data Address : List Glyph → ℕ → ℕ → Type 0 where
   whole : (o : Octets) → AreOctets o → Address (octet_tokens o) (address_of o) most_prefix
   prefix : (o : Octets) (l : ℕ) → AreOctets o → l ≤ most_prefix → Address (octet_tokens o ++ sign m.Slash ∷ figure l ∷ []) (address_of o) l
 
--- COND: `vlan R`, `dscp R`, `proto R`, `sport R`, `dport R`, `len R`, `proto tcp`, `proto udp`, `proto icmp`, `src A`, `dst A`, `ipv4`, `ipv6`
+-- COND: `vlan R`, `dscp R`, `proto R`, `sport R`, `dport R`, `len R`, `proto tcp`, `proto udp`,
+-- `proto icmp`, `src A`, `dst A`, `ipv4`, `ipv6`
 pub data IsCondition : List Glyph → Condition → Type 0 where
   field : (f : FieldName) (ts : List Glyph) (low high : ℕ) → Range ts low high → high ≤ field_most f → IsCondition (text (field_word f) ∷ ts) (condition.Field f low high)
   protocol : (w : List ℕ) (n : ℕ) → protocol_of w ≡ Some n → IsCondition (text (codes "proto") ∷ text w ∷ []) (condition.Field field_name.Proto n n)
@@ -120,7 +121,7 @@ pub record IsVersion (v : ℕ) : Type 0 where
   pub above : first_version ≤ v
   pub below : v ≤ last_version
 
--- how many packets a leaf may be limited to
+-- a limit of a leaf, in packets
 pub record IsLimit (n : ℕ) : Type 0 where
   pub above : limit_least ≤ n
   pub below : n ≤ limit_most
@@ -135,7 +136,7 @@ pub record AreNames (names : List (List ℕ)) : Type 0 where
   pub some : 0 < length names
   pub each : AllByRecursion IsName names
 
--- the tokens of a line are a statement's form
+-- the tokens of a line have the form of the statement
 pub data IsForm : List Glyph → Sense → Type 0 where
   version_form : (v : ℕ) → IsVersion v → IsForm (text (codes "policy") ∷ figure v ∷ []) (version v)
   transaction_form : (n : List ℕ) → IsName n → IsForm (text (codes "transaction") ∷ text n ∷ []) (transaction n)
@@ -154,11 +155,11 @@ bytes_of_an_address = refl
 one_attribute_is_set : with_attribute attribute.Weight 3 (record { prio = Some 1; weight = None; slack = Some 0 }) ≡ record { prio = Some 1; weight = Some 3; slack = Some 0 }
 one_attribute_is_set = refl
 
--- LOW and HIGH come first
+-- LOW and HIGH come before FIRST
 the_first_value_is_last : span_tokens (record { low = 1; high = 9; first = 4 }) ≡ figure 1 ∷ sign m.DotDot ∷ figure 9 ∷ sign m.Is ∷ figure 4 ∷ []
 the_first_value_is_last = refl
 
--- an address alone has a prefix of 32 bits
+-- an address without a length has a prefix of 32 bits
 a_whole_address : IsCondition (text (codes "dst") ∷ figure 0 ∷ sign m.Dot ∷ figure 0 ∷ sign m.Dot ∷ figure 0 ∷ sign m.Dot ∷ figure 255 ∷ []) (condition.Dest 255 32)
 a_whole_address =
     let octets : Octets = record { first = 0; second = 0; third = 0; fourth = 255 } in

@@ -1,4 +1,4 @@
--- What a statement is like that some line has: names are names, numbers are in range, expressions aren't too deep.
+-- The statements that can be written: valid names, numbers in range, expressions not too deep.
 use Rattle.std.specs.Prelude.{◌≡◌, refl, ℕ, ◌<◌, ◌≤◌, ◌^◌, true, Option, Some, None, IfSome, codes}
 use Rattle.std.proofs.Common.{lit≤}
 use Rattle.std.specs.List.{AllByRecursion}
@@ -31,7 +31,7 @@ pub record IsValidSpan (s : Span) : Type 0 where
   pub high : s.high ≤ max
   pub first : s.first ≤ max
 
--- an expression within the limit of depth
+-- an expression within the depth limit
 pub record IsValidPhrase (a : Phrase) : Type 0 where
   pub operands : HasOperands a
   pub low : depth a ≤ most_depth
@@ -41,7 +41,7 @@ pub record IsAttributeNumber (k : Attribute) (n : ℕ) : Type 0 where
   pub above : attribute_least k ≤ n
   pub below : n ≤ attribute_most k
 
--- not set, or to such a number
+-- an attribute that isn't set, or is set to such a number
 abbrev pub IsValidAttribute : Attribute → Option ℕ → Type 0
 IsValidAttribute k None = Unit {0}
 IsValidAttribute k (Some n) = IsAttributeNumber k n
@@ -61,7 +61,7 @@ pub record IsValidRange (low high most : ℕ) : Type 0 where
   pub ordered : low ≤ high
   pub below : high ≤ most
 
--- a range in the field's range, or an address
+-- a condition whose range is within the field's range, or whose address is valid
 abbrev pub IsValidCondition : Condition → Type 0
 IsValidCondition (condition.Field f low high) = IsValidRange low high (field_most f)
 IsValidCondition (condition.Source a l) = IsValidAddress a l
@@ -69,7 +69,7 @@ IsValidCondition (condition.Dest a l) = IsValidAddress a l
 IsValidCondition condition.Ipv4 = Unit {0}
 IsValidCondition condition.Ipv6 = Unit {0}
 
--- the statement is one that some line has
+-- the statement can be written as a line
 abbrev pub IsValid : Sense → Type 0
 IsValid (version v) = IsVersion v
 IsValid (transaction n) = IsName n
@@ -81,11 +81,11 @@ IsValid (class n a cs) = IsName n × AreValidAttributes a × AllByRecursion IsVa
 IsValid (leaf n u a l ns) = IsName n × IsName u × AreValidAttributes a × IfSome l IsLimit × AreNames ns
 IsValid (node n u a ns) = IsName n × IsName u × AreValidAttributes a × AreNames ns
 
--- a push may write the rank, and a number may be the greatest
+-- a push may set the rank, and a number may be the greatest one
 a_push_to_the_rank : IsValid (push (codes "rank") (two op.Add (word (codes "len")) (number 4611686018427387903)))
 a_push_to_the_rank = (refl, record { operands = (refl, lit≤ tt); low = lit≤ tt })
 
--- the first value may be both ends
+-- the first value may be equal to both ends
 a_span_of_one : IsValid (keep (codes "vt") (record { low = 5; high = 5; first = 5 }))
 a_span_of_one =
     let five : 5 ≤ 5 = lit≤ tt in

@@ -15,7 +15,7 @@ use Rattle.policy_text_defs.specs.declared.condition.FieldName.TheVariants as fi
 use Rattle.policy_text_defs.specs.declared.condition.Subject.{Subject}
 use Rattle.policy_text_defs.specs.declared.condition.Subject.TheVariants as subject
 
--- the words that aren't names
+-- the reserved words, which can't be names
 abbrev pub reserved : List (List ℕ)
 reserved =
     codes "policy" ∷ codes "transaction" ∷ codes "keep" ∷ codes "each" ∷ codes "push" ∷ codes "pop" ∷ codes "node" ∷ codes "leaf" ∷
@@ -31,11 +31,11 @@ is_reserved w = list_any (bytes_eq w) reserved
 abbrev pub is_word : List ℕ → Bool
 is_word w = begins_word w && list_all is_word_byte w
 
--- a word that isn't reserved and not too long
+-- a word that isn't reserved and isn't too long
 abbrev pub is_name : List ℕ → Bool
 is_name w = is_word w && (nat_le (length w) most_name && not (is_reserved w))
 
--- the reserved words that are numbers in expressions
+-- the reserved words that denote numbers in expressions
 abbrev pub variables : List (List ℕ)
 variables = codes "len" ∷ codes "now" ∷ codes "prio" ∷ codes "weight" ∷ codes "slack" ∷ codes "rank" ∷ []
 
@@ -53,7 +53,7 @@ is_target w = is_name w || bytes_eq w (codes "rank")
 abbrev pub some_if : Bool → List ℕ → Option (List ℕ)
 some_if passes w = if passes then Some w else None
 
--- what passes a test
+-- the word, if it passes a test
 abbrev pub passing : (List ℕ → Bool) → List ℕ → Option (List ℕ)
 passing test w = some_if (test w) w
 
@@ -104,7 +104,7 @@ field_word field.Sport = codes "sport"
 field_word field.Dport = codes "dport"
 field_word field.Len = codes "len"
 
--- what the word that begins a condition names
+-- the subject that the first word of a condition names
 abbrev pub subject_of : List ℕ → Option Subject
 subject_of w =
     if bytes_eq w (codes "vlan") then Some (subject.Field field.Vlan)
@@ -127,7 +127,7 @@ protocol_of w =
     else (if bytes_eq w (codes "icmp") then Some 1
     else None))
 
--- each word of the language, written once more
+-- each word of the language, listed a second time
 no_word_of_the_language_is_a_name : list_any is_name (
     codes "policy" ∷ codes "transaction" ∷ codes "keep" ∷ codes "each" ∷ codes "push" ∷ codes "pop" ∷ codes "class" ∷ codes "leaf" ∷ codes "node" ∷
     codes "using" ∷ codes "classes" ∷ codes "children" ∷ codes "when" ∷ codes "limit" ∷ codes "shape" ∷
@@ -137,7 +137,7 @@ no_word_of_the_language_is_a_name : list_any is_name (
     codes "tcp" ∷ codes "udp" ∷ codes "icmp" ∷ []) ≡ false
 no_word_of_the_language_is_a_name = refl
 
--- capitals count, and words that begin or end as one of the language do
+-- case is significant, and a name may begin or end with a word of the language
 names : list_all is_name (codes "root" ∷ codes "fifo" ∷ codes "Leaf" ∷ codes "LEN" ∷ codes "leafs" ∷ codes "key" ∷ codes "min_" ∷ codes "ip" ∷ codes "icmpv6" ∷ codes "_" ∷ codes "w1" ∷ []) ≡ true
 names = refl
 
@@ -147,7 +147,7 @@ no_names = refl
 sixty_four_bytes_are_a_name : map (λ n. is_name (replicate n 97)) (1 ∷ 64 ∷ 65 ∷ []) ≡ true ∷ true ∷ false ∷ []
 sixty_four_bytes_are_a_name = refl
 
--- an expression may read a variable, and a push may write the rank alone of these; a keyword is neither
+-- an expression may read any variable, a push may set only the rank, and a keyword is neither
 operands : map is_operand (codes "vt" ∷ codes "rank" ∷ codes "len" ∷ codes "leaf" ∷ []) ≡ true ∷ true ∷ true ∷ false ∷ []
 operands = refl
 

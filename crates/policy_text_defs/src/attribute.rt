@@ -6,7 +6,7 @@ ghost use Rattle.policy_text_defs.specs.Ranges.{attribute_least, attribute_most}
 use crate::word::is;
 use rank_defs::{MAX_PRIO, MAX_SLACK, MAX_WEIGHT};
 
-/// The attributes that were written for a class, leaf or node.
+/// The attributes that a class, leaf or node is given; an attribute that isn't written is `None`.
 #[derive(Clone, Copy, PartialEq, Eq, Debug)]
 pub struct Attrs {
     pub prio: Option<u32>,
@@ -15,7 +15,7 @@ pub struct Attrs {
     pub slack: Option<u64>,
 }
 
-/// What an attribute sets.
+/// An attribute: a priority, a weight or a slack.
 #[derive(Clone, Copy, PartialEq, Eq, Debug)]
 pub enum Attribute {
     Prio,
@@ -24,7 +24,7 @@ pub enum Attribute {
 }
 
 impl Attribute {
-    /// The attribute that a word names.
+    /// Returns the attribute that a word names.
     pub fn of(word: &[u8]) -> Option<Attribute>
         ensures { result ≡ attribute_of word.now }
     {
@@ -39,7 +39,7 @@ impl Attribute {
         }
     }
 
-    /// The least number that may be written.
+    /// Returns the least value that may be written.
     pub fn least(self) -> u64
         ensures { result ≡ attribute_least self }
     {
@@ -49,7 +49,7 @@ impl Attribute {
         }
     }
 
-    /// The greatest number that may be written.
+    /// Returns the greatest value that may be written; a slack is in nanoseconds.
     pub fn most(self) -> u64
         ensures { result ≡ attribute_most self }
     {

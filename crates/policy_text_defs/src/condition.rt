@@ -3,7 +3,7 @@ ghost use Rattle.std.specs.Prelude.{◌≡◌};
 ghost use Rattle.policy_text_defs.specs.Words.{subject_of, protocol_of};
 ghost use Rattle.policy_text_defs.specs.Ranges.{field_most};
 
-/// A header field that a condition bounds.
+/// A header field that a condition limits to a range.
 #[derive(Clone, Copy, PartialEq, Eq, Debug)]
 pub enum FieldName {
     Vlan,
@@ -16,7 +16,7 @@ pub enum FieldName {
 }
 
 impl FieldName {
-    /// The greatest number that the field can hold.
+    /// Returns the greatest value that the field can hold.
     pub fn most(self) -> u32
         ensures { result ≡ field_most self }
     {
@@ -30,20 +30,22 @@ impl FieldName {
     }
 }
 
-/// What a packet of a class has to meet.
+/// A condition that each packet of a class must meet.
 #[derive(Clone, Copy, PartialEq, Eq, Debug)]
 pub enum Condition {
-    /// The field is from the first number to the second.
+    /// The field's value is in the range from the first number to the second, both included.
     Field(FieldName, u32, u32),
-    /// The IPv4 source address agrees with this one in so many leading bits. Bits behind them may be anything.
+    /// The IPv4 source address has the given prefix: the address, then the prefix length in bits.
+    /// Bits after the prefix are ignored.
     Source(u32, u32),
-    /// The IPv4 destination address agrees with this one in so many leading bits. Bits behind them may be anything.
+    /// The IPv4 destination address has the given prefix: the address, then the prefix length in
+    /// bits. Bits after the prefix are ignored.
     Dest(u32, u32),
     Ipv4,
     Ipv6,
 }
 
-/// What a condition is about.
+/// The subject of a condition: a header field, an address or an IP version.
 #[derive(Clone, Copy, PartialEq, Eq, Debug)]
 pub enum Subject {
     Field(FieldName),
@@ -54,7 +56,7 @@ pub enum Subject {
 }
 
 impl Subject {
-    /// What the word that begins a condition names.
+    /// Returns the subject that the first word of a condition names.
     pub fn of(word: &[u8]) -> Option<Subject>
         ensures { result ≡ subject_of word.now }
     {
@@ -74,7 +76,7 @@ impl Subject {
     }
 }
 
-/// The number of the protocol that a word names (IANA protocol numbers).
+/// Returns the protocol number that a word names (IANA protocol numbers).
 pub fn protocol_of(word: &[u8]) -> Option<u32>
     ensures { result ≡ protocol_of word.now }
 {

@@ -1,10 +1,10 @@
-//! The words that are written before parentheses.
+//! The functions of expressions: words written before parentheses.
 ghost use Rattle.std.specs.Prelude.{◌≡◌};
 ghost use Rattle.policy_text_defs.specs.Words.{function_of};
 
 use rank_defs::Op;
 
-/// A word that is written before parentheses.
+/// A function: a word that is written before parentheses.
 #[derive(Clone, Copy, PartialEq, Eq, Debug)]
 pub enum Function {
     /// `min`, `max`, `and` or `or`, of two operands.
@@ -14,7 +14,7 @@ pub enum Function {
 }
 
 impl Function {
-    /// The function that a word names.
+    /// Returns the function that a word names.
     pub fn of(word: &[u8]) -> Option<Function>
         ensures { result ≡ function_of word.now }
     {

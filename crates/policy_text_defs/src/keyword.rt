@@ -1,10 +1,10 @@
-//! The words that begin statements.
+//! The keywords that begin statements.
 ghost use Rattle.std.specs.Prelude.{◌≡◌};
 ghost use Rattle.policy_text_defs.specs.Words.{keyword_of};
 
 use crate::word::is;
 
-/// A word that begins a statement.
+/// A keyword: a word that begins a statement.
 #[derive(Clone, Copy, PartialEq, Eq, Debug)]
 pub enum Keyword {
     Policy,
@@ -19,7 +19,7 @@ pub enum Keyword {
 }
 
 impl Keyword {
-    /// The keyword that a word is.
+    /// Returns the keyword that a word spells.
     pub fn of(word: &[u8]) -> Option<Keyword>
         ensures { result ≡ keyword_of word.now }
     {

@@ -1,5 +1,5 @@
-//! The language of policy texts: the types of its statements, its grammar, and which statements a text has.
-//! Begin with specs/Statements.antt.
+//! Defines the language of policy texts: the types of its statements, its grammar, and the
+//! statements of a text. Begin with specs/Statements.antt.
 #![tactic(auto)]
 
 mod attribute;

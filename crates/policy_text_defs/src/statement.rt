@@ -10,15 +10,16 @@ use rank_defs::Span;
 pub enum Statement {
     Version(u32),
     Transaction(Name),
-    /// A variable of the node.
+    /// A variable of the node, with its range and first value.
     Keep(Name, Span),
-    /// A variable of each child or flow.
+    /// A variable of each child or flow, with its range and first value.
     Each(Name, Span),
-    /// The variable, or `rank`, and its value.
+    /// The variable that a push sets, or `rank`, and its new value.
     Push(Name, Term),
     Pop(Name, Term),
     Class(Name, Attrs, List<Condition>),
-    /// The leaf, its transaction, its attributes, the most packets that it holds (where it has a limit), and its classes.
+    /// The leaf, its transaction, its attributes, its limit in packets (if it has one), and its
+    /// classes.
     Leaf(Name, Name, Attrs, Option<u32>, List<Name>),
     /// The node, its transaction, its attributes and its children.
     Node(Name, Name, Attrs, List<Name>),

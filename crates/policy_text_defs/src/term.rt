@@ -1,4 +1,4 @@
-//! Expressions as they are written.
+//! Expressions as written.
 use list_core::Name;
 use rank_defs::Op;
 
@@ -10,6 +10,6 @@ pub enum Term {
     Word(Name),
     Two(Op, Box<Term>, Box<Term>),
     Not(Box<Term>),
-    /// The condition, then what it is where the condition holds, then what it is else.
+    /// The condition, the value if the condition holds, and the value if it doesn't.
     If(Box<Term>, Box<Term>, Box<Term>),
 }

@@ -5,10 +5,10 @@ ghost use Rattle.std.specs.Str.{bytes_eq, IsUtf8};
 ghost use Rattle.text_core.specs.Tokens.{begins_word, is_word_byte};
 ghost use Rattle.policy_text_defs.specs.Words.{is_reserved, is_variable, is_name, is_operand, is_target, is_word, some_if, passing};
 
-/// The most bytes that a name may have.
+/// The greatest length of a name, in bytes.
 const MOST_NAME: usize = 64;
 
-/// The words that aren't names.
+/// The reserved words, which can't be names.
 const RESERVED: [&str; 39] = [
     "policy",
     "transaction",
@@ -51,17 +51,17 @@ const RESERVED: [&str; 39] = [
     "limit",
 ];
 
-/// The reserved words that are numbers in expressions.
+/// The reserved words that denote numbers in expressions.
 const VARIABLES: [&str; 6] = ["len", "now", "prio", "weight", "slack", "rank"];
 
-/// Whether a word is written so.
+/// Returns whether a word is spelled like the text.
 pub fn is(word: &[u8], text: &str) -> bool
     ensures { result ≡ bytes_eq word.now text.now }
 {
     word == text.as_bytes()
 }
 
-/// Whether a word is one of the words.
+/// Returns whether a word is one of the words.
 pub fn is_among(word: &[u8], words: &[&str]) -> bool
     ensures { result ≡ list_any (λ w. bytes_eq word.now w.now) words.now }
 {
@@ -74,7 +74,7 @@ fn is_reserved(word: &[u8]) -> bool
     is_among(word, &RESERVED)
 }
 
-/// Whether the bytes are a word: a letter or `_`, then letters, digits and `_`.
+/// Returns whether the bytes are a word: a letter or `_`, then letters, digits and `_`.
 fn is_word(bytes: &[u8]) -> bool
     ensures { result ≡ is_word bytes.now }
 {
@@ -108,7 +108,8 @@ fn is_name(word: &[u8]) -> bool
     is_word(word) && word.len() <= MOST_NAME && !is_reserved(word)
 }
 
-/// Whether a word is a number of the packet, its class or its way.
+/// Returns whether a word is a reserved word for a number in expressions: `len`, `now`, `prio`,
+/// `weight`, `slack` or `rank`.
 pub fn is_variable(word: &[u8]) -> bool
     ensures { result ≡ is_variable word.now }
 {
@@ -127,7 +128,7 @@ fn is_target(word: &[u8]) -> bool
     is_name(word) || is(word, "rank")
 }
 
-/// The text of a word that passed a test.
+/// Returns the text of a word if it passed a test.
 fn text_if(passes: bool, word: &[u8]) -> Option<&str>
     requires { passes ≡ true → IsUtf8 word.now }
     ensures { option_map (λ s. s.now) result ≡ some_if passes word.now }
@@ -138,7 +139,7 @@ fn text_if(passes: bool, word: &[u8]) -> Option<&str>
     str::from_utf8(word).ok()
 }
 
-/// The text of a word that is a name.
+/// Returns the text of a word if it is a name.
 #[tactic(auto, using(crate::proofs::WordLaws::is_name_utf8))]
 pub fn name_of(word: &[u8]) -> Option<&str>
     ensures { option_map (λ s. s.now) result ≡ passing is_name word.now }
@@ -146,7 +147,8 @@ pub fn name_of(word: &[u8]) -> Option<&str>
     text_if(is_name(word), word)
 }
 
-/// The text of a word that is a name or a number of the packet, its class or its way.
+/// Returns the text of a word if it is a name or one of `len`, `now`, `prio`, `weight`, `slack` and
+/// `rank`.
 #[tactic(auto, using(crate::proofs::WordLaws::is_operand_utf8))]
 pub fn operand_of(word: &[u8]) -> Option<&str>
     ensures { option_map (λ s. s.now) result ≡ passing is_operand word.now }
@@ -154,7 +156,7 @@ pub fn operand_of(word: &[u8]) -> Option<&str>
     text_if(is_operand(word), word)
 }
 
-/// The text of a word that is a name or `rank`.
+/// Returns the text of a word if it is a name or `rank`.
 #[tactic(auto, using(crate::proofs::WordLaws::is_target_utf8))]
 pub fn target_of(word: &[u8]) -> Option<&str>
     ensures { option_map (λ s. s.now) result ≡ passing is_target word.now }

@@ -1,4 +1,4 @@
-//! Printing a condition.
+//! Prints a condition.
 ghost use Rattle.std.specs.Prelude.{◌≡◌, ◌++◌, OnOk, codes};
 ghost use Rattle.std.specs.Fmt.{decimal};
 ghost use Rattle.policy_text_defs.specs.Words.{field_word};
@@ -39,7 +39,7 @@ fn put_range(into: &mut Vec<u8>, low: u32, high: u32) -> Result<(), AllocError>
     put_between(into, low as u64, high as u64)
 }
 
-/// Appends a number and the mark behind it.
+/// Appends a number and the mark after it.
 fn put_octet(into: &mut Vec<u8>, octet: u32, mark: &[u8]) -> Result<(), AllocError>
     ensures { OnOk result (into.new.items ≡ into.old.items ++ (decimal octet ++ mark.now)) }
 {
@@ -47,7 +47,7 @@ fn put_octet(into: &mut Vec<u8>, octet: u32, mark: &[u8]) -> Result<(), AllocErr
     into.extend_from_slice(mark)
 }
 
-/// Appends an IPv4 address and the length of its prefix.
+/// Appends an IPv4 address and its prefix length.
 fn put_address(into: &mut Vec<u8>, address: u32, prefix: u32) -> Result<(), AllocError>
     ensures { OnOk result (into.new.items ≡ into.old.items ++ address_text address prefix) }
 {
@@ -89,7 +89,7 @@ fn put_also(into: &mut Vec<u8>, condition: &Condition) -> Result<(), AllocError>
     put_condition(into, condition)
 }
 
-/// Appends the conditions behind the first.
+/// Appends the conditions after the first.
 fn put_more_conditions(into: &mut Vec<u8>, conditions: &[Condition]) -> Result<(), AllocError>
     ensures { OnOk result (into.new.items ≡ into.old.items ++ more_conditions_text conditions.now) }
 {

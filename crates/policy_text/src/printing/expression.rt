@@ -1,4 +1,4 @@
-//! Printing an expression.
+//! Prints an expression.
 ghost use Rattle.std.specs.Prelude.{◌≡◌, ◌++◌, OnOk, codes};
 ghost use Rattle.policy_text_defs.specs.Phrase.{phrase_of};
 ghost use Rattle.policy_text_defs.specs.Canonical.{term_text, is_infix, is_infix_op, op_text, wrapped};
@@ -56,7 +56,7 @@ fn is_infix(term: &Term) -> bool
     }
 }
 
-/// Appends an operand of an infix operator, in parentheses where it is such an expression itself.
+/// Appends an operand of an infix operator, in parentheses if it is an infix expression itself.
 #[cycle(print)]
 fn put_operand(into: &mut Vec<u8>, term: &Term) -> Result<(), AllocError>
     ensures { OnOk result (into.new.items ≡ into.old.items ++ wrapped
@@ -70,7 +70,7 @@ fn put_operand(into: &mut Vec<u8>, term: &Term) -> Result<(), AllocError>
     into.extend_from_slice(b")")
 }
 
-/// Appends an argument of a function that isn't its first.
+/// Appends an argument of a function after its first one.
 #[cycle(print)]
 fn put_argument(into: &mut Vec<u8>, term: &Term) -> Result<(), AllocError>
     ensures { OnOk result (into.new.items ≡ into.old.items ++

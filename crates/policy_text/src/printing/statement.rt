@@ -1,4 +1,4 @@
-//! Printing a statement.
+//! Prints a statement.
 ghost use Rattle.std.specs.Prelude.{◌≡◌, ◌++◌, OnOk};
 ghost use Rattle.policy_text_defs.specs.declared.attribute.Attribute.TheVariants as attribute;
 ghost use Rattle.policy_text_defs.specs.Phrase.{phrase_of};
@@ -58,7 +58,7 @@ fn put_weight(into: &mut Vec<u8>, weight: Option<u32>) -> Result<(), AllocError>
     put_decimal(into, weight as u128)
 }
 
-/// The slack in nanoseconds.
+/// Appends the slack in nanoseconds, if there is one.
 fn put_slack(into: &mut Vec<u8>, slack: Option<u64>) -> Result<(), AllocError>
     ensures { OnOk result (into.new.items ≡ into.old.items ++ attribute_text attribute.Slack
         slack) }
@@ -122,7 +122,7 @@ fn put_assignment(
     put_term(into, value)
 }
 
-/// Appends the front of a leaf or node: its name, its transaction and its attributes.
+/// Appends the first part of a leaf or node: its name, its transaction and its attributes.
 fn put_vertex(
     into: &mut Vec<u8>,
     keyword: &[u8],
@@ -140,7 +140,7 @@ fn put_vertex(
     put_attributes(into, attrs)
 }
 
-/// Appends the canonical line of a statement, without its end.
+/// Appends the canonical line of a statement, without its line feed.
 pub fn put_statement(into: &mut Vec<u8>, statement: &Statement) -> Result<(), AllocError>
     ensures { OnOk result (into.new.items ≡ into.old.items ++ statement_text
         (sense_of statement.now)) }
