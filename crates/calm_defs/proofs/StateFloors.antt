@@ -1,4 +1,5 @@
--- The floor of each child in the states of a policy's nodes: no push step lowers one, and no pop step changes one.
+-- The floor of each child in the states of a policy's nodes: no push step lowers one, and no pop
+-- step changes one.
 use Rattle.std.proofs.Common.{◌≡◌, ◌≤◌, ℕ, Bool, true, false, List, [], ◌∷◌, ◌++◌, Option, Some, None, refl, sym, ap, ◌∙◌, subst, arith, bytes_eq}
 use Rattle.std.specs.Prelude.{slice_index, drop}
 use Rattle.std.specs.Option.{option_map_or}

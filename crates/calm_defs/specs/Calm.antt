@@ -67,7 +67,7 @@ node_using name = record { name = []; using = name; program = fifo; marks = no_m
 abbrev pub team_of : List ℕ → List ℕ → Tree Node
 team_of team desk = inner (node_using team) (more (leaf (node_using desk)) (more (leaf (node_using desk)) none))
 
--- the node, with a leaf as its sibling
+-- a root above a leaf and that node
 abbrev pub office_of : List ℕ → List ℕ → List ℕ → Tree Node
 office_of root team desk = inner (node_using root) (more (leaf (node_using (codes "fifo"))) (more (team_of team desk) none))
 

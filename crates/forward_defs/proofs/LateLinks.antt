@@ -37,7 +37,8 @@ has_late-front (Depart start ∷ es) fs is = late_behind (is_late start) is (has
     late_behind false is later = later is
 
 -- ---- a prefix of a run's events
--- after events that aren't late, at most one more event is among those up to the first late departure
+-- after events that aren't late, one more event is still among those up to the first late
+-- departure
 one_more : (last others : List Event) → length last ≤ 1 → (more : List Event) × (last ++ more ≡ up_to_late (last ++ others))
 one_more [] others few = (up_to_late others, refl)
 one_more (Arrive p ∷ []) others few = (up_to_late others, refl)

@@ -22,7 +22,7 @@ pushes_of (Ok (Pushed leaf)) = 1
 pushes_of (Ok (Dropped leaf)) = 0
 pushes_of (Err e) = 0
 
--- P holds if a packet was pushed, or dropped
+-- P holds if the packet was pushed; the next definition says the same of a dropped packet
 abbrev pub WherePushed : Type 0 → Arrival → Type 0
 WherePushed P (Pushed leaf) = P
 WherePushed P (Dropped leaf) = Unit {0}

@@ -39,7 +39,7 @@ fn first_state(alloc: Global, policy: &Policy, node: u32) -> Result<NodeState, A
     }
 }
 
-/// Returns the first variables of all nodes, by node number. The error means out of memory.
+/// Returns the initial variables of all nodes, by node number. The error means out of memory.
 pub fn first_states(alloc: Global, policy: &Policy) -> Result<Vec<NodeState>, AllocError>
     ensures kept { IfOk result (λ states. AreStations policy.now.policy.tree states.items) }
     ensures values { IfOk result (λ states. HaveValues policy.now.policy.tree states.items

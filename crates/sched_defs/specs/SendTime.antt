@@ -38,7 +38,7 @@ three_bytes_at_three_a_second = refl
 bytes_at_the_highest_rate : map (λ len. send_time len most_rate) (0 ∷ 1 ∷ 1000 ∷ 1001 ∷ []) ≡ 0 ∷ 1 ∷ 1 ∷ 2 ∷ []
 bytes_at_the_highest_rate = refl
 
--- the lowest and the highest rate are rates, and none beyond them is
+-- the lowest and the highest rate are valid, and no rate beyond them is
 the_ends_are_rates : IsRate 1 × IsRate 1000000000000
 the_ends_are_rates = ((omega arith, omega arith), (omega arith, omega arith))
 

@@ -1,4 +1,5 @@
--- The state of a policy's tree of queues, and how an arrival and a departure change it (SIGCOMM 2016, OOPSLA 2023).
+-- The state of a policy's tree of queues, and how an arrival and a departure change it (SIGCOMM
+-- 2016, OOPSLA 2023).
 use Rattle.std.specs.Prelude.{ℕ, max, ◌==◌, Bool, false, if◌then◌else◌, Option, None, Some, option_map, unwrap_or, List, [], length}
 use Rattle.std.specs.Option.{option_map_or}
 use Rattle.tree_defs.specs.Tree.{Tree, Address, Popping, option_bind}

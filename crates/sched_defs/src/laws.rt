@@ -40,26 +40,28 @@ pub fn courses_can_be_made()
     ensures short { CoursesAreShort }
 {}
 
-/// A `drain` step takes each packet that is queued, makes no departure that finds nothing, and leaves no packet queued. The
-/// clause `step` says it of each sound state of an accepted policy. `each` says it of each `drain` of a script, and `last` of
-/// a run after a script that ends with one. Their premises hold in each run: every `Policy` is accepted, the start is sound,
-/// and the packets arrive in the order of a capture.
+/// A `drain` step takes each packet that is queued, makes no departure that finds nothing, and
+/// leaves no packet queued. The clause `step` says it of each sound state of an accepted policy.
+/// `each` says it of each `drain` of a script, and `last` of a run after a script that ends with
+/// one. Their premises hold in each run: every `Policy` is accepted, the start is sound, and the
+/// packets arrive in the order of a capture.
 pub fn drains_leave_nothing()
     ensures step { DrainsLeaveNothing }
     ensures each { EachDrainLeavesNothing }
     ensures last { LastDrainsLeaveNothing }
 {}
 
-/// The events that a link paces can be made over packets in the order of a capture. Each packet is pushed or dropped, no
-/// departure finds nothing, and after a whole capture all is sent.
+/// The events that a link paces can be made over packets in the order of a capture. Each packet is
+/// pushed or dropped, no departure finds nothing, and after a whole capture all is sent.
 pub fn links_send_all()
     ensures made { LinksCanRun }
     ensures sent { LinksSendAll }
 {}
 
-/// Before a packet arrives, a link stops sending only if no packet is queued or the link isn't free before the packet's
-/// timestamp. It starts no departure at that timestamp or later. The clause `due` says it of each sound state of an accepted
-/// policy, and `each` of each packet of a run, by the premises of `drains_leave_nothing`.
+/// Before a packet arrives, a link stops sending only if no packet is queued or the link isn't free
+/// before the packet's timestamp. It starts no departure at that timestamp or later. The clause
+/// `due` says it of each sound state of an accepted policy, and `each` of each packet of a run, by
+/// the premises of `drains_leave_nothing`.
 pub fn links_send_what_is_due()
     ensures due { LinksSendWhatIsDue }
     ensures each { LinksSendBeforeEach }

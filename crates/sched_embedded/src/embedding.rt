@@ -17,7 +17,7 @@ use std::marker::Model;
 use target_core::Target;
 use tree_core::Taken;
 
-/// A tree laid into a target's, with room for the path to one leaf there.
+/// A tree laid into a target's tree, with room for the path to one leaf there.
 #[derive(Drop)]
 pub struct Embedding {
     map: Map,
