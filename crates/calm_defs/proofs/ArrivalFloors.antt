@@ -1,4 +1,4 @@
--- The ranks with which a packet arrives lie between the floors before and those after its push.
+-- The ranks with which a packet arrives are between the floors before its push and those after it.
 use Rattle.std.proofs.Common.{◌≡◌, ◌≤◌, ◌<◌, ℕ, zero, suc, Bool, true, false, List, [], ◌∷◌, ◌++◌, length, Some, refl, sym, ap, ◌∙◌, subst, arith, bytes_eq, append_assoc, append-nil, length-append}
 use Rattle.std.specs.Option.{option_map_or}
 use Rattle.std.specs.List.{AllByRecursion}
@@ -28,7 +28,7 @@ child_marks-are none i = refl
 child_marks-are (more t ts) zero = rw (root_stands t) refl
 child_marks-are (more t ts) (suc i) = child_marks-are ts i
 
--- and what stands below a node
+-- the nodes of these subtrees are the nodes of the tree at these addresses
 abbrev ArePart : Tree Node → (ℕ → Address) → Trees Node → Type 0
 ArePart root at ts = (i : ℕ) (b : Address) → node_at root (at i ++ b) ≡ node_below ts i b
 
@@ -38,7 +38,7 @@ part_below root a n ts part i b = ap (node_at root) (append_assoc a (i ∷ []) b
 part_stands : (root : Tree Node) (a : Address) (t : Tree Node) → IsPart root a t → node_at root a ≡ Some (root_of t)
 part_stands root a t part = ap (node_at root) (sym (append-nil a)) ∙ part [] ∙ root_stands t
 
--- a step on the way is told of the child with its marks, at the moment of the arrival
+-- a step on the path gets the child with its marks, and the timestamp of the arrival
 record IsTold (root : Tree Node) (moment : ℕ) (v : Visit) : Type 0 where
   now : v.env.now ≡ moment
   marks : (i : ℕ) → v.who ≡ Child i → HasMarksOf v.env (told moment (marks_of root v.address i))
@@ -69,7 +69,7 @@ module _ (root : Tree Node) (c : Class) (p : Packet) (moment : ℕ) where
     visits_below-told (more t ts) zero at digits part = visits_from-told t (at 0) digits (part 0)
     visits_below-told (more t ts) (suc i) at digits part = visits_below-told ts i (λ j. at (suc j)) digits (λ j. part (suc j))
 
-  -- no visit on the way is above the first
+  -- no visit on the path is above the first
   mutual
     visits_from-longer : (n : ℕ) (t : Tree Node) (a : Address) (digits : List ℕ) → n ≤ length a → AllByRecursion (λ v. n ≤ length v.address) (visits_from t a digits c p moment)
     visits_from-longer n (leaf m) a digits l = (l, tt)
@@ -81,7 +81,7 @@ module _ (root : Tree Node) (c : Class) (p : Packet) (moment : ℕ) where
     visits_below-longer n (more t ts) zero a digits l = visits_from-longer n t a digits l
     visits_below-longer n (more t ts) (suc i) a digits l = visits_below-longer n ts i a digits l
 
--- ---- a state that was set
+-- ---- a state that was replaced
 with_state-longer : (nodes : States) (a b : Address) (s : State) → length a < length b → with_state nodes a s b ≡ nodes b
 with_state-longer nodes a b s l = by_test (bytes_eq a b) refl
   where
@@ -89,7 +89,7 @@ with_state-longer nodes a b s l = by_test (bytes_eq a b) refl
     by_test true q = let e : length a ≡ length b = ap length ((bytes_eq-Decides a b).0 q) in absurd (omega arith)
     by_test false q = rw q refl
 
--- the state of a node has no part in the ranks of nodes below it
+-- the state of a node doesn't affect the ranks of nodes below it
 ranks_pushed-longer : (visits : List Visit) (nodes : States) (a : Address) (s : State) → AllByRecursion (λ v. suc (length a) ≤ length v.address) visits → ranks_pushed (with_state nodes a s) visits ≡ ranks_pushed nodes visits
 ranks_pushed-longer [] nodes a s l = refl
 ranks_pushed-longer (v ∷ visits) nodes a s l =
@@ -97,7 +97,7 @@ ranks_pushed-longer (v ∷ visits) nodes a s l =
     ap (λ (z : State). push_rank v.program v.who v.env z ∷ ranks_pushed (with_state nodes a s) visits) (with_state-longer nodes a v.address s k)
     ∙ ap (λ (ranks : List ℕ). rank_at nodes v ∷ ranks) (ranks_pushed-longer visits nodes a s l.1)
 
--- ---- ranks on the way
+-- ---- ranks on the path
 fifo-floor : (root : Tree Node) (nodes : States) (now : ℕ) (a : Address) (n : Node) → node_at root a ≡ Some n → n.program ≡ fifo → floors root nodes now a 0 ≡ 0
 fifo-floor root nodes now a n stands f =
     ap (floor_in now (marks_of root a 0) ((nodes a).eaches (Child 0))) stands ∙ ap (λ (q : Program). floor q (told now (marks_of root a 0)) ((nodes a).eaches (Child 0))) f
@@ -128,7 +128,7 @@ module _ (root : Tree Node) (steady : HasSteadyPrograms root) (ready : (a : Addr
     ranks_below_over (more t ts) (suc i) at digits nodes part programs leads h = ranks_below_over ts i (λ j. at (suc j)) digits nodes (λ j. part (suc j)) programs.1 leads h
 
   mutual
-    -- and none is above its floor after it
+    -- no rank is above its floor after the push
     pub ranks_under : (t : Tree Node) (a : Address) (digits : List ℕ) (nodes : States) → IsPart root a t → HasSteadyPrograms t → LeadsToLeaf t digits → AreStatesInRange root nodes
         → AreRanksUnder (floors root (after_pushes (visits_from t a digits c p moment) nodes) moment) a digits (ranks_pushed nodes (visits_from t a digits c p moment))
     ranks_under (leaf n) a [] nodes part programs leads h =

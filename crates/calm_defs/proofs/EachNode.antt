@@ -1,4 +1,4 @@
--- A policy is calm exactly where it is at each of its nodes.
+-- A policy is calm exactly if it is calm at each of its nodes.
 use Rattle.std.proofs.Common.{◌≡◌, ℕ, zero, suc, true, List, [], ◌∷◌, Some, refl, sym, ap, ◌∙◌, subst, inl, inr, codes}
 use Rattle.std.specs.Prelude.{length}
 use Rattle.std.specs.List.{list_any}

@@ -1,4 +1,5 @@
--- Along the lift a push spills nowhere, if each child has a digit of its own and no entry of a child is above its floor.
+-- Along the lift a push spills nowhere, if each child has its own digit and no entry of a child is
+-- above its floor.
 use Rattle.std.proofs.Common.{◌≡◌, ◌≢◌, ◌≤◌, ℕ, zero, suc, ◌+◌, Bool, true, false, ◌&&◌, ◌||◌, eqb, List, [], ◌∷◌, ◌++◌, length, replicate, drop, Option, Some, None, refl, sym, ap, ◌∙◌, arith, eq-eqb, zero-add, nat_eq, nat_lt}
 use Rattle.std.specs.Prelude.{slice_index, unwrap_or}
 use Rattle.std.specs.List.{AllByRecursion}
@@ -27,7 +28,7 @@ use Rattle.calm_defs.proofs.OwnDigits.{AreOwnDigits, HasOwnDigits, HaveOwnDigits
 use Rattle.calm_defs.proofs.TreeFloors.{Floors, IsUnder, AreUnder, AreRanksOver}
 
 -- ---- one queue
--- a push on the way along e spills where it does behind e, if it spills nowhere on e
+-- if a push along e spills nowhere on e, it spills as it does after e
 spills_along-way : (e a : Address) (rank : ℕ) (ranks : List ℕ) (F : Family) → ((c : Address) (x : ℕ) → digit_beyond e c ≡ Some x → spills_for rank x (F c) ≡ false)
     → spills_along (e ++ a) (replicate (length e) rank ++ ranks) F ≡ spills_along a ranks (λ c. F (e ++ c))
 spills_along-way [] a rank ranks F h = refl
@@ -36,7 +37,7 @@ spills_along-way (x ∷ e) a rank ranks F h =
     ∙ zero-add (spills_along (e ++ a) (replicate (length e) rank ++ ranks) (below F x))
     ∙ spills_along-way e a rank ranks (below F x) (λ c y p. h (x ∷ c) y (rw (eq-eqb x x refl) p))
 
--- two addresses that go on from c with the same digit begin with the same digit
+-- two addresses that continue after c with the same digit begin with the same digit
 record BeginAlike (e g : Address) : Type 0 where
   long : e ≢ []
   other_long : g ≢ []
@@ -55,7 +56,7 @@ begin_alike (y ∷ e) (z ∷ g) (w ∷ c) x p q =
 abbrev IsQuiet : ℕ → ℕ → Queue → Type 0
 IsQuiet i r q = AllByRecursion (λ e. e.1 ≡ i → e.0 ≤ r) q
 
--- nor has any that passes c with the digit of child i
+-- nor has any entry that passes c with the digit of child i
 quiet_passing : (ps : Placements) (i r x : ℕ) (c : Address) → AreOwnDigits ps → digit_beyond (part ps i) c ≡ Some x → (q : Queue) → IsQuiet i r q → spills_for r x (passing ps q c) ≡ false
 quiet_passing ps i r x c own p [] h = refl
 quiet_passing ps i r x c own p (e ∷ q) h = by_digit (digit_beyond (part ps e.1) c) refl (quiet_passing ps i r x c own p q h.1)
@@ -72,12 +73,12 @@ quiet_passing ps i r x c own p (e ∷ q) h = by_digit (digit_beyond (part ps e.1
     by_digit None s rest = ap (spills_for r x) (passing_by-none (digit_at ps c) e.0 e.1 q s) ∙ rest
     by_digit (Some y) s rest = ap (spills_for r x) (passing_by-some (digit_at ps c) e.0 e.1 y q s) ∙ by_match y s rest (nat_eq y x) refl
 
--- at a leaf all entries count
+-- a push at a leaf doesn't spill if no entry has a greater rank
 quiet_leaf : (r : ℕ) (q : Queue) → AllByRecursion (λ e. e.0 ≤ r) q → spills_at_leaf r q ≡ false
 quiet_leaf r [] h = refl
 quiet_leaf r (e ∷ q) h = rw (le-ltb r e.0 h.0) (quiet_leaf r q h.1)
 
--- ---- the whole way
+-- ---- the whole path
 module _ (f : Floors) where
   mutual
     pub lift-quiet : (a : Address) (t : Tree Queue) (p : Placement) (digits ranks : List ℕ) → IsPlaced p → HasOwnDigits p → SameShape t p → LeadsToLeaf t digits → IsUnder f a t → AreRanksOver f a digits ranks

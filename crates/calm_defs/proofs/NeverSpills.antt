@@ -1,4 +1,4 @@
--- In each state that events lead to no entry is above its child's floor, and so no push spills.
+-- In each state after events, no entry is above its child's floor, and so no push spills.
 use Rattle.std.proofs.Common.{◌≡◌, ◌≤◌, ℕ, max, List, [], ◌∷◌, Option, Some, None, refl, sym, ◌∙◌, subst, arith}
 use Rattle.std.specs.List.{AllByRecursion}
 use Rattle.std.proofs.lemmas.Bool.{and_parts}
@@ -55,7 +55,7 @@ module _ (policy : Policy) (accepted : IsAccepted policy) (steady : HasSteadyPro
     under : AreRanksUnder (floors policy.tree (after_pushes (way_in policy p moment) s.nodes) moment) [] leaf_of (arrival_ranks policy p s)
     under = ranks_under policy.tree steady accepted.nodes (class_of policy p) ready.marks p can.known.len moment moment_low policy.tree [] leaf_of s.nodes (λ b. refl) steady ready.leaf_address sound.states
 
-    -- as time goes on to the arrival
+    -- at the timestamp of the arrival
     pub settled_later : IsSettled policy s → IsUnder (floors policy.tree s.nodes moment) [] s.tree
     settled_later = IsUnder-risen (floors policy.tree s.nodes s.now) (floors policy.tree s.nodes moment) (λ a i. floors-later policy.tree steady_nodes s.nodes s.now moment (omega arith) a i) [] s.tree
 

@@ -1,4 +1,4 @@
--- Where images are spread, each child of a node has a first digit of its own behind the node's image.
+-- If images are spread, each child of a node has its own first digit after the node's image.
 use Rattle.std.proofs.Common.{◌≡◌, ◌≢◌, ℕ, zero, suc, true, List, [], ◌∷◌, length, drop, Some, refl, sym, ap, ◌∙◌}
 use Rattle.std.specs.Prelude.{slice_index}
 use Rattle.std.proofs.lemmas.Bool.{and_parts}
@@ -31,7 +31,7 @@ root_dropped : (n : ℕ) (m : Tree Address) → root_of (relative n m) ≡ drop 
 root_dropped n (leaf e) = refl
 root_dropped n (inner e ts) = refl
 
--- a part that isn't empty is that of a child's image
+-- a part that isn't empty is the rest of a child's image
 record IsChildsPart (n : ℕ) (ts : Trees Address) (i : ℕ) : Type 0 where
   image : Tree Address
   stands : child ts i ≡ Some image

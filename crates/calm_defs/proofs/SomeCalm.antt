@@ -1,4 +1,4 @@
--- A calm policy that is laid by a good map: what the laws ask for can be met.
+-- A calm policy that is laid by a good map: the premises of the laws can be met.
 use Rattle.std.proofs.Common.{◌≡◌, zero, suc, [], ◌∷◌, Some, refl, subst, arith, codes, lit≤}
 use Rattle.tree_defs.specs.Tree.{Address}
 use Rattle.rank_defs.specs.Programs.{Program}
@@ -16,7 +16,7 @@ use Rattle.calm_defs.specs.Rows.{node_of, pair_by, side_by_side}
 abbrev fair : Policy
 fair = pair_by (named (codes "stfq") stfq)
 
--- what holds of the root and of both leaves holds of each node
+-- a property of the root and of both leaves is one of each node
 module _ (P : Node → Type 0) (root : P (node_of (named (codes "stfq") stfq))) (fifos : P (node_of (named (codes "fifo") fifo))) where
   each_node : (a : Address) (n : Node) → node_at fair.tree a ≡ Some n → P n
   each_node [] n e = let same : node_of (named (codes "stfq") stfq) ≡ n = cc in subst P same root

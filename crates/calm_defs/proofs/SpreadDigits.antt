@@ -1,4 +1,4 @@
--- Digits that differ, said of the children of a node.
+-- Distinct digits, as a statement about the children of a node.
 use Rattle.std.proofs.Common.{◌≡◌, ◌⊎◌, ℕ, zero, suc, pred, Bool, true, false, Some, refl, sym, ap, ◌∙◌, inl, inr, eq-eqb, nat_eq}
 use Rattle.std.specs.Prelude.{not, slice_index, ◌||◌}
 use Rattle.std.specs.List.{list_any}
@@ -11,7 +11,7 @@ pub or_later : (b c : Bool) → c ≡ true → (b || c) ≡ true
 or_later true c e = refl
 or_later false c e = e
 
--- the digit of a child stands among the digits
+-- the digit of a child is among the digits
 child-among : (n : ℕ) (ts : Trees Address) (j x : ℕ) (u : Tree Address) → child ts j ≡ Some u → x ≡ slice_index (root_of u) n → list_any (nat_eq x) (digits_behind n ts) ≡ true
 child-among n none j x u c e = cc
 child-among n (more t ts) zero x u c e =
@@ -26,7 +26,7 @@ record HasDigit (n : ℕ) (ts : Trees Address) (x : ℕ) : Type 0 where
   stands : child ts index ≡ Some image
   digit : x ≡ slice_index (root_of image) n
 
--- a digit that stands among the digits is a child's
+-- a digit among the digits is a child's
 among-child : (n : ℕ) (ts : Trees Address) (x : ℕ) → list_any (nat_eq x) (digits_behind n ts) ≡ true → HasDigit n ts x
 among-child n none x e = cc
 among-child n (more t ts) x e = elim (or_cases (nat_eq x (slice_index (root_of t) n)) (list_any (nat_eq x) (digits_behind n ts)) e) [

@@ -1,4 +1,5 @@
--- The floor of each child in the states of a policy's nodes: no push step lowers one, and no pop step changes one.
+-- The floor of each child in the states of a policy's nodes: no push step lowers one, and no pop
+-- step changes one.
 use Rattle.std.proofs.Common.{◌≡◌, ◌≤◌, ℕ, Bool, true, false, List, [], ◌∷◌, ◌++◌, Option, Some, None, refl, sym, ap, ◌∙◌, subst, arith, bytes_eq}
 use Rattle.std.specs.Prelude.{slice_index, drop}
 use Rattle.std.specs.Option.{option_map_or}
@@ -21,7 +22,7 @@ use Rattle.sched_defs.proofs.States.{AreStatesInRange, after_pushes-in_range}
 use Rattle.calm_defs.proofs.Steady.{floor, HasMarksOf, IsSteady}
 use Rattle.calm_defs.proofs.TreeFloors.{Floors}
 
--- what a step is told of a child with these marks, by a packet of length 0
+-- the inputs of a step for a child with these marks, with a packet of length 0
 abbrev pub told : ℕ → Marks → Env
 told now m = record { len = 0; now = now; prio = m.prio; weight = m.weight; slack = m.slack }
 
@@ -38,7 +39,7 @@ floor_in now m eaches (Some n) = floor n.program (told now m) eaches
 abbrev pub floors : Tree Node → States → ℕ → Floors
 floors root nodes now a i = floor_in now (marks_of root a i) ((nodes a).eaches (Child i)) (node_at root a)
 
--- an arrival's visit to a node of the tree; the step is told of the child with its marks
+-- an arrival's visit to a node of the tree; the step gets the child with its marks
 pub record IsArrivalAt (root : Tree Node) (moment : ℕ) (v : Visit) : Type 0 where
   pub visit : IsVisitTo root v
   pub now : v.env.now ≡ moment
@@ -81,7 +82,7 @@ module _ (p : Program) (steady : IsSteady p) (who : Who) (env : Env) (s : State)
       (λ same. subst (λ (w : Who). (after_pop p who env taken s).eaches w ≡ s.eaches w) same (put_back-same who (pop_step p who env taken s) s ∙ steady.popped who env taken s))
       (λ apart. put_back-other who other (pop_step p who env taken s) s (λ k. apart (sym k)))
 
--- the state of a node that was set, and of any other
+-- P holds of the states with one replaced, if it holds of the new state and of each old one
 pub state_at : (nodes : States) (b : Address) (s : State) (P : Address → State → Type 0) → P b s → ((a : Address) → P a (nodes a)) → (a : Address) → P a (with_state nodes b s a)
 state_at nodes b s P here others a = by_test (bytes_eq b a) refl
   where
@@ -129,7 +130,7 @@ module _ (root : Tree Node) (steady : (a : Address) (n : Node) → node_at root 
       (λ b z. floors root nodes now b i ≤ floor_in now (marks_of root b i) (z.eaches (Child i)) (node_at root b))
       (omega (arith, here, before, behind)) (λ b. no_less (floors root nodes now b i) (floors root nodes now b i) refl) a
 
-  -- the rank of a visit lies between the floor before and the floor after it
+  -- the rank of a visit is between the floor before it and the floor after it
   pub visit_over : (nodes : States) (now : ℕ) (v : Visit) (i : ℕ) → v.who ≡ Child i → AreStatesInRange root nodes → IsArrivalAt root now v → floors root nodes now v.address i ≤ rank_at nodes v
   visit_over nodes now v i child h arrival =
       let s : State = nodes v.address in

@@ -1,4 +1,5 @@
--- Transactions by which the ranks of a child never fall: each has a floor for the child, which never falls either.
+-- Transactions with which the ranks of a child never fall: each has a floor for the child, which
+-- never falls either.
 use Rattle.std.proofs.Common.{◌≡◌, ◌≤◌, ℕ, List, []}
 use Rattle.rank_defs.specs.declared.environment.Env.{Env}
 use Rattle.rank_defs.specs.declared.environment.Who.{Who}
@@ -11,14 +12,14 @@ use Rattle.rank_defs.specs.Shapes.{IsStateInRange, IsEnvInRange}
 abbrev pub floor : Program → Env → List ℕ → ℕ
 floor p env eaches = (run p env p.push (record { rank = 0; keeps = []; eaches = eaches })).rank
 
--- the marks of one child, at two moments
+-- the marks of one child, at two timestamps
 pub record HasMarksOf (old new : Env) : Type 0 where
   pub prio : old.prio ≡ new.prio
   pub weight : old.weight ≡ new.weight
   pub slack : old.slack ≡ new.slack
 
--- No rank of a child is below its floor. The floor doesn't fall as time goes on; after a push of the child it is no lower
--- than the rank; and a pop doesn't change it.
+-- No rank of a child is below its floor. The floor doesn't fall as time passes. After a push of the
+-- child it is at least the rank. A pop doesn't change it.
 pub record IsSteady (p : Program) : Type 0 where
   pub above : (who : Who) (env : Env) (s : State) → floor p env (s.eaches who) ≤ push_rank p who env s
   pub later : (old new : Env) (eaches : List ℕ) → HasMarksOf old new → old.now ≤ new.now → floor p old eaches ≤ floor p new eaches

@@ -1,4 +1,4 @@
--- The built-in transactions are steady, but for the one that ranks by lengths.
+-- The built-in transactions are steady, except the one that ranks by length.
 use Rattle.std.proofs.Common.{◌≡◌, ◌≤◌, ℕ, zero, suc, List, [], ◌∷◌, refl, arith}
 use Rattle.std.specs.Prelude.{ℤ, pos, ◌+ℤ◌, ◌*ℤ◌, ◌≤ℤ◌, int_div, slice_index, slice_set}
 use Rattle.std.specs.Int.{int_max}
@@ -62,12 +62,12 @@ rank_of-each r each h l =
     let rises : clamped (span 0 max_rank 0) (num (pos r)) ≤ rank_of 0 each = clamped-rises max_rank 0 (pos r) (int_max (pos 0) (pos each)) (omega (arith, ints, clamps)) in
     omega (arith, stays, rises)
 
--- the one variable of a child, where it was written
+-- the one variable of a child, after it was written
 written_first : (eaches : List ℕ) (w : ℕ) → AreWithin (counter ∷ []) eaches → slice_index (slice_set eaches 0 w) 0 ≡ w
 written_first [] w h = absurd h
 written_first (x ∷ eaches) w h = refl
 
--- a child's variable that becomes no less than the rank is a floor at the rank or above
+-- a child's variable that becomes at least the rank is a floor at the rank or above
 raised_floor : (eaches : List ℕ) (r : ℕ) (next : ℤ) → AreWithin (counter ∷ []) eaches → r ≤ max_rank → pos r ≤ℤ next
     → r ≤ rank_of 0 (slice_index (slice_set eaches 0 (clamped (span 0 max_rank 0) (num next))) 0)
 raised_floor eaches r next h l n =
@@ -86,7 +86,7 @@ rr-steady = record {
   popped = λ who env taken s. refl;
 }
 
--- the same, where a length is divided by a weight
+-- the same, if a length is divided by a weight
 raised_by_weight : (eaches : List ℕ) (r len weight : ℕ) → AreWithin (counter ∷ []) eaches → r ≤ max_rank → 1 ≤ weight
     → r ≤ rank_of 0 (slice_index (slice_set eaches 0 (clamped (span 0 max_rank 0) (apply Add (num (pos r)) (quotient (pos len *ℤ pos 1000) (pos weight))))) 0)
 raised_by_weight eaches r len zero h l w = absurd (omega arith)

@@ -1,4 +1,4 @@
--- In a tree that is steady by the names that its nodes use, the nodes have steady programs.
+-- In a tree whose nodes use steady names, the nodes have steady programs.
 use Rattle.std.proofs.Common.{◌≡◌, ℕ, zero, suc, true, List, [], ◌∷◌, Some, refl, sym, ap, ◌∙◌, subst, inl, inr, codes}
 use Rattle.std.specs.List.{AllByRecursion, list_any}
 use Rattle.std.proofs.lemmas.Bool.{or_cases, and_parts}
@@ -40,7 +40,7 @@ module _ (P : List ℕ → Type 0) where
     | inr k ↦ one_of name names h.1 k
   ]
 
--- each inner node has a steady program, and each leaf that of first in first out
+-- each inner node has a steady program, and each leaf has the program of first in first out
 abbrev mutual
   pub HasSteadyPrograms : Tree Node → Type 0
   HasSteadyPrograms (leaf n) = n.program ≡ fifo

@@ -11,11 +11,12 @@ use Rattle.tree_defs.proofs.PacketLaws.{OneMore-put, OneMore-taken}
 use Rattle.tree_defs.proofs.OneMoreLaws.{All-added, All-taken}
 use Rattle.sched_defs.proofs.Members.{all_mapped}
 
--- a number for each child of the node at each address; at a leaf that of child 0 stands for all of its packets
+-- a number for each child of the node at each address; at a leaf, child 0's number is that of all
+-- its packets
 abbrev pub Floors : Type 0
 Floors = Address → ℕ → ℕ
 
--- in the tree that stands at an address no entry is above its child's floor
+-- in the tree at an address, no entry is above its child's floor
 abbrev mutual
   pub IsUnder : Floors → Address → Tree Queue → Type 0
   IsUnder f a (leaf q) = AllByRecursion (λ e. e.0 ≤ f a 0) q
@@ -26,12 +27,12 @@ abbrev mutual
   AreUnder f at none = Unit {0}
   AreUnder f at (more t ts) = IsUnder f (at 0) t × AreUnder f (λ i. at (suc i)) ts
 
--- no rank on the way from an address is above its child's floor
+-- no rank on the path from an address is above its child's floor
 abbrev pub AreRanksUnder : Floors → Address → List ℕ → List ℕ → Type 0
 AreRanksUnder f a [] ranks = slice_index ranks 0 ≤ f a 0
 AreRanksUnder f a (i ∷ digits) ranks = (slice_index ranks 0 ≤ f a i) × AreRanksUnder f (a ++ i ∷ []) digits (drop 1 ranks)
 
--- and none is below it
+-- no rank is below its child's floor
 abbrev pub AreRanksOver : Floors → Address → List ℕ → List ℕ → Type 0
 AreRanksOver f a [] ranks = f a 0 ≤ slice_index ranks 0
 AreRanksOver f a (i ∷ digits) ranks = (f a i ≤ slice_index ranks 0) × AreRanksOver f (a ++ i ∷ []) digits (drop 1 ranks)

@@ -1,4 +1,5 @@
--- Calm policies: no packet is ranked below an earlier one of the same child, and each child has a digit of its own.
+-- Calm policies: no packet is ranked below an earlier one of the same child, and each child has its
+-- own digit.
 use Rattle.std.specs.Prelude.{◌≡◌, refl, ℕ, Bool, true, false, not, ◌&&◌, None, List, [], ◌∷◌, length, nat_eq, slice_index, codes}
 use Rattle.std.specs.List.{list_any}
 use Rattle.tree_defs.specs.Tree.{Tree, leaf, inner, Trees, none, more, Address, root_of}
@@ -15,7 +16,7 @@ steady = codes "fifo" ∷ codes "strict" ∷ codes "lstf" ∷ codes "rr" ∷ cod
 abbrev pub is_steady : List ℕ → Bool
 is_steady name = list_any (same_name name) steady
 
--- each inner node uses a steady transaction, and each leaf first in first out
+-- each inner node uses a steady transaction, and each leaf uses first in first out
 abbrev mutual
   pub has_steady_nodes : Tree Node → Bool
   has_steady_nodes (leaf n) = same_name n.using (codes "fifo")
@@ -25,17 +26,17 @@ abbrev mutual
   have_steady_nodes none = true
   have_steady_nodes (more t ts) = has_steady_nodes t && have_steady_nodes ts
 
--- the digit of each child's image behind its first n digits
+-- the digit of each child's image that follows its first n digits
 abbrev pub digits_behind : ℕ → Trees Address → List ℕ
 digits_behind n none = []
 digits_behind n (more t ts) = slice_index (root_of t) n ∷ digits_behind n ts
 
--- no number is equal to one after it
+-- no number is equal to a later one
 abbrev pub all_differ : List ℕ → Bool
 all_differ [] = true
 all_differ (x ∷ xs) = not (list_any (nat_eq x) xs) && all_differ xs
 
--- the images of each inner node's children differ in the digit right behind the node's image
+-- the images of each inner node's children differ in the digit right after the node's image
 abbrev mutual
   pub is_spread : Tree Address → Bool
   is_spread (leaf e) = true
@@ -52,7 +53,7 @@ is_calm tree images = has_steady_nodes tree && is_spread images
 pub is_steady-stfq : is_steady (codes "stfq") ≡ true
 is_steady-stfq = refl
 
--- a packet shorter than those that wait is ranked below them
+-- a packet shorter than the queued ones is ranked below them
 pub is_steady-shortest : is_steady (codes "shortest") ≡ false
 is_steady-shortest = refl
 
@@ -66,7 +67,7 @@ node_using name = record { name = []; using = name; program = fifo; marks = no_m
 abbrev pub team_of : List ℕ → List ℕ → Tree Node
 team_of team desk = inner (node_using team) (more (leaf (node_using desk)) (more (leaf (node_using desk)) none))
 
--- a leaf beside it
+-- a root above a leaf and that node
 abbrev pub office_of : List ℕ → List ℕ → List ℕ → Tree Node
 office_of root team desk = inner (node_using root) (more (leaf (node_using (codes "fifo"))) (more (team_of team desk) none))
 
@@ -76,28 +77,28 @@ has_steady_nodes-office = refl
 pub has_steady_nodes-shortest_below_the_root : has_steady_nodes (office_of (codes "stfq") (codes "shortest") (codes "fifo")) ≡ false
 has_steady_nodes-shortest_below_the_root = refl
 
--- by flow a leaf may rank a packet below an earlier one of another flow
+-- a leaf that ranks by flow may rank a packet below an earlier one of another flow
 pub has_steady_nodes-stfq_at_a_leaf : has_steady_nodes (office_of (codes "stfq") (codes "strict") (codes "stfq")) ≡ false
 has_steady_nodes-stfq_at_a_leaf = refl
 
 abbrev pub team_apart : Tree Address
 team_apart = inner (1 ∷ 0 ∷ []) (more (leaf (1 ∷ 0 ∷ 1 ∷ [])) (more (leaf (1 ∷ 0 ∷ 0 ∷ [])) none))
 
--- laid into the binary tree of height 3, with a transit node on the way to each child of the root
+-- laid into the binary tree of height 3, with a transit node on the path to each child of the root
 abbrev pub apart : Tree Address
 apart = inner [] (more (leaf (0 ∷ 0 ∷ 0 ∷ [])) (more team_apart none))
 
 pub is_spread-apart : is_spread apart ≡ true
 is_spread-apart = refl
 
--- both children of the root lie behind digit 0
+-- both children of the root are below digit 0
 pub is_spread-with_transit : is_spread with_transit ≡ false
 is_spread-with_transit = refl
 
 pub is_spread-chain : is_spread chain ≡ true
 is_spread-chain = refl
 
--- two leaves behind an image of one digit, which both go on with 0
+-- two leaves below an image of one digit; both images continue with 0
 abbrev pub together : Tree Address
 together = inner (1 ∷ []) (more (leaf (1 ∷ 0 ∷ 0 ∷ [])) (more (leaf (1 ∷ 0 ∷ 1 ∷ [])) none))
 
@@ -110,11 +111,11 @@ is_calm-apart = refl
 pub is_calm-one_digit : is_calm (office_of (codes "rr") (codes "lstf") (codes "fifo")) with_transit ≡ false
 is_calm-one_digit = refl
 
--- for child 0 a packet waits with rank 5, and one with rank 3 comes for child 1
+-- a packet for child 0 is queued with rank 5, and one for child 1 arrives with rank 3
 abbrev pub one_waits : SourceTree
 one_waits = inner ((5, 0) ∷ []) (more (leaf ((0, 1) ∷ [])) (more (inner [] (more (leaf []) (more (leaf []) none))) none))
 
--- where both children lie behind one digit, it spills at the root
+-- if both children are below one digit, the push spills at the root
 pub push_spills-one_digit : push_spills with_transit one_waits (1 ∷ 0 ∷ []) (3 ∷ 0 ∷ 0 ∷ []) ≡ 1
 push_spills-one_digit = refl
 

@@ -1,4 +1,4 @@
--- What holds of calm policies.
+-- The laws of calm policies.
 use Rattle.std.specs.Prelude.{◌≡◌, ◌↔◌, ℕ, true, Some, List, [], ◌∷◌, length, slice_index, codes}
 use Rattle.std.specs.List.{Contains}
 use Rattle.tree_defs.specs.Tree.{Tree, leaf, inner, Trees, Address, child, root_of, subtree}
@@ -13,18 +13,19 @@ use Rattle.sched_defs.specs.Events.{Event, Arrive, Depart, after, CanArrive, Can
 use Rattle.calm_defs.specs.Calm.{steady, is_calm}
 
 -- ---- calm at each node
--- an inner node uses a steady transaction, and a leaf first in first out
+-- an inner node uses a steady transaction, and a leaf uses first in first out
 abbrev pub UsesSteady : Tree Node → Type 0
 UsesSteady (leaf n) = n.using ≡ codes "fifo"
 UsesSteady (inner n ts) = Contains steady n.using
 
--- of these images no two have the same digit behind their first n digits
+-- no two of these images have the same digit after their first n digits
 abbrev pub DifferBehind : ℕ → Trees Address → Type 0
 DifferBehind n ts =
     (i j : ℕ) (t u : Tree Address) → child ts i ≡ Some t → child ts j ≡ Some u
     → slice_index (root_of t) n ≡ slice_index (root_of u) n → i ≡ j
 
--- each node uses what it may, and the images of its children differ right behind its own
+-- each node uses a transaction that it may use, and the images of its children differ right after
+-- its own
 pub record IsCalmAtEachNode (tree : Tree Node) (images : Tree Address) : Type 0 where
   pub steady : (a : Address) (u : Tree Node) → subtree tree a ≡ Some u → UsesSteady u
   pub spread : (a : Address) (e : Address) (ts : Trees Address) → subtree images a ≡ Some (inner e ts) → DifferBehind (length e) ts
@@ -40,7 +41,7 @@ pub record IsLaidCalmly (h : ℕ) (policy : Policy) (images : Tree Address) : Ty
   pub maps : Maps h (start policy).tree images
   pub calm : is_calm policy.tree images ≡ true
 
--- the push of a packet that arrives spills at no node
+-- the push of an arriving packet spills at no node
 abbrev pub SpillsNowhere : Tree Address → Policy → Packet → SourceState → Type 0
 SpillsNowhere images policy p s = push_spills images s.tree (class_of policy p).leaf (arrival_ranks policy p s) ≡ 0
 
@@ -50,14 +51,15 @@ NoneSpills images policy [] s = Unit {0}
 NoneSpills images policy (Arrive p ∷ events) s = SpillsNowhere images policy p s × NoneSpills images policy events (arrived policy p s)
 NoneSpills images policy (Depart start ∷ events) s = NoneSpills images policy events (departed policy s)
 
--- after all events that can be made from the start, the push of each packet that can arrive then spills at no node
+-- after any events that can be made from the start, the push of each packet that can then arrive
+-- spills at no node
 abbrev pub CalmPoliciesNeverSpill : Type 0
 CalmPoliciesNeverSpill =
     (h : ℕ) (policy : Policy) (images : Tree Address) (events : List Event) (p : Packet) → IsLaidCalmly h policy images
     → CanMake policy events (start policy) → CanArrive policy (after policy events (start policy)) p
     → SpillsNowhere images policy p (after policy events (start policy))
 
--- and so no push of such events spills
+-- so no push among such events spills
 abbrev pub CalmRunsNeverSpill : Type 0
 CalmRunsNeverSpill =
     (h : ℕ) (policy : Policy) (images : Tree Address) (events : List Event) → IsLaidCalmly h policy images

@@ -1,4 +1,4 @@
--- Pushes that are worked out, of two leaves below a root.
+-- Worked examples of pushes, with two leaves below a root.
 use Rattle.std.specs.Prelude.{◌≡◌, refl, ℕ, None, List, [], ◌∷◌, codes}
 use Rattle.tree_defs.specs.Tree.{Tree, leaf, inner, none, more, Address}
 use Rattle.rank_defs.specs.Builtins.{Builtin, named, fifo, shortest, rr, stfq}
@@ -27,7 +27,7 @@ pair_by b = record {
 abbrev pub side_by_side : Tree Address
 side_by_side = inner [] (more (leaf (0 ∷ [])) (more (leaf (1 ∷ [])) none))
 
--- a long packet waits, and a short one of its class comes
+-- a long packet is queued, and a short one of its class arrives
 abbrev pub long_waits : Policy → SourceState
 long_waits policy = after policy (Arrive (packet 1 1500 0) ∷ []) (start policy)
 

@@ -1,4 +1,4 @@
--- What is told of outcomes in a row is told of the first of them, and then of the others.
+-- The records of outcomes in a row are those of a prefix, followed by those of the others.
 use Rattle.std.proofs.Common.{◌≡◌, ℕ, List, [], ◌∷◌, ◌++◌, refl, sym, ap, ◌∙◌, append_assoc}
 use Rattle.sched_defs.specs.Events.{Outcome}
 use Rattle.sched_defs.specs.Packets.{Captured}

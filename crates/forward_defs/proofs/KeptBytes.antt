@@ -1,5 +1,5 @@
--- The captured bytes that are kept are those of the packets that are held, so that records told one by one are those of all
--- departures.
+-- The captured bytes kept are those of the queued packets, so the records written one by one are
+-- those of all departures.
 use Rattle.std.proofs.Common.{◌≡◌, ◌==◌, ◌/◌, ◌%◌, ◌^◌, ℕ, Bool, true, false, nat_lt, if◌then◌else◌, Option, None, Some, List, [], ◌∷◌, ◌++◌, map, refl, sym, ap, ◌∙◌, subst, append-nil}
 use Rattle.std.specs.Prelude.{option_map}
 use Rattle.std.proofs.lemmas.Bool.{eqb-true}
@@ -20,12 +20,13 @@ use Rattle.forward_defs.specs.Sendings.{Sending, late, sending_at, sendings}
 use Rattle.forward_defs.specs.Forwarded.{sent_record}
 use Rattle.forward_defs.specs.Keeping.{Keeping, keeps_nothing, keeps, record_for, records_of, RecordsAreForwarded}
 
--- of each packet that is held the captured bytes are kept
+-- the captured bytes of each queued packet are kept
 abbrev AreKept : Captured → SourceState → Keeping → Type 0
 AreKept captured s k = (n : ℕ) (p : Packet) → s.held n ≡ Some p → k.kept n ≡ Some (captured n)
 
 -- ---- a departure
--- what holds of a state in which nothing leaves, and of each packet that leaves, holds of a departure
+-- P holds of a departure if it holds of a state from which no packet departs, and of each packet
+-- that departs
 by_departure : (policy : Policy) (s : SourceState) (P : SourceState → Option Leaver → Type 0) → IsSound policy s → P s None
     → ((taken : Popping SourceTree) (p : Packet) → s.held taken.value ≡ Some p → P (left_with policy s taken (Some p)) (Some (leaving taken p))) → P (departed policy s) (leaver s)
 by_departure policy s P sound nothing something = by_pop (pop s.tree) refl
@@ -39,7 +40,7 @@ by_departure policy s P sound nothing something = by_pop (pop s.tree) refl
 no_packet : {X : Type 0} {x : X} → None ≡ Some x → ⊥
 no_packet e = cc
 
--- what is kept of the others stays
+-- the bytes kept of the other packets stay
 others_stay : (t : Bool) (held : Option Packet) (kept : Option (List ℕ)) (q : Packet) (bytes : List ℕ) → (held ≡ Some q → kept ≡ Some bytes)
     → (if t then None else held) ≡ Some q → (if t then None else kept) ≡ Some bytes
 others_stay true held kept q bytes given e = absurd (no_packet e)
@@ -53,7 +54,7 @@ kept_departed policy captured start s k sound kept =
     (sym (sound.numbered taken.value p held)) (others_stay (n == taken.value) (s.held n) (k.kept n) q (captured n) (kept n q)))
 
 -- ---- an arrival
--- the bytes of the packet that came are kept, and those of the others stay
+-- the bytes of the packet that arrived are kept, and those of the others stay
 one_more : (t : Bool) (n m : ℕ) (p : Packet) (held : Option Packet) (kept : Option (List ℕ)) (q : Packet) (captured : Captured) → (t ≡ true → n ≡ m)
     → (held ≡ Some q → kept ≡ Some (captured n)) → (if t then Some p else held) ≡ Some q → (if t then Some (captured m) else kept) ≡ Some (captured n)
 one_more true n m p held kept q captured same given e = ap (λ (i : ℕ). Some (captured i)) (sym (same refl))
@@ -85,7 +86,7 @@ bytes_of-append : (captured : Captured) (first others : List Sending) → bytes_
 bytes_of-append captured first others =
     ap (λ rs. records_bytes rs) (map-append (sent_record captured) first others) ∙ records_follow (map (sent_record captured) first) (map (sent_record captured) others)
 
--- behind a departure, where the records of the later ones are known
+-- after a departure, if the records of the later ones are known
 departure_first : (captured : Captured) (start : Option ℕ) (p : Packet) (kept : Option (List ℕ)) (later : List ℕ) (os : List Outcome) → kept ≡ Some (captured p.number) → later ≡ bytes_of captured (sendings os)
     → record_for start p.len kept ++ later ≡ bytes_of captured (sending_at start p ++ sendings os)
 departure_first captured start p kept later os is known =

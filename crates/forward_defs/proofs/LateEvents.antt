@@ -3,13 +3,13 @@ use Rattle.std.proofs.Common.{◌≡◌, Bool, true, false, true≢false, if◌t
 use Rattle.sched_defs.specs.Events.{Event, Arrive, Depart}
 use Rattle.forward_defs.specs.Sendings.{is_late, up_to_late, has_late}
 
--- behind a departure, where what follows is known
+-- after a departure, if the rest is known
 first_behind : (t : Bool) (start : Option ℕ) (es : List Event) → (others : List Event) × (up_to_late es ++ others ≡ es)
     → (others : List Event) × (Depart start ∷ ((if t then [] else up_to_late es) ++ others) ≡ Depart start ∷ es)
 first_behind true start es later = (es, refl)
 first_behind false start es later = (later.0, ap (λ (l : List Event). Depart start ∷ l) later.1)
 
--- they are the first of all events
+-- they are a prefix of all events
 pub up_to_late-first : (events : List Event) → (others : List Event) × (up_to_late events ++ others ≡ events)
 up_to_late-first [] = ([], refl)
 up_to_late-first (Arrive p ∷ es) =
@@ -22,7 +22,7 @@ whole_behind : (t : Bool) (start : Option ℕ) (es : List Event) → (has_late e
 whole_behind true start es later is = absurd (true≢false is)
 whole_behind false start es later is = ap (λ (l : List Event). Depart start ∷ l) (later is)
 
--- where none is late, they are all
+-- if none is late, they are all events
 pub up_to_late-whole : (events : List Event) → has_late events ≡ false → up_to_late events ≡ events
 up_to_late-whole [] none = refl
 up_to_late-whole (Arrive p ∷ es) none = ap (λ (l : List Event). Arrive p ∷ l) (up_to_late-whole es none)

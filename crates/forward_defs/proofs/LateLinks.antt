@@ -1,4 +1,5 @@
--- The run of a link ends at its first late departure where its events end there, and is whole where no outcome is late.
+-- The run of a link ends at its first late departure if its events end there. It is whole if no
+-- outcome is late.
 use Rattle.std.proofs.Common.{◌≡◌, ◌≤◌, ℕ, Bool, true, false, true≢false, length, if◌then◌else◌, Option, None, Some, List, [], ◌∷◌, ◌++◌, refl, sym, ap, ◌∙◌, subst, arith}
 use Rattle.tree_defs.specs.SourceTree.{size}
 use Rattle.packet_defs.specs.declared.packet.Packet.{Packet}
@@ -25,7 +26,7 @@ link_finds policy rate (p ∷ packets) fault s free =
     outcomes-append policy now.events more s ∙ ap (λ (z : SourceState). outcomes policy now.events s ++ outcomes policy more z) (turn_leads policy rate p s free) in
     omega (arith, ap empty_in all, empty_in-append (outcomes policy now.events s) (outcomes policy more now.state), turn_empty policy rate p s free, link_finds policy rate packets fault now.state now.free)
 
--- what has a late departure in front has one
+-- events have a late departure if a prefix of them has one
 has_late-front : (es fs : List Event) → has_late es ≡ true → has_late (es ++ fs) ≡ true
 has_late-front [] fs is = cc
 has_late-front (Arrive p ∷ es) fs is = has_late-front es fs is
@@ -35,8 +36,9 @@ has_late-front (Depart start ∷ es) fs is = late_behind (is_late start) is (has
     late_behind true is later = refl
     late_behind false is later = later is
 
--- ---- the first events of a run
--- at most one event behind events that aren't late is in front of the first late departure, or is that itself
+-- ---- a prefix of a run's events
+-- after events that aren't late, one more event is still among those up to the first late
+-- departure
 one_more : (last others : List Event) → length last ≤ 1 → (more : List Event) × (last ++ more ≡ up_to_late (last ++ others))
 one_more [] others few = (up_to_late others, refl)
 one_more (Arrive p ∷ []) others few = (up_to_late others, refl)
@@ -61,7 +63,7 @@ module _ (policy : Policy) (rate : ℕ) (packets : List Packet) (fault : Option 
   abbrev all : List Event
   all = (link_course policy rate packets fault s free).events
 
-  -- the events that were made, of which the last is late, are those up to the first late departure
+  -- if the last of the events made is late, they are the events up to the first late departure
   pub ends_late : (events before : List Event) (last : Event) → (others : List Event) × (events ++ others ≡ all) → before ++ last ∷ [] ≡ events
       → (kept_behind captured k (outcomes policy before s)).late ≡ false → (kept_behind captured k (outcomes policy events s)).late ≡ true
       → (up_to_late all ≡ events) × (has_late all ≡ true)
@@ -74,14 +76,15 @@ module _ (policy : Policy) (rate : ℕ) (packets : List Packet) (fault : Option 
         ap has_late (sym first.1) ∙ has_late-front events first.0 (told_late policy captured k s on_time events true found_first late),
       )
 
-  -- where no packet left late all events were made
+  -- if no packet departed late, all events were made
   pub ends_whole : (events : List Event) → events ≡ all → (kept_behind captured k (outcomes policy events s)).late ≡ false → (up_to_late all ≡ all) × (has_late all ≡ false)
   ends_whole events are early =
       let found : empty_in (outcomes policy all s) ≡ 0 = link_finds policy rate packets fault s free in
       let early_all : (kept_behind captured k (outcomes policy all s)).late ≡ false = subst (λ (es : List Event). (kept_behind captured k (outcomes policy es s)).late ≡ false) are early in
       (none_is_late policy captured k s on_time all found early_all, told_late policy captured k s on_time all false found early_all)
 
-  -- events behind which at most one was made since then are the first of those up to the first late departure
+  -- if no departure before the last event was late, the events are a prefix of those up to the
+  -- first late departure
   pub ends_early : (events before last : List Event) → (others : List Event) × (events ++ others ≡ all) → before ++ last ≡ events → length last ≤ 1
       → (kept_behind captured k (outcomes policy before s)).late ≡ false → (more : List Event) × (events ++ more ≡ up_to_late all)
   ends_early events before last first are few early =

@@ -1,5 +1,5 @@
--- A run whose departures all find a packet ends at the first late departure where its events end there, and is whole where
--- no outcome is late.
+-- Take a run whose departures all find a packet. If its events end at a late departure, it ends at
+-- the first one. If no outcome is late, it is whole.
 use Rattle.std.proofs.Common.{◌≡◌, ◌||◌, ◌+◌, ℕ, Bool, true, false, true≢false, if◌then◌else◌, Option, None, Some, List, [], ◌∷◌, ◌++◌, refl, sym, ap, ◌∙◌, subst, arith, append_assoc}
 use Rattle.std.proofs.Math.Bool.{or_assoc}
 use Rattle.packet_defs.specs.declared.packet.Packet.{Packet}
@@ -13,7 +13,7 @@ use Rattle.forward_defs.specs.Sendings.{is_late, up_to_late, has_late}
 use Rattle.forward_defs.specs.Keeping.{Keeping, keeps, kept_behind}
 use Rattle.forward_defs.proofs.LateEvents.{up_to_late-whole}
 
--- whether one of the packets that left was late
+-- whether one of the departed packets was late
 abbrev late_in : List Outcome → Bool
 late_in [] = false
 late_in (Departed p a ranks start ∷ os) = is_late start || late_in os
@@ -23,7 +23,7 @@ or-false : (t : Bool) → (t || false) ≡ t
 or-false true = refl
 or-false false = refl
 
--- which is what is kept behind them
+-- the flag kept after outcomes is set if it was set before or if one of them was late
 late_behind : (captured : Captured) (k : Keeping) (os : List Outcome) → (kept_behind captured k os).late ≡ (k.late || late_in os)
 late_behind captured k [] = sym (or-false k.late)
 late_behind captured k (Arrived p a ranks ∷ os) = late_behind captured (keeps captured k (Arrived p a ranks)) os
@@ -49,7 +49,7 @@ departure_behind (Some l) start os es later none = by_test (is_late start)
     by_test true = refl
     by_test false = later none
 
--- where each departure finds a packet, one of the packets that leave is late exactly where one of the departures is
+-- if each departure finds a packet, a departed packet is late exactly if a departure is
 late_events : (policy : Policy) (es : List Event) (s : SourceState) → empty_in (outcomes policy es s) ≡ 0 → late_in (outcomes policy es s) ≡ has_late es
 late_events policy [] s none = refl
 late_events policy (Arrive p ∷ es) s none =
@@ -57,7 +57,7 @@ late_events policy (Arrive p ∷ es) s none =
 late_events policy (Depart start ∷ es) s none =
     departure_behind (leaver s) start (outcomes policy es (departed policy s)) es (late_events policy es (departed policy s)) none
 
--- a first part of such a run is such a run
+-- a prefix of such a run is such a run
 pub none_empty_in_front : (policy : Policy) (es fs : List Event) (s : SourceState) → empty_in (outcomes policy (es ++ fs) s) ≡ 0 → empty_in (outcomes policy es s) ≡ 0
 none_empty_in_front policy es fs s none =
     let both : empty_in (outcomes policy (es ++ fs) s) ≡ empty_in (outcomes policy es s) + empty_in (outcomes policy fs (after policy es s)) =
@@ -86,7 +86,7 @@ ends_there (Arrive p ∷ before) last others none is = ap (λ (l : List Event). 
 ends_there (Depart start ∷ before) last others none is = late_first (is_late start) start before last others (ends_there before last others) none is
 
 module _ (policy : Policy) (captured : Captured) (k : Keeping) (s : SourceState) (on_time : k.late ≡ false) where
-  -- whether a departure is late is what is kept behind their outcomes
+  -- the flag kept after their outcomes says whether a departure is late
   pub told_late : (es : List Event) (t : Bool) → empty_in (outcomes policy es s) ≡ 0 → (kept_behind captured k (outcomes policy es s)).late ≡ t → has_late es ≡ t
   told_late es t none is =
       sym (late_events policy es s none) ∙ sym (ap (λ (b : Bool). b || late_in (outcomes policy es s)) on_time)

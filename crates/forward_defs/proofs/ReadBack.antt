@@ -1,4 +1,4 @@
--- What is forwarded is read back.
+-- Forwarded captures are read back.
 use Rattle.std.proofs.Common.{◌≡◌, ◌≤◌, ◌<◌, ◌+◌, ◌*◌, ◌/◌, ◌%◌, ◌^◌, ℕ, None, List, [], ◌∷◌, ◌++◌, length, map, refl, sym, ap, ◌∙◌, subst, arith}
 use Rattle.std.specs.Prelude.{All}
 use Rattle.std.specs.List.{AllByRecursion}
@@ -29,7 +29,7 @@ use Rattle.forward_defs.specs.Laws.{FitsRecord, ForwardedAreReadBack, ForwardedR
 use Rattle.forward_defs.proofs.LateEvents.{up_to_late-first}
 use Rattle.forward_defs.proofs.SentPackets.{sendings-on_time, sendings-few, sendings-known}
 
--- a moment in nanoseconds, as seconds and the rest
+-- a timestamp in nanoseconds, as seconds and the rest
 moment-kept : (m : ℕ) → m / 10 ^ 9 * 10 ^ 9 + m % 10 ^ 9 ≡ m
 moment-kept m = omega arith
 
@@ -44,7 +44,7 @@ module _ (captured : Captured) where
   all_writable (s ∷ ss) fit early =
       All-cons IsWritable (sent_record captured s) (map (sent_record captured) ss) (writable s fit.0 early.0) (all_writable ss fit.1 early.1)
 
-  -- records are the packets that leave
+  -- the records are those of the departing packets
   packets-sent : (link : ℕ) (ss : List Sending) → map (packet_with (head_with link)) (map (sent_record captured) ss) ≡ map (sent_packet link captured) ss
   packets-sent link [] = refl
   packets-sent link (s ∷ ss) =
@@ -55,7 +55,7 @@ module _ (captured : Captured) where
   length-sent [] = refl
   length-sent (s ∷ ss) = omega (arith, length-sent ss)
 
--- what is forwarded of outcomes is read back
+-- the bytes forwarded from outcomes are read back
 pub forwarded-read_back : ForwardedAreReadBack
 forwarded-read_back link captured os fits fit few =
     let ss = sendings os in
@@ -66,14 +66,14 @@ forwarded-read_back link captured os fits fit few =
     ap (λ (c : Capture). in_either c (in_ng_capture file)) read
     ∙ ap (λ (ps : List CapturedPacket). holds (record { packets = ps; fault = None })) (packets-sent captured link ss)
 
--- known packets of which no more is captured than a record may have
+-- known packets with no more captured bytes than a record may have
 known_fits : (policy : Policy) (captured : Captured) → ((n : ℕ) → length (captured n) ≤ most_captured) → (ss : List Sending)
     → AllByRecursion (λ (s : Sending). IsKnown policy s.packet) ss → AllByRecursion (FitsRecord captured) ss
 known_fits policy captured short [] known = tt
 known_fits policy captured short (s ∷ ss) known =
     (record { len = omega (arith, known.0.len); short = short s.packet.number }, known_fits policy captured short ss known.1)
 
--- what is forwarded of a link's run is read back
+-- the bytes forwarded from a link's run are read back
 pub forwarded_runs-read_back : ForwardedRunsAreReadBack
 forwarded_runs-read_back policy rate link ps fault captured accepted fits can_be_sent few short =
     let all = (link_course policy rate ps fault (start policy) 0).events in

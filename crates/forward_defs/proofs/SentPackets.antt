@@ -1,4 +1,5 @@
--- The departures of outcomes: they are on time, they are no more than packets left, and their packets are known.
+-- The departures of outcomes: they are on time, there are at most as many as packets departed, and
+-- their packets are known.
 use Rattle.std.proofs.Common.{◌≡◌, ◌≤◌, ◌<◌, ◌+◌, ℕ, Bool, true, false, nat_lt, Option, None, Some, List, [], ◌∷◌, ◌++◌, length, if◌then◌else◌, refl, arith}
 use Rattle.std.specs.List.{AllByRecursion}
 use Rattle.std.proofs.lemmas.Bool.{ltb-true}
@@ -13,12 +14,12 @@ use Rattle.sched_defs.proofs.Leaving.{leaves_its_leaf}
 use Rattle.forward_defs.specs.Sendings.{Sending, late, sending_at, sendings}
 
 module _ (P : Sending → Type 0) where
-  -- in front of others of which P holds
+  -- followed by others of which P holds
   pub all_behind : (first others : List Sending) → AllByRecursion P first → AllByRecursion P others → AllByRecursion P (first ++ others)
   all_behind [] others fs os = os
   all_behind (s ∷ first) others fs os = (fs.0, all_behind first others fs.1 os)
 
-  -- P holds of a departure where it does of one with a start that isn't late
+  -- P holds of a departure if it holds of each one with a start that isn't late
   pub all_at : (start : Option ℕ) (p : Packet) → ((m : ℕ) → m < late → P (record { start = m; packet = p })) → AllByRecursion P (sending_at start p)
   all_at None p holds = tt
   all_at (Some m) p holds = by_test (nat_lt m late) refl
@@ -67,7 +68,7 @@ module _ (policy : Policy) (accepted : IsAccepted policy) where
       let known : IsKnown policy l.packet = sound.known l.packet.number l.packet (leaves_its_leaf policy s l sound e).held in
       all_behind IsKnownSending (sending_at start l.packet) (sendings os) (all_at IsKnownSending start l.packet (λ m early. known)) later
 
-  -- the packets that leave a sound state are known
+  -- the packets that depart from a sound state are known
   pub sendings-known : (es : List Event) (s : SourceState) → IsSound policy s → CanMake policy es s
       → AllByRecursion (λ (s : Sending). IsKnown policy s.packet) (sendings (outcomes policy es s))
   sendings-known [] s sound can = tt

@@ -1,4 +1,5 @@
--- What is told of outcomes one by one, by the captured bytes that are kept of packets until they leave.
+-- The records of outcomes, written one by one. The captured bytes of a packet are kept until it
+-- departs.
 use Rattle.std.specs.Prelude.{◌≡◌, refl, ℕ, ◌/◌, ◌%◌, ◌^◌, ◌==◌, nat_lt, Bool, true, false, ◌||◌, if◌then◌else◌, Option, None, Some, List, [], ◌∷◌, ◌++◌}
 use Rattle.pcap_core.specs.Bytes.{header_bytes, record_bytes}
 use Rattle.policy_defs.specs.Policy.{Policy}
@@ -9,7 +10,7 @@ use Rattle.sched_defs.specs.Packets.{Captured}
 use Rattle.forward_defs.specs.Sendings.{late, is_late}
 use Rattle.forward_defs.specs.Forwarded.{packet_of, two_captured, forward_bytes}
 
--- the captured bytes that are kept, by the numbers of their packets, and whether a departure was late
+-- the captured bytes kept, by packet number, and whether a departure was late
 pub record Keeping : Type 0 where
   pub kept : ℕ → Option (List ℕ)
   pub late : Bool
@@ -23,14 +24,14 @@ with_bytes kept m bytes n = if n == m then Some bytes else kept n
 abbrev pub without_bytes : (ℕ → Option (List ℕ)) → ℕ → ℕ → Option (List ℕ)
 without_bytes kept m n = if n == m then None else kept n
 
--- what is kept behind an outcome
+-- the captured bytes and the flag kept after an outcome
 abbrev pub keeps : Captured → Keeping → Outcome → Keeping
 keeps captured k (Arrived p a ranks) = record { kept = with_bytes k.kept p.number (captured p.number); late = k.late }
 keeps captured k (Departed p a ranks start) = record { kept = without_bytes k.kept p.number; late = k.late || is_late start }
 keeps captured k (Dropped p a) = k
 keeps captured k Empty = k
 
--- the record of a departure that isn't late, where the captured bytes of its packet are kept
+-- the record of a departure that isn't late, if the captured bytes of its packet are kept
 abbrev pub record_for : Option ℕ → ℕ → Option (List ℕ) → List ℕ
 record_for (Some start) len (Some bytes) = if nat_lt start late then record_bytes (start / 10 ^ 9) (start % 10 ^ 9) len bytes else []
 record_for start len bytes = []
@@ -39,7 +40,7 @@ abbrev pub record_of : Keeping → Outcome → List ℕ
 record_of k (Departed p a ranks start) = record_for start p.len (k.kept p.number)
 record_of k o = []
 
--- behind all outcomes, and the records of all
+-- after all outcomes, and the records of all of them
 abbrev pub kept_behind : Captured → Keeping → List Outcome → Keeping
 kept_behind captured k [] = k
 kept_behind captured k (o ∷ os) = kept_behind captured (keeps captured k o) os
@@ -48,7 +49,7 @@ abbrev pub records_of : Captured → Keeping → List Outcome → List ℕ
 records_of captured k [] = []
 records_of captured k (o ∷ os) = record_of k o ++ records_of captured (keeps captured k o) os
 
--- two packets come and one leaves late: the bytes of the other are kept
+-- two packets arrive and one departs late: the other's bytes are kept
 abbrev two_came : List Outcome
 two_came = Arrived (packet_of 1) [] (0 ∷ []) ∷ Arrived (packet_of 2) [] (0 ∷ []) ∷ Departed (packet_of 1) [] (0 ∷ []) (Some 4294967296000000000) ∷ []
 
@@ -64,7 +65,7 @@ kept_behind-late = refl
 records_of-late : records_of two_captured keeps_nothing two_came ≡ []
 records_of-late = refl
 
--- on time, it is the record of the departure alone, with the bytes that were kept
+-- on time, the departure alone gives a record, with the bytes that were kept
 abbrev one_leaves : List Outcome
 one_leaves = Arrived (packet_of 1) [] (0 ∷ []) ∷ Arrived (packet_of 2) [] (0 ∷ []) ∷ Dropped (packet_of 3) [] ∷ Departed (packet_of 2) [] (0 ∷ []) (Some 1000001000) ∷ Empty ∷ []
 
@@ -81,7 +82,8 @@ kept_behind-on_time = refl
 record_for-none : record_for (Some 5) 4 None ++ record_for None 4 (Some (7 ∷ [])) ≡ []
 record_for-none = refl
 
--- what is told one by one of events from the start is what is forwarded of them
+-- for events from the start, the records written one by one are the bytes forwarded from all
+-- outcomes
 abbrev pub RecordsAreForwarded : Type 0
 RecordsAreForwarded =
     (policy : Policy) (link : ℕ) (captured : Captured) (events : List Event) → IsAccepted policy → CanMake policy events (start policy)

@@ -1,4 +1,4 @@
--- What follows from the definition of forwarded bytes.
+-- Consequences of the definition of forwarded bytes.
 use Rattle.std.specs.Prelude.{◌≡◌, ◌≤◌, ◌<◌, ◌^◌, ℕ, false, Option, None, List, ◌++◌, length, map}
 use Rattle.std.specs.List.{AllByRecursion}
 use Rattle.pcap_defs.specs.Record.{most_captured, most_records}
@@ -17,27 +17,31 @@ use Rattle.forward_defs.specs.Sendings.{Sending, sendings, up_to_late, has_late}
 use Rattle.forward_defs.specs.Forwarded.{sent_packet, forward_bytes}
 use Rattle.forward_defs.specs.SingleLinkType.{of_one_link}
 
--- a capture of these departures, and of nothing else, without a fault
+-- a capture of these departures and nothing else, without a fault
 abbrev pub holds_sendings : ℕ → Captured → List Sending → FileContents
 holds_sendings link captured sent = holds (record { packets = map (sent_packet link captured) sent; fault = None })
 
--- a packet whose original length has 32 bits, and of which no more is captured than a record may have
+-- a packet whose original length fits 32 bits, and with no more captured bytes than a record may
+-- have
 pub record FitsRecord (captured : Captured) (s : Sending) : Type 0 where
   pub len : s.packet.len < 2 ^ 32
   pub short : length (captured s.packet.number) ≤ most_captured
 
--- what is forwarded of outcomes holds their departures that aren't late, packet by packet, and nothing else
+-- the bytes forwarded from outcomes hold their departures that aren't late, packet by packet, and
+-- nothing else
 abbrev pub ForwardedAreReadBack : Type 0
 ForwardedAreReadBack =
     (link : ℕ) (captured : Captured) (os : List Outcome) → link < 2 ^ 16 → AllByRecursion (FitsRecord captured) (sendings os) → length (sendings os) ≤ most_records
     → in_file (forward_bytes link captured os) ≡ holds_sendings link captured (sendings os)
 
--- The events up to the first late departure are the first of all events; where none is late, they are all.
+-- The events up to the first late departure are a prefix of all events. If none is late, they are
+-- all events.
 pub record LateEndsRuns : Type 0 where
   pub first : (events : List Event) → (others : List Event) × (up_to_late events ++ others ≡ events)
   pub whole : (events : List Event) → has_late events ≡ false → up_to_late events ≡ events
 
--- what is forwarded of a link's run over the packets of a capture holds the departures up to the first late one
+-- the bytes forwarded from a link's run over the packets of a capture hold the departures up to the
+-- first late one
 abbrev pub ForwardedRunsAreReadBack : Type 0
 ForwardedRunsAreReadBack =
     (policy : Policy) (rate link : ℕ) (packets : List Packet) (fault : Option FaultAt) (captured : Captured) → IsAccepted policy → link < 2 ^ 16

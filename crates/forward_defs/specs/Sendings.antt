@@ -1,18 +1,19 @@
--- The departures that a capture can tell: each with the moment at which it starts, as long as 32 bits count its seconds.
+-- The departures that a capture can record: each with the timestamp at which it starts, as long as
+-- 32 bits count its seconds.
 use Rattle.std.specs.Prelude.{◌≡◌, ℕ, ◌*◌, ◌^◌, Bool, true, false, not, nat_lt, if◌then◌else◌, Option, None, Some, List, [], ◌∷◌, ◌++◌, map, refl}
 use Rattle.packet_defs.specs.declared.packet.Packet.{Packet}
 use Rattle.sched_defs.specs.Events.{Event, Arrive, Depart, Outcome, Departed}
 
--- a packet that leaves, and the moment in nanoseconds at which it starts
+-- a departing packet, and the timestamp in nanoseconds at which it starts
 pub record Sending : Type 0 where
   pub start : ℕ
   pub packet : Packet
 
--- the first moment in nanoseconds whose seconds need more than 32 bits
+-- the first timestamp in nanoseconds whose seconds need more than 32 bits
 abbrev pub late : ℕ
 late = 2 ^ 32 * 10 ^ 9
 
--- whether a departure starts so late
+-- whether a departure starts at this timestamp or later
 abbrev pub is_late : Option ℕ → Bool
 is_late None = false
 is_late (Some start) = not (nat_lt start late)
@@ -22,7 +23,7 @@ abbrev pub sending_at : Option ℕ → Packet → List Sending
 sending_at None p = []
 sending_at (Some start) p = if nat_lt start late then record { start = start; packet = p } ∷ [] else []
 
--- those of the outcomes, in order
+-- the departures among outcomes that have such a start, in order
 abbrev pub sendings : List Outcome → List Sending
 sendings [] = []
 sendings (Departed p a ranks start ∷ os) = sending_at start p ++ sendings os
@@ -46,7 +47,7 @@ is_late-last_on_time = refl
 is_late-first : is_late (Some 4294967296000000000) ≡ true
 is_late-first = refl
 
--- the run ends with the second departure, behind which nothing is made
+-- the run ends with the second departure; no event follows it
 up_to_late-second : up_to_late (Depart (Some 5) ∷ Depart (Some 4294967296000000000) ∷ Depart (Some 4294967297000000000) ∷ [])
     ≡ Depart (Some 5) ∷ Depart (Some 4294967296000000000) ∷ []
 up_to_late-second = refl

@@ -1,14 +1,14 @@
--- The packets of a capture that have the link type of its first.
+-- The packets of a capture that have the link type of its first packet.
 use Rattle.std.specs.Prelude.{◌≡◌, refl, ℕ, ◌+◌, ◌==◌, if◌then◌else◌, Option, None, Some, List, [], ◌∷◌}
 use Rattle.pcap_defs.specs.Packet.{CapturedPacket}
 use Rattle.pcap_defs.specs.Contents.{FaultAt, Contents}
 
--- the code of a packet that has another link type than the first, behind the codes of faults of captures; its place is the
--- packet's number
+-- the fault code of a packet with another link type than the first; it follows the codes of faults
+-- of captures, and its position (`place`) is the packet's number
 abbrev pub other_link : ℕ
 other_link = 20
 
--- the link type of the first packet, or 0 where there is none
+-- the link type of the first packet, or 0 if there is none
 abbrev pub first_link : List CapturedPacket → ℕ
 first_link [] = 0
 first_link (p ∷ packets) = p.link
@@ -16,7 +16,7 @@ first_link (p ∷ packets) = p.link
 abbrev pub behind_packet : CapturedPacket → Contents → Contents
 behind_packet p c = record { packets = p ∷ c.packets; fault = c.fault }
 
--- packets up to one with another link type than this, where the first of them has this number
+-- packets up to one with another link type than this; the first packet has this number
 abbrev pub of_link : ℕ → ℕ → List CapturedPacket → Option FaultAt → Contents
 of_link link n [] fault = record { packets = []; fault = fault }
 of_link link n (p ∷ packets) fault =
@@ -34,12 +34,12 @@ of_one_link-third : of_one_link (record { packets = packet_on 1 ∷ packet_on 1 
     ≡ record { packets = packet_on 1 ∷ packet_on 1 ∷ []; fault = Some (record { code = 20; place = 3 }) }
 of_one_link-third = refl
 
--- a fault behind packets of one link type stays
+-- a fault after packets of one link type stays
 of_one_link-fault : of_one_link (record { packets = packet_on 1 ∷ []; fault = Some (record { code = 6; place = 2 }) })
     ≡ record { packets = packet_on 1 ∷ []; fault = Some (record { code = 6; place = 2 }) }
 of_one_link-fault = refl
 
--- a packet of another link type comes before the fault of the capture, which isn't met
+-- a packet of another link type is met first, so the fault of the capture isn't
 of_one_link-before_the_fault : of_one_link (record { packets = packet_on 1 ∷ packet_on 0 ∷ []; fault = Some (record { code = 6; place = 3 }) })
     ≡ record { packets = packet_on 1 ∷ []; fault = Some (record { code = 20; place = 2 }) }
 of_one_link-before_the_fault = refl

@@ -1,4 +1,5 @@
-//! What a capture of departures holds, and when a run that writes one ends. Begin with specs/Forwarded.antt.
+//! The contents of a capture of departures, and the end of a run that writes one. Begin with
+//! specs/Forwarded.antt.
 #![tactic(auto)]
 
 mod laws;

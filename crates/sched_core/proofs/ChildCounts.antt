@@ -1,4 +1,4 @@
--- The number of children of a node, as its shape tells it.
+-- The number of children of a node, by its shape.
 use Rattle.std.proofs.Common.{◌≡◌, ◌<◌, ◌≤◌, ◌^◌, ℕ, zero, suc, List, [], ◌∷◌, length, map, Option, Some, None, refl, sym, ap, ◌∙◌, subst, arith, get_or}
 use Rattle.std.specs.Prelude.{unwrap_or}
 use Rattle.tree_defs.specs.Tree.{Tree, leaf, inner, Trees, none, more, Address, IsAddressOf, subtree, subtree_in, trees_of, count_of}
@@ -51,7 +51,7 @@ module _ (t : Topology) (ks : List Topo) (is : t ≡ inner tt (shapes ks)) where
   arity-here [] n l e = ap Some (e ∙ sym (count-shapes ks)) ∙ ap (λ (u : Topology). arity (part_at u [])) (sym is)
   arity-here (i ∷ a) n l e = absurd (omega arith)
 
--- ---- the shape of a policy's tree tells how many children its nodes have
+-- ---- the shape of a policy's tree gives the number of children of its nodes
 mutual
   subtree-shape : (t : Tree Node) (a : Address) (u : Tree Node) → subtree t a ≡ Some u → subtree (topology_of t) a ≡ Some (topology_of u)
   subtree-shape (leaf q) [] u e = ap (λ (t : Tree Node). Some (topology_of t)) (some-is e)

@@ -1,4 +1,4 @@
--- How many packets stand at each leaf, counted by the numbers of nodes.
+-- How many packets are at each leaf, by node number.
 use Rattle.std.proofs.Common.{◌≡◌, ◌≢◌, ◌≤◌, ◌<◌, ℕ, zero, suc, ◌+◌, ◌-◌, List, [], ◌∷◌, length, Option, Some, None, replicate, sym, ap, ◌∙◌, subst, arith, inl, inr}
 use Rattle.std.specs.Prelude.{slice_get, slice_set, slice_index, slice_index_or, IsSomeAnd}
 use Rattle.std.specs.Option.{option_map_or}
@@ -27,7 +27,7 @@ use Rattle.sched_defs.proofs.Soundness.{class_is_ready, leads_in}
 use Rattle.sched_core.specs.Arrivals.{leaf_number}
 use Rattle.sched_core.specs.PolicyState.{AreFilled}
 
--- ---- the packets at a leaf are among all
+-- ---- the packets at a leaf are among all packets
 mutual
   length-queue : (t : Tree Queue) (a : Address) → length (queue_at t a) ≤ size t
   length-queue (leaf q) [] = omega arith
@@ -61,7 +61,7 @@ limit-there None x h = absurd h
 limit-there (Some n) x h = h
 
 -- ---- counts of a state
--- where nothing stands
+-- without packets
 pub filled-start : (policy q : Policy) (counts : List ℕ) (n : ℕ) → q ≡ policy → counts ≡ replicate n 0 → n ≡ nodes policy.tree → AreFilled q counts (start policy)
 filled-start policy q counts n same all is = subst (λ (z : Policy). AreFilled z counts (start policy)) (sym same) each
   where
@@ -106,7 +106,7 @@ module _ (policy : Policy) (accepted : IsAccepted policy) (p : Packet) (within :
     pub count-within : k < length counts
     count-within = slice_get_within counts k (filled s (class_of policy p).leaf) leaf-count
 
-    -- the count that is read
+    -- the count read
     module _ (n : ℕ) (read : n ≡ slice_index_or counts k n) where
       pub count-is : n ≡ filled s (class_of policy p).leaf
       count-is = read ∙ get_or_from_slice_get counts k (filled s (class_of policy p).leaf) n leaf-count
@@ -126,7 +126,7 @@ module _ (policy : Policy) (accepted : IsAccepted policy) (p : Packet) (within :
           subst (λ (z : Policy). AreFilled z (slice_set counts k (n + 1)) (pushed policy p s)) (sym same)
           (subst (λ (j : ℕ). AreFilled policy (slice_set counts j (n + 1)) (pushed policy p s)) (sym is) each)
 
-      -- what is popped next stands at the leaf
+      -- the packet popped next is at the leaf
       module _ (taken : Popping SourceTree) (popped : pop s.tree ≡ Some taken) (from : taken.digits ≡ (class_of policy p).leaf) where
         one-fewer : length (queue_at s.tree (class_of policy p).leaf) ≡ length (queue_at taken.left (class_of policy p).leaf) + 1
         one-fewer = subst (λ (a : Address). length (queue_at s.tree a) ≡ length (queue_at taken.left a) + 1) from (length-taken (queue_at s.tree taken.digits) _ (queue_at-pop s.tree taken popped))

@@ -1,4 +1,4 @@
--- The nodes on the way to a leaf, level by level.
+-- The nodes on the path to a leaf, level by level.
 use Rattle.std.proofs.Common.{◌≡◌, ◌<◌, ◌≤◌, ℕ, zero, suc, ◌+◌, List, [], ◌∷◌, ◌++◌, length, Some, sym, ap, ◌∙◌, subst, arith, take, drop, get_or}
 use Rattle.std.proofs.lemmas.List.{drop_more, take_more}
 use Rattle.tree_defs.specs.Tree.{Tree, LeadsToLeaf, subtree}
@@ -8,7 +8,7 @@ use Rattle.policy_core.proofs.NumberedAddresses.{IsNumber, number-undone}
 use Rattle.sched_core.specs.Kept.{part_at}
 use Rattle.sched_core.proofs.TreeParts.{IsNext, next, root-part, part-down, part-known}
 
--- a part of the tree stands at the level, and the rest of the digits leads on to a leaf
+-- a part of the tree is at the level, and the rest of the digits leads on to a leaf
 record IsPassed (t : Tree Node) (digits : List ℕ) (level : ℕ) : Type 0 where
   part : Tree Node
   there : subtree t (take level digits) ≡ Some part

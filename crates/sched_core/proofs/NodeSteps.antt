@@ -1,4 +1,4 @@
--- A step of one node on the way.
+-- A step of one node on the path.
 use Rattle.std.proofs.Common.{◌≡◌, ◌<◌, ◌≤◌, ℕ, List, [], ◌∷◌, ◌++◌, length, Some, sym, ap, ◌∙◌, subst, arith, append-nil, refl}
 use Rattle.std.proofs.lemmas.Option.{slice_get-get_or}
 use Rattle.std.proofs.lemmas.List.{take-append-drop, drop_all}
@@ -33,7 +33,7 @@ pub marks-of_class : (t : Tree Node) (c : Class) → marks_on t [] c ≡ c.marks
 marks-of_class (leaf n) c = refl
 marks-of_class (inner n ts) c = refl
 
--- what is known of the node at a level: what is kept of it, and that a state is held at its number
+-- the node at a level: its entry, and that there is a state at its number
 pub record IsHere (e : PacketPath) (level : ℕ) (s : PathNode) (states : List NodeState) : Type 0 where
   pub ready : IsReady e
   pub short : level ≤ length (class_for e).leaf
@@ -41,7 +41,8 @@ pub record IsHere (e : PacketPath) (level : ℕ) (s : PathNode) (states : List N
   pub kept : AreStations (tree_for e) states
   pub within : s.node < length states
 
--- what is known of a step there: this state is held, and the program makes it for whom and with what the visit says
+-- a step there: the state at the node's number, and the program, the child or flow, and the inputs
+-- of the visit
 pub record IsStep (e : PacketPath) (level : ℕ) (s : PathNode) (states : List NodeState) (x : NodeState) (p : Program) (w : Who) (n : Env) : Type 0 where
   pub here : IsHere e level s states
   pub held : slice_get states s.node ≡ Some x
@@ -49,7 +50,7 @@ pub record IsStep (e : PacketPath) (level : ℕ) (s : PathNode) (states : List N
   pub who : w ≡ (stop e level).who
   pub env : n ≡ (stop e level).env
 
--- ---- where the digits are those of the class
+-- ---- the digits are those of the class
 module _ {e : PacketPath} {digits : List ℕ} {level : ℕ} (ready : IsReady e) (to : digits ≡ (class_for e).leaf) where
   pub here-at : {states : List NodeState} (d : PathNode) → level ≤ length digits → AreStations (tree_for e) states → IsHere e level (slice_index_or e.waypoints.now level d) states
   here-at {states} d low kept =
@@ -64,7 +65,7 @@ module _ {e : PacketPath} {digits : List ℕ} {level : ℕ} (ready : IsReady e) 
         within = omega (arith, waypoint.node, (number-of (tree_for e) (class_for e).leaf ready.leads level short).within, kept.count);
       }
 
-  -- above the leaf the step is made for the child to which the next digit leads
+  -- above the leaf, the step is made for the child to which the next digit leads
   pub child-at : level < length digits → Child (slice_index_or digits level 0) ≡ (stop e level).who
   child-at low =
       ap (λ (ds : List ℕ). Child (slice_index_or ds level 0)) to
@@ -91,7 +92,7 @@ module _ {e : PacketPath} {level : ℕ} {s : PathNode} {states : List NodeState}
   next-on : (i : ℕ) (digits : List ℕ) → ahead e level ≡ i ∷ digits → IsNext (part e level) i digits
   next-on i digits is = next (part e level) i digits (subst (LeadsToLeaf (part e level)) is (leads-at (tree_for e) (class_for e).leaf h.ready.leads level h.short))
 
-  -- ---- the marks that are told there
+  -- ---- the marks there
   range-on : (digits : List ℕ) → ahead e level ≡ digits → AreMarksInRange (marks_on (part e level) digits (class_for e))
   range-on [] is = subst AreMarksInRange (sym (marks-of_class (part e level) (class_for e))) h.ready.marks
   range-on (i ∷ digits) is =
@@ -111,11 +112,11 @@ module _ {e : PacketPath} {level : ℕ} {s : PathNode} {states : List NodeState}
     env = is-env ∙ ap (env_for e.packet.now e.moment) h.waypoint.marks;
   }
 
-  -- ---- where the step changes no variable, all values stay
+  -- ---- if the step changes no variable, all values stay
   unchanged-here : (f : State → State) → ((x : State) → SameState x (f x)) → ValuesBecome e states states (λ values. with_state values (place e level) (f (values (place e level))))
   unchanged-here f same values = values-same (tree_for e) states values (place e level) (f (values (place e level))) (same (values (place e level)))
 
-  -- so it is where marks tell the rank
+  -- this is so if the marks determine the rank
   module _ {r : ℕ} (is : s.told ≡ Some r) where
     is-told : rank_told v.program.push marks ≡ Some r
     is-told =
@@ -133,12 +134,12 @@ module _ {e : PacketPath} {level : ℕ} {s : PathNode} {states : List NodeState}
     pub stays-pushed : ValuesBecome e states states (after_pushes (v ∷ []))
     stays-pushed = unchanged-here (after_push v.program v.who v.env) (told-after v.program e.packet.now e.moment marks (range-on (ahead e level) refl) r is-told v.who)
 
-  -- and where a pop step has no lines
+  -- and if a pop step has no lines
   pub stays-popped : {p : Program} (ranks : List ℕ) → p ≡ s.checked.now → p.pop ≡ [] → ValuesBecome e states states (after_pops (v ∷ []) ranks)
   stays-popped ranks is none = unchanged-here (after_pop v.program v.who v.env (slice_index ranks 0))
       (no_lines-after v.program v.who v.env (slice_index ranks 0) (ap (λ (q : Program). q.pop) (sym (is ∙ h.waypoint.program)) ∙ none))
 
--- ---- the step that is made there
+-- ---- the step made there
 module _ {e : PacketPath} {level : ℕ} {s : PathNode} {states : List NodeState} {x : NodeState} {p : Program} {w : Who} {n : Env} (made : IsStep e level s states x p w n) where
   keeps-here : Keeps (tree_for e) states (place e level) x
   keeps-here = ap (slice_get states) (sym made.here.waypoint.node) ∙ made.held
@@ -169,7 +170,7 @@ module _ {e : PacketPath} {level : ℕ} {s : PathNode} {states : List NodeState}
       ∙ ap (λ u. push_rank v.program u n (values (place e level))) made.who
       ∙ ap (λ m. push_rank v.program v.who m (values (place e level))) made.env
 
-  -- ---- another state is held after it
+  -- ---- the node has another state after it
   module _ (x' : NodeState) where
     pub stations-here : IsStateInRange p (state_of x') → children_of x' ≡ children_of x → ((who : Who) → HasRoom x' who ↔ HasRoom x who) → AreStations (tree_for e) (slice_set states s.node x')
     stations-here in_range children room = stations-set (tree_for e) states s.node x'

@@ -1,4 +1,4 @@
--- The rank of a push step where the marks alone tell it, and steps that change no variable.
+-- The rank of a push step whose marks alone determine it, and steps that change no variable.
 use Rattle.std.proofs.Common.{◌≡◌, ◌≤◌, ℕ, List, [], ◌∷◌, Some, refl, sym, ap, ◌∙◌, subst, arith}
 use Rattle.std.specs.Prelude.{pos}
 use Rattle.std.proofs.lemmas.Int.{ints, clamps}
@@ -20,7 +20,7 @@ use Rattle.sched_defs.specs.Visits.{env_for}
 use Rattle.sched_core.specs.Waypoints.{mark_told, rank_told}
 use Rattle.sched_core.proofs.TreeParts.{some-is}
 
--- a number that is no greater than the greatest rank stays
+-- a number up to the greatest rank is unchanged
 clamped-low : (r : ℕ) → r ≤ max_rank → clamped (span 0 max_rank 0) (num (pos r)) ≡ r
 clamped-low r low = omega (arith, ints, clamps)
 
@@ -28,7 +28,7 @@ clamped-low r low = omega (arith, ints, clamps)
 pub no_lines-after : (p : Program) (who : Who) (env : Env) (taken : ℕ) → p.pop ≡ [] → (s : State) → SameState s (after_pop p who env taken s)
 no_lines-after p who env taken none s = subst (λ (lines : List Assignment). SameState s (put_back who (run p env lines (memory_for who taken s)) s)) (sym none) (put_back-unchanged who taken s)
 
--- ---- a step of a packet at a moment, which is told these marks
+-- ---- a step of a packet at a timestamp (`moment`), with these marks
 module _ (p : Program) (packet : Packet) (moment : ℕ) (m : Marks) (range : AreMarksInRange m) where
   abbrev env : Env
   env = env_for packet moment m
@@ -65,7 +65,7 @@ module _ (p : Program) (packet : Packet) (moment : ℕ) (m : Marks) (range : Are
     pub told-low : r ≤ max_rank
     told-low = low-told p.push r is
 
-    -- it gives the rank told
+    -- it gives the rank that the marks determine
     pub told-rank : (who : Who) (s : State) → push_rank p who env s ≡ r
     told-rank who s = ap (λ (k : Memory). k.rank) (ends-told p.push r who s is)
 

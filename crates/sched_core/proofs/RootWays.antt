@@ -1,4 +1,4 @@
--- The way from the root.
+-- The path from the root.
 use Rattle.std.proofs.Common.{◌≡◌, ◌≤◌, ℕ, List, [], Option, Some, sym, ap, ◌∙◌, subst, arith, get_or}
 use Rattle.std.specs.Prelude.{slice_get, unwrap_or, Vec}
 use Rattle.std.specs.declared.alloc.Global.{Global}
@@ -21,7 +21,7 @@ use Rattle.sched_core.specs.Waypoints.{AreWaypoints, AreWays}
 use Rattle.sched_core.specs.Ways.{IsReady, tree_for, class_for}
 use Rattle.sched_core.proofs.TreeParts.{root-part, part-known}
 
--- ---- what is kept of a packet's class
+-- ---- the entries for a packet's class
 module _ (policy : Policy) (p : Packet) (known : IsKnown policy p) where
   prepared : IsAccepted policy → IsClassReady policy.tree (class_of policy p)
   prepared accepted = class_ready (IsClassReady policy.tree) (record { marks = no_marks; leaf = [] }) policy.classes p.class accepted.classes known.class

@@ -1,4 +1,4 @@
--- Another state at one node.
+-- The states with one node's state replaced.
 use Rattle.std.proofs.Common.{◌≡◌, ◌≢◌, ◌<◌, ℕ, zero, suc, List, [], ◌∷◌, true, false, Bool, Some, None, refl, sym, ap, ◌∙◌, subst, arith, bytes_eq}
 use Rattle.std.specs.Prelude.{slice_get, slice_set, if◌then◌else◌}
 use Rattle.std.proofs.lemmas.List.{length-set}
@@ -17,7 +17,7 @@ use Rattle.sched_defs.specs.Visits.{States, with_state}
 use Rattle.sched_core.specs.Kept.{part_at, Keeps, IsStationOf, AreStations, HaveValues, HasRoomAt}
 use Rattle.sched_core.proofs.TreeParts.{some-is, part-known}
 
--- an item of a list with one replaced is that one, or stood there before
+-- an item of a list with one item replaced is the new one, or was there before
 pub set-cases : {X P : Type 0} (xs : List X) (k j : ℕ) (x y : X) → slice_get (slice_set xs k x) j ≡ Some y → (j ≡ k → y ≡ x → P) → (j ≢ k → slice_get xs j ≡ Some y → P) → P
 set-cases [] k j x y e same other = (let f : None ≡ Some y = e in cc)
 set-cases (z ∷ xs) zero zero x y e same other = same refl (sym (some-is e))
@@ -25,7 +25,7 @@ set-cases (z ∷ xs) zero (suc j) x y e same other = other (λ q. omega (arith, 
 set-cases (z ∷ xs) (suc k) zero x y e same other = other (λ q. omega (arith, q)) e
 set-cases (z ∷ xs) (suc k) (suc j) x y e same other = set-cases xs k j x y e (λ q. same (ap suc q)) (λ n. other (λ q. n (omega (arith, q))))
 
--- ---- the values with another state at one address
+-- ---- the values with the state at one address replaced
 with-there : (values : States) (a b : Address) (s : State) → b ≡ a → with_state values a s b ≡ s
 with-there values a b s e = ap (λ (t : Bool). if t then s else values b) ((bytes_eq-Decides a b).1 (sym e))
 
@@ -36,7 +36,7 @@ with-apart values a b s n = by_test (bytes_eq a b) refl
     by_test true q = absurd (n (sym ((bytes_eq-Decides a b).0 q)))
     by_test false q = ap (λ (t : Bool). if t then s else values b) q
 
--- what is the same at that address changes no value
+-- the same state at that address changes no value
 pub values-same : (tree : Tree Node) (states : List NodeState) (values : States) (a : Address) (s : State) → SameState (values a) s → HaveValues tree states values → HaveValues tree states (with_state values a s)
 values-same tree states values a s same h b y p keeps = by_test (bytes_eq a b) refl
   where
@@ -45,7 +45,7 @@ values-same tree states values a s same h b y p keeps = by_test (bytes_eq a b) r
         (same-trans _ _ _ (h b y p keeps) (subst (λ (c : Address). SameState (values c) s) ((bytes_eq-Decides a b).0 q) same))
     by_test false q = subst (λ (t : Bool). SameState (state_of y) (if t then s else values b)) (sym q) (h b y p keeps)
 
--- ---- the states with another at one number
+-- ---- the states with the one at one number replaced
 module _ (tree : Tree Node) (states : List NodeState) (k : ℕ) (x' : NodeState) where
   same-address : (b : Address) → IsAddressOf tree b → number_at tree b ≡ k → b ≡ address_at tree k
   same-address b p is = sym (number-undone tree b p.0 p.1).address ∙ ap (address_at tree) is

@@ -1,4 +1,4 @@
--- The steps above a level were made, and those from there on make up the way.
+-- The steps above a level were made, and the steps from there down make up the rest of the path.
 use Rattle.std.proofs.Common.{◌≡◌, ◌<◌, ℕ, ◌+◌, List, [], ◌∷◌, ◌++◌, length, refl, sym, ap, ◌∙◌, subst, drop, get_or, append_assoc}
 use Rattle.std.proofs.lemmas.List.{drop_more}
 use Rattle.rank_defs.specs.Steps.{after_push}

@@ -1,4 +1,4 @@
--- Parts of a tree, and the child to which a way goes on.
+-- Parts of a tree, and the child to which a path leads next.
 use Rattle.std.proofs.Common.{◌≡◌, ◌<◌, ℕ, zero, suc, List, [], ◌∷◌, ◌++◌, length, Option, Some, refl, sym, ap, ◌∙◌, subst, arith, take, drop}
 use Rattle.std.specs.Prelude.{unwrap_or, IsSomeAnd, ◌-◌}
 use Rattle.std.proofs.lemmas.List.{take_all}
@@ -51,14 +51,14 @@ part-known tree a u e = ap (λ (o : Option (Tree Node)). unwrap_or o tree) e
 pub part-is : (tree : Tree Node) (a : Address) → IsAddressOf tree a → subtree tree a ≡ Some (part_at tree a)
 part-is tree a p = p.1 ∙ ap Some (sym (part-known tree a p.0 p.1))
 
--- the digits after the first, as a slice pattern cuts them out
+-- the digits after the first, as a slice pattern gives them
 abbrev pub later : List ℕ → List ℕ
 later digits = take (length digits - 1) (drop 1 digits)
 
 pub later-cons : (i : ℕ) (digits : List ℕ) → later (i ∷ digits) ≡ digits
 later-cons i digits = take_all (length (i ∷ digits) - 1) digits (omega arith)
 
--- the child of a node to which a way goes on
+-- the child of a node to which a path leads next
 pub record IsNext (t : Tree Node) (i : ℕ) (digits : List ℕ) : Type 0 where
   pub child : Tree Node
   pub there : subtree t (i ∷ []) ≡ Some child
@@ -95,7 +95,7 @@ next (inner n ts) i digits l =
       visits = λ a c p moment. ap (λ (vs : List Visit). visit a n.program (Child i) (env_for p moment (child_marks ts i)) ∷ vs) (b.visits (a ++ i ∷ []) c p moment);
     }
 
--- and at a leaf it ends
+-- and at a leaf the path ends
 pub ends : (t : Tree Node) (a : Address) (c : Class) (p : Packet) (moment : ℕ) → LeadsToLeaf t [] → visits_from t a [] c p moment ≡ visit a (root_of t).program (Flow p.flow) (env_for p moment (marks_on t [] c)) ∷ []
 ends (leaf n) a c p moment l = refl
 ends (inner n ts) a c p moment l = absurd l

@@ -1,4 +1,4 @@
--- The visits on the way from a level down.
+-- The visits on the path from a level down.
 use Rattle.std.proofs.Common.{◌≡◌, ◌<◌, ◌≤◌, ℕ, zero, suc, ◌+◌, List, [], ◌∷◌, ◌++◌, length, refl, sym, ap, ◌∙◌, subst, arith, get_or}
 use Rattle.std.specs.List.{AllByRecursion}
 use Rattle.std.proofs.lemmas.List.{length-append, drop_all}
@@ -15,7 +15,7 @@ use Rattle.sched_core.proofs.TreeParts.{ends}
 use Rattle.sched_core.proofs.StateUpdates.{with-apart}
 use Rattle.sched_core.proofs.Levels.{leads-at, ahead-next, place-next, next-at, part-next}
 
--- ---- the addresses on the way are no shorter than that where it begins
+-- ---- no address on the path is shorter than the one at which it begins
 abbrev pub IsNoShorter : Address → Visit → Type 0
 IsNoShorter a v = length a ≤ length v.address
 
@@ -31,7 +31,7 @@ module _ (c : Class) (p : Packet) (moment : ℕ) where
     no-shorter_below (more t ts) zero a digits = no-shorter t a digits
     no-shorter_below (more t ts) (suc i) a digits = no-shorter_below ts i a digits
 
--- so another state above changes no rank on it
+-- so another state above changes no rank on the path
 ranks-apart : (values : States) (a b : Address) (s : State) (visits : List Visit) → length a < length b → AllByRecursion (IsNoShorter b) visits → ranks_pushed (with_state values a s) visits ≡ ranks_pushed values visits
 ranks-apart values a b s [] l h = refl
 ranks-apart values a b s (v ∷ visits) l h =
@@ -64,7 +64,7 @@ module _ (e : PacketPath) (ready : IsReady e) where
         ≡ visit (place e level) (root_of (part e level)).program (who_on ds e.packet.now) (env_for e.packet.now e.moment (marks_on (part e level) ds (class_for e))) ∷ way e (level + 1))
         (sym (ahead-next (tree_for e) digits ready.leads level h)) step
 
-    -- the ranks below are those before the step here
+    -- the ranks below are the ones from before the step here
     pub ranks-next : (values : States) (s : State) → ranks_pushed values (way e level) ≡ rank_at values (stop e level) ∷ ranks_pushed (with_state values (place e level) s) (way e (level + 1))
     ranks-next values s =
         ap (ranks_pushed values) way-next

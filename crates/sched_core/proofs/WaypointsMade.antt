@@ -1,4 +1,4 @@
--- The nodes on the ways of classes, taken from a policy one after another.
+-- The nodes on the paths of classes, taken from a policy one after another.
 use Rattle.std.proofs.Common.{◌≡◌, ◌<◌, ◌≤◌, ℕ, zero, suc, ◌+◌, List, [], ◌∷◌, ◌++◌, length, map, Some, None, refl, sym, ap, ◌∙◌, subst, arith, take, drop, get_or}
 use Rattle.std.specs.Prelude.{slice_get, slice_index_or, option_map, Vec}
 use Rattle.std.specs.List.{AllByRecursion}
@@ -21,7 +21,7 @@ use Rattle.sched_core.proofs.FirstStates.{last-cases}
 use Rattle.sched_core.proofs.NodeSteps.{marks-of_class}
 use Rattle.sched_core.proofs.Levels.{there-at, number-of, ahead-next, place-next, next-at, child-at}
 
--- those of the first levels
+-- the nodes of the first levels
 pub record HaveStops (tree : Tree Node) (c : Aimed) (waypoints : List PathNode) (n : ℕ) : Type 0 where
   pub count : length waypoints ≡ n
   pub each : (level : ℕ) (s : PathNode) → slice_get waypoints level ≡ Some s → IsWaypoint tree c level s
@@ -44,7 +44,7 @@ pub root-number : (tree : Tree Node) → 0 ≡ number_at tree []
 root-number (leaf n) = refl
 root-number (inner n ts) = refl
 
--- what is known of a node that is reached at a level of a class's way
+-- a node that is reached at a level of a class's path
 pub record IsReached (tree : Tree Node) (c : Aimed) (level node : ℕ) : Type 0 where
   pub leads : LeadsToLeaf tree c.leaf
   pub short : level ≤ length c.leaf
@@ -64,7 +64,7 @@ module _ {tree : Tree Node} {c : Aimed} {level : ℕ} {node : ℕ} (r : IsReache
   back : address_at tree node ≡ take level c.leaf
   back = ap (address_at tree) r.number ∙ (number-of tree c.leaf r.leads level r.short).address
 
-  -- what is kept of it
+  -- the entry for it
   pub waypoint-made : {s : PathNode} {m : Marks} → s.node ≡ node → HasAt tree node (λ n. s.checked.now ≡ n.program) → s.marks ≡ m → s.told ≡ rank_told s.checked.now.push (told m)
       → told m ≡ marks_on (part_at tree (take level c.leaf)) (drop level c.leaf) c → IsWaypoint tree c level s
   waypoint-made {s} is-node program marks rank on = record {
@@ -79,7 +79,7 @@ module _ {tree : Tree Node} {c : Aimed} {level : ℕ} {node : ℕ} (r : IsReache
       let none : drop level c.leaf ≡ [] = drop_all level c.leaf all in
       sym (ap (λ (ds : Address). marks_on (part_at tree (take level c.leaf)) ds c) none ∙ marks-of_class (part_at tree (take level c.leaf)) c)
 
-  -- ---- and its child on the way, to which the next digit leads
+  -- ---- and its child on the path, to which the next digit leads
   module _ {digits : List ℕ} (to : digits ≡ c.leaf) (more : level < length digits) where
     further : level < length c.leaf
     further = omega (arith, more, ap length to)
@@ -100,7 +100,7 @@ module _ {tree : Tree Node} {c : Aimed} {level : ℕ} {node : ℕ} (r : IsReache
         ∙ sym (n.marks c)
         ∙ ap (λ (ds : Address). marks_on (part_at tree (take level c.leaf)) ds c) (sym (ahead-next tree c.leaf r.leads level further))
 
--- ---- the ways of the first classes
+-- ---- the paths of the first classes
 pub record HaveWays (policy : Policy) (ways : List (Vec PathNode Global)) (n : ℕ) : Type 0 where
   pub count : length ways ≡ n
   pub each : (i : ℕ) (c : Aimed) (w : Vec PathNode Global) → slice_get policy.classes i ≡ Some c → slice_get ways i ≡ Some w → AreWaypoints policy.tree c w.items

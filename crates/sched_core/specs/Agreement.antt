@@ -1,4 +1,4 @@
--- What a policy's stations say of the values of its variables, and for which flows they have room.
+-- The values of the variables of a policy's nodes, and the flows for which the nodes have room.
 use Rattle.rank_defs.specs.declared.environment.Who.TheVariants.{Flow}
 use Rattle.packet_defs.specs.declared.packet.Packet.{Packet}
 use Rattle.policy_defs.specs.Policy.{Policy}
@@ -18,10 +18,10 @@ AreStates s values = HaveValues (policy_of s).tree s.states.items values
 abbrev pub HasFlowRoom : NodeStates → Packet → Type 0
 HasFlowRoom s p = HasRoomAt (policy_of s).tree s.states.items (class_of (policy_of s) p).leaf (Flow p.flow)
 
--- P holds of all values that the variables have
+-- P holds of all values that the variables may have
 abbrev pub ForStates : NodeStates → (States → Type 0) → Type 0
 ForStates s P = (values : States) → AreStates s values → P values
 
--- whatever values the variables had, they have others now
+-- whatever values the variables had, they have the values that f gives now
 abbrev pub StatesBecome : NodeStates → NodeStates → (States → States) → Type 0
 StatesBecome old new f = ForStates old (λ values. AreStates new (f values))

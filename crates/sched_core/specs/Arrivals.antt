@@ -1,4 +1,4 @@
--- What a scheduler tells of a packet that came.
+-- The result of an arrival.
 use Rattle.std.specs.Prelude.{ℕ, if◌then◌else◌, Result, Ok, Err}
 use Rattle.std.specs.declared.alloc.AllocError.{AllocError}
 use Rattle.packet_defs.specs.declared.packet.Packet.{Packet}
@@ -12,17 +12,17 @@ use Rattle.sched_core.specs.declared.scheduler.Arrival.TheVariants.{Pushed, Drop
 abbrev pub leaf_number : Policy → Packet → ℕ
 leaf_number policy p = number_at policy.tree (class_of policy p).leaf
 
--- a packet is dropped where its leaf is full, and pushed elsewhere
+-- a packet is dropped if its leaf is full, and pushed otherwise
 abbrev pub arrival_of : Policy → Packet → SourceState → Arrival
 arrival_of policy p s = if is_full policy p s then Dropped (leaf_number policy p) else Pushed (leaf_number policy p)
 
--- how many pushes an answer tells
+-- the number of pushes in a result
 abbrev pub pushes_of : Result Arrival AllocError → ℕ
 pushes_of (Ok (Pushed leaf)) = 1
 pushes_of (Ok (Dropped leaf)) = 0
 pushes_of (Err e) = 0
 
--- what holds where a packet was pushed, or dropped
+-- P holds if the packet was pushed; the next definition says the same of a dropped packet
 abbrev pub WherePushed : Type 0 → Arrival → Type 0
 WherePushed P (Pushed leaf) = P
 WherePushed P (Dropped leaf) = Unit {0}
@@ -31,7 +31,7 @@ abbrev pub WhereDropped : Type 0 → Arrival → Type 0
 WhereDropped P (Pushed leaf) = Unit {0}
 WhereDropped P (Dropped leaf) = P
 
--- what holds where no packet was pushed: it was dropped, or memory ran out
+-- P holds if no packet was pushed: it was dropped, or memory ran out
 abbrev pub WhereNotPushed : Type 0 → Result Arrival AllocError → Type 0
 WhereNotPushed P (Ok a) = WhereDropped P a
 WhereNotPushed P (Err e) = P

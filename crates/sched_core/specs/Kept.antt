@@ -1,4 +1,4 @@
--- The states that are kept for the nodes of a tree, each at its node's number.
+-- The states of the nodes of a tree, each at its node's number.
 use Rattle.std.specs.Prelude.{◌≡◌, ℕ, List, [], ◌∷◌, Option, Some, None, length, slice_get, unwrap_or}
 use Rattle.std.specs.Coded.{Coded-set, coded_ℕ, coded_bool, coded_option, Unit-prop, le_prop}
 use Rattle.tree_defs.specs.Tree.{Tree, leaf, inner, Address, IsAddressOf, subtree, root_of, nodes, count_of}
@@ -14,7 +14,7 @@ use Rattle.policy_defs.specs.Numbers.{number_at}
 use Rattle.policy_core.specs.Numbering.{address_at}
 use Rattle.sched_defs.specs.Visits.{States}
 
--- the part of a tree at an address; the whole where there is none
+-- the part of a tree at an address; the whole tree if there is none
 abbrev pub part_at : {Q : Type 0} → Tree Q → Address → Tree Q
 part_at tree a = unwrap_or (subtree tree a) tree
 
@@ -22,22 +22,22 @@ part_at tree a = unwrap_or (subtree tree a) tree
 abbrev pub numbered_part : Tree Node → ℕ → Tree Node
 numbered_part tree node = part_at tree (address_at tree node)
 
--- of an inner node, how many children it has; none of a leaf
+-- how many children an inner node has; `None` for a leaf
 abbrev pub arity : {Q : Type 0} → Tree Q → Option ℕ
 arity (leaf n) = None
 arity (inner n ts) = Some (count_of ts)
 
--- this state is kept for the node at an address
+-- this is the state of the node at an address
 abbrev pub Keeps : Tree Node → List NodeState → Address → NodeState → Type 0
 Keeps tree states a x = slice_get states (number_at tree a) ≡ Some x
 
--- what is kept of a node: each variable is in its range, and there is room for each child
+-- a node's state: each variable is in its range, and there is room for each child
 pub record IsStationOf (t : Tree Node) (x : NodeState) : Type 0 where
   pub in_range : IsStateInRange (root_of t).program (state_of x)
   pub children : children_of x ≡ arity t
   pub room : (i : ℕ) → BelongsTo (arity t) (Child i) → HasRoom x (Child i)
 
--- one for each node
+-- one state for each node
 pub record AreStations (tree : Tree Node) (states : List NodeState) : Type 0 where
   pub count : length states ≡ nodes tree
   pub each : (a : Address) (t : Tree Node) (x : NodeState) → subtree tree a ≡ Some t → Keeps tree states a x → IsStationOf t x
@@ -58,14 +58,14 @@ IsStationOf-prop t x a b i = record {
   room = λ j belongs. Coded-set coded_bool _ _ (a.room j belongs) (b.room j belongs) i;
 }
 
--- a proof of it tells no more than that it holds
+-- all proofs of it are equal
 pub AreStations-prop : (tree : Tree Node) (states : List NodeState) → IsProp (AreStations tree states)
 AreStations-prop tree states a b i = record {
   count = Coded-set coded_ℕ _ _ a.count b.count i;
   each = λ c t x e k. IsStationOf-prop t x (a.each c t x e k) (b.each c t x e k) i;
 }
 
--- the variables of each node have the values that are told of it
+-- the variables of each node have these values
 abbrev pub HaveValues : Tree Node → List NodeState → States → Type 0
 HaveValues tree states values =
     (a : Address) (x : NodeState) → IsAddressOf tree a → Keeps tree states a x → SameState (state_of x) (values a)

@@ -1,4 +1,4 @@
--- What a scheduler keeps itself of a source state: all but its queues.
+-- The part of a source state that a scheduler keeps itself: all but its queues.
 use Rattle.std.specs.Prelude.{◌≡◌, ◌≤◌, ℕ, List, Some, slice_get}
 use Rattle.tree_defs.specs.Tree.{Address, LeadsToLeaf}
 use Rattle.tree_defs.specs.SourceTree.{SourceTree, pop, size}
@@ -13,12 +13,12 @@ use Rattle.sched_core.specs.Standing.{StandForOne, ForEachState}
 abbrev pub policy_in : PolicyState → Policy
 policy_in own = policy_of own.stations
 
--- at the number of each leaf, how many packets stand there
+-- at the number of each leaf, how many packets are in it
 abbrev pub AreFilled : Policy → List ℕ → SourceState → Type 0
 AreFilled policy counts s = (a : Address) → LeadsToLeaf policy.tree a → slice_get counts (number_at policy.tree a) ≡ Some (filled s a)
 
--- The variables, the packets held, how many stand at each leaf, and the greatest moment are those of the state, in which no
--- more packets are held than were pushed.
+-- The variables, the queued packets, how many of them are at each leaf, and the latest timestamp
+-- (`moment`) are those of the state. No more packets are queued than were pushed.
 pub record IsOwn (own : PolicyState) (s : SourceState) : Type 0 where
   pub nodes : AreStates own.stations s.nodes
   pub held : (n : ℕ) → held_at own.held n ≡ s.held n
@@ -26,15 +26,15 @@ pub record IsOwn (own : PolicyState) (s : SourceState) : Type 0 where
   pub few : size s.tree ≤ own.pushes
   pub now : s.now ≡ own.moment
 
--- whatever holds the queues
+-- the same, whichever component owns the queues
 abbrev pub owns : PolicyState → Unit {0} → SourceState → Type 0
 owns own queues s = IsOwn own s
 
--- it is that of a sound state that has P
+-- it is that of a sound state with P
 abbrev pub IsOfOne : PolicyState → (SourceState → Type 0) → Type 0
 IsOfOne own P = StandForOne owns (policy_in own) own tt P
 
--- P holds of each sound state whose it is
+-- P holds of each sound state that it belongs to
 abbrev pub IsOfEach : PolicyState → (SourceState → Type 0) → Type 0
 IsOfEach own P = ForEachState owns (policy_in own) own tt P
 
@@ -43,6 +43,6 @@ pub record PopsNext (s : SourceState) (number : ℕ) (digits ranks : List ℕ) :
   pub left : SourceTree
   pub popped : pop s.tree ≡ Some (record { value = number; digits = digits; ranks = ranks; left = left })
 
--- P holds of each sound state whose it is and from which this is popped next
+-- P holds of each sound state that it belongs to and from which this is popped next
 abbrev pub IsOfEachPopping : PolicyState → ℕ → List ℕ → List ℕ → (SourceState → Type 0) → Type 0
 IsOfEachPopping own number digits ranks P = IsOfEach own (λ s. PopsNext s number digits ranks → P s)

@@ -1,5 +1,5 @@
--- The policy of the tests: a root above two nodes, of which one is above another. Three are served by start-time fair queueing,
--- and the leaf below the root by strict priority.
+-- The policy of the tests: a root above two nodes, one of which is above another. Three use
+-- start-time fair queueing, and the leaf below the root uses strict priority.
 use Rattle.std.specs.Prelude.{◌≡◌, refl, List, [], ◌∷◌, codes}
 use Rattle.tree_defs.specs.Tree.{leaf, inner, none, more}
 use Rattle.tree_defs.specs.Topology.{topology_of}

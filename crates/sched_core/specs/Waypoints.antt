@@ -1,4 +1,4 @@
--- The nodes on the ways of a policy's classes, as they are kept.
+-- The nodes on the paths of a policy's classes, as the code has them.
 use Rattle.std.specs.Prelude.{◌≡◌, ◌+◌, ℕ, List, [], ◌∷◌, Option, Some, None, length, slice_get, take, drop, Vec}
 use Rattle.std.specs.Coded.{Coded-set, coded_ℕ, coded_option}
 use Rattle.std.specs.declared.alloc.Global.{Global}
@@ -17,7 +17,8 @@ use Rattle.sched_defs.specs.Visits.{child_marks}
 use Rattle.sched_core.specs.declared.path_node.PathNode.{PathNode}
 use Rattle.sched_core.specs.Kept.{part_at}
 
--- the marks that a step is told, if the way of a class goes on along digits from the root of this part
+-- the marks that a step gets, if the path of a class follows these digits from the root of this
+-- part
 abbrev pub marks_on : Tree Node → List ℕ → Class → Marks
 marks_on (leaf n) digits c = c.marks
 marks_on (inner n ts) [] c = c.marks
@@ -30,25 +31,25 @@ mark_told Rank (variable Weight) m = Some m.weight
 mark_told Rank (variable Slack) m = Some m.slack
 mark_told aim formula m = None
 
--- the rank of a push step, where marks alone tell it and the step does nothing else
+-- the rank of a push step, if marks alone determine it and the step does nothing else
 abbrev pub rank_told : List Assignment → Marks → Option ℕ
 rank_told [] m = Some 0
 rank_told (a ∷ []) m = mark_told a.aim a.formula m
 rank_told (a ∷ b ∷ rest) m = None
 
--- what is kept of the node at a level of a class's way, the root's being 0
+-- the entry for the node at a level of a class's path; the root's level is 0
 pub record IsWaypoint (tree : Tree Node) (c : Class) (level : ℕ) (s : PathNode) : Type 0 where
   pub node : s.node ≡ number_at tree (take level c.leaf)
   pub program : s.checked.now ≡ (root_of (part_at tree (take level c.leaf))).program
   pub marks : told s.marks ≡ marks_on (part_at tree (take level c.leaf)) (drop level c.leaf) c
   pub rank : s.told ≡ rank_told s.checked.now.push (told s.marks)
 
--- one for each node on the way
+-- one entry for each node on the path
 pub record AreWaypoints (tree : Tree Node) (c : Class) (waypoints : List PathNode) : Type 0 where
   pub count : length waypoints ≡ length c.leaf + 1
   pub each : (level : ℕ) (s : PathNode) → slice_get waypoints level ≡ Some s → IsWaypoint tree c level s
 
--- those of each class
+-- the entries of each class
 pub record AreWays (policy : Policy) (ways : List (Vec PathNode Global)) : Type 0 where
   pub count : length ways ≡ length policy.classes
   pub each : (i : ℕ) (c : Class) (w : Vec PathNode Global) → slice_get policy.classes i ≡ Some c → slice_get ways i ≡ Some w → AreWaypoints policy.tree c w.items
@@ -67,7 +68,7 @@ AreWaypoints-prop tree c waypoints a b i = record {
   each = λ level s at. IsWaypoint-prop tree c level s (a.each level s at) (b.each level s at) i;
 }
 
--- a proof of it tells no more than that it holds
+-- all proofs of it are equal
 pub AreWays-prop : (policy : Policy) (ways : List (Vec PathNode Global)) → IsProp (AreWays policy ways)
 AreWays-prop policy ways a b i = record {
   count = Coded-set coded_ℕ _ _ a.count b.count i;

@@ -1,4 +1,4 @@
--- The way of a packet from the root down to the leaf of its class. The root's level is 0.
+-- The path of a packet from the root down to the leaf of its class. The root's level is 0.
 use Rattle.std.specs.Prelude.{◌≤◌, ℕ, List, [], ◌∷◌, take, drop}
 use Rattle.std.specs.List.{AllByRecursion}
 use Rattle.tree_defs.specs.Tree.{Tree, Address, LeadsToLeaf, root_of}
@@ -22,11 +22,11 @@ tree_for e = e.policy.now.policy.tree
 abbrev pub class_for : PacketPath → Class
 class_for e = class_in (tree_for e) e.class.now
 
--- the address of the node on the way at a level
+-- the address of the node at a level of the path
 abbrev pub place : PacketPath → ℕ → Address
 place e level = take level (class_for e).leaf
 
--- the digits along which the way goes on from there
+-- the digits that the path follows from there
 abbrev pub ahead : PacketPath → ℕ → List ℕ
 ahead e level = drop level (class_for e).leaf
 
@@ -34,7 +34,8 @@ ahead e level = drop level (class_for e).leaf
 abbrev pub part : PacketPath → ℕ → Tree Node
 part e level = part_at (tree_for e) (place e level)
 
--- the policy is accepted, the nodes on the way are those of the class, and the numbers that steps are told are in range
+-- the policy is accepted, the nodes on the path are those of the class, and the inputs of steps are
+-- in range
 pub record IsReady (e : PacketPath) : Type 0 where
   pub accepted : IsAccepted e.policy.now.policy
   pub leads : LeadsToLeaf (tree_for e) (class_for e).leaf
@@ -43,7 +44,7 @@ pub record IsReady (e : PacketPath) : Type 0 where
   pub len : e.packet.now.len ≤ max_len
   pub moment : e.moment ≤ max_rank
 
--- the child or the flow for which a node makes its step, if the way goes on along digits
+-- the child or flow whose variables a node's step uses, if the path follows these digits
 abbrev pub who_on : List ℕ → Packet → Who
 who_on [] p = Flow p.flow
 who_on (i ∷ digits) p = Child i
@@ -65,14 +66,14 @@ HasRoomAtLeaf e states = HasRoomAt (tree_for e) states (class_for e).leaf (Flow 
 abbrev pub AreLowRanks : List ℕ → Type 0
 AreLowRanks ranks = AllByRecursion (λ r. r ≤ max_rank) ranks
 
--- P holds of all values that the variables have
+-- P holds of all values that the variables may have
 abbrev pub ForValues : PacketPath → List NodeState → (States → Type 0) → Type 0
 ForValues e states P = (values : States) → HaveValues (tree_for e) states values → P values
 
--- whatever values the variables had, they have others now
+-- whatever values the variables had, they have the values that f gives now
 abbrev pub ValuesBecome : PacketPath → List NodeState → List NodeState → (States → States) → Type 0
 ValuesBecome e old new f = ForValues e old (λ values. HaveValues (tree_for e) new (f values))
 
--- where there was room, there is room
+-- any room there was is still there
 abbrev pub KeepsRoom : PacketPath → List NodeState → List NodeState → Type 0
 KeepsRoom e old new = (a : Address) (who : Who) → HasRoomAt (tree_for e) old a who → HasRoomAt (tree_for e) new a who

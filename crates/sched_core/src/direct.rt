@@ -19,7 +19,8 @@ impl<'a> Direct<'a> {
     ghost use Rattle.sched_core.specs.PolicyState.{policy_in};
     ghost use Rattle.sched_core.specs.Direct.{DirectStands};
 
-    /// A scheduler that saw no event yet, and the empty tree of the policy's topology. The error means out of memory.
+    /// Returns a scheduler that saw no event yet, and the empty tree of the policy's topology. The
+    /// error means out of memory.
     pub fn new(alloc: Global, policy: &'a Policy) -> Result<(Direct<'a>, SourceTree), AllocError>
         ensures stands { IfOk result (λ r. DirectStands r.0 r.1 (start policy.now.policy)) }
         ensures policy { IfOk result (λ r. policy_in r.0.own ≡ policy.now.policy) }

@@ -12,7 +12,7 @@ use rank_core::NodeState;
 use std::alloc::{AllocError, Global};
 use tree_core::Topo;
 
-/// How many children the node at an address has, or `None` at a leaf.
+/// Returns how many children the node at an address has, or `None` at a leaf.
 fn arity(topo: &Topo, address: &[u32]) -> Option<usize>
     requires there { IsAddressOf (topology topo.now) address.now }
     ensures { result ≡ arity (part_at (topology topo.now) address.now) }
@@ -39,7 +39,7 @@ fn first_state(alloc: Global, policy: &Policy, node: u32) -> Result<NodeState, A
     }
 }
 
-/// The variables of all nodes, by their numbers.
+/// Returns the initial variables of all nodes, by node number. The error means out of memory.
 pub fn first_states(alloc: Global, policy: &Policy) -> Result<Vec<NodeState>, AllocError>
     ensures kept { IfOk result (λ states. AreStations policy.now.policy.tree states.items) }
     ensures values { IfOk result (λ states. HaveValues policy.now.policy.tree states.items

@@ -1,5 +1,6 @@
-//! Schedulers of packets, by a policy, over queues that another owns; the variables of the policy's nodes, and the push and pop
-//! steps along a packet's way. Begin with src/scheduler.rt and specs/Standing.antt.
+//! Packet schedulers driven by a policy, over queues that another component owns: the variables of
+//! the policy's nodes, and the push and pop steps along a packet's path. Begin with
+//! src/scheduler.rt and specs/Standing.antt.
 #![tactic(auto)]
 
 mod direct;

@@ -1,4 +1,4 @@
-//! The stations of a policy.
+//! The variables of a policy's nodes.
 ghost use Rattle.std.specs.Prelude.{◌≡◌, ◌≤◌, ◌<◌, ◌+◌, length, IfOk, OnOk};
 ghost use Rattle.tree_defs.specs.Tree.{depth};
 ghost use Rattle.rank_defs.specs.Programs.{max_rank};
@@ -19,7 +19,8 @@ use rank_core::{NodeState, Who};
 use std::alloc::{AllocError, Global};
 use tree_core::Taken;
 
-/// The variables of a policy's nodes and leaves, with room for flows at the leaves, and the nodes on the way of each class.
+/// The variables of a policy's nodes and leaves, with room for flows at the leaves, and the nodes
+/// on the path of each class.
 #[derive(Drop)]
 pub struct NodeStates<'a> {
     policy: &'a Policy,
@@ -33,7 +34,7 @@ impl<'a> NodeStates<'a> {
     ghost use Rattle.sched_core.specs.Agreement.{policy_of, AreStates, HasFlowRoom, ForStates, StatesBecome};
     ghost use Rattle.sched_core.specs.Ways.{AreLowRanks};
 
-    /// All variables hold their first values. The error means out of memory.
+    /// Returns variables with their first values. The error means out of memory.
     pub fn new(alloc: Global, policy: &'a Policy) -> Result<NodeStates<'a>, AllocError>
         ensures policy { IfOk result (λ s. policy_of s ≡ policy.now.policy) }
         ensures first { IfOk result (λ s. AreStates s (first_states policy.now.policy.tree)) }
@@ -63,8 +64,9 @@ impl<'a> NodeStates<'a> {
         self.states[leaf as usize].reserve(&Who::Flow(packet.flow))
     }
 
-    /// Runs the push steps from the root to the leaf of a packet's class, and sets `trace` to the digits and the ranks. `moment`
-    /// is what the steps see as `now`, in nanoseconds. Takes no memory.
+    /// Runs the push steps from the root to the leaf of a packet's class, and sets `trace` to the
+    /// digits and the ranks. The steps see the timestamp (`moment`), in nanoseconds, as `now`.
+    /// Takes no memory.
     pub fn push_steps(&mut self, packet: &Packet, moment: u64, trace: &mut Taken)
         requires known { IsKnown (policy_of self.old) packet.now }
         requires moment { moment ≤ max_rank }
@@ -90,8 +92,9 @@ impl<'a> NodeStates<'a> {
         push_along(self.states.as_mut_slice(), &passage, trace);
     }
 
-    /// Runs the pop steps from the root to the leaf of a packet's class, with the ranks that were taken on these digits. `moment`
-    /// is what the steps see as `now`, in nanoseconds. Takes no memory.
+    /// Runs the pop steps from the root to the leaf of a packet's class, with the ranks that were
+    /// taken on these digits. The steps see the timestamp (`moment`), in nanoseconds, as `now`.
+    /// Takes no memory.
     pub fn pop_steps(&mut self, packet: &Packet, digits: &[u32], ranks: &[u64], moment: u64)
         requires known { IsKnown (policy_of self.old) packet.now }
         requires moment { moment ≤ max_rank }

@@ -1,4 +1,4 @@
-//! A packet on its way through the nodes of a policy.
+//! A packet on its path through the nodes of a policy.
 ghost use Rattle.std.specs.Prelude.{◌≡◌, ◌≤◌};
 ghost use Rattle.rank_defs.specs.Programs.{max_rank};
 ghost use Rattle.rank_defs.specs.Shapes.{IsEnvInRange, max_len};
@@ -11,7 +11,8 @@ use packet_defs::Packet;
 use policy_core::{Class, Marks, Policy};
 use rank_core::Env;
 
-/// A packet on its way, with its class, the nodes on the way of this class, and the time that the steps see.
+/// A packet on its path, with its class, the nodes on the path of this class, and the time that the
+/// steps see.
 #[derive(Drop)]
 pub struct PacketPath<'a> {
     pub policy: &'a Policy,
@@ -22,7 +23,7 @@ pub struct PacketPath<'a> {
 }
 
 impl PacketPath<'_> {
-    /// What a step knows, with these marks.
+    /// Returns the inputs of a step with these marks.
     pub fn env(&self, marks: &Marks) -> Env
         requires len { self.now.packet.now.len ≤ max_len }
         requires moment { self.now.moment ≤ max_rank }

@@ -1,4 +1,4 @@
-//! The nodes on the way of each class.
+//! The nodes on the path of each class.
 ghost use Rattle.std.specs.Prelude.{◌≡◌, ◌<◌, IfOk};
 ghost use Rattle.tree_defs.specs.Tree.{LeadsToLeaf, nodes};
 ghost use Rattle.rank_defs.specs.Programs.{program_of};
@@ -11,8 +11,8 @@ use range_core::Checked;
 use rank_core::{Aim, Expr, Transaction, Var};
 use std::alloc::{AllocError, Global};
 
-/// A node on the way of a class: its number, its transaction, the marks that its steps use, and the rank that its push
-/// step gives, where these marks alone tell it and the step does nothing else.
+/// A node on the path of a class: its number, its transaction, the marks that its steps use, and
+/// the rank of its push step, if these marks alone determine it and the step does nothing else.
 #[derive(Drop)]
 pub struct PathNode<'a> {
     pub node: u32,
@@ -21,7 +21,8 @@ pub struct PathNode<'a> {
     pub told: Option<u64>,
 }
 
-/// The rank that a push step gives, where marks alone tell it and the step does nothing else: 0 where it has no lines.
+/// Returns the rank of a push step, if marks alone determine it and the step does nothing else. It
+/// is 0 if the step has no lines.
 fn rank_told(transaction: &Transaction, marks: &Marks) -> Option<u64>
     ensures { result ≡ rank_told (program_of transaction.now).push (told marks.now) }
 {
@@ -37,7 +38,7 @@ fn rank_told(transaction: &Transaction, marks: &Marks) -> Option<u64>
     }
 }
 
-/// The path node of a node whose steps use these marks.
+/// Returns the path node of a node whose steps use these marks.
 fn waypoint_at<'a>(policy: &'a Policy, node: u32, marks: Marks) -> PathNode<'a>
     requires there { node < nodes policy.now.policy.tree }
     ensures node { result.node ≡ node }
@@ -54,7 +55,7 @@ fn waypoint_at<'a>(policy: &'a Policy, node: u32, marks: Marks) -> PathNode<'a>
     }
 }
 
-/// The nodes on the way of a class, from the root down.
+/// Returns the nodes on the path of a class, from the root down. The error means out of memory.
 fn waypoints_of<'a>(
     alloc: Global,
     policy: &'a Policy,
@@ -78,7 +79,7 @@ fn waypoints_of<'a>(
     Ok(waypoints)
 }
 
-/// The nodes on the ways of all classes, by the classes' numbers.
+/// Returns the nodes on the paths of all classes, by class number. The error means out of memory.
 pub fn all_waypoints<'a>(
     alloc: Global,
     policy: &'a Policy,

@@ -1,4 +1,4 @@
-//! What each scheduler keeps itself.
+//! The state that each scheduler keeps itself.
 ghost use Rattle.std.specs.Prelude.{◌≡◌, ◌<◌, ◌≤◌, ◌+◌, ◌^◌, ℕ, Some, is_ok, if◌then◌else◌, OnOk, OnErr, IfOk};
 ghost use Rattle.std.proofs.Props.{props};
 ghost use Rattle.tree_defs.specs.Tree.{depth};
@@ -21,9 +21,10 @@ use sched_held::Held;
 use std::alloc::{AllocError, Global};
 use tree_core::Taken;
 
-/// What a scheduler keeps itself, whatever holds its queues: the nodes' variables, the held packets, how many of them are at
-/// each leaf (by the numbers of nodes), and the latest timestamp.
-/// The flow of each held packet has room at its leaf, so a departure takes no memory.
+/// The state that a scheduler keeps itself, whichever component owns its queues: the nodes'
+/// variables, the queued packets, how many of them are at each leaf (by node number), and the
+/// latest timestamp. The flow of each queued packet has room at its leaf, so a departure takes no
+/// memory.
 #[derive(Drop)]
 pub struct PolicyState<'a> {
     stations: NodeStates<'a>,
@@ -38,7 +39,7 @@ pub struct PolicyState<'a> {
 impl<'a> PolicyState<'a> {
     ghost use Rattle.sched_core.specs.PolicyState.{policy_in, IsOwn, IsOfOne, IsOfEach, IsOfEachPopping, PopsNext};
 
-    /// No packet came yet. The error means out of memory.
+    /// Returns the state before the first packet. The error means out of memory.
     pub fn new(alloc: Global, policy: &'a Policy) -> Result<PolicyState<'a>, AllocError>
         ensures start { IfOk result (λ own. IsOwn own (start policy.now.policy)) }
         ensures policy { IfOk result (λ own. policy_in own ≡ policy.now.policy) }
@@ -55,7 +56,7 @@ impl<'a> PolicyState<'a> {
         })
     }
 
-    /// The number of the leaf of a packet's class.
+    /// Returns the number of the leaf of a packet's class.
     #[inline(always)]
     fn leaf(&self, packet: &Packet) -> u32
         requires known { IsKnown (policy_in self.now) packet.now }
@@ -64,7 +65,7 @@ impl<'a> PolicyState<'a> {
         self.stations.policy().classes()[packet.class as usize].leaf
     }
 
-    /// The address of the leaf of a packet's class.
+    /// Returns the address of the leaf of a packet's class.
     #[inline(always)]
     pub fn address(&self, packet: &Packet) -> &[u32]
         requires known { IsKnown (policy_in self.now) packet.now }
@@ -74,7 +75,7 @@ impl<'a> PolicyState<'a> {
         policy.address(policy.classes()[packet.class as usize].leaf)
     }
 
-    /// Whether the leaf of a packet's class has a limit and holds that many packets.
+    /// Returns whether the leaf of a packet's class has a limit that is reached.
     #[inline(always)]
     pub fn is_full(&self, packet: &Packet) -> bool
         requires accepted { IsAccepted (policy_in self.now) }
@@ -88,7 +89,8 @@ impl<'a> PolicyState<'a> {
         }
     }
 
-    /// Drops a packet: only the latest timestamp may change. The answer is the number of its leaf.
+    /// Drops a packet: only the latest timestamp may change. Returns the number of the packet's
+    /// leaf.
     pub fn drop_packet(&mut self, packet: &Packet) -> u32
         requires known { IsKnown (policy_in self.old) packet.now }
         ensures state { (s : SourceState) → IsOwn self.old s →
@@ -102,8 +104,8 @@ impl<'a> PolicyState<'a> {
         self.leaf(packet)
     }
 
-    /// Takes in a packet: the push steps run on its way, and `trace` gets the digits and the ranks. The answer is the number of
-    /// its leaf. The error means out of memory.
+    /// Takes in a packet: the push steps run on its path, and `trace` gets the digits and the
+    /// ranks. Returns the number of its leaf. The error means out of memory.
     #[inline(always)]
     pub fn admit(&mut self, packet: &Packet, trace: &mut Taken) -> Result<u32, AllocError>
         requires accepted { IsAccepted (policy_in self.old) }
@@ -137,7 +139,8 @@ impl<'a> PolicyState<'a> {
         Ok(leaf)
     }
 
-    /// Lets go of the packet that was popped with these digits and ranks: the pop steps run on its way. Takes no memory.
+    /// Releases the packet that was popped with these digits and ranks: the pop steps run on its
+    /// path. Takes no memory.
     #[inline(always)]
     pub fn release(&mut self, number: u64, digits: &[u32], ranks: &[u64]) -> Departed
         requires accepted { IsAccepted (policy_in self.old) }
@@ -168,7 +171,7 @@ impl<'a> PolicyState<'a> {
         }
     }
 
-    /// Counts a departure of nothing.
+    /// Counts a departure that finds nothing.
     #[inline(always)]
     pub fn count_empty_departure(&mut self)
         requires few { self.old.departures < 2 ^ 61 }
@@ -180,7 +183,7 @@ impl<'a> PolicyState<'a> {
         self.departures += 1;
     }
 
-    /// How many packets are held.
+    /// Returns how many packets are queued.
     #[inline(always)]
     pub fn held(&self) -> u64
         ensures { IsOfEach self.now (λ s. result ≡ size s.tree) }
@@ -188,7 +191,7 @@ impl<'a> PolicyState<'a> {
         self.held.len()
     }
 
-    /// The latest timestamp of the packets so far, in nanoseconds.
+    /// Returns the latest timestamp of the packets so far, in nanoseconds.
     #[inline(always)]
     pub fn now(&self) -> u64
         ensures { (s : SourceState) → IsOwn self.now s → result ≡ s.now }

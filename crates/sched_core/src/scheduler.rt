@@ -1,4 +1,4 @@
-//! The trait of what drives queues by a policy.
+//! The trait of schedulers that drive queues by a policy.
 ghost use Rattle.std.specs.Prelude.{◌≡◌, ◌<◌, ◌≤◌, ◌+◌, ◌^◌, ◌↔◌, ℕ, false, Option, IsNone, OnOk, OnErr, IfOk, IfSome, IfNone};
 ghost use Rattle.tree_defs.specs.Tree.{depth};
 ghost use Rattle.tree_defs.specs.SourceTree.{size};
@@ -16,20 +16,20 @@ use packet_defs::{Departed, Packet};
 use std::alloc::AllocError;
 use tree_core::Taken;
 
-/// What became of a packet that came, with the number of the leaf of its class.
+/// The outcome of an arrival, with the number of the leaf of the packet's class.
 #[derive(Clone, Copy, PartialEq, Eq, Debug)]
 pub enum Arrival {
     Pushed(u32),
-    /// The leaf has a limit, and holds that many packets.
+    /// The leaf has a limit, and the limit is reached.
     Dropped(u32),
 }
 
-/// What drives queues that another owns, by a policy.
+/// A scheduler that drives queues by a policy. Another component owns the queues.
 pub trait Scheduler {
-    /// What holds the queues.
+    /// The component that owns the queues.
     type Under;
 
-    /// The source states for which the scheduler stands with what is under it.
+    /// The source states that the scheduler and its queues (`under`) represent.
     ghost stands: { Self → Self.Under → SourceState → Type 0 };
 
     /// How many packets were pushed.
@@ -40,15 +40,17 @@ pub trait Scheduler {
 
     ghost policy: { Self → Policy };
 
-    /// Where the queues are in a target, if they do.
+    /// The position of the queues in a target, if they are in one.
     ghost origin: { Self → Option Origin };
 
-    /// How often pushes into the queues spilled, where that is known.
+    /// How often pushes into the queues spilled, if that is known to the contract.
     ghost spilled: { Self → Self.Under → Option ℕ };
 
-    /// A packet arrives. Where the leaf of its class has a limit and holds that many packets, it is dropped: the latest timestamp
-    /// may rise, and nothing else changes. Elsewhere the push steps run from the root to that leaf, the packet is pushed along
-    /// their ranks, and `trace` gets the leaf's address and the ranks. The error means out of memory, which a drop doesn't need.
+    /// Handles the arrival of a packet. If the leaf of its class has a limit that is reached, the
+    /// packet is dropped: the latest timestamp may rise, and nothing else changes. Otherwise the
+    /// push steps run from the root to that leaf, the packet is pushed with their ranks, and
+    /// `trace` gets the leaf's address and the ranks. The error means out of memory. A drop needs
+    /// no memory.
     fn arrive(
         &mut self,
         under: &mut Self::Under,
@@ -85,8 +87,8 @@ pub trait Scheduler {
         ensures policy { policy self.new ≡ policy self.old }
         ensures origin { origin self.new ≡ origin self.old };
 
-    /// The next packet leaves, if one is held: it is popped, and the pop steps run on its way with the ranks taken, which `trace`
-    /// gets with the digits. Takes no memory.
+    /// Dequeues the next packet, if one is queued. The packet is popped, and the pop steps run on
+    /// its path with the ranks taken. `trace` gets the digits and these ranks. Takes no memory.
     fn depart(&mut self, under: &mut Self::Under, trace: &mut Taken) -> Option<Departed>
         requires accepted { IsAccepted (policy self.old) }
         requires stands { ForOne stands policy self.old under.old (λ _ _. Unit {0}) }
@@ -109,12 +111,12 @@ pub trait Scheduler {
         ensures policy { policy self.new ≡ policy self.old }
         ensures origin { origin self.new ≡ origin self.old };
 
-    /// How many packets are held.
+    /// Returns how many packets are queued.
     fn held(&self) -> u64
         ensures { (under : Self.Under) → ForEach stands policy self.now under (λ _ s. result ≡
             size s.tree) };
 
-    /// The latest timestamp of the packets so far, in nanoseconds.
+    /// Returns the latest timestamp of the packets so far, in nanoseconds.
     fn now(&self) -> u64
         ensures { (under : Self.Under) → ForEach stands policy self.now under (λ _ s. result ≡
             s.now) };

@@ -1,4 +1,4 @@
-//! The steps of the nodes on a packet's way.
+//! The steps of the nodes on a packet's path.
 ghost use Rattle.std.specs.Prelude.{◌≡◌, ◌≤◌, ◌<◌, ◌+◌, ◌∷◌, [], length};
 ghost use Rattle.tree_defs.specs.Tree.{depth, nodes};
 ghost use Rattle.rank_defs.specs.Programs.{max_rank};
@@ -10,7 +10,7 @@ use crate::packet_path::PacketPath;
 use rank_core::{NodeState, Who, run_pop, run_push};
 use tree_core::Taken;
 
-/// The lines of the push step at a level of the way. The answer is the packet's rank there.
+/// Runs the lines of the push step at a level of the path. Returns the packet's rank there.
 #[inline(never)]
 fn push_lines(states: &mut [NodeState], passage: &PacketPath, digits: &[u32], level: usize) -> u64
     requires ready { IsReady passage.now }
@@ -36,8 +36,8 @@ fn push_lines(states: &mut [NodeState], passage: &PacketPath, digits: &[u32], le
     run_push(transaction, state, &Who::Flow(passage.packet.flow), &env)
 }
 
-/// The push step at a level of the way. The answer is the packet's rank there. Where the marks alone tell it, as in most nodes,
-/// nothing is looked up for it.
+/// Runs the push step at a level of the path. Returns the packet's rank there. If the marks alone
+/// determine the rank, as in most nodes, nothing is looked up for it.
 #[inline(always)]
 fn push_at(states: &mut [NodeState], passage: &PacketPath, digits: &[u32], level: usize) -> u64
     requires ready { IsReady passage.now }
@@ -60,7 +60,7 @@ fn push_at(states: &mut [NodeState], passage: &PacketPath, digits: &[u32], level
     }
 }
 
-/// The lines of the pop step at a level of the way, where the packet was taken with a rank.
+/// Runs the lines of the pop step at a level of the path, for a packet taken with a rank.
 #[inline(never)]
 fn pop_lines(
     states: &mut [NodeState],
@@ -97,8 +97,8 @@ fn pop_lines(
     }
 }
 
-/// The pop step at a level of the way, where the packet was taken with a rank. Where the node has no lines, as most have none,
-/// nothing is looked up for it.
+/// Runs the pop step at a level of the path, for a packet taken with a rank. If the node has no
+/// lines, as most have none, nothing is looked up for it.
 #[inline(always)]
 fn pop_at(states: &mut [NodeState], passage: &PacketPath, digits: &[u32], level: usize, rank: u64)
     requires ready { IsReady passage.now }
@@ -118,7 +118,7 @@ fn pop_at(states: &mut [NodeState], passage: &PacketPath, digits: &[u32], level:
     }
 }
 
-/// The push steps from the root down to the leaf. `trace` gets the digits and the ranks.
+/// Runs the push steps from the root down to the leaf. `trace` gets the digits and the ranks.
 pub fn push_along(states: &mut [NodeState], passage: &PacketPath, trace: &mut Taken)
     requires ready { IsReady passage.now }
     requires leaf { passage.now.class.now.leaf < nodes (tree_for passage.now) }
@@ -145,7 +145,8 @@ pub fn push_along(states: &mut [NodeState], passage: &PacketPath, trace: &mut Ta
     trace.last(rank);
 }
 
-/// The pop steps from the root down to the leaf, with the ranks that were taken on these digits.
+/// Runs the pop steps from the root down to the leaf, with the ranks that were taken on these
+/// digits.
 pub fn pop_along(states: &mut [NodeState], passage: &PacketPath, digits: &[u32], ranks: &[u64])
     requires ready { IsReady passage.now }
     requires digits { digits.now ≡ (class_for passage.now).leaf }

@@ -44,7 +44,7 @@ held_departed policy s n below = by_pop (pop s.tree)
     by_pop None = below
     by_pop (Some taken) = by_packet taken (s.held taken.value)
 
--- after some of the packets arrived, the others can be sent
+-- a prefix of the packets can arrive
 sent_front : (policy : Policy) (n k : ℕ) (packets : List Packet) (s : SourceState) → CanBeSent policy n packets s → CanMake policy (map Arrive (take k packets)) s
 sent_front policy n zero packets s can = tt
 sent_front policy n (suc k) [] s can = tt
@@ -74,7 +74,7 @@ drop_whole : {X : Type 0} (xs : List X) → drop (length xs) xs ≡ []
 drop_whole [] = refl
 drop_whole (x ∷ xs) = drop_whole xs
 
--- what a step leaves to send
+-- after a step, the remaining packets can be sent
 pub record IsStepMade (policy : Policy) (step : Step) (n : ℕ) (packets : List Packet) (s : SourceState) : Type 0 where
   pub can : CanMake policy (step_events step packets s) s
   pub next : ℕ
@@ -109,7 +109,7 @@ length-split zero xs = omega arith
 length-split (suc k) [] = omega arith
 length-split (suc k) (x ∷ xs) = let h = length-split k xs in omega arith
 
--- what a step's outcomes count
+-- the counts of a step's outcomes
 record IsStepShort (policy : Policy) (step : Step) (packets : List Packet) (s : SourceState) (es : List Event) : Type 0 where
   arrivals : pushed_in (outcomes policy es s) + dropped_in (outcomes policy es s) + length (left_by step packets) ≤ length packets
   departures : asked_in (outcomes policy es s) + size (after policy es s).tree ≤ departures_asked (step ∷ []) + size s.tree + pushed_in (outcomes policy es s)

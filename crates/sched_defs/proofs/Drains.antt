@@ -1,4 +1,4 @@
--- What a drain leaves, and what a script leaves that ends with one.
+-- The state after a drain, and after a script that ends with one.
 use Rattle.std.proofs.Common.{◌≡◌, ℕ, ◌+◌, List, [], ◌∷◌, ◌++◌, length, replicate, Bool, true, false, Option, Some, None, if◌then◌else◌, sym, ap, subst, arith, nat_lt}
 use Rattle.std.proofs.lemmas.List.{append-nil}
 use Rattle.tree_defs.specs.SourceTree.{size}
@@ -18,11 +18,11 @@ use Rattle.sched_defs.proofs.Leaving.{none_held}
 use Rattle.sched_defs.proofs.Runs.{AreDepartures, sound_after, sound_departures, after-append, CanMake-departures, none_lost, departures_count}
 use Rattle.sched_defs.proofs.Courses.{IsStepMade, step_made, size_departures}
 
--- a sound state with an empty tree holds nothing
+-- a sound state with an empty tree has no packet queued
 pub holds_nothing : (policy : Policy) (s : SourceState) → IsSound policy s → size s.tree ≡ 0 → HoldsNothing s
 holds_nothing policy s sound none = record { tree = none; held = none_held policy s sound none }
 
--- a departure for each packet that is held
+-- a departure for each queued packet
 pub drained : (policy : Policy) (s : SourceState) → IsAccepted policy → IsSound policy s → IsDrained policy (replicate (size s.tree) (Depart None)) s
 drained policy s accepted sound =
     let n : ℕ = size s.tree in

@@ -1,4 +1,4 @@
--- What arrives and what leaves, and how many packets are held.
+-- Arrivals and departures, and how many packets are queued.
 use Rattle.std.proofs.Common.{◌≡◌, ◌↔◌, ℕ, zero, suc, ◌+◌, ◌-◌, List, [], ◌∷◌, ◌++◌, max, length, Option, Some, None, IsSome, refl, sym, ap, ◌∙◌, subst, arith}
 use Rattle.std.specs.Prelude.{option_map}
 use Rattle.std.specs.List.{AllByRecursion}
@@ -25,7 +25,7 @@ use Rattle.sched_defs.proofs.Ranks.{HasLowRanks-pop}
 use Rattle.sched_defs.proofs.Counts.{length-values, empty_of_length}
 use Rattle.sched_defs.proofs.Soundness.{leads_in, class_is_ready, arrival_ranks-low, popped_is_held, same_packet}
 
--- ---- how many are held
+-- ---- how many packets are queued
 some_of : {X : Type 0} (o : Option X) → IsSome o → (x : X) × (o ≡ Some x)
 some_of None h = cc
 some_of (Some x) h = (x, refl)
@@ -40,7 +40,7 @@ values_held policy s sound n i =
     (all_mapped (IsAtItsLeaf policy s) (λ at. IsSome (s.held at.1)) (λ at k. is_some_of (s.held at.1) k.packet k.held) (packets s.tree) sound.placed)) in
     all_at (λ m. IsSome (s.held m)) n (values s.tree) all i
 
--- the numbers in the leaves are those of the packets that are held
+-- the numbers in the leaves are those of the queued packets
 pub values_are_numbers : (policy : Policy) (s : SourceState) → IsSound policy s → AreNumbersOf s.held (values s.tree)
 values_are_numbers policy s sound = record {
   distinct = sound.distinct;
@@ -55,7 +55,7 @@ held_count policy s numbers sound are =
     (λ n i. in_of n numbers ((are.each n).1 ((own.each n).0 (contains_of n (values s.tree) i))))
     ∙ length-values s.tree
 
--- where none stands in the leaves none is held
+-- if no packet is in the leaves, none is queued
 pub none_held : (policy : Policy) (s : SourceState) → IsSound policy s → size s.tree ≡ 0 → (n : ℕ) → s.held n ≡ None
 none_held policy s sound z n = by_held (s.held n) refl
   where
@@ -66,7 +66,7 @@ none_held policy s sound z n = by_held (s.held n) refl
 pub size_pushed : (policy : Policy) (p : Packet) (s : SourceState) → IsAccepted policy → IsSound policy s → CanArrive policy s p → size (pushed policy p s).tree ≡ size s.tree + 1
 size_pushed policy p s accepted sound can = size-push s.tree (class_of policy p).leaf (arrival_ranks policy p s) p.number (leads_in policy accepted s sound p can.known.class)
 
--- ---- what arrives
+-- ---- arrivals
 abbrev ranks_to : Address → ℕ
 ranks_to digits = length digits + 1
 
@@ -95,7 +95,7 @@ arrives_at_a_leaf policy p s accepted sound can =
       };
     }
 
--- ---- what leaves
+-- ---- departures
 pub pop_leaves : (policy : Policy) (s : SourceState) (taken : Popping SourceTree) (p : Packet) → IsSound policy s → pop s.tree ≡ Some taken → s.held taken.value ≡ Some p → LeavesItsLeaf policy s (leaving taken p)
 pop_leaves policy s taken p sound e held =
     let at : IsAtItsLeaf policy s (taken.digits, taken.value) = popped_is_held policy s taken sound e in
@@ -114,7 +114,7 @@ leaves_its_leaf policy s l sound h =
     let v : (p : Packet) × (s.held w.0.value ≡ Some p) × (leaving w.0 p ≡ l) = option_map-some (leaving w.0) (s.held w.0.value) l w.2 in
     subst (LeavesItsLeaf policy s) v.2 (pop_leaves policy s w.0 v.0 sound w.1 v.1)
 
--- a pop gives something exactly where there is a packet
+-- a pop returns an entry exactly if a packet is queued
 pub pop_size : (policy : Policy) (s : SourceState) → IsSound policy s → (pop s.tree ≡ None) ↔ (size s.tree ≡ 0)
 pop_size policy s sound =
     let wf = sound.well_formed in (

@@ -1,4 +1,5 @@
--- The events of a run that a link paces can be made: each packet comes, and each departure takes one.
+-- The events of a run that a link paces can be made: each packet arrives, and each departure takes
+-- one.
 use Rattle.std.proofs.Common.{◌≡◌, ◌<◌, ◌≤◌, ℕ, zero, suc, ◌+◌, max, Bool, true, false, Option, Some, None, List, [], ◌∷◌, ◌++◌, if◌then◌else◌, refl, sym, ap, ◌∙◌, subst, arith, inl, inr}
 use Rattle.std.proofs.lemmas.Bool.{ltb-true, ltb-false}
 use Rattle.std.specs.Option.{option_map_or}
@@ -66,7 +67,7 @@ module _ (policy : Policy) where
       (by_leaver s free (λ l. send_until policy rate until n (departed policy s) (free + send_time l.packet.len rate))
       (λ l. sending rate until n (departed policy s) (free + send_time l.packet.len rate)) (leaver s) refl)
 
--- ---- the departures that are due at a packet's moment, and its arrival
+-- ---- the departures that are due at a packet's timestamp, and its arrival
 module _ (policy : Policy) (rate : ℕ) (p : Packet) (s : SourceState) (free : ℕ) where
   abbrev due : Sent
   due = send_due policy rate (max s.now p.moment) s free
@@ -114,9 +115,9 @@ link_can policy rate (p ∷ packets) fault first s free can =
     (subst (λ (z : SourceState). CanMake policy (link_course policy rate packets fault now.state now.free).events z) (sym (turn_leads policy rate p s free))
     (link_can policy rate packets fault (first + 1) now.state now.free (turn_rest policy rate p s free first packets can)))
 
--- ---- what a link leaves
+-- ---- after a link's run
 module _ (policy : Policy) (rate : ℕ) (accepted : IsAccepted policy) where
-  -- a departure for each packet that is held leaves none
+  -- a departure for each queued packet leaves none
   pub all_sent : (n : ℕ) (s : SourceState) (free : ℕ) → IsSound policy s → size s.tree ≤ n → size (send_until policy rate None n s free).state.tree ≡ 0
   all_sent zero s free sound few = omega arith
   all_sent (suc n) s free sound few = by_leaver (λ after. all_sent n (departed policy s) after (sound_departed policy s accepted sound) (omega (arith, size_departed policy s sound, few))) (leaver s) refl
@@ -126,7 +127,8 @@ module _ (policy : Policy) (rate : ℕ) (accepted : IsAccepted policy) where
       by_leaver rest None e = (leaver-none policy s sound).0 e
       by_leaver rest (Some l) e = rest (free + send_time l.packet.len rate)
 
-  -- before a moment the departures stop only where nothing is held or the link isn't free before it
+  -- before a timestamp, the departures stop only if no packet is queued or the link isn't free
+  -- before it
   sent_before : (moment n : ℕ) (s : SourceState) (free : ℕ) → IsSound policy s → size s.tree ≤ n → IsSentBefore moment (send_until policy rate (Some moment) n s free)
   sent_before moment zero s free sound few = record { early = tt; stops = inl (omega arith) }
   sent_before moment (suc n) s free sound few =

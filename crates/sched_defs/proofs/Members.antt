@@ -1,4 +1,4 @@
--- The elements of lists with one more and with one fewer.
+-- The elements of lists with one element added or removed.
 use Rattle.std.proofs.Common.{◌≡◌, ◌≢◌, ◌⊎◌, ℕ, zero, suc, ◌+◌, false, List, [], ◌∷◌, ◌++◌, map, length, nat_eq, refl, sym, ap, ◌∙◌, subst, arith, inl, inr}
 use Rattle.std.specs.List.{AllByRecursion, IsDistinct, Contains}
 use Rattle.std.proofs.lemmas.Bool.{eqb-false}
@@ -67,13 +67,13 @@ module _ {X : Type 0} (P Q R : X → Type 0) where
   all_joined f [] h k = tt
   all_joined f (x ∷ xs) h k = (f x h.0 k.0, all_joined f xs h.1 k.1)
 
--- what holds of each element holds of one that is there
+-- a property of each element holds of any member
 pub all_at : {X : Type 0} (P : X → Type 0) (x : X) (xs : List X) → AllByRecursion P xs → IsIn x xs → P x
 all_at P x [] h i = absurd i
 all_at P x (y ∷ ys) h (inl e) = subst P e h.0
 all_at P x (y ∷ ys) h (inr i) = all_at P x ys h.1 i
 
--- a number that is there has the others before it and behind it
+-- a member splits the list into the elements before it and those after it
 pub one_more : {X : Type 0} (x : X) (xs : List X) → IsIn x xs → (ys : List X) × OneMore x ys xs
 one_more x [] i = absurd i
 one_more {X} x (y ∷ ys) (inl e) = (ys, record { before = []; behind = ys; without = refl; with_it = ap (λ (z : X). z ∷ ys) e })
@@ -91,7 +91,7 @@ length-one_more {X} x xs ys o = ap (λ (l : List X). length l) o.with_it ∙ len
 not_among : (x : ℕ) (xs : List ℕ) → AllByRecursion (λ y. nat_eq x y ≡ false) xs → IsIn x xs → ⊥
 not_among x xs h i = eqb-false x x (all_at (λ y. nat_eq x y ≡ false) x xs h i) refl
 
--- two lists of distinct numbers, where each number of one is in the other, are as long
+-- two lists of distinct numbers with the same members have the same length
 pub same_length : (xs ys : List ℕ) → IsDistinct nat_eq xs → IsDistinct nat_eq ys → ((n : ℕ) → IsIn n xs → IsIn n ys) → ((n : ℕ) → IsIn n ys → IsIn n xs) → length xs ≡ length ys
 unfolding IsDistinct
 same_length [] [] d e f g = refl

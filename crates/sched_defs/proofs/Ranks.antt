@@ -1,4 +1,4 @@
--- Ranks in range stay so.
+-- Ranks stay in range.
 use Rattle.std.proofs.Common.{◌≡◌, ◌≤◌, ℕ, zero, suc, ◌∷◌, [], List, Some, subst, arith}
 use Rattle.std.specs.Prelude.{option_map, slice_index, drop}
 use Rattle.std.specs.List.{AllByRecursion}

@@ -78,7 +78,7 @@ empty_in-append (Departed p a ranks start ∷ os) qs = empty_in-append os qs
 empty_in-append (Dropped p a ∷ os) qs = empty_in-append os qs
 empty_in-append (Empty ∷ os) qs = omega (arith, empty_in-append os qs)
 
--- what one outcome counts
+-- the counts of one outcome
 pub record Counts (o : Outcome) (pushed popped dropped empty : ℕ) : Type 0 where
   pub pushes : (os : List Outcome) → pushed_in (o ∷ os) ≡ pushed + pushed_in os
   pub pops : (os : List Outcome) → popped_in (o ∷ os) ≡ popped + popped_in os

@@ -25,11 +25,11 @@ use Rattle.sched_defs.proofs.Ranks.{AreLow, IsLowPopping, HasLowRanks-push, HasL
 use Rattle.sched_defs.proofs.Visits.{IsVisitTo, visits_from-are, class_ready}
 use Rattle.sched_defs.proofs.States.{ranks_pushed-low, after_pushes-in_range, after_pops-in_range, first_states-in_range}
 
--- ---- the packets held
+-- ---- the queued packets
 pub same_packet : (p q : Packet) → Some p ≡ Some q → p ≡ q
 same_packet p q e = cc
 
--- one of two packets: the one that arrived, or one that was held
+-- one of two packets: the one that arrived, or one that was queued
 pub with_packet-is : (held : Held) (p : Packet) (n : ℕ) (q : Packet) → with_packet held p n ≡ Some q → ((n ≡ p.number) × (p ≡ q)) ⊎ (held n ≡ Some q)
 with_packet-is held p n q h = by_test (nat_eq n p.number) refl h
   where
@@ -58,7 +58,7 @@ module _ (policy : Policy) (accepted : IsAccepted policy) where
   pub class_is_ready : (p : Packet) → p.class < length policy.classes → IsClassReady policy.tree (class_of policy p)
   class_is_ready p l = class_ready (IsClassReady policy.tree) (record { marks = no_marks; leaf = [] }) policy.classes p.class accepted.classes l
 
-  -- an address of a leaf is one in each tree of the policy's topology
+  -- a leaf's address leads to a leaf in each tree with the policy's topology
   pub leads_in : (s : SourceState) → IsSound policy s → (p : Packet) → p.class < length policy.classes → LeadsToLeaf s.tree (class_of policy p).leaf
   leads_in s sound p l =
       let a : Address = (class_of policy p).leaf in
@@ -81,14 +81,14 @@ module _ (policy : Policy) (accepted : IsAccepted policy) where
 other_number : (s : SourceState) (policy : Policy) (n : ℕ) → s.held n ≡ None → (at : Placed) → IsAtItsLeaf policy s at → at.1 ≢ n
 other_number s policy n fresh at i e = let k : s.held at.1 ≡ None = ap s.held e ∙ fresh in let h = i.held in cc
 
--- a number that isn't held stands in no leaf
+-- a number under which no packet is queued is in no leaf
 pub stands_nowhere : (policy : Policy) (s : SourceState) (n : ℕ) → IsSound policy s → s.held n ≡ None → IsOther n (values s.tree)
 stands_nowhere policy s n sound fresh =
     subst (IsOther n) (values-packets s.tree)
     (all_over (λ (at : Placed). at.1) (λ m. nat_eq n m ≡ false) (packets s.tree)
     (all_mapped (IsAtItsLeaf policy s) (λ at. nat_eq n at.1 ≡ false) (λ at i. ne_eqb n at.1 (λ e. other_number s policy n fresh at i (sym e))) (packets s.tree) sound.placed))
 
--- a limit that isn't reached has room for one more
+-- a limit that isn't reached leaves room for one more
 room_for_one : (limit : Option ℕ) (n : ℕ) → is_reached limit n ≡ false → IfSome limit (λ l. n ≤ l) → IfSome limit (λ l. n + 1 ≤ l)
 room_for_one None n free few = tt
 room_for_one (Some l) n free few = let ne : n ≢ l = eqb-false n l free in omega (arith, ne, few)
@@ -97,7 +97,7 @@ fewer : (limit : Option ℕ) (n m : ℕ) → m ≤ n → IfSome limit (λ l. n �
 fewer None n m less few = tt
 fewer (Some l) n m less few = omega (arith, less, few)
 
--- two addresses are one, or they aren't
+-- two addresses are equal, or they aren't
 one_or_two : (a b : Address) → (a ≡ b) ⊎ (a ≢ b)
 one_or_two [] [] = inl refl
 one_or_two [] (j ∷ b) = inr (λ e. cc)
@@ -178,7 +178,7 @@ pub sound_arrived : (policy : Policy) (p : Packet) (s : SourceState) → IsAccep
 sound_arrived policy p s accepted sound can = by_fullness policy p s (IsSound policy) (λ full. sound_dropped policy p s sound can) (sound_pushed policy p s accepted sound can)
 
 -- ---- departures
--- what is popped is held, under its number
+-- the popped number is that of a queued packet
 pub popped_is_held : (policy : Policy) (s : SourceState) (taken : Popping SourceTree) → IsSound policy s → pop s.tree ≡ Some taken → IsAtItsLeaf policy s (taken.digits, taken.value)
 popped_is_held policy s taken sound e = (All-taken (IsAtItsLeaf policy s) (taken.digits, taken.value) (packets taken.left) (packets s.tree) (packets-pop s.tree taken e) sound.placed).0
 

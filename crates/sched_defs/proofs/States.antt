@@ -1,4 +1,4 @@
--- Steps on the way keep each variable in its range, and give ranks in range.
+-- Steps on the path keep each variable in its range, and give ranks in range.
 use Rattle.std.proofs.Common.{◌≡◌, ◌≤◌, ℕ, Bool, true, false, List, [], ◌∷◌, Option, Some, refl, sym, ap, ◌∙◌, subst, bytes_eq}
 use Rattle.std.specs.Prelude.{slice_index, drop}
 use Rattle.std.specs.List.{AllByRecursion}

@@ -1,4 +1,4 @@
--- The nodes on the way are the policy's, and what their steps are told is in range.
+-- The nodes on the path are the policy's, and the inputs of their steps are in range.
 use Rattle.std.proofs.Common.{◌≡◌, ◌≤◌, ◌<◌, ℕ, zero, suc, List, [], ◌∷◌, ◌++◌, length, Some, refl, sym, ap, ◌∙◌, arith, slice_get}
 use Rattle.std.specs.Prelude.{unwrap_or}
 use Rattle.std.specs.List.{AllByRecursion}
@@ -11,7 +11,7 @@ use Rattle.policy_defs.specs.Policy.{Marks, no_marks, Node, Class, node_at, node
 use Rattle.policy_defs.specs.Accepted.{AreMarksInRange, IsNodeReady}
 use Rattle.sched_defs.specs.Visits.{Visit, env_for, child_marks, visits_from, visits_below}
 
--- a visit to a node that stands in the tree, with numbers in range
+-- a visit to a node of the tree, with numbers in range
 pub record IsVisitTo (root : Tree Node) (v : Visit) : Type 0 where
   pub node : Node
   pub stands : node_at root v.address ≡ Some node
@@ -33,7 +33,7 @@ child_marks_in_range none i h = no_marks_in_range
 child_marks_in_range (more t ts) zero h = h zero (root_of t) (root_stands t)
 child_marks_in_range (more t ts) (suc i) h = child_marks_in_range ts i (λ j. h (suc j))
 
--- what stands in the part of a tree at an address stands in the tree
+-- a node in the subtree at an address is a node of the tree
 abbrev pub IsPart : Tree Node → Address → Tree Node → Type 0
 IsPart root a t = (b : Address) → node_at root (a ++ b) ≡ node_at t b
 

@@ -1,4 +1,4 @@
--- Events in a row, and what is told of them.
+-- Events in a row, and their outcomes.
 use Rattle.std.specs.Prelude.{◌≡◌, ◌≤◌, ℕ, ◌+◌, if◌then◌else◌, Option, None, Some, List, [], ◌∷◌}
 use Rattle.tree_defs.specs.Tree.{Address}
 use Rattle.rank_defs.specs.Programs.{max_rank}
@@ -7,14 +7,15 @@ use Rattle.policy_defs.specs.Policy.{Policy}
 use Rattle.sched_defs.specs.SourceState.{SourceState, Leaver, class_of, arrival_ranks, is_full, arrived, departed, leaver}
 use Rattle.sched_defs.specs.Sound.{IsKnown}
 
--- one arrival or one departure, with the moment at which it starts in nanoseconds, where a link says it: nothing happens
--- within either
+-- An arrival or a departure. A departure on a link has the timestamp at which it starts, in
+-- nanoseconds. Each event is atomic.
 pub data Event : Type 0 where
   Arrive : Packet → Event
   Depart : Option ℕ → Event
 
--- a packet came to a leaf or left from it, with the ranks from the root down and the start of the departure; or it was
--- dropped at its leaf; or there was none to leave
+-- A packet arrived at a leaf, with the ranks from the root down. Or a packet departed from a leaf,
+-- with the ranks and the start of the departure. Or a packet was dropped at its leaf. Or there was
+-- none to depart.
 pub data Outcome : Type 0 where
   Arrived : Packet → Address → List ℕ → Outcome
   Departed : Packet → Address → List ℕ → Option ℕ → Outcome
@@ -25,7 +26,7 @@ abbrev pub step : Policy → Event → SourceState → SourceState
 step policy (Arrive p) s = arrived policy p s
 step policy (Depart start) s = departed policy s
 
--- the state after all of these
+-- the state after all of these events
 abbrev pub after : Policy → List Event → SourceState → SourceState
 after policy [] s = s
 after policy (e ∷ es) s = after policy es (step policy e s)
@@ -43,7 +44,8 @@ abbrev pub outcomes : Policy → List Event → SourceState → List Outcome
 outcomes policy [] s = []
 outcomes policy (e ∷ es) s = outcome policy e s ∷ outcomes policy es (step policy e s)
 
--- how many outcomes are packets that came to their leaves, packets that left, packets dropped, and departures of nothing
+-- the number of packets that arrived at their leaves, of packets that departed, of packets dropped,
+-- and of departures that found nothing
 abbrev pub pushed_in : List Outcome → ℕ
 pushed_in [] = 0
 pushed_in (Arrived p a ranks ∷ os) = 1 + pushed_in os
@@ -64,11 +66,12 @@ empty_in [] = 0
 empty_in (Empty ∷ os) = 1 + empty_in os
 empty_in (o ∷ os) = empty_in os
 
--- departures that were asked for, those with nothing to leave among them
+-- the departures asked for, including those that found nothing
 abbrev pub asked_in : List Outcome → ℕ
 asked_in os = popped_in os + empty_in os
 
--- a packet that may arrive: it isn't held, and its class, length and moment are in range
+-- a packet that may arrive: it isn't queued, and its class, length and timestamp (`moment`) are in
+-- range
 pub record CanArrive (policy : Policy) (s : SourceState) (p : Packet) : Type 0 where
   pub fresh : s.held p.number ≡ None
   pub known : IsKnown policy p

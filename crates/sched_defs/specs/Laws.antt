@@ -1,4 +1,4 @@
--- What follows from the definitions of states and events.
+-- Consequences of the definitions of states and events.
 use Rattle.std.specs.Prelude.{◌≡◌, ◌<◌, ◌≤◌, ◌↔◌, ◌⊎◌, ℕ, ◌+◌, ◌-◌, max, nat_eq, IsSome, Option, None, Some, List, [], ◌∷◌, ◌++◌, length, replicate, ⊤}
 use Rattle.std.specs.List.{AllByRecursion, IsDistinct, Contains}
 use Rattle.tree_defs.specs.Tree.{Address, LeadsToLeaf}
@@ -29,13 +29,13 @@ DeparturesKeepSound = (policy : Policy) (s : SourceState) → IsAccepted policy 
 abbrev pub EventsKeepSound : Type 0
 EventsKeepSound = (policy : Policy) (events : List Event) (s : SourceState) → IsAccepted policy → IsSound policy s → CanMake policy events s → IsSound policy (after policy events s)
 
--- ---- what a sound state holds
--- these are the numbers of the packets that are held, each once
+-- ---- the packets of a sound state
+-- these are the numbers of the queued packets, each once
 pub record AreNumbersOf (held : Held) (numbers : List ℕ) : Type 0 where
   pub distinct : IsDistinct nat_eq numbers
   pub each : (n : ℕ) → Contains numbers n ↔ IsSome (held n)
 
--- as many packets are held as stand in the leaves
+-- as many packets are queued as are in the leaves
 abbrev pub HeldStandInLeaves : Type 0
 HeldStandInLeaves = (policy : Policy) (s : SourceState) (numbers : List ℕ) → IsSound policy s → AreNumbersOf s.held numbers → length numbers ≡ size s.tree
 
@@ -45,23 +45,23 @@ PushesAddOne = (policy : Policy) (p : Packet) (s : SourceState) → IsAccepted p
 abbrev pub DeparturesTakeOne : Type 0
 DeparturesTakeOne = (policy : Policy) (s : SourceState) → IsSound policy s → size (departed policy s).tree ≡ size s.tree - 1
 
--- what was held and what came is held still or has left
+-- each packet that was queued or pushed is still queued or has departed
 abbrev pub NoneIsLost : Type 0
 NoneIsLost =
     (policy : Policy) (events : List Event) (s : SourceState) → IsAccepted policy → IsSound policy s → CanMake policy events s
     → size (after policy events s).tree + popped_in (outcomes policy events s) ≡ size s.tree + pushed_in (outcomes policy events s)
 
--- where no leaf has a limit nothing is dropped
+-- if no leaf has a limit, nothing is dropped
 abbrev pub NothingIsDroppedWithoutLimits : Type 0
 NothingIsDroppedWithoutLimits = (policy : Policy) (events : List Event) (s : SourceState) → ((a : Address) → limit_at policy a ≡ None) → dropped_in (outcomes policy events s) ≡ 0
 
--- ---- what arrives and what leaves
--- a rank in range for each node on the way
+-- ---- arrivals and departures
+-- a rank in range for each node on the path
 pub record AreRanksTo (digits ranks : List ℕ) : Type 0 where
   pub count : length ranks ≡ length digits + 1
   pub low : AllByRecursion (λ r. r ≤ max_rank) ranks
 
--- a packet arrives at a leaf, with a rank in range at each node on its way
+-- a packet arrives at a leaf, with a rank in range at each node on its path
 pub record ArrivesAtALeaf (policy : Policy) (p : Packet) (s : SourceState) : Type 0 where
   pub leaf_address : LeadsToLeaf s.tree (class_of policy p).leaf
   pub ranks : AreRanksTo (class_of policy p).leaf (arrival_ranks policy p s)
@@ -72,7 +72,8 @@ ArrivalsComeToLeaves = (policy : Policy) (p : Packet) (s : SourceState) → IsAc
 abbrev pub NothingLeavesWhereNothingIsHeld : Type 0
 NothingLeavesWhereNothingIsHeld = (policy : Policy) (s : SourceState) → IsSound policy s → (leaver s ≡ None) ↔ (size s.tree ≡ 0)
 
--- the packet is held under its number, and leaves from the leaf of its class with a rank in range at each node on its way
+-- the packet is queued under its number, and departs from the leaf of its class with a rank in
+-- range at each node on its path
 pub record LeavesItsLeaf (policy : Policy) (s : SourceState) (l : Leaver) : Type 0 where
   pub held : s.held l.packet.number ≡ Some l.packet
   pub leaf_is : l.digits ≡ (class_of policy l.packet).leaf
@@ -83,7 +84,7 @@ abbrev pub PacketsLeaveTheirLeaves : Type 0
 PacketsLeaveTheirLeaves = (policy : Policy) (s : SourceState) (l : Leaver) → IsSound policy s → leaver s ≡ Some l → LeavesItsLeaf policy s l
 
 -- ---- events in a row
--- events, and then some more
+-- events, followed by more of them
 pub record EventsJoin : Type 0 where
   pub states : (policy : Policy) (es fs : List Event) (s : SourceState) → after policy (es ++ fs) s ≡ after policy fs (after policy es s)
   pub told : (policy : Policy) (es fs : List Event) (s : SourceState) → outcomes policy (es ++ fs) s ≡ outcomes policy es s ++ outcomes policy fs (after policy es s)
@@ -100,7 +101,8 @@ CoursesCanBeMade =
     (policy : Policy) (steps : List Step) (packets : List Packet) (fault : Option FaultAt) (first event : ℕ) (s : SourceState) → CanBeSent policy first packets s
     → CanMake policy (course policy steps packets fault s event).events s
 
--- no more packets are pushed and dropped than there are, and `drain` asks for none that wasn't held or wasn't pushed
+-- At most as many packets are pushed and dropped as there are. `drain` asks only for packets that
+-- were queued or pushed.
 pub record IsCourseShort (steps : List Step) (packets : List Packet) (s : SourceState) (os : List Outcome) : Type 0 where
   pub arrivals : pushed_in os + dropped_in os ≤ length packets
   pub departures : asked_in os ≤ departures_asked steps + size s.tree + pushed_in os
@@ -110,12 +112,13 @@ CoursesAreShort =
     (policy : Policy) (steps : List Step) (packets : List Packet) (fault : Option FaultAt) (first event : ℕ) (s : SourceState) → IsAccepted policy → IsSound policy s → CanBeSent policy first packets s
     → IsCourseShort steps packets s (outcomes policy (course policy steps packets fault s event).events s)
 
--- no packet is in the tree, and none is held under any number
+-- no packet is in the tree, and none is queued under any number
 pub record HoldsNothing (s : SourceState) : Type 0 where
   pub tree : size s.tree ≡ 0
   pub held : (n : ℕ) → s.held n ≡ None
 
--- these events take each packet that is held, no departure finds nothing, and nothing is held after them
+-- these events take each queued packet, no departure finds nothing, and no packet is queued after
+-- them
 pub record IsDrained (policy : Policy) (events : List Event) (s : SourceState) : Type 0 where
   pub popped : popped_in (outcomes policy events s) ≡ size s.tree
   pub empty : empty_in (outcomes policy events s) ≡ 0
@@ -135,7 +138,7 @@ EachDrainLeavesNothing =
     (policy : Policy) (steps : List Step) (packets : List Packet) (first : ℕ) (s : SourceState) → IsAccepted policy → IsSound policy s → CanBeSent policy first packets s
     → IsEachDrained policy steps packets s
 
--- a run that ends whole, after a script whose last step is `drain`, leaves nothing held
+-- a run that ends whole, after a script whose last step is `drain`, leaves no packet queued
 abbrev pub LastDrainsLeaveNothing : Type 0
 LastDrainsLeaveNothing =
     (policy : Policy) (steps : List Step) (packets : List Packet) (fault : Option FaultAt) (first event unsent : ℕ) (s : SourceState) → IsAccepted policy → IsSound policy s → CanBeSent policy first packets s
@@ -149,7 +152,8 @@ LinksCanRun =
     (policy : Policy) (rate : ℕ) (packets : List Packet) (fault : Option FaultAt) (first : ℕ) (s : SourceState) (free : ℕ) → CanBeSent policy first packets s
     → CanMake policy (link_course policy rate packets fault s free).events s
 
--- each packet is pushed or dropped, each departure takes a packet, and behind a whole capture none is held
+-- each packet is pushed or dropped, each departure takes a packet, and after a whole capture none
+-- is queued
 pub record IsLinkRun (policy : Policy) (packets : List Packet) (fault : Option FaultAt) (s : SourceState) (events : List Event) : Type 0 where
   pub arrivals : pushed_in (outcomes policy events s) + dropped_in (outcomes policy events s) ≡ length packets
   pub empty : empty_in (outcomes policy events s) ≡ 0
@@ -166,12 +170,13 @@ StartsBefore moment (Depart (Some start)) = start < moment
 StartsBefore moment (Depart None) = ⊥
 StartsBefore moment (Arrive p) = ⊥
 
--- Each departure starts before this timestamp. They stop only if nothing is held or the link isn't free before the timestamp.
+-- Each departure starts before this timestamp. They stop only if no packet is queued or the link
+-- isn't free before the timestamp.
 pub record IsSentBefore (moment : ℕ) (sent : Sent) : Type 0 where
   pub early : AllByRecursion (StartsBefore moment) sent.events
   pub stops : (size sent.state.tree ≡ 0) ⊎ (moment ≤ sent.free)
 
--- what a link sends before a timestamp is what is due
+-- before a timestamp, a link sends the packets that are due
 abbrev pub LinksSendWhatIsDue : Type 0
 LinksSendWhatIsDue = (policy : Policy) (rate moment : ℕ) (s : SourceState) (free : ℕ) → IsAccepted policy → IsSound policy s → IsSentBefore moment (send_due policy rate moment s free)
 

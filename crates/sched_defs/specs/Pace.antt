@@ -1,4 +1,4 @@
--- What paces a run: the lines of a script, or a link's rate.
+-- The pace of a run: the lines of a script, or a link's rate.
 use Rattle.std.specs.Prelude.{ℕ, Option, List}
 use Rattle.packet_defs.specs.declared.packet.Packet.{Packet}
 use Rattle.policy_defs.specs.Policy.{Policy}
@@ -8,12 +8,12 @@ use Rattle.sched_defs.specs.Script.{Step, Course, course}
 use Rattle.sched_defs.specs.Link.{link_course}
 use Rattle.sched_defs.specs.Report.{course_report}
 
--- a script's steps, or a link that is free from the start, with its rate in bytes a second
+-- a script's steps, or a link that is free from the start, with its rate in bytes per second
 pub data Pace : Type 0 where
   Script : List Step → Pace
   Link : ℕ → Pace
 
--- the course over packets and the fault behind them, from a state, where the first event has this number
+-- the course over packets and the fault after them, from a state; the first event has this number
 abbrev pub paced_course : Policy → Pace → List Packet → Option FaultAt → SourceState → ℕ → Course
 paced_course policy (Script steps) packets fault s event = course policy steps packets fault s event
 paced_course policy (Link rate) packets fault s event = link_course policy rate packets fault s 0

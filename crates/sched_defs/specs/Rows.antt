@@ -1,4 +1,4 @@
--- Runs that are worked out.
+-- Worked examples of runs.
 use Rattle.std.specs.Prelude.{◌≡◌, refl, ℕ, None, Some, List, [], ◌∷◌, codes}
 use Rattle.std.specs.Fmt.{digits}
 use Rattle.sched_defs.specs.Faults.{FaultAt}
@@ -53,7 +53,7 @@ report-unsent = refl
 abbrev pub node : List ℕ → Program → Node
 node name program = record { name = name; using = []; program = program; marks = no_marks; limit = None }
 
--- The shortest packet's entry is taken first at the root, and the longest packet leaves first from its leaf.
+-- The root takes the shortest packet's entry first, and the leaf dequeues its longest packet first.
 abbrev pub inversion : Policy
 inversion = record {
   version = 1;
@@ -66,7 +66,7 @@ pub report-inversion : report inversion (Arrivals 2 ∷ Drain ∷ []) (packet 1 
 unfolding digits
 report-inversion = refl
 
--- Two leaves in turn: the idle one comes back where the other stands.
+-- Two leaves in turn: the leaf that was idle resumes at the other's turn.
 abbrev pub in_turn : Policy
 in_turn = record {
   version = 1;
@@ -83,7 +83,7 @@ pub report-in_turn : report in_turn (Arrivals 5 ∷ Departures 4 ∷ Arrivals 1 
 unfolding digits
 report-in_turn = refl
 
--- Two leaves by weight, of which the first has weight 3.
+-- Two leaves by weight. The first has weight 3.
 abbrev pub by_weight : Policy
 by_weight = record in_turn {
   tree = inner (node (codes "root") stfq) (more (leaf (record (node (codes "a") fifo) { marks = record no_marks { weight = 3 } })) (more (leaf (node (codes "b") fifo)) none));
@@ -95,8 +95,9 @@ pub report-by_weight : report by_weight (Arrivals 4 ∷ Departures 4 ∷ Arrival
 unfolding digits
 report-by_weight = refl
 
--- The same, in version 2, where the first leaf holds one packet at most: a packet is dropped, and its flow's variables at the
--- root stay, so that the next one comes where it would have come.
+-- The same in version 2, with a limit of one packet at the first leaf. A packet is dropped, and its
+-- flow's variables at the root are unchanged, so the next one gets the rank that the dropped one
+-- would have got.
 abbrev pub limited : Policy
 limited = record by_weight {
   version = 2;
@@ -109,7 +110,7 @@ pub report-limited : report limited (Arrivals 3 ∷ Departures 1 ∷ Arrivals 1 
 unfolding digits
 report-limited = refl
 
--- one leaf that holds one packet at most
+-- one leaf with a limit of one packet
 abbrev pub one_leaf_limited : Policy
 one_leaf_limited = record {
   version = 2;
@@ -122,7 +123,7 @@ pub report-one_leaf_limited : report one_leaf_limited (Arrivals 2 ∷ Departures
 unfolding digits
 report-one_leaf_limited = refl
 
--- a packet that is dropped raises `now`, by which the next one is ranked
+-- a dropped packet raises `now`, which ranks the next one
 abbrev pub by_time_limited : Policy
 by_time_limited = record one_leaf_limited { tree = leaf (record (node (codes "root") (ranked_by (variable Now))) { limit = Some 1 }) }
 
@@ -131,7 +132,8 @@ pub report-a_drop_raises_now : report by_time_limited (Arrivals 2 ∷ Departures
 unfolding digits
 report-a_drop_raises_now = refl
 
--- ranks by a variable and the slack; a departure sets the variable to the rank taken and the weight
+-- ranks by a variable and the slack; a departure sets the variable to the rank taken plus the
+-- weight
 abbrev pub by_slack_and_weight : Program
 by_slack_and_weight = record {
   keeps = counter ∷ [];
@@ -140,8 +142,8 @@ by_slack_and_weight = record {
   pop = set (AimKeep 0) (two Add (variable Rank) (variable Weight)) ∷ [];
 }
 
--- The root's steps read the marks of its child; the leaf's steps, at a push and at a pop, read those of the packet's class,
--- and not those of the leaf.
+-- The root's steps read the marks of its child. The leaf's steps, at a push and at a pop, read the
+-- marks of the packet's class, not those of the leaf.
 abbrev pub marked : Policy
 marked = record {
   version = 1;

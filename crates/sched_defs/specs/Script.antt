@@ -9,44 +9,45 @@ use Rattle.sched_defs.specs.declared.ending.Ending.TheVariants.{Whole, BadCaptur
 use Rattle.sched_defs.specs.Faults.{FaultAt}
 use Rattle.sched_defs.specs.Events.{Event, Arrive, Depart, after}
 
--- a line of a script: so many arrivals or departures, arrivals as long as packets are left, or departures as long as
--- packets are held
+-- a line of a script: N arrivals, N departures, an arrival for each packet left, or a departure for
+-- each queued packet
 pub data Step : Type 0 where
   Arrivals : ℕ → Step
   Departures : ℕ → Step
   Rest : Step
   Drain : Step
 
--- what happens in a run, and how it ends
+-- the events of a run, and how it ends
 pub record Course : Type 0 where
   pub events : List Event
   pub ending : Ending
 
--- the events of a step, of these packets and from this state
+-- the events of a step, given the packets left and the state
 abbrev pub step_events : Step → List Packet → SourceState → List Event
 step_events (Arrivals n) packets s = map Arrive (take n packets)
 step_events (Departures n) packets s = replicate n (Depart None)
 step_events Rest packets s = map Arrive packets
 step_events Drain packets s = replicate (size s.tree) (Depart None)
 
--- the packets that a step leaves
+-- the packets left after a step
 abbrev pub left_by : Step → List Packet → List Packet
 left_by (Arrivals n) packets = drop n packets
 left_by (Departures n) packets = packets
 left_by Rest packets = []
 left_by Drain packets = packets
 
--- where no packet is left, the capture's fault ends the run, and else the event that asks for one
+-- if no packet is left, the run ends at the capture's fault, or else at the event that asks for a
+-- packet
 abbrev pub missing : Option FaultAt → ℕ → Ending
 missing None event = PastLast event
 missing (Some fault) event = BadCapture fault.code fault.place
 
--- where all packets were asked for, the capture's fault ends the run
+-- if all packets were asked for, the capture's fault ends the run
 abbrev pub at_fault : Option FaultAt → Option Ending
 at_fault None = None
 at_fault (Some fault) = Some (BadCapture fault.code fault.place)
 
--- how a step ends the run, if it does; the event is the one behind its last
+-- how a step ends the run, if it does; `event` is the number after its last event
 abbrev pub stop_at : Step → List Packet → Option FaultAt → ℕ → Option Ending
 stop_at (Arrivals n) packets fault event = if nat_lt (length packets) n then Some (missing fault event) else None
 stop_at (Departures n) packets fault event = None
@@ -65,7 +66,8 @@ abbrev pub stopped_or : List Event → Option Ending → Course → Course
 stopped_or events (Some ending) c = record { events = events; ending = ending }
 stopped_or events None c = behind events c
 
--- the course of a script over packets and the fault behind them, from a state, where the first event has this number
+-- the course of a script over packets and the fault after them, from a state; the first event has
+-- this number
 abbrev pub course : Policy → List Step → List Packet → Option FaultAt → SourceState → ℕ → Course
 course policy [] packets fault s event = record { events = []; ending = at_end fault packets }
 course policy (step ∷ steps) packets fault s event =

@@ -11,7 +11,7 @@ use Rattle.packet_defs.specs.declared.packet.Packet.{Packet}
 use Rattle.policy_defs.specs.Policy.{Policy, Node, node_at, limit_at}
 use Rattle.sched_defs.specs.SourceState.{SourceState, class_of, filled}
 
--- each rank is at most the greatest
+-- each rank is at most the greatest rank
 abbrev pub HasRanks : Queue → Type 0
 HasRanks q = AllByRecursion (λ e. e.0 ≤ max_rank) q
 
@@ -24,19 +24,20 @@ abbrev mutual
   HaveLowRanks none = Unit {0}
   HaveLowRanks (more t ts) = HasLowRanks t × HaveLowRanks ts
 
--- a packet that is held: its class is one of the policy's, and its length one that a capture can tell
+-- a queued packet: its class is one of the policy's, and a capture can give its length
 pub record IsKnown (policy : Policy) (p : Packet) : Type 0 where
   pub class : p.class < length policy.classes
   pub len : p.len ≤ max_len
 
--- the number stands at the leaf of the class of the packet that is held under it
+-- the number is at the leaf of the class of the packet that is queued under it
 pub record IsAtItsLeaf (policy : Policy) (s : SourceState) (at : Placed) : Type 0 where
   pub packet : Packet
   pub held : s.held at.1 ≡ Some packet
   pub leaf_is : (class_of policy packet).leaf ≡ at.0
 
--- The queues have the policy's topology and are well formed; the packets in the leaves are those that are held, each once
--- and at the leaf of its class; no leaf holds more than its limit; and each rank, each variable and `now` is in range.
+-- The queues have the policy's topology and are well formed. The packets in the leaves are the
+-- queued ones, each once and at the leaf of its class. No leaf holds more than its limit. Each
+-- rank, each variable and `now` is in range.
 pub record IsSound (policy : Policy) (s : SourceState) : Type 0 where
   pub well_formed : IsWellFormed s.tree
   pub shape : SameShape s.tree policy.tree

@@ -1,4 +1,5 @@
--- The state of a policy's tree of queues, and how an arrival and a departure change it (SIGCOMM 2016, OOPSLA 2023).
+-- The state of a policy's tree of queues, and how an arrival and a departure change it (SIGCOMM
+-- 2016, OOPSLA 2023).
 use Rattle.std.specs.Prelude.{ℕ, max, ◌==◌, Bool, false, if◌then◌else◌, Option, None, Some, option_map, unwrap_or, List, [], length}
 use Rattle.std.specs.Option.{option_map_or}
 use Rattle.tree_defs.specs.Tree.{Tree, Address, Popping, option_bind}
@@ -10,7 +11,7 @@ use Rattle.packet_defs.specs.declared.packet.Packet.{Packet}
 use Rattle.policy_defs.specs.Policy.{Policy, Node, Class, no_marks, node_at, class_at, limit_at}
 use Rattle.sched_defs.specs.Visits.{States, Visit, visits_from, ranks_pushed, after_pushes, after_pops}
 
--- the packet that is held under a number, if one is
+-- the packet that is queued under a number, if there is one
 abbrev pub Held : Type 0
 Held = ℕ → Option Packet
 
@@ -18,11 +19,12 @@ Held = ℕ → Option Packet
 abbrev pub with_packet : Held → Packet → Held
 with_packet held p n = if n == p.number then Some p else held n
 
--- without the packet of a number
+-- without the packet with a number
 abbrev pub without : Held → ℕ → Held
 without held m n = if n == m then None else held n
 
--- the queues, the state of each node, the packets held, and the greatest moment of the packets so far
+-- the queues, the state of each node, the queued packets, and the greatest timestamp of the packets
+-- so far
 pub record SourceState : Type 0 where
   pub tree : SourceTree
   pub nodes : States
@@ -32,11 +34,11 @@ pub record SourceState : Type 0 where
 abbrev pub no_state : State
 no_state = record { keeps = []; eaches = λ _. [] }
 
--- all variables hold their first values
+-- all variables have their first values
 abbrev pub first_states : Tree Node → States
 first_states t a = option_map_or (λ n. first_state n.program) (node_at t a) no_state
 
--- all queues are empty, and no packet came yet
+-- all queues are empty, and no packet has arrived yet
 abbrev pub start : Policy → SourceState
 start policy = record {
   tree = empty_tree (topology_of policy.tree);
@@ -56,7 +58,7 @@ way_in policy p moment = visits_from policy.tree [] (class_of policy p).leaf (cl
 abbrev pub arrival_ranks : Policy → Packet → SourceState → List ℕ
 arrival_ranks policy p s = ranks_pushed s.nodes (way_in policy p (max s.now p.moment))
 
--- how many packets stand at the leaf of an address
+-- how many packets are in the leaf at an address
 abbrev pub filled : SourceState → Address → ℕ
 filled s a = length (queue_at s.tree a)
 
@@ -65,15 +67,15 @@ abbrev pub is_reached : Option ℕ → ℕ → Bool
 is_reached None n = false
 is_reached (Some limit) n = n == limit
 
--- the leaf of the packet's class has a limit, and holds as many packets
+-- the leaf of the packet's class has a limit, and the limit is reached
 abbrev pub is_full : Policy → Packet → SourceState → Bool
 is_full policy p s = is_reached (limit_at policy (class_of policy p).leaf) (filled s (class_of policy p).leaf)
 
--- after a packet was dropped: nothing but the greatest moment may change
+-- after a packet was dropped: only the greatest timestamp may change
 abbrev pub dropped : Packet → SourceState → SourceState
 dropped p s = record { tree = s.tree; nodes = s.nodes; held = s.held; now = max s.now p.moment }
 
--- after a packet was pushed along the ranks that the push steps on its way gave
+-- after a packet was pushed with the ranks that the push steps on its path gave
 abbrev pub pushed : Policy → Packet → SourceState → SourceState
 pushed policy p s = record {
   tree = push s.tree (class_of policy p).leaf (arrival_ranks policy p s) p.number;
@@ -82,11 +84,11 @@ pushed policy p s = record {
   now = max s.now p.moment;
 }
 
--- after a packet arrived: it is dropped where its leaf is full (tail drop), and pushed elsewhere
+-- after a packet arrived: it is dropped if its leaf is full (tail drop), and pushed otherwise
 abbrev pub arrived : Policy → Packet → SourceState → SourceState
 arrived policy p s = if is_full policy p s then dropped p s else pushed policy p s
 
--- the nodes that a leaving packet passed
+-- the nodes that a departing packet passed
 abbrev pub way_out : Policy → Packet → List ℕ → ℕ → List Visit
 way_out policy p digits moment = visits_from policy.tree [] digits (class_of policy p) p moment
 
@@ -103,12 +105,12 @@ abbrev pub left_from : Policy → SourceState → Option (Popping SourceTree) �
 left_from policy s None = s
 left_from policy s (Some taken) = left_with policy s taken (s.held taken.value)
 
--- after a departure: the tree was popped, and the pop steps on the way were told the ranks taken; where the tree is
--- empty nothing changes
+-- After a departure: the tree was popped, and the pop steps on the path ran with the ranks taken.
+-- If the tree is empty, nothing changes.
 abbrev pub departed : Policy → SourceState → SourceState
 departed policy s = left_from policy s (pop s.tree)
 
--- the packet that leaves, with the children's indices and the ranks taken from the root down
+-- the packet that departs, with the children's indices and the ranks taken from the root down
 pub record Leaver : Type 0 where
   pub packet : Packet
   pub digits : List ℕ
@@ -117,6 +119,6 @@ pub record Leaver : Type 0 where
 abbrev pub leaving : Popping SourceTree → Packet → Leaver
 leaving taken p = record { packet = p; digits = taken.digits; ranks = taken.ranks }
 
--- what leaves next, if anything does
+-- the packet that departs next, if there is one
 abbrev pub leaver : SourceState → Option Leaver
 leaver s = option_bind (pop s.tree) (λ taken. option_map (leaving taken) (s.held taken.value))

@@ -1,4 +1,4 @@
--- The nodes that a packet passes on its way from the root to its leaf, and the steps that are made there.
+-- The nodes that a packet passes on its path from the root to its leaf, and the steps made there.
 use Rattle.std.specs.Prelude.{ℕ, zero, suc, List, [], ◌∷◌, ◌++◌, map, drop, slice_index, if◌then◌else◌}
 use Rattle.std.specs.Str.{bytes_eq}
 use Rattle.tree_defs.specs.Tree.{Tree, leaf, inner, Trees, none, more, Address, root_of}
@@ -11,7 +11,8 @@ use Rattle.rank_defs.specs.Steps.{push_rank, after_push, after_pop}
 use Rattle.packet_defs.specs.declared.packet.Packet.{Packet}
 use Rattle.policy_defs.specs.Policy.{Marks, no_marks, Node, Class}
 
--- a node on the way: where it stands, what it computes, and what its step is told
+-- a node on the path: its address, its program, the child or flow whose variables its step uses
+-- (`who`), and the step's inputs (`env`)
 pub record Visit : Type 0 where
   pub address : Address
   pub program : Program
@@ -30,8 +31,9 @@ child_marks none i = no_marks
 child_marks (more t ts) zero = (root_of t).marks
 child_marks (more t ts) (suc i) = child_marks ts i
 
--- The nodes from the one at an address down, along digits that end at a leaf. An inner node's step is told of the
--- child on the way, with the child's marks; the leaf's of the packet's flow, with the marks of its class.
+-- The nodes from the one at an address down, along digits that end at a leaf. An inner node's step
+-- gets the child on the path and the child's marks. The leaf's step gets the packet's flow and the
+-- marks of its class.
 abbrev mutual
   pub visits_from : Tree Node → Address → List ℕ → Class → Packet → ℕ → List Visit
   visits_from (leaf n) a digits c p moment = visit a n.program (Flow p.flow) (env_for p moment c.marks) ∷ []
@@ -48,7 +50,7 @@ abbrev mutual
 abbrev pub States : Type 0
 States = Address → State
 
--- with another state at one address
+-- with the state at one address replaced
 abbrev pub with_state : States → Address → State → States
 with_state nodes a s b = if bytes_eq a b then s else nodes b
 
@@ -60,13 +62,13 @@ rank_at nodes v = push_rank v.program v.who v.env (nodes v.address)
 abbrev pub ranks_pushed : States → List Visit → List ℕ
 ranks_pushed nodes visits = map (rank_at nodes) visits
 
--- the states after the push steps on the way
+-- the states after the push steps on the path
 abbrev pub after_pushes : List Visit → States → States
 after_pushes [] nodes = nodes
 after_pushes (v ∷ visits) nodes =
     after_pushes visits (with_state nodes v.address (after_push v.program v.who v.env (nodes v.address)))
 
--- the states after the pop steps on the way, each with the rank taken there
+-- the states after the pop steps on the path, each with the rank taken there
 abbrev pub after_pops : List Visit → List ℕ → States → States
 after_pops [] ranks nodes = nodes
 after_pops (v ∷ visits) ranks nodes =

@@ -2,22 +2,24 @@
 ghost use Rattle.std.specs.Prelude.{◌≡◌};
 ghost use Rattle.sched_defs.specs.Script.{ends_at_fault};
 
-/// The code of a script that asks for a packet past the last, after the codes of a script that is malformed.
+/// The error code of a script that asks for a packet past the last. It follows the codes of
+/// malformed scripts.
 pub const PAST_LAST: u32 = 3;
 
 /// How a run that isn't stopped ends.
 #[derive(Clone, Copy, PartialEq, Eq, Debug)]
 pub enum Ending {
-    /// All is done, and this many packets weren't sent.
+    /// Everything is done, and this many packets weren't sent.
     Whole(u64),
-    /// The capture has a fault of this code, at the record of this number, 0 for none.
+    /// The capture has a fault with this code, at the record with this number. The number is 0 if
+    /// there is none.
     BadCapture(u32, u64),
-    /// The event of this number asks for a packet past the last.
+    /// The event with this number asks for a packet past the last.
     PastLast(u64),
 }
 
 impl Ending {
-    /// The ending, if it is at a fault of the capture.
+    /// Returns the ending, if it is at a fault of the capture.
     pub fn at_fault(self) -> Option<Ending>
         ensures { result ≡ ends_at_fault self }
     {

@@ -9,7 +9,8 @@ pub fn events_keep_states_sound()
     ensures events { EventsKeepSound }
 {}
 
-/// A sound state holds as many packets as are in its leaves: one more after a push, one fewer after a departure.
+/// In a sound state, as many packets are queued as are in the leaves. A push adds one, and a
+/// departure takes one.
 pub fn held_packets_stand_in_leaves()
     ensures count { HeldStandInLeaves }
     ensures pushes { PushesAddOne }
@@ -18,46 +19,49 @@ pub fn held_packets_stand_in_leaves()
     ensures drops { NothingIsDroppedWithoutLimits }
 {}
 
-/// Packets arrive at the leaves of their classes and leave from them, and none leaves exactly where none is held.
+/// Packets arrive at the leaves of their classes and depart from them. No packet departs exactly if
+/// none is queued.
 pub fn packets_keep_to_their_leaves()
     ensures arrivals { ArrivalsComeToLeaves }
     ensures departures { PacketsLeaveTheirLeaves }
     ensures none { NothingLeavesWhereNothingIsHeld }
 {}
 
-/// Events in a row are some of them, and then the others.
+/// Events in a row have the effect of a prefix of them, followed by the others.
 pub fn events_join()
     ensures joined { EventsJoin }
     ensures departures { DeparturesCanBeMade }
 {}
 
-/// The events of a script can be made over packets in the order of a capture, and are at most those that it asks for and
-/// two for each packet.
+/// The events of a script can be made over packets in the order of a capture. There are at most as
+/// many as the script asks for, plus two for each packet.
 pub fn courses_can_be_made()
     ensures made { CoursesCanBeMade }
     ensures short { CoursesAreShort }
 {}
 
-/// A `drain` step takes each packet that is queued, makes no departure that finds nothing, and leaves no packet queued. The
-/// clause `step` says it of each sound state of an accepted policy. `each` says it of each `drain` of a script, and `last` of
-/// a run after a script that ends with one. Their premises hold in each run: every `Policy` is accepted, the start is sound,
-/// and the packets come in the order of a capture.
+/// A `drain` step takes each packet that is queued, makes no departure that finds nothing, and
+/// leaves no packet queued. The clause `step` says it of each sound state of an accepted policy.
+/// `each` says it of each `drain` of a script, and `last` of a run after a script that ends with
+/// one. Their premises hold in each run: every `Policy` is accepted, the start is sound, and the
+/// packets arrive in the order of a capture.
 pub fn drains_leave_nothing()
     ensures step { DrainsLeaveNothing }
     ensures each { EachDrainLeavesNothing }
     ensures last { LastDrainsLeaveNothing }
 {}
 
-/// The events that a link paces can be made over packets in the order of a capture. Each packet is pushed or dropped, no
-/// departure finds nothing, and after a whole capture all is sent.
+/// The events that a link paces can be made over packets in the order of a capture. Each packet is
+/// pushed or dropped, no departure finds nothing, and after a whole capture all is sent.
 pub fn links_send_all()
     ensures made { LinksCanRun }
     ensures sent { LinksSendAll }
 {}
 
-/// Before a packet arrives, a link stops sending only if no packet is queued or the link isn't free before the packet's
-/// timestamp. It starts no departure at that timestamp or later. The clause `due` says it of each sound state of an accepted
-/// policy, and `each` of each packet of a run, by the premises of `drains_leave_nothing`.
+/// Before a packet arrives, a link stops sending only if no packet is queued or the link isn't free
+/// before the packet's timestamp. It starts no departure at that timestamp or later. The clause
+/// `due` says it of each sound state of an accepted policy, and `each` of each packet of a run, by
+/// the premises of `drains_leave_nothing`.
 pub fn links_send_what_is_due()
     ensures due { LinksSendWhatIsDue }
     ensures each { LinksSendBeforeEach }

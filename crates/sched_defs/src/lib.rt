@@ -1,5 +1,5 @@
-//! What a policy's tree of queues does with packets, one event at a time, and what a run reports. Begin with
-//! specs/SourceState.antt.
+//! What a policy's tree of queues does with packets, one event at a time, and the report of a run.
+//! Begin with specs/SourceState.antt.
 #![tactic(auto)]
 
 mod ending;

@@ -1,4 +1,4 @@
-//! The trait of packets that come one by one.
+//! The trait of packets that arrive one by one.
 ghost use Rattle.std.specs.Prelude.{◌≡◌, ◌≤◌, ◌+◌, ℕ, true, false, Option, List, [], ◌∷◌, length, if◌then◌else◌, IfOk, IfErr, OnOk, IsErrOf};
 ghost use Rattle.outside_core.specs.Faults.{Rose};
 ghost use Rattle.pcap_defs.specs.Record.{most_captured};
@@ -9,18 +9,19 @@ ghost use Rattle.sched_defs.specs.Packets.{most_packets, Left, Came, OneCame, Ca
 use packet_defs::Packet;
 use rank_defs::FlowKey;
 
-/// Why no packet comes.
+/// Why no packet arrives.
 #[derive(Clone, Copy, PartialEq, Eq, Debug)]
 pub enum Halt {
-    /// The capture has a fault of this code, at the record of this number, 0 for none.
+    /// The capture has a fault with this code, at the record with this number. The number is 0 if
+    /// there is none.
     Fault(u32, u64),
     /// The source can't be read.
     Source,
-    /// There is no memory.
+    /// Out of memory.
     Memory,
 }
 
-/// Holds the place of a packet until one is read.
+/// A blank packet, to be overwritten when a packet is read.
 pub const BLANK: Packet = Packet {
     number: 0,
     class: 0,
@@ -36,34 +37,34 @@ pub const BLANK: Packet = Packet {
     },
 };
 
-/// Packets that come one by one, in the order of a capture.
+/// Packets that arrive one by one, in the order of a capture.
 pub trait Packets {
-    /// What the packets are read from.
+    /// The source from which the packets are read.
     type Source;
 
-    /// Gives each packet its class.
+    /// The policy that gives each packet its class.
     ghost policy: { Self → Policy };
 
-    /// How many packets came.
+    /// How many packets have arrived.
     ghost given: { Self → ℕ };
 
-    /// What is left to come, where told.
+    /// The packets still to arrive and the fault after them, if known to the contract.
     ghost left: { Self → Self.Source → Option Left };
 
-    /// The captured bytes of the packet that came last, if it wasn't passed over.
+    /// The captured bytes of the most recent packet, if it wasn't skipped.
     ghost captured: { Self → List ℕ };
 
-    /// These are the captured bytes of the packets that are left to come, by their numbers.
+    /// Holds of the captured bytes, by packet number, of the packets still to arrive.
     ghost captures: { Self → Self.Source → Captured → Type 0 };
 
-    /// What a call needs.
+    /// The precondition of a call.
     ghost ready: { Self → Self.Source → Type 0 };
 
-    /// How many faults of the source there were, in 64 bits; the last value stands.
+    /// How many faults the source has had. The count has 64 bits and stays at its greatest value.
     ghost faults: { Self.Source → ℕ };
 
-    /// Puts the next packet in place of another, and answers whether one was left. It may be asked for again where none is, and
-    /// not after an error.
+    /// Writes the next packet through `packet`, and returns whether one was left. It may be called
+    /// again after the last packet, but not after an error.
     fn next(&mut self, source: &mut Self::Source, packet: &mut Packet) -> Result<bool, Halt>
         requires ready { ready self.old source.old }
 
@@ -92,8 +93,8 @@ pub trait Packets {
         ensures later { faults source.old ≤ faults source.new }
         ensures cause { IsErrOf result Halt.Source → Rose (faults source.old) (faults source.new) };
 
-    /// Passes over the next packet, and answers whether one was left. It may be called again where none is, and not after an
-    /// error.
+    /// Skips the next packet, and returns whether one was left. It may be called again after the
+    /// last packet, but not after an error.
     fn pass(&mut self, source: &mut Self::Source) -> Result<bool, Halt>
         requires ready { ready self.old source.old }
 
@@ -112,10 +113,10 @@ pub trait Packets {
         ensures later { faults source.old ≤ faults source.new }
         ensures cause { IsErrOf result Halt.Source → Rose (faults source.old) (faults source.new) };
 
-    /// The captured bytes of the packet that came last, if it wasn't passed over.
+    /// Returns the captured bytes of the most recent packet, if it wasn't skipped.
     fn captured(&self) -> &[u8]
         ensures { result.now ≡ captured self.now };
 
-    /// If what is left is known, the captured bytes are there.
+    /// If the packets still to arrive are known, such captured bytes exist.
     ghost there: { (packets : Self) (source : Self.Source) → AreThere (left packets source) (captures packets source) };
 }

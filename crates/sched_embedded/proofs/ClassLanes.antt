@@ -12,7 +12,7 @@ use Rattle.embed_core.specs.declared.lifted_path.LiftedPath.{LiftedPath}
 use Rattle.sched_embedded.specs.Laid.{leaf_of}
 use Rattle.sched_embedded.proofs.MapShapes.{same_leaves, topology-same}
 
--- what holds of each lane holds with one more
+-- a property of each lane holds with one more lane
 pub one_more : (P : ℕ → LiftedPath → Type 0) (lanes : List LiftedPath) (lane : LiftedPath) → ((n : ℕ) (x : LiftedPath) → slice_get lanes n ≡ Some x → P n x) → P (length lanes) lane
     → (n : ℕ) (x : LiftedPath) → slice_get (lanes ++ lane ∷ []) n ≡ Some x → P n x
 one_more P [] lane each here zero x e = let q : lane ≡ x = cc in subst (P 0) q here
@@ -26,7 +26,7 @@ ready-at tree d (c ∷ classes) zero all l = all.0
 ready-at tree d (c ∷ classes) (suc n) all l = ready-at tree d classes n all.1 (omega arith)
 
 module _ {C : Type 0} (f : C → Class) (policy : Policy) (told : List C) (n : ℕ) (class : C) (are : map f told ≡ policy.classes) (within : n < length told) (is : class ≡ get_or told n class) where
-  -- the leaf of a class is that which is told of it
+  -- the leaf of a class is the one that the code has for it
   pub leaf-told : leaf_of policy n ≡ (f class).leaf
   leaf-told =
       let d : Class = record { marks = no_marks; leaf = [] } in

@@ -1,4 +1,4 @@
--- The packet that leaves, where the source tree is known to give it.
+-- The packet that departs, if the source tree is known to give it.
 use Rattle.std.proofs.Common.{◌≡◌, ℕ, List, None, Some, refl, sym, ap, ◌∙◌}
 use Rattle.std.specs.Prelude.{IfSome}
 use Rattle.tree_defs.specs.SourceTree.{size}

@@ -1,4 +1,4 @@
--- What a scheduler counts of its packets follows from the packets that it holds.
+-- A scheduler's counts of its packets follow from its queued packets.
 use Rattle.std.proofs.Common.{◌≡◌, ℕ, Some, ap, sym, ◌∙◌, arith}
 use Rattle.fabric_core.specs.declared.fabric.Fabric.{Ghosts}
 use Rattle.sched_core.specs.PolicyState.{policy_in}

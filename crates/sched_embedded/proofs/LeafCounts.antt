@@ -1,4 +1,4 @@
--- How many packets stand at a leaf, by the packets that are held.
+-- How many packets are at a leaf, by the queued packets.
 use Rattle.std.proofs.Common.{◌≡◌, ◌⊎◌, ◌↔◌, ℕ, zero, suc, ◌+◌, false, List, [], ◌∷◌, ◌++◌, map, nat_eq, Option, Some, IsSome, refl, sym, ap, ◌∙◌, subst, arith, inl, inr}
 use Rattle.std.specs.List.{AllByRecursion, IsDistinct, Contains}
 use Rattle.std.proofs.lemmas.List.{length-map}
@@ -48,7 +48,7 @@ module _ {X Y : Type 0} (f : X → Y) where
   of_map y (z ∷ xs) (inl e) = (z, inl refl, e)
   of_map y (z ∷ xs) (inr i) = let r = of_map y xs i in (r.0, inr r.1, r.2)
 
--- ---- what stands at a leaf is placed there, and what is placed there stands at it
+-- ---- the packets at a leaf are exactly those that are placed there
 mutual
   placed_of : (t : Tree Queue) (a : Address) (n : ℕ) → IsIn n (numbers (queue_at t a)) → IsIn (a, n) (packets t)
   placed_of (leaf q) [] n i = let r = of_map (λ (e : ℕ × ℕ). e.1) n q i in subst (λ (m : ℕ). IsIn ([], m) (packets (leaf q))) r.2 (in_map (λ (e : ℕ × ℕ). ([], e.1)) r.0 q r.1)
@@ -65,7 +65,7 @@ mutual
   placed_below (more t ts) k (suc i) j a n e h =
       in_back (j ∷ a, n) (map (below k) (packets t)) (packets_below ts (suc k)) (placed_below ts (suc k) i j a n (omega (arith, e)) h)
 
--- where below a node a packet stands
+-- the child below a node where a packet is
 record IsBelow (ts : Trees Queue) (k : ℕ) (x : Placed) : Type 0 where
   pub child : ℕ
   pub rest : Address
@@ -137,7 +137,7 @@ mutual
 
 -- ---- two sound states with the same packets
 module _ (policy : Policy) (s t : SourceState) (sound : IsSound policy s) (other : IsSound policy t) (same : (n : ℕ) → s.held n ≡ t.held n) where
-  -- a packet at a leaf of the one stands at that leaf of the other
+  -- a packet at a leaf of one state is at that leaf of the other
   stands_there : (a : Address) (n : ℕ) → IsIn n (numbers (queue_at s.tree a)) → IsIn n (numbers (queue_at t.tree a))
   stands_there a n i =
       let here : IsAtItsLeaf policy s (a, n) = all_at (IsAtItsLeaf policy s) (a, n) (packets s.tree) sound.placed (placed_of s.tree a n i) in

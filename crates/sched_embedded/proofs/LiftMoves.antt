@@ -1,4 +1,4 @@
--- What a push and a pop of the fabric mean for the source tree of which its queues are the lift.
+-- The effect of a push and a pop of the fabric on the source tree whose lift its queues are.
 use Rattle.std.proofs.Common.{◌≡◌, ℕ, zero, suc, List, [], length, Option, None, Some, refl, sym, ap, ◌∙◌, subst}
 use Rattle.pifo_defs.specs.Queue.{Queue}
 use Rattle.tree_defs.specs.Tree.{Tree, Address, Popping, LeadsToLeaf, IsAddressOf}
@@ -22,7 +22,7 @@ use Rattle.embed_core.specs.Picks.{IsLeafImage}
 use Rattle.sched_embedded.specs.Laid.{Laid, HoldsLift, PopsTo}
 use Rattle.sched_embedded.proofs.MapShapes.{same_leaves}
 
--- nothing is popped where the root's queue is empty
+-- nothing is popped if the root's queue is empty
 nothing-along : (h : ℕ) (F : Family) → F [] ≡ [] → pop_along h F ≡ None
 nothing-along zero F e = rw e refl
 nothing-along (suc h) F e = rw e refl
@@ -62,7 +62,7 @@ module _ (l : Laid) (good : IsGoodMap (length l.arities) l.images) (F : Family) 
       from None p = refl
       from (Some r) p = let q = pops.packet r p in let no : None ≡ Some q.0 = sym (nothing-along (length l.arities) F e) ∙ q.1 in cc
 
-  -- the pop of the tree whose image the fabric's is
+  -- the pop of the tree whose image is the fabric's pop
   record IsImageOf (v : ℕ) (digits ranks : List ℕ) (G : Family) : Type 0 where
     taken : Popping SourceTree
     popped : pop t ≡ Some taken
@@ -106,7 +106,7 @@ module _ (l : Laid) (good : IsGoodMap (length l.arities) l.images) (F : Family) 
     pub leaf_image : IsLeafImage l.images digits
     leaf_image = (image-of.taken.digits, record { leaf = leads; image_is = image-of.digits_are })
 
-    -- what is picked is what the tree gives
+    -- the ranks picked are those of the tree
     pub picked : (way : Way) → LeadsToLeaf l.images way.digits → image_map l.images way.digits ≡ digits → way.ranks ≡ picked_ranks l.images way.digits ranks → PopsTo l t v way G
     picked way leaf image ranks_of =
         let r : Popping SourceTree = image-of.taken in

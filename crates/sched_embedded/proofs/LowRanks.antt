@@ -1,4 +1,4 @@
--- Lifted ranks are no greater than the ranks that are lifted.
+-- Lifted ranks are at most the ranks that are lifted.
 use Rattle.std.proofs.Common.{ℕ, zero, suc, ◌-◌, ◌≤◌, List, [], ◌∷◌, ◌++◌, length, replicate, drop, arith}
 use Rattle.std.specs.Prelude.{slice_index}
 use Rattle.tree_defs.specs.Tree.{Tree, leaf, inner, Trees, none, more, Address, root_of}

@@ -1,5 +1,5 @@
--- How a tree laid into a target is stored as a ghost value, that topologies are the same in one way at most, and that lanes lead where
--- they do in one way at most.
+-- How a tree laid into a target is stored as a ghost value. All proofs that two topologies are
+-- equal are equal, and so are all proofs of where lanes lead.
 use Rattle.std.specs.Prelude.{◌≡◌, ℕ, List, refl}
 use Rattle.std.specs.Coded.{Coded, Coded-set, code_by, coded×, coded_ℕ, coded_list}
 use base.Stored.{coded_unit}

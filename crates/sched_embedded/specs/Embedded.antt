@@ -1,4 +1,4 @@
--- Which source states a scheduler over a fabric stands for.
+-- The source states that a scheduler over a fabric represents.
 use Rattle.std.specs.Prelude.{◌≡◌, ◌↔◌, ◌+◌, ℕ, List}
 use Rattle.tree_defs.specs.Tree.{Tree, Address}
 use Rattle.embed_defs.specs.Images.{image_map}
@@ -14,16 +14,16 @@ use Rattle.sched_core.specs.declared.policy_state.PolicyState.{PolicyState}
 use Rattle.sched_core.specs.PolicyState.{IsOwn, policy_in}
 use Rattle.sched_embedded.specs.declared.embedded.Embedded.{Embedded}
 
--- where the queues stand in the target
+-- the position of the queues in the target
 abbrev pub origin_of : {F : Type 0} → Embedded F → Origin
 origin_of c = record { images = c.embedding.images; arities = c.embedding.arities; pushes = c.pushes_before; pops = c.pops_before }
 
--- images and arities in a fabric that was pushed and popped before
+-- images and arities in a fabric with earlier pushes and pops
 abbrev pub origin_in : {F : Type 0} → Ghosts F → Tree Address → List ℕ → F → Origin
 origin_in fabrics images arities fabric = record { images = images; arities = arities; pushes = fabrics.pushed fabric; pops = fabrics.popped fabric }
 
--- The queues are the lift of the source tree, in the target's shape. The fabric was pushed once for each packet that was pushed and popped
--- once for each departure, beside what was before.
+-- The queues are the lift of the source tree, in the target's shape. Since the scheduler was made,
+-- the fabric was pushed once for each packet pushed and popped once for each departure.
 pub record EmbeddedStands {F : Type 0} (fabrics : Ghosts F) (c : Embedded F) (fabric : F) (s : SourceState) : Type 0 where
   pub own : IsOwn c.own s
   pub shape : fabrics.shape fabric ≡ c.embedding.arities
@@ -32,7 +32,7 @@ pub record EmbeddedStands {F : Type 0} (fabrics : Ghosts F) (c : Embedded F) (fa
   pub pops : fabrics.popped fabric ≡ c.pops_before + c.own.departures
 
 -- ---- five points
--- the node states, the held packets and the latest timestamp
+-- the node states, the queued packets and the latest timestamp
 pub record IsKept (own : PolicyState) (s : SourceState) : Type 0 where
   pub nodes : AreStates own.stations s.nodes
   pub held : (n : ℕ) → held_at own.held n ≡ s.held n
@@ -46,8 +46,9 @@ pub record HasFivePoints {F : Type 0} (fabrics : Ghosts F) (c : Embedded F) (fab
   pub pushes : fabrics.pushed fabric ≡ c.pushes_before + c.own.pushes
   pub pops : fabrics.popped fabric ≡ c.pops_before + c.own.departures
 
--- A scheduler that stands with some fabric for some sound state stands with another for another sound state exactly where the
--- five points hold: what it counts of its packets is then right too.
+-- Take a scheduler that represents some sound state with some fabric. It represents another sound
+-- state with another fabric exactly if the five points hold: its counts of packets are then right
+-- too.
 abbrev pub FivePointsStand : {F : Type 0} → Ghosts F → Type 0
 FivePointsStand {F} fabrics =
     (c : Embedded F) (some other : F) (s : SourceState) → StandForOne (EmbeddedStands fabrics) (policy_in c.own) c some (λ _. Unit {0}) → IsSound (policy_in c.own) s

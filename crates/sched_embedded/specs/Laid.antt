@@ -11,12 +11,12 @@ use Rattle.embed_core.specs.declared.lifted_path.LiftedPath.{LiftedPath}
 use Rattle.embed_core.specs.Lanes.{IsLaneTo}
 use Rattle.policy_defs.specs.Policy.{Policy, class_at, no_marks}
 
--- the image of each node, and the arities of the complete tree from the root down
+-- the image of each node, and the complete tree's arities from the root down
 pub record Laid : Type 0 where
   pub images : Tree Address
   pub arities : List ℕ
 
--- a good map, under which leaves have leaves of the complete tree as their images
+-- a good map that maps leaves to leaves of the complete tree
 pub record IsLaid (images : Tree Address) (arities : List ℕ) : Type 0 where
   pub good : IsGoodMap (length arities) images
   pub leaves : (a : Address) → LeadsToLeaf images a → IsLeafAddress arities (image_map images a)
@@ -36,7 +36,7 @@ pub record HasLanes (images : Tree Address) (policy : Policy) (lanes : List Lift
   pub whole : length lanes ≡ length policy.classes
   pub each : (n : ℕ) (lane : LiftedPath) → slice_get lanes n ≡ Some lane → IsLaneTo images (leaf_of policy n) lane
 
--- there is room for the digits and for the ranks on the way to a leaf
+-- room for the digits and the ranks on the path to a leaf
 pub record HasRoomForOne (images : Tree Address) (arities : List ℕ) (digits ranks : ℕ) : Type 0 where
   pub laid : IsLaid images arities
   pub levels : digits ≡ length arities
@@ -51,24 +51,25 @@ pub record HoldsLift (l : Laid) (queues : Family) (t : SourceTree) : Type 0 wher
 abbrev pub IsLiftOfOne : Laid → Family → Type 0
 IsLiftOfOne l queues = (t : SourceTree) × HoldsLift l queues t
 
--- P holds of each source tree of which the queues are the lift
+-- P holds of each source tree whose lift the queues are
 abbrev pub ForEachLifted : Laid → Family → (SourceTree → Type 0) → Type 0
 ForEachLifted l queues P = (t : SourceTree) → HoldsLift l queues t → P t
 
--- a push of a packet's number on a way
+-- a push of a packet's number along a path
 abbrev pub push_on : Way → ℕ → SourceTree → SourceTree
 push_on way number t = push t way.digits way.ranks number
 
--- each of them becomes another one, of which the queues are the lift then
+-- each such tree becomes another one, whose lift the queues are then
 abbrev pub EachLiftBecomes : Laid → Family → Family → (SourceTree → SourceTree) → Type 0
 EachLiftBecomes l old new f = ForEachLifted l old (λ t. HoldsLift l new (f t))
 
--- a pop of the source tree gives this number on this way, and leaves one of which the queues are the lift
+-- a pop of the source tree gives this number on this path, and leaves a tree whose lift the queues
+-- are
 pub record PopsTo (l : Laid) (t : SourceTree) (number : ℕ) (way : Way) (queues : Family) : Type 0 where
   pub left : SourceTree
   pub popped : pop t ≡ Some (record { value = number; digits = way.digits; ranks = way.ranks; left = left })
   pub lift : HoldsLift l queues left
 
--- so does a pop of each source tree of which the queues were the lift
+-- the same for a pop of each source tree whose lift the queues were
 abbrev pub EachLiftPops : Laid → Family → ℕ → Way → Family → Type 0
 EachLiftPops l old number way new = ForEachLifted l old (λ t. PopsTo l t number way new)

@@ -1,4 +1,4 @@
--- Runs through a fabric that are worked out.
+-- Worked examples of runs through a fabric.
 use Rattle.std.specs.Prelude.{◌≡◌, refl, None, Some, List, [], ◌∷◌}
 use Rattle.tree_defs.specs.Tree.{Tree, leaf, inner, none, more, Address}
 use Rattle.tree_defs.specs.SourceTree.{two_leaves}
@@ -20,8 +20,9 @@ leaf_of-no_such_class = refl
 pub push_on-second_leaf : push_on (record { digits = 1 ∷ []; ranks = 3 ∷ 7 ∷ []; room = 1 }) 2 two_leaves ≡ inner ((3, 1) ∷ []) (more (leaf []) (more (leaf ((7, 2) ∷ [])) none))
 push_on-second_leaf = refl
 
--- ---- what is asked of a fabric
--- a leaf that holds one packet at most: the second packet is dropped, and the last two departures find nothing
+-- ---- pushes and pops of a fabric
+-- a leaf with a limit of one packet: the second packet is dropped, and the last two departures find
+-- nothing
 abbrev pub one_dropped : FabricRun
 one_dropped = record {
   policy = one_leaf_limited;
@@ -40,7 +41,7 @@ asked_in-one_dropped = refl
 abbrev pub through : Tree Address
 through = inner [] (more (leaf (0 ∷ 1 ∷ [])) none)
 
--- the second packet has the lower rank at the root and the greater one at the leaf
+-- the second packet has a lower rank than the first at the root and a greater one at the leaf
 abbrev pub two_come : List Event
 two_come = Arrive (packet 1 100 0) ∷ Arrive (packet 2 60 1) ∷ []
 

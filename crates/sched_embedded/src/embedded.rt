@@ -40,8 +40,8 @@ pub struct Embedded<'a, F> {
 impl<'a, F: Fabric> Embedded<'a, F> {
     ghost use Rattle.sched_embedded.specs.Embedded.{EmbeddedStands, origin_of, origin_in};
 
-    /// A scheduler that saw no event yet. It takes the target's shape for the fabric, whose queues are then empty. The error is
-    /// out of memory, and leaves the fabric unchanged.
+    /// Returns a scheduler that saw no event yet. Sets the fabric's shape to the target's, and its
+    /// queues are then empty. The error means out of memory, and leaves the fabric unchanged.
     pub fn new(
         alloc: Global,
         policy: &'a Policy,
@@ -84,7 +84,7 @@ impl<'a, F: Fabric> Embedded<'a, F> {
     }
 }
 
-/// The lane to the leaf of each class.
+/// Returns the lane to the leaf of each class. The error means out of memory.
 fn class_lanes(
     alloc: Global,
     policy: &Policy,

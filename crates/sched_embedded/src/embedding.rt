@@ -17,7 +17,7 @@ use std::marker::Model;
 use target_core::Target;
 use tree_core::Taken;
 
-/// A tree laid into a target's, with room for the path to one leaf there.
+/// A tree laid into a target's tree, with room for the path to one leaf there.
 #[derive(Drop)]
 pub struct Embedding {
     map: Map,
@@ -41,7 +41,7 @@ impl Model for Embedding {
 }
 
 impl Embedding {
-    /// The error means out of memory.
+    /// Returns an embedding of this map in a target. The error means out of memory.
     pub fn new(alloc: Global, map: Map, target: &Target) -> Result<Embedding, AllocError>
         requires laid { IsLaid map target.now.arities }
         ensures images { IfOk result (λ e. e.images ≡ map) }
@@ -58,26 +58,27 @@ impl Embedding {
         })
     }
 
-    /// The target's arities, from the root down.
+    /// Returns the target's arities, from the root down.
     pub fn arities(&self) -> &[u32]
         ensures arities { result.now ≡ self.now.arities }
     {
         self.arities.as_slice()
     }
 
-    /// The image of the leaf to which a lane leads.
+    /// Returns the image of the leaf to which a lane leads.
     #[inline(always)]
     pub fn image<'a>(&self, lane: &'a LiftedPath) -> &'a [u32]
         requires lane { IsLane self.now lane.now }
         ensures image { result.now ≡ lane.now.image.items }
         ensures leaf { IsLeafAddress self.now.arities result.now }
     {
-        // What holds of the map is known only where it is read.
+        // The map's properties are known only after it is read.
         let _ = &self.map;
         lane.image()
     }
 
-    /// Pushes a packet's number along the image of a way to a leaf, with the lifted ranks. Takes no memory.
+    /// Pushes a packet's number along the image of a path to a leaf, with the lifted ranks. Takes
+    /// no memory.
     #[inline(always)]
     pub fn push<F: Fabric>(&mut self, fabric: &mut F, lane: &LiftedPath, way: &Taken, number: u64)
         requires lane { IsLaneTo self.old.images way.now.digits lane.now }
@@ -102,8 +103,8 @@ impl Embedding {
         fabric.push(lane.image(), &self.ranks, number);
     }
 
-    /// Pops the fabric, and sets `trace` to the digits and ranks with which the packet leaves the tree that is laid into it.
-    /// Takes no memory.
+    /// Pops the fabric, and sets `trace` to the digits and ranks with which the packet departs from
+    /// the tree that is laid into it. Takes no memory.
     #[inline(always)]
     pub fn pop<F: Fabric>(&mut self, fabric: &mut F, trace: &mut Taken) -> Option<u64>
         requires arities { F.shape fabric.old ≡ self.old.arities }

@@ -1,5 +1,5 @@
-//! A scheduler over the queues of a fabric of another shape, by a map of the policy's nodes. Begin with
-//! specs/Embedded.antt.
+//! A scheduler over the queues of a fabric of another shape, by a map of the policy's nodes. Begin
+//! with specs/Embedded.antt.
 #![tactic(auto)]
 
 mod embedded;

@@ -1,4 +1,4 @@
--- What stands in chunks, as they come and go.
+-- The packets in chunks, as they arrive and depart.
 use Rattle.std.proofs.Common.{◌≡◌, ◌≢◌, ℕ, zero, suc, ◌+◌, ◌<◌, ◌≤◌, ◌/◌, ◌%◌, ◌==◌, Bool, true, false, ◌&&◌, if◌then◌else◌, Option, None, Some, IfSome, List, [], ◌∷◌, ◌++◌, length, drop, set, get_or, refl, sym, subst, ap, ◌∙◌, arith}
 use Rattle.packet_defs.specs.declared.packet.Packet.{Packet}
 use Rattle.sched_held.specs.declared.chunk.Chunk.{Chunk}
@@ -26,7 +26,7 @@ within-at first [] k d n h e = absurd (omega arith)
 within-at first (c ∷ cs) zero d n h e = here first c cs n (omega arith)
 within-at first (c ∷ cs) (suc k) d n h e = later first c cs n (omega arith) ∙ within-at (first + 1) cs k d n (omega arith) (omega arith)
 
--- ---- one chunk more
+-- ---- one more chunk
 pub within-push : (first : ℕ) (cs : List Chunk) (c : Chunk) (n : ℕ) → packet_of c n ≡ None → packet_within first (cs ++ c ∷ []) n ≡ packet_within first cs n
 within-push first [] c n h = split (n / 64) first (λ same. here first c [] n same ∙ h) (λ other. later first c [] n other)
 within-push first (x ∷ cs) c n h = ap (λ (t : Option Packet). if n / 64 == first then packet_of x n else t) (within-push (first + 1) cs c n h)
@@ -39,7 +39,7 @@ pub one-more : (b : Bool) (k : ℕ) → (if b then k + 1 else k) ≤ k + 1
 one-more true k = omega arith
 one-more false k = omega arith
 
--- ---- one in the place of another
+-- ---- one chunk is replaced
 pub within-set_here : (first : ℕ) (cs : List Chunk) (k : ℕ) (c : Chunk) (n : ℕ) → k < length cs → n / 64 ≡ first + k → packet_within first (set cs k c) n ≡ packet_of c n
 within-set_here first [] k c n h e = absurd (omega arith)
 within-set_here first (x ∷ cs) zero c n h e = here first c cs n (omega arith)
@@ -50,17 +50,17 @@ within-set_other first [] k c n h e = absurd (omega arith)
 within-set_other first (x ∷ cs) zero c n h e = later first c cs n (omega arith) ∙ sym (later first x cs n (omega arith))
 within-set_other first (x ∷ cs) (suc k) c n h e = ap (λ (t : Option Packet). if n / 64 == first then packet_of x n else t) (within-set_other (first + 1) cs k c n (omega arith) (omega arith))
 
--- the same packets stand in it
+-- the new chunk has the same packets
 pub within-same : (first : ℕ) (cs : List Chunk) (k : ℕ) (d c : Chunk) (n : ℕ) → k < length cs → packet_of c n ≡ packet_of (get_or cs k d) n → packet_within first (set cs k c) n ≡ packet_within first cs n
 within-same first cs k d c n h e = split (n / 64) (first + k)
     (λ same. within-set_here first cs k c n h same ∙ e ∙ sym (within-at first cs k d n h same))
     (λ other. within-set_other first cs k c n h other)
 
--- a number is told by its chunk and its place there
+-- a number's chunk and its position there determine it
 pub same-number : (n m : ℕ) → n / 64 ≡ m / 64 → n % 64 ≡ m % 64 → n ≡ m
 same-number n m e f = omega (arith, e, f)
 
--- what stands under one number of it is another, or nothing
+-- the packet under one number changes, or is removed
 pub within-changed : (first : ℕ) (cs : List Chunk) (k : ℕ) (d c : Chunk) (m n : ℕ) (now : Option Packet) → k < length cs → m / 64 ≡ first + k
     → packet_of c n ≡ (if n % 64 == m % 64 then now else packet_of (get_or cs k d) n)
     → packet_within first (set cs k c) n ≡ (if n == m then now else packet_within first cs n)
@@ -70,7 +70,7 @@ within-changed first cs k d c m n now h e f = split (n / 64) (first + k)
     (λ two. if_other (n % 64) (m % 64) now (packet_of (get_or cs k d) n) two ∙ sym (within-at first cs k d n h same) ∙ sym (if_other n m now (packet_within first cs n) (λ r. two (ap (λ (z : ℕ). z % 64) r)))))
     (λ other. within-set_other first cs k c n h other ∙ sym (if_other n m now (packet_within first cs n) (λ r. other (ap (λ (z : ℕ). z / 64) r ∙ e))))
 
--- ---- the first chunk goes
+-- ---- the first chunk is removed
 pub within-rest : (first : ℕ) (c : Chunk) (cs : List Chunk) (n : ℕ) → packet_of c n ≡ None → packet_within (first + 1) cs n ≡ packet_within first (c ∷ cs) n
 within-rest first c cs n h = split (n / 64) first
     (λ same. within-before (first + 1) cs n (omega arith) ∙ sym h ∙ sym (here first c cs n same))
@@ -90,7 +90,7 @@ self-named f n None e h = tt
 pub found-self : (first : ℕ) (cs : List Chunk) (n : ℕ) → IfSome (packet_within first cs n) (λ p. packet_within first cs p.number ≡ Some p)
 found-self first cs n = self-named (packet_within first cs) n (packet_within first cs n) refl (found-named first cs n)
 
--- ---- a packet comes to a chunk, or not
+-- ---- a packet is added to a chunk, or not
 renamed : (slot : Slot) (p : Packet) (n : ℕ) (o : Option Packet) → packet_in p.number slot ≡ p → (if n == p.number then Some (packet_in n slot) else o) ≡ (if n == p.number then Some p else o)
 renamed slot p n o is = split n p.number
     (λ same. if_same n p.number (Some (packet_in n slot)) o same ∙ ap Some (ap (λ (z : ℕ). packet_in z slot) same ∙ is) ∙ sym (if_same n p.number (Some p) o same))
@@ -111,7 +111,7 @@ pub not-stood : (first : ℕ) (cs : List Chunk) (k : ℕ) (d c : Chunk) (b t : B
 not-stood first cs k d c b t o n h at off f =
     within-same first cs k d c n h (f ∙ ap (λ (z : Bool). if z && t then o else packet_of d n) off ∙ ap (λ (x : Chunk). packet_of x n) at)
 
--- ---- a packet leaves a chunk
+-- ---- a packet is removed from a chunk
 pub taken : (first : ℕ) (cs : List Chunk) (k : ℕ) (d c : Chunk) (m n : ℕ) → k < length cs → m / 64 ≡ first + k → d ≡ get_or cs k d
     → packet_of c n ≡ (if n % 64 == m % 64 then None else packet_of d n) → packet_within first (set cs k c) n ≡ (if n == m then None else packet_within first cs n)
 taken first cs k d c m n h e at f = within-changed first cs k d c m n None h e (f ∙ ap (λ (x : Chunk). if n % 64 == m % 64 then None else packet_of x n) at)
@@ -119,7 +119,7 @@ taken first cs k d c m n h e at f = within-changed first cs k d c m n None h e (
 pub told : (first : ℕ) (cs : List Chunk) (k : ℕ) (d : Chunk) (m : ℕ) → k < length cs → m / 64 ≡ first + k → d ≡ get_or cs k d → packet_of d m ≡ packet_within first cs m
 told first cs k d m h e at = ap (λ (x : Chunk). packet_of x m) at ∙ sym (within-at first cs k d m h e)
 
--- ---- the first chunk goes
+-- ---- the first chunk is removed
 pub within-drop : (first : ℕ) (cs : List Chunk) (d : Chunk) (n : ℕ) → 0 < length cs → packet_of (get_or cs 0 d) n ≡ None → packet_within (first + 1) (drop 1 cs) n ≡ packet_within first cs n
 within-drop first [] d n h e = absurd (omega arith)
 within-drop first (c ∷ cs) d n h e = within-rest first c cs n e

@@ -1,4 +1,4 @@
--- The numbers under which packets are found.
+-- The numbers that have a packet.
 use Rattle.std.proofs.Common.{◌≡◌, ℕ, zero, suc, ◌+◌, ◌<◌, ◌≤◌, ◌==◌, nat_eq, Bool, true, false, ◌||◌, if◌then◌else◌, Option, None, Some, is_some, List, [], ◌∷◌, ◌++◌, length, refl, sym, subst, ap, ap₂, ◌∙◌, true≢false, arith, eq-eqb, ne_eqb, nat_lt, add-one}
 use Rattle.std.specs.List.{list_any, AllByRecursion, IsDistinct}
 use Rattle.std.proofs.lemmas.Bool.{ltb-true, ltb-false}
@@ -12,7 +12,7 @@ pub none-found : (o : Option Packet) → is_some o ≡ false → o ≡ None
 none-found (Some p) h = absurd (true≢false h)
 none-found None h = refl
 
--- one number more
+-- one more number
 pub below-found : (f : ℕ → Option Packet) (k : ℕ) → is_some (f k) ≡ true → numbers_below f (suc k) ≡ k ∷ numbers_below f k
 below-found f k h = ap (λ (t : Bool). if t then k ∷ numbers_below f k else numbers_below f k) h
 
@@ -24,7 +24,7 @@ pub below-same : (f g : ℕ → Option Packet) (k : ℕ) → ((n : ℕ) → n < 
 below-same f g zero h = refl
 below-same f g (suc k) h = ap₂ (λ (o : Option Packet) (l : List ℕ). if is_some o then k ∷ l else l) (h k (omega arith)) (below-same f g k (λ n l. h n (omega arith)))
 
--- ---- how many they are
+-- ---- how many numbers there are
 pub below-length : (f : ℕ → Option Packet) (k : ℕ) → length (numbers_below f k) ≤ k
 below-length f zero = omega arith
 below-length f (suc k) = by_bool (is_some (f k))
@@ -35,18 +35,18 @@ below-suc : (f g : ℕ → Option Packet) (k : ℕ) (b : Bool) → ((n : ℕ) �
 below-suc f g k true h e = ap length (below-found g k e) ∙ omega (arith, ap length (below-same g f k h))
 below-suc f g k false h e = ap length (below-none g k e) ∙ omega (arith, ap length (below-same g f k h))
 
--- a packet more, under the next number
+-- one more packet, under the next number
 pub below-next : (f g : ℕ → Option Packet) (k : ℕ) (b : Bool) → ((n : ℕ) → n < k → g n ≡ f n) → is_some (g k) ≡ b → length (numbers_below g (k + 1)) ≡ length (numbers_below f k) + (if b then 1 else 0)
 below-next f g k b h e = ap (λ (z : ℕ). length (numbers_below g z)) (add-one k) ∙ below-suc f g k b h e
 
--- none between
+-- no packet between
 pub below-farther : (f : ℕ → Option Packet) (a b : ℕ) → a ≤ b → ((n : ℕ) → a ≤ n → f n ≡ None) → numbers_below f b ≡ numbers_below f a
 below-farther f a zero h none = let e : zero ≡ a = omega arith in ap (numbers_below f) e
 below-farther f a (suc b) h none = split a (suc b)
     (λ same. ap (numbers_below f) (sym same))
     (λ other. below-none f b (ap is_some (none b (omega arith))) ∙ below-farther f a b (omega arith) none)
 
--- one goes
+-- one packet is removed
 pub below-without : (f g : ℕ → Option Packet) (m k : ℕ) → m < k → is_some (f m) ≡ true → ((n : ℕ) → g n ≡ (if n == m then None else f n)) → length (numbers_below g k) + 1 ≡ length (numbers_below f k)
 below-without f g m zero h some e = absurd (omega arith)
 below-without f g m (suc k) h some e = split k m
@@ -59,14 +59,14 @@ below-without f g m (suc k) h some e = split k m
     (λ found. omega (arith, ap length (below-found g k (ap is_some kept ∙ found)), ap length (below-found f k found), rest))
     (λ none. omega (arith, ap length (below-none g k (ap is_some kept ∙ none)), ap length (below-none f k none), rest)))
 
--- one comes
+-- one packet is added
 pub below-with : (f g : ℕ → Option Packet) (m k : ℕ) (p : Packet) → m < k → f m ≡ None → ((n : ℕ) → g n ≡ (if n == m then Some p else f n)) → length (numbers_below g k) ≡ length (numbers_below f k) + 1
 below-with f g m k p h free e =
     let fewer = below-without g f m k h (ap is_some (e m ∙ if_same m m (Some p) (f m) refl))
     (λ n. split n m (λ same. ap f same ∙ free ∙ sym (if_same n m None (g n) same)) (λ other. sym (if_other n m None (g n) other ∙ e n ∙ if_other n m (Some p) (f n) other))) in
     omega (arith, fewer)
 
--- no number, no packet
+-- without numbers there is no packet
 pub below-empty : (f : ℕ → Option Packet) (k n : ℕ) → length (numbers_below f k) ≡ 0 → n < k → f n ≡ None
 below-empty f zero n e h = absurd (omega arith)
 below-empty f (suc k) n e h = by_bool (is_some (f k))
@@ -81,7 +81,7 @@ none-at-all f k n e none = by_bool (nat_lt n k) (λ near. below-empty f k n e (l
 pub found-below : (f : ℕ → Option Packet) (k n : ℕ) → is_some (f n) ≡ true → ((m : ℕ) → k ≤ m → f m ≡ None) → n < k
 found-below f k n some none = by_bool (nat_lt n k) (λ near. ltb-true n k near) (λ far. absurd (true≢false (sym some ∙ ap is_some (none n (ltb-false n k far)))))
 
--- ---- which they are
+-- ---- which numbers they are
 pub any-far : (f : ℕ → Option Packet) (k n : ℕ) → k ≤ n → list_any (nat_eq n) (numbers_below f k) ≡ false
 any-far f zero n h = refl
 any-far f (suc k) n h = by_bool (is_some (f k))

@@ -1,4 +1,4 @@
--- What stands in slots, as they come and go.
+-- The packets in slots, as they arrive and depart.
 use Rattle.std.proofs.Common.{◌≡◌, ◌≢◌, nat_le, subst, ℕ, zero, suc, ◌+◌, ◌<◌, ◌≤◌, ◌%◌, ◌==◌, nat_eq, Bool, true, false, ◌&&◌, if◌then◌else◌, Option, None, Some, is_some, IfSome, List, [], ◌∷◌, ◌++◌, length, take, add-one, set, get_or, refl, sym, ap, ◌∙◌, true≢false, arith, eq-eqb, ne_eqb, eqb-true}
 use Rattle.std.specs.Prelude.{⊤}
 use Rattle.std.proofs.lemmas.Bool.{eqb-false, leb-true, le-leb, and_parts, and_from}
@@ -24,7 +24,7 @@ pub by_bool : {P : Type 0} (t : Bool) → (t ≡ true → P) → (t ≡ false �
 by_bool true one other = one refl
 by_bool false one other = other refl
 
--- ---- whether a packet stands at a place
+-- ---- whether a packet is at a position
 pub place-there : (place : ℕ) (s : Slot) → stands_at place s ≡ true → s.place ≡ place
 place-there place s h = eqb-true s.place place (and_parts (s.place == place) s.filled h).0
 
@@ -46,14 +46,14 @@ filled-here place s e = split place s.place
     (λ same. ap (λ (t : Bool). t && s.filled) (eq-eqb s.place place (sym same)) ∙ e ∙ sym (eq-eqb place s.place same))
     (λ other. elsewhere place s (λ r. other (sym r)) ∙ sym (ne_eqb place s.place other))
 
--- the first of the slots tells
+-- the first slot decides
 pub first-stands : (s : Slot) (xs : List Slot) (n : ℕ) → stands_at (n % 64) s ≡ true → packet_among (s ∷ xs) n ≡ Some (packet_in n s)
 first-stands s xs n h = ap (λ (t : Bool). if t then Some (packet_in n s) else packet_among xs n) h
 
 pub first-passed : (s : Slot) (xs : List Slot) (n : ℕ) → stands_at (n % 64) s ≡ false → packet_among (s ∷ xs) n ≡ packet_among xs n
 first-passed s xs n h = ap (λ (t : Bool). if t then Some (packet_in n s) else packet_among xs n) h
 
--- one, or none
+-- one or none
 abbrev one_if : Bool → ℕ
 one_if t = if t then 1 else 0
 
@@ -95,7 +95,7 @@ pub among-behind : (least : ℕ) (xs : List Slot) (n : ℕ) → AreOrdered least
 among-behind least [] n o h = refl
 among-behind least (x ∷ xs) n o h = first-passed x xs n (elsewhere (n % 64) x (omega (arith, behind-grows (x.place + 1) xs o.1))) ∙ among-behind (x.place + 1) xs n o.1 h
 
--- ---- one slot more
+-- ---- one more slot
 pub ordered-push : (least : ℕ) (xs : List Slot) (s : Slot) → AreOrdered least xs → place_behind least xs ≤ s.place → AreOrdered least (xs ++ s ∷ [])
 ordered-push least [] s o h = (h, tt)
 ordered-push least (x ∷ xs) s o h = (o.0, ordered-push (x.place + 1) xs s o.1 h)
@@ -120,7 +120,7 @@ among-push least xs s n o h e = split (n % 64) s.place
     (λ same. push-same xs s n (among-behind least xs n o (omega arith)) (filled-here (n % 64) s e ∙ eq-eqb (n % 64) s.place same) ∙ sym (if_same (n % 64) s.place (Some (packet_in n s)) (packet_among xs n) same))
     (λ other. push-other xs s n (elsewhere (n % 64) s (λ r. other (sym r))) ∙ sym (if_other (n % 64) s.place (Some (packet_in n s)) (packet_among xs n) other))
 
--- ---- where a packet stands
+-- ---- the positions of packets
 pub at-least : (least : ℕ) (xs : List Slot) (k : ℕ) (d : Slot) → AreOrdered least xs → k < length xs → least + k ≤ (get_or xs k d).place
 at-least least [] k d o h = absurd (omega arith)
 at-least least (x ∷ xs) zero d o h = omega (arith, o.0)
@@ -139,7 +139,7 @@ pub among-nowhere : (xs : List Slot) (n : ℕ) → ((k : ℕ) (d : Slot) → k <
 among-nowhere [] n h = refl
 among-nowhere (x ∷ xs) n h = first-passed x xs n (h 0 x (omega arith)) ∙ among-nowhere xs n (λ k d l. h (suc k) d (omega arith))
 
--- numbers of one place
+-- numbers with the same position
 pub none-place : (xs : List Slot) (m n : ℕ) → n % 64 ≡ m % 64 → packet_among xs m ≡ None → packet_among xs n ≡ None
 none-place [] m n e h = refl
 none-place (x ∷ xs) m n e h = by_bool (stands_at (m % 64) x)
@@ -157,7 +157,7 @@ take-whole zero (x ∷ xs) h = absurd (omega arith)
 take-whole (suc k) [] h = refl
 take-whole (suc k) (x ∷ xs) h = ap (λ (l : List Slot). x ∷ l) (take-whole k xs (omega arith))
 
--- ---- a slot that is emptied
+-- ---- a slot is emptied
 pub ordered-set : (least : ℕ) (xs : List Slot) (k : ℕ) (d s : Slot) → AreOrdered least xs → k < length xs → s.place ≡ (get_or xs k d).place → AreOrdered least (set xs k s)
 ordered-set least [] k d s o h e = absurd (omega arith)
 ordered-set least (x ∷ xs) zero d s o h e = (omega (arith, o.0, e), ordered-from (s.place + 1) (x.place + 1) xs (omega (arith, e)) o.1)

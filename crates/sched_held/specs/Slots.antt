@@ -1,4 +1,4 @@
--- What stands in slots.
+-- The packets in slots.
 use Rattle.std.specs.Prelude.{ℕ, ◌+◌, ◌<◌, ◌%◌, ◌^◌, ◌==◌, nat_le, Bool, true, ◌&&◌, if◌then◌else◌, Option, None, Some, List, [], ◌∷◌}
 use Rattle.packet_defs.specs.declared.packet.Packet.{Packet}
 use Rattle.sched_held.specs.declared.slot.Slot.{Slot}
@@ -17,26 +17,26 @@ packet_in n slot = record {
   flow = record { version = slot.version; source = slot.source; target = slot.target; proto = slot.proto; sport = slot.sport; dport = slot.dport };
 }
 
--- a packet stands in the slot, and the place is its number's
+-- a packet is in the slot, and the position is its number's
 abbrev pub stands_at : ℕ → Slot → Bool
 stands_at place slot = (slot.place == place) && slot.filled
 
--- the packet that stands under a number in slots of one chunk
+-- the packet under a number in slots of one chunk
 abbrev pub packet_among : List Slot → ℕ → Option Packet
 packet_among [] n = None
 packet_among (slot ∷ slots) n = if stands_at (n % 64) slot then Some (packet_in n slot) else packet_among slots n
 
--- how many packets stand there
+-- how many packets are in the slots
 abbrev pub filled_among : List Slot → ℕ
 filled_among [] = 0
 filled_among (slot ∷ slots) = (if slot.filled then 1 else 0) + filled_among slots
 
--- the places of the slots grow, and none is before the least
+-- the positions of the slots increase, and none is below the least
 abbrev pub are_ordered : ℕ → List Slot → Bool
 are_ordered least [] = true
 are_ordered least (slot ∷ slots) = nat_le least slot.place && are_ordered (slot.place + 1) slots
 
--- the place behind those of all slots, from the least on
+-- the position after those of all slots, or the least if there are none
 abbrev pub place_behind : ℕ → List Slot → ℕ
 place_behind least [] = least
 place_behind least (slot ∷ slots) = place_behind (slot.place + 1) slots

@@ -9,7 +9,8 @@ use packet_defs::Packet;
 use sched_defs::BLANK;
 use std::alloc::{AllocError, Global};
 
-/// Slots for numbers that are the same when they are divided by the width, in the order of the numbers. This many are filled.
+/// Slots for the numbers with the same quotient by the width, in number order, and how many slots
+/// are filled.
 #[derive(Drop)]
 pub struct Chunk {
     slots: Vec<Slot>,
@@ -30,14 +31,14 @@ impl Chunk {
         }
     }
 
-    /// Whether no packet stands here.
+    /// Returns whether no packet is here.
     pub(crate) fn is_empty(&self) -> bool
         ensures { IsTrue result → (n : ℕ) → packet_of self.now n ≡ None }
     {
         self.filled == 0
     }
 
-    /// Whether a place is after those of all slots.
+    /// Returns whether a position is after those of all slots.
     #[inline(always)]
     fn is_behind(&self, place: u8) -> bool
         ensures { IsTrue result → place_behind 0 self.now.slots.items ≤ place }
@@ -48,7 +49,7 @@ impl Chunk {
         }
     }
 
-    /// Room for all numbers of the chunk, where there is none.
+    /// Reserves room for all numbers of the chunk, if the chunk has no slots.
     fn make_room(&mut self) -> Result<(), AllocError>
         ensures slots { self.new.slots.items ≡ self.old.slots.items }
         ensures filled { self.new.filled ≡ self.old.filled }
@@ -59,7 +60,7 @@ impl Chunk {
         Ok(())
     }
 
-    /// One slot more, if its place is after those of all others, and whether it is.
+    /// Adds a slot if its position is after those of all others, and returns whether it was added.
     #[inline(always)]
     pub(crate) fn push(&mut self, slot: Slot) -> Result<bool, AllocError>
         requires filled { slot.filled ≡ true }
@@ -76,7 +77,8 @@ impl Chunk {
         Ok(true)
     }
 
-    /// Where the slot of a number is, if a packet stands there. It is never after the place of the number.
+    /// Returns the index of a number's slot, if a packet is in it. The index is at most the
+    /// number's position.
     #[inline(always)]
     fn find(&self, number: u64) -> Option<usize>
         ensures within { IfSome result (λ i. i < vec_len self.now.slots) }
@@ -95,7 +97,7 @@ impl Chunk {
         None
     }
 
-    /// The packet of a number.
+    /// Returns the packet with a number.
     pub(crate) fn packet(&self, number: u64) -> Option<Packet>
         ensures { result ≡ packet_of self.now number }
     {
@@ -105,7 +107,7 @@ impl Chunk {
         Some(packet)
     }
 
-    /// The place of the first packet.
+    /// Returns the position of the first packet, or 0 if there is none.
     pub(crate) fn first(&self) -> u8 {
         for slot in &self.slots {
             if slot.filled {
@@ -115,7 +117,8 @@ impl Chunk {
         0
     }
 
-    /// Empties the slot of a number, if it is filled, and answers whether it was. Its packet is put in place of another.
+    /// Empties the slot of a number, if it is filled, and returns whether it was. The packet is
+    /// written through `packet`.
     #[inline(always)]
     pub(crate) fn take(&mut self, number: u64, packet: &mut Packet) -> bool
         ensures value { packet_of self.old number ≡ (if result then Some packet.new else None) }
@@ -131,7 +134,7 @@ impl Chunk {
         true
     }
 
-    /// Lets go of the empty slots where they are more than a quarter of all.
+    /// Frees the empty slots if they are more than a quarter of all slots.
     pub(crate) fn shrink(&mut self, alloc: Global) -> Result<(), AllocError>
         ensures packets { (n : ℕ) → packet_of self.new n ≡ packet_of self.old n }
     {

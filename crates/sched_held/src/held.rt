@@ -1,4 +1,4 @@
-//! The packets that are held.
+//! The queued packets.
 ghost use Rattle.std.specs.Prelude.{◌≡◌, ◌+◌, ◌≤◌, ◌<◌, ◌^◌, ℕ, None, Some, nat_eq, IsSome, length, if◌then◌else◌, OnOk, OnErr};
 ghost use Rattle.std.proofs.Props.{props};
 ghost use Rattle.indexmap.specs.IndexMap.{get};
@@ -12,12 +12,13 @@ use packet_defs::Packet;
 use sched_defs::BLANK;
 use std::alloc::{AllocError, Global};
 
-/// The last number for which there may be a slot: fewer packets are in slots then than half of the numbers there are, and a
-/// sum with the strays fits.
+/// The last number that may have a slot. At most half of all 64-bit numbers can then have packets
+/// in slots, and the sum with the strays fits.
 const LAST: u64 = u64::MAX / 2;
 
-/// The packets that are held, by their numbers: most in slots in the order of their numbers, and in a map those that need more
-/// room, that came after a later one, or that stayed until two thirds of the numbers after them had no packet.
+/// The queued packets, by number. Most are in slots, in number order. The others are in a map:
+/// packets that need more room, packets that arrived after one with a later number, and packets
+/// that stayed until two thirds of the numbers after them had no packet.
 #[derive(Drop)]
 pub struct Held {
     window: Window,
@@ -29,7 +30,7 @@ pub struct Held {
 impl Held {
     ghost use Rattle.sched_held.specs.Held.{held_at, numbers_in};
 
-    /// No packet is held. Takes no memory.
+    /// Returns a store without packets. Takes no memory.
     pub fn new(alloc: Global) -> Held
         ensures empty { (n : ℕ) → held_at result n ≡ None }
     {
@@ -39,7 +40,7 @@ impl Held {
         }
     }
 
-    /// A packet more, in the place of one with its number if there is one. The error means out of memory.
+    /// Adds a packet, replacing one with its number if there is one. The error means out of memory.
     #[inline(always)]
     pub fn put(&mut self, packet: &Packet) -> Result<(), AllocError>
         ensures ok { OnOk result ((n : ℕ) → held_at self.new n ≡
@@ -56,8 +57,8 @@ impl Held {
         self.put_stray(packet)
     }
 
-    /// Lets go of the packet with a number, if one is held, and answers whether one was. It is put in place of another. Takes no
-    /// memory.
+    /// Removes the packet with a number, if one is queued, and returns whether one was. The packet
+    /// is written through `packet`. Takes no memory.
     #[inline(always)]
     pub fn take(&mut self, number: u64, packet: &mut Packet) -> bool
         ensures value { held_at self.old number ≡ (if result then Some packet.new else None) }
@@ -75,7 +76,7 @@ impl Held {
         }
     }
 
-    /// How many packets are held.
+    /// Returns how many packets are queued.
     #[inline(always)]
     pub fn len(&self) -> u64
         ensures len { result ≡ length (numbers_in self.now) }
@@ -84,7 +85,8 @@ impl Held {
         self.window.filled() + self.strays.len() as u64
     }
 
-    /// A packet more that is in no slot. If one with its number does, lets go of that.
+    /// Adds a packet that is in no slot. Removes a packet in a slot with its number, if there is
+    /// one.
     #[inline(never)]
     fn put_stray(&mut self, packet: &Packet) -> Result<(), AllocError>
         requires before { end_of self.old.window ≤ packet.now.number → 2 ^ 63 ≤ packet.now.number }
@@ -101,7 +103,8 @@ impl Held {
         Ok(())
     }
 
-    /// Makes a number the last one of the window, in which few numbers have no packet then.
+    /// Makes a number the last one of the window. Afterwards few numbers in the window have no
+    /// packet.
     #[inline(always)]
     fn reach(&mut self, number: u64) -> Result<(), AllocError>
         requires behind { end_of self.old.window ≤ number }
@@ -115,7 +118,7 @@ impl Held {
         self.window.stretch(number)
     }
 
-    /// As `reach`, where the first packets are moved to the strays before.
+    /// As `reach`, after the first packets are moved to the strays.
     #[inline(never)]
     fn move_outliers(&mut self, number: u64) -> Result<(), AllocError>
         requires behind { end_of self.old.window ≤ number }

@@ -1,4 +1,4 @@
-//! The packets that a scheduler holds, by their numbers. Begin with src/held.rt and specs/Slots.antt.
+//! The queued packets of a scheduler, by number. Begin with src/held.rt and specs/Slots.antt.
 #![tactic(auto)]
 
 mod chunk;

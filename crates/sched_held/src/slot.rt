@@ -1,14 +1,15 @@
-//! The room that most packets take.
+//! The slot that most packets take.
 ghost use Rattle.std.specs.Prelude.{◌≡◌, ◌↔◌, ◌%◌, IsSome, IfSome, true};
 ghost use Rattle.sched_held.specs.Slots.{packet_in, IsBrief, stands_at};
 
 use packet_defs::Packet;
 
-/// How many numbers share a chunk. The place of a number there is what is left when it is divided by the width.
+/// How many numbers share a chunk. A number's position (`place`) in its chunk is its remainder by
+/// this width.
 pub(crate) const WIDTH: u64 = 64;
 
-/// Where a packet may stand, with the place of its number. The chunk has the rest of the number. The fields of few bytes
-/// come first, so that a slot takes 32.
+/// A slot for a packet, with the position of its number. The chunk determines the rest of the
+/// number. The small fields come first, so that a slot takes 32 bytes.
 #[derive(Clone, Copy)]
 pub struct Slot {
     pub(crate) filled: bool,
@@ -27,7 +28,7 @@ pub struct Slot {
 const _: () = prove!(size_of::<Slot>() == 32);
 
 impl Slot {
-    /// A slot with a packet whose addresses have at most 32 bits.
+    /// Returns a slot with a packet whose addresses have at most 32 bits.
     #[inline(always)]
     pub(crate) fn of(packet: &Packet) -> Option<Slot>
         ensures packet { IfSome result (λ slot. packet_in packet.now.number slot ≡ packet.now) }
@@ -55,7 +56,7 @@ impl Slot {
         })
     }
 
-    /// Puts the packet in a slot, under its number, in place of another.
+    /// Writes the packet of a slot, with this number, through `packet`.
     #[inline(always)]
     pub(crate) fn put_packet(&self, number: u64, packet: &mut Packet)
         ensures { packet.new ≡ packet_in number self.now }
@@ -72,7 +73,7 @@ impl Slot {
         packet.flow.dport = self.dport;
     }
 
-    /// Whether a packet stands here whose number has a place.
+    /// Returns whether a packet is here whose number has this position.
     #[inline(always)]
     pub(crate) fn is_at(&self, place: u8) -> bool
         ensures { result ≡ stands_at place self.now }

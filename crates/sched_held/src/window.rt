@@ -1,4 +1,4 @@
-//! Slots for packets whose numbers follow each other.
+//! Slots for packets with consecutive numbers.
 ghost use Rattle.std.specs.Prelude.{◌≡◌, ◌==◌, ◌&&◌, ◌≤◌, ◌<◌, ◌+◌, ◌/◌, ◌^◌, ℕ, None, Some, length, if◌then◌else◌, IfSome, IfNone, IsTrue, IfOk, OnOk, OnErr};
 ghost use Rattle.std.proofs.Props.{props};
 ghost use Rattle.std.specs.VecDeque.{deque_len};
@@ -11,14 +11,15 @@ use packet_defs::Packet;
 use std::alloc::{AllocError, Global};
 use std::collections::VecDeque;
 
-/// How many numbers may have no packet whatever the number of packets.
+/// How many numbers may be without a packet, however few packets there are.
 const SPARE: u64 = 4096;
 
-/// How many chunks at the end keep their empty slots. Of the packets that don't stay, most have left by the time that this many
-/// others came.
+/// How many chunks at the end keep their empty slots. Most packets that don't stay have departed by
+/// the time this many chunks follow.
 const OPEN: usize = 4;
 
-/// The chunks for the numbers from 64 `first` on, in which this many packets stand. Their numbers are below the end.
+/// The chunks for the numbers from 64 `first` on, with `filled` packets in them. The packets'
+/// numbers are below `end`.
 #[derive(Drop)]
 pub struct Window {
     first: u64,
@@ -47,7 +48,7 @@ impl Window {
         }
     }
 
-    /// The number after the last one so far.
+    /// Returns the number after the last one so far.
     #[inline(always)]
     pub(crate) fn end(&self) -> u64
         ensures { result ≡ end_of self.now }
@@ -55,7 +56,7 @@ impl Window {
         self.end
     }
 
-    /// How many packets stand here.
+    /// Returns how many packets are in the window.
     #[inline(always)]
     pub(crate) fn filled(&self) -> u64
         ensures numbers { result ≡ length (numbers_of self.now) }
@@ -64,7 +65,7 @@ impl Window {
         self.filled
     }
 
-    /// Which chunk is that of a number.
+    /// Returns the index of the chunk for a number.
     #[inline(always)]
     fn place(&self, number: u64) -> Option<usize>
         ensures within { IfSome result (λ i. i < deque_len self.now.chunks) }
@@ -79,7 +80,7 @@ impl Window {
         if i < self.chunks.len() { Some(i) } else { None }
     }
 
-    /// The packet of a number.
+    /// Returns the packet with a number.
     fn packet(&self, number: u64) -> Option<Packet>
         ensures { result ≡ packet_at self.now number }
     {
@@ -87,7 +88,7 @@ impl Window {
         self.chunks[i].packet(number)
     }
 
-    /// The first packet.
+    /// Returns the first packet.
     #[inline(never)]
     fn front(&self) -> Option<Packet>
         ensures { IfSome result (λ p. packet_at self.now p.number ≡ Some p) }
@@ -96,14 +97,15 @@ impl Window {
         self.packet((self.first * WIDTH).saturating_add(u64::from(chunk.first())))
     }
 
-    /// Whether two thirds of the numbers up to one have no packet here, or more. A stray takes the room of three slots.
+    /// Returns whether two thirds or more of the numbers up to one have no packet here. A stray
+    /// takes the room of three slots.
     #[inline(always)]
     pub(crate) fn is_sparse(&self, number: u64) -> bool {
         let span = number.saturating_sub(self.first * WIDTH);
         self.filled > 0 && span >= self.filled.saturating_mul(3).saturating_add(SPARE)
     }
 
-    /// The first packet, if the window is sparse up to a number.
+    /// Returns the first packet, if the window is sparse up to a number.
     pub(crate) fn outlier(&self, number: u64) -> Option<Packet>
         ensures { IfSome result (λ p. packet_at self.now p.number ≡ Some p) }
     {
@@ -114,7 +116,7 @@ impl Window {
         }
     }
 
-    /// A packet more, if its addresses are short, and whether it stands here now.
+    /// Adds a packet if its addresses are short, and returns whether it is in the window now.
     #[inline(always)]
     pub(crate) fn push(&mut self, packet: &Packet) -> Result<bool, AllocError>
         requires below { packet.now.number < end_of self.old }
@@ -137,7 +139,8 @@ impl Window {
         Ok(stands)
     }
 
-    /// Lets go of the empty slots of the chunk that is no more one of those at the end where a chunk comes.
+    /// Frees the empty slots of the chunk that stops being among the last `OPEN` ones when a chunk
+    /// is added.
     fn settle(&mut self) -> Result<(), AllocError>
         ensures packets { (n : ℕ) → packet_at self.new n ≡ packet_at self.old n }
         ensures end { end_of self.new ≡ end_of self.old }
@@ -151,7 +154,7 @@ impl Window {
         self.chunks[len - OPEN].shrink(self.alloc)
     }
 
-    /// One chunk more.
+    /// Adds one chunk.
     #[inline(never)]
     fn add_chunk(&mut self) -> Result<(), AllocError>
         requires low { self.old.first + deque_len self.old.chunks < 2 ^ 57 }
@@ -165,7 +168,7 @@ impl Window {
         Ok(())
     }
 
-    /// Begins anew with a chunk after all others, where no packet stands here.
+    /// Starts over with a chunk after all others, if no packet is in the window.
     fn restart(&mut self, chunk: u64)
         requires low { chunk < 2 ^ 57 }
         ensures packets { (n : ℕ) → packet_at self.new n ≡ packet_at self.old n }
@@ -177,7 +180,7 @@ impl Window {
         }
     }
 
-    /// Chunks up to that of a number, which is the last one then.
+    /// Extends the window with chunks up to that of a number, which is the last number then.
     #[inline(always)]
     pub(crate) fn stretch(&mut self, number: u64) -> Result<(), AllocError>
         requires behind { end_of self.old ≤ number }
@@ -193,7 +196,7 @@ impl Window {
         Ok(())
     }
 
-    /// As `stretch`, where the number's chunk isn't there.
+    /// As `stretch`, if the number's chunk doesn't exist yet.
     #[inline(never)]
     fn lengthen(&mut self, number: u64) -> Result<(), AllocError>
         requires behind { end_of self.old ≤ number }
@@ -211,8 +214,8 @@ impl Window {
         Ok(())
     }
 
-    /// Lets go of the packet of a number, if one stands here, and of the empty chunks before all others, and answers whether one
-    /// stood here. It is put in place of another.
+    /// Removes the packet with a number, if one is in the window, and returns whether one was. The
+    /// packet is written through `packet`. Empty chunks before all others are dropped.
     #[inline(always)]
     pub(crate) fn clear(&mut self, number: u64, packet: &mut Packet) -> bool
         ensures value { packet_at self.old number ≡ (if result then Some packet.new else None) }

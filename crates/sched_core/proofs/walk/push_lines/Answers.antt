@@ -13,7 +13,7 @@ bounds-states-waypoint c = (here-at c.requires.ready c.requires.digits _ c.requi
 pub env-env-requires-clause-marks : goal.env-env-requires-clause-marks
 env-env-requires-clause-marks c = range-here (here-at c.requires.ready c.requires.digits _ c.requires.level c.requires.kept)
 
--- ---- the step that is made there, above the leaf for a child and at the leaf for the packet's flow
+-- ---- the step made there: for a child above the leaf, and for the packet's flow at the leaf
 for_child : (c : Then-level-digits) → let s = slice_index_or c.args.passage.now.waypoints.now c.args.level c.index-passage-level.result in
     IsStep c.args.passage.now c.args.level s c.args.states.now (slice_index_or c.args.states.now s.node c.index-states-waypoint.result) (program_of c.transaction-transaction.result.now) (Child (slice_index_or c.args.digits.now c.args.level 0)) c.env-env.result
 for_child c = step-here (here-at c.requires.ready c.requires.digits _ c.requires.level c.requires.kept) _ c.transaction-transaction.ensures.same (child-at c.requires.ready c.requires.digits c.if-level-digits.true) c.env-env.ensures.env

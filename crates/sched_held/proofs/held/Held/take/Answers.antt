@@ -18,7 +18,8 @@ returns-then-clear-clause-rest c = λ n.
     take-slot n c.args.number (packet_at h.window n) (packet_at c.clear.new.self n) (get nat_eq h.strays n) (c.clear.ensures.packets n)
     (λ (same : n ≡ c.args.number). h.apart n (ap (λ (m : ℕ). is_some (packet_at h.window m)) same ∙ ap is_some c.if-clear.ensures.value))
 
--- ---- no packet of the number stood in the window: what is held of it is the stray, and the window and the strays let go of it
+-- ---- no packet with the number was in the window: if one is queued it is the stray, and it is
+-- removed
 found : (c : After-swap_remove) → held_at c.args.self.now c.args.number ≡ get nat_eq c.args.self.now.strays c.args.number
 unfolding held_at
 found c = ap (λ (o : Option Packet). or_stray o (get nat_eq c.args.self.now.strays c.args.number)) c.if-clear.ensures.value

@@ -9,18 +9,18 @@ use Rattle.sched_held.proofs.HeldNumbers.{was_empty}
 use Rattle.sched_held.proofs.window.Window.clear.Goals as goal
 use Rattle.sched_held.proofs.window.Window.clear.Goals.{After-take}
 
--- what stood in the window when a chunk was asked for a packet, and what stands there after that
+-- the packets in the window before a chunk is asked for a packet, and after
 abbrev before : After-take → ℕ → Option Packet
 before c = packet_within c.args.self.now.first c.args.self.now.chunks.items
 
 abbrev after : After-take → ℕ → Option Packet
 after c = packet_within c.args.self.now.first (set c.args.self.now.chunks.items c.in-Some.i c.take.new.self)
 
--- what the chunk told
+-- the chunk's packet under the number
 abbrev told_now : After-take → Option Packet
 told_now c = packet_of c.index_mut.result.now c.args.number
 
--- ---- a chunk tells what stood under the number, and nothing but that is gone
+-- ---- the chunk gives the window's packet under the number, and only that packet is gone
 stood : (c : After-take) → before c c.args.number ≡ told_now c
 stood c =
     let w = c.args.self.now in
@@ -31,11 +31,11 @@ gone c n =
     let w = c.args.self.now in
     taken w.first w.chunks.items c.in-Some.i c.index_mut.result.now c.take.new.self c.args.number n (omega (arith, c.in-Some.ensures.within, w.chunks.ok)) c.in-Some.ensures.chunk c.index_mut.ensures.value (c.take.ensures.rest n)
 
--- where nothing stood, all stays
+-- if there was no packet, all packets stay
 stay : (c : After-take) → told_now c ≡ None → (n : ℕ) → after c n ≡ before c n
 stay c none n = was_empty n c.args.number (before c n) (after c n) (gone c n) (λ same. ap (before c) same ∙ stood c ∙ none)
 
--- where a packet stood, its number was below the end, and one fewer stands here
+-- if there was a packet, its number was below the end, and one fewer is in the window
 near : (c : After-take) → told_now c ≡ Some c.take.new.packet → c.args.number < c.args.self.now.end
 near c some = found-below (before c) c.args.self.now.end c.args.number (ap is_some (stood c ∙ some)) c.args.self.now.behind
 
