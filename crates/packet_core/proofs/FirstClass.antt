@@ -6,7 +6,7 @@ use Rattle.std.proofs.lemmas.List.Folds.{list_all-map}
 use Rattle.packet_defs.specs.declared.fields.Fields.{Fields}
 use Rattle.packet_defs.specs.Condition.{meets, class_of}
 use Rattle.policy_text_defs.specs.declared.condition.Condition.{Condition}
-use Rattle.policy_statements.proofs.Texts.{position-map}
+use Rattle.policy_rules.proofs.Texts.{position-map}
 use Rattle.policy_core.specs.declared.parts.Class.{Class}
 use Rattle.policy_core.specs.Parts.{HasCatchAll}
 use Rattle.packet_core.specs.Conditions.{condition_of, conditions_of, meets_all}

@@ -8,7 +8,7 @@ use Rattle.std.proofs.lemmas.List.{map_more, map-append}
 use Rattle.std.proofs.lemmas.List.Folds.{list_all-map}
 use Rattle.std.proofs.Math.Nat.{mod-lt, mul_comm, min-eq_left, min-eq_right, pow-le-pow_right}
 use Rattle.std.proofs.lemmas.List.Quantifiers.{position-Some}
-use Rattle.policy_statements.proofs.Texts.{position-map}
+use Rattle.policy_rules.proofs.Texts.{position-map}
 use Rattle.packet_defs.specs.declared.fields.Fields.{Fields}
 use Rattle.packet_defs.specs.Condition.{Field, vlan, dscp, proto, sport, dport, len, in_range, agree, is_present_and, meets}
 use Rattle.packet_core.specs.Numbers.{absent, number, address, place, numbers_of}

@@ -39,7 +39,7 @@ use Rattle.policy_rules.proofs.Places.{found, place-within}
 use Rattle.policy_core.proofs.HomePasses.{length-graph}
 use Rattle.policy_core.proofs.HomeLaws.{length-nodes}
 use Rattle.policy_core.proofs.InverseNumbers.{node-within}
-use Rattle.policy_statements.specs.Known.{known_programs}
+use Rattle.policy_rules.specs.Known.{known_programs}
 use Rattle.policy_core.proofs.FamilyNames.{named}
 use Rattle.policy_core.specs.declared.parts.PolicyNode.{PolicyNode}
 use Rattle.policy_core.specs.declared.parts.Class.{Class}

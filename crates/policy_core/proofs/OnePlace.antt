@@ -13,7 +13,7 @@ use Rattle.policy_rules.specs.Names.{Name, times, is_once, listed, node_name, ch
 use Rattle.policy_rules.specs.Clauses.{NoLine, IsOrphan, root}
 use Rattle.policy_rules.specs.Families.{IsCyclic}
 use Rattle.policy_rules.specs.Resolved.{IsTreeIn}
-use Rattle.policy_statements.proofs.ListedOnce.{times-listed, one_lister, child-once}
+use Rattle.policy_rules.proofs.ListedOnce.{times-listed, one_lister, child-once}
 use Rattle.policy_core.proofs.PlacePrograms.{some-same}
 use Rattle.policy_core.proofs.Statements.{at-one_place}
 use Rattle.policy_core.proofs.NameWays.{StandsAt, ListsAt, IsAbove, at-top, last-step, node-declared, no-second_root}

@@ -12,7 +12,7 @@ use Rattle.policy_rules.specs.Clauses.{NoLine, IsRepeated, IsOrphan, IsNotListed
 use Rattle.policy_rules.specs.Families.{IsCyclic}
 use Rattle.policy_rules.specs.Accepted.{AreAccepted, HaveRoot, AreAcyclic, AreKnown}
 use Rattle.policy_rules.specs.Resolved.{Resolved, IsTreeIn, ListsClass, IsLeafFor, Declared, classes_in, AreClassesOf}
-use Rattle.policy_statements.proofs.ListedOnce.{class-one_leaf}
+use Rattle.policy_rules.proofs.ListedOnce.{class-one_leaf}
 use Rattle.policy_core.proofs.AcceptedStatements.{strays-none}
 use Rattle.policy_core.proofs.PlacePrograms.{some-same}
 use Rattle.policy_core.proofs.LeafClasses.{names-classes}

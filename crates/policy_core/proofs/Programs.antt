@@ -7,7 +7,7 @@ use Rattle.policy_text_defs.specs.Sense.{Entry}
 use Rattle.policy_rules.specs.Names.{Name}
 use Rattle.policy_rules.specs.Clauses.{is_transaction_known}
 use Rattle.policy_rules.specs.Programs.{program_named}
-use Rattle.policy_statements.specs.Known.{known_programs}
+use Rattle.policy_rules.specs.Known.{known_programs}
 use Rattle.policy_core.proofs.PlacePrograms.{program-there}
 use Rattle.policy_core.specs.Made.{IsPlaceOf}
 use Rattle.policy_core.specs.Parts.{no_program}

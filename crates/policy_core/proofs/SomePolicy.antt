@@ -22,7 +22,7 @@ use Rattle.tree_graph.specs.Preorder.{IsTreeOf, preorder, rows}
 use Rattle.tree_graph.proofs.NodesOnce.{each_once}
 use Rattle.tree_graph.proofs.PreorderLaws.{nodes_of-rows}
 use Rattle.tree_graph.proofs.WholeTree.{shallow-root}
-use Rattle.policy_statements.proofs.ListedOnce.{class-leaf, lists-leaf}
+use Rattle.policy_rules.proofs.ListedOnce.{class-leaf, lists-leaf}
 use Rattle.policy_core.proofs.Kinship.{IsNodeAt, node-of, length-graph, name-at, kids-at, some-name}
 use Rattle.policy_core.proofs.FamilyFaults.{is-forest, is-shallow}
 use Rattle.policy_core.specs.Labels.{nodes_at}

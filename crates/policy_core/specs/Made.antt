@@ -11,7 +11,7 @@ use Rattle.policy_rules.specs.Names.{Name}
 use Rattle.policy_rules.specs.Programs.{program_named}
 use Rattle.policy_rules.specs.Graph.{node_in, said}
 use Rattle.policy_rules.specs.Resolved.{Declared}
-use Rattle.policy_statements.specs.Known.{known_programs}
+use Rattle.policy_rules.specs.Known.{known_programs}
 use Rattle.policy_core.specs.declared.parts.PolicyNode.{PolicyNode}
 use Rattle.policy_core.specs.declared.parts.Class.{Class}
 use Rattle.policy_core.specs.Parts.{told, node_of, no_program, HavePrograms}

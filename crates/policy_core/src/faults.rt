@@ -9,8 +9,7 @@ ghost use Rattle.tree_graph.specs.Descent.{lists};
 ghost use Rattle.policy_core.specs.Lines.{node_entries, line_at};
 
 use crate::graphs::number;
-use policy_rules::PolicyFault;
-use policy_statements::Names;
+use policy_rules::{Names, PolicyFault};
 use policy_text_defs::Statement;
 use std::alloc::Global;
 use tree_graph::{first_deep, first_on_cycle, parents};

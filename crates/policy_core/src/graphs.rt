@@ -12,7 +12,7 @@ ghost use Rattle.policy_rules.specs.Accepted.{AreFew};
 ghost use Rattle.tree_graph.specs.Descent.{lists};
 
 use list_core::Name;
-use policy_statements::Names;
+use policy_rules::Names;
 use policy_text_defs::Statement;
 use std::alloc::{AllocError, Global};
 

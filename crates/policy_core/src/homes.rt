@@ -10,7 +10,7 @@ ghost use Rattle.policy_core.specs.Homes.{AreHomes, ArePut};
 
 use crate::numbers::places;
 use list_core::Name;
-use policy_statements::Names;
+use policy_rules::Names;
 use policy_text_defs::Statement;
 use std::alloc::{AllocError, Global};
 use tree_graph::Preorder;

@@ -7,13 +7,13 @@ ghost use Rattle.policy_rules.specs.Entries.{entries_of, AreRising};
 ghost use Rattle.policy_rules.specs.Graph.{nodes_in};
 ghost use Rattle.policy_rules.specs.Names.{declared, transaction_name};
 ghost use Rattle.policy_rules.specs.Resolved.{marks_of};
-ghost use Rattle.policy_statements.specs.Known.{known_programs, WhereDeclared};
+ghost use Rattle.policy_rules.specs.Known.{known_programs, WhereDeclared};
 ghost use Rattle.policy_core.specs.Made.{nodes_told, IsPlaceOf, IsStationOf, AreMore};
 ghost use Rattle.policy_core.specs.Parts.{HavePrograms, told};
 
 use crate::parts::{Marks, PolicyNode};
 use list_core::{List, Name};
-use policy_statements::{Names, program_place};
+use policy_rules::{Names, program_place};
 use policy_text_defs::{Attrs, Statement};
 use std::alloc::{AllocError, Global};
 

@@ -5,8 +5,8 @@ ghost use Rattle.policy_rules.specs.Entries.{entries_of, AreRising};
 ghost use Rattle.policy_rules.specs.Graph.{graph_of};
 ghost use Rattle.policy_rules.specs.Resolved.{IsResolved};
 ghost use Rattle.tree_graph.specs.Descent.{lists};
-ghost use Rattle.policy_statements.specs.Known.{known_programs};
-ghost use Rattle.policy_statements.specs.Kept.{AreSpaces};
+ghost use Rattle.policy_rules.specs.Known.{known_programs};
+ghost use Rattle.policy_rules.specs.Kept.{AreSpaces};
 ghost use Rattle.policy_core.specs.PlaceLaws.{AreValid};
 
 use crate::classes::classes;
@@ -16,9 +16,9 @@ use crate::homes::leaves;
 use crate::nodes::stations;
 use crate::policy::Policy;
 use list_core::List;
-use policy_rules::PolicyFault;
-use policy_statements::{
-    Spaces, check_leaves, check_limits, check_parents, checked_transactions, declarations, version,
+use policy_rules::{
+    PolicyFault, Spaces, check_leaves, check_limits, check_parents, checked_transactions,
+    declarations, version,
 };
 use policy_text::Lines;
 use policy_text_defs::Statement;

@@ -12,3 +12,11 @@ pub mod Rows
 pub mod TwoFaults
 pub mod FamilyRows
 pub mod Laws
+pub mod Passes
+pub mod Kept
+pub mod KnownNames
+pub mod Places
+pub mod Statements
+pub mod CheckedBodies
+pub mod Known
+pub mod Samples

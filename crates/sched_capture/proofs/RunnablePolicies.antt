@@ -21,7 +21,7 @@ use Rattle.policy_rules.specs.Programs.{place, programs}
 use Rattle.policy_rules.specs.Graph.{graph_of}
 use Rattle.policy_rules.specs.Accepted.{AreAccepted}
 use Rattle.policy_rules.specs.Resolved.{Resolved, Declared, IsResolved, AreClassesOf, classes_in}
-use Rattle.policy_statements.proofs.KnownPrograms.{shaped_known}
+use Rattle.policy_rules.proofs.KnownPrograms.{shaped_known}
 use Rattle.policy_core.proofs.FamilyFaults.{is-forest, is-shallow}
 use Rattle.policy_core.specs.Labels.{node_numbered, nodes_at}
 use Rattle.policy_core.specs.PlaceLaws.{IsNodeTree}

@@ -2,7 +2,7 @@ use Rattle.std.proofs.Common.{◌≡◌, take}
 use Rattle.std.specs.Prelude.{filter_map}
 use Rattle.policy_rules.specs.Entries.{entries_of}
 use Rattle.policy_rules.specs.Graph.{node_in}
-use Rattle.policy_statements.specs.Known.{known_programs}
+use Rattle.policy_rules.specs.Known.{known_programs}
 use Rattle.policy_core.specs.Made.{nodes_told}
 use Rattle.policy_core.specs.Parts.{HavePrograms}
 use Rattle.policy_core.proofs.nodes.stations.Given as goal

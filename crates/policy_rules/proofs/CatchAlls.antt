@@ -1,0 +1,63 @@
+-- The last class, statement by statement.
+use Rattle.std.proofs.Common.{◌≡◌, ◌↔◌, ℕ, ◌+◌, ◌<◌, Bool, true, false, not, true≢false, IsTrue, List, [], ◌∷◌, ◌++◌, refl, sym, ap, ◌∙◌, length, take, get_or}
+use Rattle.policy_text_defs.specs.declared.attribute.Attrs.{Attrs}
+use Rattle.policy_text_defs.specs.declared.condition.Condition.{Condition}
+use Rattle.policy_text_defs.specs.declared.statement.Statement.{Statement}
+use Rattle.policy_text_defs.specs.declared.statement.Statement.TheVariants.{Version, Transaction, Keep, Each, Push, Pop, Class, Leaf, Node}
+use Rattle.policy_rules.specs.Names.{Name}
+use Rattle.policy_text_defs.specs.Sense.{Entry, sense_of, version, transaction, keep, each, push, pop, class, leaf, node}
+use Rattle.policy_rules.specs.Entries.{entries_of}
+use Rattle.policy_rules.specs.Clauses.{has_catch_all, has_catch_all_behind}
+use Rattle.policy_rules.specs.Statements.{is_catch_all}
+use Rattle.policy_rules.proofs.Lines.{Line, entry_of, entries-more}
+
+behind-cons : (found : Bool) (e : Entry) (es : List Entry) → has_catch_all_behind found (e ∷ es) ≡ has_catch_all_behind (is_catch_all found e.1) es
+behind-cons found (n, version v) es = refl
+behind-cons found (n, transaction t) es = refl
+behind-cons found (n, keep v s) es = refl
+behind-cons found (n, each v s) es = refl
+behind-cons found (n, push v t) es = refl
+behind-cons found (n, pop v t) es = refl
+behind-cons found (n, class c a []) es = refl
+behind-cons found (n, class c a (x ∷ cs)) es = refl
+behind-cons found (n, leaf l u a o ns) es = refl
+behind-cons found (n, node l u a ns) es = refl
+
+behind-push : (found : Bool) (es : List Entry) (e : Entry) → has_catch_all_behind found (es ++ e ∷ []) ≡ is_catch_all (has_catch_all_behind found es) e.1
+behind-push found [] e = behind-cons found e []
+behind-push found (f ∷ es) e =
+    behind-cons found f (es ++ e ∷ [])
+    ∙ behind-push (is_catch_all found f.1) es e
+    ∙ ap (λ b. is_catch_all b e.1) (sym (behind-cons found f es))
+
+pub catch_all-more : (lines : List Line) (i : ℕ) (l : Line) → i < length lines → l ≡ get_or lines i l
+    → has_catch_all (entries_of (take (i + 1) lines)) ≡ is_catch_all (has_catch_all (entries_of (take i lines))) (sense_of l.1)
+catch_all-more lines i l within is = ap has_catch_all (entries-more lines i l within is) ∙ behind-push false (entries_of (take i lines)) (entry_of l)
+
+caught : (found empty : Bool) (n : Name) (a : Attrs) (cs : List Condition) → IsTrue empty ↔ (cs ≡ []) → empty ≡ is_catch_all found (class n a cs)
+caught found true n a [] told = refl
+caught found false n a [] told = told.1 refl
+caught found true n a (c ∷ cs) told = absurd (not_nil c cs (told.0 refl))
+  where
+    not_nil : (c : Condition) (cs : List Condition) → ¬ (c ∷ cs ≡ [])
+    not_nil c cs e = true≢false (ap (λ (l : List Condition). not (is_nil l)) e)
+      where
+        is_nil : List Condition → Bool
+        is_nil [] = true
+        is_nil (x ∷ xs) = false
+caught found false n a (c ∷ cs) told = refl
+
+-- the step at a class, and at any other statement
+pub at_class : (found empty : Bool) (s : Statement) (n : Name) (a : Attrs) (cs : List Condition) → s ≡ Class n a cs → IsTrue empty ↔ (cs ≡ []) → empty ≡ is_catch_all found (sense_of s)
+at_class found empty s n a cs is told = caught found empty n a cs told ∙ sym (ap (λ t. is_catch_all found (sense_of t)) is)
+
+pub at_another : (found : Bool) (s : Statement) → ((n : Name) (a : Attrs) (cs : List Condition) → ¬ (s ≡ Class n a cs)) → found ≡ is_catch_all found (sense_of s)
+at_another found (Version v) other = refl
+at_another found (Transaction n) other = refl
+at_another found (Keep n s) other = refl
+at_another found (Each n s) other = refl
+at_another found (Push n t) other = refl
+at_another found (Pop n t) other = refl
+at_another found (Class n a cs) other = absurd (other n a cs refl)
+at_another found (Leaf n u a l ns) other = refl
+at_another found (Node n u a ns) other = refl

@@ -1,0 +1,15 @@
+use Rattle.std.proofs.Common.{◌∙◌, ap, sym}
+use Rattle.policy_text_defs.specs.Sense.{sense_of}
+use Rattle.policy_rules.specs.Statements.{is_catch_all}
+use Rattle.policy_rules.proofs.CatchAlls.{catch_all-more, at_class, at_another}
+use Rattle.policy_rules.proofs.leaves.has_catch_all.Goals as goal
+use Rattle.policy_rules.proofs.leaves.has_catch_all.Goals.{in-Class, in_default}
+
+pub loop-statement-preserved : goal.loop-statement-preserved
+loop-statement-preserved c =
+    elim c.match-statement.branch [
+      | in-Class w ↦ w.found-is ∙ at_class c.loop-statement.found w.is_empty-found.result c.loop-statement-item.result.1 w.in-Class.field-0 w.in-Class.field-1 w.in-Class.conditions w.in-Class.is w.is_empty-found.ensures
+      | in_default w ↦ w.found-is ∙ at_another c.loop-statement.found c.loop-statement-item.result.1 w.in_default.not-Class
+    ]
+    ∙ ap (λ b. is_catch_all b (sense_of c.loop-statement-item.result.1)) c.loop-statement.invariant
+    ∙ sym (catch_all-more c.args.lines.now c.loop-statement.statement-index c.loop-statement-item.result c.loop-statement-test.true c.loop-statement-item.is)

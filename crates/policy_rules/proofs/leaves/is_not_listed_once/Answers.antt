@@ -1,0 +1,11 @@
+use Rattle.std.proofs.Common.{ap, not, sym, ◌∙◌}
+use Rattle.policy_text_defs.specs.declared.statement.Statement.{Statement}
+use Rattle.policy_text_defs.specs.Sense.{sense_of}
+use Rattle.policy_rules.specs.Names.{is_once}
+use Rattle.policy_rules.specs.Clauses.{is_not_listed_once}
+use Rattle.policy_rules.proofs.leaves.is_not_listed_once.Goals as goal
+
+pub returns-in-Class : goal.returns-in-Class
+returns-in-Class c = λ all t.
+    ap not (c.is_once.ensures all t ∙ ap (is_once all) c.as_str.ensures)
+    ∙ sym (ap (λ (s : Statement). is_not_listed_once all (sense_of s)) c.in-Class.is)

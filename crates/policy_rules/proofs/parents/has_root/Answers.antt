@@ -1,0 +1,13 @@
+use Rattle.std.proofs.Common.{rules, ◌∙◌}
+use Rattle.std.proofs.lemmas.Iterator.{YieldsList-from_slice}
+use Rattle.std.proofs.lemmas.Iterator.Search.{any_from_yields_List}
+use borrow.Author.Tests.{tests}
+use Rattle.policy_text_defs.specs.Sense.{sense_of}
+use Rattle.policy_rules.proofs.Roots.{has_root-any}
+use Rattle.policy_rules.specs.Statements.{is_root}
+use Rattle.policy_rules.proofs.parents.has_root.Goals as goal
+
+pub returns : goal.returns
+returns c =
+    any_from_yields_List (λ l. is_root (sense_of l.1)) _ _ _ c.any.ensures.ran (YieldsList-from_slice c.args.lines.now c.iter.ensures.rest) (λ x b q k. search (rules, tests))
+    ∙ has_root-any c.args.lines.now

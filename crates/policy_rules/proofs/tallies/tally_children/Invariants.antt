@@ -1,0 +1,8 @@
+use Rattle.std.proofs.Common.{take}
+use Rattle.policy_rules.specs.KnownNames.{IsTally}
+use Rattle.policy_rules.specs.Entries.{entries_of}
+use Rattle.policy_rules.specs.Names.{listed, children}
+use Rattle.policy_rules.proofs.tallies.tally_children.Given as goal
+
+abbrev pub invariant-loop-statement : goal.invariant-loop-statement
+invariant-loop-statement l = IsTally l.tally.seen l.tally.again (listed children (entries_of (take l.statement-index l.lines)))

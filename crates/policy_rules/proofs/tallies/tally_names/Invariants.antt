@@ -1,0 +1,6 @@
+use Rattle.std.proofs.Common.{ℕ, List, ◌++◌, take}
+use Rattle.policy_rules.specs.KnownNames.{IsTally}
+use Rattle.policy_rules.proofs.tallies.tally_names.Given as goal
+
+abbrev pub invariant-loop-name : goal.invariant-loop-name
+invariant-loop-name l = (all : List (List ℕ)) → IsTally l.fn.tally.seen l.fn.tally.again all → IsTally l.tally.seen l.tally.again (all ++ take l.name-index l.names)

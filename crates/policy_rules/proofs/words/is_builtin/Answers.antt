@@ -1,0 +1,6 @@
+use Rattle.std.proofs.Common.{rules, ◌≡◌, is_some, List, ℕ, subst}
+use Rattle.rank_defs.specs.Builtins.{builtin}
+use Rattle.policy_rules.proofs.words.is_builtin.Goals as goal
+
+pub returns : goal.returns
+returns c = subst (λ (word : List ℕ). c.is_among.result ≡ is_some (builtin word)) c.as_bytes.ensures.value (search rules)

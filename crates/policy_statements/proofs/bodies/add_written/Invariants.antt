@@ -1,9 +1,0 @@
-use Rattle.std.proofs.Common.{◌≡◌, ◌++◌, map, drop}
-use Rattle.rank_defs.specs.Programs.{program_of}
-use Rattle.policy_rules.specs.Entries.{entries_of}
-use Rattle.policy_rules.specs.Programs.{programs}
-use Rattle.policy_statements.proofs.bodies.add_written.Given as goal
-
-abbrev pub invariant-loop-place : goal.invariant-loop-place
-invariant-loop-place l =
-    map program_of l.transactions ++ programs (drop l.place (entries_of l.lines)) ≡ map program_of l.initial.transactions ++ programs (entries_of l.lines)

@@ -1,8 +1,0 @@
-use Rattle.std.proofs.Common.{◌≡◌, take}
-use Rattle.policy_rules.specs.Names.{declared, keep_name, each_name}
-use Rattle.policy_rules.specs.Entries.{entries_of}
-use Rattle.policy_statements.proofs.bound.Variables.declared.Given as goal
-
-abbrev pub invariant-loop-statement : goal.invariant-loop-statement
-invariant-loop-statement l =
-    (l.variables.keeps ≡ declared keep_name (take l.statement-index (entries_of l.body))) × (l.variables.eaches ≡ declared each_name (take l.statement-index (entries_of l.body)))

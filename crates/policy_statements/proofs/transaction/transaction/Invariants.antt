@@ -1,8 +1,0 @@
-use Rattle.std.proofs.Common.{◌≡◌, take}
-use Rattle.rank_defs.specs.Programs.{program_of}
-use Rattle.policy_rules.specs.Entries.{entries_of}
-use Rattle.policy_statements.specs.Bodies.{program_over}
-use Rattle.policy_statements.proofs.transaction.transaction.Given as goal
-
-abbrev pub invariant-loop-line : goal.invariant-loop-line
-invariant-loop-line l = program_of l.transaction ≡ program_over l.variables.keeps l.variables.eaches (take l.line-index (entries_of l.body))
