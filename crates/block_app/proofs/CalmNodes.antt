@@ -86,13 +86,14 @@ inner_steady tree a name above (inner n ts, p) is =
     )
 
 -- ---- all nodes
--- the node with this number uses a steady transaction, and its children have digits of their own
+-- the node with this number uses a transaction that is steady for it, and its children have digits
+-- of their own
 pub record IsCalmAt (tree : Tree Node) (images : Tree Address) (node : ℕ) : Type 0 where
   pub steady : UsesSteadyAt tree (address_at tree node)
   pub own : HaveOwnDigits images (address_at tree node)
 
--- the first n nodes are calm; and if n is above 0, the policy is accepted, and its built-in names
--- stand for the built-in transactions alone
+-- the first n nodes are calm; and if n is above 0, the policy is accepted, and each node that uses
+-- a built-in name has the built-in program
 pub record AreCalmBelow (policy : Policy) (images : Tree Address) (n : ℕ) : Type 0 where
   pub calm : (k : ℕ) → k < n → IsCalmAt policy.tree images k
   pub accepted : 0 < n → IsAccepted policy

@@ -21,7 +21,7 @@ fn parts_of(name: &[u8]) -> Option<u64>
     }
 }
 
-/// Returns the factor that a letter stands for.
+/// Returns the factor of a letter.
 fn scale_of(letter: u8) -> Option<u64>
     ensures value { result ≡ scale_of letter }
     ensures range { IfSome result (λ n. (1 ≤ n) × (n ≤ 10 ^ 12)) }
