@@ -20,7 +20,7 @@ abbrev pub NeverSpills : Policy → Tree Address → Type 0
 NeverSpills policy images = (events : List Event) → CanMake policy events (start policy) → NoneSpills images policy events (start policy)
 
 -- ---- node by node
--- the node at an address uses a transaction that is steady for it
+-- the node at an address uses a steady transaction, or `fifo` if it is a leaf
 abbrev pub UsesSteadyAt : Tree Node → Address → Type 0
 UsesSteadyAt tree a = (u : Tree Node) → subtree tree a ≡ Some u → UsesSteady u
 

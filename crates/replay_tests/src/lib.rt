@@ -1,5 +1,5 @@
-//! Tests of whole runs that no case on the built programs reaches. They are in a crate of their own, since a crate's tests have
-//! its own functions proved once more.
+//! Tests of whole runs that no test of the built programs reaches. They have a crate of their own,
+//! since the tests of a crate prove its own functions once more.
 #![tactic(auto)]
 
 #[cfg(test)]
