@@ -15,7 +15,8 @@ use Rattle.replay_app.specs.Answer.{Answer}
 abbrev pub spills_line : ℕ → List ℕ
 spills_line n = line_of (codes "spills" ∷ decimal n ∷ [])
 
--- the number of nodes at which the pushes of a run spill, for the images of its policy's nodes
+-- the spills of a run: for each push, the number of nodes at which it spills; the nodes have the
+-- images of the run's placement
 abbrev pub run_spills : FabricRun → ℕ
 run_spills run = spills_in (Some run.laid.images) run.policy run.events (start run.policy)
 

@@ -107,9 +107,9 @@ fn have_own_digits(policy: &Policy, map: &Map, node: u32) -> bool
     true
 }
 
-/// Returns whether no push of a policy, placed by a map, can spill. Each inner node must rank each
-/// child's packets in order, each leaf must serve first in first out, and each child must have its
-/// own digit after its parent's image. Allocates no memory.
+/// Returns whether a policy, placed by a map, is calm: then none of its pushes spills. Each inner
+/// node must rank each child's packets in order, each leaf must serve first in first out, and each
+/// child must have its own digit after its parent's image. Allocates no memory.
 pub fn calm(policy: &Policy, map: &Map) -> bool
     requires map { IsMapOf policy.now.policy.tree map.now }
     ensures value { result ≡ is_calm policy.now.policy.tree map.now }

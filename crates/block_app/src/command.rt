@@ -32,7 +32,7 @@ fn end_status(answer: Result<Status, Stop>) -> u8
     }
 }
 
-/// Runs the command that the arguments give and returns the program's exit status. `words` holds
+/// Runs the command that the arguments give, and returns the program's exit status. `words` holds
 /// the arguments after the program's name. The commands are those of replay_app's `run` except
 /// `via` and `forward`, over a fabric of rank stores, and `calm POLICY TARGET`.
 ///

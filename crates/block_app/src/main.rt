@@ -1,6 +1,6 @@
 //! The program over hardware that builds its queues from rank stores. It has the commands of
-//! replay_app, reports the spills of each run, and decides whether a policy can spill at all.
-//! specs/Output.antt defines the output.
+//! replay_app, reports the spills of each run, and decides whether a policy is calm, so that it
+//! never spills. specs/Output.antt defines the output.
 #![tactic(auto)]
 
 mod calmness;

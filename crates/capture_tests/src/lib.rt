@@ -1,5 +1,6 @@
 //! Tests of capture readers and writers, over reads that return few bytes and over calls that fail.
-//! They have a crate of their own, since the tests of a crate prove its own functions once more.
+//! They are in a crate of their own, since the functions of a tested crate would be proved once
+//! more with its tests.
 #![tactic(auto)]
 
 #[cfg(test)]

@@ -85,8 +85,8 @@ fn take_pairs<'a>(scan: &mut Scan<'a>) -> Result<(), Mistake<'a>> {
     Ok(())
 }
 
-/// Returns the index of the first missing argument. If the last argument given is a rate, the
-/// missing one comes before it.
+/// Returns the index of the first missing argument. If the command takes a rate and the last
+/// argument given is one, the missing argument comes before it.
 fn missing_place(command: Command, arguments: &[&str]) -> usize {
     match arguments {
         [.., word] if has_rate(command) && rate_in(word.as_bytes()).is_ok() => arguments.len() - 1,

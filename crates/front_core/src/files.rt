@@ -43,7 +43,7 @@ pub fn name_shown(name: &str) -> &str {
     }
 }
 
-/// Returns whether an error of this kind is in a text file.
+/// Returns whether an error of this kind is in a text, so that its position can be a line number.
 pub fn is_text(kind: FaultKind) -> bool {
     matches!(
         kind,

@@ -47,8 +47,8 @@ fn path(alloc: Global, steps: &[(u32, u64)], last: u64) -> Result<Path, AllocErr
     })
 }
 
-/// Returns whether a path is lifted to these digits and ranks. Writes what is picked back from them
-/// into `taken`.
+/// Returns whether a path is lifted to these digits and ranks. `taken` gets the path that is picked
+/// back from them.
 fn goes_to(
     alloc: Global,
     topo: &Topo,

@@ -89,8 +89,8 @@ fn a_plain_sink_keeps_the_first_bytes(rt: HostRuntime) -> Result<(), Fail> {
     Ok(())
 }
 
-/// A page instead of standard output, which no test can read back. It takes at most three bytes at
-/// a time.
+/// A page in memory instead of standard output, which no test can read back. It takes at most three
+/// bytes at a time.
 #[derive(Drop)]
 struct Page {
     alloc: Global,

@@ -82,7 +82,7 @@ IsOutput (via p g m t c e) contents taps a =
     b ≡ laid_run judged.policy laid (script_pace steps) (contents c) [])))))) a
 IsOutput no_form contents taps a = a ≡ refusal Words 0 0
 
--- ---- what is written
+-- ---- the text written
 -- one of the outputs for the arguments was given, or the program was stopped with a prefix of every
 -- one
 abbrev pub Answers : Form → (List ℕ → List ℕ) → List Entry → ℕ → Option (List ℕ) → Option (List ℕ) → Type 0

@@ -18,8 +18,8 @@ use Rattle.replay_app.specs.Targets.{IsPlacement}
 abbrev pub counted : List ℕ → ℕ → List ℕ
 counted word n = (32 ∷ word) ++ (32 ∷ decimal n)
 
--- the line of a load: the numbers of packets pushed and popped, of departures that found no packet,
--- and the sum of the departed packets
+-- the line of a load: the numbers of packets pushed and popped, the number of departures that found
+-- no packet, and the sum over the departed packets
 abbrev pub soak_line : LoadCounts → List ℕ
 soak_line n =
     ((((codes "soak" ++ counted (codes "pushed") n.pushed) ++ counted (codes "popped") n.popped) ++ counted (codes "empty") n.empty)

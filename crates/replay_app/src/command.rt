@@ -76,26 +76,19 @@ fn answer<S: Shelf, K: Sink, F: Fabric, T: Tap>(
     }
 }
 
-/// Runs the command that the arguments give and returns the program's exit status. `words` holds
-/// the arguments after the program's name:
+/// Runs the command that the arguments give, and returns the program's exit status. `words` holds
+/// the arguments after the program's name, in one of these forms:
 ///
-/// `replay POLICY TARGET CAPTURE SCRIPT`, followed by a pair `tap KIND` for each kind of tap to
-/// watch;
-///
-/// `link POLICY TARGET CAPTURE RATE` or `forward POLICY TARGET CAPTURE RATE`, with the rate in
-/// bytes per second;
-///
-/// `direct POLICY CAPTURE SCRIPT`;
-///
-/// `plan POLICY TARGET`;
-///
-/// `check POLICY`;
-///
-/// `via POLICY TOPOLOGY MAP TARGET CAPTURE SCRIPT`, where the map takes the policy's tree into the
-/// topology; or
-///
-/// `soak SEED EVENTS`, with a seed of at most 4,611,686,018,427,387,903 and at most 1,000,000
-/// events to draw.
+/// - `replay POLICY TARGET CAPTURE SCRIPT`, followed by `tap NAME` for each kind of tap to watch
+/// - `link POLICY TARGET CAPTURE RATE` or `forward POLICY TARGET CAPTURE RATE`, with a rate in
+///   bytes per second
+/// - `direct POLICY CAPTURE SCRIPT`
+/// - `plan POLICY TARGET`
+/// - `check POLICY`
+/// - `via POLICY TOPOLOGY MAP TARGET CAPTURE SCRIPT`, with a map of the policy's tree into the
+///   topology
+/// - `soak SEED COUNT`, with a seed of at most 4,611,686,018,427,387,903 and a count of at most
+///   1,000,000 events
 ///
 /// When a run of `replay` begins, taps whose kind isn't named are dropped. Each remaining tap sees
 /// every departure and every drop until it is done. If the run ends whole, the lines of the taps

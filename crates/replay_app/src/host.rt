@@ -11,7 +11,7 @@ const NO_MEMORY: u8 = 10;
 /// Exit status: the system didn't supply the arguments.
 const NO_WORDS: u8 = 16;
 
-/// The most packet numbers that the tap of first packets keeps.
+/// The most packet numbers that a tap of kind `first` keeps.
 const FIRST_LIMIT: u32 = 8;
 
 /// A program with commands.

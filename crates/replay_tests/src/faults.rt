@@ -1,5 +1,5 @@
-//! Runs of each command over a shelf and a sink whose calls fail in turn. Both take bytes in small
-//! pieces.
+//! Runs of each command over a shelf and a sink whose calls fail in turn. The shelf returns, and
+//! the sink takes, only a few bytes at a time.
 use crate::files::{CAPTURE, POLICY, arguments, files};
 use fabric_core::FlatFabric;
 use outside_core::{MemShelf, MemSink};

@@ -1,5 +1,5 @@
-//! Tests of whole runs that no test of the built programs reaches. They have a crate of their own,
-//! since the tests of a crate prove its own functions once more.
+//! Tests of whole runs that no test of the built programs reaches. They are in a crate of their
+//! own, since the functions of a tested crate would be proved once more with its tests.
 #![tactic(auto)]
 
 #[cfg(test)]

@@ -105,7 +105,7 @@ module _ (policy : Policy) (plain : IsPlain policy.tree) where
   all_at_root s a sound l =
       ap (λ (b : Address). filled s b) (leads_to_root a l) ∙ filled_here s.tree (subst (λ (t : Tree Node). SameShape s.tree t) plain.is sound.shape)
 
-  -- the nodes of two sound states have the same variables
+  -- the nodes of two sound states are in the same state
   pub same_nodes : (s t : SourceState) → IsSound policy s → IsSound policy t → (a : Address) → IsAddressOf policy.tree a → SameState (s.nodes a) (t.nodes a)
   same_nodes s t sound other [] there =
       plain_states plain.node.program (s.nodes []) (t.nodes []) plain.keeps plain.eaches (sound.states [] plain.node root_is) (other.states [] plain.node root_is)

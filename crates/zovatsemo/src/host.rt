@@ -25,7 +25,7 @@ const NO_MEMORY: u8 = 10;
 /// Exit status: the system didn't supply the arguments.
 const NO_WORDS: u8 = 16;
 
-/// The most packet numbers that the tap of first packets keeps.
+/// The most packet numbers that a tap of kind `first` keeps.
 const FIRST_LIMIT: u32 = 8;
 
 /// The text of `--version`.
@@ -79,7 +79,8 @@ fn tell_end(
     Ok(())
 }
 
-/// Makes the requested run, and writes a message to standard error if it fails.
+/// Runs the requested command. If it fails, writes a message to standard error, unless `--quiet` is
+/// given.
 fn run_told(
     rt: &HostRuntime,
     request: &Request<'_>,
@@ -101,7 +102,7 @@ fn run_told(
     Ok(status)
 }
 
-/// Makes the requested run under `--plain`: the output gets all that the replayer writes.
+/// Runs the requested command under `--plain`: the output gets all that the replayer writes.
 fn run_plain(
     rt: &HostRuntime,
     options: &Options<'_>,
@@ -114,7 +115,7 @@ fn run_plain(
     Ok(front_run(alloc, options, &mut shelf, &mut sink, &mut fabric, taps))
 }
 
-/// Makes the requested run, with standard output or a file as its output. There is a tap of each
+/// Runs the requested command, with standard output or a file as its output. There is a tap of each
 /// kind.
 fn run_request(rt: &HostRuntime, request: &Request<'_>) -> Result<u8, AllocError> {
     let alloc = rt.alloc();
