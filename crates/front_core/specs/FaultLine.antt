@@ -16,7 +16,7 @@ is_one_line (b ∷ bs) = prefix_len is_text (b ∷ bs) == length bs
 abbrev pub begins_fault : List ℕ → Bool
 begins_fault w = bytes_eq (take (min (length w) 6) w) (codes "fault ")
 
--- one line with its line end, short enough, that begins as a `fault` line does
+-- one line with its line end, of at most `most_held` bytes, that begins as a `fault` line does
 abbrev pub is_fault_line : List ℕ → Bool
 is_fault_line w = nat_le (length w) most_held && is_one_line w && begins_fault w
 

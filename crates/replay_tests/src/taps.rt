@@ -139,7 +139,7 @@ fn answer_to(
 }
 
 /// Runs a row, and returns its status, the text written, and the lines of the taps that are left.
-/// The taps of first packets have the limits 0, 1, 2 and 64. The last tap but two is the one of
+/// The taps of kind `first` have the limits 0, 1, 2 and 64. The last tap but two is the one of
 /// this crate.
 fn watch(alloc: Global, row: &Row) -> Result<(u8, Vec<u8>, Vec<u8>), Fail> {
     let none = FirstTap::new(alloc, 0)?;
