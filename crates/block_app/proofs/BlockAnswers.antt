@@ -1,4 +1,4 @@
--- Words have an answer, and one alone.
+-- For given arguments and file contents there is exactly one correct output.
 use Rattle.std.proofs.Common.{refl, sym, ap, ◌∙◌}
 use Rattle.report_core.specs.declared.fault.FaultKind.TheVariants as kind
 use Rattle.tree_defs.specs.Topology.{topology_of}

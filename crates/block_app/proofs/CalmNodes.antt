@@ -1,4 +1,4 @@
--- A policy is calm where each of its nodes is, node by node.
+-- A policy is calm if each of its nodes is.
 use Rattle.std.proofs.Common.{◌≡◌, ℕ, ◌+◌, ◌<◌, ◌↔◌, true, false, List, [], ◌∷◌, length, None, Some, refl, sym, ◌∙◌, subst, codes, arith, inl, inr}
 use Rattle.std.proofs.lemmas.Bool.{and_parts, and_from, cases_order, cases_Bool}
 use Rattle.std.specs.List.{Contains}
@@ -47,7 +47,7 @@ name_steady name h =
     let d = (calm_at_each_node (lone name) (leaf [])).1 (record { steady = lone-steady name h; spread = lone-leaf }) in
     (and_parts (is_steady name) true (and_parts (is_steady name && true) true d).0).0
 
--- a name that is none of these
+-- a name that differs from each of these
 not_same : (a b : List ℕ) → (a ≡ b → ⊥) → same_name a b ≡ false
 not_same a b other = elim (cases_Bool (same_name a b)) [
   | inl e ↦ absurd (other (same_name-is a b e))
@@ -61,7 +61,7 @@ pub none_steady : (name : List ℕ) → IsNo name (codes "fifo") → IsNo name (
 none_steady name a b c d e =
     rw (not_same name (codes "fifo") a, not_same name (codes "strict") b, not_same name (codes "lstf") c, not_same name (codes "rr") d, not_same name (codes "stfq") e) refl
 
--- ---- what a node uses
+-- ---- the transaction of a node
 uses : (tree : Tree Node) (a : Address) (u : Tree Node) (name : List ℕ) → subtree tree a ≡ Some u → IsSomeAnd (node_at tree a) (λ n. name ≡ n.using) → name ≡ (root_of u).using
 uses tree a u name p is = rw (node-of_part tree a u p) at is
 
@@ -86,12 +86,14 @@ inner_steady tree a name above (inner n ts, p) is =
     )
 
 -- ---- all nodes
--- the node with this number uses what it may, and its children have digits of their own
+-- the node with this number uses a transaction that is steady for it, and its children have digits
+-- of their own
 pub record IsCalmAt (tree : Tree Node) (images : Tree Address) (node : ℕ) : Type 0 where
   pub steady : UsesSteadyAt tree (address_at tree node)
   pub own : HaveOwnDigits images (address_at tree node)
 
--- the first n nodes are calm; and where there is one, the policy is accepted, and its built-in names are used for these alone
+-- the first n nodes are calm; and if n is above 0, the policy is accepted, and each node that uses
+-- a built-in name has the built-in program
 pub record AreCalmBelow (policy : Policy) (images : Tree Address) (n : ℕ) : Type 0 where
   pub calm : (k : ℕ) → k < n → IsCalmAt policy.tree images k
   pub accepted : 0 < n → IsAccepted policy
@@ -128,7 +130,7 @@ module _ (tree : Tree Node) (images : Tree Address) (m : IsMapOf tree images) wh
       let h = (calm_at_each_node tree images).0 d in
       record { steady = h.steady (address_at tree k); own = differ_own images (address_at tree k) (h.spread (address_at tree k)) }
 
-  -- where a node isn't calm, neither is the policy
+  -- if a node isn't calm, the policy isn't
   pub isnt_calm : (k : ℕ) → (IsCalmAt tree images k → ⊥) → false ≡ is_calm tree images
   isnt_calm k other = elim (cases_Bool (is_calm tree images)) [
     | inl e ↦ absurd (other (calm_each e k))

@@ -1,4 +1,4 @@
--- The answers of the program over plain queues, with the spills of their runs behind.
+-- The outputs of the program over plain queues, followed by the spills of their runs.
 use Rattle.std.proofs.Common.{◌≡◌, ◌⊎◌, ℕ, zero, suc, ◌+◌, ◌-◌, Option, None, Some, List, [], ◌++◌, refl, sym, ap, ◌∙◌, subst, arith, inl, inr, append-nil}
 use Rattle.outside_core.specs.Written.{Appended, AppendedPrefix}
 use Rattle.outside_core.proofs.WrittenLaws.{appended_in_turn, prefix_in_turn, prefix_of_longer}
@@ -41,8 +41,8 @@ use Rattle.block_app.specs.Output.{IsBlockOutput}
 use Rattle.block_app.specs.Spills.{counted, run_spills, spills_line, spills_text}
 use Rattle.block_app.specs.Words.{shared}
 
--- ---- a run that ended whole is there
--- where the status is 0 there is a run
+-- ---- a run that ended whole exists
+-- if the status is 0, there is a run
 record HasRun (a : Answer) : Type 0 where
   there : a.status ≡ 0 → (run : FabricRun) × (a.run ≡ Some run)
 
@@ -151,7 +151,7 @@ run_there (via p g m t c e) contents taps used a is =
 run_there no_form contents taps used a is = absurd (used tt)
 
 -- ---- texts
--- nothing is told behind a text whose status isn't 0
+-- no spills follow a text whose status isn't 0
 not_whole : (status : ℕ) (run : Option FabricRun) → (status ≡ 0 → ⊥) → spills_text status run ≡ []
 not_whole zero run other = absurd (other refl)
 not_whole (suc n) run other = refl
@@ -173,7 +173,7 @@ module _ (form : Form) (contents : List ℕ → List ℕ) (taps : List Entry) wh
   abbrev Counting : Answer → Type 0
   Counting = IsBlockOutput (shared form) contents taps
 
-  -- ---- nothing is told behind
+  -- ---- no spills follow
   module _ (status : ℕ) (none : (a : Answer) → First a → status ≡ a.status → spills_text a.status a.run ≡ []) (old new : Option (List ℕ)) where
     pub uncounted : IsGiven First status old new → IsGiven Counting status old new
     uncounted (inl w) = inl (record {
@@ -187,20 +187,20 @@ module _ (form : Form) (contents : List ℕ → List ℕ) (taps : List Entry) wh
       part = λ a is. subst (λ (x : Answer). AppendedPrefix old new x.text) (sym is.counted_is) (prefix_of_longer old new is.first.text _ (s.part is.first is.is));
     })
 
-  -- where the status isn't 0
+  -- if the status isn't 0
   none_behind_others : (status : ℕ) → (status ≡ 0 → ⊥) → (a : Answer) → First a → status ≡ a.status → spills_text a.status a.run ≡ []
   none_behind_others status other a is e = not_whole a.status a.run (λ z. other (e ∙ z))
 
-  -- where the form uses no fabric
+  -- if the form uses no fabric
   pub none_behind_unused : UsesNoFabric form → (status : ℕ) → (a : Answer) → First a → status ≡ a.status → spills_text a.status a.run ≡ []
   none_behind_unused unused status a is e = ap (spills_text a.status) (no_run form contents taps unused a is) ∙ no_spills a.status
 
-  -- where the run didn't end whole through the fabric
+  -- if no run ended whole through the fabric
   pub none_behind : (status : ℕ) → ((status ≡ 0 → ⊥) ⊎ UsesNoFabric form) → (a : Answer) → First a → status ≡ a.status → spills_text a.status a.run ≡ []
   none_behind status (inl other) = none_behind_others status other
   none_behind status (inr unused) = none_behind_unused unused status
 
-  -- ---- a line is told behind
+  -- ---- a line with the spills follows
   module _ (line : List ℕ) (behind : (a : Answer) → First a → 0 ≡ a.status → spills_text a.status a.run ≡ line) (old mid new : Option (List ℕ)) where
     counted_whole : IsGiven First 0 old mid → Appended mid new line → IsGiven Counting 0 old new
     counted_whole (inl w) text = inl (record {
@@ -230,14 +230,14 @@ module _ (form : Form) (contents : List ℕ → List ℕ) (taps : List Entry) wh
       part = λ stop a is. subst (λ (x : Answer). LeavesPart fabrics x.run old new) (sym is.counted_is) (h.part stop is.first is.is);
     }
 
-    -- what is left of a run that ended whole is left of its first part too
+    -- the result of a run that ended whole is also the result of a prefix of it
     pub fabric_stopped : (end status : ℕ) → IsStop end → status ≡ 0 → HoldsLeft fabrics First status old new → HoldsLeft fabrics Counting end old new
     fabric_stopped end status stopped zero_is h = record {
       whole = λ below. absurd (below stopped);
       part = λ stop a is. subst (λ (x : Answer). LeavesPart fabrics x.run old new) (sym is.counted_is) (whole_part fabrics is.first.run old new (h.whole (λ s. no_stop Done (subst IsStop zero_is s)) is.first is.is));
     }
 
-    -- the spills that are told are those by which the count rose
+    -- the spills that are reported are the increase of the count
     spills_behind : (UsesNoFabric form → ⊥) → (before after : ℕ) → fabrics.spilled old ≡ Some before → fabrics.spilled new ≡ Some after → HoldsLeft fabrics First 0 old new
         → (a : Answer) → First a → 0 ≡ a.status → spills_text a.status a.run ≡ spills_line (after - before)
     spills_behind used before after e f h a is zero_is =
@@ -246,7 +246,7 @@ module _ (form : Form) (contents : List ℕ → List ℕ) (taps : List Entry) wh
         let rise : Some after ≡ raised (Some before) (run_spills w.0) = sym f ∙ leaves.spills ∙ ap (λ (o : Option ℕ). raised o (run_spills w.0)) e in
         whole a.status a.run w.0 (sym zero_is) w.1 ∙ ap spills_line (sym (risen before after (run_spills w.0) rise))
 
-    -- what is written where the run ended whole, and the line was written whole or in part
+    -- the text that is written if the run ended whole and the line was written, whole or in part
     module _ (used : UsesNoFabric form → ⊥) (before after told : ℕ) (e : fabrics.spilled old ≡ Some before) (f : fabrics.spilled new ≡ Some after) (m : told ≡ after - before) (status : ℕ) (zero_is : status ≡ 0) (h : HoldsLeft fabrics First status old new) (a b c : Option (List ℕ)) (given : IsGiven First status a b) where
       behind-line : (x : Answer) → First x → 0 ≡ x.status → spills_text x.status x.run ≡ spills_line told
       behind-line x is z = spills_behind used before after e f (subst (λ (s : ℕ). HoldsLeft fabrics First s old new) zero_is h) x is z ∙ ap spills_line (sym m)

@@ -1,4 +1,4 @@
--- How the program ends where it runs nothing.
+-- The end of a program that runs nothing.
 use Rattle.std.proofs.Common.{◌≡◌, ◌⊎◌, ℕ, Option, None, List, [], ◌∷◌, refl, ap, arith, inl, inr}
 use Rattle.std.specs.Prelude.{Result, Ok, Err, IfOk, IsErrOf}
 use Rattle.outside_core.specs.declared.stop.Stop.{Stop}
@@ -23,7 +23,7 @@ pub ends_with : (statuses : List ℕ) (r : Result Status Stop) → IfOk r (λ s.
 ends_with statuses (Ok s) one = inl one
 ends_with statuses (Err stop) one = inr (is_stop stop)
 
--- the program ends so only at a stop at its source, or at its sink
+-- status 8 means that the source stopped the program, and status 9 that the sink did
 pub at_source : (A : Type 0) (r : Result Status Stop) → (IsErrOf r Source → A) → end_status r ≡ 8 → A
 at_source A (Ok s) cause e = absurd (no_stop s (inl e))
 at_source A (Err Source) cause e = cause refl
@@ -36,14 +36,14 @@ at_sink A (Err Source) cause e = absurd (omega (arith, e))
 at_sink A (Err Sink) cause e = cause refl
 at_sink A (Err Memory) cause e = absurd (omega (arith, e))
 
--- words in no form are told so
+-- malformed arguments end with status 2, 9 or 10
 pub told_so : (r : Result Status Stop) → IfOk r (λ s. status_code s ≡ 2) → (IsErrOf r Source → ⊥) → IsOneOf (2 ∷ 9 ∷ 10 ∷ []) (end_status r)
 told_so (Ok s) e unread = inl e
 told_so (Err Source) e unread = absurd (unread refl)
 told_so (Err Sink) e unread = inr (inl refl)
 told_so (Err Memory) e unread = inr (inr (inl refl))
 
--- `calm` doesn't end with the status of words in no form
+-- `calm` doesn't end with the status of malformed arguments
 pub in_form : (status : ℕ) → IsOneOf (3 ∷ 4 ∷ 5 ∷ 0 ∷ []) status ⊎ IsStop status → status ≡ 2 → ⊥
 in_form status (inl (inl e)) two = omega (arith, e, two)
 in_form status (inl (inr (inl e))) two = omega (arith, e, two)
@@ -56,7 +56,7 @@ in_form status (inr (inr (inr (inl e)))) two = omega (arith, e, two)
 in_form status (inr (inr (inr (inr e)))) two = e
 
 -- ---- the fabric
--- where nothing is run, it is left as it was
+-- if nothing runs, the fabric is unchanged
 pub still : {F : Type 0} (fabrics : Ghosts F) (f : F) (output : Answer → Type 0) (status : ℕ) → ((a : Answer) → output a → a.run ≡ None) → HoldsLeft fabrics output status f f
 still fabrics f output status none = record {
   whole = λ below a is. rw (none a is) (unchanged fabrics f);

@@ -30,7 +30,7 @@ earlier_child (more u us) zero j t p l = absurd (omega (arith, l))
 earlier_child (more u us) (suc i) zero t p l = (u, refl)
 earlier_child (more u us) (suc i) (suc j) t p l = earlier_child us i j t p (omega (arith, l))
 
--- a child stands below an inner node
+-- the node at an address is an inner node, and this is one of its children
 pub record IsChildOf {Q : Type 0} (t : Tree Q) (a : Address) (i : ℕ) (u : Tree Q) : Type 0 where
   pub node : Q
   pub children : Trees Q
@@ -52,7 +52,7 @@ mutual
   parent_below (more t ts) zero a i u p = (let w = parent_of t a i u p in (w.node, w.children, w.parent, w.child_is))
   parent_below (more t ts) (suc j) a i u p = parent_below ts j a i u p
 
--- where a child is, each before it is
+-- if a child exists, each earlier one does
 pub earlier_address : {Q : Type 0} (t : Tree Q) (a : Address) (i j : ℕ) → IsAddressOf t (a ++ i ∷ []) → j < i → IsAddressOf t (a ++ j ∷ [])
 earlier_address t a i j there l =
     let w = parent_of t a i there.0 there.1 in
@@ -87,14 +87,14 @@ module _ (tree : Tree Node) (images : Tree Address) (m : IsMapOf tree images) wh
       let v = same_address images (topology_of tree) a there.0 (other_shape (topology_of tree) images m.shape) there.1 in
       address-up tree a (v.0, v.1)
 
-  -- the image that a node has
+  -- the image of a node
   pub image_there : (a : Address) → IsAddressOf tree a → image_at images a ≡ Some (image_map images a)
   image_there a there = (let w = in_images a there in rw (w.1) refl)
 
   pub some_image : (a : Address) → IsAddressOf tree a → image_at images a ≡ None → ⊥
   some_image a there absent = (let e : None ≡ Some (image_map images a) = sym absent ∙ image_there a there in cc)
 
-  -- a child's image goes on behind its parent's
+  -- a child's image is longer than its parent's
   pub longer_child : (a : Address) (i : ℕ) → IsAddressOf tree (a ++ i ∷ []) → length (image_map images a) < length (image_map images (a ++ i ∷ []))
   longer_child a i there =
       let below = address-down tree (a ++ i ∷ []) there in
@@ -132,7 +132,7 @@ one_more_own images a n below here i l = elim (cases_order i n) [
   | inr (inr later) ↦ absurd (omega (arith, l, later))
 ]
 
--- the digit of a child by its subtree
+-- the digit of a child, from its subtree
 digit_of : (images : Tree Address) (a : Address) (e : Address) (ts : Trees Address) (i : ℕ) (t : Tree Address) → subtree images a ≡ Some (inner e ts) → child ts i ≡ Some t
     → digit_at images a i ≡ slice_index (root_of t) (length e)
 digit_of images a e ts i t p q = rw (p, subtree-then images a e ts i t p (child_part ts i t q)) refl

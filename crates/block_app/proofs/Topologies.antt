@@ -1,4 +1,4 @@
--- How many children the node at an address of a topology has.
+-- The number of children of the node at an address of a topology.
 use Rattle.std.proofs.Common.{◌≡◌, ℕ, zero, suc, ◌+◌, ◌<◌, ◌≤◌, ◌↔◌, true, false, List, [], ◌∷◌, ◌++◌, length, get_or, map, None, Some, Vec, Global, refl, sym, ap, ◌∙◌, subst, arith, ltb}
 use Rattle.std.proofs.lemmas.Bool.{ltb-true}
 use Rattle.tree_defs.specs.Tree.{Tree, leaf, inner, Address, IsAddressOf, nodes, nodes_below, most_nodes, subtree, subtree_in, trees_of}
@@ -16,7 +16,7 @@ use Rattle.policy_defs.specs.Policy.{Node}
 use Rattle.policy_core.proofs.NumberedAddresses.{address-down, address-up}
 use Rattle.mapcheck_core.proofs.PlaceLaws.{next_step, no_step}
 
--- this many children stand below the node at an address
+-- the node at an address has this many children
 abbrev pub HasChildren : Topology → Address → ℕ → Type 0
 HasChildren t a n = (i : ℕ) → i < n ↔ IsAddressOf t (a ++ i ∷ [])
 
@@ -53,7 +53,7 @@ children_here t v [] n p k e i = (
 )
 
 -- ---- further down
--- nothing stands at a longer address
+-- there is no node at a longer address
 no_children : (t : Topology) (a : Address) → ((i : ℕ) → subtree t (a ++ i ∷ []) ≡ None) → HasChildren t a 0
 no_children t a empty i = (λ l. absurd (omega (arith, l)), λ w. (let no : None ≡ Some w.0 = sym (empty i) ∙ w.1 in cc))
 
@@ -90,7 +90,7 @@ pub none_past : (t : Topo) (v : Vec Topo Global) (xs : List Topo) (address : Add
 none_past t v xs [] p q k l = absurd (omega (arith, k))
 none_past t v xs (d ∷ a) p q k l = no_children (topology t) (d ∷ a) (λ i. no_step t v xs (d ∷ (a ++ i ∷ [])) p q (omega arith) l)
 
--- the children of a node of a tree, by the tree's topology
+-- the children of a node of a tree, from the tree's topology
 pub tree_children : (tree : Tree Node) (t : Topology) (a b : Address) (n : ℕ) → t ≡ topology_of tree → b ≡ a → HasChildren t b n → (i : ℕ) → i < n ↔ IsAddressOf tree (a ++ i ∷ [])
 tree_children tree t a b n p q h i =
     let same : HasChildren (topology_of tree) a n = subst (λ (z : Topology). HasChildren z a n) p (subst (λ (z : Address). HasChildren t z n) q h) in

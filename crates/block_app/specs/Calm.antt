@@ -1,4 +1,4 @@
--- What is known of a calm policy before anything is run.
+-- Properties of a calm policy that are known before a run.
 use Rattle.std.specs.Prelude.{◌≡◌, ◌≢◌, ◌<◌, ℕ, Some, List, [], ◌∷◌, ◌++◌, length, slice_index}
 use Rattle.tree_defs.specs.Tree.{Tree, Address, IsAddressOf, SameShape, subtree}
 use Rattle.tree_defs.specs.Topology.{topology_of, complete}
@@ -9,26 +9,26 @@ use Rattle.sched_defs.specs.SourceState.{start}
 use Rattle.sched_defs.specs.Events.{Event, CanMake}
 use Rattle.calm_defs.specs.Laws.{NoneSpills, UsesSteady}
 
--- the image of each node of a tree, by an embedding in a complete tree
+-- the image of each node of a tree, under an embedding into a complete tree
 pub record IsMapOf (tree : Tree Node) (images : Tree Address) : Type 0 where
   pub arities : List ℕ
   pub shape : SameShape (topology_of tree) images
   pub embedding : IsEmbedding (topology_of tree) (complete arities) (image_map images)
 
--- no push of any events that can be made from the start spills
+-- for every sequence of events that can be made from the start, no push spills
 abbrev pub NeverSpills : Policy → Tree Address → Type 0
 NeverSpills policy images = (events : List Event) → CanMake policy events (start policy) → NoneSpills images policy events (start policy)
 
 -- ---- node by node
--- the node at an address uses what it may
+-- the node at an address uses a steady transaction, or `fifo` if it is a leaf
 abbrev pub UsesSteadyAt : Tree Node → Address → Type 0
 UsesSteadyAt tree a = (u : Tree Node) → subtree tree a ≡ Some u → UsesSteady u
 
--- the digit of a child's image right behind its parent's
+-- the digit of a child's image that follows its parent's image
 abbrev pub digit_at : Tree Address → Address → ℕ → ℕ
 digit_at images a i = slice_index (image_map images (a ++ i ∷ [])) (length (image_map images a))
 
--- no child before this one has its digit
+-- no earlier child has the digit of this one
 abbrev pub HasOwnDigit : Tree Address → Address → ℕ → Type 0
 HasOwnDigit images a i = (j : ℕ) → j < i → digit_at images a j ≢ digit_at images a i
 

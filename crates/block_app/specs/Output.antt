@@ -1,4 +1,5 @@
--- What the program answers to its words and files. This is what a reader of its contract has to believe.
+-- The output of the program for its arguments and files. A reader of the program's contract has to
+-- trust these definitions.
 use Rattle.std.specs.Prelude.{◌≡◌, refl, ℕ, Bool, true, false, List, [], ◌∷◌, codes}
 use Rattle.tree_defs.specs.Topology.{topology_of}
 use Rattle.policy_defs.specs.Policy.{Policy}
@@ -19,28 +20,28 @@ abbrev pub yes_or_no : Bool → List ℕ
 yes_or_no true = codes "yes"
 yes_or_no false = codes "no"
 
--- the line that tells whether a policy is calm
+-- the line that says whether a policy is calm
 abbrev pub calm_line : Bool → List ℕ
 calm_line is = line_of (codes "calm" ∷ yes_or_no is ∷ [])
 
--- the answer for a policy whose tree is laid into a target
+-- the output for a policy whose tree is placed in a target
 abbrev pub calm_answer : Policy → Laid → Answer
 calm_answer policy laid = text_alone 0 (calm_line (is_calm policy.tree laid.images))
 
--- what follows from a target: nothing is run, and the least height isn't told
+-- the output once the target is read; nothing runs, and the least height isn't reported
 abbrev pub BehindTarget : Resolved → Target → Answer → Type 0
 BehindTarget policy target = WithRoom (topology_of policy.policy.tree) target (λ laid b. b ≡ calm_answer policy.policy laid)
 
--- what follows from a policy and the text of a target
+-- outputs that depend on the text of a target, under an accepted policy
 abbrev pub BehindPolicy : Resolved → List ℕ → Answer → Type 0
 BehindPolicy policy target = ForTarget target (BehindTarget policy)
 
--- what follows from the texts of a policy and a target
+-- outputs that depend on the texts of a policy and a target
 abbrev pub IsCalmTold : List ℕ → List ℕ → Answer → Type 0
 IsCalmTold policy target = UnderPolicy policy (λ judged. BehindPolicy judged.policy target)
 
--- The answer to words, where the names have these contents and these taps are handed in: that of the program over plain
--- queues, with the spills of its run behind it; or whether a policy is calm.
+-- The output for these arguments, file contents and taps: that of the program over plain queues,
+-- followed by the spills of its run; or whether a policy is calm.
 abbrev pub IsBlockOutput : BlockForm → (List ℕ → List ℕ) → List Entry → Answer → Type 0
 IsBlockOutput (shared form) contents taps a = IsCounted (IsOutput form contents taps) a
 IsBlockOutput (calm p t) contents taps a = IsCalmTold (contents p) (contents t) a

@@ -1,4 +1,4 @@
--- What is told of the spills of a run, behind its text.
+-- The line that reports the spills of a run, after its text.
 use Rattle.std.specs.Prelude.{◌≡◌, refl, ℕ, zero, Option, None, Some, List, [], ◌∷◌, ◌++◌, decimal, codes}
 use Rattle.std.specs.Fmt.{digits}
 use Rattle.rank_defs.specs.Builtins.{Builtin, named, shortest, fifo}
@@ -11,24 +11,26 @@ use Rattle.sched_embedded.specs.Fabrics.{FabricRun}
 use Rattle.calm_defs.specs.Rows.{pair_by, side_by_side}
 use Rattle.replay_app.specs.Answer.{Answer}
 
--- the line of a count of spills
+-- the line with a number of spills
 abbrev pub spills_line : ℕ → List ℕ
 spills_line n = line_of (codes "spills" ∷ decimal n ∷ [])
 
--- at how many nodes the pushes of a run spill, along the images of its policy's nodes
+-- the spills of a run: for each push, the number of nodes at which it spills; the nodes have the
+-- images of the run's placement
 abbrev pub run_spills : FabricRun → ℕ
 run_spills run = spills_in (Some run.laid.images) run.policy run.events (start run.policy)
 
--- what is told of the spills of a run that ended whole; of another one, and where nothing was run, nothing is told
+-- the text that reports the spills of a run that ended whole; empty for any other run, and if
+-- nothing ran
 abbrev pub spills_text : ℕ → Option FabricRun → List ℕ
 spills_text zero (Some run) = spills_line (run_spills run)
 spills_text status run = []
 
--- an answer with the spills of its run behind its text
+-- an output, with the spills of its run after its text
 abbrev pub counted : Answer → Answer
 counted a = record a { text = a.text ++ spills_text a.status a.run }
 
--- the first answer of a program, with the spills of its run behind its text
+-- an output of a program, with the spills of its run after its text
 pub record IsCounted (output : Answer → Type 0) (a : Answer) : Type 0 where
   pub first : Answer
   pub is : output first
@@ -38,7 +40,8 @@ spills_line-four : spills_line 4 ≡ codes "spills 4\n"
 unfolding digits
 spills_line-four = refl
 
--- two leaves below a root of this transaction; a long packet waits as a short one of its class comes
+-- two leaves below a root with this transaction; a long packet is queued when a short one of its
+-- class arrives
 abbrev pub long_then_short : Builtin → FabricRun
 long_then_short b = record {
   policy = pair_by b;

@@ -1,4 +1,4 @@
--- The words behind the program's name, and the forms that they may have.
+-- The arguments after the program's name, and their forms.
 use Rattle.std.specs.Prelude.{◌≡◌, refl, ◌⊎◌, ℕ, if◌then◌else◌, List, [], ◌∷◌, codes, String, Result, Ok, Err}
 use Rattle.std.specs.List.{list_any}
 use Rattle.std.specs.Str.{bytes_eq}
@@ -12,9 +12,9 @@ use Rattle.replay_app.specs.declared.status.Status.{Status}
 use Rattle.block_app.specs.declared.words.Task.{Task}
 use Rattle.block_app.specs.declared.words.Task.TheVariants.{Calm, Shared, NoForm}
 
--- a command with the names of its files
+-- a command with its file names
 pub data BlockForm : Type 0 where
-  -- one that the program over plain queues has too
+  -- a command of the program over plain queues
   shared : Form → BlockForm
   -- a policy and a target
   calm : List ℕ → List ℕ → BlockForm
@@ -23,7 +23,7 @@ pub data BlockForm : Type 0 where
 abbrev pub left_out : List (List ℕ)
 left_out = codes "via" ∷ codes "forward" ∷ []
 
--- whether a policy is calm, by the names of the policy and of a target
+-- the form of `calm`, from the names of the policy and of a target
 abbrev pub calm_by : List (List ℕ) → BlockForm
 calm_by (p ∷ t ∷ []) = calm p t
 calm_by names = shared no_form
@@ -34,30 +34,30 @@ block_form_of (w ∷ more) =
     if list_any (bytes_eq w) left_out then shared no_form
     else (if bytes_eq w (codes "calm") then calm_by more else shared (form_of (w ∷ more)))
 
--- the form of the words
+-- the form of the arguments
 abbrev pub block_form_in : List (String Global) → BlockForm
 block_form_in words = block_form_of (texts words)
 
--- the words that name files
+-- the arguments that name files
 abbrev pub block_file_words : BlockForm → List (List ℕ)
 block_file_words (shared form) = file_words form
 block_file_words (calm p t) = p ∷ t ∷ []
 
--- with which statuses words of a form can end, where nothing stops the program
+-- the possible statuses for a form, if nothing stops the program
 abbrev pub block_statuses : BlockForm → List ℕ
 block_statuses (shared form) = statuses_of form
 block_statuses (calm p t) = 3 ∷ 4 ∷ 5 ∷ 0 ∷ []
 
--- words of this form can end with this status
+-- arguments of this form can end with this status
 abbrev pub CanBlockEnd : BlockForm → ℕ → Type 0
 CanBlockEnd form status = IsOneOf (block_statuses form) status ⊎ IsStop status
 
--- the status with which the program ends: that of its answer, or that of what stopped it
+-- the exit status: that of the run, or that of the stop that ended it
 abbrev pub end_status : Result Status Stop → ℕ
 end_status (Ok status) = status_code status
 end_status (Err stop) = stop_status stop
 
--- the form of words that ask for this
+-- the form of the arguments that give this task
 abbrev pub task_form : List (List ℕ) → Task → BlockForm
 task_form words (Calm files) = calm files.policy.now files.target.now
 task_form words Shared = shared (form_of words)

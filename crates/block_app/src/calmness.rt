@@ -1,4 +1,4 @@
-//! Whether a policy is calm, laid by a map: then none of its pushes spills, whatever comes.
+//! Calm policies: no push of a calm policy spills, whatever packets arrive.
 ghost use Rattle.std.specs.Prelude.{◌≡◌, ◌<◌, ◌≤◌, ◌↔◌, ◌++◌, ◌∷◌, [], ℕ, IsTrue};
 ghost use Rattle.tree_defs.specs.Tree.{nodes, most_nodes, IsAddressOf};
 ghost use Rattle.tree_core.specs.Shape.{topology};
@@ -12,14 +12,16 @@ use embed_core::Map;
 use policy_core::Policy;
 use tree_core::Topo;
 
-/// Whether no packet of a child is ever ranked below an earlier one of that child, by the name of a built-in transaction.
+/// Returns whether the built-in transaction of this name never ranks a packet of a child below an
+/// earlier packet of that child.
 fn is_steady(transaction: &str) -> bool
     ensures { result ≡ is_steady transaction.now }
 {
     matches!(transaction, "fifo" | "strict" | "lstf" | "rr" | "stfq")
 }
 
-/// Whether a leaf serves first in first out, or an inner node by a steady transaction.
+/// Returns whether a leaf serves first in first out, or whether an inner node uses a steady
+/// transaction.
 fn uses_steady(policy: &Policy, node: u32) -> bool
     requires there { node < nodes policy.now.policy.tree }
     ensures steady { IsTrue result ↔ UsesSteadyAt policy.now.policy.tree
@@ -34,7 +36,7 @@ fn uses_steady(policy: &Policy, node: u32) -> bool
     }
 }
 
-/// How many children the node at an address has; none where no node is.
+/// Returns the number of children of the node at an address, or 0 if there is no such node.
 fn children_at(topo: &Topo, address: &[u32]) -> u32
     requires few { nodes (topology topo.now) ≤ most_nodes }
     ensures { (i : ℕ) → i < result ↔ IsAddressOf (topology topo.now) (address.now ++ i ∷ []) }
@@ -54,7 +56,7 @@ fn children_at(topo: &Topo, address: &[u32]) -> u32
     }
 }
 
-/// The digit of a child's image right behind the image of its parent.
+/// Returns the digit of a child's image that follows the image of its parent.
 fn digit_at(policy: &Policy, map: &Map, node: u32, index: u32) -> u32
     requires map { IsMapOf policy.now.policy.tree map.now }
     requires there { node < nodes policy.now.policy.tree }
@@ -72,7 +74,7 @@ fn digit_at(policy: &Policy, map: &Map, node: u32, index: u32) -> u32
     image[above.len()]
 }
 
-/// Whether no child before this one has its digit.
+/// Returns whether no earlier child has the digit of this one.
 fn has_own_digit(policy: &Policy, map: &Map, node: u32, index: u32) -> bool
     requires map { IsMapOf policy.now.policy.tree map.now }
     requires there { node < nodes policy.now.policy.tree }
@@ -89,7 +91,7 @@ fn has_own_digit(policy: &Policy, map: &Map, node: u32, index: u32) -> bool
     true
 }
 
-/// Whether no two children of a node have the same digit.
+/// Returns whether no two children of a node have the same digit.
 fn have_own_digits(policy: &Policy, map: &Map, node: u32) -> bool
     requires map { IsMapOf policy.now.policy.tree map.now }
     requires there { node < nodes policy.now.policy.tree }
@@ -105,8 +107,9 @@ fn have_own_digits(policy: &Policy, map: &Map, node: u32) -> bool
     true
 }
 
-/// Whether no push of a policy can spill that is laid by a map: each inner node ranks each child's packets in order, each leaf
-/// serves first in first out, and each child has a digit of its own behind its parent's image. It takes no memory.
+/// Returns whether a policy, placed by a map, is calm: then none of its pushes spills. Each inner
+/// node must rank each child's packets in order, each leaf must serve first in first out, and each
+/// child must have its own digit after its parent's image. Allocates no memory.
 pub fn calm(policy: &Policy, map: &Map) -> bool
     requires map { IsMapOf policy.now.policy.tree map.now }
     ensures value { result ≡ is_calm policy.now.policy.tree map.now }

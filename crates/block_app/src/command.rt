@@ -1,4 +1,4 @@
-//! The one call of the program.
+//! The program's entry point.
 ghost use Rattle.std.specs.Prelude.{◌≡◌, ◌≢◌, ◌<◌, ◌≤◌, ◌^◌, ◌∷◌, [], vec_len};
 ghost use Rattle.outside_core.specs.Faults.{Rose};
 ghost use Rattle.sched_embedded.specs.Fabrics.{IsAsItWas};
@@ -22,7 +22,7 @@ use report_core::FaultKind;
 use std::alloc::Global;
 use tap_core::Tap;
 
-/// The status with which the program ends: that of its answer, or that of what stopped it.
+/// Returns the exit status: that of the run, or that of the stop that ended it.
 fn end_status(answer: Result<Status, Stop>) -> u8
     ensures { result ≡ end_status answer }
 {
@@ -32,11 +32,11 @@ fn end_status(answer: Result<Status, Stop>) -> u8
     }
 }
 
-/// Does what the words say, and answers the status with which the program ends. The words are those behind the program's
-/// name: those of replay_app's `run` but for the commands `via` and `forward`, over a fabric of rank stores; or `calm` and the
-/// names of a policy and a target.
+/// Runs the command that the arguments give, and returns the program's exit status. `words` holds
+/// the arguments after the program's name. The commands are those of replay_app's `run` except
+/// `via` and `forward`, over a fabric of rank stores, and `calm POLICY TARGET`.
 ///
-/// Behind the text of a run that ends whole stands a line with the spills of its pushes.
+/// If a run ends whole, a line with the number of its spills follows its text.
 pub fn block_run<S: Shelf, K: Sink>(
     alloc: Global,
     words: &[String],
@@ -49,9 +49,9 @@ pub fn block_run<S: Shelf, K: Sink>(
     requires pushes { fabric.old.pushed < 2 ^ 61 }
     requires pops { fabric.old.popped < 2 ^ 61 }
 
-    // Where contents are told: the answer is written whole with its status, or a first part of it with
-    // 8, 9 or 10; the fabric is as it was, or holds what the run leaves, or a first part of it; and of
-    // the taps those are left that a run leaves.
+    // If file contents are known to the contract: the output is written whole with its status, or a
+    // prefix of it with status 8, 9 or 10. The fabric is unchanged, or holds the result of the run
+    // or of a prefix of it. The taps are those that the run leaves.
     ensures answer { WhereTold (S.content shelf.old) (block_file_words (block_form_in words.now))
         (λ contents.
         IsGiven (IsBlockOutput (block_form_in words.now) contents (entries kind_of state_of taps.old.items)) result
@@ -66,7 +66,7 @@ pub fn block_run<S: Shelf, K: Sink>(
         AreBlockTapsLeft (block_form_in words.now) contents result
         (entries kind_of state_of taps.old.items) (entries kind_of state_of taps.new.items)) }
 
-    // Whatever the files hold: what the words alone decide.
+    // For any file contents: the guarantees that follow from the arguments alone.
     ensures statuses { CanBlockEnd (block_form_in words.now) result }
     ensures no_form { result ≡ 2 → block_form_in words.now ≡ shared no_form }
     ensures told_so { block_form_in words.now ≡ shared no_form → IsOneOf (2 ∷ 9 ∷ 10 ∷ []) result }

@@ -1,4 +1,4 @@
-//! The commands that both programs have, with the spills of a run behind its text.
+//! The commands that both programs share, with the spills of a run after its text.
 ghost use Rattle.std.specs.Prelude.{◌≡◌, ◌≢◌, ◌≤◌, ◌<◌, ◌^◌, ◌++◌, ◌∷◌, ◌⊎◌, [], vec_len, OnOk, OnErr, IsErrOf, IsFalse, IsTrue};
 ghost use Rattle.outside_core.specs.Faults.{Rose};
 ghost use Rattle.outside_core.specs.Written.{Appended, AppendedPrefix};
@@ -21,7 +21,7 @@ use std::alloc::{AllocError, Global};
 use tap_core::Tap;
 use text_core::put_decimal;
 
-/// Appends the line of a count of spills. The error is want of memory.
+/// Appends the line with a number of spills. Fails if out of memory.
 fn put_line(into: &mut Vec<u8>, spills: u128) -> Result<(), AllocError>
     ensures { OnOk result (into.new.items ≡ into.old.items ++ spills_line spills) }
 {
@@ -30,7 +30,7 @@ fn put_line(into: &mut Vec<u8>, spills: u128) -> Result<(), AllocError>
     into.extend_from_slice(b"\n")
 }
 
-/// Writes the line of a count of spills.
+/// Writes the line with a number of spills.
 fn write_spills<K: Sink>(alloc: Global, spills: u128, sink: &mut K) -> Result<(), Stop>
     ensures text { OnOk result (Appended (K.written sink.old) (K.written sink.new)
         (spills_line spills)) }
@@ -45,7 +45,7 @@ fn write_spills<K: Sink>(alloc: Global, spills: u128, sink: &mut K) -> Result<()
     write(alloc, &line, sink)
 }
 
-/// Whether a run ended whole through the fabric, by the status and the words.
+/// Returns whether a run through the fabric ended whole, from the status and the arguments.
 fn ended_whole(status: u8, words: &[String]) -> bool
     ensures told { IsTrue result → (status ≡ 0) × (UsesNoFabric (form_in words.now) → ⊥) }
     ensures untold { IsFalse result → (status ≢ 0) ⊎ UsesNoFabric (form_in words.now) }
@@ -53,8 +53,9 @@ fn ended_whole(status: u8, words: &[String]) -> bool
     status == 0 && uses_fabric(words)
 }
 
-/// Does what the words say as the program over plain queues does, and tells the spills of a run that ended whole. Where the
-/// shelf tells nothing, the count of spills isn't known to rise.
+/// Runs a command as the program over plain queues does, and appends the number of spills if the
+/// run ended whole. Without knowledge of the file contents, the contract doesn't say that the
+/// number of spills rises.
 pub fn run_counted<S: Shelf, K: Sink>(
     alloc: Global,
     words: &[String],

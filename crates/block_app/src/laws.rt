@@ -1,12 +1,13 @@
-//! The laws of the program's answers.
+//! The laws of the program's output.
 ghost use Rattle.block_app.specs.Laws.{HaveOneBlockAnswer, HaveABlockAnswer};
 
-/// Words have at most one answer for what their files contain, though the answer is a relation.
+/// For given arguments and file contents there is at most one correct output, though output is
+/// defined by a relation.
 pub fn block_words_have_one_answer()
     ensures one { HaveOneBlockAnswer }
 {}
 
-/// No words and contents are without an answer.
+/// For all arguments and file contents there is a correct output.
 pub fn block_words_have_an_answer()
     ensures some { HaveABlockAnswer }
 {}

@@ -1,5 +1,6 @@
-//! The program over hardware that builds its queues from rank stores: the commands of replay_app, with the spills of each run,
-//! and whether a policy can spill at all. What is answered is said in specs/Output.antt.
+//! The program over hardware that builds its queues from rank stores. It has the commands of
+//! replay_app, reports the spills of each run, and decides whether a policy is calm, so that it
+//! never spills. specs/Output.antt defines the output.
 #![tactic(auto)]
 
 mod calmness;

@@ -1,4 +1,4 @@
-//! Whether a policy is calm, laid into a target, in a line.
+//! The command `calm`: whether a policy is calm in a target.
 ghost use Rattle.std.specs.Prelude.{◌≡◌, ◌≤◌, ◌∷◌, [], Bool, IfOk, OnOk, OnErr, IsErrOf};
 ghost use Rattle.outside_core.specs.Faults.{Rose};
 ghost use Rattle.outside_core.specs.Written.{Appended, AppendedPrefix};
@@ -17,7 +17,7 @@ use replay_app::{NO_ROOM, Read, Status, read_policy, read_target_file, refuse, w
 use report_core::FaultKind;
 use std::alloc::Global;
 
-/// Writes the line of an answer.
+/// Writes the line `calm yes` or `calm no`.
 fn write_line<K: Sink>(alloc: Global, is_calm: bool, sink: &mut K) -> Result<Status, Stop>
     ensures status { IfOk result (λ s. s ≡ Status.Done) }
     ensures text { OnOk result (Appended (K.written sink.old) (K.written sink.new)
@@ -33,7 +33,8 @@ fn write_line<K: Sink>(alloc: Global, is_calm: bool, sink: &mut K) -> Result<Sta
     Ok(Status::Done)
 }
 
-/// Lays the tree of an accepted policy into an accepted target, and tells whether it is calm there.
+/// Embeds the tree of an accepted policy into an accepted target, and writes whether it is calm
+/// there.
 fn tell_placed<K: Sink>(
     alloc: Global,
     policy: &Policy,
@@ -56,7 +57,7 @@ fn tell_placed<K: Sink>(
     }
 }
 
-/// Tells whether an accepted policy is calm in a target's file.
+/// Reads a target file, and writes whether an accepted policy is calm in it.
 fn tell_target<S: Shelf, K: Sink>(
     alloc: Global,
     policy: &Policy,
@@ -80,7 +81,7 @@ fn tell_target<S: Shelf, K: Sink>(
     }
 }
 
-/// Tells whether a policy is calm in a target. Each file is read when its turn comes.
+/// Writes whether a policy is calm in a target. Each file is read only when it is needed.
 pub fn tell_files<S: Shelf, K: Sink>(
     alloc: Global,
     files: &CalmFiles<'_>,

@@ -1,27 +1,27 @@
-//! The words of the commands.
+//! The arguments of the commands.
 ghost use Rattle.std.specs.Prelude.{◌≡◌};
 ghost use Rattle.block_app.specs.Words.{block_form_in, task_form};
 ghost use Rattle.replay_app.specs.Words.{texts};
 
-/// The names of the files of the question whether a policy is calm.
+/// The file names of `calm`.
 #[derive(Clone, Copy, Debug)]
 pub struct CalmFiles<'a> {
     pub policy: &'a str,
     pub target: &'a str,
 }
 
-/// What the words ask for.
+/// The task that the arguments give.
 #[derive(Clone, Copy, Debug)]
 pub enum Task<'a> {
-    /// Whether a policy is calm, laid into a target.
+    /// Reports whether a policy is calm in a target.
     Calm(CalmFiles<'a>),
-    /// What the program over plain queues does.
+    /// Runs a command of the program over plain queues.
     Shared,
-    /// Nothing: they are in no form.
+    /// The arguments are malformed.
     NoForm,
 }
 
-/// What the words ask for.
+/// Returns the task that the arguments give.
 pub fn task_of(words: &[String]) -> Task<'_>
     ensures form { block_form_in words.now ≡ task_form (texts words.now) result }
 {

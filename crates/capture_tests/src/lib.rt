@@ -1,5 +1,6 @@
-//! Tests of readers and writers of captures, over reads that hand over few bytes and over calls that fail.
-//! They stand apart from the crates that they test, since a crate's tests have its own functions proved once more.
+//! Tests of capture readers and writers, over reads that return few bytes and over calls that fail.
+//! They are in a crate of their own, since the functions of a tested crate would be proved once
+//! more with its tests.
 #![tactic(auto)]
 
 #[cfg(test)]

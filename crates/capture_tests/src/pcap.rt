@@ -4,16 +4,17 @@ use outside_core::ReadError;
 use pcap_core::Reader;
 use std::test::Fail;
 
-/// Little-endian, microseconds, link type 147. Two records of four captured bytes, and one that lacks two of its four.
+/// Little-endian, microseconds, link type 147. Two records of four captured bytes, and one that
+/// lacks two of its four.
 const TWO_AND_A_CUT: &[u8] = b"\xd4\xc3\xb2\xa1\x02\0\x04\0\0\0\0\0\0\0\0\0\0\0\x04\0\x93\0\0\0\
     \x01\0\0\0\0\0\0\0\x04\0\0\0\x04\0\0\0\0\0\0\x01\
     \x01\0\0\0\x01\0\0\0\x04\0\0\0\x04\0\0\0\0\0\0\x02\
     \x02\0\0\0\0\0\0\0\x04\0\0\0\x04\0\0\0\0\0";
 
-/// The magic number of a pcapng capture, which the other reader takes.
+/// The magic number of a pcapng capture, which the other reader reads.
 const PCAPNG: &[u8] = b"\x0a\x0d\x0d\x0a\0\0\0\0\0\0\0\0\0\0\0\0\0\0\0\0\0\0\0\0";
 
-/// Reads of forty bytes end where the first record's captured bytes begin.
+/// A read of forty bytes ends at the first record's captured bytes.
 #[test]
 fn captures_are_read_the_same_however_reads_are_cut(rt: HostRuntime) -> Result<(), Fail> {
     let cut = Err(ReadError::Fault(6, 3));
@@ -26,7 +27,7 @@ fn captures_are_read_the_same_however_reads_are_cut(rt: HostRuntime) -> Result<(
     Ok(())
 }
 
-/// The header takes four reads of seven bytes, after the call that begins the file.
+/// After the call that begins the file, the header takes four reads of seven bytes.
 #[test]
 fn a_failed_read_is_no_fault_of_the_file(rt: HostRuntime) -> Result<(), Fail> {
     let failed = Err(ReadError::Source);

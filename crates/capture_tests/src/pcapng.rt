@@ -1,10 +1,11 @@
-//! Tests of captures in the format pcapng.
+//! Tests of captures in the pcapng format.
 use crate::reading::{given, passed};
 use outside_core::ReadError;
 use pcapng_core::NgReader;
 use std::test::Fail;
 
-/// A section of one interface with link type 147. Two packets of four captured bytes, and one that is cut in its block.
+/// A section with one interface of link type 147. Two packets of four captured bytes, and one whose
+/// block is cut short.
 const TWO_AND_A_CUT: &[u8] =
     b"\x0a\x0d\x0d\x0a\x1c\0\0\0\x4d\x3c\x2b\x1a\x01\0\0\0\xff\xff\xff\xff\xff\xff\xff\xff\x1c\0\0\0\
     \x01\0\0\0\x14\0\0\0\x93\0\0\0\0\0\x04\0\x14\0\0\0\
@@ -12,7 +13,7 @@ const TWO_AND_A_CUT: &[u8] =
     \x06\0\0\0\x24\0\0\0\0\0\0\0\0\0\0\0\x80\x84\x1e\0\x04\0\0\0\x04\0\0\0\0\0\0\x02\x24\0\0\0\
     \x06\0\0\0\x24\0\0\0\0\0\0\0";
 
-/// An interface before the first section, in a file that the other reader takes.
+/// An interface before the first section.
 const INTERFACE: &[u8] = b"\x01\0\0\0\x14\0\0\0\x93\0\0\0\0\0\x04\0\x14\0\0\0";
 
 #[test]
@@ -27,8 +28,8 @@ fn captures_are_read_the_same_however_reads_are_cut(rt: HostRuntime) -> Result<(
     Ok(())
 }
 
-/// The first block takes four reads of seven bytes, after the call that begins the file, and the first packet ends with the
-/// thirteenth call.
+/// After the call that begins the file, the first block takes four reads of seven bytes. The first
+/// packet ends with the thirteenth call.
 #[test]
 fn a_failed_read_is_no_fault_of_the_file(rt: HostRuntime) -> Result<(), Fail> {
     let failed = Err(ReadError::Source);

@@ -1,9 +1,9 @@
-//! Tests of captures that are written, up to a fault.
+//! Tests of writing captures to a sink that fails.
 use outside_core::{MemSink, Sink, SinkError};
 use pcap_core::{put_head, put_record};
 use std::test::Fail;
 
-/// Link type 147, and two packets in second 1.
+/// A capture of link type 147, with two packets in second 1.
 const TWO_PACKETS: &[u8] =
     b"\x4d\x3c\xb2\xa1\x02\x00\x04\x00\x00\x00\x00\x00\x00\x00\x00\x00\x00\x00\x04\x00\x93\x00\x00\x00\
     \x01\x00\x00\x00\x00\x00\x00\x00\x04\x00\x00\x00\x04\x00\x00\x00\x00\x00\x00\x01\
@@ -15,7 +15,7 @@ fn put_two_packets<K: Sink>(sink: &mut K) -> Result<(), SinkError> {
     put_record(sink, 1, 1_000, 4, &[0, 0, 0, 2])
 }
 
-/// A header is one write, and a record two. A sink takes what it has room for.
+/// A header is one write, and a record is two. A sink takes as many bytes as it has room for.
 #[test]
 fn what_was_written_before_a_fault_stays(rt: HostRuntime) -> Result<(), Fail> {
     let alloc = rt.alloc();

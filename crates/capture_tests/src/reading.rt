@@ -1,4 +1,4 @@
-//! What a reader of either format gives of a capture.
+//! The result of reading a capture with a reader of either format.
 ghost use Rattle.std.specs.Prelude.{◌≤◌, IfOk, IsTrue};
 ghost use Rattle.outside_core.specs.Memory.{is_begun};
 
@@ -7,7 +7,8 @@ use outside_core::{MemShelf, ReadError, Shelf};
 use std::alloc::Global;
 use std::test::Fail;
 
-/// A begun file, read in at most `most` bytes at once. The call of this number fails.
+/// Returns a file that is begun and read at most `most` bytes at a time. The call with number
+/// `fail` fails.
 fn begun(alloc: Global, bytes: &[u8], most: usize, fail: u64) -> Result<MemShelf, Fail>
     requires { 1 ≤ most }
     ensures { IfOk result (λ shelf. IsTrue (is_begun shelf)) }
@@ -21,7 +22,8 @@ fn begun(alloc: Global, bytes: &[u8], most: usize, fail: u64) -> Result<MemShelf
     Ok(shelf)
 }
 
-/// The number and the last captured byte of the last of at most four packets, and how the reading ended.
+/// Reads at most four packets. Returns the number and the last captured byte of the last one, and
+/// how reading ended.
 fn read_on<R: CaptureReader>(
     reader: &mut R,
     shelf: &mut MemShelf,
@@ -45,7 +47,7 @@ fn read_on<R: CaptureReader>(
     (number, byte, Ok(()))
 }
 
-/// How many of at most four packets are passed over, and how that ended.
+/// Passes over at most four packets. Returns their number, and how that ended.
 fn pass_on<R: CaptureReader>(
     reader: &mut R,
     shelf: &mut MemShelf,
@@ -64,7 +66,7 @@ fn pass_on<R: CaptureReader>(
     (4, Ok(()))
 }
 
-/// What `read_on` gives of a capture, or why the reader didn't start.
+/// Returns the result of `read_on` for a capture, or why the reader didn't start.
 pub(crate) fn given<R: CaptureReader + Drop>(
     alloc: Global,
     bytes: &[u8],
@@ -82,7 +84,7 @@ pub(crate) fn given<R: CaptureReader + Drop>(
     }
 }
 
-/// What `pass_on` gives of a capture, or why the reader didn't start.
+/// Returns the result of `pass_on` for a capture, or why the reader didn't start.
 pub(crate) fn passed<R: CaptureReader + Drop>(
     alloc: Global,
     bytes: &[u8],

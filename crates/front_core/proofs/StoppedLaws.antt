@@ -1,4 +1,4 @@
--- A call that stops at once for want of memory.
+-- A call that stops at once because it is out of memory.
 use Rattle.std.proofs.Common.{rules, ◌≡◌, ℕ, List, Option, inr, ap, subst, ◌∙◌, map, string_bytes, String}
 use Rattle.std.specs.declared.alloc.Global.{Global}
 use Rattle.outside_core.proofs.WrittenLaws.{appended_nothing, prefix_of_nothing}
@@ -21,11 +21,11 @@ given_nothing output old = inr (record { stop = no_memory; part = λ a is. prefi
 pub ends_so : (form : Form) → CanEnd form 10
 ends_so form = inr no_memory
 
--- the words that options give have the form that is asked for
+-- the arguments that the options give have the expected form
 pub same_form : (words items : List (String Global)) (options : Options) → words ≡ items → map string_bytes items ≡ words_of options → form_in words ≡ form_asked options
 same_form words items options read same = ap form_in read ∙ ap form_of same
 
--- what is answered to words is answered to their form
+-- the output for arguments is the output for their form
 pub answered_so : (content : List ℕ → Option (List ℕ)) (taps : List Entry) (status : ℕ) (old new : Option (List ℕ)) (given asked : Form) → given ≡ asked
     → WhereTold content (file_words given) (λ contents. Answers given contents taps status old new)
     → WhereTold content (file_words asked) (λ contents. Answers asked contents taps status old new)

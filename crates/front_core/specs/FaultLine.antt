@@ -1,14 +1,14 @@
--- The line of a fault, which is kept back.
+-- The `fault` line, which is held back.
 use Rattle.std.specs.Prelude.{◌≡◌, refl, ℕ, ◌==◌, nat_le, Bool, true, false, ◌&&◌, ◌||◌, List, [], ◌∷◌, ◌++◌, length, take, min, codes}
 use Rattle.std.specs.List.{prefix_len}
 use Rattle.std.specs.Str.{bytes_eq}
 use Rattle.text_core.specs.Lines.{is_text}
 
--- the most bytes of the line of a fault
+-- the most bytes of a `fault` line
 abbrev pub most_held : ℕ
 most_held = 64
 
--- one line with its end
+-- one line with its line end
 abbrev pub is_one_line : List ℕ → Bool
 is_one_line [] = false
 is_one_line (b ∷ bs) = prefix_len is_text (b ∷ bs) == length bs
@@ -16,11 +16,11 @@ is_one_line (b ∷ bs) = prefix_len is_text (b ∷ bs) == length bs
 abbrev pub begins_fault : List ℕ → Bool
 begins_fault w = bytes_eq (take (min (length w) 6) w) (codes "fault ")
 
--- a line with its end, short enough, that begins as the line of a fault does
+-- one line with its line end, of at most `most_held` bytes, that begins as a `fault` line does
 abbrev pub is_fault_line : List ℕ → Bool
 is_fault_line w = nat_le (length w) most_held && is_one_line w && begins_fault w
 
--- nothing, or a line of a fault
+-- nothing, or a `fault` line
 abbrev pub is_caught : List ℕ → Bool
 is_caught w = is_fault_line w || length w == 0
 

@@ -1,4 +1,4 @@
--- The form of the replayer's words that options ask for.
+-- The form of the replayer's arguments that the options give.
 use Rattle.front_defs.specs.Options.{words_of}
 use Rattle.front_defs.specs.declared.options.Options.{Options}
 use Rattle.replay_app.specs.Words.{Form, form_of}

@@ -1,4 +1,4 @@
-//! What a command line asks for.
+//! The request that a command line makes.
 use crate::mistake::Mistake;
 use crate::names::{TAPS, command_named, count_of};
 use crate::scan::{Scan, tell_apart};
@@ -10,22 +10,22 @@ use text_core::decimal;
 /// The greatest seed of a load.
 const MOST_SEED: u64 = (1 << 62) - 1;
 
-/// The greatest count of a load.
+/// The greatest number of events of a load.
 const MOST_COUNT: u64 = 1_000_000;
 
-/// A run that is asked for.
+/// The request for a run.
 #[derive(Drop)]
 pub struct Request<'a> {
     pub options: Options<'a>,
-    /// The file that the output goes to, in place of standard output.
+    /// The output file, or none for standard output.
     pub output: Option<&'a str>,
     pub quiet: bool,
 }
 
-/// What a command line asks for.
+/// The request that a command line makes.
 #[derive(Drop)]
 pub enum Asked<'a> {
-    /// The help of a command, or that of all.
+    /// The help of a command, or of all commands.
     Help(Option<Command>),
     /// The version.
     Version,
@@ -33,7 +33,8 @@ pub enum Asked<'a> {
     Run(Request<'a>),
 }
 
-/// Sees that a word is a whole number that is at most another.
+/// Checks that an argument is a whole number of at most `most`. `place` is its index among the
+/// arguments.
 fn see_number<'a>(place: usize, word: &'a str, most: u64) -> Result<(), Mistake<'a>> {
     match decimal(word.as_bytes()) {
         Some(number) if number <= most => Ok(()),
@@ -41,7 +42,7 @@ fn see_number<'a>(place: usize, word: &'a str, most: u64) -> Result<(), Mistake<
     }
 }
 
-/// Sees that the numbers of a load are in range.
+/// Checks that the seed and the count of a load are in range.
 fn see_load<'a>(arguments: &[&'a str]) -> Result<(), Mistake<'a>> {
     match arguments {
         [seed, count] => {
@@ -52,7 +53,7 @@ fn see_load<'a>(arguments: &[&'a str]) -> Result<(), Mistake<'a>> {
     }
 }
 
-/// Sees that each tap is one, and that none is named twice.
+/// Checks that each tap exists, and that none is named twice.
 fn see_taps<'a>(taps: &[&'a str]) -> Result<(), Mistake<'a>> {
     for place in 0..taps.len() {
         let tap = taps[place];
@@ -66,7 +67,8 @@ fn see_taps<'a>(taps: &[&'a str]) -> Result<(), Mistake<'a>> {
     Ok(())
 }
 
-/// Takes pairs `tap NAME` out of the arguments of `replay`, which follow the fourth.
+/// Moves pairs `tap NAME` from the arguments of `replay` to its taps. The pairs follow the fourth
+/// argument.
 fn take_pairs<'a>(scan: &mut Scan<'a>) -> Result<(), Mistake<'a>> {
     for _ in 0..scan.arguments.len() {
         let count = scan.arguments.len();
@@ -83,7 +85,8 @@ fn take_pairs<'a>(scan: &mut Scan<'a>) -> Result<(), Mistake<'a>> {
     Ok(())
 }
 
-/// The number of the first argument that is missing, after so many. A rate at the end is the last argument.
+/// Returns the index of the first missing argument. If the command takes a rate and the last
+/// argument given is one, the missing argument comes before it.
 fn missing_place(command: Command, arguments: &[&str]) -> usize {
     match arguments {
         [.., word] if has_rate(command) && rate_in(word.as_bytes()).is_ok() => arguments.len() - 1,
@@ -91,7 +94,7 @@ fn missing_place(command: Command, arguments: &[&str]) -> usize {
     }
 }
 
-/// Sees that there are as many arguments as a command has, and that none is empty.
+/// Checks that a command has the right number of arguments, and that none is empty.
 fn see_arguments<'a>(command: Command, arguments: &[&'a str]) -> Result<(), Mistake<'a>> {
     if let Some(place) = arguments.iter().position(|word| word.is_empty()) {
         return Err(Mistake::Empty(command, place));
@@ -105,7 +108,7 @@ fn see_arguments<'a>(command: Command, arguments: &[&'a str]) -> Result<(), Mist
     }
 }
 
-/// Sees that the output isn't one of the files that are read.
+/// Checks that the output isn't one of the input files. Only the paths are compared.
 fn see_output<'a>(arguments: &[&'a str], output: Option<&'a str>) -> Result<(), Mistake<'a>> {
     let Some(output) = output else {
         return Ok(());
@@ -117,17 +120,18 @@ fn see_output<'a>(arguments: &[&'a str], output: Option<&'a str>) -> Result<(), 
     Ok(())
 }
 
-/// Whether a command's last argument is a rate.
+/// Returns whether a command's last argument is a rate.
 fn has_rate(command: Command) -> bool {
     command == Command::Link || command == Command::Forward
 }
 
-/// Whether a rate is written as scripts write it, in digits alone.
+/// Returns whether a rate consists of digits alone, as scripts write it.
 fn is_plain_rate(word: &str) -> bool {
     word.as_bytes().iter().all(|byte| byte.is_ascii_digit())
 }
 
-/// Takes the rate of a link, which is the last argument. Under `--plain` it has no unit.
+/// Removes the rate of a link, which is the last argument, and parses it. Under `--plain` it has no
+/// unit.
 fn take_rate<'a>(
     command: Command,
     plain: bool,
@@ -148,7 +152,7 @@ fn take_rate<'a>(
     }
 }
 
-/// The run that the arguments of a command ask for.
+/// Checks a command's arguments and options, and returns the run that they request.
 fn request_of<'a>(command: Command, mut scan: Scan<'a>) -> Result<Request<'a>, Mistake<'a>> {
     if command == Command::Replay {
         take_pairs(&mut scan)?;
@@ -184,7 +188,7 @@ fn request_of<'a>(command: Command, mut scan: Scan<'a>) -> Result<Request<'a>, M
     })
 }
 
-/// What a command line asks for.
+/// Parses a command line. Fails with its first mistake.
 pub fn ask<'a>(alloc: Global, words: &'a [String]) -> Result<Asked<'a>, Mistake<'a>> {
     let mut scan = tell_apart(alloc, words)?;
     if scan.version {
@@ -213,7 +217,7 @@ pub fn ask<'a>(alloc: Global, words: &'a [String]) -> Result<Asked<'a>, Mistake<
     }
 }
 
-/// The help of a command.
+/// Returns the request for the help of the command with this name.
 fn help_of<'a>(word: &'a str) -> Result<Asked<'a>, Mistake<'a>> {
     match command_named(word) {
         Some(command) => Ok(Asked::Help(Some(command))),

@@ -1,6 +1,6 @@
-//! What a file is that is no capture, or none that is read, by its first bytes.
+//! The type of a file that isn't a capture, or that can't be read as one, from its first bytes.
 
-/// What a file with these first bytes is, and how to make a capture of it.
+/// Returns the type of a file with these first bytes, and how to get a capture from it.
 pub fn capture_kind(front: &[u8]) -> (&'static str, &'static str) {
     match front {
         [] => (

@@ -1,4 +1,4 @@
-//! A sink that keeps the line of a fault back, which a message is made of.
+//! A sink that holds back the `fault` line, from which a message is made.
 ghost use Rattle.std.specs.Prelude.{◌≡◌, ◌≤◌, true, vec_len, vec_capacity};
 ghost use Rattle.front_core.specs.FaultLine.{most_held, is_caught};
 
@@ -6,8 +6,8 @@ use crate::fault_line::{MOST_HELD, before_fault, bytes_from, bytes_to, is_fault_
 use outside_core::{Sink, SinkError};
 use std::alloc::{AllocError, Global};
 
-/// A sink above another one. Bytes are sent on at once, but for the line of a fault at the end of a write: it is kept back,
-/// and sent on before the next bytes.
+/// A sink on top of another one. It passes bytes on at once, except for a `fault` line at the end
+/// of a write. That line is held back, and passed on before the next bytes.
 #[derive(Drop)]
 pub struct Catching<K> {
     below: K,
@@ -27,7 +27,8 @@ impl<K: Sink + Drop> Catching<K> {
     ghost use Rattle.front_core.specs.FaultLine.{is_fault_line, most_held};
     ghost use Rattle.front_core.specs.Catching.{kept_of, told};
 
-    /// `catches_first_alone` is for bytes that aren't lines: then it is only the whole text that may be the line of a fault.
+    /// Creates a sink on top of `below`. `catches_first_alone` is for output that isn't text: then
+    /// a `fault` line is held back only if it is the whole output.
     pub fn new(
         alloc: Global,
         below: K,
@@ -46,21 +47,21 @@ impl<K: Sink + Drop> Catching<K> {
         })
     }
 
-    /// The sink below.
+    /// Returns the sink below.
     pub fn below(&self) -> &K
         ensures { result.now ≡ self.now.below }
     {
         &self.below
     }
 
-    /// The bytes that are kept back.
+    /// Returns the bytes that are held back.
     pub fn kept(&self) -> &[u8]
         ensures { result.now ≡ kept_of self.now }
     {
         bytes_from(&self.held, self.sent)
     }
 
-    /// Sends the bytes on that are kept back.
+    /// Passes on the bytes that are held back.
     pub fn release(&mut self) -> Result<(), SinkError>
         ensures told { Appended (told (K.written self.old.below) (kept_of self.old))
             (told (K.written self.new.below) (kept_of self.new)) [] }
@@ -76,7 +77,7 @@ impl<K: Sink + Drop> Catching<K> {
         Ok(())
     }
 
-    /// Keeps a line back.
+    /// Holds a line back.
     fn keep(&mut self, line: &[u8])
         requires line { is_fault_line line.now ≡ true }
         requires short { length line.now ≤ most_held }
@@ -88,7 +89,7 @@ impl<K: Sink + Drop> Catching<K> {
         let _ = self.held.extend_from_slice(line);
     }
 
-    /// Sends some bytes on from the front of these.
+    /// Passes on some bytes from the front of `piece`.
     fn send(&mut self, piece: &[u8]) -> Result<usize, SinkError>
         requires some { 0 < length piece.now }
         requires none { kept_of self.old ≡ [] }
@@ -108,7 +109,7 @@ impl<K: Sink + Drop> Catching<K> {
         Ok(count)
     }
 
-    /// How many of these bytes may be sent on before the line of a fault at their end.
+    /// Returns how many bytes of `piece` may be passed on before a `fault` line at its end.
     fn count_before(&self, piece: &[u8]) -> usize
         requires { 0 < length piece.now }
         ensures some { 0 < result }
@@ -121,7 +122,7 @@ impl<K: Sink + Drop> Catching<K> {
         }
     }
 
-    /// Sends some bytes on, which stand before the line of a fault.
+    /// Passes on some of the bytes before a `fault` line at the end of `piece`.
     #[tactic(auto, using(crate::proofs::CatchLaws::bytes_sent, crate::proofs::CatchLaws::front_of_piece))]
     fn send_before(&mut self, piece: &[u8]) -> Result<usize, SinkError>
         requires some { 0 < length piece.now }
@@ -141,7 +142,7 @@ impl<K: Sink + Drop> Catching<K> {
         Ok(count)
     }
 
-    /// Sends some bytes on from the front of these, or keeps the line of a fault back.
+    /// Holds `piece` back if it is a `fault` line. Otherwise passes on some bytes from its front.
     #[tactic(auto, using(crate::proofs::CatchLaws::piece_kept))]
     fn pass(&mut self, piece: &[u8]) -> Result<usize, SinkError>
         requires some { 0 < length piece.now }

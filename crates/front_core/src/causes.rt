@@ -1,7 +1,7 @@
-//! What the codes of faults mean, and how a fault is mended.
+//! The meaning of each error code, and how to correct the error.
 use report_core::FaultKind;
 
-/// What a fault is, and how it is mended.
+/// A description of an error, and how to correct it.
 #[derive(Clone, Copy, Debug)]
 pub struct Cause {
     pub is: &'static str,
@@ -12,7 +12,7 @@ fn made(is: &'static str, help: &'static str) -> Cause {
     Cause { is, help }
 }
 
-/// What the codes of a policy's text mean.
+/// Describes the codes of a policy's text.
 fn text_cause(code: u64) -> Cause {
     match code {
         21 => made(
@@ -34,7 +34,7 @@ fn text_cause(code: u64) -> Cause {
     }
 }
 
-/// What the codes of a policy's tree and classes mean.
+/// Describes the codes of a policy's tree and classes.
 fn tree_rule_cause(code: u64) -> Cause {
     match code {
         8 => made(
@@ -69,7 +69,7 @@ fn tree_rule_cause(code: u64) -> Cause {
     }
 }
 
-/// What the codes of a policy's names and rules mean.
+/// Describes the codes of a policy's names and rules.
 fn rule_cause(code: u64) -> Cause {
     match code {
         1 => made(
@@ -104,7 +104,7 @@ fn rule_cause(code: u64) -> Cause {
     }
 }
 
-/// What the codes of targets mean.
+/// Describes the codes of targets.
 fn target_cause(code: u64) -> Cause {
     match code {
         1 => made(
@@ -126,7 +126,7 @@ fn target_cause(code: u64) -> Cause {
     }
 }
 
-/// What the codes of scripts mean.
+/// Describes the codes of scripts.
 fn script_cause(code: u64) -> Cause {
     match code {
         1 => made(
@@ -148,7 +148,7 @@ fn script_cause(code: u64) -> Cause {
     }
 }
 
-/// What the codes of classic captures mean.
+/// Describes the codes of classic captures.
 fn record_cause(code: u64) -> Cause {
     match code {
         1 => made(
@@ -182,7 +182,7 @@ fn record_cause(code: u64) -> Cause {
     }
 }
 
-/// What the codes of captures mean.
+/// Describes the codes of captures.
 fn capture_cause(code: u64) -> Cause {
     match code {
         11 => made(
@@ -225,7 +225,7 @@ fn capture_cause(code: u64) -> Cause {
     }
 }
 
-/// What the codes of topologies mean.
+/// Describes the codes of topologies.
 fn tree_cause(code: u64) -> Cause {
     match code {
         1 => made(
@@ -243,7 +243,7 @@ fn tree_cause(code: u64) -> Cause {
     }
 }
 
-/// What the codes of maps mean.
+/// Describes the codes of maps.
 fn map_cause(code: u64) -> Cause {
     match code {
         1 => made(
@@ -285,7 +285,7 @@ fn map_cause(code: u64) -> Cause {
     }
 }
 
-/// What a fault is, and how it is mended.
+/// Describes the error with this kind and code, and how to correct it.
 pub fn cause_of(kind: FaultKind, code: u64) -> Cause {
     match kind {
         FaultKind::Words => made(

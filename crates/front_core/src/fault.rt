@@ -1,9 +1,9 @@
-//! The line of a fault, read back.
+//! Parsing of the `fault` line.
 use report_core::FaultKind;
 use std::alloc::Global;
 use text_core::{Item, items};
 
-/// A fault.
+/// An error that the replayer reports: its kind, its code, and its position in the input.
 #[derive(Clone, Copy, PartialEq, Eq, Debug)]
 pub struct Fault {
     pub kind: FaultKind,
@@ -11,7 +11,7 @@ pub struct Fault {
     pub place: u64,
 }
 
-/// The kind of this name.
+/// Returns the kind of error with this name.
 fn kind_named(word: &[u8]) -> Option<FaultKind> {
     Some(match word {
         b"words" => FaultKind::Words,
@@ -26,7 +26,8 @@ fn kind_named(word: &[u8]) -> Option<FaultKind> {
     })
 }
 
-/// The fault that a line says, without its end.
+/// Parses a `fault` line without its line end. Returns none if it doesn't parse, or if out of
+/// memory.
 pub fn fault_in(alloc: Global, line: &[u8]) -> Option<Fault> {
     let items = items(alloc, line).ok()?;
     match items.as_slice() {

@@ -1,13 +1,13 @@
-//! The line of a fault.
+//! The `fault` line.
 ghost use Rattle.std.specs.Prelude.{◌≡◌, ◌≤◌, ◌<◌, length, take, drop, IsTrue};
 ghost use Rattle.std.specs.List.{prefix_len};
 ghost use Rattle.text_core.specs.Lines.{is_text};
 ghost use Rattle.front_core.specs.FaultLine.{begins_fault, is_one_line, is_fault_line, most_held};
 
-/// The most bytes of the line of a fault.
+/// The most bytes of a `fault` line.
 pub const MOST_HELD: usize = 64;
 
-/// The bytes from a place on.
+/// Returns the bytes from an index on.
 pub fn bytes_from(bytes: &[u8], at: usize) -> &[u8]
     requires { at ≤ length bytes.now }
     ensures { result.now ≡ drop at bytes.now }
@@ -15,7 +15,7 @@ pub fn bytes_from(bytes: &[u8], at: usize) -> &[u8]
     &bytes[at..]
 }
 
-/// The bytes before a place.
+/// Returns the bytes before an index.
 pub fn bytes_to(bytes: &[u8], end: usize) -> &[u8]
     requires { end ≤ length bytes.now }
     ensures value { result.now ≡ take end bytes.now }
@@ -24,14 +24,14 @@ pub fn bytes_to(bytes: &[u8], end: usize) -> &[u8]
     &bytes[..end]
 }
 
-/// How many bytes stand before the end of the first line.
+/// Returns the number of bytes before the end of the first line.
 fn line_length(bytes: &[u8]) -> usize
     ensures { result ≡ prefix_len is_text bytes.now }
 {
     bytes.iter().take_while(|byte| **byte != b'\n').count()
 }
 
-/// Whether it is one line with its end.
+/// Returns whether the bytes are one line with its line end.
 fn is_one_line(bytes: &[u8]) -> bool
     ensures value { result ≡ is_one_line bytes.now }
     ensures some { IsTrue result → 0 < length bytes.now }
@@ -39,7 +39,7 @@ fn is_one_line(bytes: &[u8]) -> bool
     !bytes.is_empty() && line_length(bytes) == bytes.len() - 1
 }
 
-/// Whether the bytes begin as the line of a fault does.
+/// Returns whether the bytes begin as a `fault` line does.
 fn begins_fault(bytes: &[u8]) -> bool
     ensures { result ≡ begins_fault bytes.now }
 {
@@ -49,7 +49,7 @@ fn begins_fault(bytes: &[u8]) -> bool
     }
 }
 
-/// Whether it is a line, with its end, that begins as the line of a fault does.
+/// Returns whether the bytes are one line with its line end that begins as a `fault` line does.
 pub fn is_fault_line(bytes: &[u8]) -> bool
     ensures value { result ≡ is_fault_line bytes.now }
     ensures short { IsTrue result → length bytes.now ≤ most_held }
@@ -58,7 +58,8 @@ pub fn is_fault_line(bytes: &[u8]) -> bool
     bytes.len() <= MOST_HELD && is_one_line(bytes) && begins_fault(bytes)
 }
 
-/// How many bytes stand before the last line, if that is the line of a fault with others before it, and else all.
+/// Returns the number of bytes before the last line, if that is a `fault` line after other bytes.
+/// Otherwise returns the number of all bytes.
 pub fn before_fault(bytes: &[u8]) -> usize
     requires { 0 < length bytes.now }
     ensures some { 0 < result }

@@ -1,8 +1,8 @@
-//! Which file a fault is in.
+//! The file that an error is in.
 use front_defs::Command;
 use report_core::FaultKind;
 
-/// The place of the file that a fault is in, among the files of a command, counted from 0.
+/// Returns the index of the file that an error is in, among the files of a command, counted from 0.
 pub fn file_of(command: Command, kind: FaultKind) -> Option<usize> {
     Some(match (kind, command) {
         (FaultKind::Policy, _) => 0,
@@ -20,7 +20,8 @@ pub fn file_of(command: Command, kind: FaultKind) -> Option<usize> {
     })
 }
 
-/// Which of the files of a command is read at this turn. Each script is read before its capture.
+/// Returns the index of the file that a command reads at this turn, both counted from 0. A script
+/// is read before its capture.
 pub fn file_read_at(command: Command, turn: usize) -> usize {
     match (command, turn) {
         (Command::Replay, 2) => 3,
@@ -33,7 +34,7 @@ pub fn file_read_at(command: Command, turn: usize) -> usize {
     }
 }
 
-/// The name of a file, as messages have it.
+/// Returns the name of a file as messages show it.
 pub fn name_shown(name: &str) -> &str {
     if name == "/dev/stdin" {
         "standard input"
@@ -42,7 +43,7 @@ pub fn name_shown(name: &str) -> &str {
     }
 }
 
-/// Whether a fault of this kind is in a text, so that its place is a line.
+/// Returns whether an error of this kind is in a text, so that its position can be a line number.
 pub fn is_text(kind: FaultKind) -> bool {
     matches!(
         kind,

@@ -1,4 +1,4 @@
-//! The one call of the program.
+//! The program's entry points.
 ghost use Rattle.std.specs.Prelude.{◌≡◌, ◌<◌, ◌^◌};
 ghost use Rattle.outside_core.specs.Faults.{Rose};
 ghost use Rattle.tap_core.specs.Lists.{entries};
@@ -16,11 +16,11 @@ use replay_app::run;
 use std::alloc::Global;
 use tap_core::Tap;
 
-/// There was no memory for the words.
+/// Exit status: out of memory for the arguments.
 const NO_MEMORY: u8 = 10;
 
-/// Does what options ask for: what the replayer's `run` does for the words that they give, and nothing else. Under `--plain`
-/// the sink is the output itself.
+/// Runs the replayer's `run` with the arguments that the options give, and does nothing else. Under
+/// `--plain`, the sink is the output itself.
 pub fn front_run<S: Shelf, K: Sink, F: Fabric>(
     alloc: Global,
     options: &Options<'_>,
@@ -47,7 +47,8 @@ pub fn front_run<S: Shelf, K: Sink, F: Fabric>(
     }
 }
 
-/// Does the same, and keeps the line of a fault back: the output has all that `run` writes but what is kept.
+/// Does the same, but holds the `fault` line back. The output gets all that `run` writes except the
+/// bytes held back.
 pub fn front_caught<S: Shelf, K: Sink + Drop, F: Fabric>(
     alloc: Global,
     options: &Options<'_>,

@@ -1,7 +1,7 @@
-//! The help.
+//! The help texts.
 use front_defs::Command;
 
-/// The help of all commands.
+/// The help text of all commands.
 const HELP: &str = "\
 zovatsemo COMMAND ARGUMENT.. [OPTION]..
 
@@ -25,7 +25,7 @@ RATE is 10Mbit, 10gbit, 1.25MB or 125000 (bytes a second). The file - is standar
 -V, --version             the version
 ";
 
-/// The help of `check`.
+/// The help text of `check`.
 const CHECK: &str = "\
 zovatsemo check POLICY
 
@@ -34,7 +34,7 @@ Reports the first error of a policy, with its line, or prints the policy's canon
     zovatsemo check examples/office/policy
 ";
 
-/// The help of `plan`.
+/// The help text of `plan`.
 const PLAN: &str = "\
 zovatsemo plan POLICY TARGET
 
@@ -44,7 +44,7 @@ high a target would have to be.
     zovatsemo plan examples/office/policy examples/office/target
 ";
 
-/// The help of `replay`.
+/// The help text of `replay`.
 const REPLAY: &str = "\
 zovatsemo replay POLICY TARGET CAPTURE SCRIPT [--tap NAME]..
 
@@ -55,7 +55,7 @@ bytes, order, first or drops.
     zovatsemo replay examples/office/policy examples/office/target examples/office/capture examples/office/script
 ";
 
-/// The help of `link`.
+/// The help text of `link`.
 const LINK: &str = "\
 zovatsemo link POLICY TARGET CAPTURE RATE
 
@@ -65,7 +65,7 @@ takes them out. Prints what `replay` prints, and the time in nanoseconds at whic
     zovatsemo link examples/office/policy examples/office/target examples/office/capture 1Mbit
 ";
 
-/// The help of `forward`.
+/// The help text of `forward`.
 const FORWARD: &str = "\
 zovatsemo forward POLICY TARGET CAPTURE RATE
 
@@ -74,7 +74,7 @@ Writes the departures of `link` as a capture (pcap, in nanoseconds), which Wires
     zovatsemo forward examples/office/policy examples/office/target examples/office/capture 1Mbit -o out.pcap
 ";
 
-/// The help of `direct`.
+/// The help text of `direct`.
 const DIRECT: &str = "\
 zovatsemo direct POLICY CAPTURE SCRIPT
 
@@ -83,7 +83,7 @@ Prints what `replay` prints, computed with the policy's own tree of queues. It n
     zovatsemo direct examples/office/policy examples/office/capture examples/office/script
 ";
 
-/// The help of `via`.
+/// The help text of `via`.
 const VIA: &str = "\
 zovatsemo via POLICY TOPOLOGY MAP TARGET CAPTURE SCRIPT
 
@@ -93,7 +93,7 @@ schedule, it names two nodes that break it.
     zovatsemo via examples/office/policy examples/office/topology examples/office/map examples/office/target examples/office/capture examples/office/script
 ";
 
-/// The help of `soak`.
+/// The help text of `soak`.
 const SOAK: &str = "\
 zovatsemo soak SEED COUNT
 
@@ -103,12 +103,12 @@ the same on every machine for the same SEED and COUNT.
     zovatsemo soak 1 1000
 ";
 
-/// The help of all commands.
+/// Returns the help text of all commands.
 pub fn help_of_all() -> &'static str {
     HELP
 }
 
-/// The help of a command.
+/// Returns the help text of a command.
 pub fn help_of(command: Command) -> &'static str {
     match command {
         Command::Check => CHECK,

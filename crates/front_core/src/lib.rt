@@ -1,5 +1,5 @@
-//! What stands between a person and the replayer: command lines, a sink that keeps the line of a fault back, messages, and the
-//! one call. Begin with specs/Front.antt and specs/Catching.antt.
+//! The command line in front of the replayer: options, a sink that holds back the `fault` line,
+//! messages, and the entry points. Begin with specs/Front.antt and specs/Catching.antt.
 #![tactic(auto)]
 
 mod asked;

@@ -1,14 +1,14 @@
 //! Lines of a text, and words of a line.
 ghost use Rattle.std.specs.Prelude.{◌≤◌, length};
 
-/// How many bytes stand before the end of the first line.
+/// Returns the number of bytes before the end of the first line.
 fn line_length(bytes: &[u8]) -> usize
     ensures { result ≤ length bytes.now }
 {
     bytes.iter().take_while(|byte| **byte != b'\n').count()
 }
 
-/// How many blanks the bytes begin with.
+/// Returns the number of blanks (spaces and tabs) at the start of the bytes.
 pub fn blanks(bytes: &[u8]) -> usize
     ensures { result ≤ length bytes.now }
 {
@@ -18,7 +18,7 @@ pub fn blanks(bytes: &[u8]) -> usize
         .count()
 }
 
-/// How many bytes stand before a blank or a comment.
+/// Returns the number of bytes before a blank, a carriage return or a comment.
 fn word_length(bytes: &[u8]) -> usize
     ensures { result ≤ length bytes.now }
 {
@@ -28,7 +28,7 @@ fn word_length(bytes: &[u8]) -> usize
         .count()
 }
 
-/// How many bytes of a line can be shown: printable ones, and tabs.
+/// Returns how many bytes at the start of a line can be shown: printable ASCII and tabs.
 pub fn clean_length(line: &[u8]) -> usize
     ensures { result ≤ length line.now }
 {
@@ -37,13 +37,13 @@ pub fn clean_length(line: &[u8]) -> usize
         .count()
 }
 
-/// The first word of a line, and what follows it.
+/// Returns the first word of a line, and the bytes after it.
 pub fn first_word(line: &[u8]) -> (&[u8], &[u8]) {
     let begun = &line[blanks(line)..];
     begun.split_at(word_length(begun))
 }
 
-/// A line without its end, and the bytes that follow, if the line ends before the text does.
+/// Returns the first line without its line end, and the bytes after the line end, if there is one.
 fn cut_line(text: &[u8]) -> (&[u8], Option<&[u8]>) {
     let (line, after) = text.split_at(line_length(text));
     match after {
@@ -52,7 +52,7 @@ fn cut_line(text: &[u8]) -> (&[u8], Option<&[u8]>) {
     }
 }
 
-/// The line of this number, counted from 1, without its end.
+/// Returns the line with this number, counted from 1, without its line end.
 pub fn line_at(text: &[u8], number: u64) -> Option<&[u8]> {
     let mut rest = text;
     for _ in 1..number {
@@ -61,7 +61,7 @@ pub fn line_at(text: &[u8], number: u64) -> Option<&[u8]> {
     Some(cut_line(rest).0)
 }
 
-/// Whether a line of a policy declares a node or leaf that is named `root`.
+/// Returns whether a line of a policy declares a node or leaf named `root`.
 fn declares_root(line: &[u8]) -> bool {
     let (word, after) = first_word(line);
     let (name, _) = first_word(after);
@@ -71,7 +71,7 @@ fn declares_root(line: &[u8]) -> bool {
     }
 }
 
-/// Whether a policy has a node or leaf that is named `root`.
+/// Returns whether a policy declares a node or leaf named `root`.
 pub fn has_root(text: &[u8]) -> bool {
     let mut rest = text;
     for _ in 0..text.len() {

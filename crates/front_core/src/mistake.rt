@@ -1,11 +1,11 @@
-//! What is wrong with a command line.
+//! Mistakes in a command line.
 use front_defs::{Command, RateFault};
 use std::alloc::{AllocError, AllocFailed};
 
-/// What is wrong with a command line.
+/// A mistake in a command line.
 #[derive(Clone, Copy, PartialEq, Eq, Debug)]
 pub enum Mistake<'a> {
-    /// There is no command.
+    /// No command is given.
     NoCommand,
     /// There is no command of this name.
     UnknownCommand(&'a str),
@@ -13,21 +13,21 @@ pub enum Mistake<'a> {
     UnknownOption(&'a str),
     /// This option needs a value.
     NoValue(&'a str),
-    /// This option needs a value, and a word that begins with `-` follows it.
+    /// This option needs a value, and an argument that begins with `-` follows it.
     OptionForValue(&'a str, &'a str),
     /// The value of this option is empty.
     EmptyValue(&'a str),
     /// This output is a second one.
     OutputTwice(&'a str),
-    /// The argument of this number, counted from 0, is missing.
+    /// The argument with this index, counted from 0, is missing.
     Missing(Command, usize),
-    /// The argument of this number is empty.
+    /// The argument with this index, counted from 0, is empty.
     Empty(Command, usize),
-    /// There is no name of a tap after the word `tap`.
+    /// No name of a tap follows the argument `tap`.
     NoTapName,
     /// This argument is one too many.
     Unexpected(Command, &'a str),
-    /// The argument is no rate.
+    /// The argument is not a rate.
     NoRate(Command, &'a str, RateFault),
     /// There is no tap of this name.
     UnknownTap(&'a str),
@@ -35,11 +35,11 @@ pub enum Mistake<'a> {
     TapTwice(&'a str),
     /// This command has no taps.
     NoTaps(Command),
-    /// The argument of this number is no whole number that is at most another.
+    /// The argument with this index, counted from 0, is not a whole number up to this limit.
     NoNumber(usize, &'a str, u64),
-    /// The output would be written over this input.
+    /// The output would overwrite this input.
     OverInput(&'a str),
-    /// There is no memory.
+    /// Out of memory.
     NoMemory,
 }
 

@@ -1,4 +1,4 @@
-//! Messages for mistakes of the command line.
+//! Messages for mistakes in the command line.
 ghost use Rattle.std.specs.Prelude.{◌≤◌, length};
 
 use crate::mistake::Mistake;
@@ -8,10 +8,10 @@ use crate::say::{say, say_around, say_names, say_short, say_thousands};
 use front_defs::{Command, RateFault};
 use std::alloc::{AllocError, Global};
 
-/// What is said of a rate that is too small or too great.
+/// The message for a rate that is too small or too great.
 const OUT_OF_RANGE: &str = "it isn't from 1 to 1,000,000,000,000 bytes a second";
 
-/// How many digits the bytes begin with.
+/// Returns the number of digits at the start of the bytes.
 fn digits(bytes: &[u8]) -> usize
     ensures { result ≤ length bytes.now }
 {
@@ -21,7 +21,7 @@ fn digits(bytes: &[u8]) -> usize
         .count()
 }
 
-/// Why a word has no number that can be read.
+/// Returns why no number can be read from an argument.
 fn number_reason(word: &[u8]) -> &'static str {
     let (whole, rest) = word.split_at(digits(word));
     match rest {
@@ -33,7 +33,7 @@ fn number_reason(word: &[u8]) -> &'static str {
     }
 }
 
-/// Whether a word begins with a digit or a point.
+/// Returns whether an argument begins with a digit or a point.
 fn begins_number(word: &[u8]) -> bool {
     match word {
         [first, ..] => first.is_ascii_digit() || *first == b'.',
@@ -41,7 +41,7 @@ fn begins_number(word: &[u8]) -> bool {
     }
 }
 
-/// Why a word is no rate.
+/// Returns why an argument is not a rate.
 fn rate_reason(word: &[u8], fault: RateFault) -> &'static str {
     match fault {
         RateFault::NoNumber => number_reason(word),
@@ -53,7 +53,7 @@ fn rate_reason(word: &[u8], fault: RateFault) -> &'static str {
     }
 }
 
-/// Says which of the names a word may mean, or all of them.
+/// Appends the name that an argument probably means, or all the names.
 fn say_near(
     alloc: Global,
     into: &mut Vec<u8>,
@@ -69,7 +69,7 @@ fn say_near(
     }
 }
 
-/// Says that a word is none of some names.
+/// Appends that an argument is none of these names.
 fn say_unknown(
     alloc: Global,
     into: &mut Vec<u8>,
@@ -82,7 +82,7 @@ fn say_unknown(
     say_near(alloc, into, word, names)
 }
 
-/// Says which whole number was expected.
+/// Appends which whole number was expected.
 fn say_no_number(
     alloc: Global,
     into: &mut Vec<u8>,
@@ -97,7 +97,7 @@ fn say_no_number(
     say_short(into, word)
 }
 
-/// What is said before and after the word that a mistake names.
+/// Returns the argument that a mistake names, with the text before and after it.
 fn parts_of<'a>(mistake: Mistake<'a>) -> (&'static str, &'a str, &'static str) {
     match mistake {
         Mistake::NoValue(word) => ("expected a value after ", word, ", found none"),
@@ -130,7 +130,7 @@ fn parts_of<'a>(mistake: Mistake<'a>) -> (&'static str, &'a str, &'static str) {
     }
 }
 
-/// Says what is wrong.
+/// Appends a description of the mistake.
 fn say_mistake(alloc: Global, into: &mut Vec<u8>, mistake: Mistake<'_>) -> Result<(), AllocError> {
     match mistake {
         Mistake::NoCommand => {
@@ -159,7 +159,7 @@ fn say_mistake(alloc: Global, into: &mut Vec<u8>, mistake: Mistake<'_>) -> Resul
     }
 }
 
-/// The command whose form helps.
+/// Returns the command whose form the message shows.
 fn command_in(mistake: Mistake<'_>) -> Option<Command> {
     match mistake {
         Mistake::Missing(command, _) | Mistake::Unexpected(command, _) | Mistake::NoTaps(command) =>
@@ -171,7 +171,7 @@ fn command_in(mistake: Mistake<'_>) -> Option<Command> {
     }
 }
 
-/// What more is said of a mistake.
+/// Returns a further line of the message for a mistake, or an empty text.
 fn more_of(mistake: Mistake<'_>) -> &'static str {
     match mistake {
         Mistake::NoRate(_, _, _) => {
@@ -184,7 +184,7 @@ fn more_of(mistake: Mistake<'_>) -> &'static str {
     }
 }
 
-/// The message for a mistake of the command line.
+/// Returns the message for a mistake in the command line. Fails if out of memory.
 pub fn tell_mistake(alloc: Global, mistake: Mistake<'_>) -> Result<Vec<u8>, AllocError> {
     let mut text = Vec::new(alloc);
     say(&mut text, "zovatsemo: error: ")?;

@@ -1,12 +1,12 @@
-//! The names of commands, of their arguments, and of taps.
+//! The names of commands, of their arguments, of options and of taps.
 use front_defs::Command;
 
-/// The commands.
+/// The names of the commands.
 pub const COMMANDS: [&str; 8] = [
     "check", "plan", "replay", "link", "forward", "direct", "via", "soak",
 ];
 
-/// The options.
+/// The names of the options.
 pub const OPTIONS: [&str; 6] = [
     "--help",
     "--output",
@@ -16,10 +16,10 @@ pub const OPTIONS: [&str; 6] = [
     "--version",
 ];
 
-/// The kinds of taps.
+/// The names of the taps.
 pub const TAPS: [&str; 4] = ["bytes", "order", "first", "drops"];
 
-/// The command of this name.
+/// Returns the command with this name.
 pub fn command_named(word: &str) -> Option<Command> {
     Some(match word {
         "check" => Command::Check,
@@ -34,7 +34,7 @@ pub fn command_named(word: &str) -> Option<Command> {
     })
 }
 
-/// The command's form, as the first line of its help has it.
+/// Returns the command's form, as in the first line of its help.
 pub fn form_of(command: Command) -> &'static str {
     match command {
         Command::Check => "check POLICY",
@@ -48,7 +48,7 @@ pub fn form_of(command: Command) -> &'static str {
     }
 }
 
-/// How many arguments a command has.
+/// Returns the number of arguments of a command.
 pub fn count_of(command: Command) -> usize {
     match command {
         Command::Check => 1,
@@ -59,7 +59,7 @@ pub fn count_of(command: Command) -> usize {
     }
 }
 
-/// The name of a command's argument, counted from 0.
+/// Returns the name of a command's argument. `place` is its index, counted from 0.
 pub fn argument_of(command: Command, place: usize) -> &'static str {
     match (command, place) {
         (Command::Soak, 0) => "SEED",

@@ -1,14 +1,15 @@
-//! Names that are like another.
+//! Names that are similar to a word.
 use std::alloc::{AllocError, Global};
 use strsim::levenshtein;
 
-/// How many edits lead to a name that is like another one at most.
+/// The most edits between a word and a similar name.
 const MOST_EDITS: usize = 2;
 
-/// A longer word is like no name.
+/// The most bytes of a word for which similar names are searched.
 const MOST_BYTES: usize = 64;
 
-/// The first of the names that takes the fewest edits, if these are few.
+/// Returns the first of the names with the fewest edits, if at most `MOST_EDITS` are needed. Fails
+/// if out of memory.
 pub fn nearest(
     alloc: Global,
     word: &str,

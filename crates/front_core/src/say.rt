@@ -1,16 +1,16 @@
-//! Texts put together.
+//! Building message texts.
 use std::alloc::{AllocError, Global};
 use text_core::put_decimal;
 
-/// Appends a text.
+/// Appends a text. Fails if out of memory.
 pub fn say(into: &mut Vec<u8>, text: &str) -> Result<(), AllocError> {
     into.extend_from_slice(text.as_bytes())
 }
 
-/// The most bytes of a word that a message repeats.
+/// The most bytes of an argument that a message repeats.
 const MOST_SHOWN: usize = 160;
 
-/// Appends a word, cut after so many bytes that a message stays short.
+/// Appends an argument, cut after `MOST_SHOWN` bytes to keep the message short.
 pub fn say_short(into: &mut Vec<u8>, word: &str) -> Result<(), AllocError> {
     let bytes = word.as_bytes();
     let shown = bytes.len().min(MOST_SHOWN);
@@ -18,7 +18,7 @@ pub fn say_short(into: &mut Vec<u8>, word: &str) -> Result<(), AllocError> {
     say(into, if shown < bytes.len() { ".." } else { "" })
 }
 
-/// Appends a text with one before it and one after it.
+/// Appends a text between two others.
 pub fn say_around(
     into: &mut Vec<u8>,
     before: &str,
@@ -30,12 +30,12 @@ pub fn say_around(
     say(into, after)
 }
 
-/// Appends a number.
+/// Appends a number in decimal.
 pub fn say_number(into: &mut Vec<u8>, number: u64) -> Result<(), AllocError> {
     put_decimal(into, u128::from(number))
 }
 
-/// Appends a number with its thousands separated.
+/// Appends a number in decimal, with commas between its thousands.
 pub fn say_thousands(alloc: Global, into: &mut Vec<u8>, number: u64) -> Result<(), AllocError> {
     let mut digits = Vec::new(alloc);
     put_decimal(&mut digits, u128::from(number))?;

@@ -1,8 +1,8 @@
-//! The words of a command line, told apart: arguments and options.
+//! Separates a command line into arguments and options.
 use crate::mistake::Mistake;
 use std::alloc::Global;
 
-/// What the words of a command line are.
+/// The arguments and options of a command line.
 #[derive(Drop)]
 pub struct Scan<'a> {
     pub arguments: Vec<&'a str>,
@@ -15,12 +15,13 @@ pub struct Scan<'a> {
     pub ended: bool,
 }
 
-/// What follows a prefix of a word, if the word has it.
+/// Returns the rest of `word` after the prefix `name`, or none if it has no such prefix.
 fn value_in<'a>(word: &'a str, name: &str) -> Option<&'a str> {
     word.strip_prefix(name)
 }
 
-/// The next word as the value of an option. A value that begins with `-` has to be joined to its option.
+/// Returns the next argument as the value of an option. A value that begins with `-` has to be
+/// joined to its option.
 fn value_after<'a>(option: &'a str, next: Option<&'a str>) -> Result<&'a str, Mistake<'a>> {
     match next {
         Some(value) if value.starts_with('-') => Err(Mistake::OptionForValue(option, value)),
@@ -43,7 +44,7 @@ impl<'a> Scan<'a> {
         }
     }
 
-    /// Takes an argument. The name `-` is standard input.
+    /// Adds an argument. The name `-` means standard input.
     fn argument(&mut self, word: &'a str) -> Result<(), Mistake<'a>> {
         self.arguments.push(if word == "-" && !self.ended {
             "/dev/stdin"
@@ -53,7 +54,7 @@ impl<'a> Scan<'a> {
         Ok(())
     }
 
-    /// Takes the value of an option.
+    /// Sets the value of an option.
     fn value(&mut self, option: &'a str, value: &'a str) -> Result<(), Mistake<'a>> {
         if value.is_empty() {
             return Err(Mistake::EmptyValue(option));
@@ -66,7 +67,7 @@ impl<'a> Scan<'a> {
         Ok(())
     }
 
-    /// Takes the value of a short option, and answers whether that is the next word.
+    /// Sets the value of a short option. Returns whether the value is the next argument.
     fn short_value(
         &mut self,
         option: &'a str,
@@ -81,7 +82,7 @@ impl<'a> Scan<'a> {
         Ok(true)
     }
 
-    /// Takes a short option without a value from the front of some, and answers what follows it.
+    /// Sets the first of some short options, if it takes no value. Returns the letters after it.
     fn letter(&mut self, letters: &'a str) -> Option<&'a str> {
         if let Some(more) = value_in(letters, "h") {
             self.help = true;
@@ -96,7 +97,7 @@ impl<'a> Scan<'a> {
         Some(more)
     }
 
-    /// Takes a word of short options, and answers whether the next word is a value.
+    /// Sets the short options of one argument. Returns whether the next argument is a value.
     fn short(&mut self, word: &'a str, next: Option<&'a str>) -> Result<bool, Mistake<'a>> {
         let Some(mut letters) = value_in(word, "-") else {
             return Err(Mistake::UnknownOption(word));
@@ -119,7 +120,7 @@ impl<'a> Scan<'a> {
         Ok(false)
     }
 
-    /// Takes a long option without a value, and answers whether it is one.
+    /// Sets a long option without a value. Returns whether it is such an option.
     fn switch(&mut self, word: &str) -> bool {
         match word {
             "--" => self.ended = true,
@@ -132,7 +133,7 @@ impl<'a> Scan<'a> {
         true
     }
 
-    /// Takes a long option with a value, and answers whether that is the next word.
+    /// Sets a long option with a value. Returns whether the value is the next argument.
     fn long(&mut self, word: &'a str, next: Option<&'a str>) -> Result<bool, Mistake<'a>> {
         if word == "--tap" || word == "--output" {
             self.value(word, value_after(word, next)?)?;
@@ -148,7 +149,7 @@ impl<'a> Scan<'a> {
         Ok(false)
     }
 
-    /// Takes a word, and answers whether the next one is its value.
+    /// Adds an argument or sets an option. Returns whether the next argument is its value.
     fn take(&mut self, word: &'a str, next: Option<&'a str>) -> Result<bool, Mistake<'a>> {
         if self.ended || word == "-" || !word.starts_with('-') {
             self.argument(word)?;
@@ -164,7 +165,8 @@ impl<'a> Scan<'a> {
     }
 }
 
-/// Tells the words of a command line apart.
+/// Separates the arguments of a command line into arguments and options. Fails with the first
+/// mistake.
 pub fn tell_apart<'a>(alloc: Global, words: &'a [String]) -> Result<Scan<'a>, Mistake<'a>> {
     let mut found = Scan::new(alloc);
     let mut is_value = false;

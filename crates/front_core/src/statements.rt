@@ -1,7 +1,7 @@
 //! The forms of statements.
 use report_core::FaultKind;
 
-/// The words that statements of a policy begin with.
+/// The first words of a policy's statements.
 pub const STATEMENTS: [&str; 9] = [
     "policy",
     "transaction",
@@ -14,7 +14,7 @@ pub const STATEMENTS: [&str; 9] = [
     "node",
 ];
 
-/// The form of the statement of a policy that begins with a word.
+/// Returns the form of a policy's statement with this first word.
 fn policy_form(word: &[u8]) -> Option<&'static str> {
     Some(match word {
         b"policy" => "policy 1, or policy 2",
@@ -34,7 +34,7 @@ fn policy_form(word: &[u8]) -> Option<&'static str> {
     })
 }
 
-/// The form of a statement that begins with a word, in a text of this kind.
+/// Returns the form of a statement with this first word, in a text of this kind.
 pub fn statement_form(kind: FaultKind, word: &[u8]) -> Option<&'static str> {
     match kind {
         FaultKind::Policy => policy_form(word),

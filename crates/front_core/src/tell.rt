@@ -1,4 +1,4 @@
-//! Messages for faults of files.
+//! Messages for errors in files.
 ghost use Rattle.std.specs.Prelude.{◌≤◌, length};
 
 use crate::captures::capture_kind;
@@ -14,25 +14,25 @@ use report_core::FaultKind;
 use std::alloc::{AllocError, Global};
 use std::str;
 
-/// The code of a byte that no statement has.
+/// The code for a byte that no statement has.
 const BAD_BYTE: u64 = 22;
 
-/// The code of a line in no form.
+/// The code for a line that does not parse.
 const BAD_FORM: u64 = 23;
 
-/// The code of a node or leaf that isn't listed exactly once.
+/// The code for a node or leaf that isn't listed exactly once.
 const NOT_LISTED: u64 = 8;
 
-/// The code of a file that has too few bytes for the header of a capture.
+/// The code for a file with too few bytes for the header of a capture.
 const NO_HEADER: u64 = 1;
 
-/// The code of a file that is no capture.
+/// The code for a file that is not a capture.
 const NO_CAPTURE: u64 = 2;
 
-/// The most bytes of a line that are shown.
+/// The most bytes of a line that a message shows.
 const MOST_SHOWN: usize = 160;
 
-/// The place in a line at which it is at fault, counted from 0.
+/// Returns the position of an error in its line, in bytes from 0.
 fn column_of(fault: Fault, line: &[u8]) -> usize
     ensures { result ≤ length line.now }
 {
@@ -43,7 +43,8 @@ fn column_of(fault: Fault, line: &[u8]) -> usize
     }
 }
 
-/// Where the part begins that is shown of a line, of which so many bytes can be shown.
+/// Returns the start of the part of a line that is shown, if `count` bytes of the line can be
+/// shown.
 fn shown_from(count: usize, column: usize) -> usize
     requires { column ≤ count }
     ensures { result ≤ column }
@@ -57,12 +58,13 @@ fn shown_from(count: usize, column: usize) -> usize
     }
 }
 
-/// Appends a mark at an end at which a line is cut.
+/// Appends a mark if a line is cut at this end.
 fn say_cut(into: &mut Vec<u8>, is_cut: bool, mark: &str) -> Result<(), AllocError> {
     if is_cut { say(into, mark) } else { Ok(()) }
 }
 
-/// Appends a line as far as it can be shown, and a caret below a place in it. A long line is cut around that place.
+/// Appends a line as far as it can be shown, and a caret below `column`. A long line is cut around
+/// that column.
 fn say_line(into: &mut Vec<u8>, line: &[u8], column: usize) -> Result<(), AllocError> {
     let count = clean_length(line);
     if count == 0 {
@@ -83,7 +85,7 @@ fn say_line(into: &mut Vec<u8>, line: &[u8], column: usize) -> Result<(), AllocE
     say(into, "^\n")
 }
 
-/// Says which encoding a text is in, if its first bytes say so.
+/// Returns a message on the encoding of a text, if its first bytes indicate a wrong one.
 fn encoding_of(text: &[u8]) -> Option<&'static str> {
     match text {
         [0xef, 0xbb, 0xbf, ..] => Some(
@@ -96,7 +98,8 @@ fn encoding_of(text: &[u8]) -> Option<&'static str> {
     }
 }
 
-/// Says what the statement could be whose first word is none.
+/// Appends a message on a first word that begins no statement, with the name that it probably
+/// means.
 fn say_word(alloc: Global, into: &mut Vec<u8>, word: &[u8]) -> Result<(), AllocError> {
     let Ok(word) = str::from_utf8(word) else {
         return Ok(());
@@ -115,7 +118,7 @@ fn say_word(alloc: Global, into: &mut Vec<u8>, word: &[u8]) -> Result<(), AllocE
     }
 }
 
-/// Appends the form of the statement of a line.
+/// Appends the form of the statement in a line.
 fn say_form(
     alloc: Global,
     into: &mut Vec<u8>,
@@ -132,7 +135,7 @@ fn say_form(
     }
 }
 
-/// Appends what a cause is, with the line that it is in.
+/// Appends the description of an error, with the line that it is in.
 fn say_at_line(
     alloc: Global,
     into: &mut Vec<u8>,
@@ -149,7 +152,7 @@ fn say_at_line(
     say_form(alloc, into, fault, line)
 }
 
-/// The line that a fault is in, if its place is one.
+/// Returns the line that an error is in, if its position is a line number.
 fn line_of(fault: Fault, text: &[u8]) -> Option<&[u8]> {
     if fault.place == 0 {
         None
@@ -158,7 +161,7 @@ fn line_of(fault: Fault, text: &[u8]) -> Option<&[u8]> {
     }
 }
 
-/// Appends what a cause is, with the line that it is in, if that is known.
+/// Appends the description of an error, with the line that it is in, if the text is known.
 fn say_in_text(
     alloc: Global,
     into: &mut Vec<u8>,
@@ -177,7 +180,7 @@ fn say_in_text(
     say_around(into, " error: ", cause.is, "\n")
 }
 
-/// What a file is that is no capture, by its first bytes, if they are known.
+/// Returns the type of a file that is not a capture, from its first bytes, if they are known.
 fn kind_of(fault: Fault, front: Option<&[u8]>) -> Option<&'static str> {
     match (fault.kind, fault.code, front) {
         (FaultKind::Capture, NO_HEADER, Some([])) => Some("an empty file"),
@@ -188,7 +191,7 @@ fn kind_of(fault: Fault, front: Option<&[u8]>) -> Option<&'static str> {
     }
 }
 
-/// How a fault is mended in a file that begins so.
+/// Returns how to correct an error in a file with these first bytes.
 fn help_for(fault: Fault, cause: Cause, front: Option<&[u8]>) -> &'static str {
     match (fault.kind, fault.code, front) {
         (FaultKind::Capture, NO_HEADER | NO_CAPTURE, Some(front)) => capture_kind(front).1,
@@ -196,7 +199,8 @@ fn help_for(fault: Fault, cause: Cause, front: Option<&[u8]>) -> &'static str {
     }
 }
 
-/// Appends what a cause is, and the number of the packet, the block or the event that it is in.
+/// Appends the description of an error, and the number of the packet, block, event or node that it
+/// is in.
 fn say_at_place(
     alloc: Global,
     into: &mut Vec<u8>,
@@ -222,7 +226,7 @@ fn say_at_place(
     say(into, "\n")
 }
 
-/// Appends what the whole text says of a fault: its encoding, or that no node is named `root`.
+/// Appends hints from the whole text: a wrong encoding, or that no node or leaf is named `root`.
 fn say_of_whole(into: &mut Vec<u8>, fault: Fault, text: &[u8]) -> Result<(), AllocError> {
     if !is_text(fault.kind) {
         return Ok(());
@@ -236,14 +240,14 @@ fn say_of_whole(into: &mut Vec<u8>, fault: Fault, text: &[u8]) -> Result<(), All
     Ok(())
 }
 
-/// Whether the place of a fault is a line of its file.
+/// Returns whether the position of an error is a line number of its file.
 fn is_at_line(fault: Fault) -> bool {
     let is_event = fault.kind == FaultKind::Script && fault.code == 3;
     let is_node = fault.kind == FaultKind::Map && (fault.code == 5 || fault.code == 9);
     is_text(fault.kind) && !is_event && !is_node
 }
 
-/// Appends what a cause is, with the place that it is at.
+/// Appends the description of an error, with its position.
 fn say_cause(
     alloc: Global,
     into: &mut Vec<u8>,
@@ -258,7 +262,8 @@ fn say_cause(
     }
 }
 
-/// The message for a fault in a file of this name, whose content begins so, if it is known.
+/// Returns the message for an error in the file of this name. `content` holds the start of the
+/// file, if it is known. Fails if out of memory.
 pub fn tell_fault(
     alloc: Global,
     fault: Fault,
@@ -276,7 +281,7 @@ pub fn tell_fault(
     Ok(text)
 }
 
-/// What a status means that comes without the line of a fault.
+/// Describes an exit status that comes without a `fault` line, and says what to do.
 fn status_text(status: u8) -> (&'static str, &'static str) {
     match status {
         7 => (
@@ -303,7 +308,8 @@ fn status_text(status: u8) -> (&'static str, &'static str) {
     }
 }
 
-/// The message for a status that comes without the line of a fault.
+/// Returns the message for an exit status that comes without a `fault` line. Fails if out of
+/// memory.
 pub fn tell_status(alloc: Global, command: Command, status: u8) -> Result<Vec<u8>, AllocError> {
     let (is, help) = status_text(status);
     let mut text = Vec::new(alloc);

@@ -1,11 +1,11 @@
--- What a command line means: the words of the replayer that its options give.
+-- The meaning of a command line: the replayer's arguments that its options give.
 use Rattle.std.specs.Prelude.{◌≡◌, refl, ℕ, Option, None, Some, List, [], ◌∷◌, ◌++◌, map, codes, decimal}
 use Rattle.std.specs.Borrow.{Bor}
 use Rattle.front_defs.specs.declared.command.Command.{Command}
 use Rattle.front_defs.specs.declared.command.Command.TheVariants as c
 use Rattle.front_defs.specs.declared.options.Options.{Options}
 
--- the word of a command
+-- the name of a command, as an argument
 abbrev pub command_word : Command → List ℕ
 command_word c.Check = codes "check"
 command_word c.Plan = codes "plan"
@@ -16,17 +16,17 @@ command_word c.Direct = codes "direct"
 command_word c.Via = codes "via"
 command_word c.Soak = codes "soak"
 
--- a rate in bytes a second, in decimal, where there is one
+-- the argument of a rate in bytes per second, in decimal, if there is a rate
 abbrev pub rate_words : Option ℕ → List (List ℕ)
 rate_words None = []
 rate_words (Some rate) = decimal rate ∷ []
 
--- a pair of words for each tap
+-- a pair of arguments for each tap
 abbrev pub tap_words : List (List ℕ) → List (List ℕ)
 tap_words [] = []
 tap_words (tap ∷ taps) = codes "tap" ∷ tap ∷ tap_words taps
 
--- the words of a command, of its files, a rate and taps, in this order
+-- the arguments of a command, its files, a rate and taps, in this order
 abbrev pub words_by : Command → List (List ℕ) → Option ℕ → List (List ℕ) → List (List ℕ)
 words_by command files rate taps = command_word command ∷ (files ++ rate_words rate ++ tap_words taps)
 
@@ -34,7 +34,7 @@ words_by command files rate taps = command_word command ∷ (files ++ rate_words
 abbrev pub names : List (Bor (List ℕ)) → List (List ℕ)
 names list = map (λ name. name.now) list
 
--- the words of the replayer that options give
+-- the replayer's arguments that options give
 abbrev pub words_of : Options → List (List ℕ)
 words_of o = words_by o.command (names o.files.items) o.rate (names o.taps.items)
 

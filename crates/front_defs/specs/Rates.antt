@@ -1,4 +1,4 @@
--- Rates as people write them: a number with a unit, and the bytes a second that it says exactly.
+-- Rates with units: a number with a unit, and the exact number of bytes per second that it gives.
 use Rattle.std.specs.Prelude.{◌≡◌, refl, ℕ, ◌+◌, ◌*◌, ◌^◌, ◌/◌, ◌%◌, ◌==◌, nat_le, ◌&&◌, ◌||◌, if◌then◌else◌, Option, None, Some, option_map, Result, Ok, Err, List, [], ◌∷◌, length, take, drop, map, codes}
 use Rattle.std.specs.List.{prefix_len}
 use Rattle.std.specs.Option.{option_map_or}
@@ -15,7 +15,7 @@ use Rattle.front_defs.specs.declared.rate.RateFault.TheVariants as f
 abbrev pub parts_of : List ℕ → Option ℕ
 parts_of name = if bytes_eq name (codes "B") then Some 1 else (if bytes_eq name (codes "bit") then Some 8 else None)
 
--- a thousand, a million and so on: k, M, G and T, large or small
+-- the factors 10^3, 10^6, 10^9 and 10^12 of the letters k, M, G and T, in either case
 abbrev pub scale_of : ℕ → Option ℕ
 scale_of letter =
     if letter == 107 || letter == 75 then Some (10 ^ 3)
@@ -26,27 +26,28 @@ scale_of letter =
 abbrev pub scaled : ℕ → Option ℕ → Option Unit
 scaled scale parts = option_map (λ p. record { scale = scale; parts = p }) parts
 
--- a unit of a second: bytes where none is written, and else `B` or `bit` behind a letter for its scale, if one is written
+-- the unit of this name: bytes if the name is empty, otherwise `B` or `bit`, with or without a
+-- letter for its scale before it
 abbrev pub unit_of : List ℕ → Option Unit
 unit_of [] = Some (record { scale = 1; parts = 1 })
 unit_of (letter ∷ base) = option_map_or (λ scale. scaled scale (parts_of base)) (scale_of letter) (scaled 1 (parts_of (letter ∷ base)))
 
 -- ---- numbers
--- the digits that the bytes begin with
+-- the digits at the start of the bytes
 abbrev pub digits : List ℕ → List ℕ
 digits w = take (prefix_len is_digit w) w
 
--- what is behind them
+-- the bytes after those digits
 abbrev pub past_digits : List ℕ → List ℕ
 past_digits w = drop (prefix_len is_digit w) w
 
--- digits, and those behind a point
+-- the digits of a number, its digits after a point, and its unit
 pub record Written : Type 0 where
   pub whole : List ℕ
   pub part : List ℕ
   pub unit : List ℕ
 
--- a part of a whole is written behind a point
+-- digits after a point, if there is a point
 abbrev pub written_behind : List ℕ → List ℕ → Written
 written_behind whole [] = record { whole = whole; part = codes "0"; unit = [] }
 written_behind whole (b ∷ bs) =
@@ -56,26 +57,26 @@ written_behind whole (b ∷ bs) =
 abbrev pub written : List ℕ → Written
 written w = written_behind (digits w) (past_digits w)
 
--- the greatest whole number, which bits need: eight for each byte of the greatest rate
+-- the greatest whole number, which is one in bits: eight for each byte of the greatest rate
 abbrev pub most_whole : ℕ
 most_whole = 8 * most_rate
 
--- the most digits behind a point
+-- the most digits after a point
 abbrev pub most_digits : ℕ
 most_digits = 12
 
 -- ---- rates
--- so many parts of a unit, where so many make a byte, in whole bytes
+-- `count` parts of a byte in bytes per second, where `parts` of them make a byte
 abbrev pub whole_bytes : ℕ → ℕ → Result ℕ RateFault
 whole_bytes count parts =
     if (count % parts) == 0 then (if nat_le 1 (count / parts) && nat_le (count / parts) most_rate then Ok (count / parts) else Err f.OutOfRange)
     else Err f.NotExact
 
--- a number of units, whose digits behind the point are so many
+-- a number of units in bytes per second; `places` is the number of digits after the point
 abbrev pub rate_by : ℕ → ℕ → ℕ → Unit → Result ℕ RateFault
 rate_by whole part places unit = whole_bytes ((whole * 10 ^ places + part) * unit.scale) (10 ^ places * unit.parts)
 
--- what the digits say of so many units
+-- the same from the numbers that the digits give, if they give any
 abbrev pub rate_of_digits : Option ℕ → Option ℕ → ℕ → Unit → Result ℕ RateFault
 rate_of_digits (Some whole) (Some part) places unit = if nat_le whole most_whole then rate_by whole part places unit else Err f.OutOfRange
 rate_of_digits (Some whole) None places unit = Err f.NoNumber
@@ -87,7 +88,7 @@ rate_written w =
     then option_map_or (rate_of_digits (number_of w.whole) (number_of w.part) (length w.part)) (unit_of w.unit) (Err f.NoUnit)
     else Err f.TooFine
 
--- the bytes a second that a word says, or why it says none
+-- the bytes per second that an argument gives, or why it is not a rate
 abbrev pub rate_in : List ℕ → Result ℕ RateFault
 rate_in w = rate_written (written w)
 

@@ -2,7 +2,7 @@
 ghost use Rattle.std.specs.Prelude.{◌≡◌};
 ghost use Rattle.front_defs.specs.Options.{command_word};
 
-/// A command.
+/// A command of the replayer.
 #[derive(Clone, Copy, PartialEq, Eq, Debug)]
 pub enum Command {
     Check,
@@ -16,7 +16,7 @@ pub enum Command {
 }
 
 impl Command {
-    /// The word of a command.
+    /// Returns the name of a command, as the replayer's first argument.
     pub fn word(self) -> &'static str
         ensures { result.now ≡ command_word self }
     {

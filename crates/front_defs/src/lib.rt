@@ -1,5 +1,5 @@
-//! What a command line means: options, the words of the replayer that they give, and rates as people write them. Begin with
-//! specs/Options.antt.
+//! The meaning of a command line: its options, the replayer's arguments that they give, and rates
+//! with units. Begin with specs/Options.antt.
 #![tactic(auto)]
 
 mod command;

@@ -1,4 +1,4 @@
-//! Options, and the words of the replayer that they give.
+//! Options, and the replayer's arguments that they give.
 ghost use Rattle.std.specs.Prelude.{◌≡◌, ◌++◌, ◌∷◌, [], IfOk, OnOk, map, string_bytes};
 ghost use Rattle.front_defs.specs.Options.{names, tap_words, rate_words, words_of};
 
@@ -6,21 +6,22 @@ use crate::command::Command;
 use itoa::Buffer;
 use std::alloc::{AllocError, Global};
 
-/// What a command line asks for.
+/// The options of a command line.
 #[derive(Drop)]
 pub struct Options<'a> {
     pub command: Command,
-    /// The names of the command's files in their order; of `soak` its two numbers.
+    /// The command's file names in their order; for `soak`, its two numbers.
     pub files: Vec<&'a str>,
-    /// The rate of a link, in bytes a second.
+    /// The rate of a link, in bytes per second.
     pub rate: Option<u64>,
     /// The names of taps.
     pub taps: Vec<&'a str>,
-    /// Whether standard output has all that the replayer writes, with the line of a fault.
+    /// Whether standard output gets everything that the replayer writes, including its `fault`
+    /// line.
     pub plain: bool,
 }
 
-/// Appends a word.
+/// Appends an argument. Fails if out of memory.
 fn put(alloc: Global, words: &mut Vec<String>, word: &str) -> Result<(), AllocError>
     ensures { OnOk result (map string_bytes words.new.items ≡
         map string_bytes words.old.items ++ word.now ∷ []) }
@@ -29,7 +30,7 @@ fn put(alloc: Global, words: &mut Vec<String>, word: &str) -> Result<(), AllocEr
     Ok(())
 }
 
-/// Appends each of the names.
+/// Appends each of the names. Fails if out of memory.
 fn put_names(alloc: Global, words: &mut Vec<String>, list: &[&str]) -> Result<(), AllocError>
     ensures { OnOk result (map string_bytes words.new.items ≡
         map string_bytes words.old.items ++ names list.now) }
@@ -41,7 +42,7 @@ fn put_names(alloc: Global, words: &mut Vec<String>, list: &[&str]) -> Result<()
     put_names(alloc, words, more)
 }
 
-/// Appends a pair of words for each tap.
+/// Appends the arguments `tap NAME` for each tap. Fails if out of memory.
 fn put_taps(alloc: Global, words: &mut Vec<String>, taps: &[&str]) -> Result<(), AllocError>
     ensures { OnOk result (map string_bytes words.new.items ≡
         map string_bytes words.old.items ++ tap_words (names taps.now)) }
@@ -54,7 +55,7 @@ fn put_taps(alloc: Global, words: &mut Vec<String>, taps: &[&str]) -> Result<(),
     put_taps(alloc, words, more)
 }
 
-/// Appends the digits of a rate, if there is one.
+/// Appends the decimal digits of a rate, if there is one. Fails if out of memory.
 fn put_rate(alloc: Global, words: &mut Vec<String>, rate: Option<u64>) -> Result<(), AllocError>
     ensures { OnOk result (map string_bytes words.new.items ≡
         map string_bytes words.old.items ++ rate_words rate) }
@@ -66,7 +67,7 @@ fn put_rate(alloc: Global, words: &mut Vec<String>, rate: Option<u64>) -> Result
     put(alloc, words, digits.format(rate))
 }
 
-/// The words of the replayer that options give.
+/// Returns the replayer's arguments that the options give. Fails if out of memory.
 pub fn words_of(alloc: Global, options: &Options<'_>) -> Result<Vec<String>, AllocError>
     ensures { IfOk result (λ words. map string_bytes words.items ≡ words_of options.now) }
 {

@@ -1,4 +1,4 @@
-//! Rates as people write them.
+//! Rates with units, such as 10Mbit.
 ghost use Rattle.std.specs.Prelude.{◌≡◌, ◌+◌, ◌*◌, ◌^◌, ◌<◌, ◌≤◌, length, IfOk};
 ghost use Rattle.std.specs.List.{prefix_len};
 ghost use Rattle.text_core.specs.Tokens.{is_digit};
@@ -10,28 +10,28 @@ use crate::unit::{Unit, unit_of};
 use events_core::MOST_RATE;
 use text_core::decimal;
 
-/// Why a word says no rate.
+/// Why an argument is not a rate.
 #[derive(Clone, Copy, PartialEq, Eq, Debug)]
 pub enum RateFault {
-    /// It doesn't begin with a number, or the number ends at a point.
+    /// It doesn't begin with a number, or no digit follows the point.
     NoNumber,
-    /// What is behind the number is no unit.
+    /// The text after the number is not a unit.
     NoUnit,
-    /// More than twelve digits are behind the point.
+    /// More than twelve digits follow the point.
     TooFine,
-    /// It isn't a whole number of bytes a second.
+    /// It is not a whole number of bytes per second.
     NotExact,
-    /// It is less than a byte a second, or more than the greatest rate.
+    /// It is less than 1 byte per second, or more than the greatest rate.
     OutOfRange,
 }
 
-/// The greatest whole number of a rate.
+/// The greatest whole number in a rate.
 const MOST_WHOLE: u64 = 8 * MOST_RATE;
 
-/// The most digits behind a point.
+/// The most digits after a point.
 const MOST_DIGITS: usize = 12;
 
-/// How many digits the bytes begin with.
+/// Returns the number of digits at the start of the bytes.
 fn digits(bytes: &[u8]) -> usize
     ensures count { result ≡ prefix_len is_digit bytes.now }
     ensures within { result ≤ length bytes.now }
@@ -42,7 +42,8 @@ fn digits(bytes: &[u8]) -> usize
         .count()
 }
 
-/// So many parts of a unit, where so many make a byte, in whole bytes.
+/// Converts `count` parts of a byte to bytes per second, where `parts` of them make a byte. Fails
+/// if the result is not a whole number, or is out of range.
 fn whole_bytes(count: u128, parts: u128) -> Result<u64, RateFault>
     requires { 1 ≤ parts }
     ensures value { result ≡ whole_bytes count parts }
@@ -58,7 +59,8 @@ fn whole_bytes(count: u128, parts: u128) -> Result<u64, RateFault>
     Ok(rate as u64)
 }
 
-/// A number of units, whose digits behind the point are so many.
+/// Converts a number of units to bytes per second. `places` is the number of digits after the
+/// point.
 fn rate_by(whole: u64, part: u64, places: usize, unit: Unit) -> Result<u64, RateFault>
     requires whole { whole ≤ most_whole }
     requires places { places ≤ most_digits }
@@ -72,7 +74,7 @@ fn rate_by(whole: u64, part: u64, places: usize, unit: Unit) -> Result<u64, Rate
     whole_bytes(number * unit.scale as u128, power * unit.parts as u128)
 }
 
-/// The rate that the digits say in units.
+/// Converts the digits of a number of units to bytes per second.
 fn rate_of_digits(whole: &[u8], part: &[u8], unit: Unit) -> Result<u64, RateFault>
     requires places { length part.now ≤ most_digits }
     requires scale { (1 ≤ unit.scale) × (unit.scale ≤ 10 ^ 12) }
@@ -90,7 +92,7 @@ fn rate_of_digits(whole: &[u8], part: &[u8], unit: Unit) -> Result<u64, RateFaul
     rate_by(number, fraction, part.len(), unit)
 }
 
-/// The rate of digits, of digits behind a point, and of a unit's name.
+/// Converts digits, digits after a point, and the name of a unit to bytes per second.
 fn rate_written(whole: &[u8], part: &[u8], unit: &[u8]) -> Result<u64, RateFault>
     ensures value { result ≡ rate_written (record {
       whole = whole.now;
@@ -109,7 +111,7 @@ fn rate_written(whole: &[u8], part: &[u8], unit: &[u8]) -> Result<u64, RateFault
     rate_of_digits(whole, part, unit)
 }
 
-/// The bytes a second that a word says, exactly.
+/// Parses a rate and returns it in bytes per second, without rounding.
 pub fn rate_in(word: &[u8]) -> Result<u64, RateFault>
     ensures value { result ≡ rate_in word.now }
     ensures range { IfOk result IsRate }

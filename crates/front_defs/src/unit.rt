@@ -2,14 +2,14 @@
 ghost use Rattle.std.specs.Prelude.{◌≡◌, ◌≤◌, ◌^◌, IfSome};
 ghost use Rattle.front_defs.specs.Rates.{parts_of, scale_of, unit_of};
 
-/// A unit: how many bytes or parts of bytes it has, and how many parts make a byte.
+/// A unit: `scale` bytes or parts of a byte, where `parts` parts make a byte.
 #[derive(Clone, Copy, PartialEq, Eq, Debug)]
 pub struct Unit {
     pub scale: u64,
     pub parts: u64,
 }
 
-/// How many of these make a byte.
+/// Returns how many of these make a byte.
 fn parts_of(name: &[u8]) -> Option<u64>
     ensures value { result ≡ parts_of name.now }
     ensures range { IfSome result (λ n. (1 ≤ n) × (n ≤ 8)) }
@@ -21,7 +21,7 @@ fn parts_of(name: &[u8]) -> Option<u64>
     }
 }
 
-/// The scale that a letter says.
+/// Returns the factor of a letter.
 fn scale_of(letter: u8) -> Option<u64>
     ensures value { result ≡ scale_of letter }
     ensures range { IfSome result (λ n. (1 ≤ n) × (n ≤ 10 ^ 12)) }
@@ -35,7 +35,7 @@ fn scale_of(letter: u8) -> Option<u64>
     }
 }
 
-/// The unit that is written so.
+/// Parses the name of a unit. An empty name means bytes.
 pub fn unit_of(name: &[u8]) -> Option<Unit>
     ensures value { result ≡ unit_of name.now }
     ensures scale { IfSome result (λ u. (1 ≤ u.scale) × (u.scale ≤ 10 ^ 12)) }

@@ -1,4 +1,4 @@
--- Topologies that tests lay into targets.
+-- Topologies that tests embed into targets.
 use Rattle.tree_defs.specs.Tree.{leaf, inner, none, more}
 use Rattle.tree_defs.specs.Topology.{Topology}
 

@@ -1,4 +1,4 @@
-//! Test of the class of a packet, one by one.
+//! Test of the classification of single packets.
 use packet_core::{Fields, classify};
 use policy_core::Policy;
 use std::test::Fail;

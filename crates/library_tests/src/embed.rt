@@ -1,4 +1,4 @@
-//! A test of paths that are lifted along the canonical map, and picked back.
+//! A test that lifts paths along the canonical map, and picks them back.
 ghost use Rattle.std.specs.Prelude.{◌≡◌, ◌+◌, ◌≤◌, length, IfOk};
 ghost use Rattle.tree_defs.specs.Tree.{depth, LeadsToLeaf, SameShape};
 ghost use Rattle.target_defs.specs.Target.{IsInRange};
@@ -13,7 +13,7 @@ use std::alloc::{AllocError, Global};
 use std::test::Fail;
 use tree_core::{Path, Taken, Topo};
 
-/// The binary tree of height 3.
+/// Returns the binary tree of height 3.
 fn binary(alloc: Global) -> Result<Target, AllocError>
     ensures range { IfOk result (λ t. IsInRange t.arities t.above) }
     ensures three { IfOk result (λ t. length t.arities ≡ 3) }
@@ -30,7 +30,7 @@ fn two_leaves(alloc: Global) -> Result<Topo, AllocError>
     Ok(Topo::inner(vec![in alloc; Topo::leaf(), Topo::leaf()]?))
 }
 
-/// A leaf beside a node with two leaves.
+/// Returns a root with a leaf and a node with two leaves.
 fn leaf_beside_a_pair(alloc: Global) -> Result<Topo, AllocError>
     ensures { IfOk result (λ t. topology t ≡ leaf_beside_a_pair) }
 {
@@ -47,7 +47,8 @@ fn path(alloc: Global, steps: &[(u32, u64)], last: u64) -> Result<Path, AllocErr
     })
 }
 
-/// Whether a path is lifted to these digits and ranks; `taken` gets what is picked back from them.
+/// Returns whether a path is lifted to these digits and ranks. `taken` gets the path that is picked
+/// back from them.
 fn goes_to(
     alloc: Global,
     topo: &Topo,
@@ -96,7 +97,7 @@ fn paths_go_there_and_back(rt: HostRuntime) -> Result<(), Fail> {
     Ok(())
 }
 
-/// Whether what was taken on the way to a leaf is lifted to these digits and ranks.
+/// Returns whether a path recorded in `taken` is lifted to these digits and ranks.
 fn lifts_to(
     alloc: Global,
     topo: &Topo,

@@ -1,4 +1,4 @@
-//! Tests of public calls that no program makes.
+//! Tests of public calls that no program uses.
 #![tactic(auto)]
 
 mod block;

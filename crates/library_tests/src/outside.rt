@@ -10,14 +10,14 @@ use std::fmt::Display;
 use std::io;
 use std::test::Fail;
 
-/// One file, of five bytes.
+/// Returns one file of five bytes.
 fn files(alloc: Global) -> Result<Vec<(String, Vec<u8>)>, AllocError> {
     let name = String::from_str(alloc, "policy")?;
     let bytes = Vec::from_slice(alloc, b"hello")?;
     Ok(vec![in alloc; (name, bytes)]?)
 }
 
-/// Whether a load of at most nine bytes gives this text.
+/// Returns whether a load of at most nine bytes gives this text.
 fn loads<S: Shelf>(alloc: Global, shelf: &mut S, name: &str, text: &[u8]) -> bool
     requires lent { IsTrue (S.lends shelf.old name.now) }
 {
@@ -27,14 +27,15 @@ fn loads<S: Shelf>(alloc: Global, shelf: &mut S, name: &str, text: &[u8]) -> boo
     }
 }
 
-/// Whether a load of at most nine bytes fails.
+/// Returns whether a load of at most nine bytes fails.
 fn fails<S: Shelf>(alloc: Global, shelf: &mut S, name: &str) -> bool
     requires lent { IsTrue (S.lends shelf.old name.now) }
 {
     load(alloc, shelf, name, 9).err() == Some(LoadError::Failed)
 }
 
-/// A load in reads of three bytes is four calls: it begins the file, and reads three bytes, two bytes and none.
+/// A load with reads of three bytes makes four calls: one to begin the file, and reads of three
+/// bytes, two bytes and none.
 #[test]
 fn a_load_fails_where_a_call_of_its_shelf_fails(rt: HostRuntime) -> Result<(), Fail> {
     let alloc = rt.alloc();
@@ -57,8 +58,8 @@ fn a_plain_shelf_has_an_empty_file_under_another_name(rt: HostRuntime) -> Result
     Ok(())
 }
 
-/// Writes `hello` two bytes at a time, where the write of this number fails: whether all was written, and whether this is
-/// what the sink has.
+/// Writes `hello` two bytes at a time; the write with this number fails. Returns whether all was
+/// written, and whether the sink holds `prefix`.
 fn writes(alloc: Global, fail: u64, prefix: &str) -> Result<(bool, bool), AllocError> {
     let fails = vec![in alloc; fail]?;
     let mut sink = MemSink::new(alloc, 9, 2, fails)?;
@@ -88,7 +89,8 @@ fn a_plain_sink_keeps_the_first_bytes(rt: HostRuntime) -> Result<(), Fail> {
     Ok(())
 }
 
-/// A page in the place of standard output, which no test can read back. It takes three bytes at a time at most.
+/// A page in memory instead of standard output, which no test can read back. It takes at most three
+/// bytes at a time.
 #[derive(Drop)]
 struct Page {
     alloc: Global,

@@ -1,11 +1,11 @@
-//! Test of the sorted queue, beside the heap that programs use.
+//! Test of the sorted queue, next to the heap that programs use.
 ghost use Rattle.std.specs.Prelude.{◌≡◌};
 
 use pifo_core::{HeapPifo, Pifo, SortedPifo};
 use std::alloc::AllocError;
 use std::test::Fail;
 
-/// What leaves a new queue after three pushes, two of which tie.
+/// Returns the four pops of a new queue after three pushes, two of which tie.
 fn departures<P: Pifo>(queue: &mut P) -> Result<[Option<(u64, u64)>; 4], AllocError>
     requires new { P.pushes queue.old ≡ 0 }
 {

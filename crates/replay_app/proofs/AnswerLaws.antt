@@ -1,4 +1,4 @@
--- Contents that are told, and what is told of endings.
+-- Contents that are known to the contract, and the statuses of endings.
 use Rattle.std.proofs.Common.{◌≡◌, ◌<◌, ◌⊎◌, ℕ, Bool, Option, None, Some, List, [], ◌∷◌, map, refl, ap, ◌∙◌, arith, inl, inr}
 use Rattle.std.specs.Prelude.{IfSome, Result, Ok, Err, IfOk}
 use Rattle.outside_core.specs.Files.{KeepsFiles}
@@ -24,7 +24,7 @@ use Rattle.sched_run.specs.declared.pace.Pace.{Pace}
 use Rattle.sched_run.specs.declared.pace.Pace.TheVariants as pace
 use Rattle.replay_app.specs.Words.{AreTold, Pacing, script, link, forward}
 
--- a name that was told is told after others were read
+-- a content that was known is still known after other files were read
 pub told-later : {S : Type 0} (lends : S → List ℕ → Bool) (content : S → List ℕ → Option (List ℕ)) (old new : S) (contents : List ℕ → List ℕ) (names : List (List ℕ))
     → KeepsFiles lends content old new → AreTold (content old) contents names → AreTold (content new) contents names
 told-later lends content old new contents [] keeps told = tt
@@ -61,7 +61,7 @@ pace_ends (pace.Link rate) (Whole n) can = inr (inl refl)
 pace_ends (pace.Link rate) (BadCapture c p) can = inl refl
 pace_ends (pace.Link rate) (PastLast n) can = absurd can
 
--- a run that was begun ends with none of the statuses of a refusal
+-- a run that began doesn't end with the status of a rejected input
 pub no_refusal : (n : ℕ) → IsOneOf run_statuses n → IsRefusal n → ⊥
 no_refusal n (inl e) (inl r) = omega (arith, e, r.1)
 no_refusal n (inl e) (inr r) = omega (arith, e, r.0)
@@ -97,7 +97,7 @@ pub paced_no_refusal : (p : Pacing) (r : Result Status Stop) (A : Type 0) → If
 paced_no_refusal p (Ok s) A one = λ refused. absurd (no_refusal_by p (status_code s) one refused)
 paced_no_refusal p (Err e) A one = tt
 
--- ---- statuses, and what stops the program
+-- ---- statuses, and stops
 apart : (s : Status) → (status_code s < 8) ⊎ (10 < status_code s)
 apart Done = inl (omega arith)
 apart NoForm = inl (omega arith)
@@ -121,7 +121,7 @@ outside n (inr high) (inr (inl e)) = omega (arith, high, e)
 outside n (inr high) (inr (inr (inl e))) = omega (arith, high, e)
 outside n (inr high) (inr (inr (inr e))) = e
 
--- where nothing stopped the program, its status is none of those where something does
+-- the status of a program that isn't stopped differs from that of each stop
 pub no_stop : (s : Status) → IsStop (status_code s) → ⊥
 no_stop s = outside (status_code s) (apart s)
 

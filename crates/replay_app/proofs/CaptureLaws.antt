@@ -22,7 +22,7 @@ use Rattle.replay_app.proofs.AnswerLaws.{same_status}
 use Rattle.replay_app.proofs.FollowLaws.{exactly_told, exactly_done}
 use Rattle.replay_app.proofs.TapLaws.{lines_told}
 
--- a run that was made whole is a first part of itself
+-- a whole run is a prefix of itself
 pub whole_part : {F : Type 0} (fabrics : Ghosts F) (run : Option FabricRun) (old new : F) → Leaves fabrics run old new → LeavesPart fabrics run old new
 whole_part fabrics None old new leaves = leaves
 whole_part fabrics (Some run) old new leaves = inr (record { made = run.events; unmade = []; whole = append-nil run.events; holds = leaves })
@@ -31,7 +31,7 @@ module _ (policy : Resolved) (laid : Laid) (pace : Pace) (before : Sight) where
   abbrev pub answer : List ℕ → Answer
   answer file = laid_run policy laid pace file (watching_in before)
 
-  -- ---- what was written
+  -- ---- the text written
   -- the report and the lines
   pub whole_told : (told : Option (List ℕ)) (e : Ending) (after : Sight) (old mid new : Option (List ℕ)) → IfSome told (λ file. e ≡ (paced_answer policy pace file).ending)
       → IfSome told (λ file. HaveWatched (shown_by policy.policy (paced_answer policy pace file)) before after)
@@ -43,7 +43,7 @@ module _ (policy : Resolved) (laid : Laid) (pace : Pace) (before : Sight) where
       (same_status e ∙ ap (λ (x : Ending). ending_status x) ends)
       (appended_in_turn old mid new _ _ text (lines_told policy pace file e before after (Appended mid new) ends watched lines)) tt
 
-  -- the report, and a part of the lines
+  -- the report, and a prefix of the lines
   pub lines_cut : (told : Option (List ℕ)) (e : Ending) (stop : Stop) (after : Sight) (old mid new : Option (List ℕ)) → IfSome told (λ file. e ≡ (paced_answer policy pace file).ending)
       → IfSome told (λ file. HaveWatched (shown_by policy.policy (paced_answer policy pace file)) before after)
       → IfSome told (λ file. Appended old mid (paced_answer policy pace file).text) → OfLines e after (AppendedPrefix mid new)
@@ -53,13 +53,13 @@ module _ (policy : Resolved) (laid : Laid) (pace : Pace) (before : Sight) where
       exactly_told (answer file) (Err stop) old new tt tt
       (prefix_in_turn old mid new _ _ text (lines_told policy pace file e before after (AppendedPrefix mid new) ends watched lines))
 
-  -- a part of the report
+  -- a prefix of the report
   pub report_cut : (told : Option (List ℕ)) (stop : Stop) (old new : Option (List ℕ)) → IfSome told (λ file. AppendedPrefix old new (paced_answer policy pace file).text)
       → IfSome told (λ file. IsTold (λ a. a ≡ answer file) (Err stop) old new)
   report_cut None stop old new part = tt
   report_cut (Some file) stop old new part = exactly_told (answer file) (Err stop) old new tt tt (prefix_of_longer old new _ _ part)
 
-  -- ---- what is left
+  -- ---- the state left
   module _ {F : Type 0} (fabrics : Ghosts F) (old new : F) (after : Sight) where
     pub whole_left : (told : Option (List ℕ)) (s : Status) → IfSome told (λ file. Leaves fabrics (run_of policy.policy laid (paced_answer policy pace file).events) old new)
         → IfSome told (λ file. HaveWatched (shown_by policy.policy (paced_answer policy pace file)) before after)

@@ -1,4 +1,4 @@
--- What follows from inputs that may be refused.
+-- Outputs that depend on inputs, which may be rejected.
 use Rattle.std.proofs.Common.{◌≡◌, ℕ, Option, List, ◌∷◌, refl, ap, sym, subst, inl, inr}
 use Rattle.std.specs.Prelude.{Result, Ok, Err, IfOk, OnOk, OnErr}
 use Rattle.std.proofs.lemmas.Result.{IfOk-weaker, on_ok_weaker, on_err_weaker}
@@ -17,7 +17,7 @@ use Rattle.outside_core.specs.declared.stop.Stop.{Stop}
 pub unchanged : {F : Type 0} (fabrics : Ghosts F) (f : F) → IsAsItWas fabrics f f
 unchanged fabrics f = record { shape = refl; queues = λ b. refl; pushes = refl; pops = refl; spills = refl }
 
--- an input is refused in one way, or accepted as one thing
+-- an input is rejected with only one code and position, or accepted as only one value
 pub record AreOne {T : Type 0} (refused : ℕ → ℕ → Type 0) (accepted : T → Type 0) : Type 0 where
   pub one_refusal : (code place d m : ℕ) → refused code place → refused d m → (code ≡ d) × (place ≡ m)
   pub one : (t u : T) → accepted t → accepted u → t ≡ u
@@ -36,22 +36,22 @@ pub always_err : {T E : Type 0} {P : Type 0} (r : Result T E) → P → OnErr r 
 always_err (Ok t) p = tt
 always_err (Err e) p = p
 
--- ---- what follows
+-- ---- outputs
 module _ {T : Type 0} (kind : FaultKind) (refused : ℕ → ℕ → Type 0) (accepted : T → Type 0) (after : T → Answer → Type 0) where
-  -- each answer is a refusal, or follows from what is accepted
+  -- each output is an error, or follows from an accepted value
   pub each-follows : (P : Answer → Type 0) → ((code place : ℕ) → refused code place → P (refusal kind code place)) → ((t : T) (a : Answer) → accepted t → after t a → P a)
       → (a : Answer) → Follows kind refused accepted after a → P a
   each-follows P stop go a (stops code place h) = stop code place h
   each-follows P stop go a (goes_on t _ h k) = go t a h k
 
   module _ (are : AreOne refused accepted) where
-    -- what holds of the refusal holds of each answer
+    -- if P holds of the error, it holds of every output
     pub refused-each : (P : Answer → Type 0) (code place : ℕ) → refused code place → P (refusal kind code place) → Each (Follows kind refused accepted after) P
     refused-each P code place h p = each-follows P
         (λ d m k. let same = are.one_refusal code place d m h k in subst (λ (n : ℕ). P (refusal kind n m)) same.0 (subst (λ (n : ℕ). P (refusal kind code n)) same.1 p))
         (λ t a k follows. absurd (are.no_both t code place k h))
 
-    -- what holds of each answer that follows from what is accepted holds of each answer
+    -- if P holds of every output for the accepted value, it holds of every output
     pub accepted-each : (P : Answer → Type 0) (t : T) → accepted t → Each (after t) P → Each (Follows kind refused accepted after) P
     accepted-each P t h each = each-follows P
         (λ d m k. absurd (are.no_both t d m h k))
@@ -62,14 +62,14 @@ module _ {T : Type 0} (kind : FaultKind) (refused : ℕ → ℕ → Type 0) (acc
         (λ code place h. refused-each (λ c. refusal kind code place ≡ c) code place h (λ i. refusal kind code place) b y)
         (λ t a h k. accepted-each (λ c. a ≡ c) t h (λ c l. one t a c k l) b y) a x
 
-  -- there is an answer where the input is refused or accepted, and something follows then
+  -- an output exists if the input is rejected or accepted, and each accepted value has an output
   pub some-follows : (((t : T) → accepted t → ⊥) → ((code place : ℕ) → refused code place → ⊥) → ⊥) → ((t : T) → accepted t → ((a : Answer) → after t a → ⊥) → ⊥)
       → ((a : Answer) → Follows kind refused accepted after a → ⊥) → ⊥
   some-follows read more none = read (λ t h. more t h (λ a k. none a (goes_on t a h k))) (λ code place h. none (refusal kind code place) (stops code place h))
 
-  -- ---- what a call did
+  -- ---- the effect of a call
   module _ (are : AreOne refused accepted) (r : Result Status Stop) where
-    -- it refused the input
+    -- the call rejected the input
     pub refused_told : (old new : Option (List ℕ)) (code place : ℕ) → refused code place → IfOk r (λ s. s ≡ kind_status kind) → OnOk r (Appended old new (refusal kind code place).text) →
         OnErr r (AppendedPrefix old new (refusal kind code place).text) → IsTold (Follows kind refused accepted after) r old new
     refused_told old new code place h status text part = record {
@@ -83,7 +83,7 @@ module _ {T : Type 0} (kind : FaultKind) (refused : ℕ → ℕ → Type 0) (acc
       part = always_err r (refused-each are (λ a. LeavesPart fabrics a.run f f) code place h (unchanged fabrics f));
     }
 
-    -- it accepted the input, and went on
+    -- the call accepted the input, and went on
     pub accepted_told : (old new : Option (List ℕ)) (t : T) → accepted t → IsTold (after t) r old new → IsTold (Follows kind refused accepted after) r old new
     accepted_told old new t h told = record {
       whole = IfOk-weaker r _ _ (λ s given. record { answer = given.answer; is = goes_on t given.answer h given.is; status_is = given.status_is; text = given.text }) told.whole;
@@ -96,7 +96,7 @@ module _ {T : Type 0} (kind : FaultKind) (refused : ℕ → ℕ → Type 0) (acc
       part = on_err_weaker r (λ p. accepted-each are part t h p) done.part;
     }
 
--- ---- one answer
+-- ---- one output
 module _ (x : Answer) (r : Result Status Stop) where
   pub exactly_told : (old new : Option (List ℕ)) → IfOk r (λ s. status_code s ≡ x.status) → OnOk r (Appended old new x.text) → OnErr r (AppendedPrefix old new x.text) → IsTold (λ b. b ≡ x) r old new
   exactly_told old new status text part = record {

@@ -1,4 +1,4 @@
--- What is said of a run whose departures are written as a capture.
+-- Laws of a run whose departures are written as a capture.
 use Rattle.std.proofs.Common.{◌≡◌, ℕ, Option, None, Some, Result, Ok, Err, List, refl, sym, ap, subst}
 use Rattle.std.specs.Prelude.{IfSome}
 use Rattle.std.proofs.lemmas.Result.{on_ok_weaker}
@@ -27,7 +27,7 @@ module _ (policy : Resolved) (laid : Laid) (rate : ℕ) where
   forward_told None e old new is text = tt
   forward_told (Some file) e old new is text = exactly_told (answer file) (Ok (forward_status e)) old new (ap (λ (x : ForwardEnding). status_code (forward_status x)) is) text tt
 
-  -- a first part of them is
+  -- a prefix of the bytes is written
   pub forward_cut : (told : Option (List ℕ)) (stop : Stop) (old new : Option (List ℕ)) → IfSome told (λ file. AppendedPrefix old new (forward_answer policy rate file).text)
       → IfSome told (λ file. IsTold (λ a. a ≡ answer file) (Err stop) old new)
   forward_cut None stop old new part = tt
@@ -44,7 +44,7 @@ module _ (policy : Resolved) (laid : Laid) (rate : ℕ) where
     forward_holds_part None stop leaves = tt
     forward_holds_part (Some file) stop leaves = record { whole = tt; part = λ a is. subst (λ (b : Answer). LeavesPart fabrics b.run old new) (sym is) leaves }
 
-    -- no tap is shown anything
+    -- taps are shown nothing
     pub forward_left : (file : List ℕ) (r : Result Status Stop) (sight : Sight) → HoldsRun fabrics (λ a. a ≡ answer file) r old new → IsLeft fabrics (λ a. a ≡ answer file) r old new sight sight
     forward_left file r sight holds = record {
       whole = on_ok_weaker r (λ each a is. record { fabric = each a is; taps = rw is refl }) holds.whole;

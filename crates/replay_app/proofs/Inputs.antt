@@ -1,4 +1,4 @@
--- Each input is refused in one way or accepted as one thing.
+-- Each input is rejected with only one code and position, or accepted as only one value.
 use Rattle.std.proofs.Common.{◌≡◌, ◌≢◌, ◌≤◌, ◌<◌, ℕ, suc, List, [], ◌∷◌, length, refl, ap, sym, subst, ◌∙◌, arith}
 use Rattle.std.specs.List.{All}
 use Rattle.std.proofs.lemmas.List.Elements.{All-nil, All-cons}
@@ -38,11 +38,11 @@ one-text-refusal text code line d m (at_fault f h) (at_fault g k) =
     let same : f ≡ g = one_cause text f g h k in
     (ap text_code same, ap text_line same)
 
--- a text that has statements isn't refused
+-- a text that has statements isn't rejected
 none-refused : (text : List ℕ) (es : List Entry) (code line : ℕ) → HasEntries text es → IsTextRefused text code line → ⊥
 none-refused text es code line has (at_fault f h) = entries_no_cause text es f has h
 
--- statements that are accepted aren't refused
+-- accepted statements aren't rejected
 none-faulty : (text : List ℕ) (es fs : List Entry) (f : PolicyFault) → HasEntries text es → AreAccepted es → HasEntries text fs → f ≢ NoMemory → IsFault fs f → ⊥
 none-faulty text es fs f has are has' some is =
     let same : es ≡ fs = Entries-one 1 _ es fs has.entries has'.entries in
@@ -65,7 +65,7 @@ none-refused-policy : (text : List ℕ) (j : Judged) (code line : ℕ) → IsPol
 none-refused-policy text j code line p (text_refused _ _ h) = none-refused text j.entries code line p.has h
 none-refused-policy text j code line p (statements_refused fs g k some is) = none-faulty text j.entries fs g p.has p.accepted k some is
 
--- the statements of a text stand on rising lines
+-- the line numbers of a text's statements rise
 later : (k n : ℕ) (es : List Entry) → k < n → Rises n es → All (λ e. k < e.0) es
 later k n [] less up = All-nil (λ e. k < e.0)
 later k n (e ∷ es) less up = let first : n ≤ e.0 = up.0 in All-cons (λ d. k < d.0) e es (omega arith) (later k (suc e.0) es (omega arith) up.1)
@@ -74,7 +74,7 @@ pub rising : (n : ℕ) (es : List Entry) → Rises n es → AreRising es
 rising n [] up = λ i j d less within. absurd (omega arith)
 rising n (e ∷ es) up = AllPairs-cons (λ a b. a.0 < b.0) e es (later e.0 (suc e.0) es (omega arith) up.1) (rising (suc e.0) es up.1)
 
--- a text gives one policy
+-- a text gives only one policy
 same-judged : (text : List ℕ) (j k : Judged) → IsPolicy text j → IsPolicy text k → j ≡ k
 same-judged text j k p q =
     let statements : j.entries ≡ k.entries = Entries-one 1 _ j.entries k.entries p.has.entries q.has.entries in
@@ -102,7 +102,7 @@ rooms_are_one s target = record {
   no_both = λ m code place h k. k.0 (_, h.embedding);
 }
 
--- what lays a topology lays one that is the same
+-- a placement of a topology is a placement of an equal topology
 pub placement : (same : Topology) (t : Target) (images : Tree Address) (s : Topology) → s ≡ same → IsCanonical (levels t.arities t.above) (length t.arities) s images
     → IsEmbedding s (complete t.arities) (image_map images) → IsPlacement same t images
 placement same t images s e canonical embeds = record {

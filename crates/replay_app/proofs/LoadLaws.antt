@@ -1,4 +1,4 @@
--- A content that was too long to be loaded.
+-- Contents that are too long to load.
 use Rattle.std.proofs.Common.{◌≡◌, ◌<◌, ℕ, Option, None, Some, List, length}
 use Rattle.std.specs.Prelude.{IfSome}
 

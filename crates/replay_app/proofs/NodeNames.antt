@@ -10,15 +10,15 @@ use Rattle.embed_plan.proofs.PreorderAddresses.{count, listed}
 use Rattle.replay_app.specs.Via.{names_of}
 
 module _ (policy : Policy) (n : ℕ) where
-  -- the name of a number
+  -- the name of the node with number `n`
   listed_name : (name : List ℕ) → n < nodes policy.tree → HasAt policy.tree n (λ d. name ≡ d.name) → name ≡ name_at policy (get_or (addresses policy.tree) n [])
   listed_name name inside is = name-told policy (address_at policy.tree n) name is ∙ ap (name_at policy) (sym (listed policy.tree n inside))
 
-  -- it stands at that number
+  -- the name is at index `n` of the list
   pub name_in : (name : List ℕ) → n < nodes policy.tree → HasAt policy.tree n (λ d. name ≡ d.name) → name ≡ get_or (names_of policy) n []
   name_in name inside is = listed_name name inside is ∙ sym (get_or-map (name_at policy) (addresses policy.tree) n [] [] (omega (arith, inside, count policy.tree)))
 
-  -- one name more
+  -- the list with one more name
   pub named_more : (names more : List (List ℕ)) (name : List ℕ) → n < nodes policy.tree → names ≡ map (name_at policy) (take n (addresses policy.tree))
       → HasAt policy.tree n (λ d. name ≡ d.name) → more ≡ names ++ name ∷ [] → more ≡ map (name_at policy) (take (n + 1) (addresses policy.tree))
   named_more names more name inside so_far is pushed =

@@ -1,4 +1,4 @@
--- The tree of the office has room in a target of three levels, each four wide.
+-- A target of three levels of arity 4 has room for the tree of the office policy.
 use Rattle.std.proofs.Common.{◌≡◌, ◌≤◌, ◌+◌, ◌∙◌, ℕ, [], ◌∷◌, refl, sym, subst, arith}
 use Rattle.tree_defs.specs.Tree.{Tree, SameShape, leaf, inner, none, more}
 use Rattle.tree_defs.specs.Topology.{Topology, topology_of, complete}
@@ -29,7 +29,7 @@ by_height = levels (4 ∷ 4 ∷ 4 ∷ []) 4
 wide : AreWide by_height
 wide h = (heights_in_range-holds (4 ∷ 4 ∷ 4 ∷ []) 4 in-range h).0
 
--- the needs of the nodes: one level below each group, two below the root
+-- the heights that the nodes need: one level below each group, two below the root
 abbrev group : Tree ℕ
 group = inner 1 (more (leaf 0) (more (leaf 0) (more (leaf 0) (more (leaf 0) none))))
 
@@ -60,6 +60,6 @@ are-needs = record { shape = (leaves, (leaves, tt)); needs = (two-fit, (group-ne
 pub has-room : HasEmbedding (complete (2 ∷ 4 ∷ [])) (complete (4 ∷ 4 ∷ 4 ∷ []))
 has-room = (embeddings_need_room-holds by_height (complete (2 ∷ 4 ∷ [])) needs 3 wide are-needs).1 (omega arith)
 
--- the tree of a policy that the statements of the office give can be laid into the target
+-- a policy that the office statements give can be embedded into the target
 pub office-has-room : (t : Topology) (r : Resolved) → IsResolved office_lines r → t ≡ topology_of r.policy.tree → HasEmbedding t (complete (4 ∷ 4 ∷ 4 ∷ []))
 office-has-room t r is same = subst (λ (u : Topology). HasEmbedding u (complete (4 ∷ 4 ∷ 4 ∷ []))) (sym (same ∙ (offices-alike r is).topology)) has-room

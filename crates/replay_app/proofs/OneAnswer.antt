@@ -1,4 +1,4 @@
--- Words and contents have one answer.
+-- For given arguments and file contents there is only one correct output.
 use Rattle.std.proofs.Common.{◌≡◌, ℕ, Bool, Option, List, sym, subst, ◌∙◌}
 use Rattle.std.specs.Prelude.{Result, Ok, Err, IfOk, OnOk, OnErr}
 use Rattle.outside_core.specs.Written.{Appended, AppendedPrefix}
@@ -33,7 +33,7 @@ one-planned policy target _ _ (planned fits text h) (planned others other k) =
     let same = one_plan policy target.arities target.above fits others text other h k in
     λ i. plan_answer (same.0 i) (same.1 i)
 
--- what is written of a plan
+-- the text that is written for a plan
 pub planned_told : (policy : Policy) (target : Target) (fits : Bool) (text : List ℕ) → IsPlan policy target.arities target.above fits text → (old new : Option (List ℕ)) (r : Result Status Stop) →
     IfOk r (λ s. status_code s ≡ (plan_answer fits text).status) → OnOk r (Appended old new (plan_answer fits text).text) → OnErr r (AppendedPrefix old new (plan_answer fits text).text) → IsTold (IsPlanned policy target) r old new
 planned_told policy target fits text is old new (Ok s) status whole part = record { whole = record { answer = plan_answer fits text; is = planned fits text is; status_is = status; text = whole }; part = tt }

@@ -1,4 +1,4 @@
--- With a map or without one, a run has the same report.
+-- A run has the same report with a map and without one.
 use Rattle.std.proofs.Common.{◌≡◌, ◌∙◌, ℕ, Option, Some, None, false, List, [], ◌∷◌, ◌++◌, refl, sym, ap, subst}
 use Rattle.std.proofs.lemmas.List.{append-nil}
 use Rattle.tree_defs.specs.Tree.{Tree, Address}

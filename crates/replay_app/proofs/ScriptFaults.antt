@@ -1,4 +1,4 @@
--- The fault of a script is the reason of its refusal.
+-- The fault of a script is the cause of its rejection.
 use Rattle.std.proofs.Common.{◌≡◌, ◌≢◌, ◌<◌, ℕ, List, length, refl}
 use Rattle.events_core.specs.Script.{IsFirstFault, most_bytes, code_of, place_of}
 use Rattle.events_core.specs.declared.fault.ScriptFault.{ScriptFault}

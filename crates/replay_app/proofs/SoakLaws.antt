@@ -1,4 +1,4 @@
--- A generated load has an answer, and one alone; what is written of it, and left.
+-- A generated load has exactly one correct output; the text written for it, and the state left.
 use Rattle.std.proofs.Common.{◌≡◌, ◌∙◌, ℕ, suc, Option, Some, List, [], ◌∷◌, ◌++◌, append_assoc, ap, refl, sym, subst}
 use Rattle.std.specs.Prelude.{Result, Ok, Err, OnOk, is_ok, if◌then◌else◌}
 use Rattle.std.specs.List.{AllByRecursion}
@@ -42,7 +42,7 @@ all-valid : (n : ℕ) (ss : List Sense) → AllByRecursion IsValid ss → AreVal
 all-valid n [] each = All-nil (λ (e : Entry). IsValid e.1)
 all-valid n (s ∷ ss) each = All-cons (λ (e : Entry). IsValid e.1) _ (numbered (suc n) ss) each.0 (all-valid (suc n) ss each.1)
 
--- there is one policy of the office, and it is placed in one way
+-- there is only one office policy, and it has only one placement
 pub one-soaked : (load : LoadSize) (a b : Answer) → IsSoaked load a → IsSoaked load b → a ≡ b
 one-soaked load a b x y =
     let policies : x.policy ≡ y.policy = one-policy office_lines x.policy y.policy office-rising office-accepted x.resolved y.resolved in
@@ -53,7 +53,7 @@ one-soaked load a b x y =
     ∙ ap (λ (t : Tree Address). soak_answer y.policy.policy (record { images = t; arities = soak_target.arities }) load) images
     ∙ sym y.is
 
--- there is a policy of the office, and it has room
+-- there is an office policy, and the target has room for it
 pub some-soaked : (load : LoadSize)
     → ((policy : Resolved) → (HasEmbedding (topology_of policy.policy.tree) (complete soak_target.arities)) → ((images : Tree Address) → IsPlacement (topology_of policy.policy.tree) soak_target images → ⊥) → ⊥)
     → ((a : Answer) → IsSoaked load a → ⊥) → ⊥
@@ -63,8 +63,8 @@ some-soaked load rooms none =
     none (soak_answer r.0.policy (record { images = images; arities = soak_target.arities }) load)
     (record { policy = r.0; resolved = r.1; images = images; placed = placed; is = refl }))
 
--- ---- what was written and left
--- bytes, and then some more
+-- ---- the text written and the state left
+-- bytes appended in two steps
 pub grown : (o a i b j : List ℕ) → i ≡ o ++ a → j ≡ i ++ b → j ≡ o ++ (a ++ b)
 grown o a i b j first second = second ∙ ap (λ (l : List ℕ). l ++ b) first ∙ append_assoc o a b
 
@@ -72,7 +72,7 @@ grown o a i b j first second = second ∙ ap (λ (l : List ℕ). l ++ b) first �
 pub soaked_none : (load : LoadSize) (stop : Stop) (old : Option (List ℕ)) → IsTold (IsSoaked load) (Err stop) old old
 soaked_none load stop old = record { whole = tt; part = λ a is. prefix_of_nothing old old a.text (appended_nothing old) }
 
--- a list that grew where a call succeeded
+-- a list that grew if a call succeeded
 pub when_ok : {T E : Type 0} (r : Result T E) (l a b : List ℕ) → l ≡ (if is_ok r then a else b) → OnOk r (l ≡ a)
 when_ok (Ok t) l a b e = e
 when_ok (Err x) l a b e = tt
@@ -100,7 +100,7 @@ module _ (load : LoadSize) (policy : Resolved) (target : Target) (images : Tree 
     part = tt;
   }
 
-  -- a part of the line
+  -- a prefix of the line
   pub soaked_part : (stop : Stop) (counts : LoadCounts) (line : List ℕ) (old mid new : Option (List ℕ)) → counts ≡ load_counts policy.policy load → line ≡ soak_line counts → mid ≡ old → AppendedPrefix mid new line → IsTold (IsSoaked load) (Err stop) old new
   soaked_part stop counts line old mid new are spelt unwritten text = record {
     whole = tt;
@@ -124,6 +124,6 @@ module _ (load : LoadSize) (policy : Resolved) (target : Target) (images : Tree 
     pub left_part : (stop : Stop) → Left (LeavesPart fabrics) → IsDone (IsSoaked load) (Err stop) (λ a. Leaves fabrics a.run old new) (λ a. LeavesPart fabrics a.run old new)
     left_part stop left = record { whole = tt; part = of-answer (LeavesPart fabrics) left }
 
-    -- all was made before it stopped
+    -- the whole run was made before the stop
     pub left_written : (stop : Stop) → Left (Leaves fabrics) → IsDone (IsSoaked load) (Err stop) (λ a. Leaves fabrics a.run old new) (λ a. LeavesPart fabrics a.run old new)
     left_written stop left = left_part stop (whole_part fabrics (Some (load_through policy.policy (record { images = images; arities = target.arities }) load)) old new left)

@@ -1,4 +1,4 @@
--- No words and contents are without an answer.
+-- For all arguments and file contents there is a correct output.
 use Rattle.std.proofs.Common.{◌≡◌, ℕ, List, length, refl, sym, subst, inl, inr}
 use Rattle.std.proofs.lemmas.Bool.{cases_lt}
 use Rattle.tree_defs.specs.Tree.{Tree, Address}
@@ -48,7 +48,7 @@ use Rattle.replay_app.proofs.ViaLaws.{some-unbroken}
 use Rattle.replay_app.proofs.OfficeRoom.{in-range}
 use Rattle.replay_app.proofs.SoakLaws.{some-soaked}
 
--- ---- each input is refused or accepted
+-- ---- each input is rejected or accepted
 policy_of_text : (text : List ℕ) → ((j : Judged) → IsPolicy text j → ⊥) → ((code line : ℕ) → IsPolicyRefused text code line → ⊥) → (es : List Entry) → HasEntries text es → ⊥
 policy_of_text text none none' es has =
     let sound = sound_entries text es has in
@@ -90,7 +90,7 @@ read_scripts text none none' = elim (cases_lt most_bytes (length text)) [
   | inr short ↦ script_answer text short none (λ f first. none' (script_code f) (script_place f) (scripts.at_fault f first))
 ]
 
--- ---- words and contents
+-- ---- arguments and file contents
 pub exactly : (x : Answer) → ((a : Answer) → a ≡ x → ⊥) → ⊥
 exactly x none = none x refl
 

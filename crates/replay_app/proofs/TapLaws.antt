@@ -1,4 +1,4 @@
--- What taps that watched a run leave.
+-- The state in which taps are left after a run that they watched.
 use Rattle.std.proofs.Common.{◌≡◌, refl, ap, subst, ℕ, Option, None, Some, List}
 use Rattle.std.proofs.lemmas.Result.{on_ok_weaker}
 use Rattle.std.specs.Prelude.{Result}
@@ -28,7 +28,7 @@ lines_by (Whole n) shown before after P watched of = of _ watched.tracked
 lines_by (BadCapture c p) shown before after P watched of = of
 lines_by (PastLast n) shown before after P watched of = of
 
--- what holds of the lines of taps that watched a run over a capture
+-- properties of the lines of taps that watched a run over a capture
 lines_over : (policy : Resolved) (pace : Pace) (file : FileContents) (e : Ending) (before after : Sight) (P : List ℕ → Type 0) → e ≡ (answer_over policy pace file).ending
     → HaveWatched (shown_by policy.policy (answer_over policy pace file)) before after → OfLines e after P
     → P (lines_behind (answer_over policy pace file).ending (watching_in before) (shown_by policy.policy (answer_over policy pace file)))
@@ -47,7 +47,7 @@ pub taps_left : (p t c e : List ℕ) (named : Named) (shown : Option (List Shown
 taps_left p t c e named None before after same watched = ap (λ (s : Sight). s.taps) watched
 taps_left p t c e named (Some shown) before after same watched = subst (λ (n : Named). after.taps ≡ left_after shown (named_entries n before.taps)) same watched.left
 
--- what is left of a run that a script paces, and of the taps
+-- the fabric and the taps after a run that a script paces
 pub script_left : {F : Type 0} (fabrics : Ghosts F) (p t c e : List ℕ) (named : Named) (contents : List ℕ → List ℕ) (r : Result Status Stop) (old new : F) (before after : Sight) (taps left : List Entry)
     → before.named ≡ named → before.taps ≡ taps → after.taps ≡ left
     → IsLeft fabrics (BehindWords (watching_in before) p t (script e named) c contents) r old new before after
@@ -62,7 +62,7 @@ script_left fabrics p t c e named contents r old new before after taps left same
     subst (λ (ts : List Entry). IsLeftOf fabrics (replay p t c (script e named)) contents r old new taps ts) last
     (subst (λ (ts : List Entry). IsLeftOf fabrics (replay p t c (script e named)) contents r old new ts after.taps) first all)
 
--- where a link paces it, no tap is touched
+-- if a link paces the run, no tap changes
 abbrev WatchesNothing : Pacing → Type 0
 WatchesNothing (script e named) = ⊥
 WatchesNothing pacing = Unit {0}

@@ -1,4 +1,4 @@
--- The fault of a text that is read is the reason of its refusal.
+-- The fault of a text is the cause of its rejection.
 use Rattle.std.proofs.Common.{◌≡◌, ◌≢◌, ◌⊎◌, ℕ, List, Result, Ok, Err, inl, inr, subst}
 use Rattle.policy_defs.specs.Policy.{Policy}
 use Rattle.mapcheck_core.specs.declared.given.Given.{Given}

@@ -1,4 +1,4 @@
--- Words that use no fabric leave it as it was.
+-- Commands that use no fabric leave it unchanged.
 use Rattle.std.proofs.Common.{◌≡◌, Option, None, true, false, ℕ, List, refl, ap}
 use Rattle.std.specs.Prelude.{Result, Ok, Err}
 use Rattle.fabric_core.specs.declared.fabric.Fabric.{Ghosts}
@@ -19,7 +19,7 @@ planned_alone : (policy : Policy) (target : Target) (a : Answer) → IsPlanned p
 planned_alone policy target a (planned true text h) = refl
 planned_alone policy target a (planned false text h) = refl
 
--- nothing is run
+-- nothing runs
 pub no_run : (form : Form) (contents : List ℕ → List ℕ) (taps : List Entry) → UsesNoFabric form → (a : Answer) → IsOutput form contents taps a → a.run ≡ None
 no_run (replay p t c pacing) contents taps none a is = absurd none
 no_run (check p) contents taps none a is = each-follows kind.Policy _ _ _ (λ b. b.run ≡ None) (λ code place h. refl) (λ judged b h e. ap (λ (x : Answer). x.run) e) a is
@@ -33,7 +33,7 @@ no_run (soak load) contents taps none a is = absurd none
 no_run (via p g m t c e) contents taps none a is = absurd none
 no_run no_form contents taps none a is = ap (λ (x : Answer). x.run) is
 
--- and taps are as they were
+-- taps are unchanged
 same_taps : (form : Form) (shown : Option (List Shown)) (taps : List Entry) → UsesNoFabric form → taps ≡ tap_list form shown taps
 same_taps (replay p t c pacing) shown taps none = absurd none
 same_taps (check p) shown taps none = refl

@@ -1,4 +1,5 @@
--- The inputs of a run along a given map: each is refused in one way or accepted as one thing, and there is none of neither.
+-- The inputs of a run along a given map: each is rejected with only one code and position, or
+-- accepted as only one value; and each is rejected or accepted.
 use Rattle.std.proofs.Common.{◌≡◌, ℕ, List, [], length, map, Option, None, Some, Result, Ok, Err, inr, refl, sym, ap, ◌∙◌, subst, arith}
 use Rattle.std.proofs.lemmas.List.{length-map, get_or-map}
 use Rattle.tree_defs.specs.Tree.{Tree, Address, nodes}
@@ -91,11 +92,11 @@ names_fit policy = length-map (addresses policy.tree) (name_at policy) ∙ count
 pub given_fits : (policy : Policy) (g : Given) → Fits (names_of policy) g → IsGivenFor (topology_of policy.tree) g
 given_fits policy g fits = record { images = fits.images ∙ names_fit policy; lines = fits.lines ∙ names_fit policy }
 
--- a map that is read has an image and a line for each node
+-- a map that is read has an image and a line number for each node
 pub map_fits : (policy : Policy) (middle : Topology) (text : List ℕ) (t : Tried) → IsTried policy middle text t → IsGivenFor (topology_of policy.tree) t.given
 map_fits policy middle text t h = given_fits policy t.given (fits_answer text (names_of policy) (Ok t.given) (inr h.read))
 
--- the nodes that a broken clause names are there
+-- the nodes that a broken clause names exist
 pub nodes_named : (policy : Policy) (middle : Topology) (g : Given) (f : MapFault) → Breaks (topology_of policy.tree) middle g f → NamesNodes (nodes policy.tree) f
 nodes_named policy middle g f (outside n l) = tt
 nodes_named policy middle g f (root n i r e) = tt
@@ -121,13 +122,13 @@ module _ (policy : Policy) (given : Given) (middle : Topology) (target : Target)
     no_both = λ m code place h k. k.0 (_, h.placed.embedding);
   }
 
-  -- the map of a policy's topology that was taken through a placement
+  -- the map of a policy's tree, composed with a placement
   pub carried_by : (s : Topology) (laid images : Tree Address) → s ≡ topology_of policy.tree → IsPlacement middle target laid → IsComposed s (image_of s given) laid images
       → IsCarried policy given middle target images
   carried_by s laid images same placed composed =
       record { placement = laid; placed = placed; composed = subst (λ (u : Topology). IsComposed u (image_of u given) laid images) same composed }
 
-  -- what is taken through a placement is carried
+  -- the composed map gives the images that the definition demands
   carried : IsGivenFor (topology_of policy.tree) given → (placement : Tree Address) → IsPlacement middle target placement
       → IsCarried policy given middle target (tree_in (topology_of policy.tree) (map (image_map placement) given.images))
   carried fits placement placed =

@@ -1,4 +1,5 @@
--- What is told and left along a map that breaks no clause, and of one that does.
+-- The text written and the state left along a map that breaks no clause, and for a map that breaks
+-- one.
 use Rattle.std.proofs.Common.{◌≡◌, ℕ, List, Option, None, Some, refl, sym, ◌∙◌, subst, []}
 use Rattle.std.specs.Prelude.{Result, IfOk, OnOk, OnErr}
 use Rattle.std.proofs.lemmas.Result.{on_ok_weaker}
@@ -21,7 +22,7 @@ use Rattle.replay_app.specs.Words.{via}
 use Rattle.replay_app.specs.declared.status.Status.{Status}
 use Rattle.replay_app.proofs.FollowLaws.{AreOne, unchanged, always_ok, always_err, exactly_told, exactly_done, refused_left}
 
--- ---- answers
+-- ---- outputs
 pub one-unbroken : (names : List (List ℕ)) (broken : Option MapFault) (after : Answer → Type 0) → ((a b : Answer) → after a → after b → a ≡ b)
     → (a b : Answer) → Unbroken names broken after a → Unbroken names broken after b → a ≡ b
 one-unbroken names None after one a b x y = one a b x y
@@ -45,16 +46,16 @@ no_pair names (fault.Leaf n) none = refl
 no_pair names (fault.Prefix a b) none = absurd (none a b refl)
 no_pair names fault.NoMemory none = refl
 
--- ---- what a call did
+-- ---- the effect of a call
 module _ (names : List (List ℕ)) (broken : Option MapFault) (after : Answer → Type 0) (r : Result Status Stop) where
-  -- it went on
+  -- the call went on
   pub unbroken_told : (old new : Option (List ℕ)) → broken ≡ None → IsTold after r old new → IsTold (Unbroken names broken after) r old new
   unbroken_told old new is told = subst (λ (f : Option MapFault). IsTold (Unbroken names f after) r old new) (sym is) told
 
   pub unbroken_done : (whole part : Answer → Type 0) → broken ≡ None → IsDone after r whole part → IsDone (Unbroken names broken after) r whole part
   unbroken_done whole part is done = subst (λ (f : Option MapFault). IsDone (Unbroken names f after) r whole part) (sym is) done
 
-  -- it refused the map
+  -- the call rejected the map
   pub broken_told : (f : MapFault) (old new : Option (List ℕ)) → broken ≡ Some f → IfOk r (λ s. status_code s ≡ 13) → OnOk r (Appended old new (map_refusal names f).text)
       → OnErr r (AppendedPrefix old new (map_refusal names f).text) → IsTold (Unbroken names broken after) r old new
   broken_told f old new is status text part =
@@ -78,7 +79,7 @@ pub refused_holds : {T : Type 0} (kind : FaultKind) (refused : ℕ → ℕ → T
 refused_holds kind refused accepted after are r fabrics f code place h =
     fabric_left fabrics _ r f f no_sight no_sight (refused_left kind refused accepted after are r fabrics f no_sight code place h)
 
--- a run along a map leaves the taps as they were
+-- a run along a map leaves the taps unchanged
 pub via_left : {F : Type 0} (fabrics : Ghosts F) (p g m t c e : List ℕ) (contents : List ℕ → List ℕ) (taps : List Entry) (r : Result Status Stop) (old new : F)
     → HoldsRun fabrics (IsOutput (via p g m t c e) contents taps) r old new → IsLeftOf fabrics (via p g m t c e) contents r old new taps taps
 via_left fabrics p g m t c e contents taps r old new holds = record {

@@ -1,4 +1,4 @@
--- Words that name taps in pairs.
+-- Arguments that name taps in pairs.
 use Rattle.std.proofs.Common.{◌≡◌, ◌≤◌, true, Some, List, [], ◌∷◌, length, get_or, take, drop, ◌-◌, refl, sym, ap, ◌∙◌, arith}
 use Rattle.std.proofs.lemmas.List.{take_all}
 use Rattle.std.specs.Prelude.{String, string_bytes, codes}
@@ -8,7 +8,7 @@ use Rattle.tap_core.specs.Names.{named_with}
 use Rattle.tap_core.specs.declared.watch.Named.{Named}
 use Rattle.replay_app.specs.Words.{named_in, texts}
 
--- a pair at the front, and the pairs behind it
+-- the first pair, and the pairs after it
 pub pair_first : (named more : Named) (words : List (String Global)) (w name : String Global) → 2 ≤ length words → w ≡ get_or words 0 w → name ≡ get_or words 1 name
     → bytes_eq (string_bytes w) (codes "tap") ≡ true → Some more ≡ named_with named (string_bytes name) → named_in more (texts (take (length words - 2) (drop 2 words))) ≡ named_in named (texts words)
 pair_first named more [] w name two first second is with = absurd (omega (arith, two))

@@ -1,4 +1,4 @@
--- What the program leaves in the fabric, and of the taps.
+-- The state in which the program leaves the fabric and the taps.
 use Rattle.std.specs.Prelude.{◌≡◌, ℕ, Option, Some, List, Result}
 use Rattle.fabric_core.specs.declared.fabric.Fabric.{Ghosts}
 use Rattle.sched_embedded.specs.Fabrics.{Leaves, LeavesPart}
@@ -10,8 +10,8 @@ use Rattle.replay_app.specs.Statuses.{IsStop}
 use Rattle.replay_app.specs.Words.{Form, replay, script, soak, via}
 use Rattle.tap_core.specs.Lists.{Shown, Entry, named_entries, left_after}
 
--- Where nothing stopped the program, what the run of each of the answers leaves; else what was there, or what a first part of
--- the run leaves.
+-- If nothing stopped the program, the fabric holds the result of every output's run. Otherwise it
+-- is unchanged, or holds the result of a prefix of the run.
 pub record HoldsLeft {F : Type 0} (fabrics : Ghosts F) (output : Answer → Type 0) (status : ℕ) (old new : F) : Type 0 where
   pub whole : ¬ IsStop status → Each output (λ a. Leaves fabrics a.run old new)
   pub part : IsStop status → Each output (λ a. LeavesPart fabrics a.run old new)
@@ -27,13 +27,13 @@ UsesNoFabric (via p g m t c e) = ⊥
 UsesNoFabric form = Unit {0}
 
 -- ---- taps
--- Of a run that a script paces the taps of the named kinds are left that didn't answer Done, in order, each after all that
--- it was shown. Else all taps are left as they were.
+-- After a run that a script paces, the taps of the named kinds that didn't answer Done are left, in
+-- order, each in its state after all that it was shown. In every other case all taps are unchanged.
 abbrev pub tap_list : Form → Option (List Shown) → List Entry → List Entry
 tap_list (replay p t c (script e named)) (Some shown) taps = left_after shown (named_entries named taps)
 tap_list form shown taps = taps
 
--- where nothing stopped the program, the taps are left that each of the answers leaves
+-- if nothing stopped the program, the taps are those that every output leaves
 abbrev pub AreLeft : (Answer → Type 0) → (Answer → List Entry) → ℕ → List Entry → Type 0
 AreLeft output left status new = ¬ IsStop status → Each output (λ a. new ≡ left a)
 
@@ -45,12 +45,13 @@ abbrev pub UsesNoTaps : Form → Type 0
 UsesNoTaps (replay p t c (script e named)) = ⊥
 UsesNoTaps form = Unit {0}
 
--- what is left where nothing stopped the program: in the fabric, and of the taps
+-- the fabric and the taps if nothing stopped the program
 pub record LeavesAll {F : Type 0} (fabrics : Ghosts F) (form : Form) (old new : F) (before after : List Entry) (a : Answer) : Type 0 where
   pub fabric : Leaves fabrics a.run old new
   pub taps : after ≡ tap_list form a.shown before
 
--- the fabric holds what the run of the words leaves, and the taps are left that it leaves; or a first part of the run
+-- the fabric and the taps are those that the run leaves; or the call was stopped, and the fabric
+-- holds the result of a prefix of the run
 abbrev pub IsLeftOf : {F : Type 0} → Ghosts F → Form → (List ℕ → List ℕ) → Result Status Stop → F → F → List Entry → List Entry → Type 0
 IsLeftOf fabrics form contents r old new before after =
     IsDone (IsOutput form contents before) r (LeavesAll fabrics form old new before after) (λ a. LeavesPart fabrics a.run old new)

@@ -1,4 +1,4 @@
--- What holds of the answers to words.
+-- Laws of the program's output.
 use Rattle.std.specs.Prelude.{◌≡◌, ℕ, List, [], ◌++◌}
 use Rattle.tree_defs.specs.Topology.{topology_of, complete}
 use Rattle.target_core.specs.declared.target.Target.{Target}
@@ -12,23 +12,24 @@ use Rattle.replay_app.specs.Policies.{Judged, IsPolicy}
 use Rattle.replay_app.specs.Targets.{IsTargetOf}
 use Rattle.replay_app.specs.Words.{Form, replay, direct, script}
 
--- words have at most one answer for what their names contain and for the taps that are handed in
+-- for given arguments, file contents and taps there is at most one correct output
 abbrev pub HaveOneAnswer : Type 0
 HaveOneAnswer = (form : Form) (contents : List ℕ → List ℕ) (taps : List Entry) (a b : Answer)
     → IsOutput form contents taps a → IsOutput form contents taps b → a ≡ b
 
--- there are no words and contents without an answer
+-- for all arguments, file contents and taps there is a correct output
 abbrev pub HaveAnAnswer : Type 0
 HaveAnAnswer = (form : Form) (contents : List ℕ → List ℕ) (taps : List Entry) → ((a : Answer) → IsOutput form contents taps a → ⊥) → ⊥
 
--- the same status and the same report, after which lines of taps may follow, where taps are named
+-- the same status and the same report, which lines of taps may follow if taps are named
 pub record ReportsTheSame (named : Named) (through direct : Answer) : Type 0 where
   pub status : through.status ≡ direct.status
   pub lines : List ℕ
   pub report : through.text ≡ direct.text ++ lines
   pub untapped : named ≡ none_named → lines ≡ []
 
--- if some map lays the policy's tree into the target, `replay` has the report of `direct` on the same policy, capture and script
+-- if some map embeds the policy's tree into the target, `replay` reports what `direct` reports for
+-- the same policy, capture and script
 abbrev pub ReplayReportsWhatDirectReports : Type 0
 ReplayReportsWhatDirectReports = (p t c e : List ℕ) (named : Named) (contents : List ℕ → List ℕ) (taps : List Entry) (judged : Judged) (target : Target)
     → IsPolicy (contents p) judged → IsTargetOf (contents t) target → HasEmbedding (topology_of judged.policy.policy.tree) (complete target.arities)

@@ -1,4 +1,4 @@
--- The files that words name.
+-- The form of each command with its file names.
 use Rattle.std.specs.Prelude.{◌≤◌}
 use Rattle.sched_defs.specs.SendTime.{IsRate}
 use Rattle.tap_core.specs.Names.{none_named}

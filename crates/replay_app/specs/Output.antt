@@ -1,4 +1,5 @@
--- What the program answers to its words and files. This is what a reader of the program's contract has to believe.
+-- The output of the program for its arguments and files. A reader of the program's contract has to
+-- trust these definitions.
 use Rattle.std.specs.Prelude.{◌≡◌, ℕ, Option, None, List, []}
 use Rattle.report_core.specs.declared.fault.FaultKind.TheVariants.{Words}
 use Rattle.tree_defs.specs.Topology.{topology_of}
@@ -22,13 +23,13 @@ use Rattle.replay_app.specs.Words.{Pacing, script, link, forward, Form, replay, 
 abbrev pub direct_run : Resolved → Pace → List ℕ → Answer
 direct_run policy pace capture = run_answer (paced_answer policy pace capture)
 
--- the same report, where the run goes through a fabric into which the tree is laid, and behind it the lines of these taps
--- where they watched a run that ended whole
+-- the same report for a run through a fabric that holds the tree; the lines of these taps follow it
+-- if the run ended whole
 abbrev pub laid_run : Resolved → Laid → Pace → List ℕ → List Entry → Answer
 laid_run policy laid pace capture watching = watched_answer (paced_answer policy pace capture)
     (run_of policy.policy laid (paced_answer policy pace capture).events) watching (shown_by policy.policy (paced_answer policy pace capture))
 
--- the status of a run whose departures are written, and these as a capture
+-- the status of a run whose departures are written, and those departures as a capture
 abbrev pub forward_run : Resolved → Laid → ℕ → List ℕ → Answer
 forward_run policy laid rate capture = record {
   status = status_code (forward_status (forward_answer policy rate capture).ending);
@@ -37,24 +38,24 @@ forward_run policy laid rate capture = record {
   shown = None;
 }
 
--- the taps that watch: those of the kinds that are named, and none where a link paces the run
+-- the taps that watch: those of the named kinds, and none if a link paces the run
 abbrev pub watchers : Pacing → List Entry → List Entry
 watchers (script e named) taps = named_entries named taps
 watchers (link rate) taps = []
 watchers (forward rate) taps = []
 
--- what is answered to a run over a capture through the fabric, by what paces it: the text of a script is read, and a link's rate
--- is known
+-- the output of a run over a capture through the fabric, by what paces it: a script is read from
+-- its file, and a link's rate comes from the arguments
 abbrev pub IsPaced : List Entry → Resolved → Laid → Pacing → List ℕ → (List ℕ → List ℕ) → Answer → Type 0
 IsPaced watching policy laid (script e named) capture contents =
     AlongScript (contents e) (λ steps b. b ≡ laid_run policy laid (script_pace steps) capture watching)
 IsPaced watching policy laid (link rate) capture contents = λ b. b ≡ laid_run policy laid (Link rate) capture watching
 IsPaced watching policy laid (forward rate) capture contents = λ b. b ≡ forward_run policy laid rate capture
 
--- The answer to words, where the names have these contents and these taps are handed in. Each input is refused or accepted in
--- its turn: the policy, the target, the room for the policy's tree in the target, the script, if one paces the run, and then
--- the capture, which is part of the run. Along a given map the topology and the map come behind the policy, and it is the
--- topology that needs room in the target. A generated load has no input.
+-- The output for these arguments, file contents and taps. Inputs are rejected or accepted in this
+-- order: the policy, the target, the target's room for the policy's tree, the script, if one paces
+-- the run, and the capture, which is part of the run. For a given map, the topology and the map
+-- follow the policy, and the target needs room for the topology. A generated load has no input.
 abbrev pub IsOutput : Form → (List ℕ → List ℕ) → List Entry → Answer → Type 0
 IsOutput (replay p t c pacing) contents taps a =
     UnderPolicy (contents p) (λ judged.
@@ -81,7 +82,8 @@ IsOutput (via p g m t c e) contents taps a =
     b ≡ laid_run judged.policy laid (script_pace steps) (contents c) [])))))) a
 IsOutput no_form contents taps a = a ≡ refusal Words 0 0
 
--- ---- what is written
--- one of the answers to the words was given, or the program was stopped with a first part of each of them
+-- ---- the text written
+-- one of the outputs for the arguments was given, or the program was stopped with a prefix of every
+-- one
 abbrev pub Answers : Form → (List ℕ → List ℕ) → List Entry → ℕ → Option (List ℕ) → Option (List ℕ) → Type 0
 Answers form contents taps = IsGiven (IsOutput form contents taps)

@@ -1,4 +1,4 @@
--- What is read of a policy's text.
+-- Reading the text of a policy.
 use Rattle.std.specs.Prelude.{◌≢◌, ℕ, List, map}
 use Rattle.report_core.specs.declared.fault.FaultKind.TheVariants.{Policy}
 use Rattle.policy_text_defs.specs.Canonical.{canonical_text}
@@ -19,19 +19,21 @@ use Rattle.replay_app.specs.Follows.{Follows, IsRead}
 use Rattle.replay_app.specs.declared.refusal.Read.{Read}
 use Rattle.replay_app.specs.declared.policies.Judged as code
 
--- the statements, without the numbers of their lines
+-- the statements, without their line numbers
 abbrev pub senses_of : List Entry → List Sense
 senses_of es = map (λ e. e.1) es
 
--- the statements that are held, with the numbers of their lines
+-- the statements that were read, with their line numbers
 abbrev pub entries_in : Lines → List Entry
 entries_in lines = map entry_of lines.held
 
--- the code and the line with which a text is refused: it is too long, or its first line at fault decides
+-- the code and line number with which a text is rejected: it is too long, or its first line in
+-- error decides
 pub data IsTextRefused (text : List ℕ) : ℕ → ℕ → Type 0 where
   at_fault : (f : TextFault) → IsCause text f → IsTextRefused text (text_code f) (text_line f)
 
--- the code and the line with which a policy is refused: its text is, or its statements are by the first clause that they fail
+-- the code and line number with which a policy is rejected: those of its text, or those of the
+-- first clause that its statements break
 pub data IsPolicyRefused (text : List ℕ) : ℕ → ℕ → Type 0 where
   text_refused : (code line : ℕ) → IsTextRefused text code line → IsPolicyRefused text code line
   statements_refused : (es : List Entry) (f : PolicyFault) → HasEntries text es → f ≢ NoMemory → IsFault es f → IsPolicyRefused text (code_of f) (line_of f)
@@ -50,15 +52,15 @@ pub record IsPolicy (text : List ℕ) (j : Judged) : Type 0 where
   pub accepted : AreAccepted j.entries
   pub gives : IsResolved j.entries j.policy
 
--- what follows from a policy's text
+-- outputs that depend on the text of a policy
 abbrev pub UnderPolicy : List ℕ → (Judged → Answer → Type 0) → Answer → Type 0
 UnderPolicy text after = Follows Policy (IsPolicyRefused text) (IsPolicy text) after
 
--- the canonical text of a policy
+-- the output of `check`: the canonical text of a policy
 abbrev pub checked : Judged → Answer
 checked j = text_alone 0 (canonical_text (senses_of j.entries))
 
--- ---- what is read
+-- ---- results of reading
 abbrev pub IsTextRead : List ℕ → Read Lines → Type 0
 IsTextRead text read = IsRead (IsTextRefused text) (λ lines. HasEntries text (entries_in lines)) read
 

@@ -1,4 +1,4 @@
--- Answers that are worked out.
+-- Worked examples of output.
 use Rattle.std.specs.Prelude.{◌≡◌, refl, ℕ, true, false, List, [], ◌∷◌, ◌++◌, Some, None, codes}
 use Rattle.std.specs.Fmt.{digits}
 use Rattle.pcap_defs.specs.Reading.{capture_of, head_of, front_of, records_from}
@@ -27,7 +27,7 @@ fifo = record { policy = one_leaf; conditions = [] ∷ [] }
 abbrev alone : Laid
 alone = record { images = leaf []; arities = [] }
 
--- a packet of 60 bytes, one second after the beginning of 1970, of which no byte is captured
+-- a packet of 60 bytes with timestamp 1 s, of which no byte is captured
 abbrev record_of_one : List ℕ
 record_of_one = 1 ∷ 0 ∷ 0 ∷ 0 ∷ 0 ∷ 0 ∷ 0 ∷ 0 ∷ 0 ∷ 0 ∷ 0 ∷ 0 ∷ 60 ∷ 0 ∷ 0 ∷ 0 ∷ []
 
@@ -35,7 +35,7 @@ record_of_one = 1 ∷ 0 ∷ 0 ∷ 0 ∷ 0 ∷ 0 ∷ 0 ∷ 0 ∷ 0 ∷ 0 ∷ 0 �
 abbrev after_magic : List ℕ
 after_magic = 2 ∷ 0 ∷ 4 ∷ 0 ∷ 0 ∷ 0 ∷ 0 ∷ 0 ∷ 0 ∷ 0 ∷ 0 ∷ 0 ∷ 0 ∷ 0 ∷ 4 ∷ 0 ∷ 1 ∷ 0 ∷ 0 ∷ 0 ∷ []
 
--- the packet in a capture that counts microseconds, and in one that counts nanoseconds
+-- the packet in a capture with timestamps in microseconds, and in one with nanoseconds
 abbrev capture : List ℕ
 capture = (0xD4 ∷ 0xC3 ∷ 0xB2 ∷ 0xA1 ∷ []) ++ after_magic ++ record_of_one
 
@@ -48,7 +48,8 @@ the_packet = record { number = 1; class = 0; len = 60; moment = 1000000000; flow
 abbrev taps : List Entry
 taps = (Bytes, 0 ∷ 0 ∷ []) ∷ (First 1, []) ∷ []
 
--- the report, and after it the lines of taps in their order; what the fabric is to run, and what the taps are shown
+-- the report, followed by the lines of taps in their order; the run through the fabric, and what
+-- the taps are shown
 replay_with_taps : laid_run fifo alone (script_pace (line.Arrive 1 ∷ line.Depart 2 ∷ [])) capture taps
     ≡ record {
       status = 0;
@@ -59,7 +60,7 @@ replay_with_taps : laid_run fifo alone (script_pace (line.Arrive 1 ∷ line.Depa
 unfolding digits capture_of head_of front_of records_from
 replay_with_taps = refl
 
--- where the script goes past the last packet, the taps say nothing
+-- if the script asks for a packet after the last, no tap lines are written
 replay_past_the_last : laid_run fifo alone (script_pace (line.Arrive 2 ∷ [])) capture taps
     ≡ record {
       status = 6;
@@ -70,17 +71,17 @@ replay_past_the_last : laid_run fifo alone (script_pace (line.Arrive 2 ∷ [])) 
 unfolding digits capture_of head_of front_of records_from
 replay_past_the_last = refl
 
--- no capture is a fault of the capture: nothing runs, and nothing is shown
+-- a file that is no capture is an error of the capture: nothing runs, and taps are shown nothing
 replay_without_a_capture : laid_run fifo alone (script_pace (line.Rest ∷ [])) (0xD4 ∷ 0xC3 ∷ 0xB2 ∷ []) taps ≡ text_alone 7 (codes "fault capture 1 0\n")
 unfolding digits capture_of head_of
 replay_without_a_capture = refl
 
--- without a fabric no run is left for one
+-- a direct run has no run through a fabric
 direct_alone : direct_run fifo (script_pace (line.Rest ∷ line.Drain ∷ [])) capture ≡ text_alone 0 (codes "a 1 1 root 0\nd 2 1 root 0\nend pushed 1 popped 1 empty 0 held 0 unsent 0\n")
 unfolding digits capture_of head_of front_of records_from
 direct_alone = refl
 
--- a link tells when each departure starts, in nanoseconds
+-- a link reports when each departure starts, in nanoseconds
 link_at_60_bytes_a_second : laid_run fifo alone (Link 60) capture []
     ≡ record {
       status = 0;
@@ -91,7 +92,7 @@ link_at_60_bytes_a_second : laid_run fifo alone (Link 60) capture []
 unfolding digits capture_of head_of front_of records_from
 link_at_60_bytes_a_second = refl
 
--- the departure as a capture, which counts nanoseconds; no tap is shown it
+-- the departure as a capture with timestamps in nanoseconds; taps are shown nothing
 forward_at_60_bytes_a_second : forward_run fifo alone 60 capture
     ≡ record {
       status = 0;
@@ -102,7 +103,7 @@ forward_at_60_bytes_a_second : forward_run fifo alone 60 capture
 unfolding capture_of head_of front_of records_from
 forward_at_60_bytes_a_second = refl
 
--- without room the least height is told before the refusal
+-- if there is no room, the least height precedes the error line
 plan_without_room : plan_answer false (codes "least 2\n") ≡ text_alone 5 (codes "least 2\nfault size 1 0\n")
 unfolding digits
 plan_without_room = refl
@@ -123,12 +124,12 @@ taps_that_watch = refl
 no_tap_watches_a_link : watchers (link 60) three_taps ≡ []
 no_tap_watches_a_link = refl
 
--- of the taps that watched, those are left that don't have all that they want
+-- of the taps that watched, those that aren't done are left
 taps_left_by_a_script : tap_list (replay (codes "p") (codes "t") (codes "c") (script (codes "e") first_and_drops))
     (Some (departed (record { packet = 1; class = 0; leaf = 0; len = 60 }) ∷ [])) three_taps ≡ (Drops, 0 ∷ 0 ∷ []) ∷ []
 taps_left_by_a_script = refl
 
--- where no run begins, and where a link paces it, all taps stay
+-- if no run begins, or if a link paces it, all taps are left
 taps_left_without_a_run : tap_list (replay (codes "p") (codes "t") (codes "c") (script (codes "e") first_and_drops)) None three_taps ≡ three_taps
 taps_left_without_a_run = refl
 

@@ -1,4 +1,4 @@
--- What is answered to a generated load.
+-- The output of a generated load.
 use Rattle.std.specs.Prelude.{◌≡◌, refl, ℕ, None, Some, List, [], ◌∷◌, ◌++◌, decimal, codes}
 use Rattle.std.specs.Fmt.{digits}
 use Rattle.tree_defs.specs.Tree.{Tree, Address}
@@ -14,12 +14,12 @@ use Rattle.sched_capture.specs.declared.load.LoadSize.{LoadSize}
 use Rattle.replay_app.specs.Answer.{Answer}
 use Rattle.replay_app.specs.Targets.{IsPlacement}
 
--- a word with its count, each behind a space
+-- a label and its count, with a space before each
 abbrev pub counted : List ℕ → ℕ → List ℕ
 counted word n = (32 ∷ word) ++ (32 ∷ decimal n)
 
--- the line of a load: how many packets were pushed and popped, how many departures found nothing, and the sum of the packets
--- that left
+-- the line of a load: the numbers of packets pushed and popped, the number of departures that found
+-- no packet, and the sum over the departed packets
 abbrev pub soak_line : LoadCounts → List ℕ
 soak_line n =
     ((((codes "soak" ++ counted (codes "pushed") n.pushed) ++ counted (codes "popped") n.popped) ++ counted (codes "empty") n.empty)
@@ -29,11 +29,11 @@ soak_line n =
 abbrev pub soak_target : Target
 soak_target = record { arities = 4 ∷ 4 ∷ 4 ∷ []; above = 4 }
 
--- the answer to a load under a policy whose tree is laid into a target
+-- the output of a load under a policy whose tree is placed in a target
 abbrev pub soak_answer : Policy → Laid → LoadSize → Answer
 soak_answer policy laid load = record { status = 0; text = soak_line (load_counts policy load); run = Some (load_through policy laid load); shown = None }
 
--- the load runs under the policy of an office, laid into its target by the canonical placement
+-- the load runs under the office policy, placed in its target by the canonical placement
 pub record IsSoaked (load : LoadSize) (a : Answer) : Type 0 where
   pub policy : Resolved
   pub resolved : IsResolved office_lines policy

@@ -1,4 +1,4 @@
--- What the answer to a run still depends on behind each of its inputs.
+-- The outputs of a run after each of its inputs is accepted.
 use Rattle.std.specs.Prelude.{◌≡◌, ℕ, List, []}
 use Rattle.tree_defs.specs.Topology.{Topology, topology_of}
 use Rattle.policy_rules.specs.Resolved.{Resolved}
@@ -16,53 +16,53 @@ use Rattle.tap_core.specs.Watching.{Sight}
 use Rattle.replay_app.specs.Words.{Pacing}
 use Rattle.replay_app.specs.declared.words.ViaFiles.{ViaFiles}
 
--- behind the policy of a run without a fabric
+-- after the policy, for a run without a fabric
 abbrev pub BehindPolicy : Resolved → List ℕ → List ℕ → Answer → Type 0
 BehindPolicy policy text capture = AlongScript text (λ steps b. b ≡ direct_run policy (script_pace steps) capture)
 
--- the taps that watch: those of the kinds that are named
+-- the taps that watch: those of the named kinds
 abbrev pub watching_in : Sight → List Entry
 watching_in sight = named_entries sight.named sight.taps
 
--- behind the placement of a policy's tree, where these taps watch
+-- after the placement of a policy's tree, if these taps watch
 abbrev pub BehindRoom : List Entry → Resolved → Laid → Pacing → List ℕ → (List ℕ → List ℕ) → Answer → Type 0
 BehindRoom watching policy laid pacing capture contents = IsPaced watching policy laid pacing (contents capture) contents
 
--- where a script paces the run
+-- the same for a run that a script paces
 abbrev pub BehindScript : List Entry → Resolved → Laid → List ℕ → List ℕ → (List ℕ → List ℕ) → Answer → Type 0
 BehindScript watching policy laid name capture contents =
     AlongScript (contents name) (λ steps b. b ≡ laid_run policy laid (script_pace steps) (contents capture) watching)
 
--- behind a target
+-- after the target is read
 abbrev pub BehindTarget : List Entry → Resolved → Target → Pacing → List ℕ → (List ℕ → List ℕ) → Answer → Type 0
 BehindTarget watching policy target pacing capture contents =
     WithRoom (topology_of policy.policy.tree) target (λ laid. BehindRoom watching policy laid pacing capture contents)
 
--- behind the policy of a run through a fabric
+-- after the policy, for a run through a fabric
 abbrev pub BehindTargetText : List Entry → Resolved → List ℕ → Pacing → List ℕ → (List ℕ → List ℕ) → Answer → Type 0
 BehindTargetText watching policy target pacing capture contents =
     ForTarget (contents target) (λ read. BehindTarget watching policy read pacing capture contents)
 
--- behind the words of a run through a fabric
+-- after the arguments, for a run through a fabric
 abbrev pub BehindWords : List Entry → List ℕ → List ℕ → Pacing → List ℕ → (List ℕ → List ℕ) → Answer → Type 0
 BehindWords watching policy target pacing capture contents =
     UnderPolicy (contents policy) (λ judged. BehindTargetText watching judged.policy target pacing capture contents)
 
 -- ---- along a given map
--- behind the target: the topology needs room, and the policy's tree is laid along the map
+-- after the target: the topology needs room, and the policy's tree is placed along the map
 abbrev pub AlongTarget : Resolved → Topology → Given → Target → ViaFiles → (List ℕ → List ℕ) → Answer → Type 0
 AlongTarget policy middle given target files contents =
     WithRoomAlong policy.policy given middle target (λ laid. BehindScript [] policy laid files.script.now files.capture.now contents)
 
--- behind the map
+-- after the map
 abbrev pub AlongMap : Resolved → Topology → Given → ViaFiles → (List ℕ → List ℕ) → Answer → Type 0
 AlongMap policy middle given files contents = ForTarget (contents files.target.now) (λ target. AlongTarget policy middle given target files contents)
 
--- behind the topology
+-- after the topology
 abbrev pub BehindTopology : Resolved → Topology → ViaFiles → (List ℕ → List ℕ) → Answer → Type 0
 BehindTopology policy middle files contents =
     ForMap policy.policy middle (contents files.map.now) (λ given. AlongMap policy middle given files contents)
 
--- behind the policy
+-- after the policy
 abbrev pub AlongPolicy : Resolved → ViaFiles → (List ℕ → List ℕ) → Answer → Type 0
 AlongPolicy policy files contents = ForTopology (contents files.topology.now) (λ middle. BehindTopology policy middle files contents)

@@ -1,4 +1,4 @@
--- The statuses with which the program ends.
+-- The program's exit statuses.
 use Rattle.std.specs.Prelude.{◌≡◌, refl, ◌⊎◌, ◌≤◌, ℕ, List, [], ◌∷◌, map, codes}
 use Rattle.report_core.specs.declared.fault.FaultKind.{FaultKind}
 use Rattle.report_core.specs.declared.fault.FaultKind.TheVariants.{Words, Policy, Target, Size, Script, Capture, Tree, Map}
@@ -25,7 +25,7 @@ status_code BadMap = 13
 status_code LateStart = 14
 status_code OtherLink = 15
 
--- where an input of this kind is refused
+-- the status if an input of this kind is rejected
 abbrev pub kind_status : FaultKind → Status
 kind_status Words = NoForm
 kind_status Policy = BadPolicy
@@ -36,26 +36,26 @@ kind_status Capture = BadCapture
 kind_status Tree = BadTree
 kind_status Map = BadMap
 
--- where a run ended so
+-- the status of a run with this ending
 abbrev pub run_status : run.Ending → Status
 run_status (run_ending.Whole unsent) = Done
 run_status (run_ending.PastLast event) = BadScript
 run_status (run_ending.BadCapture c p) = BadCapture
 
--- where a run ended so whose departures are written as a capture
+-- the status of a run with this ending, whose departures are written as a capture
 abbrev pub forward_status : ForwardEnding → Status
 forward_status forward_ending.Whole = Done
 forward_status (forward_ending.BadCapture c p) = BadCapture
 forward_status (forward_ending.OtherLink n) = OtherLink
 forward_status forward_ending.Late = LateStart
 
--- ---- what the words alone decide
--- it is one of these
+-- ---- the statuses that the arguments allow
+-- the status is one of these
 abbrev pub IsOneOf : List ℕ → ℕ → Type 0
 IsOneOf [] status = ⊥
 IsOneOf (s ∷ others) status = (status ≡ s) ⊎ IsOneOf others status
 
--- a run ends as its script and its capture say
+-- the script and the capture decide how a run ends
 abbrev pub run_statuses : List ℕ
 run_statuses = 6 ∷ 7 ∷ 0 ∷ []
 
@@ -63,7 +63,7 @@ run_statuses = 6 ∷ 7 ∷ 0 ∷ []
 abbrev pub link_statuses : List ℕ
 link_statuses = 7 ∷ 0 ∷ []
 
--- a record of another link type ends a run, and a departure that starts late
+-- a packet with another link type ends the run, and so does a departure that starts too late
 abbrev pub forward_statuses : List ℕ
 forward_statuses = 7 ∷ 15 ∷ 14 ∷ 0 ∷ []
 
@@ -76,7 +76,7 @@ abbrev pub pace_statuses : Pace → List ℕ
 pace_statuses (pace.Script steps) = run_statuses
 pace_statuses (pace.Link rate) = link_statuses
 
--- with which statuses words of a form can end, where nothing stops the program
+-- the possible statuses for a form, if nothing stops the program
 abbrev pub statuses_of : Form → List ℕ
 statuses_of (replay p t c pacing) = 3 ∷ 4 ∷ 5 ∷ paced_statuses pacing
 statuses_of (check p) = 3 ∷ 0 ∷ []
@@ -86,22 +86,23 @@ statuses_of (soak load) = 0 ∷ []
 statuses_of (via p g m t c e) = 3 ∷ 12 ∷ 13 ∷ 4 ∷ 5 ∷ run_statuses
 statuses_of no_form = 2 ∷ []
 
--- reading failed, writing failed, or there was no memory
+-- reading failed, writing failed, or memory ran out
 abbrev pub IsStop : ℕ → Type 0
 IsStop status = IsOneOf (8 ∷ 9 ∷ 10 ∷ []) status
 
--- words of this form can end with this status
+-- arguments of this form can end with this status
 abbrev pub CanEnd : Form → ℕ → Type 0
 CanEnd form status = IsOneOf (statuses_of form) status ⊎ IsStop status
 
--- the words, the policy, the topology, the map or the target are refused, or the target has no room: no run was begun
+-- the arguments, the policy, the topology, the map or the target are rejected, or the target has no
+-- room: no run began
 abbrev pub IsRefusal : ℕ → Type 0
 IsRefusal status = ((2 ≤ status) × (status ≤ 5)) ⊎ ((12 ≤ status) × (status ≤ 13))
 
 statuses_of_inputs : map (λ k. status_code (kind_status k)) (Words ∷ Policy ∷ Target ∷ Size ∷ Script ∷ Capture ∷ Tree ∷ Map ∷ []) ≡ 2 ∷ 3 ∷ 4 ∷ 5 ∷ 6 ∷ 7 ∷ 12 ∷ 13 ∷ []
 statuses_of_inputs = refl
 
--- packets that aren't sent are no fault
+-- unsent packets are not an error
 statuses_of_runs : map (λ e. status_code (run_status e)) (run_ending.Whole 3 ∷ run_ending.PastLast 3 ∷ run_ending.BadCapture 6 3 ∷ []) ≡ 0 ∷ 6 ∷ 7 ∷ []
 statuses_of_runs = refl
 
@@ -112,6 +113,6 @@ statuses_of_forwards = refl
 statuses_of_a_link : statuses_of (replay (codes "p") (codes "t") (codes "c") (link 60)) ≡ 3 ∷ 4 ∷ 5 ∷ 7 ∷ 0 ∷ []
 statuses_of_a_link = refl
 
--- a plan reads no capture, and the size is a refusal
+-- a plan reads no capture, and a target without room is an error
 statuses_of_a_plan : statuses_of (plan (codes "p") (codes "t")) ≡ 3 ∷ 4 ∷ 5 ∷ 0 ∷ []
 statuses_of_a_plan = refl

@@ -1,4 +1,4 @@
--- How a run that stops ends.
+-- The exit statuses of a program that is stopped.
 use Rattle.std.specs.Prelude.{◌≡◌, refl, ℕ, [], ◌∷◌, map}
 use Rattle.outside_core.specs.declared.stop.Stop.{Stop}
 use Rattle.outside_core.specs.declared.stop.Stop.TheVariants.{Source, Sink, Memory}

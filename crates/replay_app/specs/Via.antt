@@ -1,4 +1,4 @@
--- What is read of the text of a topology and of a map into it, and what follows along the map.
+-- Reading the texts of a topology and of a map into it, and running along the map.
 use Rattle.std.specs.Prelude.{◌≡◌, ◌<◌, refl, ℕ, List, [], ◌∷◌, ◌++◌, map, slice_index_or, Option, None, Some, Ok, Err, codes}
 use Rattle.std.specs.Fmt.{digits}
 use Rattle.tree_defs.specs.Tree.{Tree, Address}
@@ -25,11 +25,11 @@ use Rattle.replay_app.specs.Targets.{HasNoRoom, IsPlacement}
 use Rattle.replay_app.specs.declared.maps.Tried.{Tried}
 
 -- ---- the topology
--- the code and the line with which the text of a topology is refused
+-- the code and line number with which the text of a topology is rejected
 pub data IsTreeRefused (text : List ℕ) : ℕ → ℕ → Type 0 where
   at_fault : (f : TreeFault) → IsTreeFault text f → IsTreeRefused text (tree_code f) (tree_place f)
 
--- what follows from the text of a topology
+-- outputs that depend on the text of a topology
 abbrev pub ForTopology : List ℕ → (Topology → Answer → Type 0) → Answer → Type 0
 ForTopology text after = Follows kind.Tree (IsTreeRefused text) (IsTreeText text) after
 
@@ -38,11 +38,13 @@ ForTopology text after = Follows kind.Tree (IsTreeRefused text) (IsTreeText text
 abbrev pub names_of : Policy → List (List ℕ)
 names_of policy = map (name_at policy) (addresses policy.tree)
 
--- the code and the place with which the text of a map of a policy's tree is refused: a line, or the number of a node
+-- the code and position with which the text of a map of a policy's tree is rejected; the position
+-- is a line number or the number of a node
 pub data IsMapRefused (policy : Policy) (text : List ℕ) : ℕ → ℕ → Type 0 where
   unread : (f : MapFault) → IsMapAnswer text (names_of policy) (Err f) → IsMapRefused policy text (code_of f) (place_of f)
 
--- the text gives this map, which is an embedding of the policy's tree in the topology, or breaks this clause of one first
+-- the text gives this map, which is an embedding of the policy's tree into the topology, or first
+-- breaks this clause of one
 pub record IsTried (policy : Policy) (middle : Topology) (text : List ℕ) (t : Tried) : Type 0 where
   pub read : IsMapAnswer text (names_of policy) (Ok t.given)
   pub verdict : IsVerdict (topology_of policy.tree) middle t.given t.fault
@@ -51,31 +53,32 @@ pub record IsTried (policy : Policy) (middle : Topology) (text : List ℕ) (t : 
 abbrev pub pair_line : List ℕ → List ℕ → List ℕ
 pair_line a b = line_of (codes "pair" ∷ a ∷ b ∷ [])
 
--- the map has an image for each node, and is an embedding or breaks this clause of one first
+-- the map has an image for each node, and is an embedding or first breaks this clause of one
 pub record HasVerdict (policy : Policy) (middle : Topology) (t : Tried) : Type 0 where
   pub given_for : IsGivenFor (topology_of policy.tree) t.given
   pub verdict : IsVerdict (topology_of policy.tree) middle t.given t.fault
 
--- where a fault names two nodes, there are such
+-- the two nodes that a fault names exist
 abbrev pub NamesNodes : ℕ → MapFault → Type 0
 NamesNodes n (fault.Prefix a b) = (a < n) × (b < n)
 NamesNodes n f = Unit {0}
 
--- the line of the two nodes that break a map, where it is two that do
+-- the line of the two nodes that break a map, if the fault names two
 abbrev pub pair_text : List (List ℕ) → MapFault → List ℕ
 pair_text names (fault.Prefix a b) = pair_line (slice_index_or names a []) (slice_index_or names b [])
 pair_text names f = []
 
--- a map is refused for the clause that it breaks, behind the line of the two nodes that do
+-- the output for a map that breaks a clause: the line of the two nodes, if there is one, and the
+-- error line
 abbrev pub map_refusal : List (List ℕ) → MapFault → Answer
 map_refusal names f = text_alone 13 (pair_text names f ++ fault_line (codes "map") (code_of f) (place_of f))
 
--- what follows from a map: nothing but its refusal where it breaks a clause
+-- outputs that depend on a map: if it breaks a clause, only its error
 abbrev pub Unbroken : List (List ℕ) → Option MapFault → (Answer → Type 0) → Answer → Type 0
 Unbroken names None after a = after a
 Unbroken names (Some f) after a = a ≡ map_refusal names f
 
--- what follows from the text of a map of a policy's tree into a topology
+-- outputs that depend on the text of a map of a policy's tree into a topology
 abbrev pub ForMap : Policy → Topology → List ℕ → (Given → Answer → Type 0) → Answer → Type 0
 ForMap policy middle text after =
     Follows kind.Map (IsMapRefused policy text) (IsTried policy middle text) (λ t. Unbroken (names_of policy) t.fault (after t.given))
@@ -87,13 +90,15 @@ pub record IsRoute (policy : Policy) (middle : Topology) (given : Given) : Type 
   pub given_for : IsGivenFor (topology_of policy.tree) given
   pub embedding : IsEmbedding (topology_of policy.tree) middle (image_of (topology_of policy.tree) given)
 
--- the images of a policy's nodes in the target: under the map, and then under the canonical placement of the topology
+-- the images of a policy's nodes in the target: the map, followed by the canonical placement of the
+-- topology
 pub record IsCarried (policy : Policy) (given : Given) (middle : Topology) (target : Target) (images : Tree Address) : Type 0 where
   pub placement : Tree Address
   pub placed : IsPlacement middle target placement
   pub composed : IsComposed (topology_of policy.tree) (image_of (topology_of policy.tree) given) placement images
 
--- what follows where a policy's tree is to be laid along a map into a topology, and with that into a target
+-- outputs that depend on whether the target has room for the topology, into which the map takes the
+-- policy's tree
 abbrev pub WithRoomAlong : Policy → Given → Topology → Target → (Laid → Answer → Type 0) → Answer → Type 0
 WithRoomAlong policy given middle target after =
     Follows kind.Size (HasNoRoom middle target) (IsCarried policy given middle target) (λ images. after (record { images = images; arities = target.arities }))

@@ -1,4 +1,4 @@
--- The words behind the program's name, and the forms that they may have.
+-- The arguments after the program's name, and their forms.
 use Rattle.std.specs.Prelude.{◌≡◌, refl, ℕ, nat_le, ◌&&◌, Bool, true, false, IsTrue, if◌then◌else◌, Option, None, Some, option_map, List, [], ◌∷◌, map, codes, String, string_bytes}
 use Rattle.std.specs.List.{AllByRecursion}
 use Rattle.std.specs.Option.{option_and_then, option_map_or}
@@ -12,18 +12,18 @@ use Rattle.sched_capture.specs.declared.load.LoadSize.{LoadSize}
 use Rattle.tap_core.specs.Names.{none_named, named_with}
 use Rattle.tap_core.specs.declared.watch.Named.{Named}
 
--- the bytes of each word
+-- the bytes of each argument
 abbrev pub texts : List (String Global) → List (List ℕ)
 texts words = map string_bytes words
 
--- what paces a run: a script of this name, with the kinds of taps that watch, or a link at this rate in bytes a second; or a
--- link whose departures are written as a capture
+-- what paces a run: the script of this name, with the kinds of taps that watch; a link at this rate
+-- in bytes per second; or such a link whose departures are written as a capture
 pub data Pacing : Type 0 where
   script : List ℕ → Named → Pacing
   link : ℕ → Pacing
   forward : ℕ → Pacing
 
--- a command with the names of its files
+-- a command with its file names
 pub data Form : Type 0 where
   -- a policy, a target, a capture, and what paces the run
   replay : List ℕ → List ℕ → List ℕ → Pacing → Form
@@ -39,44 +39,45 @@ pub data Form : Type 0 where
   via : List ℕ → List ℕ → List ℕ → List ℕ → List ℕ → List ℕ → Form
   no_form : Form
 
--- the rate that a word says
+-- the rate that an argument gives, in bytes per second
 abbrev pub rate_of : List ℕ → Option ℕ
 rate_of w = option_and_then (λ n. if nat_le 1 n && nat_le n most_rate then Some n else None) (number_of w)
 
--- the number that a word says, where it is at most another one
+-- the number that an argument gives, if it is at most `most`
 abbrev pub number_within : ℕ → List ℕ → Option ℕ
 number_within most w = option_and_then (λ n. if nat_le n most then Some n else None) (number_of w)
 
--- the load that the words behind `soak` say: a seed, and how many events are drawn
+-- the load that the arguments after `soak` give: a seed, and how many events are drawn
 abbrev pub load_of : List ℕ → List ℕ → Option LoadSize
 load_of seed count =
     option_and_then (λ s. option_map (λ n. record { seed = s; count = n }) (number_within most_load count)) (number_within max_rank seed)
 
--- the forms of three words
+-- the form of three arguments
 abbrev pub three_words : List ℕ → List ℕ → List ℕ → Form
 three_words w second third =
     if bytes_eq w (codes "plan") then plan second third
     else (if bytes_eq w (codes "soak") then option_map_or soak (load_of second third) no_form else no_form)
 
--- the kinds of taps that words name in pairs, each at most once, and these
+-- these kinds of taps and those that the arguments name in pairs; each kind may be named only once
 abbrev pub named_in : Named → List (List ℕ) → Option Named
 named_in named [] = Some named
 named_in named (w ∷ []) = None
 named_in named (w ∷ name ∷ more) = if bytes_eq w (codes "tap") then option_and_then (λ n. named_in n more) (named_with named name) else None
 
--- a rate behind which no word stands
+-- a rate that is the last argument
 abbrev pub last_rate : List ℕ → List (List ℕ) → Option ℕ
 last_rate rate [] = rate_of rate
 last_rate rate (w ∷ more) = None
 
--- what paces a run through the fabric, by the first word, the fifth, and those behind it
+-- what paces a run through the fabric, from the first argument, the fifth, and those after it
 abbrev pub pacing_by : List ℕ → List ℕ → List (List ℕ) → Option Pacing
 pacing_by w fifth more =
     if bytes_eq w (codes "replay") then option_map (script fifth) (named_in none_named more)
     else (if bytes_eq w (codes "link") then option_map link (last_rate fifth more)
     else (if bytes_eq w (codes "forward") then option_map forward (last_rate fifth more) else None))
 
--- a run along a given map, by the names of a policy, a topology, a map and a target, behind which two more stand
+-- a run along a given map: the names of a policy, a topology, a map and a target, followed by
+-- exactly two more
 abbrev pub via_by : List ℕ → List ℕ → List ℕ → List ℕ → List (List ℕ) → Form
 via_by p g m t (c ∷ e ∷ []) = via p g m t c e
 via_by p g m t more = no_form
@@ -90,13 +91,13 @@ form_of (w ∷ p ∷ second ∷ third ∷ fourth ∷ more) =
     else option_map_or (replay p second third) (pacing_by w fourth more) no_form
 form_of words = no_form
 
--- the word that names a script, if one does
+-- the name of the script, if there is one
 abbrev pub pacing_words : Pacing → List (List ℕ)
 pacing_words (script e named) = e ∷ []
 pacing_words (link rate) = []
 pacing_words (forward rate) = []
 
--- the words that name files
+-- the arguments that name files
 abbrev pub file_words : Form → List (List ℕ)
 file_words (replay p t c pacing) = p ∷ t ∷ c ∷ pacing_words pacing
 file_words (check p) = p ∷ []
@@ -106,19 +107,19 @@ file_words (soak load) = []
 file_words (via p g m t c e) = p ∷ g ∷ m ∷ t ∷ c ∷ e ∷ []
 file_words no_form = []
 
--- each of the names is lent
+-- each of the named files may be opened
 abbrev pub AreLent : (List ℕ → Bool) → List (List ℕ) → Type 0
 AreLent lends names = AllByRecursion (λ name. IsTrue (lends name)) names
 
--- each of the names has its content told
+-- the content of each of the named files is known to the contract
 abbrev pub AreTold : (List ℕ → Option (List ℕ)) → (List ℕ → List ℕ) → List (List ℕ) → Type 0
 AreTold content contents names = AllByRecursion (λ name. content name ≡ Some (contents name)) names
 
--- P holds of the contents of the names, where these are told
+-- P holds of the contents of the named files, if these are known to the contract
 abbrev pub WhereTold : (List ℕ → Option (List ℕ)) → List (List ℕ) → ((List ℕ → List ℕ) → Type 0) → Type 0
 WhereTold content names P = (contents : List ℕ → List ℕ) → AreTold content contents names → P contents
 
--- the form of the words
+-- the form of the arguments
 abbrev pub form_in : List (String Global) → Form
 form_in words = form_of (texts words)
 

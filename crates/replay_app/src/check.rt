@@ -1,4 +1,4 @@
-//! The canonical text of a policy.
+//! The command `check`: a policy's canonical text.
 ghost use Rattle.std.specs.Prelude.{◌≤◌, [], IfOk, IsTrue, IsErrOf};
 ghost use Rattle.outside_core.specs.Faults.{Rose};
 ghost use Rattle.replay_app.specs.Answer.{IsTold};
@@ -15,7 +15,7 @@ use policy_text::print;
 use report_core::FaultKind;
 use std::alloc::Global;
 
-/// Writes the canonical text of a policy's file, if it is accepted.
+/// Reads a policy file and writes its canonical text, or its first error.
 pub fn check_file<S: Shelf, K: Sink>(
     alloc: Global,
     name: &str,

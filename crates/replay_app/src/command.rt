@@ -1,4 +1,4 @@
-//! The one call of the program.
+//! The program's entry point.
 ghost use Rattle.std.specs.Prelude.{◌≡◌, ◌≢◌, ◌<◌, ◌≤◌, ◌^◌, ◌∷◌, [], vec_len, IfOk, IsErrOf};
 ghost use Rattle.outside_core.specs.Faults.{Rose};
 ghost use Rattle.sched_embedded.specs.Fabrics.{IsAsItWas};
@@ -26,10 +26,10 @@ use report_core::FaultKind;
 use std::alloc::Global;
 use tap_core::Tap;
 
-/// The words are malformed.
+/// The arguments are malformed.
 pub const NO_FORM: Refusal = Refusal { code: 0, place: 0 };
 
-/// Answers the words.
+/// Parses the arguments and runs the command.
 fn answer<S: Shelf, K: Sink, F: Fabric, T: Tap>(
     alloc: Global,
     words: &[String],
@@ -76,16 +76,23 @@ fn answer<S: Shelf, K: Sink, F: Fabric, T: Tap>(
     }
 }
 
-/// Does what the words say, and answers the status with which the program ends. The words are those after the program's
-/// name: `replay` and the names of a policy, a target, a capture and a script, with pairs `tap NAME` after them for the kinds
-/// of taps that are to watch; `link` or `forward` and the names of a policy, a target and a capture with a rate in bytes per
-/// second; `direct` and the names of a policy, a capture and a script; `plan` and the names of a policy and a target; `check` and the
-/// name of a policy; `via` and the names of a policy, a topology, a map of the policy's tree into it, a target, a capture and a
-/// script; or `soak` with a seed of at most 4,611,686,018,427,387,903 and how many events are drawn, at most
-/// 1,000,000.
+/// Runs the command that the arguments give, and returns the program's exit status. `words` holds
+/// the arguments after the program's name, in one of these forms:
 ///
-/// When the run of `replay` begins, taps whose kind isn't named are dropped. Each other is shown each departure and each drop
-/// until it is done, and their lines are written after a report that ends whole, in the order of the list.
+/// - `replay POLICY TARGET CAPTURE SCRIPT`, followed by `tap NAME` for each kind of tap to watch
+/// - `link POLICY TARGET CAPTURE RATE` or `forward POLICY TARGET CAPTURE RATE`, with a rate in
+///   bytes per second
+/// - `direct POLICY CAPTURE SCRIPT`
+/// - `plan POLICY TARGET`
+/// - `check POLICY`
+/// - `via POLICY TOPOLOGY MAP TARGET CAPTURE SCRIPT`, with a map of the policy's tree into the
+///   topology
+/// - `soak SEED COUNT`, with a seed of at most 4,611,686,018,427,387,903 and a count of at most
+///   1,000,000 events
+///
+/// When a run of `replay` begins, taps whose kind isn't named are dropped. Each remaining tap sees
+/// every departure and every drop until it is done. If the run ends whole, the lines of the taps
+/// follow the report, in the order of the list.
 pub fn run<S: Shelf, K: Sink, F: Fabric>(
     alloc: Global,
     words: &[String],
@@ -98,9 +105,9 @@ pub fn run<S: Shelf, K: Sink, F: Fabric>(
     requires pushes { F.pushed fabric.old < 2 ^ 61 }
     requires pops { F.popped fabric.old < 2 ^ 61 }
 
-    // Where contents are known: the answer is written whole with its status, or a prefix of it with
-    // 8, 9 or 10; the fabric is unchanged, or holds what the run leaves, or a prefix of it; and of
-    // the taps those are left that a run leaves.
+    // If file contents are known to the contract: the output is written whole with its status, or a
+    // prefix of it with status 8, 9 or 10. The fabric is unchanged, or holds the result of the run
+    // or of a prefix of it. The taps are those that the run leaves.
     ensures answer { WhereTold (S.content shelf.old) (file_words (form_in words.now)) (λ contents.
         Answers (form_in words.now) contents (entries kind_of state_of taps.old.items) result
         (K.written sink.old) (K.written sink.new)) }
@@ -111,7 +118,7 @@ pub fn run<S: Shelf, K: Sink, F: Fabric>(
         AreTapsLeft (form_in words.now) contents result
         (entries kind_of state_of taps.old.items) (entries kind_of state_of taps.new.items)) }
 
-    // Whatever the files hold: what the words alone decide.
+    // For any file contents: the guarantees that follow from the arguments alone.
     ensures statuses { CanEnd (form_in words.now) result }
     ensures no_form { result ≡ 2 → form_in words.now ≡ no_form }
     ensures told_so { form_in words.now ≡ no_form → IsOneOf (2 ∷ 9 ∷ 10 ∷ []) result }

@@ -1,4 +1,4 @@
-//! Runs through a policy's own tree of queues.
+//! The command `direct`: runs through a policy's own tree of queues.
 ghost use Rattle.std.specs.Prelude.{◌≡◌, ◌≤◌, ◌∷◌, [], IfOk, IfSome, OnOk, OnErr, IsTrue, IsErrOf};
 ghost use Rattle.outside_core.specs.Faults.{Rose};
 ghost use Rattle.outside_core.specs.Written.{Appended, AppendedPrefix};
@@ -25,7 +25,7 @@ use sched_capture::{Task, direct};
 use sched_run::Pace;
 use std::alloc::Global;
 
-/// Runs a script over a capture's file.
+/// Runs the steps of a task over a capture file.
 fn direct_capture<S: Shelf, K: Sink>(
     alloc: Global,
     policy: &Policy,
@@ -51,7 +51,7 @@ fn direct_capture<S: Shelf, K: Sink>(
     Ok(Status::of_run(direct(alloc, policy, task, shelf, sink)?))
 }
 
-/// Runs the files of an accepted policy.
+/// Reads the script and runs it over the capture, under an accepted policy.
 fn direct_script<S: Shelf, K: Sink>(
     alloc: Global,
     policy: &Policy,
@@ -82,7 +82,8 @@ fn direct_script<S: Shelf, K: Sink>(
     }
 }
 
-/// Runs these files through the policy's own tree of queues. Each file is read when its turn comes.
+/// Runs these files through the policy's own tree of queues. Each file is read only when it is
+/// needed.
 pub fn direct_files<S: Shelf, K: Sink>(
     alloc: Global,
     files: &DirectFiles<'_>,

@@ -1,4 +1,4 @@
-//! Runs of a link whose departures are written as a capture.
+//! The command `forward`: a link's departures, written as a capture.
 ghost use Rattle.std.specs.Prelude.{◌≡◌, ◌<◌, ◌≤◌, ◌^◌, IfOk, IfSome, IsTrue, IsErrOf};
 ghost use Rattle.outside_core.specs.Faults.{Rose};
 ghost use Rattle.tree_defs.specs.Tree.{SameShape};
@@ -19,7 +19,8 @@ use policy_core::Policy;
 use sched_capture::{Placement, forward};
 use std::alloc::Global;
 
-/// Runs a link at this rate in bytes per second over a capture's file, and writes the departures as a capture.
+/// Runs a link at `rate` bytes per second over a capture file, and writes the departures as a
+/// capture.
 pub fn forward_capture<S: Shelf, K: Sink, F: Fabric>(
     alloc: Global,
     policy: &Policy,

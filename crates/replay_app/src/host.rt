@@ -1,22 +1,23 @@
-//! What is around the commands of a program: the words after its name, real files, standard output, and taps.
+//! The environment of a program's commands: arguments, real files, standard output and taps.
 use outside_core::{FileShelf, StdSink};
 use std::alloc::{AllocError, Global};
 use std::process::ExitCode;
 use std::{env, io};
 use tap_core::{BytesTap, DropsTap, FirstTap, OrderTap, Tap};
 
-/// There was no memory for the words or for what the commands work on.
+/// Exit status: out of memory, for the arguments or for the run.
 const NO_MEMORY: u8 = 10;
 
-/// The system didn't give the words.
+/// Exit status: the system didn't supply the arguments.
 const NO_WORDS: u8 = 16;
 
-/// How many packet numbers the tap of the first packets keeps.
+/// The most packet numbers that a tap of kind `first` keeps.
 const FIRST_LIMIT: u32 = 8;
 
-/// A program of commands.
+/// A program with commands.
 pub trait Program {
-    /// Does what the words say, and answers the status with which the program ends. The list of taps has one of each kind.
+    /// Runs the command that the arguments give, and returns the program's exit status. The list of
+    /// taps has one tap of each kind.
     fn answer(
         alloc: Global,
         words: &[String],
@@ -26,7 +27,7 @@ pub trait Program {
     ) -> Result<u8, AllocError>;
 }
 
-/// The words after the program's name.
+/// Returns the arguments after the program's name.
 fn words_of(rt: &HostRuntime) -> io::Result<Vec<String>> {
     let mut words = Vec::new(rt.alloc());
     for word in env::args(rt)?.skip(1) {
@@ -35,7 +36,7 @@ fn words_of(rt: &HostRuntime) -> io::Result<Vec<String>> {
     Ok(words)
 }
 
-/// Does what the words say.
+/// Sets up files, output and taps, and runs the command that the arguments give.
 fn answer_to<P: Program>(rt: &HostRuntime, words: &[String]) -> Result<u8, AllocError> {
     let alloc = rt.alloc();
     let mut taps: Vec<Box<dyn Tap>> = Vec::new(alloc);
@@ -48,7 +49,7 @@ fn answer_to<P: Program>(rt: &HostRuntime, words: &[String]) -> Result<u8, Alloc
     P::answer(alloc, words, &mut shelf, &mut sink, &mut taps)
 }
 
-/// Does what the words after the program's name say.
+/// Runs the command that the program's arguments give.
 pub fn run_program<P: Program>(rt: HostRuntime) -> ExitCode {
     let words = match words_of(&rt) {
         Ok(words) => words,

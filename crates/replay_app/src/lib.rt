@@ -1,4 +1,5 @@
-//! The commands: words and files come in, and a report goes out. What is answered is said in specs/Output.antt.
+//! The commands: they take arguments and files, and write a report. specs/Output.antt defines the
+//! output.
 #![tactic(auto)]
 
 mod check;

@@ -1,4 +1,4 @@
-//! Files read whole, up to a limit.
+//! Reading whole files, up to a limit.
 ghost use Rattle.std.specs.Prelude.{◌≡◌, ◌≤◌, ◌<◌, ◌^◌, None, length, IfOk, IfSome, IsTrue, IsErrOf};
 ghost use Rattle.outside_core.specs.Faults.{Rose};
 ghost use Rattle.outside_core.specs.Kept.{KeepsShelf};
@@ -6,7 +6,7 @@ ghost use Rattle.outside_core.specs.Kept.{KeepsShelf};
 use outside_core::{LoadError, Shelf, Stop, load};
 use std::alloc::Global;
 
-/// The content of a file, unless it is longer than `most` bytes.
+/// Returns the content of a file, or none if it is longer than `most` bytes.
 pub fn load_short<S: Shelf>(
     alloc: Global,
     shelf: &mut S,

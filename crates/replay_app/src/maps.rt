@@ -1,4 +1,4 @@
-//! Maps of a policy's tree into a topology, read from files.
+//! Reading map files: maps of a policy's tree into a topology.
 ghost use Rattle.std.specs.Prelude.{◌≡◌, ◌≢◌, ◌≤◌, length, IfOk, OnOk, IfSome, IsTrue, IsErrOf};
 ghost use Rattle.outside_core.specs.Faults.{Rose};
 ghost use Rattle.outside_core.specs.Kept.{KeepsShelf};
@@ -18,14 +18,14 @@ use policy_core::Policy;
 use std::alloc::{AllocError, Global};
 use tree_core::Topo;
 
-/// A map that was read, and the first clause of an embedding that it breaks, if it breaks one.
+/// A map that was read, with the first clause of an embedding that it breaks, if any.
 #[derive(Drop)]
 pub struct Tried {
     pub given: Given,
     pub fault: Option<MapFault>,
 }
 
-/// How the fault of a map is reported. The error means out of memory.
+/// Returns the code and position with which an error of a map is reported. Fails if out of memory.
 fn told_of(fault: MapFault) -> Result<Refusal, AllocError>
     ensures memory { OnOk result (fault ≢ MapFault.NoMemory) }
     ensures told { IfOk result (λ r. r ≡ record { code = code_of fault; place = place_of fault }) }
@@ -39,7 +39,7 @@ fn told_of(fault: MapFault) -> Result<Refusal, AllocError>
     }
 }
 
-/// The names of a policy's nodes and leaves in preorder.
+/// Returns the names of a policy's nodes and leaves in preorder. Fails if out of memory.
 fn names_of(alloc: Global, policy: &Policy) -> Result<List<Name>, AllocError>
     ensures names { IfOk result (λ names. names ≡ names_of policy.now.policy) }
     ensures few { IfOk result (λ names. length names ≤ most_nodes) }
@@ -51,7 +51,7 @@ fn names_of(alloc: Global, policy: &Policy) -> Result<List<Name>, AllocError>
     Ok(names)
 }
 
-/// The first clause of an embedding that a map breaks, if it breaks one.
+/// Returns the first clause of an embedding that a map breaks, if any.
 fn first_broken(topo: &Topo, middle: &Topo, given: &Given) -> Option<MapFault>
     requires topo { IsWithinLimits (topology topo.now) }
     requires middle { IsWithinLimits (topology middle.now) }
@@ -64,7 +64,8 @@ fn first_broken(topo: &Topo, middle: &Topo, given: &Given) -> Option<MapFault>
     }
 }
 
-/// The map of a policy's tree that a text gives, tried, or why the text is refused. The error means out of memory.
+/// Parses a map of a policy's tree and checks it, or returns why the text is rejected. Fails if out
+/// of memory.
 fn map_in(
     alloc: Global,
     policy: &Policy,
@@ -87,7 +88,8 @@ fn map_in(
     }
 }
 
-/// Reads the file of a map of a policy's tree, and tries whether the map is an embedding in a topology.
+/// Reads the file of a map of a policy's tree, and checks whether the map is an embedding into a
+/// topology. A file longer than `MOST_MAP_BYTES` is rejected.
 pub fn read_map_file<S: Shelf>(
     alloc: Global,
     policy: &Policy,

@@ -1,4 +1,4 @@
-//! Where a policy's tree is laid in a target.
+//! The command `plan`: where a target holds a policy's tree.
 ghost use Rattle.std.specs.Prelude.{◌≡◌, ◌≤◌, ◌∷◌, [], IfOk, OnOk, OnErr, IsTrue, IsErrOf};
 ghost use Rattle.outside_core.specs.Faults.{Rose};
 ghost use Rattle.outside_core.specs.Written.{Appended, AppendedPrefix};
@@ -21,7 +21,7 @@ use policy_core::Policy;
 use report_core::FaultKind;
 use std::alloc::Global;
 
-/// Writes a plan.
+/// Writes a plan, followed by an error line if the target has no room.
 fn write_plan<K: Sink>(alloc: Global, plan: &PlanText, sink: &mut K) -> Result<Status, Stop>
     ensures status { IfOk result (λ s. status_code s ≡ (plan_answer plan.now.fits
         plan.now.text.items).status) }
@@ -41,7 +41,7 @@ fn write_plan<K: Sink>(alloc: Global, plan: &PlanText, sink: &mut K) -> Result<S
     Ok(Status::Done)
 }
 
-/// Plans an accepted policy for a target's file.
+/// Reads a target file, and writes the plan of an accepted policy for it.
 fn plan_target<S: Shelf, K: Sink>(
     alloc: Global,
     policy: &Policy,
@@ -68,7 +68,7 @@ fn plan_target<S: Shelf, K: Sink>(
     }
 }
 
-/// Plans these files. Each file is read when its turn comes.
+/// Plans these files. Each file is read only when it is needed.
 pub fn plan_files<S: Shelf, K: Sink>(
     alloc: Global,
     files: &PlanFiles<'_>,

@@ -1,4 +1,4 @@
-//! Policies read from files, and judged.
+//! Reading and checking policy files.
 ghost use Rattle.std.specs.Prelude.{◌≡◌, ◌≢◌, ◌≤◌, ℕ, List, IfOk, OnOk, IfSome, IsTrue, IsErrOf};
 ghost use Rattle.outside_core.specs.Faults.{Rose};
 ghost use Rattle.outside_core.specs.Kept.{KeepsShelf};
@@ -20,7 +20,8 @@ pub struct Judged {
     pub policy: Policy,
 }
 
-/// How the fault of a text is reported. The error means out of memory.
+/// Returns the code and line number with which an error of a text is reported. Fails if out of
+/// memory.
 fn told_of(fault: TextFault) -> Result<Refusal, AllocError>
     ensures memory { OnOk result (fault ≢ TextFault.NoMemory) }
     ensures told { IfOk result (λ r. r ≡ record {
@@ -38,7 +39,7 @@ fn told_of(fault: TextFault) -> Result<Refusal, AllocError>
     }
 }
 
-/// What a policy text says, or why it is refused. The error means out of memory.
+/// Parses the text of a policy, or returns why it is rejected. Fails if out of memory.
 fn lines_in(alloc: Global, text: &[u8]) -> Result<Read<Lines>, AllocError>
     ensures { IfOk result (IsTextRead text.now) }
 {
@@ -48,7 +49,7 @@ fn lines_in(alloc: Global, text: &[u8]) -> Result<Read<Lines>, AllocError>
     }
 }
 
-/// Reads the statements of a policy's file.
+/// Reads the statements of a policy file. A file longer than `MOST_TEXT` bytes is rejected.
 fn read_lines<S: Shelf>(alloc: Global, shelf: &mut S, name: &str) -> Result<Read<Lines>, Stop>
     requires lent { IsTrue (S.lends shelf.old name.now) }
 
@@ -64,7 +65,8 @@ fn read_lines<S: Shelf>(alloc: Global, shelf: &mut S, name: &str) -> Result<Read
     }
 }
 
-/// The refusal for a clause that statements fail. The error means out of memory.
+/// Returns the code and line number with which an error of the statements is reported. Fails if out
+/// of memory.
 fn refusal_of(fault: PolicyFault) -> Result<Refusal, AllocError>
     ensures memory { OnOk result (fault ≢ PolicyFault.NoMemory) }
     ensures told { IfOk result (λ r. r ≡ record { code = code_of fault; place = line_of fault }) }
@@ -78,7 +80,7 @@ fn refusal_of(fault: PolicyFault) -> Result<Refusal, AllocError>
     })
 }
 
-/// The policy that statements give, or why they are refused. The error means out of memory.
+/// Resolves statements to a policy, or returns why they are rejected. Fails if out of memory.
 fn judge(alloc: Global, read: Read<Lines>) -> Result<Read<Judged>, AllocError>
     ensures { (text : List ℕ) → IsTextRead text read → IfOk result (IsPolicyRead text) }
 {
@@ -91,7 +93,7 @@ fn judge(alloc: Global, read: Read<Lines>) -> Result<Read<Judged>, AllocError>
     }
 }
 
-/// Reads a policy's file, and decides whether the policy is accepted.
+/// Reads a policy file, and decides whether the policy is accepted.
 pub fn read_policy<S: Shelf>(alloc: Global, shelf: &mut S, name: &str) -> Result<Read<Judged>, Stop>
     requires lent { IsTrue (S.lends shelf.old name.now) }
 

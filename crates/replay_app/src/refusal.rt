@@ -1,13 +1,13 @@
-//! What is read of an input: it is accepted or refused.
+//! The result of reading an input: accepted or rejected.
 
-/// Why an input is refused: the number of the fault and its place, or 0 where it has none.
+/// Why an input is rejected: the error's code and its position, or 0 if it has no position.
 #[derive(Clone, Copy, PartialEq, Eq, Debug)]
 pub struct Refusal {
     pub code: u32,
     pub place: u32,
 }
 
-/// An input that was read.
+/// The result of reading an input.
 #[derive(Drop)]
 pub enum Read<T> {
     Accepted(T),

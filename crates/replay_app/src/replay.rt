@@ -1,4 +1,4 @@
-//! Runs through a fabric into which a policy's tree is laid.
+//! Runs through a fabric that holds a policy's tree.
 ghost use Rattle.std.specs.Prelude.{◌≡◌, ◌<◌, ◌≤◌, ◌^◌, ◌∷◌, [], IfOk, IfSome, OnOk, OnErr, IsTrue, IsErrOf};
 ghost use Rattle.outside_core.specs.Faults.{Rose};
 ghost use Rattle.outside_core.specs.Written.{Appended, AppendedPrefix};
@@ -38,7 +38,7 @@ use sched_run::Pace;
 use std::alloc::Global;
 use tap_core::{Tap, Watching};
 
-/// Writes the lines of the taps that watched, after the report of a run that ended whole.
+/// Writes the lines of the taps that watched, if the run ended whole. They follow its report.
 fn write_lines<K: Sink, T: Tap>(
     alloc: Global,
     sink: &mut K,
@@ -59,7 +59,7 @@ fn write_lines<K: Sink, T: Tap>(
     }
 }
 
-/// Runs a script or a link over a capture's file, and writes the lines of the taps that watched.
+/// Runs a script or a link over a capture file, and writes the lines of the taps that watched.
 fn replay_capture<S: Shelf, K: Sink, F: Fabric, T: Tap>(
     alloc: Global,
     policy: &Policy,
@@ -99,7 +99,7 @@ fn replay_capture<S: Shelf, K: Sink, F: Fabric, T: Tap>(
     Ok(Status::of_run(ending))
 }
 
-/// Runs a script's file over a capture's file.
+/// Reads a script file and runs it over a capture file.
 pub fn replay_script<S: Shelf, K: Sink, F: Fabric, T: Tap>(
     alloc: Global,
     policy: &Policy,
@@ -149,7 +149,7 @@ pub fn replay_script<S: Shelf, K: Sink, F: Fabric, T: Tap>(
     }
 }
 
-/// Runs what paces a run of a policy whose tree is laid into the target.
+/// Runs a script or a link, as `files.pacing` says, for a policy that is placed in the target.
 fn replay_paced<S: Shelf, K: Sink, F: Fabric, T: Tap>(
     alloc: Global,
     policy: &Policy,
@@ -269,7 +269,7 @@ fn replay_placed<S: Shelf, K: Sink, F: Fabric, T: Tap>(
     }
 }
 
-/// Runs the files of an accepted policy.
+/// Reads the target and runs the other files, under an accepted policy.
 fn replay_target<S: Shelf, K: Sink, F: Fabric, T: Tap>(
     alloc: Global,
     policy: &Policy,
@@ -317,8 +317,8 @@ fn replay_target<S: Shelf, K: Sink, F: Fabric, T: Tap>(
     }
 }
 
-/// Runs these files through the fabric. Each file is read when its turn comes, and the fabric is touched only when the
-/// capture's beginning is accepted.
+/// Runs these files through the fabric. Each file is read only when it is needed, and the fabric is
+/// unchanged until the start of the capture is accepted.
 pub fn replay_files<S: Shelf, K: Sink, F: Fabric, T: Tap>(
     alloc: Global,
     files: &ReplayFiles<'_>,

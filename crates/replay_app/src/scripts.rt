@@ -1,4 +1,4 @@
-//! Scripts read from files.
+//! Reading script files.
 ghost use Rattle.std.specs.Prelude.{◌≡◌, ◌≢◌, ◌≤◌, IfOk, OnOk, IfSome, IsTrue, IsErrOf};
 ghost use Rattle.outside_core.specs.Faults.{Rose};
 ghost use Rattle.outside_core.specs.Kept.{KeepsShelf};
@@ -13,7 +13,8 @@ use events_core::{MOST_BYTES, Script, ScriptFault, parse_events};
 use outside_core::{Shelf, Stop};
 use std::alloc::{AllocError, Global};
 
-/// How the fault of a script is reported. The error means out of memory.
+/// Returns the code and position with which an error of a script is reported. Fails if out of
+/// memory.
 fn told_of(fault: ScriptFault) -> Result<Refusal, AllocError>
     ensures memory { OnOk result (fault ≢ ScriptFault.NoMemory) }
     ensures told { IfOk result (λ r. r ≡ record { code = code_of fault; place = place_of fault }) }
@@ -27,7 +28,7 @@ fn told_of(fault: ScriptFault) -> Result<Refusal, AllocError>
     }
 }
 
-/// What the text of a script says, or why it is refused. The error means out of memory.
+/// Parses the text of a script, or returns why it is rejected. Fails if out of memory.
 fn script_in(alloc: Global, text: &[u8]) -> Result<Read<Script>, AllocError>
     ensures read { IfOk result (λ read. IsRead (IsScriptRefused text.now) (IsScript text.now)
         read) }
@@ -39,7 +40,7 @@ fn script_in(alloc: Global, text: &[u8]) -> Result<Read<Script>, AllocError>
     }
 }
 
-/// Reads a script's file.
+/// Reads a script file. A file longer than `MOST_BYTES` is rejected.
 pub fn read_script<S: Shelf>(alloc: Global, shelf: &mut S, name: &str) -> Result<Read<Script>, Stop>
     requires lent { IsTrue (S.lends shelf.old name.now) }
 

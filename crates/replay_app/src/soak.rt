@@ -1,4 +1,4 @@
-//! A generated load, and its line.
+//! The command `soak`: a generated load and its line.
 ghost use Rattle.std.specs.Prelude.{◌≡◌, ◌++◌, ◌<◌, ◌≤◌, ◌^◌, IfOk, OnOk, OnErr, IsErrOf};
 ghost use Rattle.outside_core.specs.Faults.{Rose};
 ghost use Rattle.outside_core.specs.Written.{Appended, AppendedPrefix};
@@ -23,7 +23,7 @@ use sched_capture::{LoadCounts, LoadSize, Placement, soak};
 use std::alloc::{AllocError, Global};
 use text_core::put_decimal;
 
-/// Appends a word with its count, each after a space. The error means out of memory.
+/// Appends a label and its count, with a space before each. Fails if out of memory.
 fn put_count(into: &mut Vec<u8>, word: &str, count: u64) -> Result<(), AllocError>
     ensures { OnOk result (into.new.items ≡ into.old.items ++ counted word.now count) }
 {
@@ -33,7 +33,7 @@ fn put_count(into: &mut Vec<u8>, word: &str, count: u64) -> Result<(), AllocErro
     put_decimal(into, count as u128)
 }
 
-/// Appends the line of a load. The error means out of memory.
+/// Appends the line of a load. Fails if out of memory.
 fn put_line(into: &mut Vec<u8>, counts: LoadCounts) -> Result<(), AllocError>
     ensures { OnOk result (into.new.items ≡ into.old.items ++ soak_line counts) }
 {
@@ -60,7 +60,7 @@ fn write_counts<K: Sink>(alloc: Global, counts: LoadCounts, sink: &mut K) -> Res
     write(alloc, &line, sink)
 }
 
-/// A target of three levels of arity 4.
+/// Returns a target of three levels of arity 4. Fails if out of memory.
 fn target(alloc: Global) -> Result<Target, AllocError>
     ensures { IfOk result (λ t. t ≡ soak_target) }
 {
@@ -68,7 +68,8 @@ fn target(alloc: Global) -> Result<Target, AllocError>
     Ok(Target { arities, above: 4 })
 }
 
-/// Lays the tree of the office's policy into that target, which has room for it. The error means out of memory.
+/// Embeds the tree of the office policy into that target, which has room for it. Fails if out of
+/// memory.
 fn placement(alloc: Global, policy: &Policy) -> Result<Placement, AllocError>
     requires office { IsResolved office_lines policy.now }
     ensures target { IfOk result (λ p. p.target ≡ soak_target) }
@@ -84,7 +85,7 @@ fn placement(alloc: Global, policy: &Policy) -> Result<Placement, AllocError>
     }
 }
 
-/// Runs a load through the fabric under the policy of an office, and writes its line.
+/// Runs a load through the fabric under the office policy, and writes its line.
 fn soak_office<K: Sink, F: Fabric>(
     alloc: Global,
     policy: &Policy,
@@ -111,8 +112,8 @@ fn soak_office<K: Sink, F: Fabric>(
     Ok(Status::Done)
 }
 
-/// Runs a load through the fabric, under the policy of an office, whose tree is laid into a target of three levels of arity 4,
-/// and writes its line.
+/// Runs a load through the fabric under the office policy, and writes its line. The policy's tree
+/// is embedded into a target of three levels of arity 4.
 pub fn soak_load<K: Sink, F: Fabric>(
     alloc: Global,
     load: LoadSize,

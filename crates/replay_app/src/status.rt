@@ -1,4 +1,4 @@
-//! The statuses with which the program ends where nothing stops it.
+//! The exit statuses of a program that nothing stops.
 ghost use Rattle.std.specs.Prelude.{◌≡◌};
 ghost use Rattle.replay_app.specs.Statuses.{status_code, kind_status, run_status, forward_status};
 
@@ -6,26 +6,26 @@ use report_core::FaultKind;
 use sched_capture::ForwardEnding;
 use sched_defs::Ending;
 
-/// How the program ends where nothing stops it.
+/// How the program ends if nothing stops it.
 #[derive(Clone, Copy, PartialEq, Eq, Debug)]
 pub enum Status {
-    /// What was asked for was written whole.
+    /// The command's output was written whole.
     Done,
-    /// The words are malformed.
+    /// The arguments are malformed.
     NoForm,
-    /// The policy is refused.
+    /// The policy is rejected.
     BadPolicy,
-    /// The target is refused.
+    /// The target is rejected.
     BadTarget,
-    /// The policy's tree, or the topology, can't be laid into the target.
+    /// The target has no room for the policy's tree, or for the topology.
     NoRoom,
-    /// The script is refused, or asks for a packet past the last.
+    /// The script is rejected, or asks for a packet after the last.
     BadScript,
-    /// The capture has a fault.
+    /// The capture has an error.
     BadCapture,
-    /// The topology is refused.
+    /// The topology is rejected.
     BadTree,
-    /// The map is refused.
+    /// The map is rejected.
     BadMap,
     /// A departure would start at 2^32 seconds or later.
     LateStart,
@@ -34,7 +34,7 @@ pub enum Status {
 }
 
 impl Status {
-    /// The number with which the program ends.
+    /// Returns the program's exit status.
     pub fn code(self) -> u8
         ensures { result ≡ status_code self }
     {
@@ -53,7 +53,7 @@ impl Status {
         }
     }
 
-    /// The status where an input of this kind is refused.
+    /// Returns the status for a rejected input of this kind.
     pub fn refused(kind: FaultKind) -> Status
         ensures { result ≡ kind_status kind }
     {
@@ -69,7 +69,7 @@ impl Status {
         }
     }
 
-    /// The status of a run that ended so.
+    /// Returns the status of a run with this ending.
     pub fn of_run(ending: Ending) -> Status
         ensures { result ≡ run_status ending }
     {
@@ -80,7 +80,7 @@ impl Status {
         }
     }
 
-    /// The status of a run that ended so, whose departures are written as a capture.
+    /// Returns the status of a run with this ending, whose departures are written as a capture.
     pub fn of_forward(ending: ForwardEnding) -> Status
         ensures { result ≡ forward_status ending }
     {

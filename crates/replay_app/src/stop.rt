@@ -1,10 +1,10 @@
-//! The statuses with which the program ends where something stops it.
+//! The exit statuses of a program that is stopped.
 ghost use Rattle.std.specs.Prelude.{◌≡◌};
 ghost use Rattle.replay_app.specs.Stops.{stop_status};
 
 use outside_core::Stop;
 
-/// The status with which the program ends where a file can't be read, the text can't be written, or there is no memory.
+/// Returns the exit status if reading a file failed, writing the output failed, or memory ran out.
 pub fn stop_status(stop: Stop) -> u8
     ensures { result ≡ stop_status stop }
 {

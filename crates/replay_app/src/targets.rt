@@ -1,4 +1,4 @@
-//! Targets read from files.
+//! Reading target files.
 ghost use Rattle.std.specs.Prelude.{◌≡◌, ◌≢◌, ◌≤◌, IfOk, OnOk, IfSome, IsTrue, IsErrOf};
 ghost use Rattle.outside_core.specs.Faults.{Rose};
 ghost use Rattle.outside_core.specs.Kept.{KeepsShelf};
@@ -17,7 +17,8 @@ use target_core::MOST_BYTES;
 /// The target has no room for the topology.
 pub const NO_ROOM: Refusal = Refusal { code: 1, place: 0 };
 
-/// How the fault of a target, which has no place is reported. The error means out of memory.
+/// Returns the code with which an error of a target is reported. Such an error has no position.
+/// Fails if out of memory.
 fn told_of(fault: TargetFault) -> Result<Refusal, AllocError>
     ensures memory { OnOk result (fault ≢ TargetFault.NoMemory) }
     ensures told { IfOk result (λ r. r ≡ record { code = code_of fault; place = 0 }) }
@@ -31,7 +32,7 @@ fn told_of(fault: TargetFault) -> Result<Refusal, AllocError>
     }
 }
 
-/// What the text of a target says, or why it is refused. The error means out of memory.
+/// Parses the text of a target, or returns why it is rejected. Fails if out of memory.
 fn target_in(alloc: Global, text: &[u8]) -> Result<Read<Target>, AllocError>
     ensures read { IfOk result (λ read. IsRead (IsTargetRefused text.now) (IsTargetOf text.now)
         read) }
@@ -43,7 +44,7 @@ fn target_in(alloc: Global, text: &[u8]) -> Result<Read<Target>, AllocError>
     }
 }
 
-/// Reads a target's file.
+/// Reads a target file. A file longer than `MOST_BYTES` is rejected.
 pub fn read_target_file<S: Shelf>(
     alloc: Global,
     shelf: &mut S,

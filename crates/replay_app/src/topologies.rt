@@ -1,4 +1,4 @@
-//! Topologies read from files.
+//! Reading topology files.
 ghost use Rattle.std.specs.Prelude.{◌≡◌, ◌≢◌, IfOk, OnOk, IfSome, IsTrue, IsErrOf};
 ghost use Rattle.outside_core.specs.Faults.{Rose};
 ghost use Rattle.outside_core.specs.Kept.{KeepsShelf};
@@ -15,7 +15,8 @@ use outside_core::{Shelf, Stop};
 use std::alloc::{AllocError, Global};
 use tree_core::Topo;
 
-/// How the fault of a topology is reported. The error means out of memory.
+/// Returns the code and position with which an error of a topology is reported. Fails if out of
+/// memory.
 fn told_of(fault: TreeFault) -> Result<Refusal, AllocError>
     ensures memory { OnOk result (fault ≢ TreeFault.NoMemory) }
     ensures told { IfOk result (λ r. r ≡ record { code = code_of fault; place = place_of fault }) }
@@ -29,7 +30,7 @@ fn told_of(fault: TreeFault) -> Result<Refusal, AllocError>
     }
 }
 
-/// The topology that a text gives, or why the text is refused. The error means out of memory.
+/// Parses the text of a topology, or returns why it is rejected. Fails if out of memory.
 fn topology_in(alloc: Global, text: &[u8]) -> Result<Read<Topo>, AllocError>
     ensures read { IfOk result (λ read. IsRead (IsTreeRefused text.now) (λ t.
         IsTreeText text.now (topology t)) read) }
@@ -41,7 +42,7 @@ fn topology_in(alloc: Global, text: &[u8]) -> Result<Read<Topo>, AllocError>
     }
 }
 
-/// Reads a topology's file.
+/// Reads a topology file. A file longer than `MOST_TREE_BYTES` is rejected.
 pub fn read_topology<S: Shelf>(alloc: Global, shelf: &mut S, name: &str) -> Result<Read<Topo>, Stop>
     requires lent { IsTrue (S.lends shelf.old name.now) }
 

@@ -1,4 +1,5 @@
-//! Runs along a map that is given of a policy's tree into a topology, which is laid into the target.
+//! The command `via`: runs along a given map of a policy's tree into a topology, which is embedded
+//! into the target.
 ghost use Rattle.std.specs.Prelude.{◌≡◌, ◌<◌, ◌≤◌, ◌^◌, ◌∷◌, ◌++◌, [], IfOk, OnOk, OnErr, IsErrOf};
 ghost use Rattle.outside_core.specs.Faults.{Rose};
 ghost use Rattle.outside_core.specs.Written.{Appended, AppendedPrefix};
@@ -48,7 +49,7 @@ struct Route<'a> {
     given: &'a Given,
 }
 
-/// Appends the line that names two nodes. The error means out of memory.
+/// Appends the line that names two nodes. Fails if out of memory.
 fn put_pair(into: &mut Vec<u8>, first: &str, second: &str) -> Result<(), AllocError>
     ensures { OnOk result (into.new.items ≡ into.old.items ++ pair_line first.now second.now) }
 {
@@ -59,7 +60,8 @@ fn put_pair(into: &mut Vec<u8>, first: &str, second: &str) -> Result<(), AllocEr
     into.extend_from_slice(b"\n")
 }
 
-/// The line of the two nodes that break a map, where it is two that do, and else no text. The error means out of memory.
+/// Returns the line of the two nodes that break a map, or an empty text if the error names no two
+/// nodes. Fails if out of memory.
 fn pair_text(alloc: Global, policy: &Policy, fault: MapFault) -> Result<Vec<u8>, AllocError>
     requires nodes { NamesNodes (nodes policy.now.policy.tree) fault }
     ensures { IfOk result (λ text. text.items ≡ pair_text (names_of policy.now.policy) fault) }
@@ -71,7 +73,7 @@ fn pair_text(alloc: Global, policy: &Policy, fault: MapFault) -> Result<Vec<u8>,
     Ok(text)
 }
 
-/// Writes the refusal of a map for the clause of an embedding that it breaks.
+/// Writes the error of a map that breaks a clause of an embedding.
 fn refuse_map<K: Sink>(
     alloc: Global,
     policy: &Policy,
@@ -96,7 +98,7 @@ fn refuse_map<K: Sink>(
     refuse_behind(alloc, &pair, sink, FaultKind::Map, cause)
 }
 
-/// Runs a script's file over a capture's file, where no tap watches.
+/// Runs a script file over a capture file, without taps.
 fn run_alone<S: Shelf, K: Sink, F: Fabric>(
     alloc: Global,
     policy: &Policy,
@@ -135,7 +137,8 @@ fn run_alone<S: Shelf, K: Sink, F: Fabric>(
     )
 }
 
-/// Embeds the topology into an accepted target, and with it the policy's tree along the map, and runs the other files.
+/// Embeds the topology into an accepted target, places the policy's tree there along the map, and
+/// runs the other files.
 fn via_placed<S: Shelf, K: Sink, F: Fabric>(
     alloc: Global,
     route: &Route<'_>,
@@ -184,7 +187,7 @@ fn via_placed<S: Shelf, K: Sink, F: Fabric>(
     }
 }
 
-/// Runs the files along a map that is accepted.
+/// Reads the target and runs the other files, along an accepted map.
 fn via_target<S: Shelf, K: Sink, F: Fabric>(
     alloc: Global,
     route: &Route<'_>,
@@ -222,7 +225,7 @@ fn via_target<S: Shelf, K: Sink, F: Fabric>(
     }
 }
 
-/// Runs the files of an accepted policy and topology.
+/// Reads the map and runs the other files, under an accepted policy and topology.
 fn via_map<S: Shelf, K: Sink, F: Fabric>(
     alloc: Global,
     policy: &Policy,
@@ -269,7 +272,7 @@ fn via_map<S: Shelf, K: Sink, F: Fabric>(
     }
 }
 
-/// Runs the files of an accepted policy.
+/// Reads the topology and runs the other files, under an accepted policy.
 fn via_topology<S: Shelf, K: Sink, F: Fabric>(
     alloc: Global,
     policy: &Policy,
@@ -306,8 +309,8 @@ fn via_topology<S: Shelf, K: Sink, F: Fabric>(
     }
 }
 
-/// Runs these files through the fabric, along the given map. Each file is read when its turn comes, and the fabric is touched
-/// only when the capture's beginning is accepted.
+/// Runs these files through the fabric, along the given map. Each file is read only when it is
+/// needed, and the fabric is unchanged until the start of the capture is accepted.
 pub fn via_files<S: Shelf, K: Sink, F: Fabric>(
     alloc: Global,
     files: &ViaFiles<'_>,

@@ -1,4 +1,4 @@
-//! Runs through the fabric that taps watch.
+//! Runs through the fabric with taps.
 ghost use Rattle.std.specs.Prelude.{◌≡◌, ◌<◌, ◌≤◌, ◌^◌, vec_len, IfOk, IsErrOf};
 ghost use Rattle.outside_core.specs.Faults.{Rose};
 ghost use Rattle.sched_embedded.specs.Fabrics.{IsAsItWas};
@@ -19,7 +19,8 @@ use std::alloc::Global;
 use std::mem;
 use tap_core::{Named, Tap, Watching};
 
-/// Runs these files through the fabric. Where a script paces the run, the taps of the named kinds watch it.
+/// Runs these files through the fabric. If a script paces the run, the taps of the named kinds
+/// watch it.
 pub fn replay_watched<S: Shelf, K: Sink, F: Fabric, T: Tap>(
     alloc: Global,
     files: &ReplayFiles<'_>,

@@ -1,4 +1,4 @@
-//! The words of the commands.
+//! The arguments of the commands.
 ghost use Rattle.std.specs.Prelude.{◌≡◌, ◌≤◌, IfSome, IsFalse, IsTrue, MatchOption, option_map};
 ghost use Rattle.sched_defs.specs.SendTime.{IsRate};
 ghost use Rattle.sched_run.specs.Drawings.{most_load};
@@ -13,10 +13,10 @@ use sched_run::MOST_LOAD;
 use tap_core::Named;
 use text_core::decimal;
 
-/// What paces a run through the fabric.
+/// What paces a run through the fabric: a script or a link.
 #[derive(Clone, Copy, Debug)]
 pub enum Pacing<'a> {
-    /// The script of this name, with the kinds of taps that watch.
+    /// A script of this name, and the kinds of taps that watch.
     Script(&'a str, Named),
     /// A link at this rate in bytes per second.
     Link(u64),
@@ -24,7 +24,7 @@ pub enum Pacing<'a> {
     Forward(u64),
 }
 
-/// The names of the files of a run through the fabric.
+/// The file names of a run through the fabric.
 #[derive(Clone, Copy, Debug)]
 pub struct ReplayFiles<'a> {
     pub policy: &'a str,
@@ -33,7 +33,7 @@ pub struct ReplayFiles<'a> {
     pub pacing: Pacing<'a>,
 }
 
-/// The names of the files of a run through a policy's own tree.
+/// The file names of a run through a policy's own tree.
 #[derive(Clone, Copy, Debug)]
 pub struct DirectFiles<'a> {
     pub policy: &'a str,
@@ -41,14 +41,14 @@ pub struct DirectFiles<'a> {
     pub script: &'a str,
 }
 
-/// The names of the files of a plan.
+/// The file names of a plan.
 #[derive(Clone, Copy, Debug)]
 pub struct PlanFiles<'a> {
     pub policy: &'a str,
     pub target: &'a str,
 }
 
-/// The names of the files of a run along a given map.
+/// The file names of a run along a given map.
 #[derive(Clone, Copy, Debug)]
 pub struct ViaFiles<'a> {
     pub policy: &'a str,
@@ -59,24 +59,24 @@ pub struct ViaFiles<'a> {
     pub script: &'a str,
 }
 
-/// What the words ask for.
+/// The command that the arguments give.
 #[derive(Clone, Copy, Debug)]
 pub enum Command<'a> {
-    /// A run over these files, through the fabric, paced by a script or by a link.
+    /// Runs these files through the fabric, paced by a script or by a link.
     Replay(ReplayFiles<'a>),
-    /// The canonical text of a policy's file.
+    /// Prints the canonical text of a policy file.
     Check(&'a str),
-    /// Where a policy's tree is laid in a target.
+    /// Prints where a target holds a policy's tree.
     Plan(PlanFiles<'a>),
-    /// A run over these files, through the policy's own tree.
+    /// Runs these files through the policy's own tree.
     Direct(DirectFiles<'a>),
-    /// A generated load, through the fabric.
+    /// Runs a generated load through the fabric.
     Soak(LoadSize),
-    /// A run over these files, through the fabric, along a map that is given into a topology.
+    /// Runs these files through the fabric, along a given map into a topology.
     Via(ViaFiles<'a>),
 }
 
-/// The rate that a word says, if one does.
+/// Parses a rate in bytes per second, between 1 and `MOST_RATE`.
 fn rate_of(word: &str) -> Option<u64>
     ensures value { result ≡ rate_of word.now }
     ensures range { IfSome result IsRate }
@@ -85,14 +85,14 @@ fn rate_of(word: &str) -> Option<u64>
     (1..=MOST_RATE).contains(&rate).then_some(rate)
 }
 
-/// The number that a word says, where it is at most another one.
+/// Parses a number of at most `most`.
 fn number_within(most: u64, word: &str) -> Option<u64>
     ensures { result ≡ number_within most word.now }
 {
     decimal(word.as_bytes()).filter(|number| *number <= most)
 }
 
-/// The load that the words after `soak` say: a seed, and how many events are drawn.
+/// Parses the arguments after `soak`: a seed, and how many events are drawn.
 fn load_of(seed: &str, count: &str) -> Option<LoadSize>
     ensures load { result ≡ load_of seed.now count.now }
     ensures short { IfSome result (λ load. load.count ≤ most_load) }
@@ -102,7 +102,7 @@ fn load_of(seed: &str, count: &str) -> Option<LoadSize>
     Some(LoadSize { seed, count })
 }
 
-/// The command that three words spell, if they are in a form.
+/// Parses a command line of three arguments.
 fn three_words<'a>(command: &str, second: &'a str, third: &'a str) -> Option<Command<'a>>
     ensures range { IfSome result CanRun }
     ensures form { MatchOption result (three_words command.now second.now third.now ≡ no_form) (λ c.
@@ -118,7 +118,8 @@ fn three_words<'a>(command: &str, second: &'a str, third: &'a str) -> Option<Com
     }
 }
 
-/// The kinds of taps that the words name in pairs, each at most once, and these.
+/// Adds the kinds of taps that the arguments name in pairs to those in `named`. Each kind may be
+/// named only once.
 fn named_in(named: Named, words: &[String]) -> Option<Named>
     ensures { result ≡ named_in named (texts words.now) }
 {
@@ -131,7 +132,7 @@ fn named_in(named: Named, words: &[String]) -> Option<Named>
     }
 }
 
-/// The rate that a word says, after which no other stands.
+/// Parses a rate that must be the last argument.
 fn last_rate(rate: &str, more: &[String]) -> Option<u64>
     ensures value { result ≡ last_rate rate.now (texts more.now) }
     ensures range { IfSome result IsRate }
@@ -142,7 +143,8 @@ fn last_rate(rate: &str, more: &[String]) -> Option<u64>
     rate_of(rate)
 }
 
-/// What paces a run through the fabric, by the first word, the fifth, and those after it.
+/// Returns what paces a run through the fabric, from the first argument, the fifth, and those after
+/// it.
 fn pacing_of<'a>(command: &str, fifth: &'a str, more: &[String]) -> Option<Pacing<'a>>
     ensures pacing { option_map pacing_form result ≡ pacing_by command.now fifth.now
         (texts more.now) }
@@ -156,7 +158,8 @@ fn pacing_of<'a>(command: &str, fifth: &'a str, more: &[String]) -> Option<Pacin
     }
 }
 
-/// A run along a given map, by the names of a policy, a topology, a map and a target, if two more follow them.
+/// Returns the files of a run along a given map, if exactly a capture and a script follow these
+/// four names.
 fn via_by<'a>(
     policy: &'a str,
     topology: &'a str,
@@ -181,7 +184,7 @@ fn via_by<'a>(
     }
 }
 
-/// The command that the words spell, if they are in a form.
+/// Parses the arguments, or returns none if they are malformed.
 pub fn command_of(words: &[String]) -> Option<Command<'_>>
     ensures range { IfSome result CanRun }
     ensures form { MatchOption result (form_of (texts words.now) ≡ no_form) (λ c.
@@ -224,7 +227,7 @@ pub fn command_of(words: &[String]) -> Option<Command<'_>>
     }
 }
 
-/// Whether the words are in a form that runs packets through the fabric.
+/// Returns whether the arguments give a command that runs packets through the fabric.
 pub fn uses_fabric(words: &[String]) -> bool
     ensures used { IsTrue result → UsesNoFabric (form_in words.now) → ⊥ }
     ensures unused { IsFalse result → UsesNoFabric (form_in words.now) }

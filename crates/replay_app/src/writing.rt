@@ -1,4 +1,4 @@
-//! Texts that are written whole.
+//! Writing whole texts.
 ghost use Rattle.std.specs.Prelude.{◌≡◌, ◌≤◌, ◌++◌, IfOk, OnOk, OnErr, IsErrOf};
 ghost use Rattle.outside_core.specs.Faults.{Rose};
 ghost use Rattle.outside_core.specs.Written.{Appended, AppendedPrefix};
@@ -13,7 +13,7 @@ use outside_core::{Sink, Stop};
 use report_core::{FaultKind, Report, write_fault};
 use std::alloc::Global;
 
-/// Writes the line of a refusal as the whole text.
+/// Writes the line of an error as the whole text.
 pub fn refuse<K: Sink>(
     alloc: Global,
     sink: &mut K,
@@ -33,7 +33,7 @@ pub fn refuse<K: Sink>(
     Ok(Status::refused(kind))
 }
 
-/// Writes a text, and the line of a refusal after it.
+/// Writes a text, followed by the line of an error.
 pub fn refuse_behind<K: Sink>(
     alloc: Global,
     text: &[u8],

@@ -1,4 +1,4 @@
-//! The program: it does what its words say on real files and standard output.
+//! The program: runs its command on real files and standard output.
 #![tactic(auto)]
 
 use fabric_core::FlatFabric;

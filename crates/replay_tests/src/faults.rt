@@ -1,4 +1,5 @@
-//! Runs of each command over a shelf and a sink of which each call fails in turn, and that hand over bytes in small pieces.
+//! Runs of each command over a shelf and a sink whose calls fail in turn. The shelf returns, and
+//! the sink takes, only a few bytes at a time.
 use crate::files::{CAPTURE, POLICY, arguments, files};
 use fabric_core::FlatFabric;
 use outside_core::{MemShelf, MemSink};
@@ -8,7 +9,7 @@ use std::process::Abort;
 use std::test::Fail;
 use tap_core::{BytesTap, Tap};
 
-/// A command with its arguments, and what it writes when no call fails.
+/// A command with its arguments, and the text that it writes if no call fails.
 #[derive(Clone, Copy)]
 struct Row {
     arguments: &'static [&'static str],
@@ -18,7 +19,7 @@ struct Row {
 const REPORT: &[u8] = b"a 1 1 root 0\na 2 2 root 0\nd 3 1 root 0\nd 4 2 root 0\n\
     end pushed 2 popped 2 empty 0 held 0 unsent 0\n";
 
-/// The departures of the two packets, which a capture in nanoseconds shows a microsecond apart.
+/// The departures of the two packets, as a capture in nanoseconds. They are one microsecond apart.
 const DEPARTURES: &[u8] = b"\x4d\x3c\xb2\xa1\x02\0\x04\0\0\0\0\0\0\0\0\0\0\0\x04\0\x93\0\0\0\
     \x01\0\0\0\0\0\0\0\x04\0\0\0\x04\0\0\0\0\0\0\x01\
     \x01\0\0\0\xe8\x03\0\0\x04\0\0\0\x04\0\0\0\0\0\0\x02";
@@ -60,7 +61,7 @@ const ROWS: [Row; 8] = [
     },
 ];
 
-/// The status of a command over this shelf and this sink.
+/// Returns the status of a command over this shelf and this sink.
 fn status_of(
     alloc: Global,
     arguments: &[String],
@@ -73,8 +74,9 @@ fn status_of(
     Ok(run(alloc, arguments, shelf, sink, &mut fabric, &mut taps))
 }
 
-/// The status of a row of which this call of the shelf and this call of the sink fail, and what is written: seven bytes are
-/// read at a time at most, and five written.
+/// Runs a row, and returns its status and the text written. The call of the shelf with number
+/// `read` and that of the sink with number `write` fail. At most seven bytes are read at a time,
+/// and five written.
 fn answer_to(alloc: Global, row: &Row, read: u64, write: u64) -> Result<(u8, Vec<u8>), Fail> {
     let list = arguments(alloc, row.arguments, &[])?;
     let held = files(alloc, POLICY, CAPTURE, b"rest\ndrain\n")?;
@@ -84,7 +86,8 @@ fn answer_to(alloc: Global, row: &Row, read: u64, write: u64) -> Result<(u8, Vec
     Ok((status, sink.bytes().to_vec(alloc)?))
 }
 
-/// Asks that an answer is the whole one, or a prefix of it with the status of the fault. The answer is whether it is whole.
+/// Checks that an answer is the whole text, or a prefix of it with the status `fault`. Returns
+/// whether it is whole.
 fn is_whole<R: Abort>(rt: &R, row: &Row, answer: &(u8, Vec<u8>), fault: u8) -> bool {
     let (status, written) = answer;
     let whole = *status == 0;
@@ -102,7 +105,7 @@ fn each_call_of_the_shelf_fails(rt: HostRuntime) -> Result<(), Fail> {
         for call in 1..=50 {
             let answer = answer_to(alloc, row, call, 0)?;
             let whole = is_whole(&rt, row, &answer, 8);
-            // Once a run meets no failing call, no later one does.
+            // Once a run meets no failing call, later runs don't either.
             assert!(rt; whole || !met_none);
             met_none = whole;
         }

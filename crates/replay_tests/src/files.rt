@@ -3,10 +3,10 @@ use std::alloc::{AllocError, Global};
 
 pub(crate) const POLICY: &[u8] = b"policy 1\nclass all\nleaf root using fifo classes all\n";
 
-/// One leaf that holds a packet at most.
+/// One leaf that queues at most one packet.
 pub(crate) const FULL: &[u8] = b"policy 2\nclass all\nleaf root using fifo limit 1 classes all\n";
 
-/// One queue.
+/// A target with one queue.
 const TARGET: &[u8] = b"arity = 2\nheight = 0\n";
 
 /// A header and two records of four bytes each, as tcpdump writes them.
@@ -15,7 +15,7 @@ pub(crate) const CAPTURE: &[u8] =
     \x01\0\0\0\0\0\0\0\x04\0\0\0\x04\0\0\0\0\0\0\x01\
     \x01\0\0\0\x01\0\0\0\x04\0\0\0\x04\0\0\0\0\0\0\x02";
 
-/// Arguments in memory, those of the second list after those of the first.
+/// Returns arguments in memory: those of the first list, followed by those of the second.
 pub(crate) fn arguments(
     alloc: Global,
     first: &[&str],
@@ -31,7 +31,7 @@ pub(crate) fn arguments(
     Ok(arguments)
 }
 
-/// A file more.
+/// Appends a file.
 fn put_file(
     alloc: Global,
     files: &mut Vec<(String, Vec<u8>)>,
@@ -44,7 +44,8 @@ fn put_file(
     Ok(())
 }
 
-/// The files `p`, `t`, `c` and `e` of a run, and a topology `g` and a map `m` for its policy.
+/// Returns the files `p`, `t`, `c` and `e` of a run, and a topology `g` and a map `m` for its
+/// policy.
 pub(crate) fn files(
     alloc: Global,
     policy: &[u8],

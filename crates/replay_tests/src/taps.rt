@@ -1,4 +1,4 @@
-//! Runs that other taps than the program's watch, and the taps that are left.
+//! Runs with other taps than the program's, and the taps that are left.
 use crate::files::{CAPTURE, FULL, POLICY, arguments, files};
 use fabric_core::FlatFabric;
 use outside_core::{PlainShelf, PlainSink};
@@ -8,7 +8,8 @@ use std::alloc::{AllocError, Global};
 use std::test::Fail;
 use tap_core::{BytesTap, Dropped, DropsTap, FirstTap, OrderTap, Seen, Tap, TapKind};
 
-/// A tap that another crate than `tap_core` adds: it counts as `OrderTap` does, and how often it is called.
+/// A tap that is defined outside `tap_core`. It works as `OrderTap` does, and counts how often it
+/// is called.
 #[derive(Drop)]
 struct AskedTap {
     order: OrderTap,
@@ -42,7 +43,7 @@ impl Tap for AskedTap {
     }
 }
 
-/// A run with these arguments after the names of the files, and what it leaves.
+/// A run with these arguments after the file names, and its result.
 #[derive(Clone, Copy)]
 struct Row {
     policy: &'static [u8],
@@ -55,7 +56,7 @@ struct Row {
 }
 
 const ROWS: [Row; 6] = [
-    // If no kind is named, no tap watches and all are dropped.
+    // If no kind is named, no tap watches, and all are dropped.
     Row {
         policy: POLICY,
         script: b"rest\ndrain\n",
@@ -84,7 +85,7 @@ const ROWS: [Row; 6] = [
             tap first\ntap first\ntap bytes 0 0\ntap first\ntap first\n",
         left: b"tap first\ntap first\ntap bytes 0 0\ntap first\ntap first\n",
     },
-    // Only taps of drops count them.
+    // Only taps of kind `drops` count drops.
     Row {
         policy: FULL,
         script: b"a 2\nd 2\n",
@@ -94,7 +95,7 @@ const ROWS: [Row; 6] = [
             tap bytes 1 4\ntap drops 1 4\n",
         left: b"tap bytes 1 4\ntap drops 1 4\n",
     },
-    // After an error in mid-run no line of a tap is written, and the list is as the run left it.
+    // After an error in mid-run no tap line is written, and the list is as the run left it.
     Row {
         policy: POLICY,
         script: b"a\nd\na 2\n",
@@ -103,7 +104,7 @@ const ROWS: [Row; 6] = [
         text: b"a 1 1 root 0\nd 2 1 root 0\na 3 2 root 0\nfault script 3 4\n",
         left: b"tap bytes 1 4\ntap first 1\ntap first 1\n",
     },
-    // An error before the run leaves the list unchanged.
+    // After an error before the run, the list is unchanged.
     Row {
         policy: b"policy 1\n",
         script: b"d\n",
@@ -114,7 +115,7 @@ const ROWS: [Row; 6] = [
     },
 ];
 
-/// The lines of taps.
+/// Returns the lines of taps.
 fn lines_of(alloc: Global, taps: &[Box<dyn Tap>]) -> Result<Vec<u8>, AllocError> {
     let mut lines = Vec::new(alloc);
     for tap in taps {
@@ -123,7 +124,7 @@ fn lines_of(alloc: Global, taps: &[Box<dyn Tap>]) -> Result<Vec<u8>, AllocError>
     Ok(lines)
 }
 
-/// The status of a row and what it writes.
+/// Runs a row, and returns its status and the text written.
 fn answer_to(
     alloc: Global,
     row: &Row,
@@ -137,8 +138,9 @@ fn answer_to(
     Ok((status, sink.bytes().to_vec(alloc)?))
 }
 
-/// The status of a row, what it writes, and the lines of the taps that are left. Those of the first packets that are handed in
-/// have the limits 0, 1, 2 and 64; the last but two is the tap of another crate.
+/// Runs a row, and returns its status, the text written, and the lines of the taps that are left.
+/// The taps of kind `first` have the limits 0, 1, 2 and 64. The last tap but two is the one of
+/// this crate.
 fn watch(alloc: Global, row: &Row) -> Result<(u8, Vec<u8>, Vec<u8>), Fail> {
     let none = FirstTap::new(alloc, 0)?;
     let one = FirstTap::new(alloc, 1)?;

@@ -1,4 +1,4 @@
--- One event after another, made by a scheduler of which a state is known that it stands for.
+-- Events made in turn by a scheduler that is known to represent a state.
 use Rattle.std.proofs.Common.{◌≡◌, Bool, false, if◌then◌else◌, Ok, sym, ap, ◌∙◌, subst}
 use Rattle.packet_defs.specs.declared.packet.Packet.{Packet}
 use Rattle.policy_defs.specs.Policy.{Policy}
@@ -11,7 +11,7 @@ use Rattle.sched_core.specs.Arrivals.{leaf_number, arrival_of, pushes_of}
 use Rattle.sched_core.specs.Standing.{StandForOne, ForEachState}
 
 module _ {C U : Type 0} (stands : C → U → SourceState → Type 0) (own policy : Policy) (same : own ≡ policy) (accepted : IsAccepted policy) (c : C) (u : U) where
-  -- what is asked of the scheduler's own policy
+  -- a requirement on the policy is also one on the scheduler's own policy
   pub asked : (P : Policy → SourceState → Type 0) → StandForOne stands policy c u (P policy) → StandForOne stands own c u (P own)
   asked P one = subst (λ (q : Policy). StandForOne stands q c u (P q)) (sym same) one
 
@@ -19,7 +19,8 @@ module _ {C U : Type 0} (stands : C → U → SourceState → Type 0) (own polic
     pub stands_arrived : (p : Packet) → ForEachState stands own c u (λ s. stands c' u' (arrived own p s)) → ForEachState stands policy c u (λ s. stands c' u' (arrived policy p s))
     stands_arrived p each = subst (λ (q : Policy). ForEachState stands q c u (λ s. stands c' u' (arrived q p s))) same each
 
-    -- a departure keeps what it keeps of a state
+    -- if departures preserve P, then P holds of a state that the scheduler represents after the
+    -- departure
     pub left : (P : SourceState → Type 0) → ((s : SourceState) → P s → P (departed policy s)) → ForEachState stands own c u (λ s. stands c' u' (departed own s))
         → StandForOne stands policy c u P → StandForOne stands policy c' u' P
     left P kept each one =

@@ -1,4 +1,4 @@
--- Two packets that come to a single leaf in the two orders.
+-- Two packets that arrive at a single leaf in either order.
 use Rattle.std.specs.Option.{option_map_or}
 use Rattle.std.proofs.Common.{◌≡◌, ◌≢◌, ◌<◌, ◌+◌, ℕ, Bool, true, false, Some, None, List, [], ◌∷◌, length, refl, sym, ap, ◌∙◌, subst, arith}
 use Rattle.std.specs.Prelude.{IsSomeAnd, nat_eq, max, if◌then◌else◌}
@@ -92,7 +92,7 @@ module _ (policy : Policy) (plain : IsPlain policy.tree) where
   pub both_pushed : (p q : Packet) → after policy (Arrive p ∷ Arrive q ∷ []) (start policy) ≡ pushed policy q (pushed policy p (start policy))
   both_pushed p q = ap (λ (s : SourceState). arrived policy q s) (arrives_pushed p (start policy)) ∙ arrives_pushed q (pushed policy p (start policy))
 
-  -- all packets stand at the root
+  -- the leaf of every packet is the root
   leads_to_root : (a : Address) → LeadsToLeaf policy.tree a → a ≡ []
   leads_to_root [] l = refl
   leads_to_root (i ∷ a) l = absurd (subst (λ (t : Tree Node). LeadsToLeaf t (i ∷ a)) plain.is l)
@@ -105,7 +105,7 @@ module _ (policy : Policy) (plain : IsPlain policy.tree) where
   all_at_root s a sound l =
       ap (λ (b : Address). filled s b) (leads_to_root a l) ∙ filled_here s.tree (subst (λ (t : Tree Node). SameShape s.tree t) plain.is sound.shape)
 
-  -- the nodes of two sound states hold the same
+  -- the nodes of two sound states are in the same state
   pub same_nodes : (s t : SourceState) → IsSound policy s → IsSound policy t → (a : Address) → IsAddressOf policy.tree a → SameState (s.nodes a) (t.nodes a)
   same_nodes s t sound other [] there =
       plain_states plain.node.program (s.nodes []) (t.nodes []) plain.keeps plain.eaches (sound.states [] plain.node root_is) (other.states [] plain.node root_is)
@@ -114,7 +114,7 @@ module _ (policy : Policy) (plain : IsPlain policy.tree) where
   abbrev single : Topology
   single = leaf tt
 
-  -- it is laid into a target in one way
+  -- the tree has only one placement in a target
   pub same_images : (a : Arities) (h : ℕ) (m o : Tree Address) → IsCanonical a h (topology_of policy.tree) m → IsCanonical a h (topology_of policy.tree) o → m ≡ o
   same_images a h m o one other = only_root m one ∙ sym (only_root o other)
     where
@@ -128,7 +128,7 @@ module _ (policy : Policy) (plain : IsPlain policy.tree) where
       only_root : (images : Tree Address) → IsCanonical a h (topology_of policy.tree) images → images ≡ leaf []
       only_root images c = c.placed ∙ by_needs c.all (subst (λ (t : Topology). SameShape t c.all) shape c.needs.shape)
 
--- ---- two packets in the two orders
+-- ---- two packets in both orders
 module _ (policy : Policy) (accepted : IsAccepted policy) (p q : Packet) (apart : p.number ≢ q.number) (first : IsSendable policy p) (second : IsSendable policy q) where
   pub both_come : CanMake policy (Arrive p ∷ Arrive q ∷ []) (start policy)
   both_come = (
@@ -153,12 +153,12 @@ same_held p q held apart n = by_tests (nat_eq n p.number) (nat_eq n q.number) re
     by_tests false true e f = refl
     by_tests false false e f = refl
 
--- a moment is the greatest of two in either order
+-- the greatest of three timestamps doesn't depend on the order of the last two
 pub same_now : (k m n : ℕ) → max (max k m) n ≡ max (max k n) m
 same_now k m n = omega arith
 
 -- ---- a scheduler with a fabric that another filled
--- what two schedulers keep is the same, but for the queues
+-- two states are the same except for their queues
 pub record IsSameBeside (tree : Tree Node) (s t : SourceState) : Type 0 where
   pub nodes : (a : Address) → IsAddressOf tree a → SameState (s.nodes a) (t.nodes a)
   pub held : (n : ℕ) → s.held n ≡ t.held n
@@ -166,7 +166,7 @@ pub record IsSameBeside (tree : Tree Node) (s t : SourceState) : Type 0 where
   pub size_is : size s.tree ≡ size t.tree
   pub now : s.now ≡ t.now
 
--- they stand in the same place of fabrics that were pushed and popped as often
+-- the two schedulers use the same images in equal targets, after equal numbers of pushes and pops
 pub record AreAlike {F : Type 0} (c d : Embedded F) : Type 0 where
   pub images : (origin_of c).images ≡ (origin_of d).images
   pub arities : (origin_of c).arities ≡ (origin_of d).arities
@@ -189,7 +189,7 @@ stands_with_another fabrics c d u v s t alike same one other = record {
   pops = other.pops ∙ sym alike.pops;
 }
 
--- two are held after two came
+-- two packets are queued after two arrived
 two_held : (policy : Policy) (accepted : IsAccepted policy) (plain : IsPlain policy.tree) (p q : Packet) → p.number ≢ q.number → IsSendable policy p → IsSendable policy q
     → size (after policy (Arrive p ∷ Arrive q ∷ []) (start policy)).tree ≡ 2
 two_held policy accepted plain p q apart first second =
@@ -200,7 +200,7 @@ two_held policy accepted plain p q apart first second =
     ap (λ (z : SourceState). size z.tree) (arrives_pushed policy plain q (arrived policy p (start policy))) ∙ size_pushed policy q (arrived policy p (start policy)) accepted (sound_arrived policy p (start policy) accepted sound can.0) can.1.0 in
     omega (arith, one, two, size-empty (topology_of policy.tree))
 
--- two packets came to each, in the two orders
+-- two packets arrived at each scheduler, in opposite orders
 pub same_beside : (policy : Policy) (accepted : IsAccepted policy) (plain : IsPlain policy.tree) (p q : Packet) → p.number ≢ q.number → IsSendable policy p → IsSendable policy q
     → IsSameBeside policy.tree (after policy (Arrive p ∷ Arrive q ∷ []) (start policy)) (after policy (Arrive q ∷ Arrive p ∷ []) (start policy))
 same_beside policy accepted plain p q apart first second =
@@ -217,7 +217,8 @@ same_beside policy accepted plain p q apart first second =
       now = ap (λ (z : SourceState). z.now) (both_pushed policy plain p q) ∙ same_now 0 p.moment q.moment ∙ sym (ap (λ (z : SourceState). z.now) (both_pushed policy plain q p));
     }
 
--- the first stands with the fabric of the second, at which the same two packets arrived in the other order
+-- the first scheduler works with the fabric of the second, at which the same two packets arrived in
+-- the other order
 module _ {F : Type 0} (fabrics : Ghosts F) (policy : Policy) (target : Target) (accepted : IsAccepted policy) (plain : IsPlain policy.tree) (p q : Packet) (apart : p.number ≢ q.number) (first : IsSendable policy p) (second : IsSendable policy q) where
   pub stands_exchanged : (c d : Embedded F) (u v : F) → IsFilled fabrics policy target p q c u → IsFilled fabrics policy target q p d v → StandForOne (EmbeddedStands fabrics) policy c v (λ _. Unit {0})
   stands_exchanged c d u v one other =

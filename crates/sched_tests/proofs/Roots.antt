@@ -1,4 +1,4 @@
--- What is known of the node of number 0, which is the root.
+-- Properties of the node with number 0, which is the root.
 use Rattle.std.proofs.Common.{◌≡◌, ◌<◌, ℕ, false, Option, Some, None, List, [], refl, sym, ap, ◌∙◌, subst, arith}
 use Rattle.std.specs.Prelude.{IsSomeAnd, is_some}
 use Rattle.tree_defs.specs.Tree.{Tree, leaf, inner, Address, nodes}
@@ -7,7 +7,7 @@ use Rattle.rank_defs.specs.Programs.{Program}
 use Rattle.policy_defs.specs.Policy.{Node, node_at}
 use Rattle.policy_core.specs.Numbering.{address_at}
 
--- the node of number 0 is the root
+-- the node with number 0 is the root
 pub has_a_node : (tree : Tree Node) → 0 < nodes tree
 has_a_node (leaf n) = omega arith
 has_a_node (inner n ts) = omega arith
@@ -16,7 +16,7 @@ root_first : (tree : Tree Node) → address_at tree 0 ≡ []
 root_first (leaf n) = refl
 root_first (inner n ts) = refl
 
--- what holds of the node of number 0 holds of the root
+-- if P holds of the node with number 0, it holds of the root
 pub at_root : (tree : Tree Node) (P : Node → Type 0) → IsSomeAnd (node_at tree (address_at tree 0)) P → IsSomeAnd (node_at tree []) P
 at_root tree P some = subst (λ (a : Address). IsSomeAnd (node_at tree a) P) (root_first tree) some
 
@@ -24,7 +24,7 @@ pub none_is : {X : Type 0} (o : Option X) → is_some o ≡ false → o ≡ None
 none_is None e = refl
 none_is (Some x) e = cc
 
--- the root has no limit where none is told of the node of number 0
+-- if the node with number 0 has no limit, the root has none
 pub unlimited_root : (tree : Tree Node) (x : Option ℕ) → IsSomeAnd (node_at tree (address_at tree 0)) (λ n. x ≡ n.limit) → x ≡ None → IsSomeAnd (node_at tree []) (λ n. n.limit ≡ None)
 unlimited_root tree x some none_of = by_node (node_at tree []) (at_root tree (λ n. x ≡ n.limit) some)
   where
@@ -32,7 +32,7 @@ unlimited_root tree x some none_of = by_node (node_at tree []) (at_root tree (λ
     by_node None s = absurd s
     by_node (Some n) e = sym e ∙ none_of
 
--- the root's transaction is known by that of the node of number 0
+-- the root's program is that of the node with number 0
 pub of_root : (tree : Tree Node) (p : Program) (spans : Program → List Span) → IsSomeAnd (node_at tree (address_at tree 0)) (λ n. p ≡ n.program) → spans p ≡ [] → IsSomeAnd (node_at tree []) (λ n. spans n.program ≡ [])
 of_root tree p spans some none_of = by_node (node_at tree []) (at_root tree (λ n. p ≡ n.program) some)
   where

@@ -1,4 +1,4 @@
--- Policies of a single leaf, and schedulers over a fabric behind their first two arrivals.
+-- Policies of a single leaf, and schedulers over a fabric after their first two arrivals.
 use Rattle.std.specs.Prelude.{◌≡◌, ◌+◌, None, [], ◌∷◌, length}
 use Rattle.tree_defs.specs.Tree.{Tree, leaf}
 use Rattle.tree_defs.specs.Topology.{topology_of}
@@ -22,7 +22,7 @@ pub record IsPlain (tree : Tree Node) : Type 0 where
   pub eaches : node.program.eaches ≡ []
   pub limit : node.limit ≡ None
 
--- the scheduler was made over this fabric, and then these two packets arrived and nothing departed
+-- the scheduler was created over this fabric; then these two packets arrived, and nothing departed
 pub record IsFilled {F : Type 0} (fabrics : Ghosts F) (policy : Policy) (target : Target) (p q : Packet) (c : Embedded F) (fabric : F) : Type 0 where
   pub stands : EmbeddedStands fabrics c fabric (after policy (Arrive p ∷ Arrive q ∷ []) (start policy))
   pub own : policy_in c.own ≡ policy

@@ -1,12 +1,12 @@
-//! A run at the pace of a link through the policy's own tree of queues, which no command asks for.
+//! A link run through the policy's own tree of queues, which no command makes.
 use crate::packets::{HEADER, RECORD, policy_of, shelf_of};
 use outside_core::MemSink;
 use sched_capture::{Ending, Stop, Task, direct};
 use sched_run::Pace;
 use std::test::Fail;
 
-/// Two packets of four bytes arrive, of which the first departs at a byte a second. The sink takes this many bytes, and this
-/// call of the shelf fails.
+/// Two packets of four bytes arrive, and a link of 1 byte per second sends the first. The sink
+/// takes `room` bytes, and the call of the shelf with number `fails` fails.
 #[derive(Clone, Copy)]
 struct Row {
     room: usize,

@@ -1,4 +1,4 @@
-//! A scheduler that is handed a fabric which another filled.
+//! A scheduler that is given a fabric which another scheduler filled.
 ghost use Rattle.std.specs.Prelude.{◌≡◌, ◌≤◌, [], ◌∷◌, length, ℕ, false, None, IfOk, IsSomeAnd, IsFalse, IsTrue, OnOk};
 ghost use Rattle.tree_defs.specs.Tree.{depth};
 ghost use Rattle.tree_defs.specs.Topology.{topology_of};
@@ -31,7 +31,7 @@ use std::process::Abort;
 use std::test::Fail;
 use tree_core::Taken;
 
-/// The packet whose slack is spent first leaves first.
+/// The packet whose slack ends first departs first.
 const LEAST_SLACK: &[u8] = b"policy 1\nclass all\nleaf root using lstf classes all\n";
 
 /// The flow of a packet without an IP header.
@@ -60,7 +60,7 @@ const LATE: Packet = Packet {
     flow: NO_FLOW,
 };
 
-/// Whether the root is a leaf with a limit.
+/// Returns whether the root is a leaf with a limit.
 fn is_root_limited(policy: &Policy) -> bool
     ensures limit { IsFalse result → IsSomeAnd (node_at policy.now.policy.tree []) (λ n. n.limit ≡
         None) }
@@ -68,7 +68,7 @@ fn is_root_limited(policy: &Policy) -> bool
     policy.limit(0).is_some()
 }
 
-/// Whether a policy is a single leaf without variables and without a limit.
+/// Returns whether a policy is a single leaf without variables and without a limit.
 fn is_plain_leaf(policy: &Policy) -> bool
     ensures plain { IsTrue result → IsPlain policy.now.policy.tree }
     ensures accepted { IsAccepted policy.now.policy }
@@ -80,12 +80,12 @@ fn is_plain_leaf(policy: &Policy) -> bool
     transaction.eaches.is_empty()
 }
 
-/// Whether the packet that moved last had this rank at the root.
+/// Returns whether the packet that was moved last had this rank at the root.
 fn is_ranked(trace: &Taken, rank: u64) -> bool {
     matches!(trace.ranks(), [first, ..] if *first == rank)
 }
 
-/// Two packets arrive. The answer is whether they have these ranks at the root.
+/// Lets two packets arrive. Returns whether they have these ranks at the root.
 fn arrive_both<C: Scheduler>(
     policy: &Policy,
     scheduler: &mut C,
@@ -117,7 +117,8 @@ fn arrive_both<C: Scheduler>(
     Ok(is_first & is_second)
 }
 
-/// A scheduler over a fabric that was neither pushed nor popped, at which two packets arrive with these ranks at the root.
+/// Creates a scheduler over a fabric without earlier pushes and pops, and lets two packets arrive.
+/// Fails if they don't have these ranks at the root.
 fn fill<'a, F: Fabric>(
     alloc: Global,
     policy: &'a Policy,
@@ -154,7 +155,7 @@ fn fill<'a, F: Fabric>(
     Ok(scheduler)
 }
 
-/// Three departures with their lines, as events 3 to 5.
+/// Makes three departures as events 3 to 5, and writes their lines.
 fn depart_three<C: Scheduler>(
     alloc: Global,
     policy: &Policy,
@@ -184,8 +185,8 @@ fn depart_three<C: Scheduler>(
     Ok(())
 }
 
-/// The same two packets arrive at two schedulers in the two orders. Then the first stands with the other's fabric too, and
-/// answers by the queues of that fabric.
+/// Lets the same two packets arrive at two schedulers in opposite orders. The first scheduler then
+/// works with the other's fabric, and its departures follow the queues of that fabric.
 fn exchange<F: Fabric>(
     alloc: Global,
     policy: &Policy,

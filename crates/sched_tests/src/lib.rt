@@ -1,5 +1,5 @@
-//! Tests of calls of the scheduling crates that no run of a program reaches. They are in a crate of their own, since a crate's
-//! tests have its own functions proved once more.
+//! Tests of calls of the scheduling crates that no run of a program reaches. They are in a crate of
+//! their own, since the functions of a tested crate would be proved once more with its tests.
 #![tactic(auto)]
 
 #[cfg(test)]

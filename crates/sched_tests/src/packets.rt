@@ -1,4 +1,4 @@
-//! Packets of one link type that are passed over, which no run asks for.
+//! Passing over packets of one link type, which no run does.
 use outside_core::MemShelf;
 use policy_core::{Policy, resolve};
 use policy_text::parse;
@@ -6,14 +6,15 @@ use sched_packets::{CapturePackets, Halt, Packets, SingleLinkType};
 use std::alloc::{AllocError, Global};
 use std::test::Fail;
 
-/// Little-endian, microseconds, link type 147, of which no headers are read.
+/// Little-endian, microseconds, link type 147, whose headers aren't read.
 pub(crate) const HEADER: &[u8] =
     b"\xd4\xc3\xb2\xa1\x02\0\x04\0\0\0\0\0\0\0\0\0\0\0\x04\0\x93\0\0\0";
 
 /// A record of four bytes.
 pub(crate) const RECORD: &[u8] = b"\x01\0\0\0\0\0\0\0\x04\0\0\0\x04\0\0\0\0\0\0\x01";
 
-/// A pcapng section with interfaces of link types 147 and 1, and a packet without captured bytes at each.
+/// A pcapng section with interfaces of link types 147 and 1, and one packet without captured bytes
+/// at each.
 const TWO_LINKS: &[u8] =
     b"\x0a\x0d\x0d\x0a\x1c\0\0\0\x4d\x3c\x2b\x1a\x01\0\0\0\xff\xff\xff\xff\xff\xff\xff\xff\x1c\0\0\0\
     \x01\0\0\0\x14\0\0\0\x93\0\0\0\0\0\x04\0\x14\0\0\0\x01\0\0\0\x14\0\0\0\x01\0\0\0\0\0\x04\0\x14\0\0\0\
@@ -25,8 +26,8 @@ pub(crate) fn policy_of(alloc: Global, text: &[u8]) -> Result<Policy, Fail> {
     Ok(resolve(alloc, &lines)?)
 }
 
-/// A shelf with these pieces as its one file, which is read by 44 bytes at most, so that a read ends after the first record;
-/// this call of it fails.
+/// Returns a shelf whose one file consists of these pieces. It is read at most 44 bytes at a time,
+/// so that a read ends after the first record. The call with number `fails` fails.
 pub(crate) fn shelf_of(
     alloc: Global,
     pieces: &[&[u8]],
@@ -41,7 +42,7 @@ pub(crate) fn shelf_of(
     Ok(MemShelf::new(files, 44, vec![in alloc; fails]?))
 }
 
-/// What is answered when two packets are passed over.
+/// Passes over two packets, and returns both results.
 fn pass_two<P: Packets>(packets: &mut P, source: &mut P::Source) -> Result<[bool; 2], Halt>
     requires { P.ready packets.old source.old }
 {
@@ -50,7 +51,7 @@ fn pass_two<P: Packets>(packets: &mut P, source: &mut P::Source) -> Result<[bool
     Ok([first, second])
 }
 
-/// The same of the packets with the link type of the first.
+/// Passes over two packets that must have the link type of the first.
 fn pass_of_one_link(
     alloc: Global,
     policy: &Policy,

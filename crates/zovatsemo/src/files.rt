@@ -1,14 +1,15 @@
-//! Why a file can't be read, and how it begins.
+//! Why a file can't be read, and its first bytes.
 use front_core::{file_read_at, name_shown};
 use front_defs::Options;
 use std::alloc::AllocError;
 use std::fs::{self, File};
 use std::io::{self, Read};
 
-/// How many times a file is read at most for a message.
+/// The most reads of a file for a message.
 const MOST_READS: u32 = 512;
 
-/// Reads a byte, to see that a file can be read. A pipe isn't opened again, since that could wait for a writer.
+/// Reads a byte to check that a file can be read. A pipe isn't opened again, since opening it could
+/// wait for a writer.
 fn try_file(rt: &HostRuntime, name: &str) -> io::Result<usize> {
     let found = fs::metadata(rt, name)?;
     if !found.is_file() && !found.is_dir() {
@@ -19,7 +20,7 @@ fn try_file(rt: &HostRuntime, name: &str) -> io::Result<usize> {
     file.read(&mut buffer)
 }
 
-/// Opens a file that can be read twice, which a pipe can't be.
+/// Opens a file again, or returns none if it isn't a regular file. A pipe can't be read twice.
 fn open_again(rt: &HostRuntime, name: &str) -> io::Result<Option<File>> {
     if fs::metadata(rt, name)?.is_file() {
         Ok(Some(fs::open(rt, name)?))
@@ -28,7 +29,8 @@ fn open_again(rt: &HostRuntime, name: &str) -> io::Result<Option<File>> {
     }
 }
 
-/// Says which file can't be read, and why: the first one in the order in which they are read.
+/// Writes to standard error which file can't be read, and why. Files are tried in the order in
+/// which the command reads them.
 pub fn tell_unread(rt: &HostRuntime, options: &Options<'_>) {
     for turn in 0..options.files.len() {
         let Some(name) = options.files.get(file_read_at(options.command, turn)) else {
@@ -45,7 +47,8 @@ pub fn tell_unread(rt: &HostRuntime, options: &Options<'_>) {
     let _ = eprintln!(rt; "zovatsemo: error: a file can't be read to its end");
 }
 
-/// The first bytes of a file, as far as it can be read. None are known of a file that can't be read twice.
+/// Returns the first bytes of a file, until a read fails or `MOST_READS` reads are done. Returns
+/// none if the file can't be opened twice. Fails if out of memory.
 pub fn front_of(rt: &HostRuntime, name: &str) -> Result<Option<Vec<u8>>, AllocError> {
     let Ok(Some(mut file)) = open_again(rt, name) else {
         return Ok(None);

@@ -1,4 +1,4 @@
-//! What is around the one call: the words after the program's name, files, standard output and standard error.
+//! The environment of the entry point: arguments, files, standard output and standard error.
 use crate::files::{front_of, tell_unread};
 use crate::output::{NO_OUTPUT, Output};
 use crate::told::tell;
@@ -16,25 +16,25 @@ use std::process::ExitCode;
 use std::{env, io};
 use tap_core::{BytesTap, DropsTap, FirstTap, OrderTap, Tap};
 
-/// The words are in no form.
+/// Exit status: the arguments are malformed.
 const BAD_WORDS: u8 = 2;
 
-/// There was no memory.
+/// Exit status: out of memory.
 const NO_MEMORY: u8 = 10;
 
-/// The system didn't give the words.
+/// Exit status: the system didn't supply the arguments.
 const NO_WORDS: u8 = 16;
 
-/// How many packet numbers the tap of the first packets keeps.
+/// The most packet numbers that a tap of kind `first` keeps.
 const FIRST_LIMIT: u32 = 8;
 
-/// What `--version` says.
+/// The text of `--version`.
 const VERSION: &str = "\
 zovatsemo, a packet scheduler
 proved: each function that the program is built from meets its contract (docs/PROOFS.md)
 ";
 
-/// The words after the program's name.
+/// Returns the arguments after the program's name.
 fn words_of(rt: &HostRuntime) -> io::Result<Vec<String>> {
     let mut words = Vec::new(rt.alloc());
     for word in env::args(rt)?.skip(1) {
@@ -43,7 +43,7 @@ fn words_of(rt: &HostRuntime) -> io::Result<Vec<String>> {
     Ok(words)
 }
 
-/// Says what the line of a fault means.
+/// Writes the message for a `fault` line to standard error.
 fn tell_line(rt: &HostRuntime, options: &Options<'_>, line: &[u8]) -> Result<(), AllocError> {
     let Some(fault) = fault_in(rt.alloc(), line) else {
         return Ok(());
@@ -61,7 +61,8 @@ fn tell_line(rt: &HostRuntime, options: &Options<'_>, line: &[u8]) -> Result<(),
     Ok(())
 }
 
-/// Says why a run ended with a status, by the line of a fault, if there is one.
+/// Writes why a run ended with this status to standard error, using the `fault` line if there is
+/// one.
 fn tell_end(
     rt: &HostRuntime,
     options: &Options<'_>,
@@ -78,7 +79,8 @@ fn tell_end(
     Ok(())
 }
 
-/// Runs what is asked for, and says on standard error what is wrong.
+/// Runs the requested command. If it fails, writes a message to standard error, unless `--quiet` is
+/// given.
 fn run_told(
     rt: &HostRuntime,
     request: &Request<'_>,
@@ -100,7 +102,7 @@ fn run_told(
     Ok(status)
 }
 
-/// Runs what is asked for, with all that the replayer writes.
+/// Runs the requested command under `--plain`: the output gets all that the replayer writes.
 fn run_plain(
     rt: &HostRuntime,
     options: &Options<'_>,
@@ -113,7 +115,8 @@ fn run_plain(
     Ok(front_run(alloc, options, &mut shelf, &mut sink, &mut fabric, taps))
 }
 
-/// Runs what is asked for into standard output or a file. There is a tap of each kind.
+/// Runs the requested command, with standard output or a file as its output. There is a tap of each
+/// kind.
 fn run_request(rt: &HostRuntime, request: &Request<'_>) -> Result<u8, AllocError> {
     let alloc = rt.alloc();
     let below = Output::new(rt.clone()?, request.output);
@@ -129,7 +132,7 @@ fn run_request(rt: &HostRuntime, request: &Request<'_>) -> Result<u8, AllocError
     }
 }
 
-/// Prints a text.
+/// Prints a text and returns the exit status.
 fn print(rt: &HostRuntime, text: &str) -> u8 {
     match print!(rt; "{text}") {
         Ok(()) => 0,
@@ -137,17 +140,17 @@ fn print(rt: &HostRuntime, text: &str) -> u8 {
     }
 }
 
-/// Whether the replayer's own line is wanted.
+/// Returns whether `--plain` is among the arguments.
 fn is_plain(words: &[String]) -> bool {
     words.iter().any(|word| word.as_str() == "--plain")
 }
 
-/// Whether nothing is to be said on standard error.
+/// Returns whether `--quiet` is among the arguments, or an argument that begins with `-q`.
 fn is_quiet(words: &[String]) -> bool {
     words.iter().any(|word| word.as_str() == "--quiet" || word.starts_with("-q"))
 }
 
-/// Writes the line of a fault that the replayer writes where words are in no form.
+/// Writes the `fault` line that the replayer writes for malformed arguments.
 fn refuse_plain(rt: &HostRuntime) -> Result<u8, AllocError> {
     let mut sink = StdSink::new(rt.clone()?);
     match refuse(rt.alloc(), &mut sink, FaultKind::Words, NO_FORM) {
@@ -156,7 +159,7 @@ fn refuse_plain(rt: &HostRuntime) -> Result<u8, AllocError> {
     }
 }
 
-/// Does what the words ask for, and answers the status with which the program ends.
+/// Runs the command that the arguments give, and returns the exit status.
 fn answer_to(rt: &HostRuntime, words: &[String]) -> Result<u8, AllocError> {
     match ask(rt.alloc(), words) {
         Ok(Asked::Help(None)) => Ok(print(rt, help_of_all())),
@@ -173,7 +176,7 @@ fn answer_to(rt: &HostRuntime, words: &[String]) -> Result<u8, AllocError> {
     }
 }
 
-/// Does what the words after the program's name ask for.
+/// Runs the command that the program's arguments give.
 pub fn answer(rt: &HostRuntime) -> ExitCode {
     let words = match words_of(rt) {
         Ok(words) => words,

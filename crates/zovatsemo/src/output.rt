@@ -9,10 +9,11 @@ use std::alloc::AllocError;
 use std::fs::File;
 use std::io::{self, Write};
 
-/// The output can't be written.
+/// Exit status: the output can't be written.
 pub const NO_OUTPUT: u8 = 9;
 
-/// Standard output, or a file that is made at the first write. No file is written over. Each write is flushed.
+/// Standard output, or a file that is created at the first write. An existing file is never
+/// overwritten. Each write is flushed.
 #[derive(Drop)]
 pub struct Output<'a> {
     rt: HostRuntime,
@@ -23,7 +24,7 @@ pub struct Output<'a> {
 }
 
 impl<'a> Output<'a> {
-    /// The output into the file of this name, or else to standard output.
+    /// Creates an output to the file with this name, or to standard output if there is no name.
     pub fn new(rt: HostRuntime, name: Option<&'a str>) -> Output<'a> {
         Output {
             rt,
@@ -34,7 +35,8 @@ impl<'a> Output<'a> {
         }
     }
 
-    /// Writes some bytes from the front of the piece.
+    /// Writes some bytes from the front of the piece, and returns how many. Creates the file first
+    /// if needed.
     fn put(&mut self, piece: &[u8]) -> io::Result<usize>
         ensures bound { IfOk result (λ n. n ≤ length piece.now) }
         ensures faults { self.new.faults ≡ self.old.faults }
@@ -51,7 +53,8 @@ impl<'a> Output<'a> {
         }
     }
 
-    /// Says why the output can't be written. Of a pipe whose reader ended nothing is said.
+    /// Writes to standard error why the output can't be written. A pipe whose reader ended gets no
+    /// message.
     pub fn tell_failure(&self, command: Command) -> Result<(), AllocError> {
         let rt = &self.rt;
         match (self.name, &self.failure) {
@@ -95,7 +98,7 @@ impl<'a> Sink for Output<'a> {
     }
 }
 
-/// Writes some bytes and flushes them.
+/// Writes some bytes and flushes them. Returns how many.
 fn write_flushed<W: Write>(writer: &mut W, piece: &[u8]) -> io::Result<usize>
     ensures { IfOk result (λ n. n ≤ length piece.now) }
 {

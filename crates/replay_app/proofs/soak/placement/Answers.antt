@@ -5,7 +5,7 @@ use Rattle.replay_app.proofs.Inputs as inputs
 use Rattle.replay_app.proofs.OfficeRoom.{office-has-room}
 use Rattle.replay_app.proofs.soak.placement.Goals as goal
 
--- the tree of the office has room
+-- the target has room for the tree of the office policy
 pub unreachable-requires : goal.unreachable-requires
 unreachable-requires c =
     c.embed.ensures.none (c.in-Err-NoEmbedding.is ∙ ap Err c.in-Err-NoEmbedding.field-0-is)

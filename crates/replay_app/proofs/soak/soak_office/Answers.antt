@@ -5,7 +5,7 @@ use Rattle.policy_core.proofs.OfficeTree.{offices-alike}
 use Rattle.replay_app.proofs.SoakLaws.{soaked_none, soaked_whole, soaked_part, left_whole, left_part, left_written}
 use Rattle.replay_app.proofs.soak.soak_office.Goals as goal
 
--- the office has eight classes
+-- the office policy has eight classes
 pub soak-requires-clause-classes : goal.soak-requires-clause-classes
 soak-requires-clause-classes g c = let office : IsOffice c.args.policy.now = offices-alike c.args.policy.now c.requires.office in omega arith
 
