@@ -104,7 +104,8 @@ options = refl
 pub other_first_bytes : map (λ first. fields_of 101 (first ∷ drop 1 datagram)) (0x05 ∷ 0x35 ∷ 0x55 ∷ 0x44 ∷ []) ≡ no_fields ∷ no_fields ∷ no_fields ∷ no_fields ∷ []
 other_first_bytes = refl
 
--- TCP from port 1 of 2001:db8::1 to port 22 of fe80::102, with codepoint 46, both congestion bits and a flow label
+-- TCP from port 1 of 2001:db8::1 to port 22 of fe80::102, with codepoint 46, both congestion bits
+-- and a flow label
 abbrev pub segment : List ℕ
 segment =
     (0x6B ∷ 0xB5 ∷ 0x12 ∷ 0x34 ∷ 0x00 ∷ 0x14 ∷ 0x06 ∷ 0x40 ∷ []) ++ (0x20 ∷ 0x01 ∷ 0x0D ∷ 0xB8 ∷ replicate 11 0 ++ 1 ∷ [])

@@ -9,8 +9,8 @@ use Rattle.pcapng_defs.specs.declared.interface.Unit.TheVariants.{Decimal, Binar
 abbrev pub usual_unit : Unit
 usual_unit = Decimal 6
 
--- the unit of an option value of one byte: the high bit selects a power of 10 or 2, the low seven
--- bits are the negated exponent
+-- the unit for an option value of one byte: 10^-v seconds, or 2^-v seconds if the high bit is set;
+-- v is the low seven bits
 abbrev pub unit_by : ℕ → Unit
 unit_by value = if nat_lt value 128 then Decimal value else Binary (value % 128)
 

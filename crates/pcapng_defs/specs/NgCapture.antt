@@ -1,4 +1,5 @@
--- A pcapng capture (draft-ietf-opsawg-pcapng, 3): blocks one after another, read as a function of the file's bytes.
+-- A pcapng capture (draft-ietf-opsawg-pcapng, 3): blocks one after another, read as a function of
+-- the file's bytes.
 use Rattle.std.specs.Prelude.{ℕ, zero, suc, ◌+◌, ◌-◌, ◌%◌, ◌==◌, ◌&&◌, not, nat_lt, nat_le, Bool, true, false, if◌then◌else◌, Option, Some, None, Result, Ok, Err, List, [], ◌∷◌, ◌++◌, length, take, drop}
 use Rattle.pcap_defs.specs.Number.{long_at}
 use Rattle.pcapng_defs.specs.Fault.{BlockFault, block_cut, block_length, order_magic, too_many_blocks, block_end}
