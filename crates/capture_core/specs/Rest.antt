@@ -21,7 +21,7 @@ IsWhole rest = IfSome rest (λ bytes. bytes ≡ [])
 abbrev pub LeavesNothing : Option (List ℕ) → Option (List ℕ) → Type 0
 LeavesNothing old new = IfSome old (λ bytes. new ≡ Some [])
 
--- the shelf has the same files, one of them is open, and the number of read faults didn't decrease
+-- the shelf has the same files, one of them is open, and the number of faults didn't decrease
 pub record Serves {S : Type 0} (lends : S → List ℕ → Bool) (content : S → List ℕ → Option (List ℕ)) (begun : S → Bool) (faults : S → ℕ) (old new : S) : Type 0 where
   pub still : IsTrue (begun new)
   pub kept : KeepsShelf lends content faults old new

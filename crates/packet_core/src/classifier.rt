@@ -21,7 +21,7 @@ fn place_met(classes: &[Prepared], numbers: &[u64; COUNT]) -> Option<usize>
     classes.iter().position(|class| is_met(class, numbers))
 }
 
-/// Returns the index of the first class that is met, or the number of classes if none is.
+/// Returns the index of the first class that is met, if there is one.
 fn first_met(classes: &[Prepared], numbers: &[u64; COUNT]) -> usize
     ensures { (place : ℕ) → position (prepared.is_met numbers.now) classes.now ≡ Some place →
         result ≡ place }
