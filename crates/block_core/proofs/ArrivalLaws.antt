@@ -20,7 +20,7 @@ pub All-weaker : {X : Type 0} (P Q : X → Type 0) → ((x : X) → P x → Q x)
 All-weaker P Q f [] h = tt
 All-weaker P Q f (x ∷ xs) h = (f x h.0, All-weaker P Q f xs h.1)
 
--- ---- which entry it is
+-- ---- the identity of an entry
 abbrev pub same : Waiting → Waiting → ℕ
 same u v = cond (eqb u.rank v.rank && (eqb u.arrival v.arrival && eqb u.value v.value)) 1 0
 

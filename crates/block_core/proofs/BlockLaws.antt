@@ -209,7 +209,7 @@ module _ (ss : List (List Waiting)) (heads left new_heads spilled : List (Revers
       queue-popped x.0 (all_of ss (held spilled)) (all_of (set ss j rest) (held spilled)) pushed led_more b.numbered
       (precedes_fewer x.0 (all_of ss (held spilled)) (all_of (set ss j rest) (held spilled)) (λ f. omega (arith, led_more f)) all_precede)
 
--- ---- which pushes spill
+-- ---- the pushes that spill
 abbrev spilling : ℕ → ℕ → ℕ → Waiting → Bool
 spilling flows j rank w = eqb (flow_of flows w.value) j && ltb rank w.rank
 

@@ -45,7 +45,7 @@ read-steps ranks n e =
     at : (k : ℕ) → k < n → get_or (range_with_len 0 n) k 0 ≡ k
     at k l = omega (arith, get_or-range_with_len 0 n k 0 l)
 
--- all lifted ranks are among the given ranks
+-- a bound on the given ranks also bounds the lifted ranks
 abbrev AreBelow : ℕ → List ℕ → Type 0
 AreBelow b xs = AllByRecursion (λ x. x < b) xs
 

@@ -6,7 +6,8 @@ use Rattle.embed_defs.specs.Need.{leaves_below}
 use Rattle.embed_defs.specs.Canonical.{Child, digits, start_of, children}
 use Rattle.embed_defs.specs.Counting.{value}
 
--- the digits of the first leaf of a child's block, below a node of height h whose children have these needs
+-- the digits of the first leaf of a child's block, below a node of height h whose children have
+-- these needs
 abbrev pub start_digits : Arities → ℕ → Trees ℕ → Child → Address
 start_digits a h siblings child = digits a h (start_of a (children siblings 0) child)
 

@@ -1,5 +1,5 @@
-//! Embeds source trees in complete trees of queues, along the canonical map or a given one, and
-//! lifts and picks ranks along it. Begin with specs/Picks.antt.
+//! Embeds source trees in complete trees of queues along the canonical map or a given one, and
+//! lifts and picks ranks along the map. Begin with specs/Picks.antt.
 #![tactic(auto)]
 
 mod block;

@@ -60,7 +60,8 @@ impl Model for Map {
 /// Says why a topology has no map into a target.
 #[derive(Debug, Drop)]
 pub enum EmbedFault {
-    /// The target has no room for the topology, or the topology is a single leaf and the target isn't.
+    /// The target has no room for the topology, or the topology is a single leaf and the target
+    /// isn't.
     NoEmbedding,
     NoMemory,
 }

@@ -9,7 +9,7 @@ use Rattle.embed_defs.specs.Need.{IsLeast, leaves_below, AreLower, FitsBelow, en
 use Rattle.embed_defs.specs.Laws.{AreWide}
 use Rattle.embed_defs.proofs.EnoughHeights.{enough-fits}
 
--- two heights cannot both be the least
+-- two different heights can't both be the least
 one_least : (P : ℕ → Type 0) (m n : ℕ) → IsLeast P m → IsLeast P n → m ≡ n
 one_least P m n l k = omega (arith, l.least n k.holds, k.least m l.holds)
 

@@ -27,7 +27,7 @@ placement_of = relative 0
 abbrev pub digit_at : Placements → Address → ℕ → Option ℕ
 digit_at ps b i = digit_beyond (part ps i) b
 
--- the entries of those children whose images lie below b
+-- the entries of those children whose images are below b
 abbrev pub passing : Placements → Queue → Family
 passing ps q b = passing_by (digit_at ps b) q
 

@@ -25,8 +25,7 @@ pub record FitsBelow (a : Arities) (ns : List ℕ) (h : ℕ) : Type 0 where
   pub below : AreLower h ns
   pub room : sum_by (leaves_below a) ns ≤ leaves_below a h
 
--- a height below which subtrees of heights ns always fit: one level for each, added to its own
--- height
+-- a height below which subtrees of heights ns always fit: the sum of each height plus one
 abbrev pub enough : List ℕ → ℕ
 enough [] = 0
 enough (n ∷ ns) = suc (n + enough ns)

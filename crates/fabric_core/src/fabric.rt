@@ -28,7 +28,7 @@ pub trait Fabric {
     /// The number of free slots of the queue at an address.
     ghost room: { Self → Address → ℕ };
 
-    /// Changes the shape and empties all queues.
+    /// Changes the shape and empties all queues. The error means out of memory.
     fn configure(&mut self, arities: &[u32]) -> Result<(), AllocError>
         requires target { IsTarget arities.now }
         ensures shaped { OnOk result (shape self.new ≡ arities.now) }

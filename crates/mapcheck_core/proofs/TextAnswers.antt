@@ -1,4 +1,5 @@
--- A text is a tree or has an error, and it has an answer as a map. A text without one is impossible.
+-- A text is a tree or has an error, and it has an answer as a map. A text without one is
+-- impossible.
 use Rattle.std.proofs.Common.{◌≡◌, ℕ, ◌+◌, ◌≤◌, List, [], ◌∷◌, ◌++◌, length, Result, inl, inr, sym, ◌∙◌, refl, subst, arith, append_assoc}
 use Rattle.std.proofs.lemmas.Bool.{cases_lt}
 use Rattle.std.proofs.lemmas.List.{append-nil, length-append}

@@ -44,8 +44,7 @@ tree_there line found.Nothing some is = absurd (some refl)
 tree_there line (found.Tree t) some is = record { shape = topology t; gives = is.0 }
 tree_there line found.Large some is = record { shape = is.0; gives = is.1 }
 
--- the entries of the lines read so far: at most one tree, and exactly one if its line number is
--- known
+-- the entries of the lines read so far: at most one tree, and exactly one if `place` isn't 0
 record HasGiven (lines : List (List ℕ)) (place : ℕ) : Type 0 where
   given : List TreeLine
   give : Give TreeGives 1 lines given

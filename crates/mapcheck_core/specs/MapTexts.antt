@@ -80,7 +80,7 @@ pub data IsMapAnswer (text : List ℕ) (names : List (List ℕ)) : Result Given 
 abbrev pub ForMapAnswer : List ℕ → List (List ℕ) → (Result Given MapFault → Type 0) → Type 0
 ForMapAnswer text names P = (answer : Result Given MapFault) → IsMapAnswer text names answer → P answer
 
--- one image and one line for each name
+-- one image and one line number for each name
 pub record Fits (names : List (List ℕ)) (g : Given) : Type 0 where
   pub images : length g.images ≡ length names
   pub lines : length g.lines ≡ length names

@@ -178,7 +178,8 @@ fn map_of(alloc: Global, entries: &[Entry<'_>], names: &[Name]) -> Result<Given,
 
 /// Parses a map of the nodes with these names, which are a policy's in preorder. Errors are checked
 /// in this order: the text is too long; a line is malformed; a name isn't a node's; a name is also
-/// on an earlier line; no line names a node. The error holds the least such line or node number.
+/// on an earlier line; no line names a node. An error about a line or a node holds the least such
+/// number.
 pub fn read_map(alloc: Global, text: &[u8], names: &List<Name>) -> Result<Given, MapFault>
     requires few { length names.now ≤ most_nodes }
     ensures answer { (result ≡ Err NoMemory) ⊎ IsMapAnswer text.now names.now result }

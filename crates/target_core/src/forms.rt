@@ -14,10 +14,10 @@ use toml::{Table, Value};
 /// The greatest height of a target, in levels.
 const MOST_HEIGHT: usize = 16;
 
-/// The fewest children of a node.
+/// The least number of children of a node.
 const LEAST_ARITY: u32 = 2;
 
-/// The most children of a node.
+/// The greatest number of children of a node.
 const MOST_ARITY: u32 = 64;
 
 /// Returns the first arity, or 2 if there is none.
