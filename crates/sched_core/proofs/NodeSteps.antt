@@ -12,7 +12,9 @@ use Rattle.rank_defs.specs.States.{State, SameState}
 use Rattle.rank_defs.specs.Shapes.{IsStateInRange}
 use Rattle.rank_defs.specs.Steps.{push_rank, after_push, after_pop}
 use Rattle.rank_defs.proofs.SameStates.{same-trans, push_step-same, after_push-same, after_pop-same}
+use Rattle.rank_core.specs.declared.form.Form.TheVariants.{Empty}
 use Rattle.rank_core.specs.declared.node.NodeState.{NodeState}
+use Rattle.rank_core.specs.Forms.{IsForm, RunAs}
 use Rattle.rank_core.specs.Node.{state_of, children_of, HasRoom}
 use Rattle.policy_defs.specs.Policy.{Node, Class, Marks}
 use Rattle.policy_defs.specs.Accepted.{AreMarksInRange}
@@ -49,6 +51,13 @@ pub record IsStep (e : PacketPath) (level : ℕ) (s : PathNode) (states : List N
   pub program : p ≡ (stop e level).program
   pub who : w ≡ (stop e level).who
   pub env : n ≡ (stop e level).env
+
+-- ---- the forms of a node's steps are forms of the steps of the program that the code runs
+pub push-form : (s : PathNode) {p : Program} → p ≡ s.checked.now → IsForm p p.push s.push
+push-form s is = subst (λ (q : Program). IsForm q q.push s.push) (sym is) s.push_form
+
+pub pop-form : (s : PathNode) {p : Program} → p ≡ s.checked.now → IsForm p p.pop s.pop
+pop-form s is = subst (λ (q : Program). IsForm q q.pop s.pop) (sym is) s.pop_form
 
 -- ---- the digits are those of the class
 module _ {e : PacketPath} {digits : List ℕ} {level : ℕ} (ready : IsReady e) (to : digits ≡ (class_for e).leaf) where
@@ -134,10 +143,12 @@ module _ {e : PacketPath} {level : ℕ} {s : PathNode} {states : List NodeState}
     pub stays-pushed : ValuesBecome e states states (after_pushes (v ∷ []))
     stays-pushed = unchanged-here (after_push v.program v.who v.env) (told-after v.program e.packet.now e.moment marks (range-on (ahead e level) refl) r is-told v.who)
 
-  -- and if a pop step has no lines
-  pub stays-popped : {p : Program} (ranks : List ℕ) → p ≡ s.checked.now → p.pop ≡ [] → ValuesBecome e states states (after_pops (v ∷ []) ranks)
-  stays-popped ranks is none = unchanged-here (after_pop v.program v.who v.env (slice_index ranks 0))
-      (no_lines-after v.program v.who v.env (slice_index ranks 0) (ap (λ (q : Program). q.pop) (sym (is ∙ h.waypoint.program)) ∙ none))
+  -- and if the form of the pop step is empty
+  pub stays-popped : (ranks : List ℕ) → s.pop ≡ Empty → ValuesBecome e states states (after_pops (v ∷ []) ranks)
+  stays-popped ranks is =
+      let none : RunAs s.checked.now s.checked.now.pop [] = subst (IsForm s.checked.now s.checked.now.pop) is s.pop_form in
+      unchanged-here (after_pop v.program v.who v.env (slice_index ranks 0))
+      (no_lines-after v.program v.who v.env (slice_index ranks 0) (subst (λ (q : Program). RunAs q q.pop []) h.waypoint.program none))
 
 -- ---- the step made there
 module _ {e : PacketPath} {level : ℕ} {s : PathNode} {states : List NodeState} {x : NodeState} {p : Program} {w : Who} {n : Env} (made : IsStep e level s states x p w n) where

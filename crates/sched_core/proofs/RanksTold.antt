@@ -12,6 +12,7 @@ use Rattle.rank_defs.specs.Programs.{Program, Assignment, span, target, max_rank
 use Rattle.rank_defs.specs.States.{State, SameState, Memory, memory_for, put_back, variable_in}
 use Rattle.rank_defs.specs.Steps.{clamped, write, run, push_rank, after_push, after_pop}
 use Rattle.rank_defs.specs.Values.{num, value_of}
+use Rattle.rank_core.specs.Forms.{RunAs}
 use Rattle.rank_core.proofs.NoLines.{put_back-unchanged}
 use Rattle.packet_defs.specs.declared.packet.Packet.{Packet}
 use Rattle.policy_defs.specs.Policy.{Marks}
@@ -24,9 +25,9 @@ use Rattle.sched_core.proofs.TreeParts.{some-is}
 clamped-low : (r : ℕ) → r ≤ max_rank → clamped (span 0 max_rank 0) (num (pos r)) ≡ r
 clamped-low r low = omega (arith, ints, clamps)
 
--- a pop step without lines changes no variable
-pub no_lines-after : (p : Program) (who : Who) (env : Env) (taken : ℕ) → p.pop ≡ [] → (s : State) → SameState s (after_pop p who env taken s)
-no_lines-after p who env taken none s = subst (λ (lines : List Assignment). SameState s (put_back who (run p env lines (memory_for who taken s)) s)) (sym none) (put_back-unchanged who taken s)
+-- a pop step that runs as one without lines changes no variable
+pub no_lines-after : (p : Program) (who : Who) (env : Env) (taken : ℕ) → RunAs p p.pop [] → (s : State) → SameState s (after_pop p who env taken s)
+no_lines-after p who env taken none s = subst (λ (m : Memory). SameState s (put_back who m s)) (sym (none env (memory_for who taken s))) (put_back-unchanged who taken s)
 
 -- ---- a step of a packet at a timestamp (`moment`), with these marks
 module _ (p : Program) (packet : Packet) (moment : ℕ) (m : Marks) (range : AreMarksInRange m) where

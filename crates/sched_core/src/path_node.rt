@@ -2,23 +2,29 @@
 ghost use Rattle.std.specs.Prelude.{◌≡◌, ◌<◌, IfOk};
 ghost use Rattle.tree_defs.specs.Tree.{LeadsToLeaf, nodes};
 ghost use Rattle.rank_defs.specs.Programs.{program_of};
+ghost use Rattle.rank_core.specs.Forms.{IsForm, IsForm-prop};
 ghost use Rattle.policy_core.specs.Numbering.{address_at, HasAt};
 ghost use Rattle.policy_core.specs.Parts.{class_in, told};
 ghost use Rattle.sched_core.specs.Waypoints.{rank_told, AreWaypoints, AreWays};
 
 use policy_core::{Class, Marks, Policy};
 use range_core::Checked;
-use rank_core::{Aim, Expr, Transaction, Var};
+use rank_core::{Aim, Expr, Form, Transaction, Var, pop_form, push_form};
 use std::alloc::{AllocError, Global};
 
-/// A node on the path of a class: its number, its transaction, the marks that its steps use, and
-/// the rank of its push step, if these marks alone determine it and the step does nothing else.
+/// A node on the path of a class: its number, its transaction, the forms of its push and pop steps,
+/// the marks that its steps use, and the rank of its push step, if these marks alone determine it
+/// and the step does nothing else.
 #[derive(Drop)]
 pub struct PathNode<'a> {
     pub node: u32,
     pub checked: &'a Checked,
     pub marks: Marks,
     pub told: Option<u64>,
+    pub push: Form,
+    pub pop: Form,
+    ghost push_form: { IsForm checked.now checked.now.push push } by { IsForm-prop checked.now checked.now.push push },
+    ghost pop_form: { IsForm checked.now checked.now.pop pop } by { IsForm-prop checked.now checked.now.pop pop },
 }
 
 /// Returns the rank of a push step, if marks alone determine it and the step does nothing else. It
@@ -47,11 +53,14 @@ fn waypoint_at<'a>(policy: &'a Policy, node: u32, marks: Marks) -> PathNode<'a>
     ensures told { result.told ≡ rank_told result.checked.now.push (told marks) }
 {
     let checked = policy.checked(node);
+    let transaction = checked.transaction();
     PathNode {
         node,
         checked,
         marks,
-        told: rank_told(checked.transaction(), &marks),
+        told: rank_told(transaction, &marks),
+        push: push_form(transaction),
+        pop: pop_form(transaction),
     }
 }
 

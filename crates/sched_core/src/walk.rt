@@ -7,7 +7,7 @@ ghost use Rattle.sched_core.specs.Kept.{AreStations};
 ghost use Rattle.sched_core.specs.Ways.{IsReady, tree_for, class_for, stop, way, HasRoomAtLeaf, AreLowRanks, ForValues, ValuesBecome, KeepsRoom};
 
 use crate::packet_path::PacketPath;
-use rank_core::{NodeState, Who, run_pop, run_push};
+use rank_core::{Form, NodeState, Who, pop_by_form, push_by_form};
 use tree_core::Taken;
 
 /// Runs the lines of the push step at a level of the path. Returns the packet's rank there.
@@ -31,9 +31,11 @@ fn push_lines(states: &mut [NodeState], passage: &PacketPath, digits: &[u32], le
     let state = &mut states[waypoint.node as usize];
     let env = passage.env(&waypoint.marks);
     if level < digits.len() {
-        return run_push(transaction, state, &Who::Child(digits[level]), &env);
+        let child = Who::Child(digits[level]);
+        return push_by_form(&waypoint.push, transaction, state, &child, &env);
     }
-    run_push(transaction, state, &Who::Flow(passage.packet.flow), &env)
+    let flow = Who::Flow(passage.packet.flow);
+    push_by_form(&waypoint.push, transaction, state, &flow, &env)
 }
 
 /// Runs the push step at a level of the path. Returns the packet's rank there. If the marks alone
@@ -85,15 +87,11 @@ fn pop_lines(
     let state = &mut states[waypoint.node as usize];
     let env = passage.env(&waypoint.marks);
     if level < digits.len() {
-        run_pop(transaction, state, &Who::Child(digits[level]), rank, &env);
+        let child = Who::Child(digits[level]);
+        pop_by_form(&waypoint.pop, transaction, state, &child, rank, &env);
     } else {
-        run_pop(
-            transaction,
-            state,
-            &Who::Flow(passage.packet.flow),
-            rank,
-            &env,
-        );
+        let flow = Who::Flow(passage.packet.flow);
+        pop_by_form(&waypoint.pop, transaction, state, &flow, rank, &env);
     }
 }
 
@@ -112,9 +110,9 @@ fn pop_at(states: &mut [NodeState], passage: &PacketPath, digits: &[u32], level:
     ensures kept { AreStations (tree_for passage.now) states.new }
     ensures room { KeepsRoom passage.now states.old states.new }
 {
-    let waypoint = &passage.waypoints[level];
-    if !waypoint.checked.transaction().pop.is_empty() {
-        pop_lines(states, passage, digits, level, rank);
+    match passage.waypoints[level].pop {
+        Form::Empty => (),
+        _ => pop_lines(states, passage, digits, level, rank),
     }
 }
 

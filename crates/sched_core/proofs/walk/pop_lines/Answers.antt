@@ -2,7 +2,7 @@ use Rattle.std.proofs.Common.{arith, [], ◌∷◌}
 use Rattle.std.specs.Prelude.{slice_index_or}
 use Rattle.rank_defs.specs.declared.environment.Who.TheVariants.{Child, Flow}
 use Rattle.rank_defs.specs.Programs.{program_of}
-use Rattle.sched_core.proofs.NodeSteps.{IsStep, here-at, child-at, flow-at, range-here, step-here, in_range-here, room-here, popped-here, stations-here, still-room}
+use Rattle.sched_core.proofs.NodeSteps.{pop-form, IsStep, here-at, child-at, flow-at, range-here, step-here, in_range-here, room-here, popped-here, stations-here, still-room}
 use Rattle.sched_core.proofs.walk.pop_lines.Goals as goal
 use Rattle.sched_core.proofs.walk.pop_lines.Goals.{Then-level-digits, Else-level-digits}
 
@@ -23,33 +23,39 @@ for_flow : (c : Else-level-digits) → let s = slice_index_or c.args.passage.now
 for_flow c = step-here (here-at c.requires.ready c.requires.digits _ c.requires.level c.requires.kept) _ c.transaction-transaction.ensures.same (flow-at c.requires.ready c.requires.digits (omega (arith, c.if-level-digits.false))) c.env-env.ensures.env
 
 -- ---- for a child
-pub run_pop-requires-clause-in_range : goal.run_pop-requires-clause-in_range
-run_pop-requires-clause-in_range c = in_range-here (for_child (goal.at.run_pop-requires-clause-in_range c).Then-level-digits)
+pub pop_by_form-requires-clause-form : goal.pop_by_form-requires-clause-form
+pop_by_form-requires-clause-form c = pop-form (slice_index_or c.args.passage.now.waypoints.now c.args.level c.index-passage-level.result) c.transaction-transaction.ensures.same
 
-pub run_pop-requires-clause-room : goal.run_pop-requires-clause-room
-run_pop-requires-clause-room c = room-here (for_child (goal.at.run_pop-requires-clause-room c).Then-level-digits) c.requires.room
+pub pop_by_form-requires-clause-in_range : goal.pop_by_form-requires-clause-in_range
+pop_by_form-requires-clause-in_range c = in_range-here (for_child (goal.at.pop_by_form-requires-clause-in_range c).Then-level-digits)
+
+pub pop_by_form-requires-clause-room : goal.pop_by_form-requires-clause-room
+pop_by_form-requires-clause-room c = room-here (for_child (goal.at.pop_by_form-requires-clause-room c).Then-level-digits) c.requires.room
 
 pub returns-then-level-digits-clause-values : goal.returns-then-level-digits-clause-values
-returns-then-level-digits-clause-values c = popped-here (for_child (goal.at.returns-then-level-digits-clause-values c).Then-level-digits) _ (c.args.rank ∷ []) c.run_pop.ensures.after
+returns-then-level-digits-clause-values c = popped-here (for_child (goal.at.returns-then-level-digits-clause-values c).Then-level-digits) _ (c.args.rank ∷ []) c.pop_by_form.ensures.after
 
 pub returns-then-level-digits-clause-kept : goal.returns-then-level-digits-clause-kept
-returns-then-level-digits-clause-kept c = stations-here (for_child (goal.at.returns-then-level-digits-clause-kept c).Then-level-digits) _ c.run_pop.ensures.in_range c.run_pop.ensures.children c.run_pop.ensures.room
+returns-then-level-digits-clause-kept c = stations-here (for_child (goal.at.returns-then-level-digits-clause-kept c).Then-level-digits) _ c.pop_by_form.ensures.in_range c.pop_by_form.ensures.children c.pop_by_form.ensures.room
 
 pub returns-then-level-digits-clause-room : goal.returns-then-level-digits-clause-room
-returns-then-level-digits-clause-room c = still-room (for_child (goal.at.returns-then-level-digits-clause-room c).Then-level-digits) _ c.run_pop.ensures.room
+returns-then-level-digits-clause-room c = still-room (for_child (goal.at.returns-then-level-digits-clause-room c).Then-level-digits) _ c.pop_by_form.ensures.room
 
 -- ---- for a flow
-pub run_pop-requires-else-level-digits-clause-in_range : goal.run_pop-requires-else-level-digits-clause-in_range
-run_pop-requires-else-level-digits-clause-in_range c = in_range-here (for_flow (goal.at.run_pop-requires-else-level-digits-clause-in_range c).Else-level-digits)
+pub pop_by_form-requires-else-level-digits-clause-form : goal.pop_by_form-requires-else-level-digits-clause-form
+pop_by_form-requires-else-level-digits-clause-form c = pop-form (slice_index_or c.args.passage.now.waypoints.now c.args.level c.index-passage-level.result) c.transaction-transaction.ensures.same
 
-pub run_pop-requires-else-level-digits-clause-room : goal.run_pop-requires-else-level-digits-clause-room
-run_pop-requires-else-level-digits-clause-room c = room-here (for_flow (goal.at.run_pop-requires-else-level-digits-clause-room c).Else-level-digits) c.requires.room
+pub pop_by_form-requires-else-level-digits-clause-in_range : goal.pop_by_form-requires-else-level-digits-clause-in_range
+pop_by_form-requires-else-level-digits-clause-in_range c = in_range-here (for_flow (goal.at.pop_by_form-requires-else-level-digits-clause-in_range c).Else-level-digits)
+
+pub pop_by_form-requires-else-level-digits-clause-room : goal.pop_by_form-requires-else-level-digits-clause-room
+pop_by_form-requires-else-level-digits-clause-room c = room-here (for_flow (goal.at.pop_by_form-requires-else-level-digits-clause-room c).Else-level-digits) c.requires.room
 
 pub returns-else-level-digits-clause-values : goal.returns-else-level-digits-clause-values
-returns-else-level-digits-clause-values c = popped-here (for_flow (goal.at.returns-else-level-digits-clause-values c).Else-level-digits) _ (c.args.rank ∷ []) c.run_pop-else-level-digits.ensures.after
+returns-else-level-digits-clause-values c = popped-here (for_flow (goal.at.returns-else-level-digits-clause-values c).Else-level-digits) _ (c.args.rank ∷ []) c.pop_by_form-else-level-digits.ensures.after
 
 pub returns-else-level-digits-clause-kept : goal.returns-else-level-digits-clause-kept
-returns-else-level-digits-clause-kept c = stations-here (for_flow (goal.at.returns-else-level-digits-clause-kept c).Else-level-digits) _ c.run_pop-else-level-digits.ensures.in_range c.run_pop-else-level-digits.ensures.children c.run_pop-else-level-digits.ensures.room
+returns-else-level-digits-clause-kept c = stations-here (for_flow (goal.at.returns-else-level-digits-clause-kept c).Else-level-digits) _ c.pop_by_form-else-level-digits.ensures.in_range c.pop_by_form-else-level-digits.ensures.children c.pop_by_form-else-level-digits.ensures.room
 
 pub returns-else-level-digits-clause-room : goal.returns-else-level-digits-clause-room
-returns-else-level-digits-clause-room c = still-room (for_flow (goal.at.returns-else-level-digits-clause-room c).Else-level-digits) _ c.run_pop-else-level-digits.ensures.room
+returns-else-level-digits-clause-room c = still-room (for_flow (goal.at.returns-else-level-digits-clause-room c).Else-level-digits) _ c.pop_by_form-else-level-digits.ensures.room
