@@ -17,11 +17,11 @@ ghost use Rattle.sched_capture.specs.Answers.{IsRefusal, IsRefusalPart, answer_o
 
 use crate::course::run_over;
 use crate::task::Task;
-use outside_core::{Shelf, Sink, Stop};
+use outside_core::{ReadError, Shelf, Sink, Stop};
 use policy_core::Policy;
 use report_core::{FaultKind, Report, write_fault};
 use sched_core::{Direct, Scheduler};
-use sched_defs::{Ending, Halt};
+use sched_defs::Ending;
 use sched_packets::CapturePackets;
 use sched_run::{Pace, Recorder, Run};
 use std::alloc::{AllocError, Global};
@@ -83,9 +83,9 @@ pub fn begin<'a, S: Shelf, K: Sink>(
 {
     match CapturePackets::open(alloc, policy, shelf, capture) {
         Ok(packets) => Ok(packets),
-        Err(Halt::Fault(code, place)) => Err(refuse(alloc, sink, code, place)),
-        Err(Halt::Source) => Err(Err(Stop::Source)),
-        Err(Halt::Memory) => Err(Err(Stop::Memory)),
+        Err(ReadError::Fault(code, place)) => Err(refuse(alloc, sink, code, place)),
+        Err(ReadError::Source) => Err(Err(Stop::Source)),
+        Err(ReadError::Memory) => Err(Err(Stop::Memory)),
     }
 }
 

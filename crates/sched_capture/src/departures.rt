@@ -32,11 +32,11 @@ use crate::capture::{begin, refuse};
 use crate::fabric::{Placement, run_through};
 use crate::forwarding::Forwarding;
 use fabric_core::Fabric;
-use outside_core::{Shelf, Sink, SinkError, Stop};
+use outside_core::{ReadError, Shelf, Sink, SinkError, Stop};
 use pcap_core::put_head;
 use policy_core::Policy;
 use sched_core::Scheduler;
-use sched_defs::{Ending, Halt};
+use sched_defs::Ending;
 use sched_packets::{CapturePackets, OTHER_LINK, SingleLinkType};
 use sched_run::{Recorder, Run};
 use std::alloc::Global;
@@ -115,9 +115,9 @@ fn begin_packets<'a, S: Shelf, K: Sink>(
 {
     match SingleLinkType::start(arrivals, shelf) {
         Ok(packets) => Ok(packets),
-        Err(Halt::Fault(code, place)) => Err(refuse(alloc, sink, code, place)),
-        Err(Halt::Source) => Err(Err(Stop::Source)),
-        Err(Halt::Memory) => Err(Err(Stop::Memory)),
+        Err(ReadError::Fault(code, place)) => Err(refuse(alloc, sink, code, place)),
+        Err(ReadError::Source) => Err(Err(Stop::Source)),
+        Err(ReadError::Memory) => Err(Err(Stop::Memory)),
     }
 }
 

@@ -2,8 +2,8 @@
 use Rattle.std.specs.Prelude.{◌≡◌, ℕ, ◌+◌, ◌==◌, if◌then◌else◌, Option, None, Some, List, [], ◌∷◌, ◌++◌, IfSome, ⊤}
 use Rattle.pcap_defs.specs.Packet.{CapturedPacket}
 use Rattle.packet_defs.specs.declared.packet.Packet.{Packet}
-use Rattle.sched_defs.specs.declared.packets.Halt.{Halt}
-use Rattle.sched_defs.specs.declared.packets.Halt.TheVariants as halt
+use Rattle.outside_core.specs.declared.read_error.ReadError.{ReadError}
+use Rattle.outside_core.specs.declared.read_error.ReadError.TheVariants.{Fault}
 use Rattle.sched_defs.specs.Faults.{FaultAt}
 
 -- the greatest number of packets that can arrive
@@ -50,7 +50,8 @@ AreThere left captures = IfSome left (λ l. (bytes : Captured) × captures bytes
 abbrev pub IsOver : Option Left → Type 0
 IsOver left = IfSome left (λ l. (l.packets ≡ []) × (l.fault ≡ None))
 
--- if the rest is known, a halt at a fault follows the last packet and gives the fault that is there
-abbrev pub IsHalt : Option Left → Halt → Type 0
-IsHalt left (halt.Fault c p) = IfSome left (λ l. (l.packets ≡ []) × (l.fault ≡ Some (record { code = c; place = p })))
-IsHalt left _ = ⊤
+-- if the rest is known, an error that reports a fault follows the last packet, and the fault is
+-- the one that is there
+abbrev pub IsReadError : Option Left → ReadError → Type 0
+IsReadError left (Fault c p) = IfSome left (λ l. (l.packets ≡ []) × (l.fault ≡ Some (record { code = c; place = p })))
+IsReadError left _ = ⊤

@@ -4,22 +4,11 @@ ghost use Rattle.outside_core.specs.Faults.{Rose};
 ghost use Rattle.pcap_defs.specs.Record.{most_captured};
 ghost use Rattle.policy_defs.specs.Policy.{Policy};
 ghost use Rattle.sched_defs.specs.Numbered.{IsSendable};
-ghost use Rattle.sched_defs.specs.Packets.{most_packets, Left, Came, OneCame, Captured, StaysKnown, IsKnownAs, AreThere, IsOver, IsHalt};
+ghost use Rattle.sched_defs.specs.Packets.{most_packets, Left, Came, OneCame, Captured, StaysKnown, IsKnownAs, AreThere, IsOver, IsReadError};
 
+use outside_core::ReadError;
 use packet_defs::Packet;
 use rank_defs::FlowKey;
-
-/// Why no packet arrives.
-#[derive(Clone, Copy, PartialEq, Eq, Debug)]
-pub enum Halt {
-    /// The capture has a fault with this code, at the record with this number. The number is 0 if
-    /// there is none.
-    Fault(u32, u64),
-    /// The source can't be read.
-    Source,
-    /// Out of memory.
-    Memory,
-}
 
 /// A blank packet, to be overwritten when a packet is read.
 pub const BLANK: Packet = Packet {
@@ -65,7 +54,7 @@ pub trait Packets {
 
     /// Writes the next packet through `packet`, and returns whether one was left. It may be called
     /// again after the last packet, but not after an error.
-    fn next(&mut self, source: &mut Self::Source, packet: &mut Packet) -> Result<bool, Halt>
+    fn next(&mut self, source: &mut Self::Source, packet: &mut Packet) -> Result<bool, ReadError>
         requires ready { ready self.old source.old }
 
         ensures number { IfOk result (λ some. some ≡ true → packet.new.number ≡ given self.old +
@@ -83,7 +72,7 @@ pub trait Packets {
         ensures none { IfOk result (λ some. some ≡ false → Came (left self.old source.old)
             (left self.new source.new) []) }
         ensures over { IfOk result (λ some. some ≡ false → IsOver (left self.new source.new)) }
-        ensures fault { IfErr result (λ halt. IsHalt (left self.old source.old) halt) }
+        ensures fault { IfErr result (λ error. IsReadError (left self.old source.old) error) }
 
         ensures given { IfOk result (λ some. given self.new ≡ given self.old +
             (if some then 1 else 0)) }
@@ -91,11 +80,11 @@ pub trait Packets {
         ensures ready { OnOk result (ready self.new source.new) }
         ensures policy { policy self.new ≡ policy self.old }
         ensures later { faults source.old ≤ faults source.new }
-        ensures cause { IsErrOf result Halt.Source → Rose (faults source.old) (faults source.new) };
+        ensures cause { IsErrOf result ReadError.Source → Rose (faults source.old) (faults source.new) };
 
     /// Skips the next packet, and returns whether one was left. It may be called again after the
     /// last packet, but not after an error.
-    fn pass(&mut self, source: &mut Self::Source) -> Result<bool, Halt>
+    fn pass(&mut self, source: &mut Self::Source) -> Result<bool, ReadError>
         requires ready { ready self.old source.old }
 
         ensures came { IfOk result (λ some. some ≡ true → OneCame (left self.old source.old)
@@ -103,7 +92,7 @@ pub trait Packets {
         ensures none { IfOk result (λ some. some ≡ false → Came (left self.old source.old)
             (left self.new source.new) []) }
         ensures over { IfOk result (λ some. some ≡ false → IsOver (left self.new source.new)) }
-        ensures fault { IfErr result (λ halt. IsHalt (left self.old source.old) halt) }
+        ensures fault { IfErr result (λ error. IsReadError (left self.old source.old) error) }
 
         ensures given { IfOk result (λ some. given self.new ≡ given self.old +
             (if some then 1 else 0)) }
@@ -111,7 +100,7 @@ pub trait Packets {
         ensures ready { OnOk result (ready self.new source.new) }
         ensures policy { policy self.new ≡ policy self.old }
         ensures later { faults source.old ≤ faults source.new }
-        ensures cause { IsErrOf result Halt.Source → Rose (faults source.old) (faults source.new) };
+        ensures cause { IsErrOf result ReadError.Source → Rose (faults source.old) (faults source.new) };
 
     /// Returns the captured bytes of the most recent packet, if it wasn't skipped.
     fn captured(&self) -> &[u8]

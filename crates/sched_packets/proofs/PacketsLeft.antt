@@ -3,18 +3,15 @@ use Rattle.std.proofs.Common.{◌≡◌, ◌+◌, ℕ, Bool, true, false, true�
 use Rattle.std.specs.Prelude.{Result, IfOk, IfSome, option_map}
 use Rattle.pcap_defs.specs.Packet.{CapturedPacket}
 use Rattle.pcap_defs.specs.Contents.{Contents, FileContents, no_capture, holds}
-use Rattle.capture_core.specs.Captures.{fault_told, Opens, Comes, IsOneLess, IsAt, nothing_left}
+use Rattle.capture_core.specs.Captures.{fault_told, Opens, Comes, IsOneLess, IsAt, StopsAt, nothing_left}
 use Rattle.capture_core.specs.Rest.{rest_of}
 use Rattle.outside_core.specs.declared.read_error.ReadError.{ReadError}
 use Rattle.outside_core.specs.declared.read_error.ReadError.TheVariants.{Fault, Source, Memory}
 use Rattle.packet_defs.specs.declared.packet.Packet.{Packet}
 use Rattle.policy_rules.specs.Resolved.{Resolved}
-use Rattle.sched_defs.specs.declared.packets.Halt.{Halt}
-use Rattle.sched_defs.specs.declared.packets.Halt.TheVariants as halt
-use Rattle.sched_defs.specs.Packets.{Captured, Came, OneCame, IsHalt, IsKnownAs, IsOver, StaysKnown}
+use Rattle.sched_defs.specs.Packets.{Captured, Came, OneCame, IsReadError, IsKnownAs, IsOver, StaysKnown}
 use Rattle.sched_packets.specs.Packets.{packet_of, packets_from}
-use Rattle.sched_packets.specs.Halts.{halt_of}
-use Rattle.sched_packets.specs.NextPacket.{packet_told, IsNext, HaltsAt}
+use Rattle.sched_packets.specs.NextPacket.{packet_told, IsNext}
 use Rattle.sched_packets.specs.Arrivals.{left_in, Begins, Refuses, AreCaptured, AreCapturedIn}
 use Rattle.sched_packets.proofs.CapturedBytes.{bytes_of_next, bytes_of_others}
 
@@ -33,7 +30,7 @@ captured_at_start (no_capture fault) left given none opened bytes are = absurd o
 captured_at_start (holds contents) left given none opened bytes are = captured_behind contents left given none opened bytes are
 
 pub refuses : (error : ReadError) (contents : List ℕ → FileContents) (file : Option (List ℕ)) → IfSome (fault_told error) (λ f. IfSome file (λ bytes. contents bytes ≡ no_capture f))
-    → IfSome file (λ bytes. Refuses (halt_of error) (contents bytes))
+    → IfSome file (λ bytes. Refuses error (contents bytes))
 refuses (Fault c p) contents file h = h
 refuses Source contents None h = tt
 refuses Source contents (Some bytes) h = tt
@@ -42,21 +39,16 @@ refuses Memory contents (Some bytes) h = tt
 
 -- the same if the reader's bytes are those of a window
 pub refuses_over : (error : ReadError) (contents : List ℕ → FileContents) (ahead held : List ℕ) (left : Option (List ℕ)) → ahead ≡ held
-    → IfSome (fault_told error) (λ f. IfSome (rest_of ahead left) (λ bytes. contents bytes ≡ no_capture f)) → IfSome (rest_of held left) (λ bytes. Refuses (halt_of error) (contents bytes))
+    → IfSome (fault_told error) (λ f. IfSome (rest_of ahead left) (λ bytes. contents bytes ≡ no_capture f)) → IfSome (rest_of held left) (λ bytes. Refuses error (contents bytes))
 refuses_over error contents ahead held left same h =
-    subst (λ xs. IfSome (rest_of xs left) (λ bytes. Refuses (halt_of error) (contents bytes))) same (refuses error contents (rest_of ahead left) h)
+    subst (λ xs. IfSome (rest_of xs left) (λ bytes. Refuses error (contents bytes))) same (refuses error contents (rest_of ahead left) h)
 
--- ---- a halt
-pub halts_told : (error : ReadError) (old : Option Contents) → IfSome (fault_told error) (λ f. IsAt (Some f) old) → HaltsAt old (halt_of error)
-halts_told (Fault c p) old h = h
-halts_told Source old h = tt
-halts_told Memory old h = tt
-
-pub halts : (policy : Resolved) (n : ℕ) (old : Option Contents) (h : Halt) → HaltsAt old h → IsHalt (option_map (left_in policy n) old) h
-halts policy n None (halt.Fault c p) at = tt
-halts policy n (Some old) (halt.Fault c p) at = (ap (packets_from policy (n + 1)) at.0, at.1)
-halts policy n old halt.Source at = tt
-halts policy n old halt.Memory at = tt
+-- ---- a read error
+pub is_read_error : (policy : Resolved) (n : ℕ) (old : Option Contents) (h : ReadError) → StopsAt old h → IsReadError (option_map (left_in policy n) old) h
+is_read_error policy n None (Fault c p) at = tt
+is_read_error policy n (Some old) (Fault c p) at = (ap (packets_from policy (n + 1)) at.0, at.1)
+is_read_error policy n old Source at = tt
+is_read_error policy n old Memory at = tt
 
 -- ---- the next packet
 module _ (policy : Resolved) (n : ℕ) where
@@ -76,11 +68,11 @@ module _ (policy : Resolved) (n : ℕ) where
       subst P (sym is.packet) (rw (one) (comes old new (packet_told link p captured) is.comes))
 
   -- a skipped packet counts as read
-  pub one_came : (next : ℕ) (old new : Option Contents) (passed : Result Bool Halt) → IfOk passed (λ some. next ≡ n + (if some then 1 else 0)) → IfOk passed (λ some. some ≡ true → IsOneLess old new)
+  pub one_came : (next : ℕ) (old new : Option Contents) (passed : Result Bool ReadError) → IfOk passed (λ some. next ≡ n + (if some then 1 else 0)) → IfOk passed (λ some. some ≡ true → IsOneLess old new)
       → IfOk passed (λ some. some ≡ true → OneCame (option_map (left_in policy n) old) (option_map (left_in policy next) new))
   one_came next old new (Ok true) given less = λ is. (packet_of policy (n + 1) (less is).0, rw (given) (comes old new (less is).0 (less is).1))
   one_came next old new (Ok false) given less = λ is. absurd (true≢false (sym is))
-  one_came next old new (Err halt) given less = tt
+  one_came next old new (Err error) given less = tt
 
   -- the next packet is the first of those left, and these are its captured bytes
   pub record Gives (next : ℕ) (old new : Option Contents) (p : Packet) (captured : List ℕ) : Type 0 where

@@ -4,13 +4,13 @@ use Rattle.std.specs.Prelude.{option_map}
 use Rattle.std.proofs.lemmas.Bool.{eq-eqb, ne_eqb}
 use Rattle.pcap_defs.specs.Packet.{CapturedPacket}
 use Rattle.pcap_defs.specs.Contents.{FaultAt, Contents, FileContents, no_capture, holds}
-use Rattle.capture_core.specs.Captures.{Opens, Comes, IsAt, nothing_left}
+use Rattle.capture_core.specs.Captures.{Opens, Comes, IsAt, StopsAt, nothing_left}
 use Rattle.packet_defs.specs.declared.packet.Packet.{Packet}
 use Rattle.policy_rules.specs.Resolved.{Resolved}
-use Rattle.sched_defs.specs.declared.packets.Halt.{Halt}
-use Rattle.sched_defs.specs.declared.packets.Halt.TheVariants as halt
+use Rattle.outside_core.specs.declared.read_error.ReadError.{ReadError}
+use Rattle.outside_core.specs.declared.read_error.ReadError.TheVariants.{Fault, Source, Memory}
 use Rattle.forward_defs.specs.SingleLinkType.{other_link, first_link, behind_packet, of_link}
-use Rattle.sched_packets.specs.NextPacket.{packet_told, IsNext, HaltsAt}
+use Rattle.sched_packets.specs.NextPacket.{packet_told, IsNext}
 use Rattle.sched_packets.specs.Arrivals.{Refuses}
 use Rattle.sched_packets.specs.SingleLinkType.{one_link_in, link_in, with_ahead, rest_of_link, IsFirst}
 
@@ -70,11 +70,11 @@ other_told n number left is numbered =
     (ap (λ (c : Contents). c.packets) is, ap (λ (c : Contents). c.fault) is ∙ ap (λ (m : ℕ). Some (record { code = other_link; place = m })) (sym numbered))
 
 -- a packet of another link type is reported by its number
-pub other_halts : (policy : Resolved) (n link own : ℕ) (old new : Option Contents) (p : Packet) (captured : List ℕ) → (own ≡ link → ⊥) → IsNext policy n old new own p captured
-    → HaltsAt (option_map (rest_of_link link n) old) (halt.Fault other_link p.number)
-other_halts policy n link own None new p captured differs is = tt
-other_halts policy n link own (Some old) None p captured differs is = absurd is.comes
-other_halts policy n link own (Some old) (Some new) p captured differs is =
+pub stops_at_other : (policy : Resolved) (n link own : ℕ) (old new : Option Contents) (p : Packet) (captured : List ℕ) → (own ≡ link → ⊥) → IsNext policy n old new own p captured
+    → StopsAt (option_map (rest_of_link link n) old) (Fault other_link p.number)
+stops_at_other policy n link own None new p captured differs is = tt
+stops_at_other policy n link own (Some old) None p captured differs is = absurd is.comes
+stops_at_other policy n link own (Some old) (Some new) p captured differs is =
     other_told n p.number (rest_of_link link n old)
     (rest_of_other link n old new (packet_told own p captured) (ne_eqb own link differs) is.comes.0 is.comes.1) (ap (λ (q : Packet). q.number) is.packet)
 
@@ -84,10 +84,10 @@ at_end fault link n None at = tt
 at_end fault link n (Some old) at =
     (ap (λ ps. (of_link link (n + 1) ps old.fault).packets) at.0, ap (λ ps. (of_link link (n + 1) ps old.fault).fault) at.0 ∙ at.1)
 
-pub halts_at_end : (link n : ℕ) (old : Option Contents) (h : Halt) → HaltsAt old h → HaltsAt (option_map (rest_of_link link n) old) h
-halts_at_end link n old (halt.Fault c p) at = at_end (Some (record { code = c; place = p })) link n old at
-halts_at_end link n old halt.Source at = tt
-halts_at_end link n old halt.Memory at = tt
+pub stops_at_end : (link n : ℕ) (old : Option Contents) (h : ReadError) → StopsAt old h → StopsAt (option_map (rest_of_link link n) old) h
+stops_at_end link n old (Fault c p) at = at_end (Some (record { code = c; place = p })) link n old at
+stops_at_end link n old Source at = tt
+stops_at_end link n old Memory at = tt
 
 pub over_at_end : (link n : ℕ) (new : Option Contents) → new ≡ Some nothing_left → option_map (rest_of_link link n) new ≡ Some nothing_left
 over_at_end link n new over = ap (option_map (rest_of_link link n)) over
@@ -157,12 +157,12 @@ link_of_none (holds c) old at opened =
 fault_refuses : (c : Contents) (fault : FaultAt) → IsAt (Some fault) (Some c) → one_link_in (holds c) ≡ no_capture fault
 fault_refuses c fault at = rw (at.0, at.1) refl
 
-pub refuses_first : (file : FileContents) (old : Option Contents) (h : Halt) → HaltsAt old h → Opens file old → Refuses h (one_link_in file)
+pub refuses_first : (file : FileContents) (old : Option Contents) (h : ReadError) → StopsAt old h → Opens file old → Refuses h (one_link_in file)
 refuses_first (no_capture fault) old h at opened = absurd opened
-refuses_first (holds contents) old (halt.Fault c p) at opened =
+refuses_first (holds contents) old (Fault c p) at opened =
     fault_refuses contents (record { code = c; place = p }) (subst (IsAt (Some (record { code = c; place = p }))) opened at)
-refuses_first (holds contents) old halt.Source at opened = tt
-refuses_first (holds contents) old halt.Memory at opened = tt
+refuses_first (holds contents) old Source at opened = tt
+refuses_first (holds contents) old Memory at opened = tt
 
 -- and it is the first
 pub is_first : (policy : Resolved) (given read link : ℕ) (old new : Option Contents) (p : Packet) (captured : List ℕ) → given ≡ 0 → read ≡ given + 1 → IsNext policy given old new link p captured

@@ -6,8 +6,8 @@ use Rattle.capture_core.specs.Captures.{nothing_left}
 use Rattle.policy_rules.specs.Resolved.{Resolved}
 use Rattle.packet_core.specs.Classifier.{policy_of}
 use Rattle.sched_defs.specs.Packets.{Left, Captured, most_packets}
-use Rattle.sched_defs.specs.declared.packets.Halt.{Halt}
-use Rattle.sched_defs.specs.declared.packets.Halt.TheVariants as halt
+use Rattle.outside_core.specs.declared.read_error.ReadError.{ReadError}
+use Rattle.outside_core.specs.declared.read_error.ReadError.TheVariants.{Fault}
 use Rattle.sched_packets.specs.Packets.{packets_from}
 use Rattle.sched_packets.specs.declared.arrivals.Arrivals.{Arrivals}
 
@@ -42,9 +42,9 @@ abbrev pub Begins : Resolved → FileContents → Option Left → Type 0
 Begins policy (no_capture fault) left = ⊥
 Begins policy (holds contents) left = left ≡ Some (left_in policy 0 contents)
 
--- a halt at a fault reports the fault for which the file is no capture
-abbrev pub Refuses : Halt → FileContents → Type 0
-Refuses (halt.Fault c p) file = file ≡ no_capture (record { code = c; place = p })
+-- an error that reports a fault reports the one for which the file is no capture
+abbrev pub Refuses : ReadError → FileContents → Type 0
+Refuses (Fault c p) file = file ≡ no_capture (record { code = c; place = p })
 Refuses _ file = ⊤
 
 -- ---- captured bytes, by packet number

@@ -1,5 +1,4 @@
 pub mod Packets
-pub mod Halts
 pub mod NextPacket
 pub mod Arrivals
 pub mod CapturedBytes

@@ -1,14 +1,12 @@
--- The next packet of a capture, and a halt, by the contents that were left.
-use Rattle.std.specs.Prelude.{◌≡◌, ◌≤◌, ℕ, ◌+◌, Option, Some, List, length, ⊤}
+-- The next packet of a capture, by the contents that were left.
+use Rattle.std.specs.Prelude.{◌≡◌, ◌≤◌, ℕ, ◌+◌, Option, List, length}
 use Rattle.pcap_defs.specs.Packet.{CapturedPacket}
 use Rattle.pcap_defs.specs.Record.{most_captured}
 use Rattle.pcap_defs.specs.Contents.{Contents}
-use Rattle.capture_core.specs.Captures.{Comes, IsAt}
+use Rattle.capture_core.specs.Captures.{Comes}
 use Rattle.packet_defs.specs.declared.packet.Packet.{Packet}
 use Rattle.policy_rules.specs.Resolved.{Resolved}
 use Rattle.sched_defs.specs.Numbered.{IsSendable}
-use Rattle.sched_defs.specs.declared.packets.Halt.{Halt}
-use Rattle.sched_defs.specs.declared.packets.Halt.TheVariants as halt
 use Rattle.sched_packets.specs.Packets.{packet_of}
 
 -- the captured packet with this link type, this packet's timestamp and length, and these captured
@@ -23,8 +21,3 @@ pub record IsNext (policy : Resolved) (given : ℕ) (old new : Option Contents) 
   pub packet : p ≡ packet_of policy (given + 1) (packet_told link p captured)
   pub sendable : IsSendable policy.policy p
   pub short : length captured ≤ most_captured
-
--- a halt at a fault comes after the last packet, and reports the fault that is there
-abbrev pub HaltsAt : Option Contents → Halt → Type 0
-HaltsAt left (halt.Fault c p) = IsAt (Some (record { code = c; place = p })) left
-HaltsAt left _ = ⊤

@@ -2,18 +2,16 @@
 ghost use Rattle.std.specs.Prelude.{◌≡◌, ◌+◌, Some, true, false, is_some, if◌then◌else◌, IfOk, IfErr, IfSome, IfNone, OnOk, IsErrOf, IsTrue};
 ghost use Rattle.outside_core.specs.Faults.{Rose};
 ghost use Rattle.outside_core.specs.Kept.{KeepsShelf};
-ghost use Rattle.capture_core.specs.Captures.{Opens, IsOneLess, IsAt, nothing_left};
+ghost use Rattle.capture_core.specs.Captures.{Opens, IsOneLess, IsAt, StopsAt, nothing_left};
 ghost use Rattle.capture_core.specs.Held.{held};
 ghost use Rattle.capture_core.specs.Rest.{rest_of};
-ghost use Rattle.sched_packets.specs.NextPacket.{IsNext, HaltsAt};
+ghost use Rattle.sched_packets.specs.NextPacket.{IsNext};
 
-use crate::halts::halt_of;
 use crate::packets::put_packet;
 use capture_core::{CaptureReader, Window};
-use outside_core::Shelf;
+use outside_core::{ReadError, Shelf};
 use packet_core::{Classifier, Packet};
 use policy_core::Policy;
-use sched_defs::Halt;
 use std::alloc::Global;
 use std::marker::PhantomData;
 
@@ -39,7 +37,7 @@ impl<'a, R: CaptureReader + Drop, S: Shelf> Arrivals<'a, R, S> {
         policy: &'a Policy,
         window: Window,
         shelf: &mut S,
-    ) -> Result<Arrivals<'a, R, S>, Halt>
+    ) -> Result<Arrivals<'a, R, S>, ReadError>
         requires begun { IsTrue (S.begun shelf.old) }
 
         ensures opens { IfOk result (λ a. IfSome (rest_of (held window) (S.left shelf.old)) (λ file.
@@ -48,33 +46,28 @@ impl<'a, R: CaptureReader + Drop, S: Shelf> Arrivals<'a, R, S> {
         ensures none_given { IfOk result (λ a. given_by R.given a ≡ 0) }
         ensures ready { IfOk result (λ a. IsReady R.ready R.given a (S.begun shelf.new)) }
 
-        ensures refuses { IfErr result (λ halt.
-            IfSome (rest_of (held window) (S.left shelf.old)) (λ file. Refuses halt (R.contents file))) }
+        ensures refuses { IfErr result (λ error.
+            IfSome (rest_of (held window) (S.left shelf.old)) (λ file. Refuses error (R.contents file))) }
         ensures begun { IsTrue (S.begun shelf.new) }
         ensures kept { KeepsShelf S.lends S.content S.faults shelf.old shelf.new }
-        ensures cause { IsErrOf result Halt.Source → Rose (S.faults shelf.old)
+        ensures cause { IsErrOf result ReadError.Source → Rose (S.faults shelf.old)
             (S.faults shelf.new) }
     {
         let mut reader = R::over(alloc, window);
-        match reader.start(shelf) {
-            Ok(()) => match Classifier::new(alloc, policy) {
-                Ok(classifier) => Ok(Arrivals {
-                    classifier,
-                    reader,
-                    bytes: Vec::new(alloc),
-                    over: false,
-                    shelf: PhantomData,
-                }),
-                Err(_) => Err(Halt::Memory),
-            },
-            Err(error) => Err(halt_of(error)),
-        }
+        reader.start(shelf)?;
+        Ok(Arrivals {
+            classifier: Classifier::new(alloc, policy)?,
+            reader,
+            bytes: Vec::new(alloc),
+            over: false,
+            shelf: PhantomData,
+        })
     }
 
     /// Writes the next packet, if one is left, through an out-parameter, and returns its link type.
     /// May be called again after `None`, but not after an error.
     #[inline(always)]
-    pub fn next_packet(&mut self, source: &mut S, packet: &mut Packet) -> Result<Option<u16>, Halt>
+    pub fn next_packet(&mut self, source: &mut S, packet: &mut Packet) -> Result<Option<u16>, ReadError>
         requires ready { IsReady R.ready R.given self.old (S.begun source.old) }
 
         ensures next { IfOk result (λ o. IfSome o (λ link. IsNext (resolved_of self.old)
@@ -85,35 +78,34 @@ impl<'a, R: CaptureReader + Drop, S: Shelf> Arrivals<'a, R, S> {
             (contents_of R.left self.old (S.left source.old)))) }
         ensures over { IfOk result (λ o. IfNone o (contents_of R.left self.new (S.left source.new) ≡
             Some nothing_left)) }
-        ensures fault { IfErr result (HaltsAt (contents_of R.left self.old (S.left source.old))) }
+        ensures fault { IfErr result (StopsAt (contents_of R.left self.old (S.left source.old))) }
 
         ensures given { IfOk result (λ o. given_by R.given self.new ≡ given_by R.given self.old +
             (if is_some o then 1 else 0)) }
         ensures ready { OnOk result (IsReady R.ready R.given self.new (S.begun source.new)) }
         ensures policy { resolved_of self.new ≡ resolved_of self.old }
         ensures kept { KeepsShelf S.lends S.content S.faults source.old source.new }
-        ensures cause { IsErrOf result Halt.Source → Rose (S.faults source.old)
+        ensures cause { IsErrOf result ReadError.Source → Rose (S.faults source.old)
             (S.faults source.new) }
     {
         if self.over {
             return Ok(None);
         }
-        match self.reader.next(source, &mut self.bytes) {
-            Ok(Some(read)) => {
+        match self.reader.next(source, &mut self.bytes)? {
+            Some(read) => {
                 put_packet(&self.classifier, &read, &self.bytes, packet);
                 Ok(Some(read.link))
             }
-            Ok(None) => {
+            None => {
                 self.over = true;
                 Ok(None)
             }
-            Err(error) => Err(halt_of(error)),
         }
     }
 
     /// Skips the next packet, and returns whether one was left. May be called again after `false`,
     /// but not after an error.
-    pub fn pass(&mut self, source: &mut S) -> Result<bool, Halt>
+    pub fn pass(&mut self, source: &mut S) -> Result<bool, ReadError>
         requires ready { IsReady R.ready R.given self.old (S.begun source.old) }
 
         ensures comes { IfOk result (λ some. some ≡ true → IsOneLess
@@ -122,27 +114,22 @@ impl<'a, R: CaptureReader + Drop, S: Shelf> Arrivals<'a, R, S> {
             (contents_of R.left self.old (S.left source.old))) }
         ensures over { IfOk result (λ some. some ≡ false →
             contents_of R.left self.new (S.left source.new) ≡ Some nothing_left) }
-        ensures fault { IfErr result (HaltsAt (contents_of R.left self.old (S.left source.old))) }
+        ensures fault { IfErr result (StopsAt (contents_of R.left self.old (S.left source.old))) }
 
         ensures given { IfOk result (λ some. given_by R.given self.new ≡ given_by R.given self.old +
             (if some then 1 else 0)) }
         ensures ready { OnOk result (IsReady R.ready R.given self.new (S.begun source.new)) }
         ensures policy { resolved_of self.new ≡ resolved_of self.old }
         ensures kept { KeepsShelf S.lends S.content S.faults source.old source.new }
-        ensures cause { IsErrOf result Halt.Source → Rose (S.faults source.old)
+        ensures cause { IsErrOf result ReadError.Source → Rose (S.faults source.old)
             (S.faults source.new) }
     {
         if self.over {
             return Ok(false);
         }
-        match self.reader.pass(source, &mut self.bytes) {
-            Ok(true) => Ok(true),
-            Ok(false) => {
-                self.over = true;
-                Ok(false)
-            }
-            Err(error) => Err(halt_of(error)),
-        }
+        let some = self.reader.pass(source, &mut self.bytes)?;
+        self.over = !some;
+        Ok(some)
     }
 
     /// Returns the captured bytes of the last packet read, unless it was skipped.

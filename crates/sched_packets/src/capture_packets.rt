@@ -2,20 +2,19 @@
 ghost use Rattle.std.specs.Prelude.{◌≡◌, ◌+◌, Some, is_some, if◌then◌else◌, IfOk, IfErr, IfSome, IfNone, OnOk, IsErrOf, IsTrue};
 ghost use Rattle.outside_core.specs.Faults.{Rose};
 ghost use Rattle.outside_core.specs.Kept.{KeepsShelf};
-ghost use Rattle.capture_core.specs.Captures.{Opens, IsAt, nothing_left};
+ghost use Rattle.capture_core.specs.Captures.{Opens, IsAt, StopsAt, nothing_left};
 ghost use Rattle.pcapng_defs.specs.NgContents.{in_file};
 ghost use Rattle.sched_packets.specs.Arrivals.{Begins, Refuses};
-ghost use Rattle.sched_packets.specs.NextPacket.{IsNext, HaltsAt};
+ghost use Rattle.sched_packets.specs.NextPacket.{IsNext};
 
 use crate::arrivals::Arrivals;
-use crate::halts::halt_unread;
 use capture_core::Window;
-use outside_core::Shelf;
+use outside_core::{ReadError, Shelf};
 use packet_core::Packet;
 use pcap_core::{HEADER_LEN, Reader, is_newer};
 use pcapng_core::NgReader;
 use policy_core::Policy;
-use sched_defs::{Halt, Packets};
+use sched_defs::Packets;
 use std::alloc::Global;
 
 /// Reads the packets of a capture in the format with which its file begins.
@@ -37,7 +36,7 @@ impl<'a, S: Shelf> CapturePackets<'a, S> {
         policy: &'a Policy,
         shelf: &mut S,
         name: &str,
-    ) -> Result<CapturePackets<'a, S>, Halt>
+    ) -> Result<CapturePackets<'a, S>, ReadError>
         requires lent { IsTrue (S.lends shelf.old name.now) }
 
         ensures opens { IfOk result (λ a. IfSome (S.content shelf.old name.now) (λ file.
@@ -48,16 +47,14 @@ impl<'a, S: Shelf> CapturePackets<'a, S> {
         ensures none_given { IfOk result (λ a. given_by a ≡ 0) }
         ensures ready { IfOk result (λ a. IsReady a (S.begun shelf.new)) }
 
-        ensures refuses { IfErr result (λ halt. IfSome (S.content shelf.old name.now) (λ file.
-            Refuses halt (in_file file))) }
+        ensures refuses { IfErr result (λ error. IfSome (S.content shelf.old name.now) (λ file.
+            Refuses error (in_file file))) }
         ensures kept { KeepsShelf S.lends S.content S.faults shelf.old shelf.new }
-        ensures cause { IsErrOf result Halt.Source → Rose (S.faults shelf.old)
+        ensures cause { IsErrOf result ReadError.Source → Rose (S.faults shelf.old)
             (S.faults shelf.new) }
     {
-        match shelf.begin(name) {
-            Ok(()) => Self::start(alloc, policy, shelf),
-            Err(error) => Err(halt_unread(error)),
-        }
+        shelf.begin(name)?;
+        Self::start(alloc, policy, shelf)
     }
 
     /// Reads the beginning of the begun file. The window with the first bytes passes to the reader.
@@ -65,7 +62,7 @@ impl<'a, S: Shelf> CapturePackets<'a, S> {
         alloc: Global,
         policy: &'a Policy,
         shelf: &mut S,
-    ) -> Result<CapturePackets<'a, S>, Halt>
+    ) -> Result<CapturePackets<'a, S>, ReadError>
         requires begun { IsTrue (S.begun shelf.old) }
 
         ensures opens { IfOk result (λ a. IfSome (S.left shelf.old) (λ file.
@@ -74,33 +71,27 @@ impl<'a, S: Shelf> CapturePackets<'a, S> {
         ensures none_given { IfOk result (λ a. given_by a ≡ 0) }
         ensures ready { IfOk result (λ a. IsReady a (S.begun shelf.new)) }
 
-        ensures refuses { IfErr result (λ halt. IfSome (S.left shelf.old) (λ file.
-            Refuses halt (in_file file))) }
+        ensures refuses { IfErr result (λ error. IfSome (S.left shelf.old) (λ file.
+            Refuses error (in_file file))) }
         ensures kept { KeepsShelf S.lends S.content S.faults shelf.old shelf.new }
-        ensures cause { IsErrOf result Halt.Source → Rose (S.faults shelf.old)
+        ensures cause { IsErrOf result ReadError.Source → Rose (S.faults shelf.old)
             (S.faults shelf.new) }
     {
         let mut window = Window::new(alloc);
-        if let Err(error) = window.hold(shelf, HEADER_LEN) {
-            return Err(halt_unread(error));
-        }
+        window.hold(shelf, HEADER_LEN)?;
         if is_newer(window.front()) {
-            match Arrivals::start(alloc, policy, window, shelf) {
-                Ok(arrivals) => Ok(CapturePackets::Blocks(arrivals)),
-                Err(halt) => Err(halt),
-            }
+            let arrivals = Arrivals::start(alloc, policy, window, shelf)?;
+            Ok(CapturePackets::Blocks(arrivals))
         } else {
-            match Arrivals::start(alloc, policy, window, shelf) {
-                Ok(arrivals) => Ok(CapturePackets::Classic(arrivals)),
-                Err(halt) => Err(halt),
-            }
+            let arrivals = Arrivals::start(alloc, policy, window, shelf)?;
+            Ok(CapturePackets::Classic(arrivals))
         }
     }
 
     /// Writes the next packet, if one is left, through an out-parameter, and returns its link type.
     /// May be called again after `None`, but not after an error.
     #[inline(always)]
-    pub fn next_packet(&mut self, source: &mut S, packet: &mut Packet) -> Result<Option<u16>, Halt>
+    pub fn next_packet(&mut self, source: &mut S, packet: &mut Packet) -> Result<Option<u16>, ReadError>
         requires ready { IsReady self.old (S.begun source.old) }
 
         ensures next { IfOk result (λ o. IfSome o (λ link. IsNext (resolved_of self.old)
@@ -111,14 +102,14 @@ impl<'a, S: Shelf> CapturePackets<'a, S> {
             (contents_of self.old (S.left source.old)))) }
         ensures over { IfOk result (λ o. IfNone o (contents_of self.new (S.left source.new) ≡
             Some nothing_left)) }
-        ensures fault { IfErr result (HaltsAt (contents_of self.old (S.left source.old))) }
+        ensures fault { IfErr result (StopsAt (contents_of self.old (S.left source.old))) }
 
         ensures given { IfOk result (λ o. given_by self.new ≡ given_by self.old +
             (if is_some o then 1 else 0)) }
         ensures ready { OnOk result (IsReady self.new (S.begun source.new)) }
         ensures policy { resolved_of self.new ≡ resolved_of self.old }
         ensures kept { KeepsShelf S.lends S.content S.faults source.old source.new }
-        ensures cause { IsErrOf result Halt.Source → Rose (S.faults source.old)
+        ensures cause { IsErrOf result ReadError.Source → Rose (S.faults source.old)
             (S.faults source.new) }
     {
         match self {
@@ -148,15 +139,15 @@ impl<'a, S: Shelf> Packets for CapturePackets<'a, S> {
     ghost faults = { S.faults };
 
     #[inline(always)]
-    fn next(&mut self, source: &mut S, packet: &mut Packet) -> Result<bool, Halt> {
+    fn next(&mut self, source: &mut S, packet: &mut Packet) -> Result<bool, ReadError> {
         match self.next_packet(source, packet) {
             Ok(Some(_)) => Ok(true),
             Ok(None) => Ok(false),
-            Err(halt) => Err(halt),
+            Err(error) => Err(error),
         }
     }
 
-    fn pass(&mut self, source: &mut S) -> Result<bool, Halt> {
+    fn pass(&mut self, source: &mut S) -> Result<bool, ReadError> {
         match self {
             CapturePackets::Classic(arrivals) => arrivals.pass(source),
             CapturePackets::Blocks(arrivals) => arrivals.pass(source),

@@ -5,11 +5,10 @@
 
 mod arrivals;
 mod capture_packets;
-mod halts;
 mod packets;
 mod single_link_type;
 
 pub use arrivals::Arrivals;
 pub use capture_packets::CapturePackets;
-pub use sched_defs::{Halt, Packets};
+pub use sched_defs::Packets;
 pub use single_link_type::{OTHER_LINK, SingleLinkType};

@@ -7,9 +7,9 @@ ghost use Rattle.sched_packets.specs.CapturePackets as any;
 ghost use Rattle.sched_packets.specs.Arrivals.{Begins, Refuses, AreCapturedIn};
 
 use crate::capture_packets::CapturePackets;
-use outside_core::Shelf;
+use outside_core::{ReadError, Shelf};
 use packet_core::Packet;
-use sched_defs::{BLANK, Halt, Packets};
+use sched_defs::{BLANK, Packets};
 
 /// The fault code of a packet with another link type than the first packet, after the codes of
 /// capture faults. The fault's position (`place`) is the packet's number.
@@ -32,7 +32,7 @@ impl<'a, S: Shelf> SingleLinkType<'a, S> {
     pub fn start(
         arrivals: CapturePackets<'a, S>,
         source: &mut S,
-    ) -> Result<SingleLinkType<'a, S>, Halt>
+    ) -> Result<SingleLinkType<'a, S>, ReadError>
         requires none_given { any.given_by arrivals ≡ 0 }
         requires ready { any.IsReady arrivals (S.begun source.old) }
 
@@ -49,11 +49,11 @@ impl<'a, S: Shelf> SingleLinkType<'a, S> {
         ensures none_given { IfOk result (λ o. given_by o ≡ 0) }
         ensures ready { IfOk result (λ o. IsReady o (S.begun source.new)) }
 
-        ensures refuses { IfErr result (λ halt. EachFileOf (any.contents_of arrivals.entry
+        ensures refuses { IfErr result (λ error. EachFileOf (any.contents_of arrivals.entry
             (S.left source.old)) (λ file.
-            Refuses halt (one_link_in file))) }
+            Refuses error (one_link_in file))) }
         ensures kept { KeepsShelf S.lends S.content S.faults source.old source.new }
-        ensures cause { IsErrOf result Halt.Source → Rose (S.faults source.old)
+        ensures cause { IsErrOf result ReadError.Source → Rose (S.faults source.old)
             (S.faults source.new) }
     {
         let mut arrivals = arrivals;
@@ -69,7 +69,7 @@ impl<'a, S: Shelf> SingleLinkType<'a, S> {
                 link: 0,
                 ahead: None,
             }),
-            Err(halt) => Err(halt),
+            Err(error) => Err(error),
         }
     }
 
@@ -100,20 +100,20 @@ impl<'a, S: Shelf> Packets for SingleLinkType<'a, S> {
 
     ghost faults = { S.faults };
 
-    fn next(&mut self, source: &mut S, packet: &mut Packet) -> Result<bool, Halt> {
+    fn next(&mut self, source: &mut S, packet: &mut Packet) -> Result<bool, ReadError> {
         if let Some(first) = self.ahead.take() {
             *packet = first;
             return Ok(true);
         }
         match self.arrivals.next_packet(source, packet) {
             Ok(Some(link)) if link == self.link => Ok(true),
-            Ok(Some(_)) => Err(Halt::Fault(OTHER_LINK, packet.number)),
+            Ok(Some(_)) => Err(ReadError::Fault(OTHER_LINK, packet.number)),
             Ok(None) => Ok(false),
-            Err(halt) => Err(halt),
+            Err(error) => Err(error),
         }
     }
 
-    fn pass(&mut self, source: &mut S) -> Result<bool, Halt> {
+    fn pass(&mut self, source: &mut S) -> Result<bool, ReadError> {
         let mut packet = BLANK;
         self.next(source, &mut packet)
     }

@@ -77,9 +77,9 @@ module _ {C U W : Type 0} (S : Ghosts C U) (R : Recordings W) (laws : AreJoined 
           subst (IsCourse run.events e) (sym w.joined) (record { are = sym (append-nil run.events) ∙ ap (λ (es : List Event). run.events ++ es) last.are; ends = last.ends })
 
   -- the run stops here, and a prefix of its record is written
-  pub run_halts : (whole rest : Agenda) (all spare : ℕ) (a b : Option Left) (old : Stage C U W) (c : C) (u : U) (w : W) (written : Option (List ℕ)) (given : ℕ) (tally : Tally) (sight : Sight) →
+  pub run_stops_amid : (whole rest : Agenda) (all spare : ℕ) (a b : Option Left) (old : Stage C U W) (c : C) (u : U) (w : W) (written : Option (List ℕ)) (given : ℕ) (tally : Tally) (sight : Sight) →
       HasRun S R policy whole rest all spare a b old (stage c u w written given tally sight) → StopsAmid S R policy (λ l s. (whole l s (event_of old.tally)).events) a old c u written
-  run_halts whole rest all spare a b old c u w written given tally sight run = record {
+  run_stops_amid whole rest all spare a b old c u w written given tally sight run = record {
     events = run.events;
     stop = stops_here S R laws policy run.events old c u w written run.made.next run.made.played;
     first = by_left a run.told;
@@ -185,11 +185,11 @@ module _ {C U W : Type 0} (S : Ghosts C U) (R : Recordings W) (laws : AreJoined 
     }
 
     -- the run stopped between two events
-    pub run_halts_going : (over : W → Bool) → over mid.recorder ≡ false → CoursesAmid S R over policy whole a old mid.scheduler mid.under mid.written
-    unfolding run_halts
-    run_halts_going over going =
-        let halted : StopsAmid S R policy (λ l s. (whole l s (event_of old.tally)).events) a old mid.scheduler mid.under mid.written =
-        run_halts S R laws policy whole next all spare a b old mid.scheduler mid.under mid.recorder mid.written mid.given mid.tally mid.sight run in
+    pub run_stops_going : (over : W → Bool) → over mid.recorder ≡ false → CoursesAmid S R over policy whole a old mid.scheduler mid.under mid.written
+    unfolding run_stops_amid
+    run_stops_going over going =
+        let stopped : StopsAmid S R policy (λ l s. (whole l s (event_of old.tally)).events) a old mid.scheduler mid.under mid.written =
+        run_stops_amid S R laws policy whole next all spare a b old mid.scheduler mid.under mid.recorder mid.written mid.given mid.tally mid.sight run in
         record {
           events = run.events;
           stop = record {
@@ -203,7 +203,7 @@ module _ {C U W : Type 0} (S : Ghosts C U) (R : Recordings W) (laws : AreJoined 
             going = going;
             stop = stops_none S R laws policy mid.scheduler mid.under mid.recorder mid.written mid.given mid.tally mid.sight;
           };
-          first = halted.first;
+          first = stopped.first;
         }
 
     -- nothing more can be recorded in the rest

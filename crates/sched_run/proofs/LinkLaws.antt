@@ -363,9 +363,9 @@ module _ {C U W : Type 0} (S : Ghosts C U) (R : Recordings W) (laws : AreJoined 
   is_turn : (s : SourceState) → moment ≡ max s.now p.moment → (link_turn policy rate p s free).events ≡ (send_until policy rate (Some moment) (size s.tree) s free).events ++ Arrive p ∷ []
   is_turn s e = ap (λ (n : ℕ). (send_until policy rate (Some n) (size s.tree) s free).events ++ Arrive p ∷ []) (sym e)
 
-  pub turn_halts : (over : W → Bool) (c : C) (u : U) (written : Option (List ℕ)) → SendsAmid S R over policy (λ s. send_until policy rate (Some moment) (size s.tree) s free) old c u written
+  pub turn_stops_amid : (over : W → Bool) (c : C) (u : U) (written : Option (List ℕ)) → SendsAmid S R over policy (λ s. send_until policy rate (Some moment) (size s.tree) s free) old c u written
       → SendsAmid S R over policy (λ s. link_turn policy rate p s free) old c u written
-  turn_halts over c u written amid = record {
+  turn_stops_amid over c u written amid = record {
     events = amid.events;
     stop = amid.stop;
     first = λ s sound stood below.

@@ -4,11 +4,11 @@ ghost use Rattle.std.specs.Prelude.{◌≡◌};
 use crate::recorder::Recorder;
 use crate::run::Run;
 use crate::shown::show_arrival;
-use outside_core::{Sink, Stop};
+use outside_core::{ReadError, Sink, Stop};
 use packet_defs::Packet;
 use policy_defs::NodeNames;
 use sched_core::Scheduler;
-use sched_defs::{BLANK, Ending, Halt, Packets};
+use sched_defs::{BLANK, Ending, Packets};
 use tap_core::{Tap, Watching};
 
 impl<'a, C: Scheduler + Drop, N: NodeNames, W: Recorder> Run<'a, C, N, W> {
@@ -122,9 +122,9 @@ impl<'a, C: Scheduler + Drop, N: NodeNames, W: Recorder> Run<'a, C, N, W> {
                 Ok(None)
             }
             Ok(false) => Ok(Some(Ending::PastLast(self.tally.event()))),
-            Err(Halt::Fault(code, place)) => Ok(Some(Ending::BadCapture(code, place))),
-            Err(Halt::Source) => Err(Stop::Source),
-            Err(Halt::Memory) => Err(Stop::Memory),
+            Err(ReadError::Fault(code, place)) => Ok(Some(Ending::BadCapture(code, place))),
+            Err(ReadError::Source) => Err(Stop::Source),
+            Err(ReadError::Memory) => Err(Stop::Memory),
         }
     }
 

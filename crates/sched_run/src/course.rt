@@ -13,11 +13,11 @@ use crate::recorder::Recorder;
 use crate::run::Run;
 use crate::tally::{Tally, Totals};
 use events_core::Step;
-use outside_core::{Sink, Stop};
+use outside_core::{ReadError, Sink, Stop};
 use policy_defs::NodeNames;
 use report_core::{FaultKind, Report, WriteFault};
 use sched_core::Scheduler;
-use sched_defs::{Ending, Halt, PAST_LAST, Packets};
+use sched_defs::{Ending, PAST_LAST, Packets};
 use tap_core::{Tap, Watching};
 
 /// Reads the packets that are left, and returns how the run ends after them.
@@ -34,9 +34,9 @@ fn count_unsent<P: Packets>(packets: &mut P, source: &mut P::Source) -> Result<E
         match packets.pass(source) {
             Ok(true) => unsent += 1,
             Ok(false) => return Ok(Ending::Whole(unsent)),
-            Err(Halt::Fault(code, place)) => return Ok(Ending::BadCapture(code, place)),
-            Err(Halt::Source) => return Err(Stop::Source),
-            Err(Halt::Memory) => return Err(Stop::Memory),
+            Err(ReadError::Fault(code, place)) => return Ok(Ending::BadCapture(code, place)),
+            Err(ReadError::Source) => return Err(Stop::Source),
+            Err(ReadError::Memory) => return Err(Stop::Memory),
         }
     }
 }

@@ -6,11 +6,11 @@ ghost use Rattle.sched_defs.specs.Link.{is_due};
 use crate::recorder::Recorder;
 use crate::run::Run;
 use events_core::Link;
-use outside_core::{Sink, Stop};
+use outside_core::{ReadError, Sink, Stop};
 use packet_defs::{Departed, Packet};
 use policy_defs::NodeNames;
 use sched_core::Scheduler;
-use sched_defs::{BLANK, Ending, Halt, Packets};
+use sched_defs::{BLANK, Ending, Packets};
 use tap_core::{Tap, Watching};
 
 /// Returns whether a departure is due before the timestamp. Without a timestamp it always is.
@@ -245,9 +245,9 @@ impl<'a, C: Scheduler + Drop, N: NodeNames, W: Recorder> Run<'a, C, N, W> {
                     }
                     return Ok(Some(Ending::Whole(0)));
                 }
-                Err(Halt::Fault(code, place)) => return Ok(Some(Ending::BadCapture(code, place))),
-                Err(Halt::Source) => return Err(Stop::Source),
-                Err(Halt::Memory) => return Err(Stop::Memory),
+                Err(ReadError::Fault(code, place)) => return Ok(Some(Ending::BadCapture(code, place))),
+                Err(ReadError::Source) => return Err(Stop::Source),
+                Err(ReadError::Memory) => return Err(Stop::Memory),
             }
         }
     }

@@ -1,8 +1,8 @@
 //! Passing over packets of one link type, which no run does.
-use outside_core::MemShelf;
+use outside_core::{MemShelf, ReadError};
 use policy_core::{Policy, resolve};
 use policy_text::parse;
-use sched_packets::{CapturePackets, Halt, Packets, SingleLinkType};
+use sched_packets::{CapturePackets, Packets, SingleLinkType};
 use std::alloc::{AllocError, Global};
 use std::test::Fail;
 
@@ -43,7 +43,7 @@ pub(crate) fn shelf_of(
 }
 
 /// Passes over two packets, and returns both results.
-fn pass_two<P: Packets>(packets: &mut P, source: &mut P::Source) -> Result<[bool; 2], Halt>
+fn pass_two<P: Packets>(packets: &mut P, source: &mut P::Source) -> Result<[bool; 2], ReadError>
     requires { P.ready packets.old source.old }
 {
     let first = packets.pass(source)?;
@@ -56,7 +56,7 @@ fn pass_of_one_link(
     alloc: Global,
     policy: &Policy,
     shelf: &mut MemShelf,
-) -> Result<[bool; 2], Halt> {
+) -> Result<[bool; 2], ReadError> {
     let arrivals = CapturePackets::open(alloc, policy, shelf, "c")?;
     let mut packets = SingleLinkType::start(arrivals, shelf)?;
     pass_two(&mut packets, shelf)
@@ -69,11 +69,11 @@ fn packets_of_one_link_type_are_passed_over(rt: HostRuntime) -> Result<(), Fail>
         alloc,
         b"policy 1\nclass all\nleaf root using fifo classes all\n",
     )?;
-    let table: [(&[&[u8]], u64, Result<[bool; 2], Halt>); 4] = [
+    let table: [(&[&[u8]], u64, Result<[bool; 2], ReadError>); 4] = [
         (&[HEADER, RECORD, RECORD], 0, Ok([true, true])),
         (&[HEADER, RECORD], 0, Ok([true, false])),
-        (&[TWO_LINKS], 0, Err(Halt::Fault(20, 2))),
-        (&[HEADER, RECORD, RECORD], 3, Err(Halt::Source)),
+        (&[TWO_LINKS], 0, Err(ReadError::Fault(20, 2))),
+        (&[HEADER, RECORD, RECORD], 3, Err(ReadError::Source)),
     ];
     for (pieces, fails, want) in table {
         let mut shelf = shelf_of(alloc, pieces, fails)?;

@@ -4,25 +4,20 @@ use Rattle.capture_core.specs.Captures.{packet_of as packet_told}
 use Rattle.sched_defs.specs.Numbered.{IsSendable}
 use Rattle.sched_packets.specs.Packets.{packet_of}
 use Rattle.sched_packets.proofs.RecordPackets.{next_of_record}
-use Rattle.sched_packets.proofs.PacketsLeft.{halts_told}
 use Rattle.sched_packets.proofs.arrivals.Arrivals.next_packet.Goals as goal
 
-pub returns-in-Ok-Some-clause-next : goal.returns-in-Ok-Some-clause-next
-returns-in-Ok-Some-clause-next g c =
+pub returns-in-Some-clause-next : goal.returns-in-Some-clause-next
+returns-in-Some-clause-next g c =
     let a = c.args.self.now in
-    let e = c.in-Ok-Some.ensures in
+    let e = c.in_ok-next.ensures in
     let n = g.R.CaptureReader.given a.reader in
-    let read = c.in-Ok-Some.read in
+    let read = c.in-Some.read in
     let p = c.put_packet.ensures in
-    let packet : c.put_packet.new.packet ≡ packet_of (policy_of a.classifier) (n + 1) (packet_told read c.next.new.into.items) = rw (rw c.in-Ok-Some.field-0-is at e.number, c.deref.ensures.value) at p.packet in
+    let packet : c.put_packet.new.packet ≡ packet_of (policy_of a.classifier) (n + 1) (packet_told read c.next.new.into.items) = rw (rw c.in-Some.is at e.number, c.deref.ensures.value) at p.packet in
     let sendable : IsSendable (policy_of a.classifier).policy c.put_packet.new.packet = record {
       known = p.known;
-      moment = omega (arith, p.moment, rw c.in-Ok-Some.field-0-is at e.moment);
+      moment = omega (arith, p.moment, rw c.in-Some.is at e.moment);
     } in
     rw (c.if-self.false) (next_of_record (policy_of a.classifier) n (g.R.CaptureReader.left a.reader (g.S.Shelf.left c.args.source.now)) (g.R.CaptureReader.left c.next.new.self (g.S.Shelf.left c.next.new.shelf))
-    read c.put_packet.new.packet c.next.new.into.items packet (rw c.in-Ok-Some.field-0-is at e.comes) sendable
-    (omega (arith, rw c.in-Ok-Some.field-0-is at e.captured, rw c.in-Ok-Some.field-0-is at e.short)))
-
-pub returns-in-Err-clause-fault : goal.returns-in-Err-clause-fault
-returns-in-Err-clause-fault g c =
-    rw (c.if-self.false, c.halt_of.ensures) (halts_told c.in-Err.error (g.R.CaptureReader.left c.args.self.now.reader (g.S.Shelf.left c.args.source.now)) c.in-Err.ensures.fault)
+    read c.put_packet.new.packet c.next.new.into.items packet (rw c.in-Some.is at e.comes) sendable
+    (omega (arith, rw c.in-Some.is at e.captured, rw c.in-Some.is at e.short)))

@@ -17,12 +17,12 @@ returns-in-Ok-clause-opens g c =
 
 pub returns-in-Err-start-clause-refuses : goal.returns-in-Err-start-clause-refuses
 returns-in-Err-start-clause-refuses g c =
-    as-newer (Refuses c.in-Err-start.halt) _ (held c.hold.new.self) c.new-window.ensures
+    as-newer (Refuses c.in-Err-start.error) _ (held c.hold.new.self) c.new-window.ensures
     (g.S.Shelf.left c.args.shelf.now) (g.S.Shelf.left c.hold.new.shelf) c.in_default.ensures.same c.in_default.ensures.short
     (subst (λ xs. IsHeaderFault xs pcap_ng) c.front.ensures (c.is_newer.ensures.0 c.if-is_newer.true)) c.in-Err-start.ensures.refuses
 
 pub returns-in-Err-start-2-clause-refuses : goal.returns-in-Err-start-2-clause-refuses
 returns-in-Err-start-2-clause-refuses g c =
-    as-classic (Refuses c.in-Err-start-2.halt) _ (held c.hold.new.self) c.new-window.ensures
+    as-classic (Refuses c.in-Err-start-2.error) _ (held c.hold.new.self) c.new-window.ensures
     (g.S.Shelf.left c.args.shelf.now) (g.S.Shelf.left c.hold.new.shelf) c.in_default.ensures.same c.in_default.ensures.short
     (λ is. true≢false (sym (c.is_newer.ensures.1 (subst (λ xs. IsHeaderFault xs pcap_ng) (sym c.front.ensures) is)) ∙ c.if-is_newer.false)) c.in-Err-start-2.ensures.refuses

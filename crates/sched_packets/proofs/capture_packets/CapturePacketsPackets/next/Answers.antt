@@ -1,5 +1,5 @@
 use Rattle.sched_packets.specs.CapturePackets.{resolved_of, given_by, captured_by, contents_of}
-use Rattle.sched_packets.proofs.PacketsLeft.{Gives, gives, ends, is_over, none_known, halts}
+use Rattle.sched_packets.proofs.PacketsLeft.{Gives, gives, ends, is_over, none_known, is_read_error}
 use Rattle.sched_packets.proofs.capture_packets.CapturePacketsPackets.next.Given.{Over}
 use Rattle.sched_packets.proofs.capture_packets.CapturePacketsPackets.next.Goals as goal
 
@@ -42,4 +42,4 @@ returns-in-Ok-None-clause-known g c =
 pub returns-in-Err-clause-fault : goal.returns-in-Err-clause-fault
 returns-in-Err-clause-fault g c =
     let a = c.args.self.now in
-    halts (resolved_of a) (given_by a) (contents_of a (g.S.Shelf.left c.args.source.now)) c.in-Err.halt c.in-Err.ensures.fault
+    is_read_error (resolved_of a) (given_by a) (contents_of a (g.S.Shelf.left c.args.source.now)) c.in-Err.error c.in-Err.ensures.fault

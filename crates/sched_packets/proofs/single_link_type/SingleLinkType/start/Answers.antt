@@ -72,6 +72,6 @@ returns-in-Ok-None-clause-captures g c =
 pub returns-in-Ok-None-clause-link : goal.returns-in-Ok-None-clause-link
 returns-in-Ok-None-clause-link g c = λ file opened. link_of_none file (contents_of c.args.arrivals (g.S.Shelf.left c.args.source.now)) (rw c.in-Ok-None.field-0-is at c.in-Ok-None.ensures.ended) opened
 
--- ---- a halt
+-- ---- a read error
 pub returns-clause-refuses : goal.returns-clause-refuses
-returns-clause-refuses g c = λ file opened. refuses_first file (contents_of c.args.arrivals (g.S.Shelf.left c.args.source.now)) c.in-Err.halt c.in-Err.ensures.fault opened
+returns-clause-refuses g c = λ file opened. refuses_first file (contents_of c.args.arrivals (g.S.Shelf.left c.args.source.now)) c.in-Err.error c.in-Err.ensures.fault opened

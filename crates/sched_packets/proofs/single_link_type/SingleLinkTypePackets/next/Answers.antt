@@ -1,11 +1,11 @@
 use Rattle.std.proofs.Common.{◌≡◌, None, Some, sym}
 use Rattle.std.specs.Prelude.{option_map}
-use Rattle.sched_defs.specs.declared.packets.Halt.TheVariants as halt
+use Rattle.outside_core.specs.declared.read_error.ReadError.TheVariants.{Fault, Source, Memory}
 use Rattle.forward_defs.specs.SingleLinkType.{other_link}
 use Rattle.sched_packets.specs.CapturePackets.{resolved_of, given_by, captured_by, contents_of}
 use Rattle.sched_packets.specs.SingleLinkType.{rest_of_link}
-use Rattle.sched_packets.proofs.PacketsLeft.{Gives, gives, ends, is_over, none_known, halts}
-use Rattle.sched_packets.proofs.SingleLinkTypePackets.{behind_ahead, first_next, next_alike, other_halts, at_end, halts_at_end, over_at_end}
+use Rattle.sched_packets.proofs.PacketsLeft.{Gives, gives, ends, is_over, none_known, is_read_error}
+use Rattle.sched_packets.proofs.SingleLinkTypePackets.{behind_ahead, first_next, next_alike, stops_at_other, at_end, stops_at_end, over_at_end}
 use Rattle.sched_packets.proofs.single_link_type.SingleLinkTypePackets.next.Given.{Over}
 use Rattle.sched_packets.proofs.single_link_type.SingleLinkTypePackets.next.Goals as goal
 
@@ -70,8 +70,8 @@ returns-in-Ok-Some-2-clause-fault g c =
     let p = c.next_packet.new.packet in
     let old = contents_of a (g.S.Shelf.left c.args.source.now) in
     let gone : c.args.self.now.ahead ≡ None = sym c.in_default.ensures.value in
-    rw (gone) (halts (resolved_of a) (given_by a) (option_map (rest_of_link o.link (given_by a)) old) (halt.Fault other_link p.number)
-    (other_halts (resolved_of a) (given_by a) o.link c.in-Ok-Some.link old (contents_of b (g.S.Shelf.left c.next_packet.new.source)) p (captured_by b) c.if-link-self.false
+    rw (gone) (is_read_error (resolved_of a) (given_by a) (option_map (rest_of_link o.link (given_by a)) old) (Fault other_link p.number)
+    (stops_at_other (resolved_of a) (given_by a) o.link c.in-Ok-Some.link old (contents_of b (g.S.Shelf.left c.next_packet.new.source)) p (captured_by b) c.if-link-self.false
     (rw c.in-Ok-Some.field-0-is at c.in-Ok-Some.ensures.next)))
 
 -- ---- the end
@@ -110,5 +110,5 @@ returns-in-Err-clause-fault g c =
     let a = o.arrivals in
     let old = contents_of a (g.S.Shelf.left c.args.source.now) in
     let gone : c.args.self.now.ahead ≡ None = sym c.in_default.ensures.value in
-    rw (gone) (halts (resolved_of a) (given_by a) (option_map (rest_of_link o.link (given_by a)) old) c.in-Err.halt
-    (halts_at_end o.link (given_by a) old c.in-Err.halt c.in-Err.ensures.fault))
+    rw (gone) (is_read_error (resolved_of a) (given_by a) (option_map (rest_of_link o.link (given_by a)) old) c.in-Err.error
+    (stops_at_end o.link (given_by a) old c.in-Err.error c.in-Err.ensures.fault))

@@ -1,6 +1,6 @@
 use Rattle.std.proofs.Common.{◌==◌, if◌then◌else◌, max, ℕ, refl, ap, ◌∙◌, arith}
 use Rattle.std.proofs.lemmas.Result.{err_from_is_err_and}
-use Rattle.sched_run.proofs.LinkLaws.{turn_halts, turn_first, turn_stands, turn_pushes, turn_goes, turn_stops}
+use Rattle.sched_run.proofs.LinkLaws.{turn_stops_amid, turn_first, turn_stands, turn_pushes, turn_goes, turn_stops}
 use Rattle.sched_run.proofs.MadeEvents.{held_more}
 use Rattle.sched_run.specs.Heard.{heard_with, IsCapturedAs, any_bytes}
 use Rattle.sched_run.proofs.HeardLaws.{heard-joined, heard_gives, sends_so, sends_amid_so, sends_first_so}
@@ -10,7 +10,7 @@ pub returns-in_err-over-clause-err : goal.returns-in_err-over-clause-err
 returns-in_err-over-clause-err g c =
     let p = err_from_is_err_and c.from_residual.result c.from_residual.ensures.1 in
     let S = g.C.Scheduler in
-    rw (p.1) (λ given number. turn_halts S (heard_with g.W.Recorder c.args.packet.now c.args.captured.now) (heard-joined g.W.Recorder g.met.W.Recorder.joined (IsCapturedAs c.args.packet.now c.args.captured.now)) (S.policy c.args.self.now.scheduler) c.requires.set.accepted c.args.rate c.args.link.now c.args.packet.now c.max-moment.result _
+    rw (p.1) (λ given number. turn_stops_amid S (heard_with g.W.Recorder c.args.packet.now c.args.captured.now) (heard-joined g.W.Recorder g.met.W.Recorder.joined (IsCapturedAs c.args.packet.now c.args.captured.now)) (S.policy c.args.self.now.scheduler) c.requires.set.accepted c.args.rate c.args.link.now c.args.packet.now c.max-moment.result _
     (λ s sound stood below. c.max-moment.ensures ∙ ap (λ (n : ℕ). max n c.args.packet.now.moment) (c.now.ensures c.args.under.now s sound stood)) g.W.Recorder.over _ _ _
     (sends_amid_so S (heard_gives g.W.Recorder any_bytes (IsCapturedAs c.args.packet.now c.args.captured.now) (λ bytes are. tt)) (S.policy c.args.self.now.scheduler) g.W.Recorder.over _ _ _ _ _ (c.in_err-over.ensures.err given)))
 

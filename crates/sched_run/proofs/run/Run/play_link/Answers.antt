@@ -2,7 +2,7 @@ use Rattle.std.proofs.Common.{◌≡◌, ◌+◌, ℕ, refl, sym, subst, arith, 
 use Rattle.std.proofs.lemmas.Result.{err_from_is_err_and}
 use Rattle.outside_core.proofs.KeptLaws.{sink-same, sink-then}
 use Rattle.sched_defs.specs.Numbered.{IsHeldBelow}
-use Rattle.sched_run.proofs.AgendaLaws.{run_halts_going, run_goes, run_ends, run_breaks, run_first, run_ready, run_room}
+use Rattle.sched_run.proofs.AgendaLaws.{run_stops_going, run_goes, run_ends, run_breaks, run_first, run_ready, run_room}
 use Rattle.sched_run.proofs.FrameLaws.{continues_then, keeps_then}
 use Rattle.sched_run.proofs.LinkLaws.{same_sends, same_first, link_begins, link_goes, link_stops, link_first, link_drains, link_drain_stops, link_drain_first}
 use Rattle.sched_run.specs.Heard.{heard, any_bytes, IsCapturedAs}
@@ -138,12 +138,12 @@ returns-in-Ok-false-clause-ok g c =
 pub returns-in-Err-Source-clause-err : goal.returns-in-Err-Source-clause-err
 returns-in-Err-Source-clause-err g c =
     let i = c.loop-packets.invariant in
-    run_halts_going g.C.Scheduler (heard g.W.Recorder (g.P.Packets.captures c.args.packets.now c.args.source.now)) (heard-joined g.W.Recorder g.met.W.Recorder.joined (g.P.Packets.captures c.args.packets.now c.args.source.now)) (g.C.Scheduler.policy c.args.self.now.scheduler) c.requires.set.accepted _ _ _ _ _ _ _ _ i.further.given i.run g.W.Recorder.over i.going
+    run_stops_going g.C.Scheduler (heard g.W.Recorder (g.P.Packets.captures c.args.packets.now c.args.source.now)) (heard-joined g.W.Recorder g.met.W.Recorder.joined (g.P.Packets.captures c.args.packets.now c.args.source.now)) (g.C.Scheduler.policy c.args.self.now.scheduler) c.requires.set.accepted _ _ _ _ _ _ _ _ i.further.given i.run g.W.Recorder.over i.going
 
 pub returns-in-Err-Memory-clause-err : goal.returns-in-Err-Memory-clause-err
 returns-in-Err-Memory-clause-err g c =
     let i = c.loop-packets.invariant in
-    run_halts_going g.C.Scheduler (heard g.W.Recorder (g.P.Packets.captures c.args.packets.now c.args.source.now)) (heard-joined g.W.Recorder g.met.W.Recorder.joined (g.P.Packets.captures c.args.packets.now c.args.source.now)) (g.C.Scheduler.policy c.args.self.now.scheduler) c.requires.set.accepted _ _ _ _ _ _ _ _ i.further.given i.run g.W.Recorder.over i.going
+    run_stops_going g.C.Scheduler (heard g.W.Recorder (g.P.Packets.captures c.args.packets.now c.args.source.now)) (heard-joined g.W.Recorder g.met.W.Recorder.joined (g.P.Packets.captures c.args.packets.now c.args.source.now)) (g.C.Scheduler.policy c.args.self.now.scheduler) c.requires.set.accepted _ _ _ _ _ _ _ _ i.further.given i.run g.W.Recorder.over i.going
 
 -- nothing more can be recorded in the turn of a packet
 pub returns-then-over-clause-ok : goal.returns-then-over-clause-ok

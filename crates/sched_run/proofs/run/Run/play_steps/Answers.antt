@@ -8,7 +8,7 @@ use Rattle.sched_run.proofs.StepLaws.{if_ok_turned, on_err_given}
 use Rattle.events_core.specs.Steps.{counts_of}
 use Rattle.sched_run.specs.Courses.{script_agenda}
 use Rattle.sched_run.specs.Stages.{event_of}
-use Rattle.sched_run.proofs.AgendaLaws.{run_none, run_over, run_halts, run_goes, run_ends, run_stops, run_ready, run_room}
+use Rattle.sched_run.proofs.AgendaLaws.{run_none, run_over, run_stops_amid, run_goes, run_ends, run_stops, run_ready, run_room}
 use Rattle.sched_run.proofs.CourseLaws.{step_goes, step_ends, step_stops, no_step}
 use Rattle.sched_run.specs.Heard.{heard}
 use Rattle.sched_run.proofs.HeardLaws.{heard-joined, heard_gives, turns_so, amid_so}
@@ -93,4 +93,4 @@ pub returns-clause-err : goal.returns-clause-err
 returns-clause-err g c =
     let S = g.C.Scheduler in
     let i = c.loop-step.invariant in
-    on_err_given c.count_unsent.result _ (run_halts S (heard g.W.Recorder (g.P.Packets.captures c.args.packets.now c.args.source.now)) (heard-joined g.W.Recorder g.met.W.Recorder.joined (g.P.Packets.captures c.args.packets.now c.args.source.now)) (S.policy c.args.self.now.scheduler) _ _ _ _ _ _ _ _ _ c.loop-step.self.recorder _ _ _ _ i.run)
+    on_err_given c.count_unsent.result _ (run_stops_amid S (heard g.W.Recorder (g.P.Packets.captures c.args.packets.now c.args.source.now)) (heard-joined g.W.Recorder g.met.W.Recorder.joined (g.P.Packets.captures c.args.packets.now c.args.source.now)) (S.policy c.args.self.now.scheduler) _ _ _ _ _ _ _ _ _ c.loop-step.self.recorder _ _ _ _ i.run)
