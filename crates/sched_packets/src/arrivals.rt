@@ -67,7 +67,11 @@ impl<'a, R: CaptureReader + Drop, S: Shelf> Arrivals<'a, R, S> {
     /// Writes the next packet, if one is left, through an out-parameter, and returns its link type.
     /// May be called again after `None`, but not after an error.
     #[inline(always)]
-    pub fn next_packet(&mut self, source: &mut S, packet: &mut Packet) -> Result<Option<u16>, ReadError>
+    pub fn next_packet(
+        &mut self,
+        source: &mut S,
+        packet: &mut Packet,
+    ) -> Result<Option<u16>, ReadError>
         requires ready { IsReady R.ready R.given self.old (S.begun source.old) }
 
         ensures next { IfOk result (λ o. IfSome o (λ link. IsNext (resolved_of self.old)

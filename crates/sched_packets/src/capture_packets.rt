@@ -91,7 +91,11 @@ impl<'a, S: Shelf> CapturePackets<'a, S> {
     /// Writes the next packet, if one is left, through an out-parameter, and returns its link type.
     /// May be called again after `None`, but not after an error.
     #[inline(always)]
-    pub fn next_packet(&mut self, source: &mut S, packet: &mut Packet) -> Result<Option<u16>, ReadError>
+    pub fn next_packet(
+        &mut self,
+        source: &mut S,
+        packet: &mut Packet,
+    ) -> Result<Option<u16>, ReadError>
         requires ready { IsReady self.old (S.begun source.old) }
 
         ensures next { IfOk result (λ o. IfSome o (λ link. IsNext (resolved_of self.old)
