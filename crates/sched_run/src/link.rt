@@ -245,7 +245,9 @@ impl<'a, C: Scheduler + Drop, N: NodeNames, W: Recorder> Run<'a, C, N, W> {
                     }
                     return Ok(Some(Ending::Whole(0)));
                 }
-                Err(ReadError::Fault(code, place)) => return Ok(Some(Ending::BadCapture(code, place))),
+                Err(ReadError::Fault(code, place)) => return Ok(Some(Ending::BadCapture(
+                    code, place,
+                ))),
                 Err(ReadError::Source) => return Err(Stop::Source),
                 Err(ReadError::Memory) => return Err(Stop::Memory),
             }
