@@ -8,8 +8,8 @@ ghost use Rattle.sched_defs.specs.Script.{at_end};
 ghost use Rattle.sched_run.specs.Frames.{KeepsPackets};
 ghost use Rattle.sched_run.specs.Totals.{totals_line};
 
-use crate::pace::Pace;
 use crate::departure::DepartureRecorder;
+use crate::pace::Pace;
 use crate::run::Run;
 use crate::tally::{Tally, Totals};
 use events_core::Step;

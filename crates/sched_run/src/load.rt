@@ -1,8 +1,8 @@
 //! The events of a generated load.
 ghost use Rattle.std.specs.Prelude.{◌≡◌};
 
-use crate::drawing::Drawing;
 use crate::departure::DepartureRecorder;
+use crate::drawing::Drawing;
 use crate::run::Run;
 use crate::tally::{Tally, Totals};
 use outside_core::{Sink, Stop};
