@@ -14,7 +14,7 @@ use outside_core::{Sink, Stop};
 use packet_defs::{Departed, Packet};
 use pcap_core::record_front;
 use report_core::{Report, WriteFault};
-use sched_run::Recorder;
+use sched_run::{DepartureRecorder, Recorder};
 use std::alloc::{AllocError, Global};
 
 /// The nanoseconds of a second.
@@ -198,3 +198,5 @@ impl Recorder for Forwarding {
 
     ghost joined = { records_are_joined };
 }
+
+impl DepartureRecorder for Forwarding {}

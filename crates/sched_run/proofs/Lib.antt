@@ -15,3 +15,4 @@ pub mod ReportLaws
 pub mod StartLaws
 pub mod LoadLaws
 pub mod LoadLeaves
+pub mod DepartureLaws

@@ -1,7 +1,7 @@
 //! Arrivals of the next packets.
 ghost use Rattle.std.specs.Prelude.{◌≡◌};
 
-use crate::recorder::Recorder;
+use crate::departure::DepartureRecorder;
 use crate::run::Run;
 use crate::shown::show_arrival;
 use outside_core::{ReadError, Sink, Stop};
@@ -11,7 +11,7 @@ use sched_core::Scheduler;
 use sched_defs::{BLANK, Ending, Packets};
 use tap_core::{Tap, Watching};
 
-impl<'a, C: Scheduler + Drop, N: NodeNames, W: Recorder> Run<'a, C, N, W> {
+impl<'a, C: Scheduler + Drop, N: NodeNames, W: DepartureRecorder> Run<'a, C, N, W> {
     ghost use Rattle.std.specs.Prelude.{◌≡◌, ◌≤◌, ◌<◌, ◌+◌, ◌^◌, ℕ, [], ◌∷◌, None, length, IfErr, IfOk, IfNone, OnOk, OnErr};
     ghost use Rattle.pcap_defs.specs.Record.{most_captured};
     ghost use Rattle.outside_core.specs.Kept.{KeepsSink, HasCause, HasSinkCause};

@@ -8,8 +8,8 @@ ghost use Rattle.sched_defs.specs.Script.{at_end};
 ghost use Rattle.sched_run.specs.Frames.{KeepsPackets};
 ghost use Rattle.sched_run.specs.Totals.{totals_line};
 
+use crate::departure::DepartureRecorder;
 use crate::pace::Pace;
-use crate::recorder::Recorder;
 use crate::run::Run;
 use crate::tally::{Tally, Totals};
 use events_core::Step;
@@ -95,7 +95,7 @@ fn close<K: Sink>(
     report.finish(sink)
 }
 
-impl<'a, C: Scheduler + Drop, N: NodeNames, W: Recorder> Run<'a, C, N, W> {
+impl<'a, C: Scheduler + Drop, N: NodeNames, W: DepartureRecorder> Run<'a, C, N, W> {
     ghost use Rattle.std.specs.Prelude.{◌≡◌, ◌≤◌, true, false, IfErr, IfOk, IfSome, IsNone, OnOk, OnErr};
     ghost use Rattle.outside_core.specs.Kept.{KeepsSink, HasCause};
     ghost use Rattle.events_core.specs.Script.{most_count};

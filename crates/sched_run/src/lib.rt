@@ -4,6 +4,7 @@
 
 mod arrivals;
 mod course;
+mod departure;
 mod drawing;
 mod laws;
 mod lines;
@@ -18,6 +19,7 @@ mod steps;
 mod sum;
 mod tally;
 
+pub use departure::{Departure, DepartureRecorder};
 pub use drawing::Drawing;
 pub use laws::{loads_leave_nothing, runs_begin_at_the_start};
 pub use lines::depart_line;

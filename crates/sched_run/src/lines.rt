@@ -11,8 +11,9 @@ ghost use Rattle.sched_defs.specs.Events.{Depart, outcomes};
 ghost use Rattle.sched_core.specs.Standing.{StandForOne, ForEachState};
 ghost use Rattle.sched_core.specs.Departures.{departed_packet, IsTaken};
 ghost use Rattle.sched_run.specs.Heard.{heard_anyway};
-ghost use Rattle.sched_run.specs.Played.{AsksOnce, line_of};
+ghost use Rattle.sched_run.specs.Played.{AsksOnce, Departs, line_of};
 
+use crate::departure::{Departure, DepartureRecorder};
 use crate::recorder::Recorder;
 use crate::run::Run;
 use crate::shown::show_departure;
@@ -23,13 +24,6 @@ use report_core::{Report, WriteFault};
 use sched_core::{Arrival, Scheduler};
 use tap_core::{Tap, Watching};
 use tree_core::Taken;
-
-/// A departure to make: its event number, and its start in nanoseconds if a link paces it.
-#[derive(Clone, Copy, Debug)]
-pub(crate) struct Departure {
-    pub(crate) event: u64,
-    pub(crate) start: Option<u128>,
-}
 
 /// Makes a departure and records it. Allocates no memory.
 #[inline(always)]
@@ -50,18 +44,8 @@ pub(crate) fn record_departure<C: Scheduler, N: NodeNames, W: Recorder, K: Sink>
     requires few { C.departures scheduler.old < 2 ^ 61 }
     requires live { W.live recorder.old }
 
-    ensures state { ForEachState C.stands (C.policy scheduler.old) scheduler.old under.old (λ s.
-        C.stands scheduler.new under.new (departed (C.policy scheduler.old) s)) }
-    ensures value { ForEachState C.stands (C.policy scheduler.old) scheduler.old under.old (λ s.
-        IfOk result (λ d. d ≡ option_map (departed_packet (C.policy scheduler.old)) (leaver s))) }
-    ensures none { ForEachState C.stands (C.policy scheduler.old) scheduler.old under.old (λ s.
-        IfOk result (λ d. IsNone d ↔ (size s.tree ≡ 0))) }
-    ensures taken { ForEachState C.stands (C.policy scheduler.old) scheduler.old under.old (λ s.
-        IfSome (leaver s) (λ l. IsTaken l trace.new)) }
-    ensures untouched { ForEachState C.stands (C.policy scheduler.old) scheduler.old under.old (λ s.
-        IfNone (leaver s) (trace.new ≡ trace.old)) }
-    ensures room { trace.new.room ≡ trace.old.room }
-
+    ensures departs { Departs C.Scheduler result scheduler.old under.old trace.old scheduler.new
+        under.new trace.new }
     ensures recorded { OnOk result (ForEachState C.stands (C.policy scheduler.old) scheduler.old
         under.old (λ s.
         (heard_anyway W.Recorder).records recorder.old (K.written sink.old) (C.policy scheduler.old) departure.event
@@ -74,7 +58,6 @@ pub(crate) fn record_departure<C: Scheduler, N: NodeNames, W: Recorder, K: Sink>
     ensures cause { OnErr result (Rose (K.faults sink.old) (K.faults sink.new)) }
     ensures live { OnOk result (W.live recorder.new) }
     ensures dead { OnErr result (W.live recorder.new → ⊥) }
-    ensures asked { AsksOnce C.Scheduler scheduler.old under.old scheduler.new under.new }
 {
     let Departure { event, start } = departure;
     match scheduler.depart(under, trace) {
@@ -135,7 +118,7 @@ pub fn depart_line<C: Scheduler, N: NodeNames, K: Sink>(
     record_departure(names, scheduler, under, trace, report, sink, departure)
 }
 
-impl<'a, C: Scheduler + Drop, N: NodeNames, W: Recorder> Run<'a, C, N, W> {
+impl<'a, C: Scheduler + Drop, N: NodeNames, W: DepartureRecorder> Run<'a, C, N, W> {
     ghost use Rattle.std.specs.Prelude.{◌≡◌, ◌≤◌, ◌<◌, ◌+◌, ◌^◌, ℕ, [], ◌∷◌, length, IsTrue, IfErr, IfOk, OnOk, OnErr};
     ghost use Rattle.pcap_defs.specs.Record.{most_captured};
     ghost use Rattle.outside_core.specs.Kept.{KeepsSink, HasSinkCause};
@@ -233,12 +216,11 @@ impl<'a, C: Scheduler + Drop, N: NodeNames, W: Recorder> Run<'a, C, N, W> {
         ensures live { OnOk result (W.live self.new.recorder) }
     {
         let event = self.tally.event();
-        let departed = record_departure(
+        let departed = self.recorder.depart(
             self.names,
             &mut self.scheduler,
             under,
             &mut self.trace,
-            &mut self.recorder,
             sink,
             Departure { event, start },
         )?;

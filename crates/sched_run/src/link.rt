@@ -3,7 +3,7 @@ ghost use Rattle.std.specs.Prelude.{◌≡◌, ◌≤◌, ◌<◌, ◌+◌, ◌^
 ghost use Rattle.sched_defs.specs.SendTime.{IsRate, send_time};
 ghost use Rattle.sched_defs.specs.Link.{is_due};
 
-use crate::recorder::Recorder;
+use crate::departure::DepartureRecorder;
 use crate::run::Run;
 use events_core::Link;
 use outside_core::{ReadError, Sink, Stop};
@@ -45,7 +45,7 @@ fn idle_at(link: &mut Link, held: u64, moment: u64)
     }
 }
 
-impl<'a, C: Scheduler + Drop, N: NodeNames, W: Recorder> Run<'a, C, N, W> {
+impl<'a, C: Scheduler + Drop, N: NodeNames, W: DepartureRecorder> Run<'a, C, N, W> {
     ghost use Rattle.std.specs.Prelude.{◌≡◌, ◌≤◌, ◌<◌, ◌+◌, ◌^◌, ℕ, false, not, if◌then◌else◌, is_some, length, IfErr, IfOk, IfSome, OnOk, OnErr};
     ghost use Rattle.pcap_defs.specs.Record.{most_captured};
     ghost use Rattle.outside_core.specs.Kept.{KeepsSink, HasCause, HasSinkCause};

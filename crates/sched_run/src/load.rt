@@ -1,8 +1,8 @@
 //! The events of a generated load.
 ghost use Rattle.std.specs.Prelude.{◌≡◌};
 
+use crate::departure::DepartureRecorder;
 use crate::drawing::Drawing;
-use crate::recorder::Recorder;
 use crate::run::Run;
 use crate::tally::{Tally, Totals};
 use outside_core::{Sink, Stop};
@@ -13,7 +13,7 @@ use tap_core::{Tap, Watching};
 /// The most events that are drawn for a load.
 pub const MOST_LOAD: u64 = 1_000_000;
 
-impl<'a, C: Scheduler + Drop, N: NodeNames, W: Recorder> Run<'a, C, N, W> {
+impl<'a, C: Scheduler + Drop, N: NodeNames, W: DepartureRecorder> Run<'a, C, N, W> {
     ghost use Rattle.std.specs.Prelude.{◌≡◌, ◌≤◌, ◌<◌, ◌+◌, ◌^◌, ℕ, [], ◌∷◌, IfErr, IfOk, OnOk, OnErr};
     ghost use Rattle.outside_core.specs.Kept.{KeepsSink, HasSinkCause};
     ghost use Rattle.sched_defs.specs.Numbered.{IsHeldBelow};

@@ -2,10 +2,15 @@
 ghost use Rattle.std.specs.Prelude.{IsTrue, false};
 ghost use Rattle.sched_run.specs.Lines.{adds_lines, cuts_lines, lines_are_joined};
 
+use crate::departure::{Departure, DepartureRecorder};
+use crate::lines::{depart_line, record_departure};
 use crate::recorder::Recorder;
 use outside_core::{Sink, Stop};
 use packet_defs::{Departed, Packet};
+use policy_defs::NodeNames;
 use report_core::{Report, WriteFault};
+use sched_core::Scheduler;
+use tree_core::Taken;
 
 impl Recorder for Report {
     ghost records = { λ _. adds_lines };
@@ -63,4 +68,22 @@ impl Recorder for Report {
     }
 
     ghost joined = { λ _. lines_are_joined };
+}
+
+impl DepartureRecorder for Report {
+    #[inline(always)]
+    fn depart<C: Scheduler, N: NodeNames, K: Sink>(
+        &mut self,
+        names: &N,
+        scheduler: &mut C,
+        under: &mut C::Under,
+        trace: &mut Taken,
+        sink: &mut K,
+        departure: Departure,
+    ) -> Result<Option<Departed>, WriteFault> {
+        match departure.start {
+            None => depart_line(names, scheduler, under, trace, self, sink, departure.event),
+            Some(_) => record_departure(names, scheduler, under, trace, self, sink, departure),
+        }
+    }
 }

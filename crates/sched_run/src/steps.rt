@@ -1,7 +1,7 @@
 //! The events of a step of a script.
 ghost use Rattle.std.specs.Prelude.{◌≡◌};
 
-use crate::recorder::Recorder;
+use crate::departure::DepartureRecorder;
 use crate::run::Run;
 use events_core::Step;
 use outside_core::{Sink, Stop};
@@ -10,7 +10,7 @@ use sched_core::Scheduler;
 use sched_defs::{Ending, Packets};
 use tap_core::{Tap, Watching};
 
-impl<'a, C: Scheduler + Drop, N: NodeNames, W: Recorder> Run<'a, C, N, W> {
+impl<'a, C: Scheduler + Drop, N: NodeNames, W: DepartureRecorder> Run<'a, C, N, W> {
     ghost use Rattle.std.specs.Prelude.{◌≡◌, ◌≤◌, ◌<◌, ◌+◌, ◌^◌, ℕ, replicate, None, IfErr, IfOk, IfNone, OnOk, OnErr};
     ghost use Rattle.outside_core.specs.Kept.{KeepsSink, HasCause, HasSinkCause};
     ghost use Rattle.sched_defs.specs.Packets.{most_packets};

@@ -2,6 +2,7 @@
 ghost use Rattle.std.specs.Prelude.{◌≡◌, false};
 ghost use Rattle.sched_run.specs.Sums.{AddsUp, StaysUnwritten, sums_are_joined};
 
+use crate::departure::DepartureRecorder;
 use crate::recorder::Recorder;
 use outside_core::{Sink, Stop};
 use packet_defs::{Departed, Packet};
@@ -94,3 +95,5 @@ impl Recorder for DepartureSum {
 
     ghost joined = { λ _. sums_are_joined };
 }
+
+impl DepartureRecorder for DepartureSum {}

@@ -6,7 +6,7 @@ use crate::summary::Summary;
 use outside_core::{Sink, Stop};
 use packet_defs::{Departed, Packet};
 use report_core::WriteFault;
-use sched_run::Recorder;
+use sched_run::{DepartureRecorder, Recorder};
 
 impl Recorder for Summary {
     ghost records = { λ _. RecordsSums };
@@ -66,3 +66,5 @@ impl Recorder for Summary {
 
     ghost joined = { λ _. sums_are_joined };
 }
+
+impl DepartureRecorder for Summary {}

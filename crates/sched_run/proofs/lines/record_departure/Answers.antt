@@ -1,9 +1,10 @@
-use Rattle.std.proofs.Common.{◌<◌, ◌≤◌, List, ℕ, length, sym, subst, ap, ◌∙◌}
+use Rattle.std.proofs.Common.{◌<◌, ◌≤◌, Option, Some, None, refl, List, ℕ, length, sym, subst, ap, ◌∙◌}
 use Rattle.std.proofs.lemmas.Result.{err_from_is_err_and}
 use Rattle.tree_defs.specs.Tree.{nodes}
 use Rattle.policy_defs.specs.Policy.{Policy}
 use Rattle.packet_defs.specs.declared.packet.Departed.{Departed}
 use Rattle.sched_defs.specs.Events.{Outcome}
+use Rattle.sched_run.proofs.DepartureLaws.{departs}
 use Rattle.sched_run.proofs.LineLaws.{Left, left, ranks_left, outcome_left, named_leaf}
 use Rattle.sched_run.proofs.lines.record_departure.Goals as goal
 
@@ -53,3 +54,29 @@ returns-in_ok-departed-in-Some-clause-recorded g c =
     λ bytes any. subst (λ (os : List Outcome). g.W.Recorder.records bytes c.args.recorder.now (g.K.Sink.written c.args.sink.now) policy c.args.departure.event os c.departed.new.self (g.K.Sink.written c.departed.new.sink))
     (outcome_left policy s c.in-Some.departed c.ranks.result.now c.args.departure.start h same)
     (c.in_ok-departed-in-Some.ensures.ok bytes policy h.leaver_is.packet h.leaver_is.digits (sym h.told) named)
+
+pub returns-in_err-departed-in-Some-clause-departs : goal.returns-in_err-departed-in-Some-clause-departs
+returns-in_err-departed-in-Some-clause-departs g c =
+    let e = c.in-Some.ensures in
+    let p = err_from_is_err_and c.from_residual.result c.from_residual.ensures.1 in
+    rw (p.1) (departs g.C.Scheduler c.args.scheduler.now c.depart.new.self c.args.under.now c.depart.new.under c.args.trace.now c.depart.new.trace (Some c.in-Some.departed) _ tt e.state e.value e.none e.taken e.trace e.room
+    (record { pushes = e.pushes; departures = e.departures; policy = e.policy; origin = e.origin; spilled = e.spilled }))
+
+pub returns-in_err-empty-in-None-clause-departs : goal.returns-in_err-empty-in-None-clause-departs
+returns-in_err-empty-in-None-clause-departs g c =
+    let e = c.in-None.ensures in
+    let p = err_from_is_err_and c.from_residual-in_err-empty-in-None.result c.from_residual-in_err-empty-in-None.ensures.1 in
+    rw (p.1) (departs g.C.Scheduler c.args.scheduler.now c.depart.new.self c.args.under.now c.depart.new.under c.args.trace.now c.depart.new.trace None _ tt e.state e.value e.none e.taken e.trace e.room
+    (record { pushes = e.pushes; departures = e.departures; policy = e.policy; origin = e.origin; spilled = e.spilled }))
+
+pub returns-in_ok-departed-in-Some-clause-departs : goal.returns-in_ok-departed-in-Some-clause-departs
+returns-in_ok-departed-in-Some-clause-departs g c =
+    let e = c.in-Some.ensures in
+    departs g.C.Scheduler c.args.scheduler.now c.depart.new.self c.args.under.now c.depart.new.under c.args.trace.now c.depart.new.trace (Some c.in-Some.departed) _ refl e.state e.value e.none e.taken e.trace e.room
+    (record { pushes = e.pushes; departures = e.departures; policy = e.policy; origin = e.origin; spilled = e.spilled })
+
+pub returns-in_ok-empty-in-None-clause-departs : goal.returns-in_ok-empty-in-None-clause-departs
+returns-in_ok-empty-in-None-clause-departs g c =
+    let e = c.in-None.ensures in
+    departs g.C.Scheduler c.args.scheduler.now c.depart.new.self c.args.under.now c.depart.new.under c.args.trace.now c.depart.new.trace None _ refl e.state e.value e.none e.taken e.trace e.room
+    (record { pushes = e.pushes; departures = e.departures; policy = e.policy; origin = e.origin; spilled = e.spilled })

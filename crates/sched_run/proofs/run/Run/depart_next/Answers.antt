@@ -16,7 +16,7 @@ returns-in_err-departed-clause-err g c =
     rw (p.1) (λ given. record {
       next = record { numbered = tt; sendable = tt };
       stopped = λ s sound stood below. record {
-        leaves = made_all S policy (Depart c.args.start ∷ []) (made_departure S policy c.args.start (e.state s sound stood) e.asked.pushes e.asked.departures e.asked.origin e.asked.spilled);
+        leaves = made_all S policy (Depart c.args.start ∷ []) (made_departure S policy c.args.start (e.departs.state s sound stood) e.departs.asked.pushes e.departs.asked.departures e.departs.asked.origin e.departs.asked.spilled);
         cut = rw c.event-event.ensures at (e.cut s sound stood);
       };
     })
@@ -30,6 +30,6 @@ returns-in_err-show_departure-clause-err g c =
     let e = c.in_ok-departed.ensures in
     rw (p.1) (λ given. stops_here S (heard_anyway g.W.Recorder) (heard-joined g.W.Recorder g.met.W.Recorder.joined any_bytes) policy (Depart c.args.start ∷ []) _ _ _ _ _ (record { numbered = tt; sendable = tt })
     (λ s sound stood below. record {
-      leaves = made_departure S policy c.args.start (e.state s sound stood) e.asked.pushes e.asked.departures e.asked.origin e.asked.spilled;
+      leaves = made_departure S policy c.args.start (e.departs.state s sound stood) e.departs.asked.pushes e.departs.asked.departures e.departs.asked.origin e.departs.asked.spilled;
       recorded = rw c.event-event.ensures at (e.recorded s sound stood);
     }))

@@ -1,0 +1,26 @@
+use Rattle.std.proofs.Common.{List, ℕ, subst, sym, append-nil}
+use Rattle.std.specs.Prelude.{None}
+use Rattle.std.proofs.lemmas.Result.{on_ok_weaker, on_err_weaker}
+use Rattle.report_core.specs.Gathered.{Tells, CutsOff}
+use Rattle.sched_defs.specs.Events.{Depart}
+use Rattle.sched_run.specs.Played.{line_of}
+use Rattle.sched_run.proofs.report.ReportDepartureRecorder.depart.Goals as goal
+
+pub returns-in-None-clause-departs : goal.returns-in-None-clause-departs
+returns-in-None-clause-departs g c =
+    let e = c.depart_line.ensures in
+    record { state = e.state; value = e.value; none = e.none; taken = e.taken; untouched = e.untouched; room = e.room; asked = e.asked }
+
+pub returns-in-None-clause-recorded : goal.returns-in-None-clause-recorded
+returns-in-None-clause-recorded g c =
+    let policy = g.C.Scheduler.policy c.args.scheduler.now in
+    rw (c.in-None.is) (on_ok_weaker c.depart_line.result (λ told s sound stood bytes any. subst
+    (λ (l : List ℕ). Tells g.K.Sink.written c.args.sink.now c.args.self.now c.depart_line.new.sink c.depart_line.new.report l)
+    (sym (append-nil (line_of policy c.args.departure.event (Depart None) s))) (told s sound stood)) c.depart_line.ensures.text)
+
+pub returns-in-None-clause-cut : goal.returns-in-None-clause-cut
+returns-in-None-clause-cut g c =
+    let policy = g.C.Scheduler.policy c.args.scheduler.now in
+    rw (c.in-None.is) (on_err_weaker c.depart_line.result (λ cut s sound stood bytes any. subst
+    (λ (l : List ℕ). CutsOff g.K.Sink.written c.args.sink.now c.args.self.now c.depart_line.new.sink l)
+    (sym (append-nil (line_of policy c.args.departure.event (Depart None) s))) (cut s sound stood)) c.depart_line.ensures.cut)

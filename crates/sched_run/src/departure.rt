@@ -1,0 +1,67 @@
+//! The trait for making departures and recording them.
+ghost use Rattle.std.specs.Prelude.{◌<◌, ◌≤◌, ◌≡◌, ◌^◌, [], ◌∷◌, OnOk, OnErr};
+ghost use Rattle.outside_core.specs.Faults.{Rose};
+ghost use Rattle.outside_core.specs.Kept.{KeepsSink};
+ghost use Rattle.tree_defs.specs.Tree.{depth};
+ghost use Rattle.policy_defs.specs.Accepted.{IsAccepted};
+ghost use Rattle.sched_defs.specs.Events.{Depart, outcomes};
+ghost use Rattle.sched_core.specs.Standing.{StandForOne, ForEachState};
+ghost use Rattle.sched_run.specs.Heard.{heard_anyway};
+ghost use Rattle.sched_run.specs.Played.{Departs};
+
+use crate::lines::record_departure;
+use crate::recorder::Recorder;
+use outside_core::Sink;
+use packet_defs::Departed;
+use policy_defs::NodeNames;
+use report_core::WriteFault;
+use sched_core::Scheduler;
+use tree_core::Taken;
+
+/// A departure to make: its event number, and its start in nanoseconds if a link paces it.
+#[derive(Clone, Copy, Debug)]
+pub struct Departure {
+    pub event: u64,
+    pub start: Option<u128>,
+}
+
+/// Makes the departures of a run and records them. It is a trait of its own because no body in
+/// `Recorder` can pass `Self` to a function over recorders.
+pub trait DepartureRecorder: Recorder {
+    /// Makes a departure and records it. Allocates no memory.
+    #[inline(always)]
+    fn depart<C: Scheduler, N: NodeNames, K: Sink>(
+        &mut self,
+        names: &N,
+        scheduler: &mut C,
+        under: &mut C::Under,
+        trace: &mut Taken,
+        sink: &mut K,
+        departure: Departure,
+    ) -> Result<Option<Departed>, WriteFault>
+        requires accepted { IsAccepted (C.policy scheduler.old) }
+        requires names { N.policy names.now ≡ C.policy scheduler.old }
+        requires stands { StandForOne C.stands (C.policy scheduler.old) scheduler.old under.old (λ _.
+            Unit {0}) }
+        requires room { depth (C.policy scheduler.old).tree ≤ trace.old.room }
+        requires few { C.departures scheduler.old < 2 ^ 61 }
+        requires live { Self.live self.old }
+
+        ensures departs { Departs C.Scheduler result scheduler.old under.old trace.old scheduler.new
+            under.new trace.new }
+        ensures recorded { OnOk result (ForEachState C.stands (C.policy scheduler.old) scheduler.old
+            under.old (λ s.
+            (heard_anyway Self.Recorder).records self.old (K.written sink.old) (C.policy scheduler.old) departure.event
+            (outcomes (C.policy scheduler.old) (Depart departure.start ∷ []) s) self.new (K.written sink.new))) }
+        ensures cut { OnErr result (ForEachState C.stands (C.policy scheduler.old) scheduler.old
+            under.old (λ s.
+            (heard_anyway Self.Recorder).cuts self.old (K.written sink.old) (C.policy scheduler.old) departure.event
+            (outcomes (C.policy scheduler.old) (Depart departure.start ∷ []) s) (K.written sink.new))) }
+        ensures kept { KeepsSink K.written K.faults sink.old sink.new }
+        ensures cause { OnErr result (Rose (K.faults sink.old) (K.faults sink.new)) }
+        ensures live { OnOk result (Self.live self.new) }
+        ensures dead { OnErr result (Self.live self.new → ⊥) }
+    {
+        record_departure(names, scheduler, under, trace, self, sink, departure)
+    }
+}
