@@ -80,7 +80,8 @@ pub trait Packets {
         ensures ready { OnOk result (ready self.new source.new) }
         ensures policy { policy self.new ≡ policy self.old }
         ensures later { faults source.old ≤ faults source.new }
-        ensures cause { IsErrOf result ReadError.Source → Rose (faults source.old) (faults source.new) };
+        ensures cause { IsErrOf result ReadError.Source →
+            Rose (faults source.old) (faults source.new) };
 
     /// Skips the next packet, and returns whether one was left. It may be called again after the
     /// last packet, but not after an error.
@@ -100,7 +101,8 @@ pub trait Packets {
         ensures ready { OnOk result (ready self.new source.new) }
         ensures policy { policy self.new ≡ policy self.old }
         ensures later { faults source.old ≤ faults source.new }
-        ensures cause { IsErrOf result ReadError.Source → Rose (faults source.old) (faults source.new) };
+        ensures cause { IsErrOf result ReadError.Source →
+            Rose (faults source.old) (faults source.new) };
 
     /// Returns the captured bytes of the most recent packet, if it wasn't skipped.
     fn captured(&self) -> &[u8]

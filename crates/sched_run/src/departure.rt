@@ -41,8 +41,8 @@ pub trait DepartureRecorder: Recorder {
     ) -> Result<Option<Departed>, WriteFault>
         requires accepted { IsAccepted (C.policy scheduler.old) }
         requires names { N.policy names.now ≡ C.policy scheduler.old }
-        requires stands { StandForOne C.stands (C.policy scheduler.old) scheduler.old under.old (λ _.
-            Unit {0}) }
+        requires stands { StandForOne C.stands (C.policy scheduler.old) scheduler.old under.old
+            (λ _. Unit {0}) }
         requires room { depth (C.policy scheduler.old).tree ≤ trace.old.room }
         requires few { C.departures scheduler.old < 2 ^ 61 }
         requires live { Self.live self.old }
