@@ -10,6 +10,7 @@ ghost use Rattle.sched_run.specs.Totals.{totals_line};
 
 use crate::departure::DepartureRecorder;
 use crate::pace::Pace;
+use crate::recorder::Recorder;
 use crate::run::Run;
 use crate::tally::{Tally, Totals};
 use events_core::Step;

@@ -35,7 +35,7 @@ use tree_core::Taken;
 const LEAST_SLACK: &[u8] = b"policy 1\nclass all\nleaf root using lstf classes all\n";
 
 /// The flow of a packet without an IP header.
-const NO_FLOW: FlowKey = FlowKey {
+pub(crate) const NO_FLOW: FlowKey = FlowKey {
     version: 0,
     source: 0,
     target: 0,

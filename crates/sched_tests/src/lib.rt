@@ -7,4 +7,6 @@ mod capture;
 #[cfg(test)]
 mod fabrics;
 #[cfg(test)]
+mod memory;
+#[cfg(test)]
 mod packets;
