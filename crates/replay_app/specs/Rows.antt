@@ -1,11 +1,28 @@
 -- Worked examples of output.
-use Rattle.std.specs.Prelude.{◌≡◌, refl, ℕ, true, false, List, [], ◌∷◌, ◌++◌, Some, None, codes}
+use Rattle.std.proofs.Common.{lit≤, sym, subst}
+use Rattle.std.specs.Prelude.{◌≡◌, ◌↔◌, refl, ℕ, true, false, if◌then◌else◌, List, [], ◌∷◌, ◌++◌, Ok, Some, None, codes}
 use Rattle.std.specs.Fmt.{digits}
+use Rattle.std.specs.Str.{bytes_eq}
+use Rattle.text_core.specs.declared.token.TokenKind.TheVariants as k
+use Rattle.text_core.specs.declared.mark.Mark.TheVariants as m
+use Rattle.text_core.specs.Glyphs.{text, sign}
 use Rattle.pcap_defs.specs.Reading.{capture_of, head_of, front_of, records_from}
-use Rattle.tree_defs.specs.Tree.{leaf}
+use Rattle.tree_defs.specs.Tree.{leaf, Address, IsAddressOf, LeadsToLeaf}
+use Rattle.tree_defs.specs.Topology.{IsPrefixOf}
 use Rattle.packet_defs.specs.declared.packet.Packet.{Packet}
 use Rattle.policy_defs.specs.Policy.{one_leaf}
 use Rattle.policy_rules.specs.Resolved.{Resolved}
+use Rattle.policy_text_defs.specs.Sense as sense
+use Rattle.embed_defs.specs.Embedding.{IsEmbedding}
+use Rattle.embed_defs.specs.Images.{image_map}
+use Rattle.target_core.specs.Rows.{no_height, IsTargetText-no_height}
+use Rattle.mapcheck_core.specs.NumberedLines as lines
+use Rattle.mapcheck_core.specs.declared.given.Given.{Given}
+use Rattle.mapcheck_core.specs.GivenMaps.{image_of}
+use Rattle.mapcheck_core.specs.MapLines.{one_line}
+use Rattle.mapcheck_core.specs.MapTexts.{IsMapAnswer, in_form}
+use Rattle.mapcheck_core.specs.TreeTexts.{IsTreeText, tree, one_tree}
+use Rattle.events_core.specs.Script.{IsScript, next, over}
 use Rattle.events_core.specs.declared.step.Step.TheVariants as line
 use Rattle.sched_defs.specs.Events.{Arrive, Depart}
 use Rattle.sched_defs.specs.Pace.{Link}
@@ -15,10 +32,13 @@ use Rattle.tap_core.specs.declared.kinds.TapKind.TheVariants.{Bytes, First, Drop
 use Rattle.tap_core.specs.declared.watch.Named.{Named}
 use Rattle.replay_app.specs.Answer.{Answer, text_alone}
 use Rattle.replay_app.specs.Behind.{tap_list}
-use Rattle.replay_app.specs.Output.{direct_run, laid_run, forward_run, watchers}
+use Rattle.replay_app.specs.Follows.{goes_on}
+use Rattle.replay_app.specs.Output.{direct_run, laid_run, forward_run, watchers, IsOutput}
+use Rattle.replay_app.specs.Policies.{IsPolicy}
 use Rattle.replay_app.specs.Scripts.{script_pace}
 use Rattle.replay_app.specs.Targets.{plan_answer}
-use Rattle.replay_app.specs.Words.{replay, script, link}
+use Rattle.replay_app.specs.Via.{names_of}
+use Rattle.replay_app.specs.Words.{replay, script, link, via}
 
 -- one leaf for all packets, alone in its target
 abbrev fifo : Resolved
@@ -110,6 +130,99 @@ plan_without_room = refl
 
 plan_with_room : plan_answer true (codes "least 0\nmap root - -\n") ≡ text_alone 0 (codes "least 0\nmap root - -\n")
 plan_with_room = refl
+
+-- ---- along a map
+-- the files of a run along a map: the policy of one leaf, a topology of one leaf, the map of the one
+-- to the other, a target of one leaf, the capture, and a script
+abbrev policy_text : List ℕ
+policy_text = codes "policy 1\nclass all\nleaf root using fifo classes all\n"
+
+abbrev topology_text : List ℕ
+topology_text = codes "leaf\n"
+
+abbrev map_text : List ℕ
+map_text = codes "map root -\n"
+
+abbrev script_text : List ℕ
+script_text = codes "a\nd\n"
+
+abbrev via_files : List ℕ → List ℕ
+via_files name =
+    if bytes_eq name (codes "p") then policy_text
+    else (if bytes_eq name (codes "g") then topology_text
+    else (if bytes_eq name (codes "m") then map_text
+    else (if bytes_eq name (codes "t") then no_height
+    else (if bytes_eq name (codes "c") then capture
+    else script_text))))
+
+topology_of_one_leaf : IsTreeText topology_text (leaf tt)
+topology_of_one_leaf = record {
+  line = 1;
+  only = record { short = lit≤ tt; give = lines.next 1 (codes "leaf") [] (one_tree 1 (leaf tt)) [] (tree (leaf tt) refl (k.Word, 4, refl, refl, refl) tt) (lines.over 2) };
+  small = (lit≤ tt, lit≤ tt);
+}
+
+-- the root's image is the root, and line 1 gives it
+abbrev root_to_root : Given
+root_to_root = record { images = [] ∷ []; lines = 1 ∷ [] }
+
+map_of_the_root : IsMapAnswer map_text (names_of one_leaf) (Ok root_to_root)
+map_of_the_root = in_form (one_line 1 (codes "root") []) (record {
+  short = lit≤ tt;
+  give = lines.next 1 (codes "map root -") [] (one_line 1 (codes "root") []) [] (record {
+    clean = refl;
+    glyphs = text (codes "map") ∷ text (codes "root") ∷ sign m.Minus ∷ [];
+    says = (k.Word, 3, refl, refl, (k.Word, 4, refl, refl, (k.Mark, 1, refl, refl, refl)));
+    form = refl;
+  }) (lines.over 2);
+})
+
+script_of_two_lines : IsScript script_text (line.Arrive 1 ∷ line.Depart 1 ∷ [])
+script_of_two_lines = record {
+  short = lit≤ tt;
+  lines = next (codes "a") (codes "d" ∷ []) (line.Arrive 1 ∷ []) (line.Depart 1 ∷ []) (record { clean = refl; glyphs = text (codes "a") ∷ []; says = (k.Word, 1, refl, refl, refl); form = refl })
+      (next (codes "d") [] (line.Depart 1 ∷ []) [] (record { clean = refl; glyphs = text (codes "d") ∷ []; says = (k.Word, 1, refl, refl, refl); form = refl }) over);
+  few = lit≤ tt;
+}
+
+-- a leaf has no other address than the root's, and a map that keeps the root embeds it in a leaf
+only_root : (P : Address → Type 0) → P [] → (a : Address) → IsAddressOf (leaf tt) a → P a
+only_root P root [] at = root
+only_root P root (i ∷ a) at = let none : None ≡ Some at.0 = at.1 in absurd (cc)
+
+only_leaf : (P : Address → Type 0) → P [] → (a : Address) → LeadsToLeaf (leaf tt) a → P a
+only_leaf P root [] at = root
+only_leaf P root (i ∷ a) at = absurd at
+
+leaf_in_leaf : (image : Address → Address) → image [] ≡ [] → IsEmbedding (leaf tt) (leaf tt) image
+leaf_in_leaf image root = record {
+  root = root;
+  inside = only_root (λ a. IsAddressOf (leaf tt) (image a)) (subst (λ (b : Address). IsAddressOf (leaf tt) b) (sym root) (leaf tt, refl));
+  leaves = only_leaf (λ a. LeadsToLeaf (leaf tt) (image a)) (subst (λ (b : Address). LeadsToLeaf (leaf tt) b) (sym root) tt);
+  prefixes = λ a b at bt. only_root (λ x. IsPrefixOf x b ↔ IsPrefixOf (image x) (image b))
+      (only_root (λ y. IsPrefixOf [] y ↔ IsPrefixOf (image []) (image y)) (subst (λ (c : Address). IsPrefixOf [] [] ↔ IsPrefixOf c c) (sym root) (λ p. p, λ p. p)) b bt) a at;
+}
+
+-- the inputs are read in order, and the report is that of `replay`; no tap watches
+via_one_leaf : (entries : List sense.Entry) → IsPolicy policy_text (record { entries = entries; policy = fifo })
+    → IsOutput (via (codes "p") (codes "g") (codes "m") (codes "t") (codes "c") (codes "e")) via_files taps (record {
+      status = 0;
+      text = codes "a 1 1 root 0\nd 2 1 root 0\nend pushed 1 popped 1 empty 0 held 0 unsent 0\n";
+      run = Some (record { policy = one_leaf; laid = alone; events = Arrive the_packet ∷ Depart None ∷ [] });
+      shown = Some (departed (record { packet = 1; class = 0; leaf = 0; len = 60 }) ∷ []);
+    })
+unfolding digits capture_of head_of front_of records_from
+via_one_leaf entries is =
+    goes_on (record { entries = entries; policy = fifo }) _ is
+    (goes_on (leaf tt) _ topology_of_one_leaf
+    (goes_on (record { given = root_to_root; fault = None }) _ (record { read = map_of_the_root; verdict = leaf_in_leaf (image_of (leaf tt) root_to_root) refl })
+    (goes_on (record { arities = []; above = 64 }) _ IsTargetText-no_height
+    (goes_on (leaf []) _ (record {
+      placement = leaf [];
+      placed = record { canonical = record { all = leaf 0; needs = record { shape = tt; needs = refl }; placed = refl }; embedding = leaf_in_leaf (image_map (leaf [])) refl };
+      composed = record { shape = tt; each = only_root (λ a. image_map (leaf []) a ≡ []) refl };
+    })
+    (goes_on (line.Arrive 1 ∷ line.Depart 1 ∷ []) _ script_of_two_lines refl)))))
 
 -- ---- taps
 abbrev first_and_drops : Named

@@ -1,5 +1,5 @@
 //! Arrivals of which one may run out of memory. The packet that finds no memory leaves no trace.
-ghost use Rattle.std.specs.Prelude.{◌≡◌, ◌≤◌, length};
+ghost use Rattle.std.specs.Prelude.{◌≡◌, ◌≤◌};
 ghost use Rattle.tree_defs.specs.Tree.{depth};
 ghost use Rattle.policy_defs.specs.Accepted.{IsAccepted};
 ghost use Rattle.sched_defs.specs.SourceState.{start};
@@ -24,6 +24,9 @@ const IN_ORDER: &[u8] = b"policy 1\nclass some when dscp 46\nclass other\n\
 
 /// How many packets arrive, so many that queues grow more than once.
 const PACKETS: usize = 40;
+
+/// How many departures are asked for: one more, which finds the scheduler empty.
+const DEPARTURES: usize = 41;
 
 /// Lets packets arrive, numbered from 0, whether or not there is memory for each. Returns which of
 /// them arrived.
@@ -58,31 +61,36 @@ fn arrive_round<C: Scheduler>(
     arrived
 }
 
-/// Returns whether exactly the packets that arrived depart, in order.
+/// Asks for departures. Returns the number of each packet that departs.
 fn depart_round<C: Scheduler>(
     policy: &Policy,
     scheduler: &mut C,
     under: &mut C::Under,
     trace: &mut Taken,
-    arrived: &[bool],
-) -> bool
+) -> [Option<u64>; DEPARTURES]
     requires policy { C.policy scheduler.old ≡ policy.now.policy }
     requires accepted { IsAccepted policy.now.policy }
     requires stands { StandForOne C.stands policy.now.policy scheduler.old under.old (λ _.
         Unit {0}) }
     requires room { depth policy.now.policy.tree ≤ trace.old.room }
-    requires few { length arrived.now ≤ 40 }
     requires no_departures { C.departures scheduler.old ≡ 0 }
 {
+    let mut departed = [None; DEPARTURES];
+    for turn in 0..DEPARTURES {
+        departed[turn] = scheduler.depart(under, trace).map(|packet| packet.packet);
+    }
+    departed
+}
+
+/// Returns whether exactly the packets that arrived departed, in order.
+fn are_those(departed: &[Option<u64>], arrived: &[bool]) -> bool {
+    let mut left = departed.iter();
     for (number, came) in arrived.iter().enumerate() {
-        if *came {
-            match scheduler.depart(under, trace) {
-                Some(departed) if departed.packet == number as u64 => {}
-                _ => return false,
-            }
+        if *came && left.next().copied() != Some(Some(number as u64)) {
+            return false;
         }
     }
-    scheduler.depart(under, trace).is_none()
+    left.all(|number| number.is_none())
 }
 
 /// Lets packets arrive at a new scheduler. Fails if more than one of them finds no memory, or if
@@ -103,7 +111,8 @@ fn arrive_and_depart<C: Scheduler>(
     if arrived.iter().filter(|came| !**came).count() > 1 {
         return Err(Fail::new("several packets found no memory"));
     }
-    if !depart_round(policy, scheduler, under, &mut trace, &arrived) {
+    let departed = depart_round(policy, scheduler, under, &mut trace);
+    if !are_those(&departed, &arrived) {
         return Err(Fail::new("the departures are not those of the arrivals"));
     }
     Ok(())

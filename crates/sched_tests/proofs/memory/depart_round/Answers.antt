@@ -1,0 +1,19 @@
+use Rattle.std.proofs.Common.{arith, ◌∙◌}
+use Rattle.sched_tests.proofs.EventTurns.{asked, left}
+use Rattle.sched_tests.proofs.memory.depart_round.Goals as goal
+
+pub depart-requires-clause-stands : goal.depart-requires-clause-stands
+depart-requires-clause-stands g c =
+    let i = c.loop-turn.invariant in
+    asked g.C.Scheduler.stands _ c.args.policy.now.policy i.same c.requires.accepted _ _ (λ q s. Unit {0}) i.stands
+
+pub loop-turn-preserved : goal.loop-turn-preserved
+loop-turn-preserved g c =
+    let i = c.loop-turn.invariant in
+    let e = c.depart.ensures in
+    record {
+      stands = left g.C.Scheduler.stands _ c.args.policy.now.policy i.same c.requires.accepted _ _ _ _ (λ _. Unit {0}) (λ s h. h) e.state i.stands;
+      same = e.policy ∙ i.same;
+      room = omega (arith, e.room, i.room);
+      departures = omega (arith, e.departures, i.departures);
+    }
