@@ -9,7 +9,7 @@ use Rattle.sched_packets.proofs.arrivals.Arrivals.next_packet.Goals as goal
 pub returns-in-Some-clause-next : goal.returns-in-Some-clause-next
 returns-in-Some-clause-next g c =
     let a = c.args.self.now in
-    let e = c.in_ok-next.ensures in
+    let e = c.in_ok-read.ensures in
     let n = g.R.CaptureReader.given a.reader in
     let read = c.in-Some.read in
     let p = c.put_packet.ensures in
