@@ -52,13 +52,6 @@ pub record IsStep (e : PacketPath) (level : ℕ) (s : PathNode) (states : List N
   pub who : w ≡ (stop e level).who
   pub env : n ≡ (stop e level).env
 
--- ---- the forms of a node's steps are forms of the steps of the program that the code runs
-pub push-form : (s : PathNode) {p : Program} → p ≡ s.checked.now → IsForm p p.push s.push
-push-form s is = subst (λ (q : Program). IsForm q q.push s.push) (sym is) s.push_form
-
-pub pop-form : (s : PathNode) {p : Program} → p ≡ s.checked.now → IsForm p p.pop s.pop
-pop-form s is = subst (λ (q : Program). IsForm q q.pop s.pop) (sym is) s.pop_form
-
 -- ---- the digits are those of the class
 module _ {e : PacketPath} {digits : List ℕ} {level : ℕ} (ready : IsReady e) (to : digits ≡ (class_for e).leaf) where
   pub here-at : {states : List NodeState} (d : PathNode) → level ≤ length digits → AreStations (tree_for e) states → IsHere e level (slice_index_or e.waypoints.now level d) states
@@ -121,6 +114,13 @@ module _ {e : PacketPath} {level : ℕ} {s : PathNode} {states : List NodeState}
     env = is-env ∙ ap (env_for e.packet.now e.moment) h.waypoint.marks;
   }
 
+  -- ---- the forms there are those of the program that the code runs
+  pub push-form : {p : Program} → p ≡ s.checked.now → IsForm p p.push s.push
+  push-form is = subst (λ (q : Program). IsForm q q.push s.push) (sym is) h.waypoint.push_form
+
+  pub pop-form : {p : Program} → p ≡ s.checked.now → IsForm p p.pop s.pop
+  pop-form is = subst (λ (q : Program). IsForm q q.pop s.pop) (sym is) h.waypoint.pop_form
+
   -- ---- if the step changes no variable, all values stay
   unchanged-here : (f : State → State) → ((x : State) → SameState x (f x)) → ValuesBecome e states states (λ values. with_state values (place e level) (f (values (place e level))))
   unchanged-here f same values = values-same (tree_for e) states values (place e level) (f (values (place e level))) (same (values (place e level)))
@@ -146,7 +146,7 @@ module _ {e : PacketPath} {level : ℕ} {s : PathNode} {states : List NodeState}
   -- and if the form of the pop step is empty
   pub stays-popped : (ranks : List ℕ) → s.pop ≡ Empty → ValuesBecome e states states (after_pops (v ∷ []) ranks)
   stays-popped ranks is =
-      let none : RunAs s.checked.now s.checked.now.pop [] = subst (IsForm s.checked.now s.checked.now.pop) is s.pop_form in
+      let none : RunAs s.checked.now s.checked.now.pop [] = subst (IsForm s.checked.now s.checked.now.pop) is h.waypoint.pop_form in
       unchanged-here (after_pop v.program v.who v.env (slice_index ranks 0))
       (no_lines-after v.program v.who v.env (slice_index ranks 0) (subst (λ (q : Program). RunAs q q.pop []) h.waypoint.program none))
 

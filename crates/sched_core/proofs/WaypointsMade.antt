@@ -6,6 +6,7 @@ use Rattle.std.specs.declared.alloc.Global.{Global}
 use Rattle.std.proofs.lemmas.List.{length-append, drop_all}
 use Rattle.std.proofs.lemmas.Option.{slice_get-map, slice_get-get_or}
 use Rattle.tree_defs.specs.Tree.{Tree, leaf, inner, Address, IsAddressOf, LeadsToLeaf, nodes}
+use Rattle.rank_core.specs.Forms.{IsForm}
 use Rattle.policy_defs.specs.Policy.{Policy, Node, Class as Aimed, Marks as Told, node_at}
 use Rattle.policy_defs.specs.Accepted.{IsAccepted, IsClassReady}
 use Rattle.policy_defs.specs.Numbers.{number_at}
@@ -66,12 +67,15 @@ module _ {tree : Tree Node} {c : Aimed} {level : ℕ} {node : ℕ} (r : IsReache
 
   -- the entry for it
   pub waypoint-made : {s : PathNode} {m : Marks} → s.node ≡ node → HasAt tree node (λ n. s.checked.now ≡ n.program) → s.marks ≡ m → s.told ≡ rank_told s.checked.now.push (told m)
+      → IsForm s.checked.now s.checked.now.push s.push → IsForm s.checked.now s.checked.now.pop s.pop
       → told m ≡ marks_on (part_at tree (take level c.leaf)) (drop level c.leaf) c → IsWaypoint tree c level s
-  waypoint-made {s} is-node program marks rank on = record {
+  waypoint-made {s} is-node program marks rank push pop on = record {
     node = is-node ∙ r.number;
     program = some-and _ _ (λ n. s.checked.now ≡ n.program) (ap (node_at tree) back ∙ node-of_part tree (take level c.leaf) (part_at tree (take level c.leaf)) (there-at tree c.leaf r.leads level r.short)) program;
     marks = ap told marks ∙ on;
     rank = rank ∙ ap (λ (k : Marks). rank_told s.checked.now.push (told k)) (sym marks);
+    push_form = push;
+    pop_form = pop;
   }
 
   pub last-marks : length c.leaf ≤ level → c.marks ≡ marks_on (part_at tree (take level c.leaf)) (drop level c.leaf) c

@@ -8,6 +8,7 @@ use Rattle.rank_defs.specs.declared.transaction.Aim.{Aim}
 use Rattle.rank_defs.specs.declared.transaction.Aim.TheVariants.{Rank}
 use Rattle.rank_defs.specs.Formulas.{Formula, variable}
 use Rattle.rank_defs.specs.Programs.{Assignment}
+use Rattle.rank_core.specs.Forms.{IsForm, IsForm-prop}
 use Rattle.range_core.specs.Codes.{program_code}
 use Rattle.policy_defs.specs.Policy.{Policy, Node, Class, Marks}
 use Rattle.policy_defs.specs.Numbers.{number_at}
@@ -43,6 +44,8 @@ pub record IsWaypoint (tree : Tree Node) (c : Class) (level : ℕ) (s : PathNode
   pub program : s.checked.now ≡ (root_of (part_at tree (take level c.leaf))).program
   pub marks : told s.marks ≡ marks_on (part_at tree (take level c.leaf)) (drop level c.leaf) c
   pub rank : s.told ≡ rank_told s.checked.now.push (told s.marks)
+  pub push_form : IsForm s.checked.now s.checked.now.push s.push
+  pub pop_form : IsForm s.checked.now s.checked.now.pop s.pop
 
 -- one entry for each node on the path
 pub record AreWaypoints (tree : Tree Node) (c : Class) (waypoints : List PathNode) : Type 0 where
@@ -60,6 +63,8 @@ IsWaypoint-prop tree c level s a b i = record {
   program = Coded-set program_code _ _ a.program b.program i;
   marks = Coded-set marks_code _ _ a.marks b.marks i;
   rank = Coded-set (coded_option coded_ℕ) _ _ a.rank b.rank i;
+  push_form = IsForm-prop s.checked.now s.checked.now.push s.push a.push_form b.push_form i;
+  pop_form = IsForm-prop s.checked.now s.checked.now.pop s.pop a.pop_form b.pop_form i;
 }
 
 AreWaypoints-prop : (tree : Tree Node) (c : Class) (waypoints : List PathNode) → IsProp (AreWaypoints tree c waypoints)

@@ -53,6 +53,7 @@ impl<'a> NodeStates<'a> {
     }
 
     /// Makes room for a packet's flow at the leaf of its class. The error means out of memory.
+    #[inline(always)]
     pub fn reserve(&mut self, packet: &Packet) -> Result<(), AllocError>
         requires class { packet.now.class < length (policy_of self.old).classes }
         ensures room { OnOk result (HasFlowRoom self.new packet.now) }

@@ -2,7 +2,7 @@
 ghost use Rattle.std.specs.Prelude.{◌≡◌, ◌<◌, IfOk};
 ghost use Rattle.tree_defs.specs.Tree.{LeadsToLeaf, nodes};
 ghost use Rattle.rank_defs.specs.Programs.{program_of};
-ghost use Rattle.rank_core.specs.Forms.{IsForm, IsForm-prop};
+ghost use Rattle.rank_core.specs.Forms.{IsForm};
 ghost use Rattle.policy_core.specs.Numbering.{address_at, HasAt};
 ghost use Rattle.policy_core.specs.Parts.{class_in, told};
 ghost use Rattle.sched_core.specs.Waypoints.{rank_told, AreWaypoints, AreWays};
@@ -23,8 +23,6 @@ pub struct PathNode<'a> {
     pub told: Option<u64>,
     pub push: Form,
     pub pop: Form,
-    ghost push_form: { IsForm checked.now checked.now.push push } by { IsForm-prop checked.now checked.now.push push },
-    ghost pop_form: { IsForm checked.now checked.now.pop pop } by { IsForm-prop checked.now checked.now.pop pop },
 }
 
 /// Returns the rank of a push step, if marks alone determine it and the step does nothing else. It
@@ -51,6 +49,8 @@ fn waypoint_at<'a>(policy: &'a Policy, node: u32, marks: Marks) -> PathNode<'a>
     ensures program { HasAt policy.now.policy.tree node (λ n. result.checked.now ≡ n.program) }
     ensures marks { result.marks ≡ marks }
     ensures told { result.told ≡ rank_told result.checked.now.push (told marks) }
+    ensures push { IsForm result.checked.now result.checked.now.push result.push }
+    ensures pop { IsForm result.checked.now result.checked.now.pop result.pop }
 {
     let checked = policy.checked(node);
     let transaction = checked.transaction();

@@ -110,7 +110,8 @@ fn pop_at(states: &mut [NodeState], passage: &PacketPath, digits: &[u32], level:
     ensures kept { AreStations (tree_for passage.now) states.new }
     ensures room { KeepsRoom passage.now states.old states.new }
 {
-    match passage.waypoints[level].pop {
+    let waypoint = &passage.waypoints[level];
+    match waypoint.pop {
         Form::Empty => (),
         _ => pop_lines(states, passage, digits, level, rank),
     }

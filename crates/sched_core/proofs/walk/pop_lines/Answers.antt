@@ -24,7 +24,7 @@ for_flow c = step-here (here-at c.requires.ready c.requires.digits _ c.requires.
 
 -- ---- for a child
 pub pop_by_form-requires-clause-form : goal.pop_by_form-requires-clause-form
-pop_by_form-requires-clause-form c = pop-form (slice_index_or c.args.passage.now.waypoints.now c.args.level c.index-passage-level.result) c.transaction-transaction.ensures.same
+pop_by_form-requires-clause-form c = pop-form (here-at c.requires.ready c.requires.digits _ c.requires.level c.requires.kept) c.transaction-transaction.ensures.same
 
 pub pop_by_form-requires-clause-in_range : goal.pop_by_form-requires-clause-in_range
 pop_by_form-requires-clause-in_range c = in_range-here (for_child (goal.at.pop_by_form-requires-clause-in_range c).Then-level-digits)
@@ -43,7 +43,7 @@ returns-then-level-digits-clause-room c = still-room (for_child (goal.at.returns
 
 -- ---- for a flow
 pub pop_by_form-requires-else-level-digits-clause-form : goal.pop_by_form-requires-else-level-digits-clause-form
-pop_by_form-requires-else-level-digits-clause-form c = pop-form (slice_index_or c.args.passage.now.waypoints.now c.args.level c.index-passage-level.result) c.transaction-transaction.ensures.same
+pop_by_form-requires-else-level-digits-clause-form c = pop-form (here-at c.requires.ready c.requires.digits _ c.requires.level c.requires.kept) c.transaction-transaction.ensures.same
 
 pub pop_by_form-requires-else-level-digits-clause-in_range : goal.pop_by_form-requires-else-level-digits-clause-in_range
 pop_by_form-requires-else-level-digits-clause-in_range c = in_range-here (for_flow (goal.at.pop_by_form-requires-else-level-digits-clause-in_range c).Else-level-digits)

@@ -24,7 +24,7 @@ for_flow c = step-here (here-at c.requires.ready c.requires.digits _ c.requires.
 
 -- ---- for a child
 pub push_by_form-requires-clause-form : goal.push_by_form-requires-clause-form
-push_by_form-requires-clause-form c = push-form (slice_index_or c.args.passage.now.waypoints.now c.args.level c.index-passage-level.result) c.transaction-transaction.ensures.same
+push_by_form-requires-clause-form c = push-form (here-at c.requires.ready c.requires.digits _ c.requires.level c.requires.kept) c.transaction-transaction.ensures.same
 
 pub push_by_form-requires-clause-in_range : goal.push_by_form-requires-clause-in_range
 push_by_form-requires-clause-in_range c = in_range-here (for_child (goal.at.push_by_form-requires-clause-in_range c).Then-level-digits)
@@ -46,7 +46,7 @@ returns-then-level-digits-clause-room c = still-room (for_child (goal.at.returns
 
 -- ---- for a flow
 pub push_by_form-requires-2-clause-form : goal.push_by_form-requires-2-clause-form
-push_by_form-requires-2-clause-form c = push-form (slice_index_or c.args.passage.now.waypoints.now c.args.level c.index-passage-level.result) c.transaction-transaction.ensures.same
+push_by_form-requires-2-clause-form c = push-form (here-at c.requires.ready c.requires.digits _ c.requires.level c.requires.kept) c.transaction-transaction.ensures.same
 
 pub push_by_form-requires-2-clause-in_range : goal.push_by_form-requires-2-clause-in_range
 push_by_form-requires-2-clause-in_range c = in_range-here (for_flow (goal.at.push_by_form-requires-2-clause-in_range c).Else-level-digits)
