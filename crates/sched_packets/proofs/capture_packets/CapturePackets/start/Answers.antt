@@ -19,13 +19,13 @@ returns-in_ok-arrivals-clause-opens g c =
 pub returns-in_err-arrivals-clause-refuses : goal.returns-in_err-arrivals-clause-refuses
 returns-in_err-arrivals-clause-refuses g c =
     let p = err_from_is_err_and c.from_residual-in_err-arrivals.result c.from_residual-in_err-arrivals.ensures.1 in
-    rw (p.1, p.2) (as-newer (Refuses c.in_err-arrivals.error) _ (held c.hold.new.self) c.new-window.ensures
+    rw (p.1, p.2) (as-newer (Refuses _) _ (held c.hold.new.self) c.new-window.ensures
     (g.S.Shelf.left c.args.shelf.now) (g.S.Shelf.left c.hold.new.shelf) c.in_ok-hold.ensures.same c.in_ok-hold.ensures.short
     (subst (λ xs. IsHeaderFault xs pcap_ng) c.front.ensures (c.is_newer.ensures.0 c.if-is_newer.true)) c.in_err-arrivals.ensures.refuses)
 
 pub returns-in_err-arrivals-2-clause-refuses : goal.returns-in_err-arrivals-2-clause-refuses
 returns-in_err-arrivals-2-clause-refuses g c =
     let p = err_from_is_err_and c.from_residual-in_err-arrivals-2.result c.from_residual-in_err-arrivals-2.ensures.1 in
-    rw (p.1, p.2) (as-classic (Refuses c.in_err-arrivals-2.error) _ (held c.hold.new.self) c.new-window.ensures
+    rw (p.1, p.2) (as-classic (Refuses _) _ (held c.hold.new.self) c.new-window.ensures
     (g.S.Shelf.left c.args.shelf.now) (g.S.Shelf.left c.hold.new.shelf) c.in_ok-hold.ensures.same c.in_ok-hold.ensures.short
     (λ is. true≢false (sym (c.is_newer.ensures.1 (subst (λ xs. IsHeaderFault xs pcap_ng) (sym c.front.ensures) is)) ∙ c.if-is_newer.false)) c.in_err-arrivals-2.ensures.refuses)

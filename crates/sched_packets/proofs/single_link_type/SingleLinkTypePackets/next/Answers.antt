@@ -1,6 +1,6 @@
 use Rattle.std.proofs.Common.{◌≡◌, None, Some, sym}
 use Rattle.std.specs.Prelude.{option_map}
-use Rattle.outside_core.specs.declared.read_error.ReadError.TheVariants.{Fault, Source, Memory}
+use Rattle.outside_core.specs.declared.read_error.ReadError.TheVariants.{Fault}
 use Rattle.forward_defs.specs.SingleLinkType.{other_link}
 use Rattle.sched_packets.specs.CapturePackets.{resolved_of, given_by, captured_by, contents_of}
 use Rattle.sched_packets.specs.SingleLinkType.{rest_of_link}
