@@ -8,7 +8,7 @@ use Rattle.text_core.specs.declared.mark.Mark.TheVariants as m
 use Rattle.text_core.specs.Glyphs.{text, sign}
 use Rattle.pcap_defs.specs.Reading.{capture_of, head_of, front_of, records_from}
 use Rattle.tree_defs.specs.Tree.{leaf, Address, IsAddressOf, LeadsToLeaf}
-use Rattle.tree_defs.specs.Topology.{IsPrefixOf}
+use Rattle.tree_defs.specs.Topology.{Topology, IsPrefixOf}
 use Rattle.packet_defs.specs.declared.packet.Packet.{Packet}
 use Rattle.policy_defs.specs.Policy.{one_leaf}
 use Rattle.policy_rules.specs.Resolved.{Resolved}
@@ -185,20 +185,23 @@ script_of_two_lines = record {
   few = lit≤ tt;
 }
 
+abbrev one_node : Topology
+one_node = leaf tt
+
 -- a leaf has no other address than the root's, and a map that keeps the root embeds it in a leaf
-only_root : (P : Address → Type 0) → P [] → (a : Address) → IsAddressOf (leaf tt) a → P a
+only_root : (P : Address → Type 0) → P [] → (a : Address) → IsAddressOf one_node a → P a
 only_root P root [] at = root
 only_root P root (i ∷ a) at = let none : None ≡ Some at.0 = at.1 in absurd (cc)
 
-only_leaf : (P : Address → Type 0) → P [] → (a : Address) → LeadsToLeaf (leaf tt) a → P a
+only_leaf : (P : Address → Type 0) → P [] → (a : Address) → LeadsToLeaf one_node a → P a
 only_leaf P root [] at = root
 only_leaf P root (i ∷ a) at = absurd at
 
-leaf_in_leaf : (image : Address → Address) → image [] ≡ [] → IsEmbedding (leaf tt) (leaf tt) image
+leaf_in_leaf : (image : Address → Address) → image [] ≡ [] → IsEmbedding one_node one_node image
 leaf_in_leaf image root = record {
   root = root;
-  inside = only_root (λ a. IsAddressOf (leaf tt) (image a)) (subst (λ (b : Address). IsAddressOf (leaf tt) b) (sym root) (leaf tt, refl));
-  leaves = only_leaf (λ a. LeadsToLeaf (leaf tt) (image a)) (subst (λ (b : Address). LeadsToLeaf (leaf tt) b) (sym root) tt);
+  inside = only_root (λ a. IsAddressOf one_node (image a)) (subst (λ (b : Address). IsAddressOf one_node b) (sym root) (one_node, refl));
+  leaves = only_leaf (λ a. LeadsToLeaf one_node (image a)) (subst (λ (b : Address). LeadsToLeaf one_node b) (sym root) tt);
   prefixes = λ a b at bt. only_root (λ x. IsPrefixOf x b ↔ IsPrefixOf (image x) (image b))
       (only_root (λ y. IsPrefixOf [] y ↔ IsPrefixOf (image []) (image y)) (subst (λ (c : Address). IsPrefixOf [] [] ↔ IsPrefixOf c c) (sym root) (λ p. p, λ p. p)) b bt) a at;
 }
