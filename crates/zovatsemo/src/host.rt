@@ -72,7 +72,7 @@ fn tell_end(
         _ if status == 0 => (),
         _ if status == NO_OUTPUT => sink.below().tell_failure(options.command)?,
         [line @ .., b'\n'] => tell_line(rt, options, line)?,
-        _ if status == 8 => tell_unread(rt, options),
+        _ if status == 8 => tell_unread(rt, options)?,
         _ => tell(rt, &tell_status(rt.alloc(), options.command, status)?),
     }
     Ok(())
