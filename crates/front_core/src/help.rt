@@ -20,7 +20,7 @@ RATE is 10Mbit, 10gbit, 1.25MB or 125000 (bytes a second). The file - is standar
 
     --block               run on rank stores, and count the spills (not via and forward)
 -h, --help [COMMAND]      this text, or that of a command with an example
--o, --output FILE         write to a new file, or with - to standard output; a file that exists is refused
+-o, --output FILE         write to a file that doesn't exist yet, or with - to standard output
 -t, --tap NAME            one more line at the end of replay: bytes, order, first or drops
     --plain               write the line `fault KIND CODE PLACE` too, and no messages
 -q, --quiet               write no messages
