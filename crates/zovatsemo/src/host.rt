@@ -1,10 +1,11 @@
 //! The environment of the entry point: arguments, files, standard output and standard error.
 use crate::files::{front_of, tell_unread};
+use crate::front::{front_caught, front_run};
 use crate::output::{NO_OUTPUT, Output};
 use crate::told::tell;
 use front_core::{
-    Asked, Catching, Mistake, Request, ask, fault_in, file_of, front_caught, front_run, help_of,
-    help_of_all, tell_fault, tell_mistake, tell_status,
+    Asked, Catching, Mistake, Request, ask, fault_in, file_of, help_of, help_of_all, tell_fault,
+    tell_mistake, tell_status,
 };
 use front_defs::{Command, Options};
 use outside_core::{FileShelf, StdSink};

@@ -1,4 +1,4 @@
-//! The program's entry points.
+//! The calls that run the replayer.
 ghost use Rattle.std.specs.Prelude.{◌≡◌, ◌<◌, ◌^◌, IsTrue, IsFalse};
 ghost use Rattle.outside_core.specs.Faults.{Rose};
 ghost use Rattle.tap_core.specs.Lists.{entries};
@@ -8,13 +8,13 @@ ghost use Rattle.replay_app.specs.Statuses.{CanEnd};
 ghost use Rattle.replay_app.specs.Words.{AreLent, WhereTold, file_words};
 ghost use Rattle.block_replay.specs.Output.{IsBlockOutput};
 ghost use Rattle.block_replay.specs.Words.{block_file_words, CanBlockEnd};
-ghost use Rattle.front_core.specs.Catching.{told, kept_of};
-ghost use Rattle.front_core.specs.Front.{form_asked, block_form_asked};
+ghost use Rattle.front_core.specs.Catching.{told, kept_of, below_of};
+ghost use Rattle.zovatsemo.specs.Front.{form_asked, block_form_asked};
 
-use crate::catching::Catching;
 use block_core::BlockFabric;
 use block_replay::block_run;
 use fabric_core::{Fabric, FlatFabric};
+use front_core::Catching;
 use front_defs::{Options, words_of};
 use outside_core::{Shelf, Sink};
 use replay_app::run;
@@ -137,13 +137,13 @@ pub fn front_caught<S: Shelf, K: Sink + Drop>(
     ensures answer { IsFalse options.now.block → WhereTold (S.content shelf.old)
         (file_words (form_asked options.now)) (λ contents.
         Answers (form_asked options.now) contents (entries kind_of state_of taps.old.items) result
-        (told (K.written sink.old.below) (kept_of sink.old))
-        (told (K.written sink.new.below) (kept_of sink.new))) }
+        (told (K.written (below_of sink.old)) (kept_of sink.old))
+        (told (K.written (below_of sink.new)) (kept_of sink.new))) }
     ensures block_answer { IsTrue options.now.block → WhereTold (S.content shelf.old)
         (block_file_words (block_form_asked options.now)) (λ contents.
         IsGiven (IsBlockOutput (block_form_asked options.now) contents (entries kind_of state_of taps.old.items)) result
-        (told (K.written sink.old.below) (kept_of sink.old))
-        (told (K.written sink.new.below) (kept_of sink.new))) }
+        (told (K.written (below_of sink.old)) (kept_of sink.old))
+        (told (K.written (below_of sink.new)) (kept_of sink.new))) }
     ensures statuses { IsFalse options.now.block → CanEnd (form_asked options.now) result }
     ensures block_statuses { IsTrue options.now.block → CanBlockEnd (block_form_asked options.now)
         result }

@@ -1,6 +1,6 @@
 use Rattle.std.proofs.Common.{rules}
-use Rattle.front_core.proofs.StoppedLaws.{answered_so, same_form}
-use Rattle.front_core.proofs.front.run_queues.Goals as goal
+use Rattle.zovatsemo.proofs.StoppedLaws.{answered_so, same_form}
+use Rattle.zovatsemo.proofs.front.run_queues.Goals as goal
 
 pub returns-in-Ok-clause-answer : goal.returns-in-Ok-clause-answer
 returns-in-Ok-clause-answer g c =

@@ -11,7 +11,7 @@ use Rattle.replay_app.specs.Words.{Form, WhereTold, file_words, form_in, form_of
 use Rattle.block_replay.specs.Output.{IsBlockOutput}
 use Rattle.block_replay.specs.Words.{BlockForm, CanBlockEnd, block_file_words, block_form_in, block_form_of}
 use Rattle.tap_core.specs.Lists.{Entry}
-use Rattle.front_core.specs.Front.{form_asked, block_form_asked}
+use Rattle.zovatsemo.specs.Front.{form_asked, block_form_asked}
 
 pub no_memory : IsStop 10
 no_memory = search rules
