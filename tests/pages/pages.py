@@ -16,7 +16,6 @@ import tempfile
 TOP = pathlib.Path(__file__).resolve().parent.parent.parent
 PROGRAM = "crates/zovatsemo/out/zovatsemo"  # for people; the launcher runs it
 SCRIPT_PROGRAMS = ("crates/replay_main/out/replay_main", "crates/block_app/out/block_app")
-BLOCK_PROGRAM = SCRIPT_PROGRAMS[1]
 MARK, INDENT = "$ ", "    "
 ASK_STATUS = "echo $?"
 TIMEOUT = 900  # seconds for a section

@@ -79,7 +79,6 @@ class Check(unittest.TestCase):
     def test_the_launcher_runs_the_programs_that_were_built(self):
         os.utime(self.program, (0, 0))
         self.assert_right(2, "    $ ./zovatsemo check", "    one", "", "    two", "    $ echo $?", "    3")
-        self.assert_right(1, "    $ ./zovatsemo --block check", "    block_app")
         self.assert_right(2, "    $ bin/zovatsemo check", "    one", "", "    two", "    $ echo $?", "    3")
         self.assert_right(2, "    $ bin/replay_main check", "    replay_main", "    $ bin/block_app check", "    block_app")
 

@@ -10,7 +10,6 @@ LEFT = {
     "put `policy 1` first; move the line to where its kind stands",
     "expected types that agree, found a truth value in place of a number or the other way round",
     "expected the words of a command, found others",
-    "one that exists is refused",
 }
 SPEAKING = ("crates/front_core/src", "crates/zovatsemo/src")  # where the messages for people are
 

@@ -116,7 +116,7 @@ class Page(unittest.TestCase):
 
     def test_arguments(self):
         self.assertEqual(2, statement("replay_app/src/command.rt", "nothing").returncode)
-        self.assertIn("`block_run` rests on ", statement("block_app/src/command.rt", "block_run").stdout)
+        self.assertIn("`block_run` rests on ", statement("block_replay/src/command.rt", "block_run").stdout)
 
 
 if __name__ == "__main__":

@@ -13,7 +13,8 @@ CASES = {"few": ([], "no words\n"), "files": (["check", "policy"], "check policy
 # What answers as the cases want, if it is given the words of a case.
 SCRIPT = 'if [ $# -eq 0 ]; then echo no words; else echo "$*"; fi\n'
 # What answers so too, as the program for people does: it has options, and a word behind `--` is none.
-FRONT = """[ "$1" = --plain ] || exit 2
+FRONT = """[ "$1" = --block ] && shift
+[ "$1" = --plain ] || exit 2
 shift
 if [ "${1-}" = -- ]; then shift; else case " $* " in *" -"*) echo an option; exit 0 ;; esac; fi
 """
@@ -51,9 +52,14 @@ class Conformance(unittest.TestCase):
         for name, lines in (("replay_main", SCRIPT), ("block_app", SCRIPT), ("zovatsemo", FRONT + SCRIPT)):
             self.place(name, lines)
         self.assertEqual(self.run_on()[1][-1], "all: 4 passed, 0 failed")
-        self.assertEqual(self.run_on("--front"), (0, ["few: 1 passed, 0 failed", "files: 1 passed, 0 failed",
-                                                      "option: 1 passed, 0 failed", "all: 3 passed, 0 failed"]))
-        self.assertEqual(self.run_on("--front", "block")[0], 2)
+        told = ["block: 1 passed, 0 failed", "few: 1 passed, 0 failed", "files: 1 passed, 0 failed", "option: 1 passed, 0 failed",
+                "all: 4 passed, 0 failed"]
+        self.assertEqual(self.run_on("--front"), (0, told))
+
+    def test_block_is_given_to_its_suites_alone(self):
+        self.place("zovatsemo", 'case "$1 $2" in "--block --plain") shift 2; echo "$*" ;; *) echo otherwise ;; esac\n')
+        self.assertEqual(self.run_on("--front", "block"), (0, ["block: 1 passed, 0 failed"]))
+        self.assertEqual(self.run_on("--front", "files")[0], 1)
 
     def test_a_program_that_answers_otherwise(self):
         self.place("replay_main", SCRIPT)
@@ -61,7 +67,7 @@ class Conformance(unittest.TestCase):
             path = self.place("zovatsemo", lines)
             for words in ([], ["--program", str(path)]):
                 status, told = self.run_on("--front", *words)
-                self.assertEqual((status, told[-1]), (1, "all: 0 passed, 3 failed"), lines)
+                self.assertEqual((status, told[-1]), (1, "all: 0 passed, 4 failed"), lines)
 
     def test_a_case_that_differs_is_told_with_all_its_words(self):
         self.place("zovatsemo", FRONT + "echo otherwise\n")

@@ -49,10 +49,10 @@ def rejected(fault, files):
                                 said or "it is rejected", fault)
 
 
-def run_report(words, files, ranks_kept=0):
+def run_report(words, files, ranks_kept=0, is_block=False):
     """The run that a command of the program reports. `files` has the file of each kind of error."""
-    plain = [] if words[0] == "--block" else ["--plain", "--"]
-    with subprocess.Popen([str(LAUNCHER), *plain, *words], stdin=subprocess.DEVNULL, stdout=subprocess.PIPE,
+    options = ["--block"] if is_block else []
+    with subprocess.Popen([str(LAUNCHER), *options, "--plain", "--", *words], stdin=subprocess.DEVNULL, stdout=subprocess.PIPE,
                           stderr=subprocess.PIPE, bufsize=1 << 16) as child:
         try:
             run = sources.read_stream(child.stdout, "report", ranks_kept)
@@ -71,9 +71,8 @@ def run_report(words, files, ranks_kept=0):
 
 def link(policy, target, capture, rate, is_block=False, ranks_kept=0):
     """The run of a capture on a link."""
-    block = ["--block"] if is_block else []
     files = {"policy": policy, "target": target, "size": target, "capture": capture}
-    return run_report([*block, "link", policy, target, capture, str(rate)], files, ranks_kept)
+    return run_report(["link", policy, target, capture, str(rate)], files, ranks_kept, is_block)
 
 
 def classified(policy, capture):

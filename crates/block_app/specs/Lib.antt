@@ -1,6 +1,0 @@
-pub mod Words
-pub mod Spills
-pub mod Output
-pub mod Behind
-pub mod Calm
-pub mod Laws

@@ -1,19 +1,9 @@
-//! The program over hardware that builds its queues from rank stores. It has the commands of
-//! replay_app, reports the spills of each run, and decides whether a policy is calm, so that it
-//! never spills. specs/Output.antt defines the output.
+//! The program over hardware that builds its queues from rank stores: runs its command on real
+//! files and standard output. `block_run` of block_replay specifies its output.
 #![tactic(auto)]
 
-mod calmness;
-mod command;
-mod counting;
-mod laws;
-mod verdict;
-mod words;
-
 use block_core::BlockFabric;
-pub use calmness::calm;
-pub use command::block_run;
-pub use laws::{block_words_have_an_answer, block_words_have_one_answer};
+use block_replay::block_run;
 use outside_core::{FileShelf, StdSink};
 use replay_app::{Program, run_program};
 use std::alloc::{AllocError, Global};

@@ -1,2 +1,1 @@
 pub mod CatchLaws
-pub mod StoppedLaws

@@ -2,6 +2,10 @@
 use Rattle.std.specs.Prelude.{◌≡◌, refl, ℕ, Option, Some, option_map, List, [], ◌∷◌, ◌++◌, drop}
 use Rattle.front_core.specs.declared.catching.Catching.{Catching}
 
+-- the sink that gets the other bytes
+abbrev pub below_of : {K : Type 0} → Catching K → K
+below_of s = s.below
+
 -- the bytes that are held back
 abbrev pub kept_of : {K : Type 0} → Catching K → List ℕ
 kept_of s = drop s.sent s.held.items

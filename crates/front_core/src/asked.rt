@@ -152,10 +152,26 @@ fn take_rate<'a>(
     }
 }
 
-/// Checks a command's arguments and options, and returns the run that they request.
-fn request_of<'a>(command: Command, mut scan: Scan<'a>) -> Result<Request<'a>, Mistake<'a>> {
+/// Returns whether a command has no form on rank stores.
+fn is_left_out(command: Command) -> bool {
+    command == Command::Via || command == Command::Forward
+}
+
+/// Returns the output file, or none for standard output, which is also named `-`.
+fn output_of<'a>(output: Option<&'a str>) -> Option<&'a str> {
+    match output {
+        Some("-") => None,
+        _ => output,
+    }
+}
+
+/// Checks a command's options and arguments, except its rate and its output.
+fn see_command<'a>(command: Command, scan: &mut Scan<'a>) -> Result<(), Mistake<'a>> {
+    if scan.block && is_left_out(command) {
+        return Err(Mistake::NoBlock(command));
+    }
     if command == Command::Replay {
-        take_pairs(&mut scan)?;
+        take_pairs(scan)?;
     } else if !scan.taps.is_empty() {
         return Err(Mistake::NoTaps(command));
     }
@@ -164,12 +180,20 @@ fn request_of<'a>(command: Command, mut scan: Scan<'a>) -> Result<Request<'a>, M
     if command == Command::Soak {
         see_load(&scan.arguments)?;
     }
+    Ok(())
+}
+
+/// Checks a command's arguments and options, and returns the run that they request. `calm` is
+/// about rank stores, with or without `--block`.
+fn request_of<'a>(command: Command, mut scan: Scan<'a>) -> Result<Request<'a>, Mistake<'a>> {
+    see_command(command, &mut scan)?;
     let rate = take_rate(command, scan.plain, &mut scan.arguments)?;
-    see_output(&scan.arguments, scan.output)?;
+    let output = output_of(scan.output);
+    see_output(&scan.arguments, output)?;
     let Scan {
         arguments,
         taps,
-        output,
+        block,
         plain,
         quiet,
         ..
@@ -179,6 +203,7 @@ fn request_of<'a>(command: Command, mut scan: Scan<'a>) -> Result<Request<'a>, M
         files: arguments,
         rate,
         taps,
+        block: block || command == Command::Calm,
         plain,
     };
     Ok(Request {

@@ -14,11 +14,13 @@ forward POLICY TARGET CAPTURE RATE              write the departures of link as 
 direct POLICY CAPTURE SCRIPT                    print what replay prints, computed with the policy's own tree
 via POLICY TOPOLOGY MAP TARGET CAPTURE SCRIPT   print what replay prints, with a map of your own
 soak SEED COUNT                                 run a generated load and print its sums
+calm POLICY TARGET                              print whether rank stores always keep the policy's order
 
 RATE is 10Mbit, 10gbit, 1.25MB or 125000 (bytes a second). The file - is standard input.
 
+    --block               run on rank stores, and count the spills (not via and forward)
 -h, --help [COMMAND]      this text, or that of a command with an example
--o, --output FILE         write to a new file; one that exists is refused
+-o, --output FILE         write to a file that doesn't exist yet, or with - to standard output
 -t, --tap NAME            one more line at the end of replay: bytes, order, first or drops
     --plain               write the line `fault KIND CODE PLACE` too, and no messages
 -q, --quiet               write no messages
@@ -103,6 +105,16 @@ the same on every machine for the same SEED and COUNT.
     zovatsemo soak 1 1000
 ";
 
+/// The help text of `calm`.
+const CALM: &str = "\
+zovatsemo calm POLICY TARGET
+
+Prints `calm yes` if no push can spill on rank stores, for any packets, and otherwise `calm no`. A push spills if an entry
+of higher rank waits in the same store.
+
+    zovatsemo calm examples/uplink/strict examples/uplink/target
+";
+
 /// Returns the help text of all commands.
 pub fn help_of_all() -> &'static str {
     HELP
@@ -119,5 +131,6 @@ pub fn help_of(command: Command) -> &'static str {
         Command::Direct => DIRECT,
         Command::Via => VIA,
         Command::Soak => SOAK,
+        Command::Calm => CALM,
     }
 }

@@ -1,5 +1,5 @@
 //! The command line in front of the replayer: options, a sink that holds back the `fault` line,
-//! messages, and the entry points. Begin with specs/Front.antt and specs/Catching.antt.
+//! and messages. Begin with specs/Catching.antt.
 #![tactic(auto)]
 
 mod asked;
@@ -9,13 +9,13 @@ mod causes;
 mod fault;
 mod fault_line;
 mod files;
-mod front;
 mod help;
 mod lines;
 mod mistake;
 mod mistakes;
 mod names;
 mod near;
+mod paint;
 mod say;
 mod scan;
 mod statements;
@@ -26,9 +26,9 @@ pub use captures::capture_kind;
 pub use catching::Catching;
 pub use fault::{Fault, fault_in};
 pub use files::{file_of, file_read_at, is_text, name_shown};
-pub use front::{front_caught, front_run};
 pub use help::{help_of, help_of_all};
 pub use mistake::Mistake;
 pub use mistakes::tell_mistake;
 pub use names::{COMMANDS, OPTIONS, TAPS, argument_of, form_of};
+pub use paint::painted;
 pub use tell::{tell_fault, tell_status};

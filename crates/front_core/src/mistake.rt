@@ -35,6 +35,8 @@ pub enum Mistake<'a> {
     TapTwice(&'a str),
     /// This command has no taps.
     NoTaps(Command),
+    /// This command doesn't run on rank stores.
+    NoBlock(Command),
     /// The argument with this index, counted from 0, is not a whole number up to this limit.
     NoNumber(usize, &'a str, u64),
     /// The output would overwrite this input.

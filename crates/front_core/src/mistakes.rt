@@ -121,6 +121,11 @@ fn parts_of<'a>(mistake: Mistake<'a>) -> (&'static str, &'a str, &'static str) {
             command.word(),
             ", which has none: taps are for replay",
         ),
+        Mistake::NoBlock(command) => (
+            "expected a command that runs on rank stores after --block, found ",
+            command.word(),
+            "; there are check plan replay link direct soak calm",
+        ),
         Mistake::OverInput(name) => (
             "expected an output that isn't an input, found ",
             name,

@@ -2,12 +2,13 @@
 use front_defs::Command;
 
 /// The names of the commands.
-pub const COMMANDS: [&str; 8] = [
-    "check", "plan", "replay", "link", "forward", "direct", "via", "soak",
+pub const COMMANDS: [&str; 9] = [
+    "check", "plan", "replay", "link", "forward", "direct", "via", "soak", "calm",
 ];
 
 /// The names of the options.
-pub const OPTIONS: [&str; 6] = [
+pub const OPTIONS: [&str; 7] = [
+    "--block",
     "--help",
     "--output",
     "--plain",
@@ -30,6 +31,7 @@ pub fn command_named(word: &str) -> Option<Command> {
         "direct" => Command::Direct,
         "via" => Command::Via,
         "soak" => Command::Soak,
+        "calm" => Command::Calm,
         _ => return None,
     })
 }
@@ -45,6 +47,7 @@ pub fn form_of(command: Command) -> &'static str {
         Command::Direct => "direct POLICY CAPTURE SCRIPT",
         Command::Via => "via POLICY TOPOLOGY MAP TARGET CAPTURE SCRIPT",
         Command::Soak => "soak SEED COUNT",
+        Command::Calm => "calm POLICY TARGET",
     }
 }
 
@@ -52,7 +55,7 @@ pub fn form_of(command: Command) -> &'static str {
 pub fn count_of(command: Command) -> usize {
     match command {
         Command::Check => 1,
-        Command::Plan | Command::Soak => 2,
+        Command::Plan | Command::Soak | Command::Calm => 2,
         Command::Direct => 3,
         Command::Replay | Command::Link | Command::Forward => 4,
         Command::Via => 6,
@@ -70,7 +73,8 @@ pub fn argument_of(command: Command, place: usize) -> &'static str {
         (Command::Via, 3) => "TARGET",
         (Command::Via, 4) | (Command::Direct, 1) => "CAPTURE",
         (Command::Link | Command::Forward, 3) => "RATE",
-        (Command::Plan | Command::Replay | Command::Link | Command::Forward, 1) => "TARGET",
+        (Command::Plan | Command::Calm, 1) => "TARGET",
+        (Command::Replay | Command::Link | Command::Forward, 1) => "TARGET",
         (Command::Replay | Command::Link | Command::Forward, 2) => "CAPTURE",
         _ => "SCRIPT",
     }

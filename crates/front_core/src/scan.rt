@@ -8,6 +8,7 @@ pub struct Scan<'a> {
     pub arguments: Vec<&'a str>,
     pub taps: Vec<&'a str>,
     pub output: Option<&'a str>,
+    pub block: bool,
     pub plain: bool,
     pub quiet: bool,
     pub help: bool,
@@ -21,9 +22,10 @@ fn value_in<'a>(word: &'a str, name: &str) -> Option<&'a str> {
 }
 
 /// Returns the next argument as the value of an option. A value that begins with `-` has to be
-/// joined to its option.
+/// joined to its option, except `-` for standard output.
 fn value_after<'a>(option: &'a str, next: Option<&'a str>) -> Result<&'a str, Mistake<'a>> {
     match next {
+        Some("-") if option != "-t" && option != "--tap" => Ok("-"),
         Some(value) if value.starts_with('-') => Err(Mistake::OptionForValue(option, value)),
         Some(value) => Ok(value),
         None => Err(Mistake::NoValue(option)),
@@ -36,6 +38,7 @@ impl<'a> Scan<'a> {
             arguments: Vec::new(alloc),
             taps: Vec::new(alloc),
             output: None,
+            block: false,
             plain: false,
             quiet: false,
             help: false,
@@ -128,6 +131,7 @@ impl<'a> Scan<'a> {
             "--version" => self.version = true,
             "--quiet" => self.quiet = true,
             "--plain" => self.plain = true,
+            "--block" => self.block = true,
             _ => return false,
         }
         true

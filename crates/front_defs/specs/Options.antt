@@ -1,5 +1,5 @@
 -- The meaning of a command line: the replayer's arguments that its options give.
-use Rattle.std.specs.Prelude.{◌≡◌, refl, ℕ, Option, None, Some, List, [], ◌∷◌, ◌++◌, map, codes, decimal}
+use Rattle.std.specs.Prelude.{◌≡◌, refl, ℕ, Bool, Option, None, Some, List, [], ◌∷◌, ◌++◌, map, codes, decimal}
 use Rattle.std.specs.Borrow.{Bor}
 use Rattle.front_defs.specs.declared.command.Command.{Command}
 use Rattle.front_defs.specs.declared.command.Command.TheVariants as c
@@ -15,6 +15,7 @@ command_word c.Forward = codes "forward"
 command_word c.Direct = codes "direct"
 command_word c.Via = codes "via"
 command_word c.Soak = codes "soak"
+command_word c.Calm = codes "calm"
 
 -- the argument of a rate in bytes per second, in decimal, if there is a rate
 abbrev pub rate_words : Option ℕ → List (List ℕ)
@@ -63,3 +64,9 @@ via_has_six_files = refl
 
 soak_has_two_numbers : words_by c.Soak (codes "7" ∷ codes "200" ∷ []) None [] ≡ codes "soak" ∷ codes "7" ∷ codes "200" ∷ []
 soak_has_two_numbers = refl
+
+calm_has_a_target : words_by c.Calm (codes "p" ∷ codes "t" ∷ []) None [] ≡ codes "calm" ∷ codes "p" ∷ codes "t" ∷ []
+calm_has_a_target = refl
+
+rank_stores_take_the_same_words : (o : Options) (block : Bool) → words_of (record o { block = block }) ≡ words_of o
+rank_stores_take_the_same_words o block = refl

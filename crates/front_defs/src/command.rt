@@ -2,7 +2,7 @@
 ghost use Rattle.std.specs.Prelude.{◌≡◌};
 ghost use Rattle.front_defs.specs.Options.{command_word};
 
-/// A command of the replayer.
+/// A command of the replayer. `Calm` is one on rank stores only.
 #[derive(Clone, Copy, PartialEq, Eq, Debug)]
 pub enum Command {
     Check,
@@ -13,6 +13,7 @@ pub enum Command {
     Direct,
     Via,
     Soak,
+    Calm,
 }
 
 impl Command {
@@ -29,6 +30,7 @@ impl Command {
             Command::Direct => "direct",
             Command::Via => "via",
             Command::Soak => "soak",
+            Command::Calm => "calm",
         }
     }
 }

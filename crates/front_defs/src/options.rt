@@ -16,6 +16,8 @@ pub struct Options<'a> {
     pub rate: Option<u64>,
     /// The names of taps.
     pub taps: Vec<&'a str>,
+    /// Whether the target builds its queues from rank stores.
+    pub block: bool,
     /// Whether standard output gets everything that the replayer writes, including its `fault`
     /// line.
     pub plain: bool,

@@ -1,4 +1,5 @@
 //! Why a file can't be read, and its first bytes.
+use crate::told::tell;
 use front_core::{file_read_at, name_shown};
 use front_defs::Options;
 use std::alloc::AllocError;
@@ -31,20 +32,22 @@ fn open_again(rt: &HostRuntime, name: &str) -> io::Result<Option<File>> {
 
 /// Writes to standard error which file can't be read, and why. Files are tried in the order in
 /// which the command reads them.
-pub fn tell_unread(rt: &HostRuntime, options: &Options<'_>) {
+pub fn tell_unread(rt: &HostRuntime, options: &Options<'_>) -> Result<(), AllocError> {
     for turn in 0..options.files.len() {
         let Some(name) = options.files.get(file_read_at(options.command, turn)) else {
             break;
         };
         if let Err(error) = try_file(rt, name) {
             let name = name_shown(name);
-            let _ = eprintln!(rt;
-                "{name}: error: expected a file that can be read, found: {error}"
-            );
-            return;
+            let text = format!(in rt.alloc();
+                "{name}: error: expected a file that can be read, found: {error}\n"
+            )?;
+            tell(rt, text.as_bytes());
+            return Ok(());
         }
     }
-    let _ = eprintln!(rt; "zovatsemo: error: a file can't be read to its end");
+    tell(rt, b"zovatsemo: error: a file can't be read to its end\n");
+    Ok(())
 }
 
 /// Returns the first bytes of a file, until a read fails or `MOST_READS` reads are done. Returns

@@ -1,11 +1,11 @@
 //! The environment of the entry point: arguments, files, standard output and standard error.
 use crate::files::{front_of, tell_unread};
+use crate::front::{front_caught, front_run};
 use crate::output::{NO_OUTPUT, Output};
 use crate::told::tell;
-use fabric_core::FlatFabric;
 use front_core::{
-    Asked, Catching, Mistake, Request, ask, fault_in, file_of, front_caught, front_run, help_of,
-    help_of_all, tell_fault, tell_mistake, tell_status,
+    Asked, Catching, Mistake, Request, ask, fault_in, file_of, help_of, help_of_all, tell_fault,
+    tell_mistake, tell_status,
 };
 use front_defs::{Command, Options};
 use outside_core::{FileShelf, StdSink};
@@ -73,7 +73,7 @@ fn tell_end(
         _ if status == 0 => (),
         _ if status == NO_OUTPUT => sink.below().tell_failure(options.command)?,
         [line @ .., b'\n'] => tell_line(rt, options, line)?,
-        _ if status == 8 => tell_unread(rt, options),
+        _ if status == 8 => tell_unread(rt, options)?,
         _ => tell(rt, &tell_status(rt.alloc(), options.command, status)?),
     }
     Ok(())
@@ -89,10 +89,9 @@ fn run_told(
 ) -> Result<u8, AllocError> {
     let alloc = rt.alloc();
     let options = &request.options;
-    let mut fabric = FlatFabric::new(alloc)?;
     let mut shelf = FileShelf::new(rt.clone()?);
     let mut sink = Catching::new(alloc, below, options.command == Command::Forward)?;
-    let status = front_caught(alloc, options, &mut shelf, &mut sink, &mut fabric, taps);
+    let status = front_caught(alloc, options, &mut shelf, &mut sink, taps);
     let is_done = status == 0 || status == 14 || status == 15;
     let is_lost = is_done && sink.release().is_err();
     let status = if is_lost { NO_OUTPUT } else { status };
@@ -109,10 +108,8 @@ fn run_plain(
     mut sink: Output<'_>,
     taps: &mut Vec<Box<dyn Tap>>,
 ) -> Result<u8, AllocError> {
-    let alloc = rt.alloc();
-    let mut fabric = FlatFabric::new(alloc)?;
     let mut shelf = FileShelf::new(rt.clone()?);
-    Ok(front_run(alloc, options, &mut shelf, &mut sink, &mut fabric, taps))
+    Ok(front_run(rt.alloc(), options, &mut shelf, &mut sink, taps))
 }
 
 /// Runs the requested command, with standard output or a file as its output. There is a tap of each

@@ -60,14 +60,16 @@ impl<'a> Output<'a> {
         match (self.name, &self.failure) {
             (_, Some(error)) if error.kind() == io::ErrorKind::BrokenPipe => (),
             (Some(name), Some(error)) if error.kind() == io::ErrorKind::AlreadyExists => {
-                let _ = eprintln!(rt;
-                    "{name}: error: expected the name of a new file, found a file that exists\n  help: remove it first, or name another"
-                );
+                let text = format!(in rt.alloc();
+                    "{name}: error: expected the name of a new file, found a file that exists\n  help: remove it first, or name another\n"
+                )?;
+                tell(rt, text.as_bytes());
             }
             (Some(name), Some(error)) => {
-                let _ = eprintln!(rt;
-                    "{name}: error: expected a file that can be written, found: {error}"
-                );
+                let text = format!(in rt.alloc();
+                    "{name}: error: expected a file that can be written, found: {error}\n"
+                )?;
+                tell(rt, text.as_bytes());
             }
             _ => tell(rt, &tell_status(rt.alloc(), command, NO_OUTPUT)?),
         }

@@ -8,9 +8,11 @@ complete -c zovatsemo -n __fish_use_subcommand -a forward -d 'write the departur
 complete -c zovatsemo -n __fish_use_subcommand -a direct -d 'print what replay prints, computed with the policy'\''s own tree'
 complete -c zovatsemo -n __fish_use_subcommand -a via -d 'print what replay prints, with a map of your own'
 complete -c zovatsemo -n __fish_use_subcommand -a soak -d 'run a generated load and print its sums'
+complete -c zovatsemo -n __fish_use_subcommand -a calm -d 'print whether rank stores always keep the policy'\''s order'
 complete -c zovatsemo -n '__fish_seen_subcommand_from soak' -f
+complete -c zovatsemo -l block -d 'run on rank stores, and count the spills (not via and forward)'
 complete -c zovatsemo -s h -l help -d 'this text, or that of a command with an example'
-complete -c zovatsemo -s o -l output -r -F -d 'write to a new file; one that exists is refused'
+complete -c zovatsemo -s o -l output -r -F -d 'write to a file that doesn'\''t exist yet, or with - to standard output'
 complete -c zovatsemo -s t -l tap -x -a 'bytes order first drops' -d 'one more line at the end of replay: bytes, order, first or drops'
 complete -c zovatsemo -l plain -d 'write the line `fault KIND CODE PLACE` too, and no messages'
 complete -c zovatsemo -s q -l quiet -d 'write no messages'

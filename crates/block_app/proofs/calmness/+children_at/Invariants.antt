@@ -1,5 +1,0 @@
-use Rattle.std.proofs.Common.{length}
-use Rattle.block_app.proofs.calmness.+children_at.Given as goal
-
-abbrev pub decreases-children_at : goal.decreases-children_at
-decreases-children_at l = length l.address.now

@@ -1,5 +1,0 @@
-use Rattle.block_app.proofs.CalmNodes.{AreCalmBelow}
-use Rattle.block_app.proofs.calmness.calm.Given as goal
-
-abbrev pub invariant-loop-node : goal.invariant-loop-node
-invariant-loop-node l = AreCalmBelow l.policy.policy l.map l.node

@@ -1,5 +1,0 @@
-use Rattle.block_app.proofs.BlockAnswers.{one-block_answer}
-use Rattle.block_app.proofs.laws.block_words_have_one_answer.Goals as goal
-
-pub returns : goal.returns
-returns c = record { one = one-block_answer }

@@ -1,0 +1,9 @@
+pub mod CalmPolicies
+pub mod CalmLaws
+pub mod CalmRows
+pub mod Words
+pub mod Spills
+pub mod Output
+pub mod Behind
+pub mod Calm
+pub mod Laws

@@ -1,5 +1,0 @@
-use Rattle.calm_defs.proofs.NeverSpills.{runs_never_spill as holds}
-use Rattle.calm_defs.proofs.calm_runs_never_spill.Goals as goal
-
-pub returns : goal.returns
-returns c = record { law = holds }

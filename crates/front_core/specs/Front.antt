@@ -1,7 +1,0 @@
--- The form of the replayer's arguments that the options give.
-use Rattle.front_defs.specs.Options.{words_of}
-use Rattle.front_defs.specs.declared.options.Options.{Options}
-use Rattle.replay_app.specs.Words.{Form, form_of}
-
-abbrev pub form_asked : Options → Form
-form_asked options = form_of (words_of options)

@@ -1,0 +1,8 @@
+use Rattle.std.proofs.Common.{rules}
+use Rattle.zovatsemo.proofs.StoppedLaws.{block_answered_so, same_block_form}
+use Rattle.zovatsemo.proofs.front.run_blocks.Goals as goal
+
+pub returns-in-Ok-clause-answer : goal.returns-in-Ok-clause-answer
+returns-in-Ok-clause-answer g c =
+    block_answered_so (g.S.Shelf.content c.args.shelf.now) _ c.run.result (g.K.Sink.written c.args.sink.now) (g.K.Sink.written c.run.new.sink) _ _
+    (same_block_form c.deref.result.now c.in-Ok.words.items c.args.options.now (search rules) c.in-Ok.ensures) c.run.ensures.answer
