@@ -42,7 +42,10 @@ fn statement_at<'a>(
     line: u64,
 ) -> Result<Option<&'a [u8]>, AllocError> {
     let lines = lines(alloc, text)?;
-    let Some(place) = usize::try_from(line).ok().and_then(|line| line.checked_sub(1)) else {
+    let Some(place) = usize::try_from(line)
+        .ok()
+        .and_then(|line| line.checked_sub(1))
+    else {
         return Ok(None);
     };
     match lines.as_slice().get(place) {
@@ -78,7 +81,10 @@ fn depth_detail(alloc: Global, error: Error<'_>) -> Result<Option<Detail>, Alloc
         return Ok(None);
     };
     let mut message = Vec::new(alloc);
-    say(&mut message, "expected an expression at most 64 deep, found a deeper one")?;
+    say(
+        &mut message,
+        "expected an expression at most 64 deep, found a deeper one",
+    )?;
     Ok(Some(Detail {
         line: error.line,
         column: value_column(statement),
@@ -97,7 +103,10 @@ pub fn value_column(line: &[u8]) -> usize {
 
 /// Returns the number of blanks at the start of the bytes.
 pub fn blanks(bytes: &[u8]) -> usize {
-    bytes.iter().take_while(|byte| matches!(**byte, b' ' | b'\t')).count()
+    bytes
+        .iter()
+        .take_while(|byte| matches!(**byte, b' ' | b'\t'))
+        .count()
 }
 
 /// Returns the first byte of a line that isn't allowed.

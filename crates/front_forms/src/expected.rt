@@ -87,11 +87,14 @@ fn say_wants(
 ) -> Result<(), AllocError> {
     for (place, want) in wants.iter().enumerate() {
         let is_last = place + 1 == wants.len();
-        say(into, match place {
-            0 => "",
-            _ if is_last => " or ",
-            _ => ", ",
-        })?;
+        say(
+            into,
+            match place {
+                0 => "",
+                _ if is_last => " or ",
+                _ => ", ",
+            },
+        )?;
         say_want(into, walk, *want, is_number)?;
     }
     Ok(())
@@ -101,7 +104,10 @@ fn say_wants(
 fn texts_of(alloc: Global, walk: &Walk) -> Result<Vec<&'static str>, AllocError> {
     let mut found = Vec::new(alloc);
     for (place, want, _) in &ROWS {
-        if *place == walk.place() && walk.offers(*want) && let Some(text) = want.text() {
+        if *place == walk.place()
+            && walk.offers(*want)
+            && let Some(text) = want.text()
+        {
             found.push(text)?;
         }
     }

@@ -13,7 +13,10 @@ fn address_of<'a>(entry: &Entry<'a>) -> Word<'a> {
     let after = name.start.saturating_add(name.bytes.len());
     let start = after.saturating_add(blanks(part(entry.text, after, entry.text.len())));
     let bytes = part(entry.text, start, entry.text.len());
-    let count = bytes.iter().take_while(|byte| !matches!(**byte, b' ' | b'\t')).count();
+    let count = bytes
+        .iter()
+        .take_while(|byte| !matches!(**byte, b' ' | b'\t'))
+        .count();
     Word {
         start,
         bytes: part(bytes, 0, count),
@@ -38,7 +41,11 @@ pub fn map_detail(alloc: Global, error: Error<'_>) -> Result<Option<Detail>, All
     for entry in entries.as_slice() {
         if entry.line == error.line {
             let is_name = error.code == 3 || error.code == 4;
-            let word = if is_name { entry.word(1) } else { address_of(entry) };
+            let word = if is_name {
+                entry.word(1)
+            } else {
+                address_of(entry)
+            };
             say(&mut message, expected(error.code))?;
             say_quoted(&mut message, word.bytes)?;
             if error.code == 4 {
@@ -51,11 +58,7 @@ pub fn map_detail(alloc: Global, error: Error<'_>) -> Result<Option<Detail>, All
 }
 
 /// Appends the first line of a map with this name.
-fn say_first(
-    into: &mut Vec<u8>,
-    entries: &[Entry<'_>],
-    name: &[u8],
-) -> Result<(), AllocError> {
+fn say_first(into: &mut Vec<u8>, entries: &[Entry<'_>], name: &[u8]) -> Result<(), AllocError> {
     match entries.iter().find(|entry| entry.word(1).bytes == name) {
         Some(entry) => {
             say(into, " again, which is on line ")?;
@@ -94,7 +97,10 @@ fn say_tree(
     code: u64,
 ) -> Result<(), AllocError> {
     if code == 2 {
-        say(into, "expected one tree on one line, found a second; the first is on line ")?;
+        say(
+            into,
+            "expected one tree on one line, found a second; the first is on line ",
+        )?;
         return say_number(into, first.line);
     }
     let (nodes, levels) = size_of(entry.text);

@@ -17,7 +17,6 @@ mod walk;
 mod want;
 mod words;
 
-
 pub use detail::{Detail, Error, detail_of};
 pub use near::nearest;
 pub use say::{say, say_around, say_names, say_number, say_short, say_thousands};

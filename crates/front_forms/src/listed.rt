@@ -92,7 +92,10 @@ pub fn class_detail(
     let name = entry.word(1);
     let lists = lists_of(alloc, entries, b"leaf", name.bytes)?;
     let mut message = Vec::new(alloc);
-    say(&mut message, "expected each class to be listed by leaves exactly once")?;
+    say(
+        &mut message,
+        "expected each class to be listed by leaves exactly once",
+    )?;
     say_lists(&mut message, name.bytes, &lists)?;
     Ok(Some(at_word(entry, name, message)))
 }

@@ -80,12 +80,16 @@ fn say_order(
         say(into, "expected `policy 1` or `policy 2` first, found ")?;
         return say_quoted(into, entry.word(0).bytes);
     };
-    say(into, match entry.word(0).bytes {
-        b"policy" => "expected `policy 1` or `policy 2` once and first, found a second one",
-        b"keep" | b"each" => "expected a variable after `transaction`, `keep` or `each`, found it",
-        b"push" => "expected `push` in a transaction and before each `pop`, found it",
-        _ => "expected `pop` in a transaction, found it",
-    })?;
+    say(
+        into,
+        match entry.word(0).bytes {
+            b"policy" => "expected `policy 1` or `policy 2` once and first, found a second one",
+            b"keep" | b"each" =>
+                "expected a variable after `transaction`, `keep` or `each`, found it",
+            b"push" => "expected `push` in a transaction and before each `pop`, found it",
+            _ => "expected `pop` in a transaction, found it",
+        },
+    )?;
     say(into, " after ")?;
     say_quoted(into, last.word(0).bytes)?;
     say(into, " on line ")?;
@@ -134,7 +138,9 @@ fn declared<'a>(
         found.extend_from_slice(others)?;
     }
     for entry in entries {
-        if Space::of(entry.word(0).bytes) == Some(space) && let Some(name) = name_of(entry.word(1).bytes) {
+        if Space::of(entry.word(0).bytes) == Some(space)
+            && let Some(name) = name_of(entry.word(1).bytes)
+        {
             found.push(name)?;
         }
     }
@@ -152,7 +158,9 @@ fn first_unknown<'a>(
         known.insert(*name)?;
     }
     for word in words {
-        if let Some(name) = name_of(word.bytes) && !known.contains(name) {
+        if let Some(name) = name_of(word.bytes)
+            && !known.contains(name)
+        {
             return Ok(Some(*word));
         }
     }
@@ -171,7 +179,12 @@ fn unknown_in(
         return Ok(None);
     };
     let mut message = Vec::new(alloc);
-    say_around(&mut message, "expected the name of ", space.label(), " that is declared, found ")?;
+    say_around(
+        &mut message,
+        "expected the name of ",
+        space.label(),
+        " that is declared, found ",
+    )?;
     say_quoted(&mut message, word.bytes)?;
     if let Some(name) = nearest(alloc, str::from_utf8(word.bytes).unwrap_or(""), names)? {
         say_around(&mut message, "; did you mean `", name, "`?")?;
@@ -195,7 +208,13 @@ fn unknown_detail(
     };
     if space != Space::Variable {
         let names = declared(alloc, entries, Space::Transaction, error.builtins)?;
-        let found = unknown_in(alloc, entry, used.get(..1).unwrap_or(&[]), Space::Transaction, &names)?;
+        let found = unknown_in(
+            alloc,
+            entry,
+            used.get(..1).unwrap_or(&[]),
+            Space::Transaction,
+            &names,
+        )?;
         if found.is_some() {
             return Ok(found);
         }
@@ -228,7 +247,10 @@ fn last_class_detail(alloc: Global, entries: &[Entry<'_>]) -> Result<Option<Deta
             last = Some(entry);
         }
     }
-    say(&mut message, "expected a last class without a condition, found ")?;
+    say(
+        &mut message,
+        "expected a last class without a condition, found ",
+    )?;
     let Some(entry) = last else {
         say(&mut message, "no class")?;
         return Ok(Some(Detail {
@@ -291,15 +313,21 @@ fn line_detail(
 
 /// Appends what is wrong with a node's place in the tree.
 fn say_tree(into: &mut Vec<u8>, code: u64, name: &[u8]) -> Result<(), AllocError> {
-    say(into, match code {
-        10 => "expected a tree, found ",
-        _ => "expected at most 64 levels below the root, found ",
-    })?;
+    say(
+        into,
+        match code {
+            10 => "expected a tree, found ",
+            _ => "expected at most 64 levels below the root, found ",
+        },
+    )?;
     say_quoted(into, name)?;
-    say(into, match code {
-        10 => " among its own descendants",
-        _ => " below more",
-    })
+    say(
+        into,
+        match code {
+            10 => " among its own descendants",
+            _ => " below more",
+        },
+    )
 }
 
 /// Returns the place of a broken rule in a policy, and its message. Fails if out of memory.

@@ -22,7 +22,10 @@ pub fn count_detail(alloc: Global, error: Error<'_>) -> Result<Option<Detail>, A
         sum = sum.saturating_add(count_of(entry));
         if entry.line == error.line {
             let mut message = Vec::new(alloc);
-            say(&mut message, "expected `a` and `d` to count at most 4,194,304, found ")?;
+            say(
+                &mut message,
+                "expected `a` and `d` to count at most 4,194,304, found ",
+            )?;
             say_thousands(alloc, &mut message, sum)?;
             say(&mut message, " up to this line")?;
             let place = entry.words.len().saturating_sub(1).min(1);

@@ -43,7 +43,11 @@ fn at_key(
         let line = part(text, span.start, span.end);
         if has_key(line, key) {
             found.line = (place as u64).saturating_add(1);
-            found.column = if is_value { value_column(line) } else { blanks(line) };
+            found.column = if is_value {
+                value_column(line)
+            } else {
+                blanks(line)
+            };
             break;
         }
     }
@@ -57,14 +61,21 @@ fn syntax_detail(
     error: &toml::de::Error,
 ) -> Result<Option<Detail>, AllocError> {
     let mut message = Vec::new(alloc);
-    say(&mut message, "expected a TOML document, found an error in it: ")?;
+    say(
+        &mut message,
+        "expected a TOML document, found an error in it: ",
+    )?;
     say(&mut message, error.message())?;
     let at = match error.span() {
         Some(span) => span.start,
         None => 0,
     };
     let before = part(text, 0, at);
-    let column = before.iter().rev().take_while(|byte| **byte != b'\n').count();
+    let column = before
+        .iter()
+        .rev()
+        .take_while(|byte| **byte != b'\n')
+        .count();
     let line = before.iter().filter(|byte| **byte == b'\n').count();
     Ok(Some(Detail {
         line: (line as u64).saturating_add(1),
@@ -75,7 +86,10 @@ fn syntax_detail(
 
 /// Appends a key that targets don't have.
 fn say_unknown(alloc: Global, into: &mut Vec<u8>, key: &str) -> Result<(), AllocError> {
-    say(into, "expected the keys arity and height, or arities alone, found `")?;
+    say(
+        into,
+        "expected the keys arity and height, or arities alone, found `",
+    )?;
     say_short(into, key)?;
     say(into, "`")?;
     match nearest(alloc, key, &KEYS)? {
@@ -123,7 +137,12 @@ fn number_fault(
         return Ok(None);
     }
     let mut message = Vec::new(alloc);
-    say_around(&mut message, "expected a whole number from ", if least == 0 { "0 to 16" } else { "2 to 64" }, " for ")?;
+    say_around(
+        &mut message,
+        "expected a whole number from ",
+        if least == 0 { "0 to 16" } else { "2 to 64" },
+        " for ",
+    )?;
     say_around(&mut message, "`", key, "`, found ")?;
     say_value(&mut message, value)?;
     Ok(Some(message))
@@ -132,7 +151,10 @@ fn number_fault(
 /// Returns the message on the value of `arities`; none if it is right.
 fn list_fault(alloc: Global, value: &Value) -> Result<Option<Vec<u8>>, AllocError> {
     let mut message = Vec::new(alloc);
-    say(&mut message, "expected a list of at most 16 whole numbers from 2 to 64 for `arities`, found ")?;
+    say(
+        &mut message,
+        "expected a list of at most 16 whole numbers from 2 to 64 for `arities`, found ",
+    )?;
     let Value::Array(items) = value else {
         say_value(&mut message, value)?;
         return Ok(Some(message));
@@ -149,15 +171,15 @@ fn list_fault(alloc: Global, value: &Value) -> Result<Option<Vec<u8>>, AllocErro
     }
     say_number(&mut message, place)?;
     say(&mut message, " numbers")?;
-    Ok(if place > MOST_HEIGHT { Some(message) } else { None })
+    Ok(if place > MOST_HEIGHT {
+        Some(message)
+    } else {
+        None
+    })
 }
 
 /// Returns the error of the values of the keys that a target has.
-fn values_detail(
-    alloc: Global,
-    text: &[u8],
-    table: &Table,
-) -> Result<Option<Detail>, AllocError> {
+fn values_detail(alloc: Global, text: &[u8], table: &Table) -> Result<Option<Detail>, AllocError> {
     if let Some(value) = table.get("arities") {
         return match list_fault(alloc, value)? {
             Some(message) => at_key(alloc, text, "arities", true, message),
@@ -174,11 +196,7 @@ fn values_detail(
 }
 
 /// Returns the error of a key that is missing, or that `arities` excludes.
-fn missing_detail(
-    alloc: Global,
-    text: &[u8],
-    table: &Table,
-) -> Result<Option<Detail>, AllocError> {
+fn missing_detail(alloc: Global, text: &[u8], table: &Table) -> Result<Option<Detail>, AllocError> {
     let has_arity = table.contains_key("arity");
     let has_height = table.contains_key("height");
     let mut message = Vec::new(alloc);
@@ -187,13 +205,21 @@ fn missing_detail(
         if !has_arity && !has_height {
             return Ok(None);
         }
-        say_around(&mut message, "expected arities alone, found `", other, "` too")?;
+        say_around(
+            &mut message,
+            "expected arities alone, found `",
+            other,
+            "` too",
+        )?;
         return at_key(alloc, text, other, false, message);
     }
     if has_arity && has_height {
         return Ok(None);
     }
-    say(&mut message, "expected the keys arity and height, or arities alone, found no ")?;
+    say(
+        &mut message,
+        "expected the keys arity and height, or arities alone, found no ",
+    )?;
     say(&mut message, if has_arity { "`height`" } else { "`arity`" })?;
     Ok(Some(Detail {
         line: 0,
@@ -219,7 +245,11 @@ fn table_detail(
     table: &Table,
 ) -> Result<Option<Detail>, AllocError> {
     if error.code == 3 {
-        let key = if table.contains_key("arities") { "arities" } else { "height" };
+        let key = if table.contains_key("arities") {
+            "arities"
+        } else {
+            "height"
+        };
         return at_key(alloc, error.text, key, true, Vec::new(alloc));
     }
     if let Some(key) = unknown_key(table) {

@@ -54,7 +54,6 @@ pub fn entries<'a>(alloc: Global, text: &'a [u8]) -> Result<Vec<Entry<'a>>, Allo
     Ok(found)
 }
 
-
 impl<'a> Entry<'a> {
     /// Returns a word by its index, or an empty one.
     pub fn word(&self, place: usize) -> Word<'a> {
