@@ -1,4 +1,4 @@
--- The order of arrival with an entry more.
+-- The order of arrival with one more entry.
 use Rattle.std.proofs.Common.{◌≡◌, ◌≢◌, ◌≤◌, ◌<◌, ◌+◌, inl, inr, ℕ, zero, suc, false, cond, eqb, ltb, ◌&&◌, List, [], ◌∷◌, ◌++◌, map, length, Some, refl, ap, sym, subst, ◌∙◌, arith}
 use Rattle.std.specs.List.{AllByRecursion}
 use Rattle.std.proofs.lemmas.Bool.{cases_Bool, cases_lt, lt-ltb, le-ltb, eqb-true, eq-eqb, ne_eqb}
@@ -20,7 +20,7 @@ pub All-weaker : {X : Type 0} (P Q : X → Type 0) → ((x : X) → P x → Q x)
 All-weaker P Q f [] h = tt
 All-weaker P Q f (x ∷ xs) h = (f x h.0, All-weaker P Q f xs h.1)
 
--- ---- which entry it is
+-- ---- the identity of an entry
 abbrev pub same : Waiting → Waiting → ℕ
 same u v = cond (eqb u.rank v.rank && (eqb u.arrival v.arrival && eqb u.value v.value)) 1 0
 
@@ -43,7 +43,7 @@ same-is u v h =
       | inr r ↦ absurd (let k : 1 ≤ 0 = subst (λ z. 1 ≤ cond (z && (eqb u.arrival v.arrival && eqb u.value v.value)) 1 0) r h in omega (arith, k))
     ]
 
--- at most one entry is known by its weights
+-- a list of at most one entry is determined by its weights
 pub short-same : (us vs : List Waiting) → length us ≤ 1 → ((f : Waiting → ℕ) → weight f us ≡ weight f vs) → us ≡ vs
 short-same [] [] l h = refl
 short-same [] (v ∷ vs) l h = absurd (omega (arith, h (λ _. 1)))
@@ -52,7 +52,7 @@ short-same (u ∷ []) (v ∷ []) l h = ap (λ z. z ∷ []) (same-is u v (omega (
 short-same (u ∷ []) (v ∷ w ∷ vs) l h = absurd (omega (arith, h (λ _. 1)))
 short-same (u ∷ t ∷ us) vs l h = absurd (omega (arith, l))
 
--- ---- what came with one number
+-- ---- the entries with one arrival number
 abbrev at_number : ℕ → (Waiting → ℕ) → Waiting → ℕ
 at_number n f w = cond (eqb w.arrival n) (f w) 0
 
@@ -137,7 +137,7 @@ weight-in_order f zero ws = sym (weight-none (below_number 0 f) ws (nothing ws))
     nothing (v ∷ vs) = (rw (le-ltb v.arrival 0 (omega arith)) refl, nothing vs)
 weight-in_order f (suc n) ws = weight-append f (in_order n ws) (coming n ws) ∙ omega (arith, weight-in_order f n ws, weight-coming f n ws, weight-below f n ws)
 
--- in the order of arrival stands all that waits
+-- the order of arrival has all queued entries
 pub weight-ordered : (f : Waiting → ℕ) (pushed : ℕ) (ws : List Waiting) → IsNumbered pushed ws → weight f (in_order pushed ws) ≡ weight f ws
 weight-ordered f pushed ws h = weight-in_order f pushed ws ∙ all ws (numbered_all pushed ws h)
   where
@@ -193,14 +193,14 @@ module _ (x : Waiting) (big small : List Waiting) (pushed : ℕ) (more : (f : Wa
   order_here : in_order (suc x.arrival) big ≡ in_order x.arrival small ++ x ∷ []
   order_here = ap (λ z. z ++ coming x.arrival big) (order_before x.arrival (omega arith)) ∙ ap (λ z. in_order x.arrival small ++ z) here
 
-  -- it came last
+  -- the additional entry arrived last
   pub queue-pushed : queue_of (x.arrival + 1) big ≡ put (queue_of x.arrival small) x.rank x.value
   unfolding queue_of
   queue-pushed =
       let next : x.arrival + 1 ≡ suc x.arrival = omega arith in
       ap (λ n. map pair (in_order n big)) next ∙ ap (map pair) order_here ∙ map-append (in_order x.arrival small) (x ∷ [])
 
--- what waits before an entry and behind it
+-- the entries that arrived before an entry and after it
 pub record Splits (x : Waiting) (big small : List Waiting) (n : ℕ) : Type 0 where
   pub after : List Waiting
   pub with_it : in_order n big ≡ in_order x.arrival small ++ x ∷ after
@@ -254,7 +254,7 @@ module _ (x : Waiting) (big small : List Waiting) (pushed : ℕ) (more : (f : Wa
             omega (arith, one, more (came_as x.arrival), none_from x.arrival pushed big l numbered))
       ]
 
-  -- where none of the others leaves before it, it leaves
+  -- if none of the others departs before it, the entry departs
   pub queue-popped : AllByRecursion (Precedes x) small → take_least (queue_of pushed big) ≡ Some (record { rank = x.rank; value = x.value; rest = queue_of pushed small })
   unfolding queue_of
   queue-popped h =
@@ -265,7 +265,7 @@ module _ (x : Waiting) (big small : List Waiting) (pushed : ℕ) (more : (f : Wa
       (above x (in_order x.arrival small) (All-in_order (Precedes x) x.arrival small h) (came_before x.arrival small)) (from x s.after (s.kept h))
       ∙ ap (λ z. Some (record { rank = x.rank; value = x.value; rest = z })) (sym (map-append (in_order x.arrival small) s.after) ∙ ap (map pair) (sym s.without))
 
--- one entry more has the next number
+-- the additional entry has the next arrival number
 pub numbered_more : (x : Waiting) (big small : List Waiting) → ((f : Waiting → ℕ) → weight f big ≡ f x + weight f small) → IsNumbered x.arrival small → IsNumbered (x.arrival + 1) big
 numbered_more x big small more h n =
     elim (cases_lt n x.arrival) [

@@ -1,4 +1,4 @@
--- A queue of rank stores: after a push, and after a pop.
+-- A queue of rank stores after a push and after a pop.
 use Rattle.std.proofs.Common.{◌≡◌, ◌≤◌, ◌<◌, ◌+◌, inl, inr, ℕ, zero, suc, Bool, false, cond, eqb, ltb, ◌&&◌, ◌||◌, List, [], ◌∷◌, ◌++◌, map, length, get_or, set, Some, refl, ap, sym, subst, ◌∙◌, arith, length-set, get_or-set_same, get_or-set_other}
 use Rattle.std.specs.List.{AllByRecursion, list_any}
 use Rattle.std.specs.List.Sorted.{IsPermutation}
@@ -18,7 +18,7 @@ use Rattle.block_core.proofs.Weights.{weight-append, weight-IsPermutation, weigh
 use Rattle.block_core.proofs.ArrivalLaws.{All-append, All-weaker, same, same-self, numbered_all, numbered_more, numbered_fewer, weight-ordered, queue-pushed, queue-popped}
 use Rattle.block_core.proofs.StoreLaws.{last_rank-pushed, ranks_up_to, fifo-pushed, behind_all, last_rank-popped, stored_at, stored-set, IsHeadAt, head_found, heads_precede}
 
--- ---- who leaves first
+-- ---- the entry that departs first
 abbrev bad : Waiting → Waiting → ℕ
 bad x w = cond (ltb w.rank x.rank || (eqb w.rank x.rank && ltb w.arrival x.arrival)) 1 0
 
@@ -35,7 +35,7 @@ bad-precedes x w h = record { rank = grind (arith, nat_tests, h); tie = λ e. gr
 all-bad : (x : Waiting) (ws : List Waiting) → AllByRecursion (Precedes x) ws → AllByRecursion (λ w. bad x w ≡ 0) ws
 all-bad x ws h = All-weaker (Precedes x) (λ w. bad x w ≡ 0) (precedes-bad x) ws h
 
--- among lighter lists too
+-- also among fewer entries
 precedes_fewer : (x : Waiting) (us vs : List Waiting) → ((f : Waiting → ℕ) → weight f vs ≤ weight f us) → AllByRecursion (Precedes x) us → AllByRecursion (Precedes x) vs
 precedes_fewer x us vs h k =
     All-weaker (λ w. bad x w ≡ 0) (Precedes x) (bad-precedes x) vs (none-weight (bad x) vs (omega (arith, h (bad x), weight-none (bad x) us (all-bad x us k))))
@@ -61,7 +61,7 @@ moved : (P : Waiting → Type 0) (old new : List (Reverse Waiting)) → IsPermut
 moved P old new p h =
     recursion_from_All P (held new) (All-permutation P (held old) (held new) (IsPermutation-map (λ (r : Reverse Waiting). r.0) old new p) (All-from_recursion P (held old) h))
 
--- ---- what spilled ranks below the last of its flow
+-- ---- a spilled entry ranks below the last of its flow
 abbrev pub passed_by : ℕ → List (List Waiting) → Waiting → Type 0
 passed_by flows stores w = w.rank < last_rank (get_or stores (flow_of flows w.value) [])
 
@@ -147,7 +147,7 @@ module _ (ss : List (List Waiting)) (heads spilled new_spilled : List (Reverse W
   pub spilt_queue : queue_in (x.0.arrival + 1) ss (held new_spilled) ≡ put (queue_in x.0.arrival ss (held spilled)) x.0.rank x.0.value
   spilt_queue = queue-pushed x.0 (all_of ss (held new_spilled)) (all_of ss (held spilled)) (x.0.arrival + 1) spilt_more spilt_is.numbered
 
--- ---- the first of what spilled leaves
+-- ---- the first of the spilled entries departs
 module _ (ss : List (List Waiting)) (heads spilled new_spilled : List (Reverse Waiting)) (pushed : ℕ) (x : Reverse Waiting) (b : IsBlock ss heads spilled pushed)
     (p : IsPermutation spilled (x ∷ new_spilled)) (upper : IsUpperBound heap_order x new_spilled) (first : AllByRecursion (Precedes x.0) (held heads)) (o : IsHeap heap_order new_spilled) where
   pub unspilt_more : (f : Waiting → ℕ) → weight f (all_of ss (held spilled)) ≡ f x.0 + weight f (all_of ss (held new_spilled))
@@ -172,7 +172,7 @@ module _ (ss : List (List Waiting)) (heads spilled new_spilled : List (Reverse W
       queue-popped x.0 (all_of ss (held spilled)) (all_of ss (held new_spilled)) pushed unspilt_more b.numbered
       (All-append (Precedes x.0) (waiting_in ss) (held new_spilled) (heads_precede (length ss) 0 ss x.0 b.in_flows heads_first) (heap_precedes x new_spilled upper))
 
--- ---- the first of the heads leaves
+-- ---- the first of the heads departs
 pub head_at : (ss : List (List Waiting)) (heads left spilled : List (Reverse Waiting)) (pushed : ℕ) (x : Reverse Waiting) → IsBlock ss heads spilled pushed → IsPermutation heads (x ∷ left) → IsHeadAt (length ss) 0 ss x.0
 head_at ss heads left spilled pushed x b p =
     head_found (length ss) 0 ss x.0 b.in_flows (omega (arith, b.heads_are (same x.0), weight-held (same x.0) heads (x ∷ left) p, same-self x.0))
@@ -209,7 +209,7 @@ module _ (ss : List (List Waiting)) (heads left new_heads spilled : List (Revers
       queue-popped x.0 (all_of ss (held spilled)) (all_of (set ss j rest) (held spilled)) pushed led_more b.numbered
       (precedes_fewer x.0 (all_of ss (held spilled)) (all_of (set ss j rest) (held spilled)) (λ f. omega (arith, led_more f)) all_precede)
 
--- ---- which pushes spill
+-- ---- the pushes that spill
 abbrev spilling : ℕ → ℕ → ℕ → Waiting → Bool
 spilling flows j rank w = eqb (flow_of flows w.value) j && ltb rank w.rank
 
@@ -224,14 +224,14 @@ any-pairs flows j rank (w ∷ ws) =
       | inr t ↦ rw t (any-pairs flows j rank ws ∙ ap (λ (n : ℕ). ltb 0 n) (let n : weight (spilling_one flows j rank) ws ≡ 0 + weight (spilling_one flows j rank) ws = omega arith in n))
     ]
 
--- a flow whose last ranks above has one that ranks above
+-- a flow whose last entry has a greater rank has an entry with a greater rank
 some_above : (flows j rank : ℕ) (s : List Waiting) → AllByRecursion (λ (w : Waiting). flow_of flows w.value ≡ j) s → rank < last_rank s → 1 ≤ weight (spilling_one flows j rank) s
 some_above flows j rank [] a l = absurd (omega (arith, l))
 some_above flows j rank (w ∷ []) a l =
     let one : spilling_one flows j rank w ≡ 1 = rw (eq-eqb (flow_of flows w.value) j a.0) (rw (lt-ltb rank w.rank l) refl) in omega (arith, one)
 some_above flows j rank (w ∷ v ∷ s) a l = omega (arith, some_above flows j rank (v ∷ s) a.1 l)
 
--- no store has one, where the last of the flow doesn't rank above
+-- if the last entry of the flow doesn't have a greater rank, no store has such an entry
 none_there : (flows j rank k : ℕ) (s : List Waiting) → AllByRecursion (λ (w : Waiting). flow_of flows w.value ≡ k) s → (k ≡ j → AllByRecursion (λ (w : Waiting). w.rank ≤ rank) s) → AllByRecursion (λ w. spilling_one flows j rank w ≡ 0) s
 none_there flows j rank k [] a h = tt
 none_there flows j rank k (w ∷ s) a h = (
@@ -261,7 +261,7 @@ none_spilled flows j rank ss (w ∷ ws) p l = (
   none_spilled flows j rank ss ws p.1 l,
 )
 
--- whether one of its flow ranks above is told by the last of the flow
+-- the last entry of the flow decides whether any of its entries has a greater rank
 pub spills-by_last : (ss : List (List Waiting)) (heads spilled : List (Reverse Waiting)) (pushed rank value j : ℕ) → IsBlock ss heads spilled pushed → j < length ss → flow_of (length ss) value ≡ j
     → ltb rank (last_rank (get_or ss j [])) ≡ spills_in (length ss) rank value (queue_in pushed ss (held spilled))
 unfolding queue_of
@@ -285,13 +285,13 @@ spills-by_last ss heads spilled pushed rank value j b l e =
     ∙ sym (any-pairs (length ss) j rank (in_order pushed (all_of ss (held spilled))))
     ∙ ap (λ (z : ℕ). list_any (λ (e : ℕ × ℕ). eqb (flow_of (length ss) e.1) z && ltb rank e.0) (map pair (in_order pushed (all_of ss (held spilled))))) (sym e)
 
--- ---- the first of an empty flow leads it
+-- ---- the first entry of an empty flow becomes its head
 pub heads_led : (s : List Waiting) (old new : List (Reverse Waiting)) (x : Reverse Waiting) → length s ≡ 0 → IsPermutation (x ∷ old) new
     → (f : Waiting → ℕ) → weight f (held new) + weight f (head_of s) ≡ weight f (held old) + weight f (head_of (s ++ x.0 ∷ []))
 heads_led [] old new x e p f = omega (arith, weight-held f (x ∷ old) new p)
 heads_led (w ∷ s) old new x e p f = absurd (omega (arith, e))
 
--- the next of a flow leads it
+-- the next entry of a flow becomes its head
 pub heads_next : (s : List Waiting) (old new : List (Reverse Waiting)) (x : Reverse Waiting) → 0 < length s → x.0 ≡ get_or s 0 x.0 → IsPermutation (x ∷ old) new
     → (f : Waiting → ℕ) → weight f (held new) ≡ weight f (held old) + weight f (head_of s)
 heads_next [] old new x l e p f = absurd (omega (arith, l))
@@ -305,7 +305,7 @@ top_is (y ∷ items) x d l e = sym e
 pub heap_behind : (x : Waiting) (top : Reverse Waiting) (items : List (Reverse Waiting)) → Precedes x top.0 → IsUpperBound heap_order top items → AllByRecursion (Precedes x) (held items)
 heap_behind x top items p upper = All-weaker (Precedes top.0) (Precedes x) (λ w q. precedes-trans x top.0 w p q) (held items) (heap_precedes top items upper)
 
--- ---- where no flow has a head, nothing waits
+-- ---- if no flow has a head, no entry is queued in the flows
 no_heads : (ss : List (List Waiting)) → weight (λ _. 1) (heads_of ss) ≡ 0 → (waiting_in ss ≡ []) × ((j : ℕ) → last_rank (get_or ss j []) ≡ 0)
 no_heads [] e = (refl, λ j. refl)
 no_heads ([] ∷ ss) e = let ih = no_heads ss e in (ih.0, λ j. go j ih.1)
@@ -330,7 +330,7 @@ nothing_waits ss [] spilled pushed b e =
     ap (λ z. map pair (in_order pushed (z ++ held spilled))) none.0 ∙ ap (λ z. map pair (in_order pushed z)) (none_passed (length ss) ss (held spilled) none.1 b.passed) ∙ ap (map pair) (in_order-none pushed)
 nothing_waits ss (x ∷ heads) spilled pushed b e = absurd (omega (arith, e))
 
--- ---- how many wait
+-- ---- the number of queued entries
 length-pairs : (ws : List Waiting) → length (map pair ws) ≡ weight (λ _. 1) ws
 length-pairs [] = refl
 length-pairs (w ∷ ws) = omega (arith, length-pairs ws)
@@ -339,7 +339,7 @@ pub length-queue_in : (ss : List (List Waiting)) (heads spilled : List (Reverse 
 unfolding queue_of
 length-queue_in ss heads spilled pushed b = length-pairs (in_order pushed (all_of ss (held spilled))) ∙ weight-ordered (λ _. 1) pushed (all_of ss (held spilled)) b.numbered
 
--- ---- a queue that nothing came to
+-- ---- a queue without arrivals
 nothing_in : (flows k : ℕ) (ss : List (List Waiting)) → AllByRecursion (λ (s : List Waiting). s ≡ []) ss → (waiting_in ss ≡ []) × (heads_of ss ≡ []) × IsStored flows k ss
 nothing_in flows k [] h = (refl, refl, tt)
 nothing_in flows k ([] ∷ ss) h = let ih = nothing_in flows (k + 1) ss h.1 in (ih.0, ih.1, (tt, tt, ih.2))

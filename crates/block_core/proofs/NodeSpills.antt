@@ -37,7 +37,7 @@ spills_of_one rank value (e ∷ q) =
 pub spills_at_one_flow : (flows rank value : ℕ) (q : Queue) → flows ≡ 1 → spills_in flows rank value q ≡ spills_at_leaf rank q
 spills_at_one_flow flows rank value q e = subst (λ (z : ℕ). spills_in z rank value q ≡ spills_at_leaf rank q) (sym e) (spills_of_one rank value q)
 
--- ---- how many may spill in all
+-- ---- the greatest number of spills
 pub fewer_levels : (arities : List ℕ) (digits : List ℕ) → IsLeafAddress arities digits → length digits < nodes arities
 fewer_levels [] [] l = omega arith
 fewer_levels [] (x ∷ a) l = absurd l

@@ -1,4 +1,4 @@
--- The stores as they are kept: the store of one flow is read or written.
+-- The stores as the code keeps them: reads and writes of one flow's store.
 use Rattle.std.proofs.Common.{◌≡◌, ◌≤◌, ◌<◌, ◌+◌, ℕ, zero, suc, List, [], ◌∷◌, ◌++◌, map, length, get_or, set, take, refl, ap, sym, subst, ◌∙◌, arith}
 use Rattle.std.specs.List.{AllByRecursion}
 use Rattle.std.proofs.lemmas.List.{map-set, get_or-map, length-map}
@@ -50,18 +50,18 @@ module _ {A : Type 0} (room : A → ℕ × ℕ) (stores : List A) where
   pub room_set : (spare less flow : ℕ) (new : A) → less ≤ spare → (room new).0 + less ≤ (room new).1 → HasSpare spare (map room stores) → HasSpare less (map room (set stores flow new))
   room_set spare less flow new l r h = subst (λ z. HasSpare less z) (sym (map-set room stores flow new)) (spare_set less (map room stores) flow (room new) r (spare_less spare less (map room stores) l h))
 
--- each store has room for what it has
+-- each store has room for its entries
 pub no_room : {Z : Type 0} (stores : List (VecDeque Waiting Z)) → HasSpare 0 (rooms stores)
 no_room [] = tt
 no_room (s ∷ stores) = (omega (arith, s.small.1), no_room stores)
 
--- ---- the stores are gone through
+-- ---- the loop over the stores
 pub room_done : (n : ℕ) (rooms : List (ℕ × ℕ)) (i : ℕ) (r : ℕ × ℕ) → HasSpare n (take i rooms) → i < length rooms → r.0 + n ≤ r.1 → HasSpare n (take (suc i) (set rooms i r))
 room_done n [] i r h l f = absurd (omega (arith, l))
 room_done n (q ∷ rooms) zero r h l f = (f, tt)
 room_done n (q ∷ rooms) (suc i) r h l f = (h.0, room_done n rooms i r h.1 (omega (arith, l)) f)
 
--- a store more, of which nothing has come
+-- one more store, which is still empty
 pub one_more_empty : (ss : List (List Waiting)) → AllByRecursion (λ (s : List Waiting). s ≡ []) ss → AllByRecursion (λ (s : List Waiting). s ≡ []) (ss ++ [] ∷ [])
 one_more_empty [] h = (refl, tt)
 one_more_empty (s ∷ ss) h = (h.0, one_more_empty ss h.1)

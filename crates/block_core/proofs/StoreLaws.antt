@@ -1,4 +1,4 @@
--- First-in first-out queues, one a flow: an entry comes or goes.
+-- First-in first-out queues, one for each flow: an entry is added or removed.
 use Rattle.std.proofs.Common.{◌≡◌, ◌≤◌, ◌<◌, ◌+◌, ◌-◌, inl, inr, ℕ, zero, suc, List, [], ◌∷◌, ◌++◌, length, get_or, set, refl, ap, sym, ◌∙◌, arith}
 use Rattle.std.specs.List.{AllByRecursion}
 use Rattle.std.proofs.lemmas.Bool.{cases_lt}
@@ -13,7 +13,7 @@ last_rank-pushed [] x = refl
 last_rank-pushed (w ∷ []) x = refl
 last_rank-pushed (w ∷ v ∷ s) x = last_rank-pushed (v ∷ s) x
 
--- the rank of what stands last
+-- the rank of the last entry
 pub last_is : (s : List Waiting) (d : Waiting) → 0 < length s → (get_or s (length s - 1) d).rank ≡ last_rank s
 last_is [] d l = absurd (omega (arith, l))
 last_is (w ∷ []) d l = refl
@@ -30,7 +30,7 @@ pub fifo-pushed : (s : List Waiting) (x : Waiting) → IsFifo s → AllByRecursi
 fifo-pushed [] x h k = (tt, tt)
 fifo-pushed (w ∷ s) x h k = (All-append (Follows w) s (x ∷ []) h.0 (k.0, tt), fifo-pushed s x h.1 k.1)
 
--- what may come behind all of a flow
+-- an entry that may follow all entries of a flow
 pub behind_all : (s : List Waiting) (x : Waiting) → AllByRecursion (λ (w : Waiting). w.rank ≤ last_rank s) s → last_rank s ≤ x.rank → AllByRecursion (λ (w : Waiting). w.arrival < x.arrival) s → AllByRecursion (λ w. Follows w x) s
 behind_all s x low l early = go s low early
   where
@@ -38,7 +38,8 @@ behind_all s x low l early = go s low early
     go [] h k = tt
     go (w ∷ r) h k = (record { rank = omega (arith, h.0, l); arrival = k.0 }, go r h.1 k.1)
 
--- an entry that doesn't leave before the head ranks below the last also when the head has gone
+-- an entry that doesn't depart before the head and ranks below the last entry still does so after
+-- the head has departed
 pub last_rank-popped : (h w : Waiting) (rest : List Waiting) → h.rank ≤ w.rank → w.rank < last_rank (h ∷ rest) → w.rank < last_rank rest
 last_rank-popped h w [] l m = absurd (omega (arith, l, m))
 last_rank-popped h w (v ∷ rest) l m = m
@@ -57,7 +58,7 @@ stored-set flows k (r ∷ ss) zero s h a f = (All-weaker (λ (w : Waiting). flow
 stored-set flows k (r ∷ ss) (suc j) s h a f =
     (h.0, h.1, stored-set flows (k + 1) ss j s h.2 (All-weaker (λ (w : Waiting). flow_of flows w.value ≡ k + suc j) (λ (w : Waiting). flow_of flows w.value ≡ (k + 1) + j) (λ w e. omega (arith, e)) s a) f)
 
--- a head among the heads of all flows is that of its own
+-- each head among the heads of all flows is the head of its own flow
 pub record IsHeadAt (flows k : ℕ) (ss : List (List Waiting)) (h : Waiting) : Type 0 where
   pub place : ℕ
   pub flow : flow_of flows h.value ≡ k + place
@@ -85,7 +86,7 @@ head_found flows k ((w ∷ s) ∷ ss) h i l =
           record { place = suc ih.place; flow = omega (arith, ih.flow); within = omega (arith, ih.within); rest = ih.rest; first = ih.first })
     ]
 
--- what precedes a head precedes all of its flow
+-- an entry that departs before a head departs before all entries of its flow
 follows_precedes : (x w : Waiting) (s : List Waiting) → Precedes x w → AllByRecursion (Follows w) s → AllByRecursion (Precedes x) s
 follows_precedes x w [] p h = tt
 follows_precedes x w (v ∷ s) p h = (

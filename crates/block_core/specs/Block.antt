@@ -1,4 +1,4 @@
--- What a queue of rank stores is and keeps.
+-- The contents and invariants of a queue of rank stores.
 use Rattle.std.specs.Prelude.{◌≡◌, refl, ◌≤◌, ◌<◌, ℕ, ◌+◌, Bool, true, false, ◌&&◌, List, [], ◌∷◌, ◌++◌, length, map, nat_eq, nat_lt, slice_index_or, if◌then◌else◌}
 use Rattle.std.specs.List.{AllByRecursion, list_any}
 use Rattle.std.specs.BinaryHeap.{IsHeap}
@@ -13,21 +13,21 @@ use Rattle.block_core.specs.declared.waiting.Waiting.{Waiting}
 use Rattle.block_core.specs.Arrival.{weight, came_as, queue_of}
 use Rattle.block_core.specs.Stores.{waiting_in, heads_of, last_rank, flow_of, IsStored, three_flows}
 
--- what contracts see of a queue
+-- the state of a queue that contracts refer to
 pub record Block : Type 0 where
   pub flows : ℕ
   pub entries : Queue
   pub pushes : ℕ
   pub spare : ℕ
 
--- an entry of a greater rank waits in the flow of this value
+-- an entry of a greater rank is queued in the flow of this value
 abbrev pub spills_in : ℕ → ℕ → ℕ → Queue → Bool
 spills_in flows rank value q = list_any (λ e. nat_eq (flow_of flows e.1) (flow_of flows value) && nat_lt rank e.0) q
 
 abbrev pub held : List (Reverse Waiting) → List Waiting
 held items = map (λ r. r.0) items
 
--- the heads, those behind them, and what spilled
+-- the heads, the entries after them, and the spilled entries
 abbrev pub all_of : List (List Waiting) → List Waiting → List Waiting
 all_of stores spilled = waiting_in stores ++ spilled
 
@@ -35,19 +35,19 @@ all_of stores spilled = waiting_in stores ++ spilled
 abbrev pub queue_in : ℕ → List (List Waiting) → List Waiting → Queue
 queue_in pushed stores spilled = queue_of pushed (all_of stores spilled)
 
--- by rank, then by number
+-- the order of departure: by rank, then by arrival number
 abbrev pub leaving_order : Waiting → Waiting → Ordering
 leaving_order x y = ordering_then (nat_cmp x.rank y.rank) (ordering_then (nat_cmp x.arrival y.arrival) (nat_cmp x.value y.value))
 
--- the greatest of a heap is the first to leave
+-- the greatest of a heap departs first
 abbrev pub heap_order : Reverse Waiting → Reverse Waiting → Ordering
 heap_order x y = leaving_order y.0 x.0
 
--- each number below this one came to at most one entry, and no other number to any
+-- at most one entry has each arrival number below this one, and no entry has any other
 abbrev pub IsNumbered : ℕ → List Waiting → Type 0
 IsNumbered pushed ws = (n : ℕ) → weight (came_as n) ws ≤ (if nat_lt n pushed then 1 else 0)
 
--- an entry that spilled has a lower rank than the last of its flow
+-- a spilled entry has a lower rank than the last entry of its flow
 abbrev pub IsPassed : List (List Waiting) → Waiting → Type 0
 IsPassed stores w = w.rank < last_rank (slice_index_or stores (flow_of (length stores) w.value) [])
 
@@ -60,20 +60,20 @@ pub record IsBlock (stores : List (List Waiting)) (heads spilled : List (Reverse
   pub heads_order : IsHeap heap_order heads
   pub spilled_order : IsHeap heap_order spilled
 
--- how many entries each store has, and for how many it has room
+-- the number of entries of each store, and its capacity
 abbrev pub rooms : {Z : Type 0} → List (VecDeque Waiting Z) → List (ℕ × ℕ)
 rooms stores = map (λ s. (deque_len s, deque_capacity s)) stores
 
--- each store has room for so many more
+-- each store has room for this number of further entries
 abbrev pub HasSpare : ℕ → List (ℕ × ℕ) → Type 0
 HasSpare spare rooms = AllByRecursion (λ r. r.0 + spare ≤ r.1) rooms
 
--- so many wait, and no more than came
+-- this number of entries is queued, and it is at most the number that arrived
 pub record IsCounted (waiting pushed : ℕ) (stores : List (List Waiting)) (spilled : List Waiting) : Type 0 where
   pub all : weight (λ _. 1) (all_of stores spilled) ≡ waiting
   pub few : waiting ≤ pushed
 
--- ---- the three flows, and an entry of the first that came third and was passed
+-- ---- the three flows, and an entry of the first that arrived with number 3 and spilled
 abbrev pub passed : Waiting
 passed = record { rank = 2; arrival = 3; value = 0 }
 
@@ -93,12 +93,12 @@ pub spills_in-other_flow : spills_in 3 5 2 (queue_in 6 three_flows []) ≡ false
 unfolding queue_of
 spills_in-other_flow = refl
 
--- among one flow, as at a leaf, each entry counts
+-- with one flow, as at a leaf, each entry counts
 pub spills_in-one_flow : spills_in 1 5 2 (queue_in 6 three_flows []) ≡ true
 unfolding queue_of
 spills_in-one_flow = refl
 
--- the rank decides, then which came first, whatever the values
+-- the rank decides, then the order of arrival, whatever the values
 pub leaving_order-rank : leaving_order passed (record { rank = 3; arrival = 1; value = 0 }) ≡ Less
 leaving_order-rank = refl
 

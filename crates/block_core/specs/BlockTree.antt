@@ -1,4 +1,4 @@
--- What a fabric of rank stores is.
+-- The contents of a fabric of rank stores.
 use Rattle.std.specs.Prelude.{ℕ, ◌≡◌, ◌≤◌, ◌*◌, ◌^◌, [], List, map}
 use Rattle.pifo_defs.specs.Queue.{Queue}
 use Rattle.target_defs.specs.Family.{Address, Family, IsEmpty}
@@ -6,7 +6,7 @@ use Rattle.fabric_core.specs.Array.{queues_at, room_at, flows_at}
 use Rattle.fabric_core.specs.Flow.{HasFlows, IsSound}
 use Rattle.block_core.specs.Block.{Block}
 
--- what contracts see of it
+-- the state that contracts refer to
 pub record BlockTree : Type 0 where
   pub arities : List ℕ
   pub queues : List Block
@@ -31,17 +31,18 @@ flows_of queues = map (λ q. q.flows) queues
 abbrev pub block_queues : BlockTree → Family
 block_queues f = queues_at f.arities (entries_of f.queues) 0 1 0
 
--- the spare places of the queue at each address
+-- the free slots of the queue at each address
 abbrev pub block_room : BlockTree → Address → ℕ
 block_room f = room_at f.arities (spare_of f.queues) 0 1 0
 
--- the queues are those of a fabric, each has a flow for each child, or one at a leaf, and no push spilled at 2^32 nodes or more
+-- The queues are those of a fabric. Each has a flow for each child, or one at a leaf. There are at
+-- most 2^32 spills per push.
 pub record IsBlockTree (arities : List ℕ) (queues : List Block) (pushed spilled : ℕ) : Type 0 where
   pub sound : IsSound arities (entries_of queues) (pushes_of queues) pushed
   pub flows : HasFlows arities (flows_at arities (flows_of queues) 0 1 0)
   pub few : spilled ≤ pushed * 2 ^ 32
 
--- a single leaf without an entry, a push, a pop or a spill
+-- a single empty leaf, with no pushes, pops or spills yet
 pub record IsNew (f : BlockTree) : Type 0 where
   pub leaf : f.arities ≡ []
   pub empty : IsEmpty (block_queues f)

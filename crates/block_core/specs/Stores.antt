@@ -1,9 +1,9 @@
--- First-in first-out queues, one a flow.
+-- First-in first-out queues, one for each flow.
 use Rattle.std.specs.Prelude.{◌≡◌, refl, ◌≤◌, ◌<◌, ℕ, ◌+◌, ◌-◌, List, [], ◌∷◌, ◌++◌, map, nat_lt, if◌then◌else◌}
 use Rattle.std.specs.List.{AllByRecursion}
 use Rattle.block_core.specs.declared.waiting.Waiting.{Waiting}
 
--- all that waits in them
+-- all entries queued in them
 abbrev pub waiting_in : List (List Waiting) → List Waiting
 waiting_in [] = []
 waiting_in (s ∷ ss) = s ++ waiting_in ss
@@ -18,13 +18,13 @@ abbrev pub heads_of : List (List Waiting) → List Waiting
 heads_of [] = []
 heads_of (s ∷ ss) = head_of s ++ heads_of ss
 
--- the rank of the last of a flow, 0 where it has none
+-- the rank of the last entry of a flow, or 0 if it is empty
 abbrev pub last_rank : List Waiting → ℕ
 last_rank [] = 0
 last_rank (w ∷ []) = w.rank
 last_rank (w ∷ v ∷ s) = last_rank (v ∷ s)
 
--- the second came later, with no lower rank
+-- the second arrived later, with no lower rank
 pub record Follows (w v : Waiting) : Type 0 where
   pub rank : w.rank ≤ v.rank
   pub arrival : w.arrival < v.arrival
@@ -33,16 +33,17 @@ abbrev pub IsFifo : List Waiting → Type 0
 IsFifo [] = Unit {0}
 IsFifo (w ∷ s) = AllByRecursion (Follows w) s × IsFifo s
 
--- the flow of a value among so many: its own, or the last
+-- the flow of a value, out of `flows`: its own, or the last
 abbrev pub flow_of : ℕ → ℕ → ℕ
 flow_of flows value = if nat_lt value (flows - 1) then value else flows - 1
 
--- in the stores from flow k on, each entry stands in its flow, in order of arrival, and the ranks of a flow don't fall
+-- in the stores from flow k on, each entry is in its flow, in order of arrival, and the ranks of a
+-- flow don't fall
 abbrev pub IsStored : ℕ → ℕ → List (List Waiting) → Type 0
 IsStored flows k [] = Unit {0}
 IsStored flows k (s ∷ ss) = AllByRecursion (λ w. flow_of flows w.value ≡ k) s × IsFifo s × IsStored flows (k + 1) ss
 
--- ---- three flows: two entries wait in the first, none in the second and one in the third
+-- ---- three flows: two entries are queued in the first, none in the second and one in the third
 abbrev pub three_flows : List (List Waiting)
 three_flows =
     (record { rank = 4; arrival = 1; value = 0 } ∷ record { rank = 6; arrival = 5; value = 0 } ∷ [])
@@ -63,7 +64,7 @@ last_rank-of_the_last = refl
 pub last_rank-of_none : last_rank [] ≡ 0
 last_rank-of_none = refl
 
--- a value without a flow of its own goes with the last, and at a leaf all go with the only one
+-- a value without a flow of its own goes to the last flow; at a leaf all values go to the only flow
 pub flow_of-three : map (flow_of 3) (0 ∷ 1 ∷ 2 ∷ 3 ∷ 4 ∷ []) ≡ 0 ∷ 1 ∷ 2 ∷ 2 ∷ 2 ∷ []
 flow_of-three = refl
 

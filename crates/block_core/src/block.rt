@@ -1,4 +1,5 @@
-//! A queue of rank stores: a first-in first-out queue a flow, a scheduler over the heads, and what spilled.
+//! A queue of rank stores: one FIFO for each flow, a scheduler over their heads, and a heap of the
+//! entries that spilled.
 ghost use Rattle.std.specs.Prelude.{◌≡◌, ◌≤◌, ◌<◌, ◌+◌, ℕ, true, false, [], ◌∷◌, ◌++◌, length, map, nat_lt, drop, slice_index_or, OnOk, IfOk};
 ghost use Rattle.std.specs.List.{AllByRecursion};
 ghost use Rattle.std.specs.BinaryHeap.{IsHeap, heap_items, heap_len, heap_capacity};
@@ -17,11 +18,12 @@ use std::cmp::Reverse;
 use std::collections::{BinaryHeap, VecDeque};
 use std::marker::Model;
 
-/// For how many pushes room is made at the least, since each flow has to be looked at.
+/// The least number of pushes for which room is made at once, since making room visits each flow.
 const MARGIN: usize = 8;
 
-/// A queue whose pairs wait behind each other by flow, as long as the ranks of a flow don't fall. The head of each flow stands
-/// in a heap too, and a pair that falls below one of its own flow in a heap of its own.
+/// A queue that keeps the pairs of each flow in a FIFO, as long as the flow's ranks don't fall. The
+/// head of each flow is also in a heap. A pair whose rank is below that of a queued pair of its
+/// flow goes to a heap of its own.
 #[derive(Drop)]
 pub struct BlockPifo {
     /// The pairs of each flow in order of arrival. Their ranks don't fall.
@@ -29,9 +31,9 @@ pub struct BlockPifo {
     heads: BinaryHeap<Reverse<Waiting>>,
     spilled: BinaryHeap<Reverse<Waiting>>,
     pushed: u64,
-    /// How many pairs wait.
+    /// The number of queued pairs.
     waiting: usize,
-    /// For how many pushes there is room, whatever their flows.
+    /// The number of pushes for which there is room, whatever their flows.
     spare: usize,
 }
 
@@ -60,7 +62,7 @@ impl Model for BlockPifo {
 impl BlockPifo {
     ghost use Rattle.block_core.specs.Block.{spills_in};
 
-    /// A queue without a pair, of so many flows.
+    /// Makes an empty queue with this number of flows.
     pub fn new(alloc: Global, flows: u32) -> Result<BlockPifo, AllocError>
         requires some { 1 ≤ flows }
         ensures flows { IfOk result (λ b. b.flows ≡ flows) }
@@ -81,7 +83,7 @@ impl BlockPifo {
         })
     }
 
-    /// Whether an entry of a greater rank waits in the flow of a value.
+    /// Says whether an entry of a greater rank is queued in the flow of a value.
     pub fn spills(&self, rank: u64, value: u64) -> bool
         ensures { result ≡ spills_in self.now.flows rank value self.now.entries }
     {
@@ -136,7 +138,7 @@ impl Pifo for BlockPifo {
         self.waiting += 1;
         self.spare -= 1;
         if falls(&self.stores[flow], rank) {
-            // There is a spare place, so this can't fail.
+            // There is a free slot, so this can't fail.
             let _ = self.spilled.push(Reverse(entry));
             return;
         }
@@ -204,7 +206,8 @@ impl NodeQueue for BlockPifo {
     }
 }
 
-/// The flow of a value among so many. A value without a flow of its own goes with the last.
+/// Returns the flow of a value, out of `flows`. A value without a flow of its own goes to the last
+/// flow.
 fn flow_of(flows: usize, value: u64) -> usize
     requires some { 1 ≤ flows }
     ensures flow { result ≡ flow_of flows value }
@@ -218,7 +221,7 @@ fn flow_of(flows: usize, value: u64) -> usize
     }
 }
 
-/// Whether a rank is below that of the last of a flow.
+/// Says whether a rank is below that of the last entry of a flow.
 fn falls(store: &VecDeque<Waiting>, rank: u64) -> bool
     ensures { result ≡ nat_lt rank (last_rank (deque_items store.now)) }
 {
@@ -228,7 +231,7 @@ fn falls(store: &VecDeque<Waiting>, rank: u64) -> bool
     }
 }
 
-/// Puts an entry last in its flow, and among the heads where it is the first.
+/// Appends an entry to its flow, and adds it to the heads if it is the flow's first.
 fn join_flow(
     store: &mut VecDeque<Waiting>,
     heads: &mut BinaryHeap<Reverse<Waiting>>,
@@ -255,7 +258,7 @@ fn join_flow(
     }
 }
 
-/// Takes the first entry out of its flow, and puts the next one among the heads, if there is one.
+/// Removes the first entry of its flow, and adds the next one to the heads, if there is one.
 fn leave_flow(store: &mut VecDeque<Waiting>, heads: &mut BinaryHeap<Reverse<Waiting>>)
     requires heads_room { heap_len heads.old < heap_capacity heads.old }
     ensures items { deque_items store.new ≡ drop 1 (deque_items store.old) }
@@ -275,7 +278,7 @@ fn leave_flow(store: &mut VecDeque<Waiting>, heads: &mut BinaryHeap<Reverse<Wait
     }
 }
 
-/// Whether the first leaves before the second, or is the same.
+/// Says whether the first departs before the second, or is the same.
 fn precedes(first: &Waiting, second: &Waiting) -> bool
     ensures yes { result ≡ true → Precedes first.now second.now }
     ensures no { result ≡ false → Precedes second.now first.now }
@@ -283,7 +286,7 @@ fn precedes(first: &Waiting, second: &Waiting) -> bool
     first.rank < second.rank || first.rank == second.rank && first.arrival <= second.arrival
 }
 
-/// Whether the first of what spilled leaves before the first of the heads.
+/// Says whether the first of the spilled entries departs before the first of the heads.
 fn spill_is_first(
     heads: &BinaryHeap<Reverse<Waiting>>,
     spilled: &BinaryHeap<Reverse<Waiting>>,
@@ -303,7 +306,7 @@ fn spill_is_first(
     }
 }
 
-/// Makes room for so many more entries in each flow.
+/// Makes room for `more` more entries in each flow.
 fn reserve_each(stores: &mut Vec<VecDeque<Waiting>>, more: usize) -> Result<(), AllocError>
     ensures count { length stores.new.items ≡ length stores.old.items }
     ensures items { map deque_items stores.new.items ≡ map deque_items stores.old.items }

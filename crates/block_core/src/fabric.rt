@@ -1,4 +1,4 @@
-//! The hardware that tells its spills: all queues of rank stores in one array.
+//! The hardware model that counts its spills: all queues of rank stores in one array.
 ghost use Rattle.std.specs.Prelude.{◌≡◌, IfOk};
 
 use crate::block::BlockPifo;
@@ -6,7 +6,8 @@ use fabric_core::{Fabric, NodeQueue, empty_queues, pop_along, push_along, reserv
 use std::alloc::{AllocError, Global};
 use std::marker::Model;
 
-/// A fabric whose queues of rank stores stand in one array, level by level from the root. It counts the pushes that spill.
+/// A fabric with its queues of rank stores in one array, level by level from the root. It counts
+/// the pushes that spill.
 #[derive(Drop)]
 pub struct BlockFabric {
     alloc: Global,
@@ -36,7 +37,7 @@ impl Model for BlockFabric {
 impl BlockFabric {
     ghost use Rattle.block_core.specs.BlockTree.{IsNew};
 
-    /// A single leaf, without an entry, a push, a pop or a spill.
+    /// Makes a fabric of a single empty leaf, with no pushes, pops or spills yet.
     pub fn new(alloc: Global) -> Result<BlockFabric, AllocError>
         ensures { IfOk result IsNew }
     {
@@ -50,7 +51,7 @@ impl BlockFabric {
         })
     }
 
-    /// At how many nodes pushes spilled.
+    /// Returns the number of spills so far. A push counts once for each node at which it spilled.
     pub fn spills(&self) -> u128
         ensures { result ≡ self.now.spilled }
     {

@@ -1,5 +1,6 @@
-//! The second form of the hardware's queues: at each node a rank store a flow, a scheduler over the heads of the flows, and a
-//! queue of what spilled. Begin with src/block.rt and specs/Block.antt.
+//! The second form of the hardware's queues. Each node has a rank store for each flow, a scheduler
+//! over the heads of the flows, and a queue of the entries that spilled. Begin with src/block.rt
+//! and specs/Block.antt.
 #![tactic(auto)]
 
 mod block;

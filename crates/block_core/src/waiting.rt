@@ -1,5 +1,6 @@
-//! An entry that waits in a queue.
-/// An entry with its number: how many pushes there were before its own. The order of leaving is that of the fields.
+//! A queued entry.
+/// An entry with its arrival number: the number of pushes before its own. Entries depart in the
+/// order of the fields.
 #[derive(Clone, Copy, Debug, PartialEq, Eq, PartialOrd, Ord)]
 pub struct Waiting {
     pub rank: u64,

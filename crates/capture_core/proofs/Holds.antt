@@ -1,4 +1,4 @@
--- What a window holds after more bytes of the file were read after those that it held.
+-- The bytes of a window after more bytes of the file were read.
 use Rattle.std.proofs.Common.{◌≡◌, ◌≤◌, ◌+◌, ◌-◌, ℕ, Option, Some, None, List, [], ◌++◌, length, take, drop, sym, ap, ◌∙◌, subst, arith, length-append, append_assoc}
 use Rattle.std.proofs.lemmas.List.{append-nil, drop-take, drop-append-le, take-append-le, length-take-le, length-drop, with_items_is}
 use Rattle.std.proofs.Math.Seq.{take-append-add}
@@ -9,7 +9,7 @@ use borrow.Rule.Slice.PartMut.{post_of}
 use Rattle.outside_core.specs.Files.{Takes, EndsWhereEmpty}
 use Rattle.capture_core.specs.Rest.{rest_of, TakesFront}
 
--- a buffer of which the part from `end` on was written anew
+-- the buffer was overwritten from `end` on
 pub held-read : (xs buf post zs : List ℕ) (at end n : ℕ) → zs ≡ take end xs ++ (buf ++ post) → at ≤ end → end ≤ length xs → n ≤ length buf
     → take (end + n - at) (drop at zs) ≡ take (end - at) (drop at xs) ++ take n buf
 held-read xs buf post zs at end n e low within short =
@@ -24,14 +24,14 @@ held-read xs buf post zs at end n e low within short =
     ∙ take-append-add (take (end - at) (drop at xs)) (buf ++ post) n
     ∙ ap (λ ys. take (end - at) (drop at xs) ++ ys) (take-append-le n buf post short)
 
--- and none of it is held
+-- and none of the new bytes belong to the window
 pub held-refused : (xs buf post zs : List ℕ) (at end : ℕ) → zs ≡ take end xs ++ (buf ++ post) → at ≤ end → end ≤ length xs
     → take (end - at) (drop at zs) ≡ take (end - at) (drop at xs)
 held-refused xs buf post zs at end e low within =
     let same : end + 0 - at ≡ end - at = omega arith in
     ap (λ m. take m (drop at zs)) (sym same) ∙ held-read xs buf post zs at end 0 e low within (omega arith) ∙ append-nil (take (end - at) (drop at xs))
 
--- the buffer as it is after the write
+-- the buffer after the write
 module _ {Z : Type 0} (v : Vec ℕ Z) (shown buf : List ℕ) (at end : ℕ) (same : shown ≡ v.items) (size : length buf ≡ length shown - end) (low : at ≤ end) (within : end ≤ length shown) (whole : length shown ≡ v.len) where
   abbrev pub written : List ℕ
   written = take end shown ++ (buf ++ post_of end (length shown - end) shown)
@@ -53,7 +53,7 @@ module _ {Z : Type 0} (v : Vec ℕ Z) (shown buf : List ℕ) (at end : ℕ) (sam
   pub held-unwritten : take (end - at) (drop at (with_items v written).items) ≡ take (end - at) (drop at v.items)
   held-unwritten = held-refused v.items buf (post_of end (length shown - end) shown) (with_items v written).items at end items low inside
 
--- what is left is the same, of which more is held
+-- the remaining bytes are the same, but more of them are in the window
 pub same-read : (old new : Option (List ℕ)) (buf before now : List ℕ) (n : ℕ) → Takes old new buf n → now ≡ before ++ take n buf → TakesFront (rest_of before old) (rest_of now new) []
 same-read None new buf before now n takes e = tt
 same-read (Some left) new buf before now n takes e =
@@ -64,13 +64,13 @@ pub same-refused : (old new : Option (List ℕ)) (before now : List ℕ) → new
 same-refused None new before now is e = tt
 same-refused (Some left) new before now is e = subst (λ o. TakesFront (Some (before ++ left)) (rest_of now o) []) (sym is) (ap (λ xs. xs ++ left) (sym e))
 
--- where no byte came, all that is left is held
+-- if no byte was read, the window has all remaining bytes
 pub all-read : (old new : Option (List ℕ)) (buf before now : List ℕ) (n : ℕ) → EndsWhereEmpty old n → now ≡ before ++ take n buf → n ≡ 0 → IfSome (rest_of before old) (λ left. left ≡ now)
 all-read None new buf before now n ends e none = tt
 all-read (Some left) new buf before now n ends e none =
     ap (λ xs. before ++ xs) (ends.0 none) ∙ ap (λ m. before ++ take m buf) (sym none) ∙ sym e
 
--- and so it was before, where nothing was taken
+-- the same held before, if nothing was taken
 pub all-held : (old mid : Option (List ℕ)) (now : List ℕ) → TakesFront old mid [] → IfSome mid (λ left. left ≡ now) → IfSome old (λ left. left ≡ now)
 all-held None mid now same all = tt
 all-held (Some old) None now same all = absurd same

@@ -1,18 +1,18 @@
--- What is left stays the same while bytes go from the file into a window, and out of it.
+-- The remaining bytes don't change while bytes move from the file into a window and out of it.
 use Rattle.std.proofs.Common.{◌≡◌, ◌≤◌, ◌+◌, ◌-◌, ℕ, Option, Some, None, List, [], ◌++◌, length, take, drop, sym, ap, ◌∙◌, arith, append_assoc, ◌<◌, min, length-drop, length-append}
 use Rattle.std.proofs.lemmas.List.{take-append-drop, length-take, drop-drop, drop-take, take-take, drop-append-le, nil_from_length}
 use Rattle.outside_core.specs.Files.{EndsWhereEmpty}
 use Rattle.capture_core.specs.Rest.{rest_of, IsWhole, TakesFront}
 use Rattle.capture_core.specs.Passed.{Passes}
 
--- none are held after a read only where nothing was left
+-- a window is empty after a read only if nothing was left
 pub fill-end : (left new : Option (List ℕ)) (held buf : List ℕ) (n : ℕ) → EndsWhereEmpty left n → n ≤ length buf → held ≡ [] → take (n - 0) buf ≡ [] → IsWhole (rest_of held left)
 fill-end None new held buf n end within e none = tt
 fill-end (Some left) new held buf n end within e none =
     let empty : n ≡ 0 = omega (arith, ap length none, length-take (n - 0) buf) in
     ap (λ xs. xs ++ left) e ∙ end.0 empty
 
--- held bytes that are appended are held no longer
+-- bytes of the window that are appended to the output leave the window
 pub copy-moved : (xs ys into new : List ℕ) (at end n : ℕ) → ys ≡ xs → new ≡ into ++ take (at + n - at) (drop at ys) → at + n ≤ end → end ≤ length xs
     → new ++ take (end - (at + n)) (drop (at + n) xs) ≡ into ++ take (end - at) (drop at xs)
 copy-moved xs ys into new at end n e copied h within =
@@ -30,7 +30,7 @@ copy-moved xs ys into new at end n e copied h within =
     ∙ ap (λ zs. into ++ (take n (drop at xs) ++ take (end - (at + n)) zs)) (sym (drop-drop n at xs))
     ∙ ap (λ zs. into ++ zs) halves
 
--- bytes passed over, and then others
+-- bytes skipped, and then more bytes skipped
 pub passes-more : (n m : ℕ) (old mid new : Option (List ℕ)) → Passes n old mid → Passes m mid new → Passes (n + m) old new
 passes-more n m None mid new first second = tt
 passes-more n m (Some old) None new first second = absurd first
@@ -38,7 +38,7 @@ passes-more n m (Some old) (Some mid) None first second = absurd second
 passes-more n m (Some old) (Some mid) (Some new) first second =
     (omega (arith, first.0, second.0, ap length first.1, length-drop n old), second.1 ∙ ap (drop m) first.1 ∙ drop-drop m n old)
 
--- held bytes passed over, behind those that were read
+-- bytes of the window that are skipped after a read
 pub passes-held : (n : ℕ) (old : Option (List ℕ)) (left : Option (List ℕ)) (held now : List ℕ) → TakesFront old (rest_of held left) [] → n ≤ length held → now ≡ drop n held
     → Passes n old (rest_of now left)
 passes-held n None left held now same within passed = tt
@@ -46,11 +46,11 @@ passes-held n (Some old) None held now same within passed = absurd same
 passes-held n (Some old) (Some left) held now same within passed =
     (omega (arith, within, ap length same, length-append held left), ap (λ xs. xs ++ left) passed ∙ sym (drop-append-le n held left within) ∙ ap (drop n) (sym same))
 
--- none were passed over only where nothing was left
+-- no bytes are skipped only if nothing was left
 pub passes-end : (n most : ℕ) (old : Option (List ℕ)) (held : List ℕ) → n ≡ min (length held) most → 0 < most → (held ≡ [] → IsWhole old) → n ≡ 0 → IsWhole old
 passes-end n most old held count some end none = end (nil_from_length held (omega (arith, count, some, none)))
 
--- what is held behind held bytes that were passed over
+-- the window's bytes after some were skipped
 pub held-advanced : (xs : List ℕ) (at end n : ℕ) → at + n ≤ end → take (end - (at + n)) (drop (at + n) xs) ≡ drop n (take (end - at) (drop at xs))
 held-advanced xs at end n h =
     let more : n + (end - (at + n)) ≡ end - at = omega arith in

@@ -1,7 +1,7 @@
--- The bytes that a window holds.
+-- The bytes of a window.
 use Rattle.std.specs.Prelude.{ℕ, ◌-◌, List, take, drop}
 use Rattle.capture_core.specs.declared.window.Window.{Window}
 
--- what was read and isn't used up
+-- the bytes that were read but not consumed
 abbrev pub held : Window → List ℕ
 held w = take (w.end - w.at) (drop w.at w.buffer.items)

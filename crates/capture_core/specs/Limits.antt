@@ -1,6 +1,6 @@
--- How much a reader holds.
+-- The limit of a reader's buffer.
 use Rattle.std.specs.Prelude.{ℕ}
 
--- the most bytes that were read and aren't used up
+-- the most bytes that are read but not consumed
 abbrev pub most_held : ℕ
 most_held = 65536

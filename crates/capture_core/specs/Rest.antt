@@ -1,13 +1,13 @@
--- What is left of a capture: the bytes that a window holds, and those left of the file.
+-- The remaining bytes of a capture: those of the window, and those left of the file.
 use Rattle.std.specs.Prelude.{◌≡◌, ◌<◌, ℕ, Bool, Option, Some, None, List, [], ◌++◌, length, IfSome, IsTrue, ⊤}
 use Rattle.outside_core.specs.Kept.{KeepsShelf}
 
--- where the shelf tells what is left of the file
+-- the remaining bytes, if those left of the file are known to the contract
 abbrev pub rest_of : List ℕ → Option (List ℕ) → Option (List ℕ)
 rest_of held None = None
 rest_of held (Some left) = Some (held ++ left)
 
--- these bytes were taken from the front of what was left
+-- these bytes were taken from the front of the remaining bytes
 abbrev pub TakesFront : Option (List ℕ) → Option (List ℕ) → List ℕ → Type 0
 TakesFront None new bytes = ⊤
 TakesFront (Some old) None bytes = ⊥
@@ -17,15 +17,15 @@ TakesFront (Some old) (Some new) bytes = old ≡ bytes ++ new
 abbrev pub IsWhole : Option (List ℕ) → Type 0
 IsWhole rest = IfSome rest (λ bytes. bytes ≡ [])
 
--- where what was left was told, nothing is left now
+-- nothing is left now, if the remaining bytes before were known to the contract
 abbrev pub LeavesNothing : Option (List ℕ) → Option (List ℕ) → Type 0
 LeavesNothing old new = IfSome old (λ bytes. new ≡ Some [])
 
--- the shelf goes on with the same files, one of them begun, and no fewer faults
+-- the shelf has the same files, one of them is open, and the number of faults didn't decrease
 pub record Serves {S : Type 0} (lends : S → List ℕ → Bool) (content : S → List ℕ → Option (List ℕ)) (begun : S → Bool) (faults : S → ℕ) (old new : S) : Type 0 where
   pub still : IsTrue (begun new)
   pub kept : KeepsShelf lends content faults old new
 
--- fewer bytes than asked for were taken only where they were all that was left
+-- fewer bytes than asked for were taken only if they were all of the remaining bytes
 abbrev pub IsShort : Option (List ℕ) → List ℕ → ℕ → Type 0
 IsShort old bytes most = length bytes < most → IfSome old (λ left. left ≡ bytes)

@@ -2,11 +2,11 @@
 /// A record of a capture, without its captured bytes.
 #[derive(Clone, Copy, PartialEq, Eq, Debug)]
 pub struct Frame {
-    /// The record's place in the capture, counted from 1.
+    /// The record's number in the capture, counted from 1.
     pub number: u64,
-    /// The timestamp of capture, in nanoseconds.
+    /// The capture timestamp, in nanoseconds.
     pub moment: u64,
-    /// How many bytes of the packet were captured.
+    /// The number of captured bytes of the packet.
     pub captured: u32,
     /// The packet's original length in bytes.
     pub len: u32,

@@ -1,5 +1,5 @@
-//! What readers of captures share: the trait that they meet, bytes that were read and aren't used up, and numbers in either
-//! byte order. Begin with specs/Captures.antt.
+//! Code that readers of captures share: their trait, a window of bytes that were read but not
+//! consumed, and numbers in either byte order. Begin with specs/Captures.antt.
 #![tactic(auto)]
 
 mod frame;

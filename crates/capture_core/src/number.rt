@@ -4,7 +4,7 @@ ghost use Rattle.pcap_defs.specs.Number.{long_at, short_at};
 
 use byteorder::{BigEndian, ByteOrder, LittleEndian};
 
-/// The number in four bytes, with the highest first where `big`.
+/// Reads the four-byte number at `at`, big-endian if `big` and else little-endian.
 pub fn read_long(big: bool, bytes: &[u8], at: usize) -> u32
     requires { at + 4 ≤ length bytes.now }
     ensures { result ≡ long_at big at bytes.now }
@@ -16,7 +16,7 @@ pub fn read_long(big: bool, bytes: &[u8], at: usize) -> u32
     }
 }
 
-/// The number in two bytes, with the highest first where `big`.
+/// Reads the two-byte number at `at`, big-endian if `big` and else little-endian.
 pub fn read_short(big: bool, bytes: &[u8], at: usize) -> u16
     requires { at + 2 ≤ length bytes.now }
     ensures { result ≡ short_at big at bytes.now }

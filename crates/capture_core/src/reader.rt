@@ -13,39 +13,40 @@ use crate::window::Window;
 use outside_core::{ReadError, Shelf};
 use std::alloc::Global;
 
-/// Reads a capture packet by packet, whatever its format.
+/// Reads a capture packet by packet, in any capture format.
 pub trait CaptureReader {
-    /// What a file holds, read so.
+    /// The contents of a file in this reader's format.
     ghost contents: { List ℕ → FileContents };
 
-    /// What is left to come, where the shelf tells what is left of the file.
+    /// The contents that are left, if the rest of the file is known to the contract.
     ghost left: { Self → Option (List ℕ) → Option Contents };
 
-    /// How many packets it has handed out.
+    /// The number of packets returned or skipped.
     ghost given: { Self → ℕ };
 
-    /// No call was refused.
+    /// No call has returned an error.
     ghost is_live: { Self → Bool };
 
-    /// The bytes that were read and aren't used up.
+    /// The bytes that were read but not consumed.
     ghost ahead: { Self → List ℕ };
 
-    /// Nothing was used up.
+    /// Nothing was consumed.
     ghost fresh: { Self → Type 0 };
 
-    /// The beginning was read, and no call was refused.
+    /// The beginning was read, and no call has returned an error.
     ghost ready: { Self → Type 0 };
 
-    /// One over the bytes that a window holds, and then those left of the begun file.
+    /// Returns a reader of a window's bytes and then of the rest of the open file.
     fn over(alloc: Global, window: Window) -> Self
         ensures fresh { fresh result }
         ensures ahead { ahead result ≡ held window };
 
-    /// Whether no call was refused.
+    /// Returns whether no call has returned an error.
     fn live(&self) -> bool
         ensures { result ≡ is_live self.now };
 
-    /// Reads the beginning of the file: the bytes at hand, and then those left of the begun file.
+    /// Reads the beginning of the file: from the bytes already read, and then from the rest of the
+    /// open file.
     fn start<S: Shelf>(&mut self, shelf: &mut S) -> Result<(), ReadError>
         requires fresh { fresh self.old }
         requires begun { IsTrue (S.begun shelf.old) }
@@ -64,7 +65,7 @@ pub trait CaptureReader {
         ensures cause { IsErrOf result ReadError.Source → Rose (S.faults shelf.old)
             (S.faults shelf.new) };
 
-    /// Reads the next packet, and puts its captured bytes into `into`, in place of what it held.
+    /// Reads the next packet and replaces the contents of `into` by its captured bytes.
     fn next<S: Shelf>(
         &mut self,
         shelf: &mut S,
@@ -96,7 +97,8 @@ pub trait CaptureReader {
         ensures cause { IsErrOf result ReadError.Source → Rose (S.faults shelf.old)
             (S.faults shelf.new) };
 
-    /// Passes over the next packet, and answers whether there was one. What `scratch` held is lost.
+    /// Skips the next packet, and returns whether there was one. The contents of `scratch` are
+    /// lost.
     fn pass<S: Shelf>(&mut self, shelf: &mut S, scratch: &mut Vec<u8>) -> Result<bool, ReadError>
         requires ready { ready self.old }
         requires begun { IsTrue (S.begun shelf.old) }

@@ -1,14 +1,14 @@
-//! The bytes of a file that were read and aren't used up.
+//! The bytes of a file that were read but not consumed.
 ghost use Rattle.std.specs.Prelude.{◌≤◌, vec_len};
 ghost use Rattle.capture_core.specs.Limits.{most_held};
 
 use outside_core::{Shelf, ShelfError};
 use std::alloc::{AllocError, Global};
 
-/// The most bytes that are read at once and held.
+/// The most bytes that are read at once and kept.
 const WINDOW_LEN: usize = 65_536;
 
-/// Bytes that were read and aren't used up.
+/// Bytes that were read but not consumed.
 #[derive(Drop)]
 pub struct Window {
     buffer: Vec<u8>,
@@ -27,7 +27,7 @@ impl Window {
     ghost use Rattle.capture_core.specs.Limits.{most_held};
     ghost use Rattle.capture_core.specs.Passed.{Passes, IsAll};
 
-    /// One that holds nothing.
+    /// Returns an empty window.
     pub fn new(alloc: Global) -> Window
         ensures { held result ≡ [] }
     {
@@ -38,7 +38,7 @@ impl Window {
         }
     }
 
-    /// The bytes that it holds.
+    /// Returns the bytes of the window.
     pub fn front(&self) -> &[u8]
         ensures { result.now ≡ held self.now }
     {
@@ -51,7 +51,7 @@ impl Window {
         self.at == self.end
     }
 
-    /// Makes room, where there is none yet.
+    /// Allocates the buffer, if that wasn't done yet.
     fn open(&mut self) -> Result<(), AllocError>
         ensures room { OnOk result (0 < vec_len self.new.buffer) }
         ensures held { held self.new ≡ held self.old }
@@ -62,7 +62,7 @@ impl Window {
         Ok(())
     }
 
-    /// Reads the next bytes of the file, in place of those that are used up.
+    /// Reads the next bytes of the file into an empty window.
     fn fill<S: Shelf>(&mut self, shelf: &mut S) -> Result<(), ShelfError>
         requires empty { held self.old ≡ [] }
         requires begun { IsTrue (S.begun shelf.old) }
@@ -81,7 +81,8 @@ impl Window {
         Ok(())
     }
 
-    /// Reads more bytes of the file after those that are held, and returns how many: none only if nothing is left.
+    /// Reads more bytes of the file after those of the window, and returns how many. Returns 0 only
+    /// if nothing is left.
     fn read_on<S: Shelf>(&mut self, shelf: &mut S) -> Result<usize, ShelfError>
         requires room { self.old.end < vec_len self.old.buffer }
         requires begun { IsTrue (S.begun shelf.old) }
@@ -101,7 +102,7 @@ impl Window {
         Ok(count)
     }
 
-    /// Reads on until `count` bytes are held, or all that are left if these are fewer.
+    /// Reads until the window has `count` bytes, or all remaining bytes if there are fewer.
     pub fn hold<S: Shelf>(&mut self, shelf: &mut S, count: usize) -> Result<(), ShelfError>
         requires empty { held self.old ≡ [] }
         requires room { count ≤ most_held }
@@ -125,7 +126,7 @@ impl Window {
         Ok(())
     }
 
-    /// Appends held bytes until there are `most`, as far as there are any.
+    /// Appends bytes of the window to `into` until it has `most` bytes or the window is empty.
     fn copy(&mut self, into: &mut Vec<u8>, most: usize) -> Result<(), AllocError>
         requires { vec_len into.old ≤ most }
         ensures moved { OnOk result (into.new.items ++ held self.new ≡
@@ -141,7 +142,7 @@ impl Window {
         Ok(())
     }
 
-    /// Appends one piece, held or read, unless nothing is left.
+    /// Appends one piece, from the window or newly read, unless nothing is left.
     fn copy_more<S: Shelf>(
         &mut self,
         shelf: &mut S,
@@ -168,8 +169,8 @@ impl Window {
         Ok(())
     }
 
-    /// Moves bytes from the front of what is left after those in `into`, until there are `most`, or all where there are
-    /// fewer.
+    /// Moves bytes from the front of the remaining bytes to the end of `into`, until it has `most`
+    /// bytes or nothing is left.
     pub fn take<S: Shelf>(
         &mut self,
         shelf: &mut S,
@@ -198,8 +199,8 @@ impl Window {
         Ok(())
     }
 
-    /// Moves bytes from the front of what is left into `into`, in place of what it held: `most`, or all where there are
-    /// fewer. Bytes that are all held are moved at once.
+    /// Replaces the contents of `into` by `most` bytes from the front of the remaining bytes, or by
+    /// all if there are fewer. If the window has them all, they are moved at once.
     #[inline(always)]
     pub fn take_anew<S: Shelf>(
         &mut self,
@@ -225,7 +226,7 @@ impl Window {
         self.take(shelf, into, most)
     }
 
-    /// Reads the next bytes of the file where none are held.
+    /// Reads the next bytes of the file if the window is empty.
     fn refill<S: Shelf>(&mut self, shelf: &mut S) -> Result<(), ShelfError>
         requires begun { IsTrue (S.begun shelf.old) }
         ensures same { TakesFront (rest_of (held self.old) (S.left shelf.old))
@@ -242,7 +243,7 @@ impl Window {
         Ok(())
     }
 
-    /// Passes over held bytes, at most this many, and answers how many these were.
+    /// Skips at most `most` bytes of the window, and returns how many.
     pub fn advance(&mut self, most: usize) -> usize
         ensures count { result ≡ min (length (held self.old)) most }
         ensures passed { held self.new ≡ drop result (held self.old) }
@@ -252,8 +253,8 @@ impl Window {
         count
     }
 
-    /// Passes over one piece of at most `most` bytes, held or read, and answers how many these were: none only where
-    /// nothing is left.
+    /// Skips one piece of at most `most` bytes, from the window or newly read, and returns how
+    /// many. Returns 0 only if nothing is left.
     fn pass_more<S: Shelf>(&mut self, shelf: &mut S, most: usize) -> Result<usize, ShelfError>
         requires some { 0 < most }
         requires begun { IsTrue (S.begun shelf.old) }
@@ -270,7 +271,7 @@ impl Window {
         Ok(self.advance(most))
     }
 
-    /// Passes over this many bytes at the front of what is left, or all where there are fewer, and answers how many.
+    /// Skips `count` bytes of the remaining bytes, or all if there are fewer, and returns how many.
     pub fn pass<S: Shelf>(&mut self, shelf: &mut S, count: usize) -> Result<usize, ShelfError>
         requires begun { IsTrue (S.begun shelf.old) }
         ensures passed { IfOk result (λ n. Passes n (rest_of (held self.old) (S.left shelf.old))

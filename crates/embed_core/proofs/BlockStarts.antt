@@ -1,4 +1,4 @@
--- The start of a block, one sibling after another.
+-- The start of a block, computed sibling by sibling.
 use Rattle.std.proofs.Common.{◌≡◌, ℕ, zero, suc, ◌+◌, ◌<◌, ◌≤◌, true, false, cond, List, [], ◌∷◌, length, get_or, drop, refl, sym, ap, ◌∙◌, arith}
 use Rattle.std.proofs.lemmas.List.{drop_all}
 use Rattle.tree_defs.specs.Tree.{Tree, Trees, trees_of, root_of}
@@ -12,7 +12,7 @@ use Rattle.embed_defs.proofs.Blocks.{start-below}
 use Rattle.embed_defs.proofs.CanonicalPlaced.{all-leaves}
 use Rattle.embed_defs.proofs.LeafNumbers.{digits-value}
 
--- the children that are left, from the next on
+-- the remaining children, from the next one on
 rest-children : (ks : List (Tree ℕ)) (i j : ℕ) (k : Tree ℕ) → i < length ks → k ≡ get_or ks i k → children (trees_of (drop i ks)) j ≡ (j, root_of k) ∷ children (trees_of (drop (i + 1) ks)) (suc j)
 rest-children [] i j k l e = absurd (omega arith)
 rest-children (m ∷ ks) zero j k l e =
@@ -25,7 +25,7 @@ rest-children (m ∷ ks) (suc i) j k l e =
 pub start-fits : (a : Arities) (h : ℕ) (ts : Trees ℕ) (y : Child) → ArePositive a → FitsBelow a (needs_at ts) h → IsAmong y (children ts 0) → start_of a (children ts 0) y < leaves_below a h
 start-fits a h ts y p f m = start-below a h (children ts 0) y p m (omega (arith, all-leaves a ts 0, f.room))
 
--- the start so far, and one child more that comes before
+-- the start so far, and one more child that comes before
 module _ (a : Arities) (h i n : ℕ) (ks : List (Tree ℕ)) (y : Child) (k : Tree ℕ) (l : i < length ks) (e : k ≡ get_or ks i k) (f : n ≡ root_of k) (v t : ℕ) (s : v + start_of a (children (trees_of (drop i ks)) i) y ≡ t) where
   step : start_of a (children (trees_of (drop i ks)) i) y ≡ cond (comes_before (i, n) y) (leaves_below a n) 0 + start_of a (children (trees_of (drop (i + 1) ks)) (i + 1)) y
   step =

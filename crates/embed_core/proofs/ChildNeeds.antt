@@ -1,4 +1,4 @@
--- The needs of a topology from those of its children.
+-- The needs of a topology, computed from those of its children.
 use Rattle.std.proofs.Common.{◌≡◌, ℕ, ◌+◌, ◌<◌, ◌≤◌, List, [], ◌∷◌, ◌++◌, length, get_or, take, map, Vec, Global, refl, sym, ap, ◌∙◌, subst, arith}
 use Rattle.std.proofs.lemmas.List.{map_more}
 use Rattle.tree_defs.specs.Tree.{Tree, inner, Trees, trees_of, nodes, nodes_below, SameShape, SameShapes, root_of}

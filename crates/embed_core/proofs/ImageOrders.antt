@@ -24,7 +24,7 @@ behind-tail a c x = let n : eqb a a ≡ true = eq-eqb a a refl in let m : ltb a 
 behind-front : (a b : ℕ) (c x : Address) → a < b → is_behind (a ∷ c) (b ∷ x) ≡ false
 behind-front a b c x l = let m : ltb a b ≡ true = lt-ltb a b l in rw m refl
 
--- digits that are the same decide nothing
+-- equal first digits don't affect the order
 pub behind-drop : (d : ℕ) (a b : Address) → take d a ≡ take d b → is_behind a b ≡ is_behind (drop d a) (drop d b)
 behind-drop zero a b e = refl
 behind-drop (suc d) [] [] e = refl
@@ -35,7 +35,7 @@ behind-drop (suc d) (x ∷ a) (y ∷ b) e =
     let q : take d a ≡ take d b = cc in
     subst (λ (z : ℕ). is_behind (x ∷ a) (z ∷ b) ≡ is_behind (drop d a) (drop d b)) p (behind-tail x a b ∙ behind-drop d a b q)
 
--- a digit that is the same decides nothing
+-- one more equal digit doesn't affect the order
 pub behind-more : (i : ℕ) (a b : Address) → i < length a → length a ≤ length b → get_or a i 0 ≡ get_or b i 0 → is_behind a b ≡ is_behind (drop i a) (drop i b) → is_behind a b ≡ is_behind (drop (i + 1) a) (drop (i + 1) b)
 behind-more i a b l n e h =
     let p : drop i a ≡ get_or a i 0 ∷ drop (i + 1) a = drop_more a i 0 l in
@@ -43,7 +43,7 @@ behind-more i a b l n e h =
     h ∙ ap (λ (z : Address). is_behind z (drop i b)) p ∙ ap (is_behind (get_or a i 0 ∷ drop (i + 1) a)) q
     ∙ ap (λ (z : ℕ). is_behind (get_or a i 0 ∷ drop (i + 1) a) (z ∷ drop (i + 1) b)) (sym e) ∙ behind-tail (get_or a i 0) (drop (i + 1) a) (drop (i + 1) b)
 
--- the first digit that is another one decides
+-- the first digit that differs decides the order
 pub behind-other : (i : ℕ) (a b : Address) → i < length a → length a ≤ length b → (get_or a i 0 ≡ get_or b i 0 → ⊥) → is_behind a b ≡ is_behind (drop i a) (drop i b) → ltb (get_or b i 0) (get_or a i 0) ≡ is_behind a b
 behind-other i a b l n e h =
     let p : drop i a ≡ get_or a i 0 ∷ drop (i + 1) a = drop_more a i 0 l in
@@ -60,7 +60,7 @@ behind-other i a b l n e h =
       ]
     ]
 
--- and where there is none, nothing is behind
+-- if none differs, the first address doesn't come after the second
 pub behind-none : (i : ℕ) (a b : Address) → length a ≤ i → is_behind a b ≡ is_behind (drop i a) (drop i b) → is_behind a b ≡ false
 behind-none i a b l h = h ∙ ap (λ (z : Address). is_behind z (drop i b)) (drop_all i a l) ∙ nothing (drop i b)
   where
@@ -68,7 +68,7 @@ behind-none i a b l h = h ∙ ap (λ (z : Address). is_behind z (drop i b)) (dro
     nothing [] = refl
     nothing (e ∷ d) = refl
 
--- what lies between a prefix of an address and that address begins with the prefix too
+-- an address between a prefix of an address and that address has the same prefix
 pub prefix-between : (c x d : Address) → IsPrefixOf c d → is_behind c x ≡ false → is_behind x d ≡ false → IsPrefixOf c x
 prefix-between [] x d p u v = (x, refl)
 prefix-between (a ∷ c) [] d p u v = absurd (true≢false u)
@@ -89,7 +89,7 @@ prefix-between (a ∷ c) (b ∷ x) (e ∷ d) p u v =
       ]
     ]
 
--- a prefix is not behind
+-- a prefix doesn't come after the address
 pub prefix-not_behind : (c d : Address) → IsPrefixOf c d → is_behind c d ≡ false
 prefix-not_behind [] [] p = refl
 prefix-not_behind [] (e ∷ d) p = refl
@@ -98,7 +98,7 @@ prefix-not_behind (a ∷ c) (e ∷ d) p =
     let p' : (eqb a e ≡ true) × (after c d ≡ _) = some_of_cond _ _ p.0 p.1 in
     subst (λ (z : ℕ). is_behind (a ∷ c) (z ∷ d) ≡ false) (eqb-true a e p'.0) (behind-tail a c d ∙ prefix-not_behind c d (p.0, p'.1))
 
--- the child on whose side the digits lie stands between two places
+-- the child whose image is a prefix of the digits is between two positions of the order
 pub record IsBetween (ks : List (Tree Address)) (order : List ℕ) (digits : Address) (low high : ℕ) : Type 0 where
   pub place : ℕ
   pub behind_low : low ≤ place
@@ -107,7 +107,7 @@ pub record IsBetween (ks : List (Tree Address)) (order : List ℕ) (digits : Add
   pub begins : IsPrefixOf (child_image ks (get_or order place 0)) digits
 
 module _ (ks : List (Tree Address)) (order : List ℕ) (digits : Address) (w : IsImageOrder ks order) where
-  -- at first between all places
+  -- at the start, the range is the whole order
   pub between-start : (i : ℕ) × IsOnSide ks digits i → IsBetween ks order digits 0 (length order)
   between-start s =
       let f : Contains order s.0 = w.whole s.0 s.1.below in
@@ -118,7 +118,7 @@ module _ (ks : List (Tree Address)) (order : List ℕ) (digits : Address) (w : I
   middle-image : (middle : ℕ) (k : Tree Address) → middle < length order → k ≡ get_or ks (get_or order middle 0) k → root_of k ≡ child_image ks (get_or order middle 0)
   middle-image middle k l e = ap root_of (e ∙ get_or_default ks (get_or order middle 0) k (leaf []) (w.within middle l))
 
-  -- the image in the middle is behind the digits
+  -- the image in the middle comes after the digits
   pub between-before : (low high middle : ℕ) (k : Tree Address) → IsBetween ks order digits low high → middle < high → k ≡ get_or ks (get_or order middle 0) k → true ≡ is_behind (root_of k) digits → IsBetween ks order digits low middle
   between-before low high middle k b l e h =
       let v : is_behind (child_image ks (get_or order middle 0)) digits ≡ true = ap (λ (z : Address). is_behind z digits) (sym (middle-image middle k (omega (arith, l, b.inside)) e)) ∙ sym h in
@@ -130,7 +130,7 @@ module _ (ks : List (Tree Address)) (order : List ℕ) (digits : Address) (w : I
             absurd (true≢false (sym v ∙ upto nat_list_cmp_total (child_image ks (get_or order middle 0)) (child_image ks (get_or order b.place 0)) digits f g))
       ]
 
-  -- the image in the middle is not behind the digits
+  -- the image in the middle doesn't come after the digits
   pub between-after : (low high middle : ℕ) (k : Tree Address) → AreApart ks → IsBetween ks order digits low high → middle < high → k ≡ get_or ks (get_or order middle 0) k → false ≡ is_behind (root_of k) digits → IsBetween ks order digits middle high
   between-after low high middle k a b l e h =
       let v : is_behind (child_image ks (get_or order middle 0)) digits ≡ false = ap (λ (z : Address). is_behind z digits) (sym (middle-image middle k (omega (arith, l, b.inside)) e)) ∙ sym h in
@@ -155,12 +155,12 @@ index_of x = x.1
 abbrev pub IsEntry : List (Tree Address) → Entry → Type 0
 IsEntry ks x = (x.1 < length ks) × (x.0.now ≡ child_image ks x.1)
 
--- entries of children, and all of the first n among them
+-- entries of children, including all of the first n
 pub record AreEntered (ks : List (Tree Address)) (xs : List Entry) (n : ℕ) : Type 0 where
   pub right : All (IsEntry ks) xs
   pub whole : (i : ℕ) → i < n → Contains (map index_of xs) i
 
--- one child more
+-- one more child
 pub entered-more : (ks : List (Tree Address)) (xs : List Entry) (n i : ℕ) (k : Tree Address) (x : Bor Address) → n < length ks → k ≡ get_or ks n k → x.now ≡ root_of k → i ≡ n → AreEntered ks xs n → AreEntered ks (xs ++ (x, i) ∷ []) (n + 1)
 entered-more ks xs n i k x l e f g h =
     let q : child_image ks i ≡ root_of k = ap (child_image ks) g ∙ ap root_of (get_or_default ks n (leaf []) k l ∙ sym e) in
@@ -172,11 +172,11 @@ entered-more ks xs n i k x l e f g h =
       ]);
     }
 
--- by the images, and those of equal ones by the indices
+-- the order by image, then by index
 abbrev pub entry_cmp : Entry → Entry → Ordering
 entry_cmp x y = ordering_then (slice_cmp nat_cmp x.0.now y.0.now) (nat_cmp x.1 y.1)
 
--- what isn't less isn't before
+-- an address that isn't less than another in the sort doesn't come before it
 not_behind : (a b : Address) (o : Ordering) → is_lt (ordering_then (slice_cmp nat_cmp b a) o) ≡ false → is_behind a b ≡ false
 not_behind a b o p = ap is_gt (nat_list_cmp_total.antisymm a b) ∙ turned (slice_cmp nat_cmp b a) p
   where

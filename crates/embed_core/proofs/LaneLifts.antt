@@ -1,4 +1,4 @@
--- Steps lifted as if they were ranks tell whose rank stands where.
+-- Lifting the step numbers as if they were ranks shows whose rank is at each depth.
 use Rattle.std.proofs.Common.{◌≡◌, ℕ, zero, suc, ◌+◌, ◌-◌, ◌<◌, List, [], ◌∷◌, ◌++◌, length, get_or, map, replicate, refl, sym, ap, ◌∙◌, subst, arith}
 use Rattle.std.proofs.lemmas.List.{map-append}
 use Rattle.std.proofs.lemmas.List.FromFn.{get_or-range_with_len, length-range_with_len}
@@ -13,7 +13,7 @@ map-replicate : (f : ℕ → ℕ) (n x : ℕ) → map f (replicate n x) ≡ repl
 map-replicate f zero x = refl
 map-replicate f (suc n) x = ap (λ (z : List ℕ). f x ∷ z) (map-replicate f n x)
 
--- a lift takes ranks as they are: other ranks stand where these stood
+-- a lift doesn't depend on the ranks' values: mapping the ranks maps the lifted ranks
 mutual
   lift-map : (f : ℕ → ℕ) (m : Tree Address) (way qs : List ℕ) → length qs ≡ length way + 1 → lift_ranks m way (map f qs) ≡ map f (lift_ranks m way qs)
   lift-map f m way [] n = absurd (omega (arith, n))
@@ -30,7 +30,7 @@ mutual
       ∙ sym (map-append f (replicate (length (root_of t) - d) q) (lift_ranks t way qs))
   lift_below-map f d (more t ts) (suc i) way q qs n = lift_below-map f d ts i way q qs n
 
--- ranks are those at the numbers of the steps
+-- ranks are those at the step numbers
 at-each : (f : ℕ → ℕ) (xs ys : List ℕ) → length ys ≡ length xs → ((k : ℕ) → k < length xs → get_or ys k 0 ≡ f (get_or xs k 0)) → map f xs ≡ ys
 at-each f [] [] n h = refl
 at-each f [] (y ∷ ys) n h = absurd (omega (arith, n))
@@ -45,7 +45,7 @@ read-steps ranks n e =
     at : (k : ℕ) → k < n → get_or (range_with_len 0 n) k 0 ≡ k
     at k l = omega (arith, get_or-range_with_len 0 n k 0 l)
 
--- a lift takes its ranks from those that it is told
+-- a bound on the given ranks also bounds the lifted ranks
 abbrev AreBelow : ℕ → List ℕ → Type 0
 AreBelow b xs = AllByRecursion (λ x. x < b) xs
 
@@ -73,7 +73,7 @@ range-below : (a n : ℕ) → AreBelow (a + n) (range_with_len a n)
 range-below a zero = tt
 range-below a (suc n) = (omega arith, let h : AreBelow (a + 1 + n) (range_with_len (a + 1) n) = range-below (a + 1) n in let e : a + 1 + n ≡ a + suc n = omega arith in subst (λ (z : ℕ). AreBelow z (range_with_len (a + 1) n)) e h)
 
--- what a lane lifts is the lift of the map, and its steps are steps of the way
+-- the lifted path's lift is the map's, and its steps are steps of the path
 module _ (images : Tree Address) (address : Address) (lane : LiftedPath) (is : IsLaneTo images address lane) where
   pub lane-lift : (ranks : List ℕ) → length ranks ≡ length address + 1 → map (slice_index ranks) lane.steps.items ≡ lift_ranks images address ranks
   lane-lift ranks n =

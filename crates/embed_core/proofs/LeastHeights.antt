@@ -16,7 +16,7 @@ each-lower h [] k w l = absurd (omega arith)
 each-lower h (n ∷ ns) zero w l = omega (arith, w.0)
 each-lower h (n ∷ ns) (suc k) w l = each-lower h ns k w.1 (omega arith)
 
--- a height that does not fit is no height that does
+-- if the current height doesn't fit, the least height is greater
 pub goes_on : (a : Arities) (ns : List ℕ) (h : ℕ) → AreWide a → ((carried a ns h ≤ 1) × ((k : ℕ) → k < length ns → get_or ns k 0 < h) → ⊥) → ((m : ℕ) → FitsBelow a ns m → h ≤ m) → (m : ℕ) → FitsBelow a ns m → h + 1 ≤ m
 goes_on a ns h b short least m f =
     let l : h ≤ m = least m f in

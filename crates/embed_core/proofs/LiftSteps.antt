@@ -1,4 +1,4 @@
--- One step down a map along a way.
+-- One step down a map along a path.
 use Rattle.std.proofs.Common.{◌≡◌, ℕ, zero, suc, ◌+◌, ◌-◌, ◌<◌, ◌≤◌, List, [], ◌∷◌, ◌++◌, length, get_or, take, drop, replicate, set, refl, sym, ap, ◌∙◌, subst, arith, append-nil, length-drop}
 use Rattle.std.specs.Prelude.{option_map, unwrap_or}
 use Rattle.std.proofs.lemmas.List.{take_at, drop_all, drop_more, get_or-drop, length-replicate}
@@ -27,7 +27,7 @@ leads-child [] i k digits l e = absurd l
 leads-child (j ∷ ks) zero k digits l e = subst (λ (z : Tree Address). LeadsToLeaf z digits) (sym e) l
 leads-child (j ∷ ks) (suc i) k digits l e = leads-child ks i k digits l e
 
--- what is known of a child's image
+-- the lengths of a child's image
 pub record IsDeeper (h : ℕ) (e : Address) (k : Tree Address) : Type 0 where
   pub longer : length e < length (root_of k)
   pub short : length (root_of k) ≤ h
@@ -44,7 +44,7 @@ ranks-child n [] i k digits r ranks l f = absurd (omega arith)
 ranks-child n (j ∷ ks) zero k digits r ranks l f = ap (λ (z : Tree Address). replicate (length (root_of z) - n) r ++ lift_ranks z digits ranks) (sym f)
 ranks-child n (j ∷ ks) (suc i) k digits r ranks l f = ranks-child n ks i k digits r ranks (omega arith) f
 
--- at a node m with image e, where the way goes down to its child k: what is known of the child, the image and the ranks
+-- the facts about the child k, the image e and the ranks at a node m whose path continues to k
 record IsNext (h : ℕ) (e : Address) (m : Tree Address) (i : ℕ) (way : Address) (r : ℕ) (ranks : List ℕ) (k : Tree Address) : Type 0 where
   root : root_of m ≡ e
   deeper : IsDeeper h e k
@@ -69,7 +69,7 @@ next-within : (e : Address) (ks : List (Tree Address)) (i : ℕ) (way : Address)
 next-within e [] i way l = absurd l
 next-within e (k ∷ ks) i way l = leads-index (k ∷ ks) i way l
 
--- the same at a step of a way
+-- the same, at a step of a path
 pub record IsStep (h : ℕ) (e : Address) (m : Tree Address) (step : ℕ) (digits ranks : List ℕ) (k : Tree Address) : Type 0 where
   pub root : root_of m ≡ e
   pub deeper : IsDeeper h e k
@@ -100,14 +100,14 @@ module _ (e : Address) (ks : List (Tree Address)) (m : Tree Address) (step : ℕ
         ranks_are = ap (λ (z : Address). lift_ranks m z (drop step ranks)) d ∙ ap (lift_ranks m (get_or digits step 0 ∷ drop (step + 1) digits)) r ∙ t.ranks_are;
       }
 
--- the ranks of the child stand behind the first ones
+-- the ranks of the child follow the first ones
 pub ranks-behind : (n r : ℕ) (old new filled : List ℕ) → filled ≡ replicate n r ++ drop n old → put_mid n (length filled - n) filled new ≡ replicate n r ++ new
 ranks-behind n r old new filled e =
     let t : take n filled ≡ replicate n r = ap (take n) e ∙ take_at (replicate n r) (drop n old) n (length-replicate n r) in
     let d : drop (length filled - n) (drop n filled) ≡ [] = drop_all (length filled - n) (drop n filled) (omega (arith, length-drop n filled)) in
     rw (t, d) (ap (λ (z : List ℕ). replicate n r ++ z) (append-nil new))
 
--- what is known at the end of a way: the leaf's image is as long as the digits, and there is one rank
+-- the facts at the end of a path: the leaf's image is as long as the digits, and there is one rank
 pub record IsEnd (h : ℕ) (m : Tree Address) (way ranks lifted : List ℕ) : Type 0 where
   pub long : length (root_of m) ≡ h
   pub image : root_of m ≡ image_map m way

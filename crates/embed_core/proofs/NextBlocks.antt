@@ -1,4 +1,4 @@
--- One digit of a leaf's number changes.
+-- Changes to one digit of a leaf's number.
 use Rattle.std.proofs.Common.{◌≡◌, ℕ, suc, ◌+◌, ◌*◌, ◌<◌, ◌≤◌, List, length, get_or, refl, sym, ap, subst, arith}
 use Rattle.std.proofs.Math.ListN.{set}
 use Rattle.std.proofs.lemmas.List.{length-set}
@@ -22,7 +22,7 @@ module _ (a : Arities) (ds : List ℕ) (i k : ℕ) (e : i + k + 1 ≡ length ds)
       let g : (get_or ds i 0 + 1) * leaves_below a k ≡ get_or ds i 0 * leaves_below a k + leaves_below a k = omega arith in
       omega (arith, f, g)
 
-  -- the digit is the last, and is set to 0
+  -- the digit has its greatest value and is set to 0
   pub carried_on : a k ≤ get_or ds i 0 + 1 → value a (set ds i 0) + leaves_below a (k + 1) ≡ value a ds + leaves_below a k
   carried_on l =
       let f : value a (set ds i 0) + get_or ds i 0 * leaves_below a k ≡ value a ds + 0 * leaves_below a k = value-set a ds i k 0 e in

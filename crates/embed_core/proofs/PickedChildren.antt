@@ -1,4 +1,4 @@
--- The child on whose side a leaf lies is found by its image.
+-- The child below which a leaf is, found by its image.
 use Rattle.std.proofs.Common.{◌≡◌, ℕ, zero, suc, ◌+◌, ◌<◌, ◌≤◌, List, [], ◌∷◌, ◌++◌, length, get_or, take, Option, None, refl, sym, ap, ◌∙◌, subst, arith, append_assoc, append-nil, length-append}
 use Rattle.std.proofs.lemmas.List.{get_or_default, take_at}
 use Rattle.std.specs.Prelude.{option_map, unwrap_or}
@@ -29,7 +29,7 @@ prefix-trans e g f p q =
     let b : f ≡ g ++ q.0 = after-is g f q.0 q.1 in
     subst (IsPrefixOf e) (sym (b ∙ ap (λ (z : Address). z ++ q.0) a ∙ append_assoc e p.0 q.0)) (prefix-append e (p.0 ++ q.0))
 
--- an image begins with those on the way to it
+-- the images of the nodes on the path to a leaf are prefixes of the leaf's image
 mutual
   image-begins : (m : Tree Address) (b : Address) → IsNested m → LeadsToLeaf m b → IsPrefixOf (root_of m) (image_map m b)
   image-begins (leaf e) [] w l = prefix-self e
@@ -98,7 +98,7 @@ same_get [] j k l = absurd (omega arith)
 same_get (x ∷ xs) zero k l = refl
 same_get (x ∷ xs) (suc j) k l = same_get xs j k (omega arith)
 
--- what is known of the child whose image begins a leaf's
+-- the facts about the child whose image is a prefix of a leaf's
 pub record IsFound (m : Tree Address) (image : Address) (ranks : List ℕ) (i : ℕ) (k : Tree Address) : Type 0 where
   pub nested : IsNested k
   pub deep : IsDeep (length image) k
@@ -147,7 +147,7 @@ pub found : (e : Address) (ks : List (Tree Address)) (m : Tree Address) (image :
 found e ks m image ranks i k p l f w q h x =
     subst (λ (z : Tree Address). IsFound z image ranks i k) p (found-at e ks image ranks i k l f (subst IsNested (sym p) w) (subst (IsDeep (length image)) (sym p) q) (subst (λ (z : Tree Address). IsLeafImage z image) (sym p) h) x)
 
--- where there are children, the image of one begins a leaf's
+-- at an inner node, one child's image is a prefix of the leaf's
 pub some_side : (e : Address) (ks : List (Tree Address)) (m : Tree Address) (image : Address) → branch e (trees_of ks) ≡ m → 0 < length ks → IsNested m → IsLeafImage m image → (i : ℕ) × IsOnSide ks image i
 some_side e [] m image p l w h = absurd (omega arith)
 some_side e (u ∷ ks) m image p l w h = below h'.0 h'.1
@@ -168,7 +168,7 @@ some_side e (u ∷ ks) m image p l w h = below h'.0 h'.1
         let y : image_map v path ≡ image = sym (image-child (u ∷ ks) j v path n g) ∙ x.image_is in
         (j, record { below = n; begins = subst (IsPrefixOf (root_of v)) y (image-begins v path (nested-child e (u ∷ ks) j v w' n g) a) })
 
--- no child's image begins another's
+-- no child's image is a prefix of another's
 pub apart : (e : Address) (ks : List (Tree Address)) (m : Tree Address) → branch e (trees_of ks) ≡ m → IsNested m → AreApart ks
 apart e [] m p w i j l n x = absurd (omega arith)
 apart e (u ∷ ks) m p w i j l n x =
@@ -179,7 +179,8 @@ apart e (u ∷ ks) m p w i j l n x =
 pub side-begins : (ks : List (Tree Address)) (image : Address) (i : ℕ) (k : Tree Address) → k ≡ get_or ks i k → IsOnSide ks image i → IsPrefixOf (root_of k) image
 side-begins ks image i k e s = subst (λ (z : Tree Address). IsPrefixOf (root_of z) image) (sym (e ∙ get_or_default ks i k (leaf []) s.below)) s.begins
 
--- down to the depth of their parent's image those of the children have the digits of a leaf's image below it
+-- down to the depth of their parent's image, the children's images have the digits of any leaf's
+-- image below it
 pub beside : (e : Address) (ks : List (Tree Address)) (m : Tree Address) (image : Address) (n : ℕ) → branch e (trees_of ks) ≡ m → n ≡ length (root_of m) → IsNested m → IsDeep (length image) m
     → IsLeafImage m image → EachChild ks (λ c. GoesBeside n c image)
 beside e [] m image n p q w d h = λ i l. absurd (omega arith)

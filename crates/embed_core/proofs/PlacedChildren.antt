@@ -1,4 +1,4 @@
--- What is known of the children of a node that has room for them.
+-- Facts about the children of a node that has room for them.
 use Rattle.std.proofs.Common.{◌≡◌, ℕ, zero, suc, ◌+◌, ◌<◌, ◌≤◌, List, [], ◌∷◌, length, get_or, sym, ap, ◌∙◌, subst, arith, inl, inr}
 use Rattle.tree_defs.specs.Tree.{Tree, leaf, inner, trees_of, nodes, nodes_below, root_of}
 use Rattle.tree_core.specs.TreeContents.{branch}

@@ -1,4 +1,4 @@
--- The children of a node, each from the images that those before it left of a list.
+-- The children of a node, each made from the images that the children before it left.
 use Rattle.std.proofs.Common.{◌≡◌, ℕ, zero, suc, ◌+◌, ◌<◌, ◌≤◌, List, [], ◌∷◌, ◌++◌, length, get_or, drop, map, Vec, Global, refl, sym, ap, ◌∙◌, subst, arith, append_assoc, append-nil}
 use Rattle.std.proofs.lemmas.List.{drop_all, drop_more, get_or_default, get_or-map, length-drop, length-map}
 use Rattle.tree_defs.specs.Tree.{Tree, leaf, inner, more, trees_of, nodes, nodes_below, Address}
@@ -14,12 +14,12 @@ use Rattle.tree_core.proofs.NewTrees.{topology_inner}
 use Rattle.embed_defs.specs.Preorder.{image_in, tree_in, trees_in, HoldsImages}
 use Rattle.embed_defs.proofs.PreorderTrees.{trees_in_preorder_hold_the_images}
 
--- the trees of some topologies one behind the other
+-- the trees of a list of topologies, each made from the images left by the trees before it
 abbrev pub trees_from : List Topology → List Address → List (Tree Address)
 trees_from [] es = []
 trees_from (t ∷ ts) es = tree_in t es ∷ trees_from ts (drop (nodes t) es)
 
--- what they leave of the list
+-- the images that they leave of the list
 abbrev pub behind : List Topology → List Address → List Address
 behind [] es = es
 behind (t ∷ ts) es = behind ts (drop (nodes t) es)
@@ -45,7 +45,7 @@ behind-drop : (ts : List Topology) (es : List Address) → behind ts es ≡ drop
 behind-drop [] es = refl
 behind-drop (t ∷ ts) es = behind-drop ts (drop (nodes t) es) ∙ drop-drop (nodes_below (trees_of ts)) (nodes t) es
 
--- the trees of the first topologies were read, and those behind index i are still in what is left
+-- the trees of the first topologies were read, and the images of those from index i on remain
 pub record AreRead (ts : List Topology) (es : List Address) (i : ℕ) (ms : List (Tree Address)) (left : List Address) : Type 0 where
   pub trees : ms ++ trees_from (drop i ts) left ≡ trees_from ts es
   pub rest : behind (drop i ts) left ≡ behind ts es
@@ -73,11 +73,11 @@ module _ (xs : List Topo) (i : ℕ) (x : Topo) (l : i < length xs) (at : x ≡ g
       let first : get_or (map topology xs) i (topology x) ≡ topology x = get_or-map topology xs i x (topology x) l ∙ ap topology (sym at) in
       drop_more (map topology xs) i (topology x) n ∙ ap (λ (z : Topology). z ∷ drop (i + 1) (map topology xs)) first
 
-  -- there are images enough for the next child
+  -- there are enough images for the next child
   pub next-enough : (es left : List Address) (ms : List (Tree Address)) → AreRead (map topology xs) es i ms left → nodes (topology x) ≤ length left
   next-enough es left ms r = omega (arith, r.enough, ap (λ (ts : List Topology). nodes_below (trees_of ts)) next)
 
-  -- one child more
+  -- one more child
   pub read-next : (es left new : List Address) (ms : List (Tree Address)) (m : Tree Address) → m ≡ tree_in (topology x) left → new ≡ drop (nodes (topology x)) left
       → AreRead (map topology xs) es i ms left → AreRead (map topology xs) es (i + 1) (ms ++ m ∷ []) new
   read-next es left new ms m e f r =

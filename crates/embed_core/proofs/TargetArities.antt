@@ -1,4 +1,4 @@
--- What is known of the arities of a target in range, by height.
+-- Facts about the arities of a target in range, by height.
 use Rattle.std.proofs.Common.{◌≡◌, ℕ, ◌-◌, ◌≤◌, List, length, refl, sym, ◌∙◌, subst, arith}
 use Rattle.tree_defs.specs.Topology.{Topology, complete}
 use Rattle.target_defs.specs.Target.{lowest}
@@ -27,7 +27,7 @@ own_levels t =
     let all : length t.arities - length t.arities ≡ 0 = omega arith in
     heights_give-holds t.arities t.above (length t.arities) ∙ rw all refl
 
--- the least height of the target's levels, as the least of lists of them
+-- the least height in the target's levels, stated for the lists of its lowest levels
 pub least_of_levels : (s : Topology) (t : Target) (n : ℕ) → IsLeast (λ h. HasEmbedding s (complete (down_from (levels_of t) h))) n → IsLeast (λ h. HasEmbedding s (complete (lowest t.arities t.above h))) n
 least_of_levels s t n l = record {
   holds = subst (λ (ds : List ℕ). HasEmbedding s (complete ds)) (heights_give-holds t.arities t.above n) l.holds;

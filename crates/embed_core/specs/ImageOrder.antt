@@ -6,7 +6,7 @@ use Rattle.std.specs.Ordering.{nat_cmp, is_gt}
 use Rattle.tree_defs.specs.Tree.{Tree, leaf, Address, root_of}
 use Rattle.tree_defs.specs.Topology.{IsPrefixOf}
 
--- whether an address is behind another
+-- whether an address comes after another
 abbrev pub is_behind : Address → Address → Bool
 is_behind a b = is_gt (slice_cmp nat_cmp a b)
 
@@ -14,26 +14,26 @@ is_behind a b = is_gt (slice_cmp nat_cmp a b)
 abbrev pub child_image : List (Tree Address) → ℕ → Address
 child_image children i = root_of (slice_index_or children i (leaf []))
 
--- each child's index is in the list, no other is, and no image is behind a later one
+-- The list holds exactly the indices of the children, and no image comes after a later one.
 pub record IsImageOrder (children : List (Tree Address)) (order : List ℕ) : Type 0 where
   pub whole : (i : ℕ) → i < length children → Contains order i
   pub within : (p : ℕ) → p < length order → slice_index order p < length children
   pub rising : (p q : ℕ) → p ≤ q → q < length order → is_behind (child_image children (slice_index order p)) (child_image children (slice_index order q)) ≡ false
 
--- no child's image begins another's
+-- no child's image is a prefix of another's
 abbrev pub AreApart : List (Tree Address) → Type 0
 AreApart children = (i j : ℕ) → i < length children → j < length children → IsPrefixOf (child_image children i) (child_image children j) → i ≡ j
 
--- the image of child i begins the digits
+-- the image of child i is a prefix of the digits
 pub record IsOnSide (children : List (Tree Address)) (digits : Address) (i : ℕ) : Type 0 where
   pub below : i < length children
   pub begins : IsPrefixOf (child_image children i) digits
 
--- what holds of each child's image
+-- each child's image has the property
 abbrev pub EachChild : List (Tree Address) → (Address → Type 0) → Type 0
 EachChild children P = (i : ℕ) → i < length children → P (child_image children i)
 
--- down to a depth an image has the digits of an address, which is no shorter
+-- an image has the same digits as an address down to a depth, and isn't longer than the address
 pub record GoesBeside (depth : ℕ) (image digits : Address) : Type 0 where
   pub same : take depth image ≡ take depth digits
   pub short : length image ≤ length digits

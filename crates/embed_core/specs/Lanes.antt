@@ -1,4 +1,4 @@
--- What a lane says of the leaf to which it leads.
+-- The contents of a lifted path.
 use Rattle.std.specs.Prelude.{◌≡◌, ◌+◌, length}
 use Rattle.std.specs.List.{range_with_len}
 use Rattle.tree_defs.specs.Tree.{Tree, Address}
@@ -6,7 +6,7 @@ use Rattle.embed_defs.specs.Images.{image_map}
 use Rattle.embed_defs.specs.Lift.{lift_ranks}
 use Rattle.embed_core.specs.declared.lifted_path.LiftedPath.{LiftedPath}
 
--- it has the leaf's image, and where a lift has a step's rank it has the number of the step
+-- it has the leaf's image, and for each rank of a lift, the number of the step whose rank it is
 pub record IsLaneTo (images : Tree Address) (address : Address) (lane : LiftedPath) : Type 0 where
   pub image : lane.image.items ≡ image_map images address
   pub long : length lane.steps.items ≡ length lane.image.items + 1

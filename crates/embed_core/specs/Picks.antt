@@ -1,4 +1,4 @@
--- What a pick reads back from an image.
+-- The result of reading a path back from an image.
 use Rattle.std.specs.Prelude.{◌≡◌, ℕ, List, ◌++◌}
 use Rattle.tree_defs.specs.Tree.{Tree, Address, LeadsToLeaf}
 use Rattle.tree_core.specs.Paths.{Way}
@@ -14,7 +14,8 @@ pub record LeadsToImage (m : Tree Address) (image path : Address) : Type 0 where
 abbrev pub IsLeafImage : Tree Address → Address → Type 0
 IsLeafImage m image = (path : Address) × LeadsToImage m image path
 
--- the path to the leaf with this image, and for each node on it the rank at its image's depth, come behind what was there
+-- the path to the leaf with this image is appended, with the rank at the image's depth for each
+-- node on it
 pub record PicksOnto (m : Tree Address) (image : Address) (ranks : List ℕ) (before after : Way) : Type 0 where
   pub path : Address
   pub leads : LeadsToImage m image path

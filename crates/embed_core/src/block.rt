@@ -1,4 +1,4 @@
-//! Blocks of leaves, and the digits of their starts.
+//! Blocks of leaves, and the digits of their first leaves.
 ghost use Rattle.std.specs.Prelude.{◌≡◌, ◌+◌, ◌<◌, length, IfOk};
 ghost use Rattle.tree_defs.specs.Tree.{trees_of};
 ghost use Rattle.tree_defs.specs.Topology.{IsWithin};
@@ -17,14 +17,14 @@ use target_core::Target;
 /// A child's index, and its need.
 pub type Child = (usize, u32);
 
-/// Whether a child is placed before another: by falling need, then in source order.
+/// Says whether a child is placed before another: by falling need, then in source order.
 fn comes_before(child: Child, other: Child) -> bool
     ensures before { result ≡ comes_before child other }
 {
     child.1 > other.1 || child.1 == other.1 && child.0 < other.0
 }
 
-/// The digits of the first leaf of a child's block below a node of this height.
+/// Returns the digits of the first leaf of a child's block, below a node of this height.
 pub fn block_start(
     alloc: Global,
     siblings: &[Needs],
@@ -48,7 +48,7 @@ pub fn block_start(
     Ok(start)
 }
 
-/// Goes from a leaf to the one that lies a block further.
+/// Advances the digits of a leaf by one block.
 fn skip_block(digits: &mut [u32], need: usize, target: &Target)
     requires digits { IsWithin (down_from (levels_of target.now) (length digits.old)) digits.old }
     requires lower { need < length digits.old }

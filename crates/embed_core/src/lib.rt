@@ -1,5 +1,5 @@
-//! Source trees laid into complete trees of queues: the canonical map, or one that is given, and ranks lifted and picked
-//! along it. Begin with specs/Picks.antt.
+//! Embeds source trees in complete trees of queues along the canonical map or a given one, and
+//! lifts and picks ranks along the map. Begin with specs/Picks.antt.
 #![tactic(auto)]
 
 mod block;

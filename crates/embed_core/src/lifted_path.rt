@@ -1,4 +1,4 @@
-//! Ways down to leaves that are laid into a target beforehand.
+//! Paths to leaves, lifted into a target in advance.
 ghost use Rattle.std.specs.Prelude.{◌≡◌, ◌+◌, ◌<◌, length, map, slice_index, IfOk};
 ghost use Rattle.std.specs.List.{AllByRecursion};
 ghost use Rattle.tree_defs.specs.Tree.{LeadsToLeaf};
@@ -9,7 +9,8 @@ use crate::map::{Map, lift};
 use crate::way::Way;
 use std::alloc::{AllocError, Global};
 
-/// The image of a leaf, and for each rank that a lift has along it the step of the way to the leaf whose rank that is.
+/// The image of a leaf, and for each rank that a lift has along it, the step of the path whose rank
+/// it is.
 #[derive(Drop)]
 pub struct LiftedPath {
     image: Vec<u32>,
@@ -17,7 +18,8 @@ pub struct LiftedPath {
 }
 
 impl LiftedPath {
-    /// The lane to the leaf at an address, in a target of this height. The error is want of memory.
+    /// Makes the lifted path to the leaf at an address, in a target of this height. The error means
+    /// out of memory.
     pub fn to(
         alloc: Global,
         map: &Map,
@@ -34,14 +36,14 @@ impl LiftedPath {
         Ok(LiftedPath { image, steps })
     }
 
-    /// The leaf's image.
+    /// Returns the leaf's image.
     pub fn image(&self) -> &[u32]
         ensures image { result.now ≡ self.now.image.items }
     {
         &self.image
     }
 
-    /// Sets `lifted` to the lift of ranks on the way to the leaf.
+    /// Writes the lift of the ranks on the path to the leaf to `lifted`.
     pub fn lift(&self, ranks: &[u64], lifted: &mut [u64])
         requires within { AllByRecursion (λ step. step < length ranks.now) self.now.steps.items }
         requires long { length lifted.old ≡ length self.now.steps.items }
@@ -54,7 +56,7 @@ impl LiftedPath {
     }
 }
 
-/// The way to a leaf with the number of each step as its rank.
+/// The path to a leaf, with each step's number as its rank.
 #[derive(Drop)]
 struct Steps<'a> {
     address: &'a [u32],

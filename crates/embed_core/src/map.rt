@@ -1,4 +1,4 @@
-//! Maps of a topology into a complete tree: the canonical one, and one that is given.
+//! Maps of a topology into a complete tree: the canonical one, or a given one.
 ghost use Rattle.std.specs.Prelude.{◌≡◌, ◌+◌, ◌≤◌, ◌++◌, length, replicate, drop, IfOk, MatchOption, Some, None, Err};
 ghost use Rattle.tree_defs.specs.Tree.{nodes, depth as levels, root_of, trees_of, LeadsToLeaf, SameShape, most_nodes};
 ghost use Rattle.tree_defs.specs.Topology.{IsBranched, complete};
@@ -25,7 +25,8 @@ use std::marker::Model;
 use target_core::Target;
 use tree_core::{Taken, Topo};
 
-/// The image of each node of a topology, and at each node the indices of its children in the order of their images.
+/// The image of each node of a topology, and at each node the indices of its children in the order
+/// of their images.
 #[derive(Drop)]
 pub struct Map {
     image: Vec<u32>,
@@ -56,10 +57,11 @@ impl Model for Map {
     ghost size_decreases = { λ a h. omega (arith, most_le-nodes a.image.items a.children.items) };
 }
 
-/// Why a topology has no map into a target.
+/// Says why a topology has no map into a target.
 #[derive(Debug, Drop)]
 pub enum EmbedFault {
-    /// The target has no room for the topology, or the topology is a single leaf and the target isn't.
+    /// The target has no room for the topology, or the topology is a single leaf and the target
+    /// isn't.
     NoEmbedding,
     NoMemory,
 }
@@ -76,7 +78,7 @@ impl From<AllocError> for EmbedFault {
 }
 
 impl Map {
-    /// The map of a topology that has these images, one for each node in preorder.
+    /// Makes the map of a topology from its images, one for each node in preorder.
     pub fn of(
         alloc: Global,
         topo: &Topo,
@@ -99,7 +101,8 @@ impl Map {
         Ok(map)
     }
 
-    /// The map of a topology whose images stand first among these, and the images behind them.
+    /// Makes the map of a topology from the first of these images, and returns the remaining images
+    /// with it.
     fn first_of<'a>(
         alloc: Global,
         topo: &Topo,
@@ -128,7 +131,7 @@ impl Map {
         }
     }
 
-    /// A node with this image and these children.
+    /// Makes a node with this image and these children.
     fn node(alloc: Global, image: Vec<u32>, children: Vec<Map>) -> Result<Map, AllocError>
         requires few { length children.items ≤ most_nodes }
         ensures node { IfOk result (λ map. map ≡ branch image.items (trees_of children.items)) }
@@ -141,7 +144,7 @@ impl Map {
         })
     }
 
-    /// The image of the node at an address.
+    /// Returns the image of the node at an address.
     pub fn image(&self, address: &[u32]) -> Option<&[u32]>
         ensures image { MatchOption result (image_at self.now address.now ≡ None)
             (λ image. image_at self.now address.now ≡ Some image.now) }
@@ -155,22 +158,23 @@ impl Map {
         }
     }
 
-    /// How many digits the root's image has.
+    /// Returns the number of digits of the root's image.
     fn depth(&self) -> usize
         ensures depth { result ≡ length (root_of self.now) }
     {
         self.image.len()
     }
 
-    /// The root's image.
+    /// Returns the root's image.
     pub(crate) fn root(&self) -> &[u32]
         ensures root { result.now ≡ root_of self.now }
     {
         &self.image
     }
 
-    /// Sets `digits` to the image of the leaf that a way leads to from one of its steps on, and `ranks` to the lifted ranks from
-    /// the root's image on.
+    /// Writes the image of the leaf at the end of a path to `digits`, and the lifted ranks to
+    /// `ranks`. The path is followed from one of its steps on, and the ranks start at the root's
+    /// image.
     fn lift_from<W: Way>(&self, step: usize, way: &W, digits: &mut [u32], ranks: &mut [u64])
         requires leaf { LeadsToLeaf self.now (drop step (W.digits way.now)) }
         requires deep { IsDeep (length digits.old) self.now }
@@ -193,7 +197,8 @@ impl Map {
         }
     }
 
-    /// Appends the path to the leaf with an image, and for each node on it the rank at its image's depth.
+    /// Appends the path to the leaf with an image, and for each node on it, the rank at its image's
+    /// depth.
     fn pick_onto(&self, digits: &[u32], ranks: &[u64], taken: &mut Taken)
         requires deep { IsDeep (length digits.now) self.now }
         requires nested { IsNested self.now }
@@ -213,7 +218,7 @@ impl Map {
         }
     }
 
-    /// The map of what lies below a node that has this height and this image.
+    /// Makes the map of the subtree below a node with this height and this image.
     fn place(
         alloc: Global,
         needs: &Needs,
@@ -248,8 +253,8 @@ fn fill_front(ranks: &mut [u64], count: usize, rank: u64)
     ranks[..count].fill(rank);
 }
 
-/// Sets `digits` to the image of the leaf that a way leads to, and `ranks` to the rank at each depth: that of the deepest node
-/// on the way whose image is no deeper.
+/// Writes the image of the leaf at the end of a path to `digits`, and the rank at each depth to
+/// `ranks`. This is the rank of the deepest node on the path whose image is at most that deep.
 pub fn lift<W: Way>(map: &Map, way: &W, digits: &mut [u32], ranks: &mut [u64])
     requires leaf { LeadsToLeaf map.now (W.digits way.now) }
     requires whole { length (W.ranks way.now) ≡ length (W.digits way.now) + 1 }
@@ -261,7 +266,8 @@ pub fn lift<W: Way>(map: &Map, way: &W, digits: &mut [u32], ranks: &mut [u64])
     map.lift_from(0, way, digits, ranks);
 }
 
-/// Sets `taken` to the address of the leaf with an image, and for each node on the way to it the rank at its image's depth.
+/// Writes the address of the leaf with an image to `taken`, and for each node on the path to it,
+/// the rank at its image's depth.
 pub fn pick(map: &Map, digits: &[u32], ranks: &[u64], taken: &mut Taken)
     requires good { IsGoodMap (length digits.now) map.now }
     requires leaf { IsLeafImage map.now digits.now }
@@ -276,7 +282,7 @@ pub fn pick(map: &Map, digits: &[u32], ranks: &[u64], taken: &mut Taken)
     map.pick_onto(digits, ranks, taken);
 }
 
-/// The canonical map of a topology into a target's complete tree.
+/// Computes the canonical map of a topology into a target's complete tree.
 pub fn embed(alloc: Global, topo: &Topo, target: &Target) -> Result<Map, EmbedFault>
     requires branched { IsBranched (topology topo.now) }
     requires few { nodes (topology topo.now) ≤ most_nodes }
@@ -298,8 +304,8 @@ pub fn embed(alloc: Global, topo: &Topo, target: &Target) -> Result<Map, EmbedFa
     Ok(Map::place(alloc, &needs, target, height, Vec::new(alloc))?)
 }
 
-/// The least height of a complete tree into which the topology can be laid: of the target's lowest levels, and above them
-/// of further ones.
+/// Computes the least height of a complete tree in which the topology can be embedded. The tree has
+/// the target's lowest levels, with further levels above them if necessary.
 pub fn least_height(alloc: Global, topo: &Topo, target: &Target) -> Result<u32, AllocError>
     requires branched { IsBranched (topology topo.now) }
     requires few { nodes (topology topo.now) ≤ most_nodes }

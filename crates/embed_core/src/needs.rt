@@ -41,7 +41,7 @@ impl Model for Needs {
 }
 
 impl Needs {
-    /// The needs of all nodes of a topology.
+    /// Computes the needs of all nodes of a topology.
     pub fn of(alloc: Global, topo: &Topo, target: &Target) -> Result<Needs, AllocError>
         requires branched { IsBranched (topology topo.now) }
         requires few { nodes (topology topo.now) ≤ most_nodes }
@@ -70,14 +70,14 @@ impl Needs {
         }
     }
 
-    /// The needs of the root's children.
+    /// Returns the needs of the root's children.
     pub fn children(&self) -> &[Needs]
         ensures children { branch (root_of self.now) (trees_of result.now) ≡ self.now }
     {
         &self.children
     }
 
-    /// Whether a complete tree of this height has room.
+    /// Says whether a complete tree of this height has room.
     pub fn fit(&self, height: usize) -> bool
         ensures fit { IsTrue result ↔ HasHeight height self.now }
     {
@@ -88,7 +88,7 @@ impl Needs {
         }
     }
 
-    /// The need of the root.
+    /// Returns the need of the root.
     pub fn need(&self) -> u32
         ensures need { result ≡ root_of self.now }
     {
@@ -96,7 +96,7 @@ impl Needs {
     }
 }
 
-/// The least height of a node below which subtrees of these heights fit.
+/// Returns the least height of a node below which subtrees of these heights fit.
 fn least_above(needs: &[u32], target: &Target) -> u32
     requires few { enough needs.now < 2 ^ 32 }
     requires range { IsInRange target.now.arities target.now.above }

@@ -1,4 +1,4 @@
-//! The children of a node in the order of their images, and the search among them.
+//! The children of a node in the order of their images, and a search among them.
 ghost use Rattle.std.specs.Prelude.{◌≡◌, ℕ, ◌≤◌, length, IfOk};
 ghost use Rattle.embed_core.specs.ImageOrder.{IsImageOrder, AreApart, IsOnSide, EachChild, GoesBeside, is_behind};
 ghost use Rattle.tree_defs.specs.Tree.{root_of, most_nodes};
@@ -6,7 +6,7 @@ ghost use Rattle.tree_defs.specs.Tree.{root_of, most_nodes};
 use crate::map::Map;
 use std::alloc::{AllocError, Global};
 
-/// The indices of some maps in the order of their roots' images.
+/// Returns the indices of some maps, in the order of their roots' images.
 pub fn image_order(alloc: Global, children: &[Map]) -> Result<Vec<u32>, AllocError>
     requires few { length children.now ≤ most_nodes }
     ensures order { IfOk result (λ order. IsImageOrder children.now order.items) }
@@ -23,7 +23,8 @@ pub fn image_order(alloc: Global, children: &[Map]) -> Result<Vec<u32>, AllocErr
     Ok(order)
 }
 
-/// The index of the child whose image begins these digits. Down to this depth the digits of all the images are the same.
+/// Returns the index of the child whose image is a prefix of these digits. All images have the same
+/// digits as these down to this depth.
 pub fn child_to(children: &[Map], order: &[u32], depth: usize, digits: &[u32]) -> u32
     requires order { IsImageOrder children.now order.now }
     requires apart { AreApart children.now }
@@ -44,7 +45,8 @@ pub fn child_to(children: &[Map], order: &[u32], depth: usize, digits: &[u32]) -
     order[low]
 }
 
-/// Whether the root's image is behind an address in the order of their digits. Down to this depth the digits are the same.
+/// Says whether the root's image comes after an address in the order of digits. The two have the
+/// same digits down to this depth.
 fn root_is_behind(child: &Map, depth: usize, digits: &[u32]) -> bool
     requires above { GoesBeside depth (root_of child.now) digits.now }
     ensures behind { result ≡ is_behind (root_of child.now) digits.now }

@@ -1,25 +1,26 @@
-//! Ways down a source tree to a leaf.
+//! Paths down a source tree to a leaf.
 ghost use Rattle.std.specs.Prelude.{◌≡◌, ℕ, ◌<◌, List, length, slice_index};
 
 use tree_core::{Path, Taken};
 
-/// A way from the root of a source tree to a leaf: the child's index at each node above the leaf, and a rank for each node,
-/// the root's first.
+/// A path from the root of a source tree to a leaf: the child's index at each node above the leaf,
+/// and a rank for each node, the root's first.
 pub trait Way {
     ghost digits: { Self → List ℕ };
 
     ghost ranks: { Self → List ℕ };
 
-    /// How many steps down there are.
+    /// Returns the number of steps down.
     fn steps(&self) -> usize
         ensures steps { result ≡ length (digits self.now) };
 
-    /// The index of the child to which a step goes.
+    /// Returns the index of the child that a step goes to.
     fn digit(&self, step: usize) -> u32
         requires { step < length (digits self.now) }
         ensures digit { result ≡ slice_index (digits self.now) step };
 
-    /// The rank for the node from which a step goes, and behind the last step that for the leaf.
+    /// Returns the rank for the node that a step starts from. The rank after the last step is the
+    /// leaf's.
     fn rank(&self, step: usize) -> u64
         requires { step < length (ranks self.now) }
         ensures rank { result ≡ slice_index (ranks self.now) step };

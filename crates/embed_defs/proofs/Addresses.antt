@@ -16,7 +16,7 @@ pub after-sum : (e f c : Address) → after (e ++ f) (e ++ c) ≡ after f c
 after-sum [] f c = refl
 after-sum (x ∷ e) f c = rw (eq-eqb x x refl) (after-sum e f c)
 
--- two prefixes of one address, of which neither is a prefix of the other
+-- of two prefixes of one address, one is a prefix of the other
 pub one_prefix : (e f b c d : Address) → after e b ≡ Some c → after f b ≡ Some d → after e f ≡ None → after f e ≡ None → ⊥
 one_prefix [] f b c d p q r s = cc
 one_prefix (x ∷ e) [] b c d p q r s = cc

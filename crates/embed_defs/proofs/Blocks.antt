@@ -1,4 +1,5 @@
--- The blocks of the children of a node lie side by side, so none of their images is a prefix of another.
+-- The blocks of the children of a node are side by side, so none of their images is a prefix of
+-- another.
 use Rattle.std.proofs.Common.{◌≡◌, ℕ, ◌+◌, ◌-◌, ◌<◌, ◌≤◌, cond, List, [], ◌∷◌, ◌++◌, length, Some, None, refl, sym, ap, ◌∙◌, arith, inl, inr, append-nil, length-append}
 use Rattle.std.proofs.lemmas.Bool.{cases_Bool}
 use Rattle.std.proofs.lemmas.List.{nil_from_length, length-take-le}
@@ -46,7 +47,7 @@ starts-own a (z ∷ zs) x y c m = elim m [
   | inr n ↦ omega (arith, term-step a z x y c, starts-own a zs x y c n)
 ]
 
--- all leaves
+-- the number of leaves of all blocks
 abbrev pub all_leaves : Arities → List Child → ℕ
 all_leaves a [] = 0
 all_leaves a (x ∷ xs) = leaves_below a x.1 + all_leaves a xs
@@ -55,7 +56,7 @@ starts-leaves : (a : Arities) (xs : List Child) (y : Child) → start_of a xs y 
 starts-leaves a [] y = omega arith
 starts-leaves a (z ∷ zs) y = omega (arith, term-leaves a z y, starts-leaves a zs y)
 
--- a child's block lies inside
+-- a child's block ends within these leaves
 pub starts-inside : (a : Arities) (xs : List Child) (y : Child) → IsAmong y xs → start_of a xs y + leaves_below a y.1 ≤ all_leaves a xs
 starts-inside a [] y m = absurd m
 starts-inside a (z ∷ zs) y m = elim m [
@@ -73,7 +74,7 @@ pub length-part : (a : Arities) (h : ℕ) (xs : List Child) (y : Child) → leng
 length-part a h xs y = length-take-le (h - y.1) (digits a h (start_of a xs y)) (omega (arith, length-digits a h (start_of a xs y)))
 
 module _ (a : Arities) (h : ℕ) (xs : List Child) (p : ArePositive a) (r : all_leaves a xs ≤ leaves_below a h) where
-  -- the image of a child that comes before is no prefix of a later one's
+  -- the image of an earlier child isn't a prefix of a later one's
   pub earlier-apart : (x y : Child) → IsAmong x xs → IsAmong y xs → x.1 ≤ h → Comes x y → after (image_part a h xs x) (image_part a h xs y) ≡ None
   earlier-apart x y m n l c = none_unless (after (image_part a h xs x) (image_part a h xs y)) (λ w s.
       let t : start_of a xs y < start_of a xs x + leaves_below a (h - (h - x.1))
@@ -81,7 +82,7 @@ module _ (a : Arities) (h : ℕ) (xs : List Child) (p : ArePositive a) (r : all_
       let e : leaves_below a (h - (h - x.1)) ≡ leaves_below a x.1 = ap (leaves_below a) (omega arith) in
       omega (arith, t, e, starts-own a xs x y c m))
 
-  -- nor a later child's a prefix of an earlier one's
+  -- the image of a later child isn't a prefix of an earlier one's
   pub later-apart : (x y : Child) → IsAmong x xs → IsAmong y xs → x.1 ≤ h → Comes x y → after (image_part a h xs y) (image_part a h xs x) ≡ None
   later-apart x y m n l c = none_unless (after (image_part a h xs y) (image_part a h xs x)) (λ w s.
       let e : image_part a h xs x ≡ image_part a h xs y ++ w = after-is (image_part a h xs y) (image_part a h xs x) w s in

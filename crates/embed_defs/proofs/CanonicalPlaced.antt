@@ -15,7 +15,7 @@ use Rattle.embed_defs.proofs.Digits.{digits-within, take-within}
 use Rattle.embed_defs.proofs.Blocks.{all_leaves, start-below, length-part, earlier-apart, later-apart}
 use Rattle.embed_defs.proofs.NeedLeast.{LiesWithin, LieWithin}
 
--- the same with the part of each image beyond its parent's
+-- the canonical placement, with the part of each image beyond its parent's
 abbrev mutual
   pub parts : Arities → ℕ → Address → Tree ℕ → Placement
   parts a h e (leaf n) = leaf e

@@ -1,4 +1,4 @@
--- Counts carried level by level say whether subtrees fit side by side.
+-- Counts carried level by level decide whether subtrees fit side by side.
 use Rattle.std.proofs.Common.{◌≡◌, ℕ, zero, suc, ◌+◌, ◌-◌, ◌*◌, ◌/◌, ◌%◌, min, ◌<◌, ◌≤◌, ◌↔◌, cond, eqb, ltb, List, [], ◌∷◌, length, refl, ap, ◌∙◌, arith, inl, inr, eq-eqb}
 use Rattle.std.specs.Prelude.{sum_by}
 use Rattle.std.proofs.Math.Nat.{mul-le-mul_left, le_of_mul-le-mul_right}
@@ -15,12 +15,12 @@ use Rattle.embed_defs.proofs.Levels.{ArePositive, leaves-positive}
 abbrev pub up : ℕ → ℕ → ℕ
 up d n = n / d + min 1 (n % d)
 
--- how often n stands in a list
+-- the number of times that n occurs in a list
 abbrev pub times : ℕ → List ℕ → ℕ
 times n [] = 0
 times n (m ∷ ms) = cond (eqb m n) 1 0 + times n ms
 
--- how many nodes of height h hold the subtrees that are lower
+-- the number of nodes of height h that hold the subtrees lower than h
 abbrev pub carried : Arities → List ℕ → ℕ → ℕ
 carried a ns zero = 0
 carried a ns (suc h) = up (a h) (carried a ns h + times h ns)
@@ -95,18 +95,19 @@ carried-lower a ns (suc h) m p l =
     let e : m * (a h * leaves_below a h) ≡ (a h * m) * leaves_below a h = omega arith in
     omega (arith, ih, e, split (leaves_below a h) (times h ns) (a h * m) (omega (arith, s)), lower-step a h ns)
 
--- subtrees fit below a node of height h exactly where they are lower, and at most one node of that height is carried
+-- subtrees fit below a node of height h exactly if they are lower and at most one node of that
+-- height is carried
 pub carried-fits : (a : Arities) (ns : List ℕ) (h : ℕ) → ArePositive a → FitsBelow a ns h ↔ (AreLower h ns × (carried a ns h ≤ 1))
 carried-fits a ns h p = (
   λ f. (f.below, lower-carried a ns h 1 p (let e : 1 * leaves_below a h ≡ leaves_below a h = omega arith in omega (arith, e, f.room, lower-all a h ns f.below))),
   λ c. record { below = c.0; room = let e : 1 * leaves_below a h ≡ leaves_below a h = omega arith in omega (arith, e, carried-lower a ns h 1 p c.1, lower-all a h ns c.0) },
 )
 
--- ---- how much is carried
+-- ---- bounds on the count carried
 up-small : (d n : ℕ) → 0 < d → up d n ≤ n
 up-small d n p = up-le d n n p (let l : n * 1 ≤ n * d = mul-le-mul_left n (omega arith) in let e : n * d ≡ d * n = omega arith in omega (arith, l, e))
 
--- the subtrees that are lower than h
+-- the number of subtrees lower than h
 abbrev count_lower : ℕ → List ℕ → ℕ
 count_lower h [] = 0
 count_lower h (n ∷ ns) = cond (ltb n h) 1 0 + count_lower h ns
@@ -132,6 +133,6 @@ carried-few : (a : Arities) (ns : List ℕ) (h : ℕ) → ArePositive a → carr
 carried-few a ns zero p = omega arith
 carried-few a ns (suc h) p = omega (arith, up-small (a h) (carried a ns h + times h ns) (p h), carried-few a ns h p, count-step h ns)
 
--- no more than there are subtrees, with those that begin at this level
+-- the count carried, plus the subtrees that begin at this level, is at most the number of subtrees
 pub carried-bound : (a : Arities) (ns : List ℕ) (h : ℕ) → ArePositive a → carried a ns h + times h ns ≤ length ns
 carried-bound a ns h p = omega (arith, carried-few a ns h p, count-step h ns, count-all (suc h) ns)

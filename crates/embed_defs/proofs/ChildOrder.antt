@@ -1,4 +1,4 @@
--- The order in which children are taken.
+-- The order in which children are placed.
 use Rattle.std.proofs.Common.{◌≡◌, ◌≢◌, ◌<◌, ◌≤◌, ◌⊎◌, true, ◌&&◌, eqb, ltb, refl, sym, arith, inl, inr, eq-eqb}
 use Rattle.std.proofs.lemmas.Bool.{cases_order, eqb-true, ltb-true, lt-ltb, le-ltb, and_parts, or_cases}
 use Rattle.embed_defs.specs.Canonical.{Child, comes_before}

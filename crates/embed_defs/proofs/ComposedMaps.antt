@@ -1,4 +1,4 @@
--- Maps one behind the other, and maps that agree on the addresses.
+-- Composed maps, and maps that agree on the addresses.
 use Rattle.std.proofs.Common.{◌≡◌, [], sym, ap, ◌∙◌, subst}
 use Rattle.tree_defs.specs.Tree.{Address, IsAddressOf, LeadsToLeaf}
 use Rattle.tree_defs.specs.Topology.{Topology}
@@ -19,7 +19,7 @@ embeddings_compose r s t f g e h = record {
   );
 }
 
--- a map that agrees with an embedding on the addresses is one
+-- a map that agrees with an embedding on the addresses is an embedding
 pub agreeing : (s t : Topology) (f g : Address → Address) → ((a : Address) → IsAddressOf s a → g a ≡ f a) → IsEmbedding s t f → IsEmbedding s t g
 agreeing s t f g same e = record {
   root = same [] (s, subtree-root s) ∙ e.root;

@@ -27,7 +27,7 @@ take-within a h (suc k) [] w = tt
 take-within a zero (suc k) (x ∷ e) w = absurd w
 take-within a (suc h) (suc k) (x ∷ e) w = (w.0, take-within a h k e w.1)
 
--- where the first k digits of m begin those of n, n lies at most in the block of m
+-- if the first k digits of m begin those of n, then n isn't after the block of m
 pub digits-prefix : (a : Arities) (h k l m n : ℕ) (w : Address) → ArePositive a → k ≤ h → m < leaves_below a h → n < leaves_below a h
     → after (take k (digits a h m)) (take l (digits a h n)) ≡ Some w → n < m + leaves_below a (h - k)
 digits-prefix a h zero l m n w p k r s e = let q : leaves_below a (h - 0) ≡ leaves_below a h = ap (leaves_below a) (omega arith) in omega (arith, q)

@@ -13,7 +13,7 @@ use Rattle.embed_defs.specs.GoodMaps.{IsDeep, AreDeep, IsNested, AreNested}
 use Rattle.embed_defs.specs.LiftLaws.{EmbeddingsAreGoodMaps}
 use Rattle.embed_defs.proofs.ImageLifts.{other_shape}
 
--- no list within the arities is longer than they are
+-- a list within the arities is at most as long as they are
 within-short : (arities : List ℕ) (a : Address) → IsWithin arities a → length a ≤ length arities
 within-short arities [] w = omega arith
 within-short [] (x ∷ a) w = absurd w
@@ -22,7 +22,7 @@ within-short (d ∷ arities) (x ∷ a) w = omega (arith, within-short arities a 
 prefix-short : (a b : Address) → IsPrefixOf a b → length a ≤ length b
 prefix-short a b p = omega (arith, ap length (after-is a b p.0 p.1), length-append a p.0)
 
--- a longer list of which the other is a prefix, or the same list
+-- a list is longer than its proper prefix
 longer : (a b : Address) → IsPrefixOf a b → (IsPrefixOf b a → ⊥) → length a < length b
 longer a b ([], p) n =
     let e : b ≡ a = cc (after-is a b [] p, append-nil a) in
@@ -32,7 +32,7 @@ longer a b (x ∷ c, p) n = omega (arith, ap length (after-is a b (x ∷ c) p), 
 not_below_parent : (a : Address) (i : ℕ) → IsPrefixOf (a ++ i ∷ []) a → ⊥
 not_below_parent a i p = omega (arith, prefix-short (a ++ i ∷ []) a p, length-append a (i ∷ []))
 
--- siblings' addresses are no prefixes of one another
+-- no sibling's address is a prefix of another's
 same_child : (a : Address) (i j : ℕ) → IsPrefixOf (a ++ i ∷ []) (a ++ j ∷ []) → i ≡ j
 same_child a i j p =
     let q : after (i ∷ []) (j ∷ []) ≡ Some p.0 = sym (after-sum a (i ∷ []) (j ∷ [])) ∙ p.1 in
@@ -54,7 +54,7 @@ module _ (arities : List ℕ) (t : Topology) (images : Tree Address) (s : SameSh
       let l : LeadsToLeaf t a = rw (LeadsToLeaf-topology t a, topology_of-same t images s, ← (LeadsToLeaf-topology images a)) (leads_to images a e p) in
       sym (ap length (image a (leaf e) p)) ∙ (deep_leaf arities (image_map images a) (emb.leaves a l)).1
 
-  -- prefixes among images are those among addresses
+  -- images are prefixes of one another if their addresses are
   prefix-to : (a b : Address) (m u : Tree Address) → subtree images a ≡ Some m → subtree images b ≡ Some u → IsPrefixOf a b → IsPrefixOf (root_of m) (root_of u)
   prefix-to a b m u p q x = rw (sym (image a m p), sym (image b u q)) ((emb.prefixes a b (address a m p) (address b u q)).0 x)
 

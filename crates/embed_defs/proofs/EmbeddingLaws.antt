@@ -1,4 +1,4 @@
--- What the laws of the crate state.
+-- The statements of the laws of the crate.
 use Rattle.std.proofs.Common.{ℕ, [], refl, sym, ap, ◌∙◌}
 use Rattle.tree_defs.specs.Tree.{Tree, root_of}
 use Rattle.tree_defs.specs.Topology.{Topology}

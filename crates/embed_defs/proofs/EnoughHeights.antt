@@ -32,7 +32,7 @@ enough-room a (n ∷ ns) b =
 pub enough-fits : (a : Arities) (ns : List ℕ) → AreWide a → FitsBelow a ns (enough ns)
 enough-fits a ns b = record { below = enough-lower ns; room = enough-room a ns b }
 
--- a need is lower than there are nodes
+-- a need is less than the number of nodes
 mutual
   pub need-nodes : (a : Arities) (m : Tree ℕ) → AreWide a → HoldsNeeds a m → root_of m + 1 ≤ nodes m
   need-nodes a (leaf n) b h = omega (arith, h)

@@ -1,4 +1,4 @@
--- The lift under a good map's images is that under the parts of its placement.
+-- The lift under a good map's images is the lift under the parts of its placement.
 use Rattle.std.proofs.Common.{◌≡◌, ℕ, zero, suc, ◌↔◌, [], ◌∷◌, ◌++◌, Option, Some, None, refl, sym, ap, ◌∙◌, subst}
 use mathlib.Core.Path.{fun_ext}
 use Rattle.pifo_defs.specs.Queue.{Queue}
@@ -20,7 +20,7 @@ use Rattle.embed_defs.proofs.LiftLaw.{image-append, lift-law}
 use Rattle.embed_defs.proofs.LongestPrefixes.{lift-one}
 use Rattle.embed_defs.proofs.MapPlacements.{placed, image-is, shape-relative}
 
--- where there is no child there is no part
+-- a child that doesn't exist has an empty part
 no_part : (ps : Placements) (i : ℕ) → subtree_in ps i [] ≡ None → part ps i ≡ []
 no_part none i p = refl
 no_part (more (leaf e) ps) zero p = cc
@@ -53,7 +53,7 @@ module _ (h : ℕ) (t : SourceTree) (images : Tree Address) (m : Maps h t images
   pub agrees : (a : Address) → IsAddressOf t a → image_map images a ≡ lift_digits p a
   agrees a x = let w : (v : Tree Address) × (subtree images a ≡ Some v) × SameShape x.0 v = same_address t images a x.0 m.shape x.1 in image-is images a w.0 m.good.root m.good.nested w.1
 
-  -- a value that is no child's index goes nowhere
+  -- a value that isn't a child's index maps to no digit
   no_digit : (b a : Address) (e : Address) (ps : Placements) (i : ℕ) → subtree p a ≡ Some (inner e ps) → IsPrefixOf (lift_digits p a) b → subtree t (a ++ i ∷ []) ≡ None
       → digit_beyond (image_map images (a ++ i ∷ [])) b ≡ digit_beyond (lift_digits p (a ++ i ∷ [])) b
   no_digit b a e ps i s x n =
@@ -67,7 +67,7 @@ module _ (h : ℕ) (t : SourceTree) (images : Tree Address) (m : Maps h t images
   same_digit b a e ps s x i (Some u) q = ap (λ (z : Address). digit_beyond z b) (agrees (a ++ i ∷ []) (u, q))
   same_digit b a e ps s x i None q = no_digit b a e ps i s x q
 
-  -- what stands at b is the same under both maps
+  -- the queue at b is the same under both maps
   standing : (b a : Address) (u : SourceTree) (v : Placement) (w : Queue) → subtree t a ≡ Some u → subtree p a ≡ Some v → SameShape u v → IsPrefixOf (lift_digits p a) b
       → StandsAt (image_map images) b a u w ↔ StandsAt (lift_digits p) b a u w
   standing b a (leaf q) v w s r z x = let e : image_map images a ≡ lift_digits p a = agrees a (leaf q, s) in (λ k. rw e at k, λ k. rw e k)
@@ -97,7 +97,7 @@ module _ (h : ℕ) (t : SourceTree) (images : Tree Address) (m : Maps h t images
       let w : (v : Placement) × (subtree p a ≡ Some v) × SameShape u v = same_address t p a u shape s in
       subst (StandsAt (image_map images) b a u) (sym (f b)) ((standing b a u w.0 (lift t p b) s w.1 w.2 k.above).1 (lift-law t p is_placed shape b a u k s))
 
-  -- and no others are
+  -- any lift has the queues that the function gives
   pub lift-is : (F : Family) → IsLift t (image_map images) F → SameQueues F (lift t p)
   lift-is F f = lift-one t p F is_placed shape (λ b a u l s.
       let w : (v : Placement) × (subtree p a ≡ Some v) × SameShape u v = same_address t p a u shape s in

@@ -1,4 +1,5 @@
--- The canonical images are an embedding, and there is one exactly where there is room for the needs.
+-- The canonical images are an embedding, and an embedding exists exactly if there is room for the
+-- needs.
 use Rattle.std.proofs.Common.{◌≡◌, ℕ, zero, suc, ◌↔◌, List, [], ◌∷◌, ◌++◌, Some, refl, sym, ap, ◌∙◌, subst, append_assoc, append-nil}
 use Rattle.std.specs.Prelude.{option_map}
 use Rattle.tree_defs.specs.Tree.{Tree, leaf, inner, Trees, none, more, Address, SameShape, subtree, subtree_in, IsAddressOf, root_of}
@@ -17,7 +18,7 @@ use Rattle.embed_defs.proofs.CanonicalPlaced.{parts, child_parts, own_height, ne
 use Rattle.embed_defs.proofs.PlacedEmbeddings.{placement-embedding}
 use Rattle.embed_defs.proofs.PlacementNeeds.{embedding-need, embedding-height}
 
--- an image is the parts on the way to it
+-- an image is the concatenation of the parts on the path to it
 mutual
   pub canonical-image : (a : Arities) (h : ℕ) (e f : Address) (t u : Tree ℕ) (b : Address) → subtree t b ≡ Some u → image_at (canonical a h e t) b ≡ Some (e ++ lift_digits (parts a h f t) b)
   canonical-image a h e f (leaf n) u [] m = ap Some (sym (append-nil e))
@@ -59,13 +60,14 @@ canonical-embedding a h t m p d l =
     root (leaf n) = refl
     root (inner n ts) = refl
 
--- the need is the least height of a complete (down_from tree into) which there is an embedding
+-- the need is the least height of a complete tree in which there is an embedding
 pub need-embedding : (a : Arities) (t : Topology) (n : ℕ) → ArePositive a → IsNeed a t n → IsLeast (λ h. HasEmbedding t (complete (down_from a h))) n
 need-embedding a t n p m = record {
   holds = (image_map (canonical a n [] m.all), canonical-embedding a n t m.all p m.needs (subst (λ (z : ℕ). HasHeight z m.all) m.root (own_height a m.all m.needs.needs)));
   least = λ h e. embedding-need t a h e.0 e.1 n p m;
 }
 
--- there is an embedding exactly where the height is at least the need, or the root is a leaf and the height 0
+-- an embedding exists exactly if the height is at least the need, or the root is a leaf and the
+-- height is 0
 pub has-embedding : (a : Arities) (h : ℕ) (t : Topology) (m : Tree ℕ) → ArePositive a → AreNeedsOf a t m → HasEmbedding t (complete (down_from a h)) ↔ HasHeight h m
 has-embedding a h t m p d = (λ e. embedding-height t a h e.0 e.1 m p d, λ l. (image_map (canonical a h [] m), canonical-embedding a h t m p d l))

@@ -1,4 +1,4 @@
--- Addresses of which none is a prefix of another leave room: the subtrees below them fit side by side.
+-- If no address is a prefix of another, the subtrees below the addresses fit side by side.
 use Rattle.std.proofs.Common.{◌≡◌, ℕ, zero, suc, ◌+◌, ◌-◌, ◌*◌, ◌<◌, ◌≤◌, eqb, List, [], ◌∷◌, length, refl, sym, ap, subst, arith, inl, inr, eq-eqb}
 use Rattle.std.proofs.lemmas.Bool.{cases_lt, cases_Bool, ne_eqb}
 use Rattle.tree_defs.specs.Tree.{Address}
@@ -7,7 +7,7 @@ use Rattle.target_defs.specs.Levels.{Arities, down_from}
 use Rattle.embed_defs.specs.Need.{leaves_below}
 use Rattle.embed_defs.proofs.PrefixFree.{AreApart, AreNonempty, alone, branch, branch-apart}
 
--- the leaves below addresses
+-- the number of leaves below the addresses
 abbrev pub weight : Arities → ℕ → List Address → ℕ
 weight a h [] = 0
 weight a h (e ∷ es) = leaves_below a (h - length e) + weight a h es
@@ -24,7 +24,7 @@ branch-within a h x ((y ∷ e) ∷ es) w = elim (cases_Bool (eqb x y)) [
   | inr t ↦ rw t (branch-within a h x es w.1)
 ]
 
--- the leaves below the first k digits
+-- the number of leaves below those that begin with one of the first k digits
 abbrev weights : Arities → ℕ → ℕ → List Address → ℕ
 weights a h zero es = 0
 weights a h (suc k) es = weights a h k es + weight a h (branch k es)
@@ -69,7 +69,7 @@ none_short a [] w n = omega arith
 none_short a ([] ∷ es) w n = absurd (n.0 refl)
 none_short a ((x ∷ e) ∷ es) w n = absurd w.0
 
--- the subtrees below fit side by side
+-- the subtrees below the addresses fit side by side
 pub kraft : (h : ℕ) (a : Arities) (es : List Address) → AreAddressesIn a h es → AreApart es → weight a h es ≤ leaves_below a h
 kraft zero a es w s = elim (alone es s) [ inl p ↦ weight-alone a 0 es p | inr n ↦ none_short a es w n ]
 kraft (suc h) a es w s = elim (alone es s) [

@@ -1,9 +1,9 @@
--- Placements whose leaves' images have as many digits as the tree's height.
+-- Placements whose leaves have images with one digit for each level of the tree.
 use Rattle.std.proofs.Common.{◌≡◌, ℕ, ◌-◌, ◌≤◌, length}
 use Rattle.tree_defs.specs.Tree.{leaf, inner, none, more, root_of}
 use Rattle.embed_defs.specs.Placed.{Placement, Placements}
 
--- each leaf's image has h digits behind the root's
+-- each leaf's image has h digits after those of the root's image
 abbrev mutual
   pub IsOfHeight : Placement → ℕ → Type 0
   IsOfHeight (leaf e) h = h ≡ 0

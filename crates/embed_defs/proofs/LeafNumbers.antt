@@ -1,4 +1,4 @@
--- Digits are counted up.
+-- The number of the leaf that digits lead to.
 use Rattle.std.proofs.Common.{◌≡◌, ℕ, zero, suc, ◌+◌, ◌*◌, ◌/◌, ◌%◌, ◌<◌, ◌≤◌, [], ◌∷◌, length, replicate, get_or, refl, ap, ◌∙◌, arith}
 use Rattle.std.proofs.Math.Nat.{mul-le-mul_left}
 use Rattle.std.proofs.Math.ListN.{set}
@@ -20,7 +20,7 @@ value-below a (d ∷ ds) w =
     let f : leaves_below a (length ds) * a (length ds) ≡ a (length ds) * leaves_below a (length ds) = omega arith in
     omega (arith, m, e, f, value-below a ds w.1)
 
--- digits are those of the leaf that they lead to
+-- digits equal those of the leaf that they lead to
 pub digits-value : (a : Arities) (ds : Address) → IsWithin (down_from a (length ds)) ds → digits a (length ds) (value a ds) ≡ ds
 digits-value a [] w = refl
 digits-value a (d ∷ ds) w =
@@ -38,7 +38,7 @@ pub zeros-within : (a : Arities) (h : ℕ) → ArePositive a → IsWithin (down_
 zeros-within a zero p = tt
 zeros-within a (suc h) p = (p h, zeros-within a h p)
 
--- another digit where each node has height k
+-- the leaf's number after one digit is changed, at a level where each node has height k
 pub value-set : (a : Arities) (ds : Address) (i k v : ℕ) → i + k + 1 ≡ length ds → value a (set ds i v) + get_or ds i 0 * leaves_below a k ≡ value a ds + v * leaves_below a k
 value-set a [] i k v e = absurd (omega arith)
 value-set a (d ∷ ds) zero k v e =

@@ -1,4 +1,4 @@
--- How many leaves there are below a node, and addresses that go on below one.
+-- The number of leaves below a node, and addresses that continue below a node.
 use Rattle.std.proofs.Common.{◌≡◌, ℕ, zero, suc, ◌+◌, ◌-◌, ◌*◌, ◌<◌, ◌≤◌, [], ◌∷◌, ◌++◌, length, refl, ap, arith}
 use Rattle.std.proofs.Math.Nat.{mul-le-mul_left}
 use Rattle.tree_defs.specs.Tree.{Address}
@@ -33,7 +33,7 @@ address-short a h [] w = omega arith
 address-short a zero (x ∷ e) w = absurd w
 address-short a (suc h) (x ∷ e) w = omega (arith, address-short a h e w.1)
 
--- an address goes on below the node that it leads to
+-- an address may continue with an address below the node that it leads to
 pub address-append : (a : Arities) (h : ℕ) (e f : Address) → IsWithin (down_from a h) e → IsWithin (down_from a (h - length e)) f → IsWithin (down_from a h) (e ++ f)
 address-append a h [] f w v = let n : h - length {A = ℕ} [] ≡ h = omega arith in rw n at v
 address-append a zero (x ∷ e) f w v = absurd w

@@ -1,4 +1,4 @@
--- Addresses that pass others, and a push along an address that begins with another.
+-- Addresses that pass others, and a push along an address with a given prefix.
 use Rattle.std.proofs.Common.{◌≡◌, ℕ, true, eqb, List, [], ◌∷◌, ◌++◌, length, replicate, Some, None, refl, sym, ap, ◌∙◌, eq-eqb, inl, inr}
 use Rattle.std.proofs.lemmas.Bool.{eqb-true, cases_Bool}
 use Rattle.pifo_defs.specs.Queue.{put}
@@ -12,7 +12,7 @@ pub digit_beyond-sum : (e f c : Address) → digit_beyond (e ++ f) (e ++ c) ≡ 
 digit_beyond-sum [] f c = refl
 digit_beyond-sum (x ∷ e) f c = rw (eq-eqb x x refl) (digit_beyond-sum e f c)
 
--- an address that passes b does so with no address apart from it at or above b
+-- if an address passes b, no address apart from it is at or above b
 pub none_above : (e f b c : Address) (x : ℕ) → digit_beyond e b ≡ Some x → after f b ≡ Some c → after f e ≡ None → ⊥
 none_above [] f b c x p q r = cc
 none_above (x ∷ e) [] b c d p q r = cc
@@ -22,7 +22,7 @@ none_above (x ∷ e) (y ∷ f) (z ∷ b) c d p q r =
     let q' : (eqb y z ≡ true) × (after f b ≡ Some c) = some_of_cond _ _ c q in
     none_above e f b c d p'.1 q'.1 (rw (eq-eqb y x (eqb-true y z q'.0 ∙ sym (eqb-true x z p'.0))) at r)
 
--- nor is it itself at or above b
+-- and the address itself isn't at or above b
 pub not_after : (e b : Address) (x : ℕ) → digit_beyond e b ≡ Some x → after e b ≡ None
 not_after [] b x p = cc
 not_after (x ∷ e) [] d p = refl
@@ -30,7 +30,7 @@ not_after (x ∷ e) (z ∷ b) d p =
     let p' : (eqb x z ≡ true) × (digit_beyond e b ≡ Some d) = some_of_cond _ _ d p in
     rw p'.0 (not_after e b d p'.1)
 
--- a push along an address that begins with e, with one rank as far as e goes
+-- a push along an address that begins with e, with the same rank at each node along e
 module _ (a : Address) (rank : ℕ) (ranks : List ℕ) (item : ℕ) where
   pub push_after : (e b c : Address) (F : Family) → after e b ≡ Some c
       → push_along (e ++ a) (replicate (length e) rank ++ ranks) item F b ≡ push_along a ranks item (λ d. F (e ++ d)) c

@@ -1,4 +1,5 @@
--- The lift, which goes down tree and placement together, has at each address what the longest address above it says.
+-- The lift by recursion on tree and placement agrees, at each address, with the definition by the
+-- longest address above it.
 use Rattle.std.proofs.Common.{◌≡◌, ℕ, zero, suc, ◌≤◌, [], ◌∷◌, ◌++◌, length, Option, Some, None, refl, sym, ap, ◌∙◌, subst, arith, append_assoc, append-nil, length-append}
 use Rattle.std.specs.Prelude.{unwrap_or}
 use mathlib.Core.Path.{fun_ext}
@@ -77,7 +78,7 @@ nothing_at none ps c f = refl
 nothing_at (more t ts) none c f = refl
 nothing_at (more t ts) (more p ps) c f = rw (f zero tt) (nothing_at ts ps c (λ i h. f (suc i) h))
 
--- ---- the lift in the subject's words
+-- ---- the lift as the specification defines it
 law_at : (t : Tree Queue) (p : Placement) (b a c : Address) → IsLongestAt t (lift_digits p) b a → b ≡ lift_digits p a ++ c
     → (u : Tree Queue) (v : Placement) → subtree t a ≡ Some u → subtree p a ≡ Some v → SameShape u v → lift t p b ≡ lift u v c → StandsAt (lift_digits p) b a u (lift t p b)
 law_at t p b a [] l is (leaf q) (leaf e) m n s f = (λ _. f, λ d. absurd (d (sym (is ∙ append-nil (lift_digits p a)))))

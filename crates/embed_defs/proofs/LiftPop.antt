@@ -24,7 +24,7 @@ pub option_map-map : {A B C : Type 0} (f : B → C) (g : A → B) (o : Option A)
 option_map-map f g None = refl
 option_map-map f g (Some x) = refl
 
--- the family after a pop that went along e: R on the way, G at and below e, F elsewhere
+-- the family after a pop along e: R on the path, G at and below e, F elsewhere
 abbrev pub walked_left : Address → Family → Family → Family → Family
 walked_left [] F R G = G
 walked_left (x ∷ e) F R G = with_branch F (R []) x (walked_left e (below F x) (below R x) G)
@@ -32,7 +32,7 @@ walked_left (x ∷ e) F R G = with_branch F (R []) x (walked_left e (below F x) 
 abbrev pub walked : Address → ℕ → Family → Family → Popping Family → Popping Family
 walked e rank F R p = record { value = p.value; digits = e ++ p.digits; ranks = replicate (length e) rank ++ p.ranks; left = walked_left e F R p.left }
 
--- a pop goes along e, if at each address on the way the digit of e is taken
+-- a pop goes along e if each address on the path pops the next digit of e
 pub pop_along-walk : (e : Address) (k rank : ℕ) (F R : Family)
     → ((c : Address) (x : ℕ) → digit_beyond e c ≡ Some x → take_least (F c) ≡ Some (record { rank = rank; value = x; rest = R c }))
     → pop_along (length e + k) F ≡ option_map (walked e rank F R) (pop_along k (λ c. F (e ++ c)))
@@ -48,7 +48,7 @@ pop_along-walk (x ∷ e) k rank F R h =
     rw (n, h [] x refl, pop_along-walk e k rank (below F x) (below R x) step)
     (option_map-map (popped_digit F (record { rank = rank; value = x; rest = R [] })) (walked e rank (below F x) (below R x)) (pop_along k (λ c. F (x ∷ e ++ c))))
 
--- what the family has after the pop
+-- the family's queues after the pop
 pub walked-after : (e b c : Address) (F R G : Family) → after e b ≡ Some c → walked_left e F R G b ≡ G c
 walked-after [] b c F R G p = let q : b ≡ c = cc in ap G q
 walked-after (x ∷ e) [] c F R G p = cc
@@ -72,7 +72,7 @@ walked-elsewhere (x ∷ e) (y ∷ b) F R G p q =
       | inr t ↦ rw t refl
     ]
 
--- a pop keeps the topology
+-- a pop leaves the topology unchanged
 pop_child-shape : (ts : Trees Queue) (ps : Placements) (i : ℕ) (r : Popping (Trees Queue)) → pop_child ts i ≡ Some r → SameShapes ts ps → SameShapes r.left ps
 pop_child-shape ts ps i r p s = same_shapes r.left ps (topologies_of-pop ts i r p ∙ topologies_of-same ts ps s)
 
@@ -80,7 +80,7 @@ pub no_parts : (ts : Trees Queue) (b : Address) → lift_below ts none b ≡ Non
 no_parts none b = refl
 no_parts (more t ts) b = refl
 
--- away from child i a pop below it changes nothing
+-- outside child i, a pop below it changes nothing
 pub pop_away : (ts : Trees Queue) (ps : Placements) (i : ℕ) (r : Popping (Trees Queue)) (b : Address) → pop_child ts i ≡ Some r → after (part ps i) b ≡ None → lift_below r.left ps b ≡ lift_below ts ps b
 pop_away none ps i r b p n = cc
 pop_away (more t ts) none i r b p n = no_parts r.left b
@@ -98,7 +98,7 @@ part_fits (more t ts) none i h s c a = absurd s
 part_fits (more t ts) (more p ps) zero h s c a = a.0
 part_fits (more t ts) (more p ps) (suc i) h s c a = part_fits ts ps i h s.1 c a.2
 
--- nothing stands at the root but the entries of the root's queue
+-- no child's queue is at the root's image
 pub root_apart : (ts : Trees Queue) (ps : Placements) → ArePlaced ps → lift_below ts ps [] ≡ None
 root_apart none ps a = refl
 root_apart (more t ts) none a = refl
@@ -155,7 +155,7 @@ module _ (e0 : ℕ × ℕ) (q : Queue) (ts : Trees Queue) (e : Address) (ps : Pl
       ∙ ap (option_map (walked way taken.rank family rests)) ih
       ∙ lifted_way (pop_child ts taken.value) refl
 
--- a pop of the lift of a tree gives what the pop of the tree gives, lifted
+-- a pop of the lift of a tree gives the lifted result of a pop of the tree
 mutual
   pub lift-pop : (t : Tree Queue) (p : Placement) (h : ℕ) → IsPlaced p → SameShape t p → IsOfHeight p h → IsInRange t → pop_along h (lift t p) ≡ option_map (lifted p) (pop t)
   lift-pop (leaf q) (leaf e) h a s z w = rw z (leaf_pop (take_least q))

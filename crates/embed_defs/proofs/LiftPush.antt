@@ -25,7 +25,7 @@ part_nonempty (more p ps) i none h s l = absurd s
 part_nonempty (more p ps) zero (more t ts) h s l = h.0
 part_nonempty (more p ps) (suc i) (more t ts) h s l = part_nonempty ps i ts h.3 s.1 l
 
--- of two addresses apart only one is a prefix of b
+-- of two addresses apart, at most one is a prefix of b
 pub missed : (e f b c : Address) (o : Option Address) → after e b ≡ o → after f b ≡ Some c → after e f ≡ None → after f e ≡ None → after e b ≡ None
 missed e f b c None r p q s = r
 missed e f b c (Some d) r p q s = absurd (one_prefix e f b d c r p q s)
@@ -34,7 +34,7 @@ pub passed : (e f b : Address) (x : ℕ) (o : Option Address) → digit_beyond e
 passed e f b x None p r q = r
 passed e f b x (Some c) p r q = absurd (none_above e f b c x p r q)
 
--- at and below the image of child i stands what its own lift has
+-- at and below the image of child i, the queues are those of the child's own lift
 pub lift_at_child : (ts : Trees Queue) (ps : Placements) (i : ℕ) (b c : Address)
     → ArePlaced ps → SameShapes ts ps → HasChild ts i → after (part ps i) b ≡ Some c → lift_below ts ps b ≡ Some (lift_child ts ps i c)
 lift_at_child none ps i b c h s l p = absurd l
@@ -45,14 +45,14 @@ lift_at_child (more t ts) (more q ps) (suc i) b c h s l p =
     let a : (after (root_of q) (part ps i) ≡ None) × (after (part ps i) (root_of q) ≡ None) = apart_part (root_of q) ps i h.1 n in
     rw (missed (root_of q) (part ps i) b c (after (root_of q) b) refl p a.0 a.1) (lift_at_child ts ps i b c h.3 s.1 l p)
 
--- b passes an address that is apart from all parts, so it lies below no child
+-- an address that is apart from all parts passes b, so b isn't below any child
 pub nothing_below : (ts : Trees Queue) (ps : Placements) (e b : Address) (x : ℕ) → digit_beyond e b ≡ Some x → IsApartFrom e ps → lift_below ts ps b ≡ None
 nothing_below none ps e b x p h = refl
 nothing_below (more t ts) none e b x p h = refl
 nothing_below (more t ts) (more q ps) e b x p h =
     rw (passed e (root_of q) b x (after (root_of q) b) p refl h.1) (nothing_below ts ps e b x p h.2)
 
--- b is a transit address on the way to child i, so it lies below no child
+-- b is a transit address on the path to child i, so it isn't below any child
 pub transit_below : (ts us : Trees Queue) (ps : Placements) (i : ℕ) (b : Address) (x : ℕ)
     → ArePlaced ps → SameShapes ts ps → HasChild ts i → digit_beyond (part ps i) b ≡ Some x → lift_below us ps b ≡ None
 transit_below none us ps i b x h s l p = absurd l
@@ -66,7 +66,7 @@ transit_below (more t ts) (more u us) (more q ps) (suc i) b x h s l p =
     rw (passed (part ps i) (root_of q) b x (after (root_of q) b) p refl a.0) (transit_below ts us ps i b x h.3 s.1 l p)
 
 module _ (digits ranks : List ℕ) (item : ℕ) where
-  -- away from child i a push below it changes nothing
+  -- outside child i, a push below it changes nothing
   pub push_away : (ts : Trees Queue) (ps : Placements) (i : ℕ) (b : Address)
       → after (part ps i) b ≡ None → lift_below (push_child ts i digits ranks item) ps b ≡ lift_below ts ps b
   push_away none ps i b p = refl
@@ -75,7 +75,7 @@ module _ (digits ranks : List ℕ) (item : ℕ) where
   push_away (more t ts) (more q ps) zero b p = rw p refl
   push_away (more t ts) (more q ps) (suc i) b p = ap (first_of_two (option_map (lift t q) (after (root_of q) b))) (push_away ts ps i b p)
 
--- what a push adds to the entries that pass b
+-- the entries that a push adds to those passing b
 pub passing-put : (ps : Placements) (q : Queue) (rank i : ℕ) (b : Address) (o : Option ℕ) → digit_beyond (part ps i) b ≡ o
     → passing ps (put q rank i) b ≡ passing ps q b ++ passing_by (digit_at ps b) ((rank, i) ∷ [])
 passing-put ps q rank i b o p = filter_map-append (λ (e : ℕ × ℕ). option_map (λ (x : ℕ). (e.0, x)) (digit_at ps b e.1)) q ((rank, i) ∷ [])

@@ -1,4 +1,5 @@
--- Each address of the complete tree has a longest source address whose image is a prefix of it, so there is one lift.
+-- For each address of the complete tree there is a longest source address whose image is a prefix
+-- of it, so there is exactly one lift.
 use Rattle.std.proofs.Common.{◌≡◌, ◌≢◌, ℕ, zero, suc, ◌≤◌, ◌⊎◌, [], ◌∷◌, ◌++◌, length, Option, Some, None, refl, sym, ap, ◌∙◌, arith, inl, inr, append_assoc, append-nil, length-append}
 use Rattle.pifo_defs.specs.Queue.{Queue}
 use Rattle.tree_defs.specs.Tree.{Tree, leaf, inner, Trees, none, more, Address, SameShape, SameShapes, subtree, subtree_in, root_of}
@@ -19,7 +20,7 @@ record IsLongestBelow (ts : Trees Queue) (ps : Placements) (b : Address) (i : �
   above : IsPrefixOf (part ps i ++ digits_below ps i a) b
   longest : (j : ℕ) (c : Address) (u : SourceTree) → subtree_in ts j c ≡ Some u → IsPrefixOf (part ps j ++ digits_below ps j c) b → length c ≤ length a
 
--- or there is none
+-- no address at or below the children has an image that is a prefix of b
 abbrev NothingAbove : Trees Queue → Placements → Address → Type 0
 NothingAbove ts ps b = (j : ℕ) (c : Address) (u : SourceTree) → subtree_in ts j c ≡ Some u → IsPrefixOf (part ps j ++ digits_below ps j c) b → ⊥
 
@@ -94,7 +95,7 @@ mutual
         | inr n ↦ inr (nowhere e n)
       ]
 
--- one queue stands there
+-- the queue there is determined
 same_queue : (image : Address → Address) (b a c : Address) (u : SourceTree) (v w : Queue) → b ≡ image a ++ c → StandsAt image b a u v → StandsAt image b a u w → v ≡ w
 same_queue image b a [] (leaf q) v w e x y = let p : image a ≡ b = sym (append-nil (image a)) ∙ sym e in x.0 p ∙ sym (y.0 p)
 same_queue image b a (z ∷ c) (leaf q) v w e x y =
@@ -102,7 +103,7 @@ same_queue image b a (z ∷ c) (leaf q) v w e x y =
     x.1 n ∙ sym (y.1 n)
 same_queue image b a c (inner q ts) v w e x y = x ∙ sym y
 
--- a lift is what the function gives
+-- any lift equals the result of the function
 pub lift-one : (t : Tree Queue) (p : Placement) (F : Family) → IsPlaced p → SameShape t p → IsLift t (lift_digits p) F → (b : Address) → F b ≡ lift t p b
 lift-one t p F h s l b =
     let a : (a : Address) × IsLongestAt t (lift_digits p) b a = longest t p b h s in

@@ -1,4 +1,5 @@
--- A good map's images without their parents' are a placement, and each image is what stands on the way to it.
+-- A good map's images without their parents' prefixes are a placement. Each image is the
+-- concatenation of the parts on the path to it.
 use Rattle.std.proofs.Common.{◌≡◌, ◌≢◌, ℕ, zero, suc, ◌-◌, ◌<◌, List, [], ◌∷◌, ◌++◌, length, drop, replicate, Some, refl, sym, ap, ◌∙◌, subst, arith, append_assoc, append-nil, length-drop}
 use Rattle.std.specs.Prelude.{option_map, slice_index}
 use Rattle.std.proofs.lemmas.List.{drop_at}
@@ -17,7 +18,7 @@ root-relative : (n : ℕ) (m : Tree Address) → root_of (relative n m) ≡ drop
 root-relative n (leaf e) = refl
 root-relative n (inner e ts) = refl
 
--- what begins with e, without e
+-- dropping the prefix e
 dropped : (e f : Address) (p : IsPrefixOf e f) → drop (length e) f ≡ p.0
 dropped e f p = ap (drop (length e)) (after-is e f p.0 p.1) ∙ drop_at e p.0 (length e) refl
 

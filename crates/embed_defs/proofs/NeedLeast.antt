@@ -1,4 +1,4 @@
--- Where a tree is laid into a complete tree, that is at least as high as the need.
+-- A complete tree in which a tree is placed is at least as high as the need.
 use Rattle.std.proofs.Common.{◌≡◌, ◌≢◌, ℕ, ◌-◌, ◌≤◌, List, [], ◌∷◌, length, refl, arith}
 use Rattle.std.specs.Prelude.{sum_by}
 use Rattle.std.proofs.lemmas.List.Sums.{sum_by-cons}

@@ -1,4 +1,4 @@
--- Each topology has needs, and only these.
+-- Each topology has exactly one tree of needs.
 use Rattle.std.proofs.Common.{◌≡◌, ℕ, zero, suc, ◌+◌, ◌≤◌, ◌⊎◌, List, [], ◌∷◌, refl, sym, ap, ◌∙◌, subst, arith, inl, inr}
 use Rattle.std.specs.Prelude.{sum_by}
 use Rattle.std.proofs.lemmas.Bool.{cases_lt}
@@ -9,7 +9,7 @@ use Rattle.embed_defs.specs.Need.{IsLeast, leaves_below, AreLower, FitsBelow, en
 use Rattle.embed_defs.specs.Laws.{AreWide}
 use Rattle.embed_defs.proofs.EnoughHeights.{enough-fits}
 
--- two heights cannot both be the least
+-- two different heights can't both be the least
 one_least : (P : ℕ → Type 0) (m n : ℕ) → IsLeast P m → IsLeast P n → m ≡ n
 one_least P m n l k = omega (arith, l.least n k.holds, k.least m l.holds)
 

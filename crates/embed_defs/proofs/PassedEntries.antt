@@ -1,4 +1,4 @@
--- What leaves the queue of those entries that pass.
+-- Pops of the queue of passing entries.
 use Rattle.std.proofs.Common.{◌≡◌, ℕ, ◌≤◌, ◌<◌, [], ◌∷◌, Option, Some, None, refl, sym, ap, ◌∙◌, subst, inl, inr}
 use Rattle.std.proofs.lemmas.Bool.{lt-leb, cases_lt}
 use Rattle.std.specs.Prelude.{option_map}
@@ -22,7 +22,7 @@ module _ (g : ℕ → Option ℕ) where
       passes m e q l k None p = rw p k
       passes m e q l k (Some x) p = rw p (l, k)
 
-  -- the entry that leaves does not pass: without it the same entries pass
+  -- the popped entry doesn't pass: the passing entries are unchanged
   pub passing_by-rest : (r v : ℕ) (q : Queue) → g (take_from r v q).value ≡ None → passing_by g ((r, v) ∷ q) ≡ passing_by g (take_from r v q).rest
   passing_by-rest r v [] p = passing_by-none r v [] p
   passing_by-rest r v (e ∷ q) p =
@@ -32,7 +32,7 @@ module _ (g : ℕ → Option ℕ) where
         | inr l ↦ subst P (sym (take_from-front r v e q l)) (λ k. passing_by-none r v (e ∷ q) k) p
       ]
 
-  -- the entry that leaves passes: it leaves the queue of those that pass
+  -- the popped entry passes: it is also popped from the queue of passing entries
   pub take_least-passing : (r v x : ℕ) (q : Queue) → g (take_from r v q).value ≡ Some x
       → take_least (passing_by g ((r, v) ∷ q)) ≡ Some (record { rank = (take_from r v q).rank; value = x; rest = passing_by g (take_from r v q).rest })
   take_least-passing r v x [] p = rw p refl

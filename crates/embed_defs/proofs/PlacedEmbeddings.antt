@@ -11,7 +11,7 @@ use Rattle.embed_defs.proofs.Addresses.{after-sum, one_prefix}
 use Rattle.embed_defs.proofs.Subtrees.{same_address}
 use Rattle.embed_defs.proofs.NeedLeast.{LiesWithin, LieWithin}
 
--- the image of a longer address goes on
+-- the image of a longer address extends the image of its prefix
 mutual
   image_goes_on : (p : Placement) (a c : Address) → IsAddressOf p (a ++ c) → IsPrefixOf (lift_digits p a) (lift_digits p (a ++ c))
   image_goes_on (leaf e) [] c w = ([], on c)
@@ -29,7 +29,7 @@ mutual
   image_goes_on_in (more p ps) zero a c w = image_goes_on p a c w
   image_goes_on_in (more p ps) (suc i) a c w = image_goes_on_in ps i a c w
 
--- digits apart from each child's are apart from those of child i
+-- digits apart from those of each child are apart from those of child i
 pub apart_part : (e : Address) (ps : Placements) (i : ℕ) → IsApartFrom e ps → part ps i ≢ [] → (after e (part ps i) ≡ None) × (after (part ps i) e ≡ None)
 apart_part e none i h n = absurd (n refl)
 apart_part e (more p ps) zero h n = (h.0, h.1)
@@ -55,7 +55,7 @@ nonempty_prefix : (e x c : Address) → e ≢ [] → after (e ++ x) [] ≡ Some 
 nonempty_prefix [] x c n p = n refl
 nonempty_prefix (y ∷ e) x c n p = cc
 
--- an address is a prefix where its image is one
+-- an address is a prefix of another if its image is a prefix of the other's
 mutual
   pub prefix_back : (p : Placement) (a b : Address) (u v : Placement) → IsPlaced p → subtree p a ≡ Some u → subtree p b ≡ Some v → IsPrefixOf (lift_digits p a) (lift_digits p b) → IsPrefixOf a b
   prefix_back p [] b u v h m n q = (b, refl)
@@ -75,7 +75,7 @@ mutual
   prefix_back_in (more p ps) zero a b u v h m n q = prefix_back p a b u v h.2 m n q
   prefix_back_in (more p ps) (suc i) a b u v h m n q = prefix_back_in ps i a b u v h.3 m n q
 
--- an image leads to a node, below which the rest is placed
+-- an image leads to a node below which the rest is placed
 mutual
   image-within : (a : Arities) (p : Placement) (h : ℕ) (b : Address) (v : Placement) → LiesWithin a h p → subtree p b ≡ Some v → IsWithin (down_from a h) (lift_digits p b) × LiesWithin a (h - length (lift_digits p b)) v
   image-within a (leaf e) h [] v w m = let n : leaf e ≡ v = cc in let k : h - length {A = ℕ} [] ≡ h = omega arith in (tt, rw k (subst (LiesWithin a h) n w))

@@ -1,4 +1,4 @@
--- An embedding gives a placement, so no complete (down_from tree that) is lower than the need has one.
+-- An embedding gives a placement, so no complete tree lower than the need has an embedding.
 use Rattle.std.proofs.Common.{◌≡◌, ◌≢◌, ℕ, suc, ◌+◌, ◌-◌, ◌<◌, ◌≤◌, [], ◌∷◌, ◌++◌, length, drop, Some, None, refl, sym, ap, ◌∙◌, subst, arith, length-append, append-nil}
 use Rattle.std.proofs.lemmas.List.{drop_at}
 use Rattle.tree_defs.specs.Tree.{Tree, leaf, inner, Trees, none, more, Address, SameShape, SameShapes, subtree, subtree_in, IsAddressOf, LeadsToLeaf, root_of}
@@ -14,7 +14,7 @@ use Rattle.embed_defs.proofs.Addresses.{after-sum, none_unless}
 use Rattle.embed_defs.proofs.Subtrees.{subtree-root, subtree-then}
 use Rattle.embed_defs.proofs.NeedLeast.{LiesWithin, LieWithin, need_least}
 
--- two children's addresses are apart
+-- no child's address is a prefix of another's
 same_child : (a : Address) (i j : ℕ) → IsPrefixOf (a ++ i ∷ []) (a ++ j ∷ []) → i ≡ j
 same_child a i j p =
     let q : after (i ∷ []) (j ∷ []) ≡ Some p.0 = sym (after-sum a (i ∷ []) (j ∷ [])) ∙ p.1 in
@@ -26,7 +26,7 @@ not_below_parent a i p =
     let q : length a ≡ length ((a ++ i ∷ []) ++ p.0) = ap length (after-is (a ++ i ∷ []) a p.0 p.1) in
     omega (arith, q, length-append (a ++ i ∷ []) p.0, length-append a (i ∷ []))
 
--- the placement that images make of the part of a topology at address a, where e is the parent's image
+-- the placement that images give for the subtree at address a, where e is the parent's image
 abbrev mutual
   place : (Address → Address) → Address → Address → Topology → Placement
   place f a e (leaf u) = leaf (drop (length e) (f a))
@@ -49,7 +49,7 @@ module _ (t : Topology) (d : Arities) (h : ℕ) (f : Address → Address) (emb :
   leaf_long : (a : Address) → LeadsToLeaf t a → length (f a) ≡ h
   leaf_long a l = (deep_leaf (down_from d h) (f a) (emb.leaves a l)).1 ∙ length-down_from d h
 
-  -- a child's image goes on from its parent's
+  -- a child's image extends its parent's
   goes_on : (a : Address) (i : ℕ) → IsAddressOf t a → IsAddressOf t (a ++ i ∷ []) → f (a ++ i ∷ []) ≡ f a ++ drop (length (f a)) (f (a ++ i ∷ []))
   goes_on a i x y =
       let p : IsPrefixOf (f a) (f (a ++ i ∷ [])) = (emb.prefixes a (a ++ i ∷ []) x y).0 (i ∷ [], after-append a (i ∷ [])) in
@@ -114,14 +114,14 @@ module _ (t : Topology) (d : Arities) (h : ℕ) (f : Address → Address) (emb :
           rw e (w, subst (λ (s : ℕ). LiesWithin d s (place f (a ++ k ∷ []) (f a) u)) p g.2, r.2),
         )
 
-  -- no embedding goes into a complete (down_from tree that) is lower than the need
+  -- no complete tree lower than the need has an embedding
   pub embedding-need : (n : ℕ) → ArePositive d → IsNeed d t n → n ≤ h
   embedding-need n o m =
       let g : IsGood d (h - length (f [])) t (place f [] [] t) = place-good t [] [] (subtree-root t) in
       let l : root_of m.all ≤ h - length (f []) = need_least d m.all (place f [] [] t) (h - length (f [])) o m.needs.needs (same_shape m.all (place f [] [] t) (sym (topology_of-same t m.all m.needs.shape) ∙ topology_of-same t (place f [] [] t) g.1)) g.0 g.2 in
       omega (arith, l, m.root)
 
-  -- into a complete (down_from tree above) a single leaf there is none from a leaf
+  -- a single leaf embeds only in the complete tree of height 0
   pub embedding-height : (m : Tree ℕ) → ArePositive d → AreNeedsOf d t m → HasHeight h m
   embedding-height (leaf n) o m = root_leaf t emb m.shape
     where

@@ -1,4 +1,5 @@
--- Addresses of which none is a prefix of another, and those of them behind a first digit.
+-- Addresses of which none is a prefix of another, and those among them that begin with a given
+-- digit.
 use Rattle.std.proofs.Common.{◌≡◌, ◌≢◌, ℕ, ◌⊎◌, true, cond, eqb, List, [], ◌∷◌, None, refl, sym, subst, inl, inr, eq-eqb}
 use Rattle.std.proofs.lemmas.Bool.{cases_Bool, eqb-true}
 use Rattle.tree_defs.specs.Tree.{Address}
@@ -16,7 +17,7 @@ abbrev pub AreNonempty : List Address → Type 0
 AreNonempty [] = Unit {0}
 AreNonempty (e ∷ es) = (e ≢ []) × AreNonempty es
 
--- the empty address stands alone
+-- if the empty address is among them, it is the only one
 pub alone : (es : List Address) → AreApart es → (es ≡ [] ∷ []) ⊎ AreNonempty es
 alone [] h = inr tt
 alone ([] ∷ []) h = inl refl
@@ -31,7 +32,7 @@ alone ((x ∷ e) ∷ es) h = elim (alone es h.1) [
     beside ([] ∷ es) p h = cc
     beside ((y ∷ f) ∷ es) p h = cc
 
--- what follows a first digit
+-- the remainders of the addresses that begin with a given digit
 abbrev pub branch : ℕ → List Address → List Address
 branch x [] = []
 branch x ([] ∷ es) = branch x es

@@ -1,4 +1,5 @@
--- The lifted rank at each depth is that of the deepest node no deeper, and the picked ranks are those at the images' depths.
+-- The lifted rank at each depth is that of the deepest node at most that deep, and the picked ranks
+-- are those at the images' depths.
 use Rattle.std.proofs.Common.{◌≡◌, ℕ, zero, suc, ◌+◌, ◌-◌, ◌<◌, ◌≤◌, List, [], ◌∷◌, ◌++◌, length, take, drop, replicate, refl, ap, ◌∙◌, arith, length-append}
 use Rattle.std.specs.Prelude.{slice_index, option_map, unwrap_or}
 use Rattle.std.proofs.lemmas.List.{length-replicate}
@@ -16,7 +17,7 @@ image-here : (m : Tree Address) → image_map m [] ≡ root_of m
 image-here (leaf e) = refl
 image-here (inner e ts) = refl
 
--- no image on the way is shorter than the first
+-- no image on the path is shorter than the first
 mutual
   root-short : (h : ℕ) (m : Tree Address) (digits : Address) (j : ℕ) → IsDeep h m → LeadsToLeaf m digits → length (root_of m) ≤ length (image_map m (take j digits))
   root-short h (leaf e) [] zero d l = omega arith
@@ -45,7 +46,7 @@ at-drop : (xs : List ℕ) (j : ℕ) → slice_index (drop 1 xs) j ≡ slice_inde
 at-drop [] j = refl
 at-drop (x ∷ xs) j = refl
 
--- above the child's image
+-- at a depth above the child's image
 rank-above : (h : ℕ) (e : Address) (ts : Trees Address) (i : ℕ) (digits : Address) (ranks : List ℕ) (k d : ℕ) → AreDeep h e ts → LeadsBelow ts i digits → k ≡ length e + d → k < length (image_in ts i [])
     → slice_index (lift_ranks_below (length e) ts i digits ranks) d ≡ slice_index ranks 0
 rank-above h e none i digits ranks k d w l n s = absurd l

@@ -1,4 +1,4 @@
--- There is room for a topology's needs, or none.
+-- Either there is room for a topology's needs, or there isn't.
 use Rattle.std.proofs.Common.{◌⊎◌, inl, inr, ℕ, [], refl, arith}
 use Rattle.std.proofs.lemmas.Bool.{cases_lt}
 use Rattle.tree_defs.specs.Tree.{Tree, leaf, inner, Address}

@@ -1,4 +1,4 @@
--- A push spills alike in families of the same queues.
+-- A push spills at the same number of nodes in families of the same queues.
 use Rattle.std.proofs.Common.{◌≡◌, ℕ, List, [], ◌∷◌, refl, drop}
 use Rattle.target_defs.specs.Family.{Family, Address, below, SameQueues}
 use Rattle.target_defs.specs.Spills.{spills_along}

@@ -1,4 +1,4 @@
--- The parts of a tree, and of one of the same shape.
+-- The subtrees of a tree, and those of a tree of the same shape.
 use Rattle.std.proofs.Common.{◌≡◌, ℕ, zero, suc, [], ◌∷◌, ◌++◌, Some, refl, ap, ◌∙◌, subst}
 use Rattle.tree_defs.specs.Tree.{Tree, leaf, inner, Trees, none, more, Address, SameShape, SameShapes, subtree, subtree_in}
 

@@ -1,4 +1,4 @@
--- A map has one tree of images.
+-- A map has exactly one tree of images.
 use Rattle.std.proofs.Common.{◌≡◌, suc, ℕ, [], ◌∷◌, Some, refl, sym, ap, ◌∙◌}
 use Rattle.tree_defs.specs.Tree.{Tree, leaf, inner, Trees, none, more, Address, SameShape, SameShapes, subtree_in, IsAddressOf}
 use Rattle.tree_defs.specs.Topology.{Topology}

@@ -5,8 +5,8 @@ use Rattle.tree_defs.specs.Topology.{Topology}
 use Rattle.target_defs.specs.Levels.{Arities}
 use Rattle.embed_defs.specs.Need.{leaves_below, AreNeedsOf}
 
--- The digits that lead to leaf n below a node of height h: the last digit counts 1, and each other as many leaves as stand
--- below a node at its place.
+-- The digits that lead to leaf n below a node of height h. The last digit counts 1. Each other
+-- digit counts the leaves below one node of the level that it chooses from.
 abbrev pub digits : Arities → ℕ → ℕ → Address
 digits a zero n = []
 digits a (suc h) n = (n / leaves_below a h) ∷ digits a h (n % leaves_below a h)
@@ -19,16 +19,16 @@ abbrev pub IsAmong : Child → List Child → Type 0
 IsAmong x [] = ⊥
 IsAmong x (z ∷ zs) = (z ≡ x) ⊎ IsAmong x zs
 
--- children are taken by falling need, then in source order
+-- children are placed by falling need, then in source order
 abbrev pub comes_before : Child → Child → Bool
 comes_before x y = nat_lt y.1 x.1 || (nat_eq x.1 y.1 && nat_lt x.0 y.0)
 
--- the first leaf of y's block: each child that comes before has a block
+-- the first leaf of y's block: each child that comes before y takes a block
 abbrev pub start_of : Arities → List Child → Child → ℕ
 start_of a [] y = 0
 start_of a (x ∷ xs) y = (if comes_before x y then leaves_below a x.1 else 0) + start_of a xs y
 
--- the digits of y's image behind its parent's, which has height h
+-- the digits of y's image after those of its parent's image; the parent has height h
 abbrev pub image_part : Arities → ℕ → List Child → Child → Address
 image_part a h xs y = take (h - y.1) (digits a h (start_of a xs y))
 
@@ -37,7 +37,7 @@ abbrev pub children : Trees ℕ → ℕ → List Child
 children none i = []
 children (more t ts) i = (i, root_of t) ∷ children ts (suc i)
 
--- the images below a node of height h with image e, from a tree that has its need at each node
+-- the images of a subtree below a node of height h with image e, computed from the tree of needs
 abbrev mutual
   pub canonical : Arities → ℕ → Address → Tree ℕ → Tree Address
   canonical a h e (leaf n) = leaf e
@@ -60,7 +60,8 @@ five = inner 2 (more (leaf 0) (more (leaf 0) (more (leaf 0) (more (leaf 0) (more
 pub canonical-five : canonical (λ _. 3) 2 [] five ≡ inner [] (more (leaf (0 ∷ 0 ∷ [])) (more (leaf (0 ∷ 1 ∷ [])) (more (leaf (0 ∷ 2 ∷ [])) (more (leaf (1 ∷ 0 ∷ [])) (more (leaf (1 ∷ 1 ∷ [])) none)))))
 canonical-five = refl
 
--- a leaf beside a node with two leaves: the node of greater need comes first
+-- a leaf and a node with two leaves, both below the root: the node has the greater need, so it is
+-- placed first
 abbrev pub uneven : Tree ℕ
 uneven = inner 2 (more (leaf 0) (more (inner 1 (more (leaf 0) (more (leaf 0) none))) none))
 

@@ -3,9 +3,9 @@ use Rattle.std.specs.Prelude.{◌≡◌, ◌↔◌, []}
 use Rattle.tree_defs.specs.Tree.{Address, IsAddressOf, LeadsToLeaf}
 use Rattle.tree_defs.specs.Topology.{Topology, IsPrefixOf}
 
--- A map of addresses embeds s in t: the root has the root as its image, images are addresses of t, leaf addresses have
--- leaf images, and one address is a prefix of another exactly where its image is a prefix of the other's image.
--- What the map gives for lists that are no addresses of s doesn't matter.
+-- A map of addresses embeds s in t. The root's image is the root, images are addresses of t, and
+-- leaves have leaves as images. One address is a prefix of another exactly if its image is a prefix
+-- of the other's image. The map's values for lists that aren't addresses of s don't matter.
 pub record IsEmbedding (s t : Topology) (image : Address → Address) : Type 0 where
   pub root : image [] ≡ []
   pub inside : (a : Address) → IsAddressOf s a → IsAddressOf t (image a)

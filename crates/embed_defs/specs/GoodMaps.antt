@@ -1,4 +1,5 @@
--- Maps of a topology into a complete tree under which a lift does its work: the image of each node, as a tree.
+-- Maps of a topology into a complete tree for which a lift works: a tree with the image of each
+-- node.
 use Rattle.std.proofs.Common.{lit<, lit≤}
 use Rattle.std.specs.Prelude.{◌≡◌, refl, ℕ, ◌<◌, ◌≤◌, [], ◌∷◌, length}
 use Rattle.tree_defs.specs.Tree.{Tree, leaf, inner, Trees, none, more, Address, root_of}
@@ -6,7 +7,8 @@ use Rattle.tree_defs.specs.Topology.{IsPrefixOf}
 use Rattle.embed_defs.specs.Placed.{IsApartFrom}
 use Rattle.embed_defs.specs.Lift.{with_transit}
 
--- each leaf's image has h digits, none has more, and each child's image has more than its parent's
+-- each leaf's image has h digits, no image has more, and each child's image is longer than its
+-- parent's
 abbrev mutual
   pub IsDeep : ℕ → Tree Address → Type 0
   IsDeep h (leaf e) = length e ≡ h
@@ -17,7 +19,7 @@ abbrev mutual
   AreDeep h e none = Unit {0}
   AreDeep h e (more t ts) = (length e < length (root_of t)) × (length (root_of t) ≤ h) × IsDeep h t × AreDeep h e ts
 
--- each child's image goes on from its parent's, and those of siblings are no prefixes of one another
+-- each child's image extends its parent's, and no sibling's image is a prefix of another's
 abbrev mutual
   pub IsNested : Tree Address → Type 0
   IsNested (leaf e) = Unit {0}
@@ -33,7 +35,7 @@ pub record IsGoodMap (h : ℕ) (images : Tree Address) : Type 0 where
   pub deep : IsDeep h images
   pub nested : IsNested images
 
--- a leaf beside a node with two leaves, with a transit node above both
+-- a leaf and a node with two leaves, with a transit node above both
 pub IsGoodMap-with_transit : IsGoodMap 3 with_transit
 IsGoodMap-with_transit = record {
   root = refl;

@@ -6,7 +6,7 @@ use Rattle.tree_defs.specs.Tree.{Tree, leaf, inner, none, more, Address, subtree
 abbrev pub image_at : Tree Address → Address → Option Address
 image_at t a = option_map root_of (subtree t a)
 
--- the map from addresses to images; a list that is no address has the root's
+-- the map from addresses to images; a list that isn't an address has the root's image
 abbrev pub image_map : Tree Address → Address → Address
 image_map t a = unwrap_or (image_at t a) []
 

@@ -1,4 +1,4 @@
--- What follows from the definitions of embeddings and of the canonical placement.
+-- Consequences of the definitions of embeddings and of the canonical placement.
 use Rattle.std.specs.Prelude.{◌≡◌, ◌↔◌, ◌⊎◌, ℕ, ◌≤◌, []}
 use Rattle.tree_defs.specs.Tree.{Tree, Address}
 use Rattle.tree_defs.specs.Topology.{Topology, complete}
@@ -8,7 +8,7 @@ use Rattle.embed_defs.specs.Need.{IsLeast, AreNeedsOf, IsNeed, HasHeight}
 use Rattle.embed_defs.specs.Canonical.{canonical, IsCanonical}
 use Rattle.embed_defs.specs.Images.{image_map}
 
--- each node of a complete tree above the leaves has two children or more
+-- each node of a complete tree above the leaves has at least two children
 abbrev pub AreWide : Arities → Type 0
 AreWide a = (h : ℕ) → 2 ≤ a h
 
@@ -21,11 +21,11 @@ pub record TopologiesHaveOneNeed : Type 0 where
 abbrev pub NeedsAreLeastHeights : Type 0
 NeedsAreLeastHeights = (a : Arities) (t : Topology) (n : ℕ) → AreWide a → IsNeed a t n → IsLeast (λ h. HasEmbedding t (complete (down_from a h))) n
 
--- an embedding exists exactly where there is room for the needs
+-- an embedding exists exactly if there is room for the needs
 abbrev pub EmbeddingsNeedRoom : Type 0
 EmbeddingsNeedRoom = (a : Arities) (t : Topology) (all : Tree ℕ) (h : ℕ) → AreWide a → AreNeedsOf a t all → HasEmbedding t (complete (down_from a h)) ↔ HasHeight h all
 
--- where there is room, the canonical placement is an embedding
+-- if there is room, the canonical placement is an embedding
 abbrev pub CanonicalPlacementsAreEmbeddings : Type 0
 CanonicalPlacementsAreEmbeddings =
     (a : Arities) (t : Topology) (all : Tree ℕ) (h : ℕ) → AreWide a → AreNeedsOf a t all → HasHeight h all
@@ -35,7 +35,8 @@ CanonicalPlacementsAreEmbeddings =
 abbrev pub CanonicalPlacementsAreOne : Type 0
 CanonicalPlacementsAreOne = (a : Arities) (h : ℕ) (t : Topology) (images others : Tree Address) → IsCanonical a h t images → IsCanonical a h t others → images ≡ others
 
--- a topology's canonical placement is an embedding in the complete tree of height h, or there is none in it
+-- either a topology's canonical placement is an embedding in the complete tree of height h, or
+-- there is no embedding in it
 abbrev pub PlacementsAreThereOrNone : Type 0
 PlacementsAreThereOrNone =
     (a : Arities) (h : ℕ) (t : Topology) → AreWide a

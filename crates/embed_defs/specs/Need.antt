@@ -6,7 +6,7 @@ use Rattle.tree_defs.specs.Topology.{Topology}
 use Rattle.target_defs.specs.Target.{leaves}
 use Rattle.target_defs.specs.Levels.{Arities, down_from}
 
--- the number has the property, and no lower one has it
+-- the number has the property, and no lower number has it
 pub record IsLeast (P : ℕ → Type 0) (n : ℕ) : Type 0 where
   pub holds : P n
   pub least : (m : ℕ) → P m → n ≤ m
@@ -19,12 +19,13 @@ abbrev pub AreLower : ℕ → List ℕ → Type 0
 AreLower h [] = Unit {0}
 AreLower h (n ∷ ns) = (n + 1 ≤ h) × AreLower h ns
 
--- subtrees of heights ns fit side by side below a node of height h: each is lower, and there are leaves for all
+-- subtrees of heights ns fit side by side below a node of height h: each is lower, and there are
+-- enough leaves for all
 pub record FitsBelow (a : Arities) (ns : List ℕ) (h : ℕ) : Type 0 where
   pub below : AreLower h ns
   pub room : sum_by (leaves_below a) ns ≤ leaves_below a h
 
--- a height below which subtrees of heights ns always fit: each takes one level more than its own
+-- a height below which subtrees of heights ns always fit: the sum of each height plus one
 abbrev pub enough : List ℕ → ℕ
 enough [] = 0
 enough (n ∷ ns) = suc (n + enough ns)
@@ -33,7 +34,8 @@ abbrev pub needs_at : Trees ℕ → List ℕ
 needs_at none = []
 needs_at (more t ts) = root_of t ∷ needs_at ts
 
--- the number at each node is its need: 0 at a leaf, and above children the least height below which they fit
+-- The number at each node is its need: 0 at a leaf, and at an inner node the least height below
+-- which its children fit.
 abbrev mutual
   pub HoldsNeeds : Arities → Tree ℕ → Type 0
   HoldsNeeds a (leaf n) = n ≡ 0
@@ -54,7 +56,8 @@ pub record IsNeed (a : Arities) (t : Topology) (n : ℕ) : Type 0 where
   pub needs : AreNeedsOf a t all
   pub root : root_of all ≡ n
 
--- there is room in the complete tree of height h: for a single leaf where h is 0, else where h is at least the need
+-- There is room in the complete tree of height h. A single leaf needs h to be 0; any other tree
+-- needs h to be at least its need.
 abbrev pub HasHeight : ℕ → Tree ℕ → Type 0
 HasHeight h (leaf n) = h ≡ 0
 HasHeight h (inner n ts) = n ≤ h
@@ -70,11 +73,13 @@ needs_at-roots = refl
 pub FitsBelow-exactly : IsLeast (FitsBelow (λ _. 2) (1 ∷ 1 ∷ [])) 2
 FitsBelow-exactly = record { holds = record { below = (lit≤ tt, (lit≤ tt, tt)); room = lit≤ tt }; least = λ m f. f.below.0 }
 
--- a third one has two more, and no node of height 2 has room for six, though each of the three is lower
+-- a third node adds two leaves; a node of height 2 has no room for six, though each of the three is
+-- lower
 pub FitsBelow-one_too_many : FitsBelow (λ _. 2) (1 ∷ 1 ∷ 1 ∷ []) 3 × (FitsBelow (λ _. 2) (1 ∷ 1 ∷ 1 ∷ []) 2 → ⊥)
 FitsBelow-one_too_many = (record { below = (lit≤ tt, (lit≤ tt, (lit≤ tt, tt))); room = lit≤ tt }, λ f. le→leb 6 4 f.room)
 
--- the leaves of a single child of need 2 fit below a node of height 2, and yet its parent has a greater need
+-- the leaves of a single child of need 2 fit below a node of height 2, but its parent still needs
+-- more
 pub FitsBelow-one_child : IsLeast (FitsBelow (λ _. 2) (2 ∷ [])) 3
 FitsBelow-one_child = record { holds = record { below = (lit≤ tt, tt); room = lit≤ tt }; least = λ m f. f.below.0 }
 

@@ -4,7 +4,8 @@ use Rattle.tree_defs.specs.Tree.{Tree, leaf, inner, Trees, none, more, Address, 
 use Rattle.tree_defs.specs.Topology.{Topology, office}
 use Rattle.embed_defs.specs.Images.{image_map}
 
--- the number of an address: the root has 0, each node stands before its children, and the first of these first
+-- the number of an address in preorder: the root has 0, each node is before its children, and the
+-- children are in order
 abbrev mutual
   pub number_of : Topology → Address → ℕ
   number_of (leaf u) a = 0
@@ -16,11 +17,11 @@ abbrev mutual
   number_below (more t ts) zero a = number_of t a
   number_below (more t ts) (suc i) a = nodes t + number_below ts i a
 
--- the image of an address stands at its number
+-- the image of an address is at the index of its number
 abbrev pub image_in : Topology → List Address → Address → Address
 image_in s images a = slice_index_or images (number_of s a) []
 
--- the tree that holds them: a node's image stands first, and behind it those below it
+-- the tree that holds them: a node's image is first, followed by the images below it
 abbrev mutual
   pub tree_in : Topology → List Address → Tree Address
   tree_in (leaf u) images = leaf (slice_index_or images 0 [])
@@ -30,7 +31,7 @@ abbrev mutual
   trees_in none images = none
   trees_in (more t ts) images = more (tree_in t images) (trees_in ts (drop (nodes t) images))
 
--- a tree of the shape of s holds at each node its image
+-- a tree of the shape of s that holds each node's image
 pub record HoldsImages (s : Topology) (image : Address → Address) (images : Tree Address) : Type 0 where
   pub shape : SameShape s images
   pub each : (a : Address) → IsAddressOf s a → image_map images a ≡ image a

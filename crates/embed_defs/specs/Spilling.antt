@@ -1,4 +1,4 @@
--- At how many nodes a push spills in the lift of a source tree.
+-- The number of nodes at which a push spills in the lift of a source tree.
 use Rattle.std.specs.Prelude.{◌≡◌, refl, ℕ, List, [], ◌∷◌}
 use Rattle.tree_defs.specs.Tree.{Tree, Address}
 use Rattle.tree_defs.specs.SourceTree.{SourceTree}
@@ -8,15 +8,17 @@ use Rattle.embed_defs.specs.Images.{image_map}
 use Rattle.embed_defs.specs.Lift.{lift_ranks, with_transit}
 use Rattle.embed_defs.specs.Lifting.{placement_of, lift, tied}
 
--- the queues of the complete tree into which the images lay a source tree
+-- the queues of the complete tree in which the images embed a source tree
 abbrev pub lift_of : Tree Address → SourceTree → Family
 lift_of images t = lift t (placement_of images)
 
--- at how many nodes on the way to the image of a leaf a push spills, in the lift of the tree before the push
+-- the number of nodes on the path to the image of a leaf at which a push spills, in the lift of the
+-- tree before the push
 abbrev pub push_spills : Tree Address → SourceTree → Address → List ℕ → ℕ
 push_spills images t digits ranks = spills_along (image_map images digits) (lift_ranks images digits ranks) (lift_of images t)
 
--- the root's rank 3 passes those of rank 5 at the root, and in the transit node the two that are for the same child
+-- the root's rank 3 passes those of rank 5 at the root, and in the transit node the two for the
+-- same child
 pub push_spills-transit_node : push_spills with_transit tied (1 ∷ 0 ∷ []) (3 ∷ 7 ∷ 4 ∷ []) ≡ 2
 push_spills-transit_node = refl
 
@@ -26,10 +28,10 @@ push_spills-leaf_alone = refl
 pub push_spills-everywhere : push_spills with_transit tied (1 ∷ 0 ∷ []) (3 ∷ 6 ∷ 3 ∷ []) ≡ 4
 push_spills-everywhere = refl
 
--- ranks that tie with what stands there pass nothing
+-- ranks that tie with those queued pass nothing
 pub push_spills-nowhere : push_spills with_transit tied (1 ∷ 0 ∷ []) (5 ∷ 7 ∷ 4 ∷ []) ≡ 0
 push_spills-nowhere = refl
 
--- the greater rank at the node is its other child's
+-- the entry of greater rank at the node is for its other child
 pub push_spills-other_child : push_spills with_transit tied (1 ∷ 1 ∷ []) (5 ∷ 6 ∷ 4 ∷ []) ≡ 0
 push_spills-other_child = refl

@@ -1,4 +1,4 @@
-//! The laws of embeddings and needs.
+//! Laws about embeddings and needs.
 ghost use Rattle.embed_defs.specs.Laws.{TopologiesHaveOneNeed, NeedsAreLeastHeights, EmbeddingsNeedRoom, CanonicalPlacementsAreEmbeddings, CanonicalPlacementsAreOne, PlacementsAreThereOrNone};
 
 /// A topology has one need.
@@ -11,12 +11,12 @@ pub fn needs_are_least_heights()
     ensures law { NeedsAreLeastHeights }
 {}
 
-/// An embedding exists exactly where there is room for the needs.
+/// An embedding exists exactly if there is room for the needs.
 pub fn embeddings_need_room()
     ensures law { EmbeddingsNeedRoom }
 {}
 
-/// Where there is room, the canonical placement is an embedding.
+/// If there is room, the canonical placement is an embedding.
 pub fn canonical_placements_are_embeddings()
     ensures law { CanonicalPlacementsAreEmbeddings }
 {}
@@ -26,7 +26,7 @@ pub fn canonical_placements_are_one()
     ensures law { CanonicalPlacementsAreOne }
 {}
 
-/// The canonical placement is an embedding, or there is none.
+/// Either the canonical placement is an embedding, or there is no embedding.
 pub fn placements_are_there_or_none()
     ensures law { PlacementsAreThereOrNone }
 {}

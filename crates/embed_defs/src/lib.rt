@@ -1,5 +1,6 @@
-//! How a topology is laid into a complete tree: embeddings, needs, the canonical placement, maps one behind the other, and the
-//! lift of a source tree along a map. Begin with specs/Embedding.antt.
+//! Definitions of how a topology is embedded in a complete tree: embeddings, needs, the canonical
+//! placement, the composition of maps, and the lift of a source tree along a map. Begin with
+//! specs/Embedding.antt.
 #![tactic(auto)]
 
 mod laws;

@@ -1,12 +1,12 @@
-//! The laws of the lift.
+//! Laws about the lift.
 ghost use Rattle.embed_defs.specs.LiftLaws.{LiftsAreOne, EmptyTreesHaveEmptyLifts, PushesOfLiftsAreLifts, PopsOfLiftsAreLiftedPops, MapsStay, NodesHaveImagesOfTheirOwn, PickedRanksAreThoseLifted, LiftedRanksAreOfTheDeepest, PickedRanksAreThoseAtTheImages, CanonicalMapsAreGood, LiftOfIsTheLift, SpillsOfLifts, EmbeddingsAreGoodMaps};
 
-/// A source tree has one lift.
+/// A source tree has exactly one lift.
 pub fn lifts_are_one()
     ensures law { LiftsAreOne }
 {}
 
-/// What `lift_of` gives is the lift.
+/// `lift_of` gives the lift.
 pub fn lift_of_is_the_lift()
     ensures law { LiftOfIsTheLift }
 {}
@@ -26,12 +26,12 @@ pub fn pops_of_lifts_are_lifted_pops()
     ensures law { PopsOfLiftsAreLiftedPops }
 {}
 
-/// A push spills alike in each lift of a tree.
+/// A push spills at the same number of nodes in each lift of a tree.
 pub fn spills_of_lifts()
     ensures law { SpillsOfLifts }
 {}
 
-/// A map of a tree is one of the tree after a push or a pop.
+/// A map of a tree is also a map of the tree after a push or a pop.
 pub fn maps_stay()
     ensures law { MapsStay }
 {}
@@ -41,17 +41,18 @@ pub fn nodes_have_images_of_their_own()
     ensures law { NodesHaveImagesOfTheirOwn }
 {}
 
-/// The ranks on a way are read back from the lifted ranks.
+/// The ranks on a path can be read back from the lifted ranks.
 pub fn picked_ranks_are_those_lifted()
     ensures law { PickedRanksAreThoseLifted }
 {}
 
-/// The lifted rank at each depth is that of the deepest node on the way whose image is no deeper.
+/// The lifted rank at each depth is that of the deepest node on the path whose image is at most
+/// that deep.
 pub fn lifted_ranks_are_of_the_deepest()
     ensures law { LiftedRanksAreOfTheDeepest }
 {}
 
-/// The picked rank of each node on the way is the one at its image's depth.
+/// The picked rank of each node on the path is the rank at its image's depth.
 pub fn picked_ranks_are_those_at_the_images()
     ensures law { PickedRanksAreThoseAtTheImages }
 {}

@@ -1,7 +1,7 @@
-//! The laws of maps: as lists of images, and one behind the other.
+//! Laws about maps: as lists of images, and composed.
 ghost use Rattle.embed_defs.specs.MapLaws.{EmbeddingsCompose, TreesOfImagesEmbed, TreesOfImagesAreOne, TreesInPreorderHoldTheImages};
 
-/// An embedding in a topology and one of that topology are together an embedding.
+/// The composition of two embeddings is an embedding.
 pub fn embeddings_compose()
     ensures law { EmbeddingsCompose }
 {}
@@ -11,12 +11,12 @@ pub fn trees_of_images_embed()
     ensures law { TreesOfImagesEmbed }
 {}
 
-/// One tree holds the images of a map.
+/// Exactly one tree holds the images of a map.
 pub fn trees_of_images_are_one()
     ensures law { TreesOfImagesAreOne }
 {}
 
-/// The tree of a list in preorder holds the images in it.
+/// The tree made from a list in preorder holds the images of the list.
 pub fn trees_in_preorder_hold_the_images()
     ensures law { TreesInPreorderHoldTheImages }
 {}

@@ -1,4 +1,4 @@
--- One plan: one least height, one canonical placement, and room or none.
+-- There is only one plan: one least height, one canonical placement, and either room or no room.
 use Rattle.std.proofs.Common.{◌≡◌, ℕ, Bool, List, length, ◌++◌, refl, ap, ◌∙◌}
 use Rattle.embed_defs.proofs.EmbeddingLaws.{topologies_have_one_need-holds, canonical_placements_are_one-holds}
 use Rattle.policy_defs.specs.Policy.{Policy}

@@ -1,4 +1,4 @@
--- The addresses in preorder are those of the numbers in turn.
+-- The addresses in preorder, listed by number.
 use Rattle.std.proofs.Common.{◌≡◌, ℕ, zero, suc, ◌+◌, ◌-◌, ◌<◌, List, [], ◌∷◌, ◌++◌, length, map, take, get_or, refl, sym, ap, ◌∙◌, arith, inl, inr}
 use Rattle.std.proofs.lemmas.List.{append-nil, length-append, length-map, map-append, take_more, get_or_append_left, get_or-append-add, get_or-map}
 use Rattle.std.proofs.lemmas.List.Folds.{concat-append}
@@ -19,7 +19,7 @@ mutual
   count_below (more t ts) i =
       omega (arith, length-append (map (λ (a : Address). i ∷ a) (addresses t)) (addresses_below ts (suc i)), length-map (addresses t) (λ (a : Address). i ∷ a), count t, count_below ts (suc i))
 
--- in the first child, and behind it
+-- an address in the first child, or after it
 listed_first : {Q : Type 0} (t : Tree Q) (ts : Trees Q) (i n : ℕ) → n < nodes t → get_or (addresses t) n [] ≡ address_at t n → get_or (addresses_below (more t ts) i) n [] ≡ (i + sibling_of (more t ts) n) ∷ address_below (more t ts) n
 listed_first t ts i n h own_is =
     let own = map (λ (a : Address). i ∷ a) (addresses t) in
@@ -61,7 +61,7 @@ mutual
             ∙ ap (λ (k : ℕ). (i + sibling_of (more t ts) k) ∷ address_below (more t ts) k) e
       ]
 
--- the lines of one node more
+-- the lines with one more node
 pub one_more : {Q : Type 0} (t : Tree Q) (line : Address → List ℕ) (n : ℕ) → n < nodes t
     → concat (map line (take (n + 1) (addresses t))) ≡ concat (map line (take n (addresses t))) ++ line (address_at t n)
 one_more t line n l =

@@ -1,10 +1,10 @@
--- What follows from the definition of a plan.
+-- Consequences of the definition of a plan.
 use Rattle.std.specs.Prelude.{◌≡◌, ℕ, Bool, List}
 use Rattle.target_defs.specs.Target.{IsInRange}
 use Rattle.policy_defs.specs.Policy.{Policy}
 use Rattle.embed_plan.specs.Plan.{IsPlan}
 
--- one text is told, and it either has a placement or not
+-- there is only one text, and the policy's tree either fits or doesn't
 abbrev pub PoliciesHaveOnePlan : Type 0
 PoliciesHaveOnePlan =
     (policy : Policy) (arities : List ℕ) (above : ℕ) (fits others : Bool) (text other : List ℕ)

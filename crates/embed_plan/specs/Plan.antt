@@ -1,5 +1,5 @@
--- What is told of a policy and a target: the least height of a tree into which the policy's tree can be laid, and the
--- image of each of its nodes.
+-- The text of a plan: the least height of a tree in which the policy's tree can be embedded, and
+-- the image of each of its nodes.
 use Rattle.std.specs.Prelude.{◌≡◌, refl, ℕ, Bool, true, false, List, [], ◌∷◌, ◌++◌, map, length, decimal, codes}
 use Rattle.std.specs.List.{concat, join_with_byte}
 use Rattle.std.specs.Fmt.{digits}
@@ -14,7 +14,7 @@ use Rattle.policy_defs.specs.Policy.{Policy, name_at, one_leaf}
 use Rattle.report_defs.specs.Report.{line_of}
 use Rattle.embed_plan.specs.Preorder.{addresses}
 
--- an address as it is written: its digits joined by dots, and a hyphen for the root's
+-- an address as text: its digits joined by dots, or a hyphen for the root
 abbrev pub address_text : Address → List ℕ
 address_text [] = codes "-"
 address_text (x ∷ a) = join_with_byte 46 (map decimal (x ∷ a))
@@ -33,7 +33,8 @@ line_for policy images a = map_line (name_at policy a) a (image_map images a)
 abbrev pub map_lines : Policy → Tree Address → List ℕ
 map_lines policy images = concat (map (line_for policy images) (addresses policy.tree))
 
--- Whether a policy's tree can be laid into the target, and what is told then. The least height is told in either case.
+-- Whether a policy's tree can be embedded in the target, and the text of the plan. The text gives
+-- the least height in either case.
 pub data IsPlan (policy : Policy) (arities : List ℕ) (above : ℕ) : Bool → List ℕ → Type 0 where
   placed : (height : ℕ) (images : Tree Address) → IsNeed (levels arities above) (topology_of policy.tree) height
       → HasEmbedding (topology_of policy.tree) (complete arities)

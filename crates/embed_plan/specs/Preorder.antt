@@ -1,4 +1,4 @@
--- The addresses of a tree in preorder: that of each node comes before those below it.
+-- The addresses of a tree in preorder: each node's address is before those of the nodes below it.
 use Rattle.std.specs.Prelude.{◌≡◌, refl, ℕ, suc, List, [], ◌∷◌, ◌++◌, map}
 use Rattle.tree_defs.specs.Tree.{Tree, leaf, inner, Trees, none, more, Address}
 use Rattle.tree_defs.specs.Topology.{office}

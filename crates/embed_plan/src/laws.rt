@@ -1,7 +1,7 @@
-//! The laws of a plan.
+//! Laws about a plan.
 ghost use Rattle.embed_plan.specs.Laws.{PoliciesHaveOnePlan, PoliciesHaveAPlan};
 
-/// A policy and a target have one plan.
+/// A policy and a target have only one plan.
 pub fn policies_have_one_plan()
     ensures law { PoliciesHaveOnePlan }
 {}

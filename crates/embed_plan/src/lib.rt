@@ -1,5 +1,5 @@
-//! What is told of a policy and a target, as text: the least height, and the image of each node. Begin with
-//! specs/Plan.antt.
+//! The plan of a policy for a target, as text: the least height, and the image of each node. Begin
+//! with specs/Plan.antt.
 #![tactic(auto)]
 
 mod laws;

@@ -8,7 +8,7 @@ use embed_core::{EmbedFault, Map, Target, embed, least_height};
 use policy_core::Policy;
 use std::alloc::{AllocError, Global};
 
-/// Whether the target has room for the policy's tree, and what is told of them.
+/// Says whether the target has room for the policy's tree, and holds the text of the plan.
 #[derive(Drop)]
 pub struct PlanText {
     pub fits: bool,
@@ -27,8 +27,8 @@ fn put_maps(into: &mut Vec<u8>, policy: &Policy, map: &Map) -> Result<(), AllocE
     Ok(())
 }
 
-/// The plan of a policy for a target: the least height of a tree that has room for it, and the image of each of its
-/// nodes where the target has. The error is want of memory.
+/// Plans a policy for a target: the least height of a tree that has room for it, and the image of
+/// each of its nodes, if the target has room. The error means out of memory.
 pub fn plan(alloc: Global, policy: &Policy, target: &Target) -> Result<PlanText, AllocError>
     requires range { IsInRange target.now.arities target.now.above }
     ensures plan { IfOk result (λ p. IsPlan policy.now.policy target.now.arities target.now.above

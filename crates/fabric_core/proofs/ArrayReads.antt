@@ -1,4 +1,4 @@
--- What an array has at the addresses below a node.
+-- The items of an array at the addresses below a node.
 use Rattle.std.proofs.Common.{◌≡◌, ℕ, ◌+◌, ◌*◌, ◌<◌, ◌≤◌, ltb, List, [], ◌∷◌, get_or, refl, arith, inl, inr}
 use Rattle.std.proofs.lemmas.Nat.{mul-add-lt}
 use Rattle.std.proofs.lemmas.Bool.{cases_Bool, lt-ltb, le-ltb}
@@ -28,7 +28,7 @@ read-none (d ∷ ar) items none begin width place (x ∷ b) f =
       | inr t ↦ rw t refl
     ]
 
--- nothing before a level is read below its nodes
+-- reads below a level's nodes don't depend on the array before that level
 pub read-same : {A : Type 0} (ar : List ℕ) (xs ys : List A) (none : A) (begin width place : ℕ) (b : Address) → ((j : ℕ) → begin ≤ j → get_or xs j none ≡ get_or ys j none)
     → read ar xs none begin width place b ≡ read ar ys none begin width place b
 read-same [] xs ys none begin width place [] f = f (begin + place) (omega arith)
@@ -40,7 +40,7 @@ read-same (d ∷ ar) xs ys none begin width place (x ∷ b) f =
       | inr t ↦ rw t refl
     ]
 
--- the children's places are places of their level
+-- a child's index is within its level
 pub child_place : (place d x width : ℕ) → place < width → x < d → place * d + x < width * d
 child_place place d x width l m = omega (arith, mul-add-lt place d x width l m)
 
@@ -52,6 +52,6 @@ pub some_nodes : (ar : List ℕ) → 1 ≤ nodes ar
 some_nodes [] = omega arith
 some_nodes (d ∷ ar) = omega arith
 
--- a node stands in the array that has all nodes below it
+-- an array with all nodes below a node's level includes the node
 pub place_within : (ar : List ℕ) (begin width place n : ℕ) → place < width → begin + width * nodes ar ≤ n → begin + place < n
 place_within ar begin width place n l m = omega (arith, l, m, mul-le-mul_left width (some_nodes ar))

@@ -1,4 +1,4 @@
--- One queue of the array changes.
+-- Updates of one queue of the array.
 use Rattle.std.proofs.Common.{◌≡◌, ℕ, zero, suc, ◌<◌, List, map, [], ◌∷◌, length, get_or, set, sym, ap, ◌∙◌}
 use Rattle.std.proofs.lemmas.List.{map-set, get_or-map, length-map}
 use Rattle.std.proofs.Math.Seq.{map-set_same}
@@ -51,7 +51,7 @@ module _ {Q : Type 0} (node : Ghosts Q) where
   entries-put qs n rank value c e l p =
       entries-set qs n c ∙ ap (λ (q : Queue). set (map node.entries qs) n q) (p ∙ ap (λ (q : Queue). put q rank value) (sym (entries-at qs n e l)))
 
-  -- ---- what stays
+  -- ---- unchanged parts
   pub entries_stay : (old qs : List Q) (i : ℕ) (c e : Q) → map node.entries qs ≡ map node.entries old → node.entries c ≡ node.entries (get_or qs i e) → map node.entries (set qs i c) ≡ map node.entries old
   entries_stay old qs i c e s p = map-set_same node.entries qs i c e p ∙ s
 

@@ -1,4 +1,5 @@
--- What a fabric keeps, after each call: by its queues in one array, and how many pushes each of them had.
+-- A fabric's invariants hold after each call. They are about its queues in one array and the number
+-- of pushes of each.
 use Rattle.std.proofs.Common.{◌≡◌, ℕ, zero, suc, ◌+◌, ◌<◌, ◌≤◌, ◌^◌, List, [], ◌∷◌, length, map, get_or, refl, sym, ap, subst, ◌∙◌, arith, Some}
 use Rattle.std.specs.List.{AllByRecursion}
 use Rattle.std.proofs.lemmas.List.{get_or-map, length-map}
@@ -74,7 +75,7 @@ popped_sound ar old new before after pushed item digits ranks s e p =
       flow = subst (λ (F : Family). IsFlow ar F) (sym (fun_ext pops.left)) (flow-pop ar (queues_at ar old 0 1 0) pops.taken s.flow pops.popped);
     }
 
--- ---- the queues as they are kept
+-- ---- the queues as the code stores them
 module _ {Q : Type 0} (entries : Q → Queue) where
   pub nodes_kept : (ar : List ℕ) (qs : List Q) (counts : List ℕ) (pushed : ℕ) → IsSound ar (map entries qs) counts pushed → nodes ar ≡ length qs
   nodes_kept ar qs counts pushed s = s.nodes ∙ length-map qs entries

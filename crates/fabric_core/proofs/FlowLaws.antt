@@ -36,7 +36,7 @@ names-rest_from d r v (e ∷ q) h n =
       | inr k ↦ subst P (sym (take_from-front r v e q k)) n
     ]
 
--- what is taken from a queue: the facts below hold of each pair that leaves
+-- a pair taken from a queue: the facts below hold for each pair popped
 taken_is : (e : ℕ × ℕ) (q : Queue) (t : Taking) → take_least (e ∷ q) ≡ Some t → take_from e.0 e.1 q ≡ t
 taken_is e q t p = cc
 

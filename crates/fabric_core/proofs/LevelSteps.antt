@@ -29,7 +29,7 @@ module _ {Q A : Type 0} (f : Q → A) (qs : List Q) (q : Q) where
       ap (λ (z : List A). get_or z j d) map-added ∙ ap (λ (z : ℕ). get_or (map f qs ++ f q ∷ []) z d) (e ∙ sym (length-map qs f)) ∙ get_or-append_seam (map f qs) (f q) [] d
 
 -- ---- the levels
--- queues of the levels below, put behind these, are those of the whole tree
+-- appending the queues of the levels below to these gives those of the whole tree
 abbrev pub HasFlowsSoFar : List ℕ → ℕ → List ℕ → ℕ → ℕ → Type 0
 HasFlowsSoFar arities level flows begin width =
     (now : List ℕ) → ((j : ℕ) → j < begin → get_or now j 0 ≡ get_or flows j 0)

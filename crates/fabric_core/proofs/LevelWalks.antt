@@ -6,7 +6,7 @@ use Rattle.target_defs.specs.Family.{IsLeafAddress}
 use Rattle.fabric_core.specs.Array.{nodes}
 use Rattle.fabric_core.proofs.ArrayReads.{child_place, next_nodes, place_within, some_nodes}
 
--- the node that was come to, in an array of so many nodes
+-- the node that the walk has reached, in an array of `count` nodes
 pub record IsAt (arities : List ℕ) (count level begin width place : ℕ) : Type 0 where
   pub within : place < width
   pub counted : begin + width * nodes (drop level arities) ≡ count
@@ -39,7 +39,7 @@ at_child arities count level begin width place x b w p l m s eb ew ep = record {
       (subst (λ (z : ℕ). (begin + width) + z * nodes (drop (level + 1) arities) ≡ count) (sym ew) (at_next arities count level begin width place l s));
 }
 
--- the place to which the walk has come, by what the code computed
+-- the position that the walk has reached, as the code computed it
 pub placed_as : (P : ℕ → ℕ → ℕ → Type 0) (b c w v p q : ℕ) → b ≡ c → w ≡ v → p ≡ q → P c v q → P b w p
 placed_as P b c w v p q e f g h = subst (λ (z : ℕ). P z w p) (sym e) (subst (λ (z : ℕ). P c z p) (sym f) (subst (λ (z : ℕ). P c v z) (sym g) h))
 

@@ -13,7 +13,7 @@ use Rattle.fabric_core.specs.Flow.{IsFlow}
 use Rattle.fabric_core.proofs.ArrayReads.{read-below, read-outside, read-same, child_place, next_nodes, place_within}
 use Rattle.fabric_core.proofs.FlowLaws.{names-taken, branch-same, branch-other}
 
--- a pop of an inner node: what was taken there, and the pop below
+-- a pop of an inner node: the entry popped there, and the pop below
 record Steps (d : ℕ) (ar : List ℕ) (qs : List Queue) (begin width place : ℕ) (r : Popping (List Queue)) : Type 0 where
   pub taken : Taking
   pub least : take_least (get_or qs (begin + place) []) ≡ Some taken
@@ -34,7 +34,7 @@ last_left : (qs : List Queue) (n : ℕ) (r : Popping (List Queue)) → option_ma
     → (t : Taking) × (take_least (get_or qs n []) ≡ Some t) × (of_last qs n t ≡ r)
 last_left qs n r p = option_map-some (of_last qs n) (take_least (get_or qs n [])) r p
 
--- nothing before a level changes
+-- items before the level are unchanged
 pub pop-before : (ar : List ℕ) (qs : List Queue) (begin width place : ℕ) (r : Popping (List Queue)) (j : ℕ) → j < begin → array_pop ar qs begin width place ≡ Some r
     → get_or r.left j [] ≡ get_or qs j []
 pop-before [] qs begin width place r j l p =
@@ -46,7 +46,7 @@ pop-before (d ∷ ar) qs begin width place r j l p =
     (pop-before ar (set qs (begin + place) s.taken.rest) (begin + width) (width * d) (place * d + s.taken.value) s.rest j (omega arith) s.popped
     ∙ get_or-set_other qs (begin + place) j s.taken.rest [] (omega arith))
 
--- the queues below a child, of which a pop has changed none yet
+-- the queues below a child, before the pop has changed any of them
 pub queues-child : (d : ℕ) (ar : List ℕ) (qs : List Queue) (q : Queue) (begin width place n x : ℕ) → n < begin + width → x < d
     → below (queues_at (d ∷ ar) qs begin width place) x ≡ queues_at ar (set qs n q) (begin + width) (width * d) (place * d + x)
 queues-child d ar qs q begin width place n x m l =
@@ -57,7 +57,7 @@ pub flow-child : (d : ℕ) (ar : List ℕ) (qs : List Queue) (q : Queue) (begin 
     → IsFlow ar (queues_at ar (set qs n q) (begin + width) (width * d) (place * d + x))
 flow-child d ar qs q begin width place n x m l w = subst (λ (F : Family). IsFlow ar F) (queues-child d ar qs q begin width place n x m l) (w.1 x l).1
 
--- nothing below another node of the level changes
+-- items below another node of the level are unchanged
 pub pop-beside : (ar : List ℕ) (qs : List Queue) (begin width p q : ℕ) (r : Popping (List Queue)) (b : Address) → p < width → q < width → p ≢ q → IsFlow ar (queues_at ar qs begin width p)
     → array_pop ar qs begin width p ≡ Some r → queues_at ar r.left begin width q b ≡ queues_at ar qs begin width q b
 pop-beside [] qs begin width p q r [] l m n w e =
@@ -112,7 +112,7 @@ child-left d ar qs begin width place t r z b l x w p n =
       | inr k ↦ read-outside ar r.left [] d begin width place z b k ∙ sym (read-outside ar qs [] d begin width place z b k)
     ]
 
--- the queues after a pop of an inner node, by what is left below the child
+-- the queues after a pop of an inner node, given the queues left below the child
 digit-left : (d : ℕ) (ar : List ℕ) (qs : List Queue) (begin width place : ℕ) (t : Taking) (r : Popping (List Queue)) (G : Family) (b : Address) → place < width → begin + width * nodes (d ∷ ar) ≤ length qs
     → t.value < d → IsFlow ar (queues_at ar (set qs (begin + place) t.rest) (begin + width) (width * d) (place * d + t.value))
     → array_pop ar (set qs (begin + place) t.rest) (begin + width) (width * d) (place * d + t.value) ≡ Some r
@@ -128,7 +128,7 @@ digit-left d ar qs begin width place t r G (z ∷ b) l m x w p g =
       | inr c ↦ child-left d ar qs begin width place t r z b l x w p (eqb-false t.value z c) ∙ sym (branch-other (queues_at (d ∷ ar) qs begin width place) t.rest t.value z G b (eqb-false t.value z c))
     ]
 
--- one step of the law below, with the law for the levels below in its place
+-- one step of the law below, given the law for the levels below
 joined-pops : (d : ℕ) (ar : List ℕ) (qs : List Queue) (begin width place : ℕ) (t : Taking) (r : Popping (List Queue)) → place < width → begin + width * nodes (d ∷ ar) ≤ length qs
     → IsFlow (d ∷ ar) (queues_at (d ∷ ar) qs begin width place) → take_least (get_or qs (begin + place) []) ≡ Some t
     → array_pop ar (set qs (begin + place) t.rest) (begin + width) (width * d) (place * d + t.value) ≡ Some r

@@ -15,7 +15,7 @@ use Rattle.fabric_core.proofs.PopLaws.{queues-child, flow-child}
 use Rattle.fabric_core.proofs.LevelWalks.{IsAt, placed_as, at_index, at_child}
 use Rattle.fabric_core.proofs.ArrayUpdates.{entries-at, entries-set}
 
--- the pop whose first digits and ranks were taken before
+-- the pop, given that its first digits and ranks were popped before
 abbrev pub resumed : List ℕ → List ℕ → Popping (List Queue) → Popping (List Queue)
 resumed digits ranks r = record { value = r.value; digits = digits ++ r.digits; ranks = ranks ++ r.ranks; left = r.left }
 
@@ -29,7 +29,7 @@ resumed-none : (o : Option (Popping (List Queue))) → option_map (resumed [] []
 resumed-none None = refl
 resumed-none (Some r) = refl
 
--- the rest of the pop, from the node that was come to, is the whole pop, and there is something to pop
+-- the rest of the pop, from the node reached, is the whole pop, and there is something to pop
 pub record IsPopping {Q : Type 0} (node : Ghosts Q) (arities : List ℕ) (old now : List Q) (digits ranks : List ℕ) (level begin width place : ℕ) : Type 0 where
   pub here : IsAt arities (length now) level begin width place
   pub count : length now ≡ length old
@@ -55,13 +55,13 @@ module _ {Q : Type 0} (node : Ghosts Q) where
         pushes = refl;
       })
 
-  -- what is taken at the node that was come to
+  -- the entry popped at the node reached
   pub taken_here : (arities : List ℕ) (old now : List Q) (digits ranks : List ℕ) (level begin width place i : ℕ) (t : Taking) (e : Q) → IsPopping node arities old now digits ranks level begin width place → i ≡ begin + place
       → take_least (node.entries (get_or now i e)) ≡ Some t → take_least (get_or (map node.entries now) (begin + place) []) ≡ Some t
   taken_here arities old now digits ranks level begin width place i t e s ei p =
       ap (λ (q : Queue). take_least q) (entries-at node now (begin + place) e (at_index arities (length now) level begin width place s.here) ∙ ap (λ (z : ℕ). (node.entries (get_or now z e))) (sym ei)) ∙ p
 
-  -- the flow at the node that was come to, with its arity in front
+  -- the flow at the node reached, with its arity in front
   flow_here : (arities : List ℕ) (old now : List Q) (digits ranks : List ℕ) (level begin width place : ℕ) → level < length arities → IsPopping node arities old now digits ranks level begin width place
       → IsFlow (get_or arities level 0 ∷ drop (level + 1) arities) (queues_at (get_or arities level 0 ∷ drop (level + 1) arities) (map node.entries now) begin width place)
   flow_here arities old now digits ranks level begin width place l s = subst (λ (z : List ℕ). IsFlow z (queues_at z (map node.entries now) begin width place)) (drop_more arities level 0 l) s.flow

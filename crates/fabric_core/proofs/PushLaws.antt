@@ -1,4 +1,5 @@
--- A push in the array is a push of the family of its queues, and takes a free place at each node on its way.
+-- A push in the array is a push of the family of its queues, and takes a free slot at each node on
+-- its path.
 use Rattle.std.proofs.Common.{◌≡◌, ◌≢◌, ℕ, zero, suc, ◌+◌, ◌*◌, ◌-◌, ◌<◌, ◌≤◌, eqb, List, [], ◌∷◌, length, get_or, set, drop, refl, sym, ap, subst, ◌∙◌, arith, inl, inr, length-set, get_or-set_same, get_or-set_other}
 use Rattle.std.specs.Prelude.{slice_index, nat_eq, if◌then◌else◌}
 use Rattle.std.proofs.lemmas.Nat.{same_from_place}
@@ -15,9 +16,9 @@ push_along-same x a ranks item F b = rw (eq-eqb x x refl) refl
 pub push_along-other : (x y : ℕ) (a : Address) (ranks : List ℕ) (item : ℕ) (F : Family) (b : Address) → x ≢ y → push_along (x ∷ a) ranks item F (y ∷ b) ≡ F (y ∷ b)
 push_along-other x y a ranks item F b n = rw (ne_eqb x y n) refl
 
--- ---- a change at each node on the way to an address, which depends on the level
+-- ---- a change at each node on the path to an address, which depends on the level
 module _ {A : Type 0} where
-  -- in what stands at each address
+  -- in the item at each address
   abbrev pub changed_along : Address → (ℕ → A → A) → (Address → A) → Address → A
   changed_along [] f F [] = f 0 (F [])
   changed_along [] f F (y ∷ b) = F (y ∷ b)
@@ -51,7 +52,7 @@ module _ {A : Type 0} where
   length-change (d ∷ ar) none f items begin width place (x ∷ a) =
       length-change ar none (λ n. f (suc n)) (change_at none (f 0) items (begin + place)) (begin + width) (width * d) (place * d + x) a ∙ length-change_at none (f 0) items (begin + place)
 
-  -- nothing before a level changes
+  -- items before the level are unchanged
   change-before : (ar : List ℕ) (none : A) (f : ℕ → A → A) (items : List A) (begin width place : ℕ) (a : Address) (j : ℕ) → j < begin
       → get_or (array_change ar none f items begin width place a) j none ≡ get_or items j none
   change-before [] none f items begin width place a j l = change_at-other none (f 0) items (begin + place) j (omega arith)
@@ -60,7 +61,7 @@ module _ {A : Type 0} where
       change-before ar none (λ n. f (suc n)) (change_at none (f 0) items (begin + place)) (begin + width) (width * d) (place * d + x) a j (omega arith)
       ∙ change_at-other none (f 0) items (begin + place) j (omega arith)
 
-  -- nothing below another node of the level changes
+  -- items below another node of the level are unchanged
   change-beside : (ar : List ℕ) (none : A) (f : ℕ → A → A) (items : List A) (begin width p q : ℕ) (a : Address) (b : Address) → p < width → q < width → p ≢ q → IsLeafAddress ar a
       → read ar (array_change ar none f items begin width p a) none begin width q b ≡ read ar items none begin width q b
   change-beside [] none f items begin width p q [] [] l m n h = change_at-other none (f 0) items (begin + p) (begin + q) (λ e. n (omega (arith, e)))
@@ -83,7 +84,7 @@ module _ {A : Type 0} where
         | inr t ↦ read-outside ar after none d begin width q y b t ∙ sym (read-outside ar items none d begin width q y b t)
       ]
 
-  -- nothing below another child changes
+  -- items below another child are unchanged
   beside_child : (ar : List ℕ) (none : A) (f : ℕ → A → A) (items : List A) (d begin width place x y : ℕ) (a : Address) (b : Address) → place < width → IsLeafAddress (d ∷ ar) (x ∷ a) → y < d → x ≢ y
       → read ar (array_change ar none f items begin (width * d) (place * d + x) a) none begin (width * d) (place * d + y) b ≡ read ar items none begin (width * d) (place * d + y) b
   beside_child ar none f items d begin width place x y a b l h k n =
@@ -154,7 +155,7 @@ array_push-along ar qs begin width place a ranks item b l m h =
     ∙ array_change-along ar [] (put_along a ranks item) qs begin width place a b l m h
     ∙ sym (push_is_change a ranks item (queues_at ar qs begin width place) b)
 
--- ---- and takes a free place there
+-- ---- and takes a free slot there
 abbrev pub one_fewer : ℕ → ℕ → ℕ
 one_fewer level n = n - 1
 

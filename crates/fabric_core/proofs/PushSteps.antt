@@ -11,7 +11,7 @@ use Rattle.fabric_core.proofs.ArrayReads.{read-below, read-same}
 use Rattle.fabric_core.proofs.LevelWalks.{IsAt, at_index, at_child, placed_as, leaf_length, digit_below}
 use Rattle.fabric_core.proofs.ArrayUpdates.{entries-put, spare-at, pushes-at, pushes-set, spare-set, bound-at, bound-set, bound-more}
 
--- the rest of the push, from the node that was come to, is the whole push
+-- the rest of the push, from the node reached, is the whole push
 pub record IsPushing {Q : Type 0} (node : Ghosts Q) (arities digits ranks : List ℕ) (item : ℕ) (old now : List Q) (level begin width place : ℕ) : Type 0 where
   pub here : IsAt arities (length now) level begin width place
   pub count : length now ≡ length old
@@ -21,7 +21,7 @@ pub record IsPushing {Q : Type 0} (node : Ghosts Q) (arities digits ranks : List
   pub before : (n : ℕ) → AllByRecursion (λ k. k ≤ n) (map node.pushes old) → AllByRecursion (λ k. k ≤ n + 1) (map node.pushes now)
   pub behind : (n : ℕ) → AllByRecursion (λ k. k ≤ n) (map node.pushes old) → (j : ℕ) → begin ≤ j → get_or (map node.pushes now) j 0 ≤ n
 
--- room below a child, when another queue that stands before its level has changed
+-- room below a child is unchanged by a change to a queue before its level
 pub room_below : (d : ℕ) (ar : List ℕ) (spare : List ℕ) (begin width place n k x : ℕ) (a : Address) → n < begin + width → x < d
     → HasRoomAlong (room_at (d ∷ ar) spare begin width place) (x ∷ a) → HasRoomAlong (room_at ar (set spare n k) (begin + width) (width * d) (place * d + x)) a
 room_below d ar spare begin width place n k x a l m h =
@@ -29,7 +29,7 @@ room_below d ar spare begin width place n k x a l m h =
     (fun_ext (λ b. read-below ar spare 0 d begin width place x b m ∙ sym (read-same ar (set spare n k) spare 0 (begin + width) (width * d) (place * d + x) b (λ j i. get_or-set_other spare n j k 0 (omega arith)))))
     h.1
 
--- there is room at the node that was come to
+-- there is room at the node reached
 pub room_here : (ar : List ℕ) (spare : List ℕ) (begin width place : ℕ) (a : Address) → HasRoomAlong (room_at ar spare begin width place) a → 0 < get_or spare (begin + place) 0
 room_here [] spare begin width place [] h = h
 room_here [] spare begin width place (x ∷ a) h = h.0
@@ -37,7 +37,7 @@ room_here (d ∷ ar) spare begin width place [] h = h
 room_here (d ∷ ar) spare begin width place (x ∷ a) h = h.0
 
 module _ {Q : Type 0} (node : Ghosts Q) where
-  -- the pushes of the queues behind stay
+  -- the push counts of the queues after it are unchanged
   pushes-behind : (qs : List Q) (n j : ℕ) (c : Q) → n < j → get_or (map node.pushes (set qs n c)) j 0 ≡ get_or (map node.pushes qs) j 0
   pushes-behind qs n j c l = subst (λ (z : List ℕ). get_or z j 0 ≡ get_or (map node.pushes qs) j 0) (sym (pushes-set node qs n c)) (get_or-set_other (map node.pushes qs) n j (node.pushes c) 0 (omega arith))
 
@@ -115,7 +115,7 @@ module _ {Q : Type 0} (node : Ghosts Q) where
         behind = λ n a j k. bound-at (λ i. i ≤ n) (map node.pushes old) j a (omega arith);
       })
 
-  -- the queue at the node that was come to may be pushed
+  -- the queue at the node reached may be pushed
   pub room_for : (arities digits ranks : List ℕ) (item : ℕ) (old qs : List Q) (level begin width place i : ℕ) (e : Q) → IsPushing node arities digits ranks item old qs level begin width place → i ≡ begin + place
       → 1 ≤ node.spare (get_or qs i e)
   room_for arities digits ranks item old qs level begin width place i e s ei =

@@ -10,11 +10,11 @@ use Rattle.fabric_core.proofs.ArrayReads.{read-below}
 use Rattle.fabric_core.proofs.LevelWalks.{leaf_length, digit_below}
 use Rattle.fabric_core.proofs.ArrayUpdates.{spare-at, spare-set, length-spare}
 
--- what has at least these free places in each queue
+-- at least as many free slots in each queue
 abbrev pub IsRoomier : List ℕ → List ℕ → Type 0
 IsRoomier spare now = (j : ℕ) → get_or spare j 0 ≤ get_or now j 0
 
--- room at the rest of the way is room at the whole of it, also where free places become more
+-- room on the rest of the path gives room on the whole path, even after free slots are added
 abbrev pub HasRoomSoFar : List ℕ → List ℕ → ℕ → List ℕ → ℕ → ℕ → ℕ → Type 0
 HasRoomSoFar arities digits level spare begin width place =
     (now : List ℕ) → IsRoomier spare now

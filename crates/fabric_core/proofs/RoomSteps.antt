@@ -1,4 +1,4 @@
--- What a push and a pop do to the free places.
+-- The effect of a push and a pop on the free slots.
 use Rattle.std.proofs.Common.{◌≡◌, ℕ, ◌+◌, ◌*◌, ◌-◌, ◌<◌, ◌≤◌, ltb, eqb, List, [], ◌∷◌, length, map, get_or, set, drop, refl, sym, ap, subst, ◌∙◌, arith, inl, inr, get_or-set_same, get_or-set_other}
 use Rattle.std.proofs.lemmas.Bool.{cases_Bool, eqb-true, eqb-false}
 use Rattle.std.proofs.lemmas.List.{drop_more, drop_all}
@@ -10,7 +10,7 @@ use Rattle.fabric_core.proofs.LevelWalks.{IsAt, placed_as, at_index, leaf_length
 use Rattle.fabric_core.proofs.PushLaws.{array_take, array_take-along}
 use Rattle.fabric_core.proofs.ReserveSteps.{IsRoomier}
 
--- ---- what has no less room in each queue has no less at each address
+-- ---- no less room in each queue means no less room at each address
 roomier_read : (ar : List ℕ) (spare now : List ℕ) (begin width place : ℕ) (b : Address) → IsRoomier spare now → room_at ar spare begin width place b ≤ room_at ar now begin width place b
 roomier_read [] spare now begin width place [] r = r (begin + place)
 roomier_read [] spare now begin width place (x ∷ b) r = omega arith
@@ -45,7 +45,7 @@ module _ {Q : Type 0} (node : Ghosts Q) where
       → ArrayKeepsRoom ar (map node.spare old) (map node.spare (set qs i c))
   roomier_last ar old qs i c e l r m = roomier_keeps ar (map node.spare old) (map node.spare (set qs i c)) (roomier_next old qs i c e l r m)
 
-  -- ---- the rest of a push takes the places that the whole push takes
+  -- ---- the rest of a push takes the slots that the whole push takes
   abbrev pub IsTaking : List ℕ → List ℕ → List Q → List Q → ℕ → ℕ → ℕ → ℕ → Type 0
   IsTaking arities digits old now level begin width place =
       array_take (drop level arities) (map node.spare now) begin width place (drop level digits) ≡ array_take arities (map node.spare old) 0 1 0 digits
@@ -53,7 +53,7 @@ module _ {Q : Type 0} (node : Ghosts Q) where
   pub taking_first : (arities digits : List ℕ) (old : List Q) (b w p : ℕ) → b ≡ 0 → w ≡ 1 → p ≡ 0 → IsTaking arities digits old old 0 b w p
   taking_first arities digits old b w p eb ew ep = placed_as (λ x y z. IsTaking arities digits old old 0 x y z) b 0 w 1 p 0 eb ew ep refl
 
-  -- one queue has a place fewer
+  -- one queue has one free slot fewer
   spare_taken : (qs : List Q) (i : ℕ) (c e : Q) → i < length qs → node.spare c + 1 ≡ node.spare (get_or qs i e) → map node.spare (set qs i c) ≡ set (map node.spare qs) i (get_or (map node.spare qs) i 0 - 1)
   spare_taken qs i c e l one = spare-set node qs i c ∙ ap (λ (n : ℕ). set (map node.spare qs) i n) (omega (arith, one, spare-at node qs i e l))
 

@@ -22,13 +22,13 @@ pub few_byte : (b : Bool) → from_bool b ≤ 1
 few_byte true = omega arith
 few_byte false = omega arith
 
--- what spilled before, and what spills at the rest of the way, is what spills on the whole of it
+-- the spills so far plus those on the rest of the path are the spills on the whole path
 pub record IsRest (arities digits ranks : List ℕ) (total : ℕ) (told : List ℕ) (queues : List Queue) (spilled level begin width place : ℕ) : Type 0 where
   pub flows : HasFlows (drop level arities) (flows_at (drop level arities) told begin width place)
   pub flow : IsFlow (drop level arities) (queues_at (drop level arities) queues begin width place)
   pub spills : spilled + spills_along (drop level digits) (drop level ranks) (queues_at (drop level arities) queues begin width place) ≡ total
 
--- one inner node: its children's part of the flows, of the entries and of the way
+-- one inner node: its child's part of the flows, of the entries and of the path
 rest_below : (d x r : ℕ) (ar a rs : List ℕ) (total : ℕ) (flows : List ℕ) (queues : List Queue) (q : Queue) (spilled begin width place : ℕ) (told : Bool) → place < width → x < d
     → HasFlows (d ∷ ar) (flows_at (d ∷ ar) flows begin width place) → IsFlow (d ∷ ar) (queues_at (d ∷ ar) queues begin width place)
     → spilled + spills_along (x ∷ a) (r ∷ rs) (queues_at (d ∷ ar) queues begin width place) ≡ total
@@ -77,7 +77,7 @@ rest_last arities digits ranks total flows queues spilled level begin width plac
     = ap (λ (b : Bool). counted b) (says one ∙ ap (λ (z : ℕ). spills_at_leaf z (get_or queues (begin + place) [])) (sym first)) in
     omega (arith, spills, here, counted_byte told)
 
--- the count so far, where it is told
+-- the count so far, if the queues report spills
 pub record IsCounting {Q : Type 0} (node : Ghosts Q) (arities digits ranks : List ℕ) (old now : List Q) (spilled level begin width place : ℕ) : Type 0 where
   pub few : spilled ≤ level
   pub flows : map node.flows now ≡ map node.flows old

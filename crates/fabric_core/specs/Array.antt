@@ -1,5 +1,6 @@
--- The queues of a complete tree in one array, level by level from the root. Child x of the node at a place of its level
--- stands at that place times the level's arity, and x, of the level below.
+-- The queues of a complete tree in one array, level by level from the root. Take the node at index
+-- `place` of its level, and let d be the level's arity. Its child x is at index `place` * d + x of
+-- the next level.
 use Rattle.std.specs.Prelude.{◌≡◌, refl, ℕ, ◌+◌, ◌*◌, List, [], ◌∷◌, Option, Some, None, option_map, nat_lt, slice_index, slice_index_or, slice_set, drop, if◌then◌else◌}
 use Rattle.pifo_defs.specs.Queue.{Queue, Taking, put, take_least}
 use Rattle.tree_defs.specs.Tree.{Popping, option_bind}
@@ -10,7 +11,8 @@ abbrev pub nodes : List ℕ → ℕ
 nodes [] = 1
 nodes (d ∷ arities) = 1 + d * nodes arities
 
--- what an array has for each address below a node: the node's level begins at an index, is so wide, and has the node at a place
+-- The array's item for each address below a node. The node's level begins at an index of the array
+-- and has a width; the node is at index `place` of its level.
 abbrev pub read : {A : Type 0} → List ℕ → List A → A → ℕ → ℕ → ℕ → Address → A
 read [] items none begin width place [] = slice_index_or items (begin + place) none
 read [] items none begin width place (x ∷ b) = none
@@ -54,16 +56,17 @@ abbrev pub ArrayPops : List ℕ → List Queue → ℕ → List ℕ → List ℕ
 ArrayPops arities queues v digits ranks left =
     array_pop arities queues 0 1 0 ≡ Some (record { value = v; digits = digits; ranks = ranks; left = left })
 
--- ---- free places
--- no node has fewer of them
+-- ---- free slots
+-- no node has fewer free slots
 abbrev pub ArrayKeepsRoom : List ℕ → List ℕ → List ℕ → Type 0
 ArrayKeepsRoom arities old new = HasNoLessRoom (room_at arities old 0 1 0) (room_at arities new 0 1 0)
 
--- each node on the way to an address has one fewer, and no other node has more or fewer
+-- each node on the path to an address has one free slot fewer; all other nodes have the same number
+-- as before
 abbrev pub ArrayTakesRoom : List ℕ → Address → List ℕ → List ℕ → Type 0
 ArrayTakesRoom arities a old new = SameRoom (room_at arities new 0 1 0) (less_room_along a (room_at arities old 0 1 0))
 
--- ---- two children, and three below each
+-- ---- a root with two children, and three leaves below each
 pub nodes-two_by_three : nodes (2 ∷ 3 ∷ []) ≡ 9
 nodes-two_by_three = refl
 
@@ -86,7 +89,8 @@ read-no_such_leaf = refl
 abbrev pub nine : List Queue
 nine = [] ∷ [] ∷ [] ∷ [] ∷ [] ∷ [] ∷ [] ∷ [] ∷ [] ∷ []
 
--- packet 40 goes to the last leaf, packet 41 to the first, and packet 42 beside packet 40
+-- packet 40 goes to the last leaf, packet 41 to the first leaf, and packet 42 to a leaf with the
+-- same parent as packet 40's
 abbrev pub one_pushed : List Queue
 one_pushed = array_push (2 ∷ 3 ∷ []) nine 0 1 0 (1 ∷ 2 ∷ []) (5 ∷ 7 ∷ 9 ∷ []) 40
 
@@ -99,7 +103,8 @@ array_push-each_depth = refl
 pub array_push-last_of_its_rank : two_pushed ≡ ((5, 1) ∷ (5, 0) ∷ []) ∷ ((1, 0) ∷ []) ∷ ((7, 2) ∷ []) ∷ ((1, 41) ∷ []) ∷ [] ∷ [] ∷ [] ∷ [] ∷ ((9, 40) ∷ []) ∷ []
 array_push-last_of_its_rank = refl
 
--- ranks tie at the root and at its second child: at each the first to come leaves, whatever the ranks below
+-- Ranks tie at the root and at its second child. At each, the first to arrive is popped, whatever
+-- the ranks below.
 pub array_pop-ties :
     array_pop (2 ∷ 3 ∷ []) (array_push (2 ∷ 3 ∷ []) two_pushed 0 1 0 (1 ∷ 0 ∷ []) (5 ∷ 7 ∷ 1 ∷ []) 42) 0 1 0
     ≡ Some (record {
@@ -110,7 +115,8 @@ pub array_pop-ties :
     })
 array_pop-ties = refl
 
--- the root's entry came with packet 40, and packet 42 leaves, which has the lower rank at the child
+-- The root's entry was pushed with packet 40, but packet 42 departs, because it has the lower rank
+-- at the child.
 pub array_pop-another_packet :
     array_pop (2 ∷ 3 ∷ []) (array_push (2 ∷ 3 ∷ []) two_pushed 0 1 0 (1 ∷ 0 ∷ []) (6 ∷ 3 ∷ 10 ∷ []) 42) 0 1 0
     ≡ Some (record {

@@ -1,11 +1,11 @@
--- What a flat fabric is.
+-- The contents of a flat fabric.
 use Rattle.std.specs.Prelude.{ℕ, ◌≡◌, [], List, map}
 use Rattle.pifo_defs.specs.Queue.{Queue}
 use Rattle.pifo_core.specs.Sorted.{Contents}
 use Rattle.target_defs.specs.Family.{Address, Family, IsEmpty}
 use Rattle.fabric_core.specs.Array.{queues_at, room_at}
 
--- what contracts see of it
+-- the state that contracts refer to
 pub record Flat : Type 0 where
   pub arities : List ℕ
   pub queues : List Contents
@@ -26,11 +26,11 @@ spare_of queues = map (λ q. q.spare) queues
 abbrev pub flat_queues : Flat → Family
 flat_queues f = queues_at f.arities (entries_of f.queues) 0 1 0
 
--- the spare places of the queue at each address
+-- the free slots of the queue at each address
 abbrev pub flat_room : Flat → Address → ℕ
 flat_room f = room_at f.arities (spare_of f.queues) 0 1 0
 
--- a single leaf without an entry, a push or a pop
+-- a single empty leaf, with no pushes or pops yet
 pub record IsNew (f : Flat) : Type 0 where
   pub leaf : f.arities ≡ []
   pub empty : IsEmpty (flat_queues f)

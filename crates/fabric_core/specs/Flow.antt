@@ -1,4 +1,4 @@
--- What the queues of a fabric keep.
+-- Invariants of a fabric's queues.
 use Rattle.std.proofs.Common.{lit<}
 use Rattle.std.specs.Prelude.{ℕ, zero, suc, ◌≡◌, refl, ◌≤◌, ◌<◌, ◌^◌, List, [], ◌∷◌, length, map, nat_eq, if◌then◌else◌}
 use Rattle.std.specs.List.{AllByRecursion}
@@ -11,17 +11,19 @@ use Rattle.fabric_core.specs.Array.{nodes, queues_at}
 abbrev pub NamesBelow : ℕ → Queue → Type 0
 NamesBelow arity q = AllByRecursion (λ e. e.1 < arity) q
 
--- at each inner node each value is a child's digit, and each child's digit stands there as often as that child has entries
+-- At each inner node, each value is a child's digit, and each child's digit occurs once for each
+-- entry of that child.
 abbrev pub IsFlow : List ℕ → Family → Type 0
 IsFlow [] F = Unit {0}
 IsFlow (d ∷ arities) F = NamesBelow d (F []) × ((x : ℕ) → x < d → (times x (F []) ≡ length (F (x ∷ []))) × IsFlow arities (below F x))
 
--- spills are told among one flow for each child at an inner node, and among one at a leaf
+-- spills are counted among one flow for each child at an inner node, and among one flow at a leaf
 abbrev pub HasFlows : List ℕ → (Address → ℕ) → Type 0
 HasFlows [] flows = flows [] ≡ 1
 HasFlows (d ∷ arities) flows = (flows [] ≡ d) × ((x : ℕ) → x < d → HasFlows arities (λ b. flows (x ∷ b)))
 
--- there is a queue for each node, none had more pushes than the fabric, and what stands at each node has come from its parent
+-- There is a queue for each node. No queue had more pushes than the fabric. Each entry of a child
+-- has an entry at its parent, and each entry of a parent has one at a child.
 pub record IsSound (arities : List ℕ) (queues : List Queue) (counts : List ℕ) (pushed : ℕ) : Type 0 where
   pub nodes : nodes arities ≡ length queues
   pub small : length queues < 2 ^ 32
@@ -29,7 +31,7 @@ pub record IsSound (arities : List ℕ) (queues : List Queue) (counts : List ℕ
   pub flow : IsFlow arities (queues_at arities queues 0 1 0)
 
 -- ---- a root with two leaves
--- two packets wait for leaf 1 and one for leaf 0, whose numbers are no digits
+-- two packets are queued for leaf 1 and one for leaf 0; packet numbers aren't digits
 abbrev pub three_waiting : Family
 three_waiting [] = (6, 1) ∷ (3, 0) ∷ (5, 1) ∷ []
 three_waiting (zero ∷ b) = (4, 70) ∷ []

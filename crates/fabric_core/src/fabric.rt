@@ -6,28 +6,29 @@ ghost use Rattle.target_defs.specs.Target.{IsTarget};
 
 use std::alloc::AllocError;
 
-/// A complete tree of push-in first-out queues, as a switch has it (SIGCOMM 2016): the number of
-/// children may differ from level to level, and is the same at all nodes of a level.
+/// A complete tree of push-in first-out queues, as in a switch (SIGCOMM 2016). The number of
+/// children may differ from level to level, but is the same at all nodes of a level.
 pub trait Fabric {
-    /// How many children the nodes of each level have, from the root down.
+    /// The number of children of the nodes of each level, from the root down.
     ghost shape: { Self → List ℕ };
 
-    /// The queue at each address. It is empty where the tree has no such address.
+    /// The queue at each address. It is empty if the tree has no such address.
     ghost queues: { Self → Family };
 
-    /// How many pushes there were.
+    /// The number of pushes so far.
     ghost pushed: { Self → ℕ };
 
-    /// How many pops there were, those of an empty tree included.
+    /// The number of pops so far, including those of an empty tree.
     ghost popped: { Self → ℕ };
 
-    /// How many pushes passed an entry of a greater rank of their own child on their way, where that is told.
+    /// The number of times that a push passed an entry of a greater rank for the same child at a
+    /// node on its path, or `None` if the fabric doesn't count spills.
     ghost spilled: { Self → Option ℕ };
 
-    /// For how many entries the queue at an address has room.
+    /// The number of free slots of the queue at an address.
     ghost room: { Self → Address → ℕ };
 
-    /// Takes another shape, with all queues empty.
+    /// Changes the shape and empties all queues. The error means out of memory.
     fn configure(&mut self, arities: &[u32]) -> Result<(), AllocError>
         requires target { IsTarget arities.now }
         ensures shaped { OnOk result (shape self.new ≡ arities.now) }
@@ -39,7 +40,7 @@ pub trait Fabric {
         ensures popped { popped self.new ≡ popped self.old }
         ensures spilled { spilled self.new ≡ spilled self.old };
 
-    /// Makes room for one more entry at each node on the way to a leaf.
+    /// Makes room for one more entry at each node on the path to a leaf.
     fn reserve(&mut self, digits: &[u32]) -> Result<(), AllocError>
         requires leaf { IsLeafAddress (shape self.old) digits.now }
         ensures room { OnOk result (HasRoomAlong (room self.new) digits.now) }
@@ -50,7 +51,7 @@ pub trait Fabric {
         ensures popped { popped self.new ≡ popped self.old }
         ensures spilled { spilled self.new ≡ spilled self.old };
 
-    /// Pushes a rank and the next digit at each inner node on the way to a leaf, and the last rank
+    /// Pushes a rank and the next digit at each inner node on the path to a leaf, and the last rank
     /// and the item at the leaf.
     fn push(&mut self, digits: &[u32], ranks: &[u64], item: u64)
         requires leaf { IsLeafAddress (shape self.old) digits.now }
@@ -67,8 +68,8 @@ pub trait Fabric {
         ensures spilled { spilled self.new ≡ option_map (λ n. n +
             spills_along digits.now ranks.now (queues self.old)) (spilled self.old) };
 
-    /// Pops the root's queue, then the queue that each taken digit names, down to an item. The
-    /// slices get the digits and the ranks taken.
+    /// Pops the root's queue, then the queue that each popped digit names, down to an item. The
+    /// popped digits and ranks are written to the slices.
     fn pop(&mut self, digits: &mut [u32], ranks: &mut [u64]) -> Option<u64>
         requires digits { length digits.old ≡ length (shape self.old) }
         requires ranks { length ranks.old ≡ length (shape self.old) + 1 }
@@ -85,11 +86,11 @@ pub trait Fabric {
         ensures popped { popped self.new ≡ popped self.old + 1 }
         ensures spilled { spilled self.new ≡ spilled self.old };
 
-    /// How many pushes there were.
+    /// Returns the number of pushes so far.
     fn pushes(&self) -> u64
         ensures { result ≡ pushed self.now };
 
-    /// How many pops there were, those of an empty tree included.
+    /// Returns the number of pops so far, including those of an empty tree.
     fn pops(&self) -> u64
         ensures { result ≡ popped self.now };
 }

@@ -9,7 +9,7 @@ use pifo_core::HeapPifo;
 use std::alloc::{AllocError, Global};
 use std::marker::Model;
 
-/// A fabric whose queues stand in one array, level by level from the root.
+/// A fabric with its queues in one array, level by level from the root.
 #[derive(Drop)]
 pub struct FlatFabric {
     alloc: Global,
@@ -33,7 +33,7 @@ impl Model for FlatFabric {
 impl FlatFabric {
     ghost use Rattle.fabric_core.specs.Flat.{IsNew};
 
-    /// A single leaf, without an entry, a push or a pop.
+    /// Makes a fabric of a single empty leaf, with no pushes or pops yet.
     pub fn new(alloc: Global) -> Result<FlatFabric, AllocError>
         ensures { IfOk result IsNew }
     {

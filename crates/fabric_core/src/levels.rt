@@ -1,4 +1,4 @@
-//! The queues of a complete tree, made level by level.
+//! Makes the queues of a complete tree, level by level.
 ghost use Rattle.std.specs.Prelude.{◌≡◌, ◌≤◌, ◌<◌, ◌+◌, ◌^◌, ℕ, true, [], length, map, slice_index_or, IfOk, OnOk};
 ghost use Rattle.std.specs.List.{AllByRecursion};
 ghost use Rattle.target_defs.specs.Target.{IsTarget};
@@ -9,7 +9,7 @@ use crate::node::NodeQueue;
 use crate::spot::Spot;
 use std::alloc::{AllocError, Global};
 
-/// A queue without an entry for each node of the complete tree of these arities.
+/// Makes an empty queue for each node of the complete tree of these arities.
 pub fn empty_queues<Q: NodeQueue + Drop>(
     alloc: Global,
     arities: &[u32],
@@ -32,7 +32,7 @@ pub fn empty_queues<Q: NodeQueue + Drop>(
     Ok(queues)
 }
 
-/// Adds the queues of a level, which has so many nodes with so many flows each.
+/// Adds the queues of a level of `width` nodes, with `count` flows each.
 fn add_level<Q: NodeQueue + Drop>(
     queues: &mut Vec<Q>,
     alloc: Global,

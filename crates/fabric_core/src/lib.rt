@@ -1,5 +1,5 @@
-//! The hardware's tree of queues: a complete tree, pushed and popped by address. Begin with src/fabric.rt and
-//! specs/Array.antt.
+//! The hardware's tree of queues: a complete tree, pushed and popped by address. Begin with
+//! src/fabric.rt and specs/Array.antt.
 #![tactic(auto)]
 
 mod fabric;

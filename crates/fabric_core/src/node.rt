@@ -8,31 +8,33 @@ ghost use Rattle.fabric_core.specs.Flow.{NamesBelow};
 use pifo_core::{HeapPifo, Pifo};
 use std::alloc::{AllocError, Global};
 
-/// The queue of one node of the hardware's tree: a push-in first-out queue (SIGCOMM 2016) that may tell which pushes spill.
+/// The queue of one node of the hardware's tree: a push-in first-out queue (SIGCOMM 2016). It may
+/// report which pushes spill.
 pub trait NodeQueue {
     /// The pairs of rank and value, in order of arrival.
     ghost entries: { Self → Queue };
 
-    /// How many pushes there were in the queue's life.
+    /// The number of pushes since the queue was made.
     ghost pushes: { Self → ℕ };
 
-    /// For how many pushes there is room.
+    /// The number of pushes for which there is room.
     ghost spare: { Self → ℕ };
 
-    /// Whether queues of this kind tell which pushes spill.
+    /// Whether queues of this kind report which pushes spill.
     ghost tells: { Bool };
 
-    /// Among how many flows a queue tells them: as many as its node has children, or one at a leaf.
+    /// The number of flows among which a queue counts spills: one for each child of its node, or
+    /// one at a leaf.
     ghost flows: { Self → ℕ };
 
-    /// A queue without a pair, for a node with so many flows.
+    /// Makes an empty queue for a node with `count` flows.
     fn empty(alloc: Global, count: u32) -> Result<Self, AllocError>
         requires some { 1 ≤ count }
         ensures entries { IfOk result (λ q. entries q ≡ []) }
         ensures pushes { IfOk result (λ q. pushes q ≡ 0) }
         ensures flows { tells ≡ true → IfOk result (λ q. flows q ≡ count) };
 
-    /// Makes room for one push. The error is want of memory.
+    /// Makes room for one push. The error means out of memory.
     #[inline(always)]
     fn make_room(&mut self) -> Result<(), AllocError>
         ensures room { OnOk result (1 ≤ spare self.new) }
@@ -41,7 +43,8 @@ pub trait NodeQueue {
         ensures pushes { pushes self.new ≡ pushes self.old }
         ensures flows { flows self.new ≡ flows self.old };
 
-    /// Puts a pair last in the order of arrival, and says whether it spilled, where that is told. Takes no memory.
+    /// Adds a pair, last in order of arrival, and says whether it spilled, if the queue reports
+    /// spills. Allocates no memory.
     #[inline(always)]
     fn push_pair(&mut self, rank: u64, value: u64) -> bool
         requires room { 1 ≤ spare self.old }
@@ -54,7 +57,8 @@ pub trait NodeQueue {
         ensures spare { spare self.new + 1 ≡ spare self.old }
         ensures flows { flows self.new ≡ flows self.old };
 
-    /// Takes the pair that leaves: its rank and its value, or `None` exactly where there is no pair.
+    /// Pops the pair that departs next: its rank and its value. Returns `None` only if the queue is
+    /// empty.
     #[inline(always)]
     fn pop_pair(&mut self) -> Option<(u64, u64)>
         ensures taken { Pops (entries self.old) result (entries self.new) }
@@ -62,7 +66,7 @@ pub trait NodeQueue {
         ensures spare { spare self.old ≤ spare self.new }
         ensures flows { flows self.new ≡ flows self.old };
 
-    /// Whether there is no pair.
+    /// Says whether the queue is empty.
     #[inline(always)]
     fn is_empty(&self) -> bool
         ensures { (result ≡ true) ↔ (entries self.now ≡ []) };

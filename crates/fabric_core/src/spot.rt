@@ -1,14 +1,14 @@
-//! Where a node of a complete tree stands, counted level by level.
+//! The position of a node in a complete tree, counted level by level.
 ghost use Rattle.std.specs.Prelude.{◌≡◌, ◌+◌, ◌*◌, ◌<◌, ◌^◌};
 
-/// A node of a complete tree whose nodes stand level by level, one behind the other.
+/// A node of a complete tree whose nodes are in an array, level after level.
 #[derive(Clone, Copy)]
 pub struct Spot {
-    /// How many nodes stand before its level.
+    /// The number of nodes before its level.
     pub begin: usize,
-    /// How many nodes its level has.
+    /// The number of nodes of its level.
     pub width: usize,
-    /// Which of them it is.
+    /// Its index in its level.
     pub place: usize,
 }
 

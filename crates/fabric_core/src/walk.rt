@@ -11,7 +11,7 @@ use crate::node::NodeQueue;
 use crate::spot::Spot;
 use std::alloc::AllocError;
 
-/// Makes room for one more entry at each node on the way to a leaf.
+/// Makes room for one more entry at each node on the path to a leaf.
 #[inline(always)]
 pub fn reserve_along<Q: NodeQueue>(
     queues: &mut [Q],
@@ -36,8 +36,9 @@ pub fn reserve_along<Q: NodeQueue>(
     queues[spot.index()].make_room()
 }
 
-/// Pushes a rank and the next digit at each inner node on the way to a leaf, and the last rank and the item at the leaf. Says
-/// at how many nodes that spilled, where the queues tell it.
+/// Pushes a rank and the next digit at each inner node on the path to a leaf, and the last rank and
+/// the item at the leaf. Returns the number of nodes at which the push spilled, if the queues
+/// report spills.
 #[inline(always)]
 pub fn push_along<Q: NodeQueue>(
     queues: &mut [Q],
@@ -75,7 +76,8 @@ pub fn push_along<Q: NodeQueue>(
     spilled + u64::from(spills)
 }
 
-/// Pops the root's queue, which has an entry, then the queue that each taken digit names, down to an item.
+/// Pops the root's queue, which has an entry, then the queue that each popped digit names, down to
+/// an item.
 #[inline(always)]
 pub fn pop_along<Q: NodeQueue>(
     queues: &mut [Q],
@@ -107,7 +109,7 @@ pub fn pop_along<Q: NodeQueue>(
     item
 }
 
-/// Takes the pair that leaves a queue that has one.
+/// Pops the next pair of a queue that isn't empty.
 #[inline(always)]
 fn pop_one<Q: NodeQueue>(queue: &mut Q) -> (u64, u64)
     requires { Q.entries queue.old ≢ [] }

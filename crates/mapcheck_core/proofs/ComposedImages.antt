@@ -1,4 +1,4 @@
--- The images of a given map, each taken through a placement, are an embedding.
+-- The images of a given map, each mapped through a placement, are an embedding.
 use Rattle.std.proofs.Common.{◌≡◌, ℕ, List, [], length, get_or, map, Some, None, refl, sym, ap, ◌∙◌, subst, arith}
 use Rattle.std.specs.Prelude.{unwrap_or}
 use Rattle.std.specs.List.{All}
@@ -23,7 +23,7 @@ mutual
   own_shapes none = tt
   own_shapes (more t ts) = (own_shape t, own_shapes ts)
 
--- the topology that is placed is the placement's
+-- the topology of the placement is the topology placed
 mutual
   pub placed-topology : (m : Topology) (p : Tree Address) → SameShape m p → topology_of p ≡ m
   placed-topology (leaf u) (leaf e) s = refl
@@ -48,13 +48,13 @@ pub the-image : (p : Tree Address) (a e : Address) → image_at p a ≡ Some e �
 the-image p a e f = sym (ap (λ o. unwrap_or o []) f)
 
 module _ (s : Topology) (es : List Address) (p : Tree Address) (n : length es ≡ nodes s) (e : IsEmbedding s (topology_of p) (image_in s es)) where
-  -- each image that is given is that of a node
+  -- each given image is the address of a node
   pub all-placed : All (IsAddressOf p) es
   all-placed = All-from_get_or (IsAddressOf p) es [] (λ i l.
       let d = at_number s i (omega (arith, l, n)) in
       subst (λ (k : ℕ). IsAddressOf p (get_or es k [])) d.3 (placed p (image_in s es d.0) (e.inside d.0 (d.1, d.2))))
 
-  -- the image in the list of those taken through the placement
+  -- an image in the list of composed images
   composed : (a : Address) → IsAddressOf s a → image_in s (map (image_map p) es) a ≡ image_map p (image_in s es a)
   composed a l = get_or-map (image_map p) es (number_of s a) [] [] (omega (arith, n, number_inside s a l.0 l.1))
 

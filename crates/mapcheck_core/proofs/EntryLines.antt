@@ -9,7 +9,7 @@ use Rattle.mapcheck_core.specs.MapLines.{MapLine, MapGives}
 use Rattle.mapcheck_core.specs.MapTexts.{IsInNoForm}
 use Rattle.mapcheck_core.proofs.LineLaws.{fault_here}
 
--- the fault of the line at a place
+-- the error of the line at an index
 pub told_fault : (text : List ℕ) (ls : List Line) (i : ℕ) (d : Line) (ms : List MapLine) (number : ℕ) (f : MapFault) → map (line_text text) ls ≡ statements_of text → i < length ls → Give MapGives 1 (map (line_text text) (take i ls)) ms → number ≡ i + 1 → (f ≡ fault.NoMemory) ⊎ ((f ≡ fault.Line number) × InNoForm MapGives number (line_text text (get_or ls i d))) → (f ≡ fault.NoMemory) ⊎ ((n : ℕ) × (f ≡ fault.Line n) × IsFirstAtFault MapGives IsInNoForm (statements_of text) n)
 told_fault text ls i d ms number f texts inside give place (inl e) = inl e
 told_fault text ls i d ms number f texts inside give place (inr wrong) =

@@ -1,4 +1,4 @@
--- The least line of those for which a test holds, one number after another.
+-- The least line number for which a test holds, searched node by node.
 use Rattle.std.proofs.Common.{◌≡◌, ℕ, ◌+◌, ◌<◌, ◌≤◌, Bool, true, false, List, [], length, Option, Some, None, get_or, refl, sym, ap, ◌∙◌, subst, arith, inl, inr, min, below_more}
 use Rattle.std.proofs.lemmas.Bool.{both_ways, cases_lt}
 use Rattle.std.proofs.lemmas.List.{get_or_default}
@@ -29,7 +29,7 @@ least_take test lines n (Some m) l t =
           subst (λ (z : ℕ). IsLeast test lines (n + 1) (Some z)) same ((l.0.0, low, l.0.2, l.0.3), below_more (λ (k : ℕ). test k ≡ true → m ≤ get_or lines k 0) n l.1 (λ e. omega arith))
     ]
 
--- the test at a number, of the image that is read there
+-- the test at a node number, for the image read there
 pub tested : (d : Demand) (s t : Topology) (g : Given) (n : ℕ) (xs : List (List ℕ)) (x e : List ℕ) (b : Bool) → xs ≡ g.images → n < length xs → x ≡ get_or xs n x → e ≡ x → b ≡ breaks d s t n e → breaks_at d s t g n ≡ b
 tested d s t g n xs x e b same inside read is told =
     let image : get_or g.images n [] ≡ e = ap (λ (z : List (List ℕ)). get_or z n []) (sym same) ∙ get_or_default xs n [] x inside ∙ sym read ∙ sym is in

@@ -1,4 +1,4 @@
--- What a line of a map gives that begins with two words.
+-- The entry of a map's line that begins with two words.
 use Rattle.std.proofs.Common.{◌≡◌, ℕ, Bool, true, false, ◌&&◌, if◌then◌else◌, List, ◌∷◌, Option, Some, None, option_map, sym, refl, ap, ◌∙◌}
 use Rattle.std.specs.Prelude.{codes}
 use Rattle.std.specs.Str.{bytes_eq}
@@ -11,7 +11,7 @@ use Rattle.tree_defs.specs.Tree.{Address}
 use Rattle.mapcheck_core.specs.NumberedLines.{InNoForm}
 use Rattle.mapcheck_core.specs.MapLines.{MapGives, image_said, one_line, map_line}
 
--- the name passes, and is the word
+-- the name is accepted, and is the word
 passed : (b : Bool) (w v : List ℕ) → some_if b w ≡ Some v → (b ≡ true) × (w ≡ v)
 passed true w v e = (refl, cc)
 passed false w v e = absurd cc
@@ -42,7 +42,7 @@ nameless_line n k w gs e = ap (λ b. if b then option_map (one_line n w) (image_
 pub imageless_line : (n : ℕ) (k w : List ℕ) (gs : List Glyph) → image_said gs ≡ None → map_line n (text k ∷ text w ∷ gs) ≡ None
 imageless_line n k w gs e = none_given (bytes_eq k (codes "map") && is_name w) n w (image_said gs) e
 
--- glyphs in no form make a line in no form
+-- malformed glyphs make a malformed line
 pub formless_line : (n : ℕ) (l : List ℕ) (gs : List Glyph) → Says l gs → map_line n gs ≡ None → InNoForm MapGives n l
 formless_line n l gs says none s g =
     let wrong : None ≡ Some s = sym none ∙ ap (map_line n) (Says-one l gs g.glyphs says g.says) ∙ g.form in

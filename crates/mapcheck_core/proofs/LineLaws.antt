@@ -1,4 +1,4 @@
--- Line by line through a text.
+-- The loop over the lines of a text.
 use Rattle.std.proofs.Common.{◌≡◌, ℕ, zero, suc, ◌+◌, ◌<◌, ◌≤◌, List, [], ◌∷◌, ◌++◌, length, get_or, take, drop, map, sym, refl, ap, ◌∙◌, subst, arith}
 use Rattle.std.proofs.Math.Seq.{take-suc, drop-cons}
 use Rattle.std.proofs.lemmas.List.{map-append, length-map, take-append-drop, take_all}
@@ -15,7 +15,7 @@ front_size (suc i) (l ∷ ls) le = ap suc (front_size i ls (omega arith))
 texts_size : (text : List ℕ) (ls : List Line) (i : ℕ) → i < length ls → length (map (line_text text) (take i ls)) ≡ i
 texts_size text ls i inside = length-map (take i ls) (line_text text) ∙ front_size i ls (omega arith)
 
--- with the line at a place the lines up to the next are in form
+-- with the line at an index, the lines up to the next one are well formed
 pub lines_more : {A : Type 0} (Gives : ℕ → List ℕ → List A → Type 0) (text : List ℕ) (ls : List Line) (i : ℕ) (d : Line) (ss s : List A) → i < length ls → Give Gives 1 (map (line_text text) (take i ls)) ss → Gives (i + 1) (line_text text (get_or ls i d)) s → Give Gives 1 (map (line_text text) (take (i + 1) ls)) (ss ++ s)
 lines_more Gives text ls i d ss s inside give here =
     let one : suc i ≡ i + 1 = omega arith in
@@ -25,7 +25,7 @@ lines_more Gives text ls i d ss s inside give here =
     sym (map-append (line_text text) (take i ls) (get_or ls i d ∷ [])) ∙ ap (map (line_text text)) (sym (take-suc ls i d inside)) ∙ ap (λ n. map (line_text text) (take n ls)) one in
     subst (λ l. Give Gives 1 l (ss ++ s)) lines (Give-push Gives 1 (map (line_text text) (take i ls)) ss (line_text text (get_or ls i d)) s give (subst (λ n. Gives n (line_text text (get_or ls i d)) s) number here))
 
--- the line at a place is the first at fault, where those before it are in form
+-- the line at an index is the first with an error, if those before it are well formed
 pub fault_here : {A : Type 0} (Gives : ℕ → List ℕ → List A → Type 0) (AtFault : List A → ℕ → List ℕ → Type 0) (text : List ℕ) (ls : List Line) (i : ℕ) (d : Line) (ss : List A) → map (line_text text) ls ≡ statements_of text → i < length ls → Give Gives 1 (map (line_text text) (take i ls)) ss → AtFault ss (i + 1) (line_text text (get_or ls i d)) → IsFirstAtFault Gives AtFault (statements_of text) (i + 1)
 fault_here Gives AtFault text ls i d ss texts inside give wrong =
     let front = map (line_text text) (take i ls) in
@@ -45,7 +45,7 @@ fault_here Gives AtFault text ls i d ss texts inside give wrong =
       at_fault = wrong;
     }
 
--- all lines are in form
+-- all lines are well formed
 pub all_lines : {A : Type 0} (Gives : ℕ → List ℕ → List A → Type 0) (text : List ℕ) (ls : List Line) (i : ℕ) (ss : List A) → map (line_text text) ls ≡ statements_of text → length ls ≤ i → Give Gives 1 (map (line_text text) (take i ls)) ss → Give Gives 1 (statements_of text) ss
 all_lines Gives text ls i ss texts end give =
     let lines : map (line_text text) (take i ls) ≡ statements_of text = ap (map (line_text text)) (take_all i ls end) ∙ texts in

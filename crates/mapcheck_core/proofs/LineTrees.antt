@@ -1,4 +1,4 @@
--- What a line has: a tree of some size, or no tree.
+-- The contents of a line: a tree of some size, or no tree.
 use Rattle.std.proofs.Common.{◌≡◌, ◌⊎◌, ℕ, ◌<◌, ◌≤◌, true, false, List, [], ◌∷◌, Option, Some, None, option_map, inl, inr, sym, refl, ap, ◌∙◌, subst}
 use Rattle.std.proofs.lemmas.Bool.{both_ways}
 use Rattle.text_core.specs.declared.item.Item.{Item}

@@ -1,4 +1,4 @@
--- A line of a map gives one thing, and a text has one answer as a map.
+-- A line of a map has only one list of entries, and a text has only one answer as a map.
 use Rattle.std.proofs.Common.{◌≡◌, ℕ, ◌≤◌, List, [], length, Option, Some, None, Result, Ok, Err, ◌⊎◌, inl, inr, sym, refl, ap, ◌∙◌, subst, arith}
 use Rattle.std.specs.Prelude.{IfOk}
 use Rattle.std.proofs.lemmas.List.{length-map}
@@ -24,7 +24,7 @@ Any ms = Unit {0}
 MapGives-tells : Tells MapGives IsInNoForm Any
 MapGives-tells = record { one = MapGives-one; right = λ before n l f. tt; wrong = λ before n l s after f g r. f s g }
 
--- a text has one answer
+-- a text has only one answer
 pub IsMapAnswer-one : (text : List ℕ) (names : List (List ℕ)) (r q : Result Given MapFault) → IsMapAnswer text names r → IsMapAnswer text names q → r ≡ q
 IsMapAnswer-one text names _ _ (too_long long) (too_long also) = refl
 IsMapAnswer-one text names _ _ (too_long long) (no_form n short f) = absurd (omega arith)
@@ -36,7 +36,7 @@ IsMapAnswer-one text names _ _ (in_form ms m) (too_long long) = let short : leng
 IsMapAnswer-one text names _ _ (in_form ms m) (no_form n short f) = absurd (Give-right MapGives IsInNoForm Any MapGives-tells (statements_of text) ms n m.give tt f)
 IsMapAnswer-one text names _ _ (in_form ms m) (in_form ns k) = ap (answer_of names) (Give-one MapGives MapGives-one 1 (statements_of text) ms ns m.give k.give)
 
--- ---- what lines in form say of the names
+-- ---- the answer of well-formed lines for the names
 
 node_short : (names : List (List ℕ)) (ms : List MapLine) (o : Option ℕ) → node_answer names ms o ≡ Err fault.TooLong → ⊥
 node_short names ms (Some n) e = cc
@@ -50,7 +50,7 @@ name_short : (names : List (List ℕ)) (ms : List MapLine) (o : Option ℕ) → 
 name_short names ms (Some n) e = cc
 name_short names ms None e = repeat_short names ms (repeated_line [] ms) e
 
--- lines that are read are no text that is too long
+-- the answer of lines that were read is never that the text is too long
 pub answer_short : (names : List (List ℕ)) (ms : List MapLine) → answer_of names ms ≡ Err fault.TooLong → ⊥
 answer_short names ms e = name_short names ms (unknown_line names ms) e
 
@@ -66,13 +66,13 @@ name_fits : (names : List (List ℕ)) (ms : List MapLine) (o : Option ℕ) (g : 
 name_fits names ms (Some n) g e = absurd cc
 name_fits names ms None g e = repeat_fits names ms (repeated_line [] ms) g e
 
--- a map has an image and a line for each name
+-- a map has one image and one line number for each name
 pub answer_fits : (names : List (List ℕ)) (ms : List MapLine) (g : Given) → answer_of names ms ≡ Ok g → Fits names g
 answer_fits names ms g e = name_fits names ms (unknown_line names ms) g e
 
--- ---- what an answer tells
+-- ---- consequences of an answer
 
--- want of memory, or the answer to the text
+-- out of memory, or the answer to the text
 abbrev pub IsRight : List ℕ → List (List ℕ) → Result Given MapFault → Type 0
 IsRight text names r = (r ≡ Err fault.NoMemory) ⊎ IsMapAnswer text names r
 
@@ -103,7 +103,7 @@ pub short_answer : (text : List ℕ) (names : List (List ℕ)) (r : Result Given
 short_answer text names r (inl e) short long = cc
 short_answer text names r (inr h) short long = short_map text names r h short long
 
--- the fault of a line that was read, as an answer
+-- the error of a line that was read, as an answer
 pub line_answer : (text : List ℕ) (names : List (List ℕ)) (f : MapFault) → length text ≤ most_map_bytes → (f ≡ fault.NoMemory) ⊎ ((n : ℕ) × (f ≡ fault.Line n) × IsFirstAtFault MapGives IsInNoForm (statements_of text) n) → IsRight text names (Err f)
 line_answer text names f short (inl e) = inl (ap (λ (g : MapFault). Err g) e)
 line_answer text names f short (inr t) = inr (subst (λ (g : MapFault). IsMapAnswer text names (Err g)) (sym t.1) (no_form t.0 short t.2))

@@ -1,4 +1,4 @@
--- From tests of numbers to the clauses of an embedding.
+-- From tests on node numbers to the clauses of an embedding.
 use Rattle.std.proofs.Common.{◌≡◌, ℕ, ◌-◌, ◌<◌, ◌≤◌, Bool, true, false, List, [], length, Option, Some, None, get_or, refl, sym, ap, ◌∙◌, subst, arith, inl, inr, eq-eqb}
 use Rattle.std.proofs.lemmas.Bool.{both_ways, cases_lt, cases_order, not-true, not_from_false, false_from_ne_true, true_from_ne_false, and_parts, and_from, eqb-true}
 use Rattle.std.proofs.lemmas.List.{get_or_default}
@@ -19,7 +19,7 @@ use Rattle.mapcheck_core.specs.Checks.{breaks_at, IsLeast, is_broken, lies_in, i
 use Rattle.mapcheck_core.proofs.NumberLaws.{positive, at_number, number_inside, span_is, number_root}
 use Rattle.mapcheck_core.proofs.PrefixLaws.{prefix_inside, inside_prefix, there, prefix_true, true_prefix, address_true, leaf_true, true_leaf, single_leaf, leaf_single, inside_true, true_inside}
 
--- the test of an address's number tells whether P holds of it
+-- the test of an address's number decides whether the address has the property P
 pub record Tells (s : Topology) (test : ℕ → Bool) (P : Address → Type 0) : Type 0 where
   pub holds : (a : Address) (u : Topology) → subtree s a ≡ Some u → test (number_of s a) ≡ true → P a
   pub passes : (a : Address) (u : Topology) → subtree s a ≡ Some u → P a → test (number_of s a) ≡ true
@@ -168,14 +168,14 @@ breaks_one s t g f h (prefix a b i r leaves l) (root m j q d) = absurd (q r)
 breaks_one s t g f h (prefix a b i r leaves l) (leaf m j q k) = absurd (leaves k.address k.inside k.holds)
 breaks_one s t g f h (prefix a b i r leaves l) (prefix c d j q others k) = let same = one_pair s g a b c d l k in ap (λ (n : ℕ). fault.Prefix n b) same.0 ∙ ap (λ (n : ℕ). fault.Prefix c n) same.1
 
--- the image and the line of the root are the first
+-- the image and the line number of the root are the first
 pub root_image : (s : Topology) (g : Given) → image_of s g [] ≡ get_or g.images 0 []
 root_image s g = ap (λ (k : ℕ). get_or g.images k []) (number_root s)
 
 pub root_line : (s : Topology) (g : Given) → line_of s g [] ≡ get_or g.lines 0 0
 root_line s g = ap (λ (k : ℕ). get_or g.lines k 0) (number_root s)
 
--- ---- what the first tests that fail tell
+-- ---- the meaning of the first test that fails
 
 pub outside_broken : (s t : Topology) (g : Given) (o : Option ℕ) (n : ℕ) → IsLeast (breaks_at demand.Address s t g) g.lines (nodes s) o → o ≡ Some n → Breaks s t g (fault.NoAddress n)
 outside_broken s t g o n l e = outside n (found s g _ _ n (outside_told s t g) (subst (IsLeast (breaks_at demand.Address s t g) g.lines (nodes s)) e l))

@@ -1,4 +1,4 @@
--- Maps that break each clause of an embedding, worked out.
+-- Worked examples of maps that break each clause of an embedding.
 use Rattle.std.proofs.Common.{◌≡◌, ◌<◌, ◌≤◌, ◌⊎◌, zero, suc, [], ◌∷◌, inl, inr, refl, arith}
 use Rattle.tree_defs.specs.Tree.{Address, IsAddressOf, leaf, inner, none, more}
 use Rattle.tree_defs.specs.Topology.{Topology, IsPrefixOf}
@@ -19,7 +19,7 @@ two_leaves = inner tt (more (leaf tt) (more (leaf tt) none))
 abbrev to : Address → Given
 to image = record { images = image ∷ []; lines = 7 ∷ [] }
 
--- an image that is no address is told before a root that isn't the root
+-- an image that isn't an address is reported before a root whose image isn't the root
 no_address_first : Breaks a_leaf a_leaf (to (0 ∷ [])) (fault.NoAddress 7)
 no_address_first = outside 7 (record {
   address = [];
@@ -29,11 +29,11 @@ no_address_first = outside 7 (record {
   least = λ a is holds. omega arith;
 })
 
--- a root elsewhere is told, though its image is an address and a leaf
+-- a root whose image isn't the root is reported, even if the image is an address and a leaf
 the_root_elsewhere : Breaks a_leaf above_a_leaf (to (0 ∷ [])) (fault.Root 7)
 the_root_elsewhere = root 7 (λ a is nowhere. nowhere (leaf tt, refl)) (λ same. absurd cc) refl
 
--- a leaf at a node is told
+-- a leaf whose image is an inner node is reported
 a_leaf_at_a_node : Breaks a_leaf above_a_leaf (to []) (fault.Leaf 7)
 a_leaf_at_a_node = leaf_breaks 7 (λ a is nowhere. nowhere (above_a_leaf, refl)) refl (record {
   address = [];
@@ -43,7 +43,8 @@ a_leaf_at_a_node = leaf_breaks 7 (λ a is nowhere. nowhere (above_a_leaf, refl))
   least = λ a is holds. omega arith;
 })
 
--- both leaves at one leaf: the two break the prefixes both ways, and the lower pair is told
+-- Both leaves are mapped to one leaf. The pair breaks the prefix condition in both orders; the
+-- lower order is reported.
 abbrev both : Given
 both = record { images = [] ∷ (0 ∷ []) ∷ (0 ∷ []) ∷ []; lines = 1 ∷ 2 ∷ 3 ∷ [] }
 

@@ -1,4 +1,4 @@
--- Where each node is named, and lists with one element more.
+-- The lines that name each node, and lists with one more element.
 use Rattle.std.proofs.Common.{◌≡◌, ℕ, zero, suc, ◌+◌, ◌<◌, Bool, true, false, cond, not, List, [], ◌∷◌, ◌++◌, length, get_or, take, map, position, Some, None, inl, inr, refl, sym, ap, ◌∙◌, arith}
 use Rattle.std.specs.Prelude.{◌||◌}
 use Rattle.std.specs.Bool.{Decides}
@@ -24,7 +24,7 @@ before_end p (x ∷ xs) (suc k) d low found =
 some_none : (n : ℕ) → Some n ≡ None → ⊥
 some_none n e = cc
 
--- where no place is told no element passes
+-- if no index is found, no element passes
 none-passes : {X : Type 0} (p : X → Bool) (xs : List X) (k : ℕ) (d : X) → position p xs ≡ None → k < length xs → p (get_or xs k d) ≡ false
 none-passes p xs k d none low =
     elim (cases_Bool (p (get_or xs k d))) [
@@ -34,7 +34,7 @@ none-passes p xs k d none low =
       | inr f ↦ f
     ]
 
--- where no node is missing, each name is given
+-- if no node is missing, each name is given
 pub name-given : (names : List (List ℕ)) (ms : List MapLine) (i : ℕ) (name : List ℕ) → missing_node names ms ≡ None → i < length names → name ≡ get_or names i name → has (named ms) name ≡ false → ⊥
 name-given names ms i name given low is unnamed =
     let known = none-passes (λ (n : List ℕ). not (has (named ms) n)) names i name given low in
@@ -42,7 +42,7 @@ name-given names ms i name given low is unnamed =
     let wrong : true ≡ false = ap not (sym unnamed) ∙ here in
     cc
 
--- one element more of a map
+-- one more element of a map
 pub mapped-more : {X Y : Type 0} (f : X → Y) (xs : List X) (i : ℕ) (x : X) (ys : List Y) (y : Y) → i < length xs → x ≡ get_or xs i x → ys ≡ map f (take i xs) → y ≡ f x → ys ++ y ∷ [] ≡ map f (take (i + 1) xs)
 mapped-more {X} {Y} f xs i x ys y low is so_far told =
     let one : suc i ≡ i + 1 = omega arith in
@@ -77,7 +77,7 @@ same-either-way a b =
     let flipped : Decides (bytes_eq b a) (a ≡ b) = (λ e. sym ((bytes_eq-Decides b a).0 e), λ e. (bytes_eq-Decides b a).1 (sym e)) in
     same_from_decides (bytes_eq a b) (bytes_eq b a) (bytes_eq-Decides a b) flipped
 
--- one name more is known
+-- one more name is known
 pub has-more : (names : List (List ℕ)) (i : ℕ) (name q : List ℕ) (before after : Bool) → i < length names → name ≡ get_or names i name → before ≡ has (take i names) q → after ≡ cond (bytes_eq name q) true before → after ≡ has (take (i + 1) names) q
 has-more names i name q before after low is so_far new =
     new

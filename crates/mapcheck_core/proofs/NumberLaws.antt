@@ -39,7 +39,7 @@ mutual
             (suc d.0, d.1, d.2, d.3, e)
       ]
 
--- the numbers of a part lie together, from that of its root on
+-- the numbers of a subtree are consecutive, starting with that of its root
 mutual
   pub part_inside : (t : Topology) (a : Address) (u : Topology) → subtree t a ≡ Some u → number_of t a + nodes u ≤ nodes t
   part_inside (leaf q) [] u e = let m : nodes (leaf q) ≡ nodes u = ap nodes (some_same (leaf q) u e) in omega arith
@@ -55,7 +55,7 @@ mutual
 pub number_inside : (t : Topology) (a : Address) (u : Topology) → subtree t a ≡ Some u → number_of t a < nodes t
 number_inside t a u e = let m = part_inside t a u e in let p = positive u in omega arith
 
--- an address has a number of its own
+-- different addresses have different numbers
 mutual
   pub one_address : (t : Topology) (a b : Address) (u v : Topology) → subtree t a ≡ Some u → subtree t b ≡ Some v → number_of t a ≡ number_of t b → a ≡ b
   one_address (leaf q) [] [] u v e f n = refl
@@ -79,7 +79,7 @@ mutual
       let same = one_below ts i j a b u v e f m in
       (ap suc same.0, same.1)
 
--- the span at the number of a part is its nodes
+-- the span at the number of a subtree's root is the subtree's number of nodes
 mutual
   pub span_is : (t : Topology) (a : Address) (u : Topology) → subtree t a ≡ Some u → span_at t (number_of t a) ≡ nodes u
   span_is (leaf q) [] u e = ap nodes (some_same (leaf q) u e)
@@ -94,7 +94,7 @@ mutual
       let m : nodes t + number_below ts i a - nodes t ≡ number_below ts i a = omega arith in
       rw (le-ltb (nodes t + number_below ts i a) (nodes t) (omega arith)) (ap (span_below ts) m ∙ below_is ts i a u e)
 
--- a part of a branched topology is branched
+-- a subtree of a branched topology is branched
 mutual
   pub part_branched : (t : Topology) (a : Address) (u : Topology) → IsBranched t → subtree t a ≡ Some u → IsBranched u
   part_branched (leaf q) [] u b e = subst IsBranched (some_same (leaf q) u e) b
@@ -107,13 +107,13 @@ mutual
   below_branched (more t ts) zero a u b e = part_branched t a u b.0 e
   below_branched (more t ts) (suc i) a u b e = below_branched ts i a u b.1 e
 
--- a part of one node is a leaf
+-- a branched subtree of one node is a leaf
 pub single_is_leaf : (u : Topology) → IsBranched u → nodes u ≡ 1 → (q : Unit {0}) × (u ≡ leaf q)
 single_is_leaf (leaf q) b n = (q, refl)
 single_is_leaf (inner q none) b n = absurd b
 single_is_leaf (inner q (more t ts)) b n = let p = positive t in absurd (omega (arith, n))
 
--- a part of a part
+-- a subtree of a subtree
 mutual
   pub part_of_part : (t : Topology) (a c : Address) (u : Topology) → subtree t a ≡ Some u → subtree t (a ++ c) ≡ subtree u c
   part_of_part (leaf q) [] c u e = ap (λ (z : Topology). subtree z c) (some_same (leaf q) u e)
@@ -126,7 +126,7 @@ mutual
   part_of_below (more t ts) zero a c u e = part_of_part t a c u e
   part_of_below (more t ts) (suc i) a c u e = part_of_below ts i a c u e
 
--- in a part the numbers go on from that of its root
+-- in a subtree the numbers continue from that of its root
 mutual
   pub number_in_part : (t : Topology) (a c : Address) (u : Topology) → subtree t a ≡ Some u → number_of t (a ++ c) ≡ number_of t a + number_of u c
   number_in_part (leaf q) [] c u e = let m : number_of (leaf q) c ≡ number_of u c = ap (λ (z : Topology). number_of z c) (some_same (leaf q) u e) in omega arith
@@ -139,7 +139,7 @@ mutual
   number_below_part (more t ts) zero a c u e = number_in_part t a c u e
   number_below_part (more t ts) (suc i) a c u e = let m = number_below_part ts i a c u e in omega arith
 
--- a part has no more nodes than the whole
+-- a subtree has at most as many nodes as the whole
 pub span_low : (t : Topology) (n : ℕ) → n < nodes t → span_at t n ≤ nodes t
 span_low t n l =
     let d = at_number t n l in

@@ -52,7 +52,7 @@ leaf_true t a l = ap is_leaf (leaf_at t a l).1
 pub true_leaf : (t : Topology) (a : Address) → is_leaf_at t a ≡ true → LeadsToLeaf t a
 true_leaf t a e = let d = leaf_there (subtree t a) e in leads_to t a d.0 d.1
 
--- the part that begins at a number has one node exactly where it is a leaf
+-- the subtree at a number has one node exactly if it is a leaf
 pub single_leaf : (t : Topology) (a : Address) (u : Topology) → IsBranched t → subtree t a ≡ Some u → span_at t (number_of t a) ≡ 1 → LeadsToLeaf t a
 single_leaf t a u b e n =
     let d = single_is_leaf u (part_branched t a u b e) (sym (span_is t a u e) ∙ n) in

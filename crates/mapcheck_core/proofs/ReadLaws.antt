@@ -1,4 +1,4 @@
--- What is written of a tree reads as that tree, and nothing else reads as it.
+-- The written form of a tree reads as that tree, and nothing else reads as it.
 use Rattle.std.proofs.Common.{◌≡◌, ℕ, Bool, true, false, ◌&&◌, List, [], ◌∷◌, ◌++◌, Option, Some, None, if◌then◌else◌, sym, refl, ap, ◌∙◌, append_assoc, subst}
 use Rattle.std.specs.Prelude.{codes}
 use Rattle.std.specs.Str.{bytes_eq}
@@ -32,11 +32,11 @@ mutual
       ∙ read-trees us b.1 gs (ts ++ t ∷ []) around outer
       ∙ ap (λ (vs : List Topology). read_on gs vs (around ∷ outer)) (append_assoc ts (t ∷ []) (list_of us))
 
--- what is written of a tree reads as it
+-- the written form of a tree reads as the tree
 pub read-written : (t : Topology) → IsBranched t → read_on (written t) [] [] ≡ Some t
 read-written t b = ap (λ (gs : List Glyph). read_on gs [] []) (sym (append-nil (written t))) ∙ read-tree t b [] [] [] refl
 
--- what was written before the rest, where these trees stand
+-- the glyphs written before the rest, given the trees read so far
 abbrev pub before : List Topology → List (List Topology) → List Glyph → List Glyph
 before ts [] rest = written_all (trees_of ts) ++ rest
 before ts (around ∷ outer) rest = before around outer (sign m.Open ∷ (written_all (trees_of ts) ++ rest))
@@ -49,7 +49,7 @@ before-push : (ts : List Topology) (u : Topology) (outer : List (List Topology))
 before-push ts u [] rest = written-push ts u rest
 before-push ts u (around ∷ outer) rest = ap (λ (gs : List Glyph). before around outer (sign m.Open ∷ gs)) (written-push ts u rest)
 
--- the glyphs are what is written of the tree, whose inner nodes have children
+-- the glyphs are the written form of the tree, whose inner nodes have children
 abbrev IsWhole : List Topology → List (List Topology) → List Glyph → Topology → Type 0
 IsWhole ts outer gs t = (before ts outer gs ≡ written t) × IsBranched t
 
@@ -95,6 +95,6 @@ read-whole (sign m.LessEq ∷ gs) ts outer t b c e = absurd cc
 read-whole (sign m.More ∷ gs) ts outer t b c e = absurd cc
 read-whole (sign m.MoreEq ∷ gs) ts outer t b c e = absurd cc
 
--- what reads as a tree is what is written of it
+-- glyphs that read as a tree are its written form
 pub read-is_written : (gs : List Glyph) (t : Topology) → read_on gs [] [] ≡ Some t → (gs ≡ written t) × IsBranched t
 read-is_written gs t e = read-whole gs [] [] t tt tt e

@@ -1,4 +1,4 @@
--- What is counted of the open nodes is the size of the tree that is read.
+-- The counts kept for the open nodes give the size of the tree that is read.
 use Rattle.std.proofs.Common.{◌≡◌, ℕ, suc, ◌+◌, ◌≤◌, max, nat_lt, nat_eq, Bool, true, false, not, ◌&&◌, ◌||◌, if◌then◌else◌, List, [], ◌∷◌, ◌++◌, length, Option, Some, None, option_map, sym, refl, ap, ◌∙◌, subst, arith}
 use Rattle.std.specs.Prelude.{codes}
 use Rattle.std.specs.Str.{bytes_eq}
@@ -11,7 +11,7 @@ use Rattle.mapcheck_core.specs.declared.nest.Nest.{Nest}
 use Rattle.mapcheck_core.specs.TreeReading.{may_begin, with_leaf, opened, closed, when, walk, whole, measured, stands, may_stand, read_on}
 use Rattle.mapcheck_core.proofs.TreeLists.{nodes-push, lowest, lowest-push, lowest-below}
 
--- the nest of one whole tree
+-- the state after one whole tree
 abbrev pub size_of : Topology → Nest
 size_of t = record { unclosed = 0; filled = true; nodes = nodes t; levels = depth t }
 
@@ -23,7 +23,7 @@ abbrev levels_in : List Topology → List (List Topology) → ℕ
 levels_in ts [] = lowest 0 ts
 levels_in ts (around ∷ outer) = max (lowest (length outer + 1) ts) (levels_in around outer)
 
--- what is counted where these trees stand
+-- the counts, given the trees read so far
 abbrev nest_of : List Topology → List (List Topology) → Nest
 nest_of ts outer = record { unclosed = length outer; filled = stands ts; nodes = nodes_in ts outer; levels = levels_in ts outer }
 
@@ -71,7 +71,7 @@ close_nest t ts around outer =
     let below = lowest-below (length outer) t ts in
     same_nest (closed (nest_of (t ∷ ts) (around ∷ outer))) (nest_of (around ++ inner tt (trees_of (t ∷ ts)) ∷ []) outer) (omega arith) (sym (stands-push around (inner tt (trees_of (t ∷ ts))))) (omega arith) (omega arith)
 
--- no tree stands below all open nodes, and one at most where none is open
+-- no tree has been read outside the open nodes; if none is open, at most one tree has been read
 abbrev IsBare : List Topology → List (List Topology) → Type 0
 IsBare ts [] = ts ≡ []
 IsBare ts (around ∷ outer) = IsBare around outer
@@ -98,7 +98,7 @@ may_same : (ts : List Topology) (outer : List (List Topology)) → may_begin (ne
 may_same ts [] = refl
 may_same ts (around ∷ outer) = ap (λ b. b || not (stands ts)) (some_open (length outer))
 
--- from here on the sizes are counted that the tree has
+-- the counts from here on are the sizes of the tree that is read
 abbrev Counts : Nest → List Glyph → Option Topology → Type 0
 Counts s gs o = option_bind (walk s gs) whole ≡ option_map size_of o
 
@@ -147,6 +147,6 @@ counts (sign m.LessEq ∷ gs) ts outer one = refl
 counts (sign m.More ∷ gs) ts outer one = refl
 counts (sign m.MoreEq ∷ gs) ts outer one = refl
 
--- what is measured is the size of the tree that is read, and nothing where none is
+-- the measured size is that of the tree that is read, and there is none if no tree is read
 pub measured-is : (gs : List Glyph) → measured gs ≡ option_map size_of (read_on gs [] [])
 measured-is gs = counts gs [] [] (omega arith)

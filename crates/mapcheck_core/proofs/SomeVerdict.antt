@@ -1,4 +1,5 @@
--- There is no map without a verdict: no clause of an embedding is broken, or there is a first.
+-- A map without a verdict is impossible: no clause of an embedding is broken, or there is a first
+-- broken clause.
 use Rattle.std.proofs.Common.{◌≡◌, ℕ, zero, suc, ◌+◌, ◌<◌, ◌≤◌, false, [], ◌∷◌, Option, Some, None, ◌⊎◌, inl, inr, refl, sym, ◌∙◌, subst, arith, below_more}
 use Rattle.std.proofs.lemmas.Bool.{cases_Bool, cases_lt}
 use Rattle.tree_defs.specs.Tree.{Address, IsAddressOf, nodes}
@@ -13,7 +14,8 @@ use Rattle.mapcheck_core.proofs.MapLaws.{pair_found, all_kept, embeds}
 
 -- ---- the least line
 module _ (s : Topology) (g : Given) (P : Address → Type 0) (none : (n : ℕ) → IsLeastLine s g P n → ⊥) where
-  -- what holds of an address has a least line, and that is below any number above the address's own
+  -- no address with property P has a line number below k, by induction on k, if there is no least
+  -- line number
   below : (k : ℕ) (a : Address) → IsAddressOf s a → P a → line_of s g a < k → ⊥
   below zero a inside holds low = omega (arith, low)
   below (suc k) a inside holds low = none (line_of s g a) (record {
@@ -46,7 +48,7 @@ module _ (s : Topology) (g : Given) where
   first_broken a zero = (None, λ i low. absurd (omega (arith, low)))
   first_broken a (suc n) = let same : n + 1 ≡ suc n = omega arith in subst (First a) same (next_broken a n (first_broken a n))
 
-  -- the first k numbers have no pair, or there is a first pair
+  -- the first k numbers have no broken pair, or there is a first broken pair
   abbrev Pairs : ℕ → ℕ → Type 0
   Pairs n k = ((a : ℕ) → a < k → IsFirstBroken g a (span_at s a) n None) ⊎ ((p : ℕ × ℕ) × IsFirstPair s g n (Some p))
 

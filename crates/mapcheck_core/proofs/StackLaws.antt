@@ -1,4 +1,4 @@
--- Reading a tree over a stack of lists, the last of which stands around the open node.
+-- Reading a tree with a stack of lists. The last list has the trees around the open node.
 use Rattle.std.proofs.Common.{◌≡◌, ℕ, suc, ◌+◌, ◌<◌, Bool, true, false, ◌&&◌, List, [], ◌∷◌, ◌++◌, length, get_or, drop, Option, Some, None, if◌then◌else◌, sym, refl, ap, ◌∙◌, arith}
 use Rattle.std.specs.Prelude.{codes}
 use Rattle.std.specs.Str.{bytes_eq}
@@ -10,7 +10,7 @@ use Rattle.tree_defs.specs.Tree.{leaf, inner, trees_of}
 use Rattle.tree_defs.specs.Topology.{Topology}
 use Rattle.mapcheck_core.specs.TreeReading.{may_stand, read_on}
 
--- the lists of a stack with these lists below it, the last first
+-- the lists of a stack, the last first, followed by the lists below it
 abbrev pub turned : List (List Topology) → List (List Topology) → List (List Topology)
 turned [] below = below
 turned (ts ∷ stack) below = turned stack (ts ∷ below)
@@ -26,7 +26,7 @@ then_some false o t e = absurd cc
 pub open_step : (gs : List Glyph) (ts : List Topology) (outer : List (List Topology)) (t : Topology) → read_on (sign m.Open ∷ gs) ts outer ≡ Some t → read_on gs [] (ts ∷ outer) ≡ Some t
 open_step gs ts outer t e = then_some (may_stand ts outer) (read_on gs [] (ts ∷ outer)) t e
 
--- where a node is closed, one is open
+-- a node is closed only if one is open
 pub record IsClosed (gs : List Glyph) (ts : List Topology) (outer : List (List Topology)) (t : Topology) : Type 0 where
   pub around : List Topology
   pub further : List (List Topology)
@@ -38,7 +38,7 @@ close_step gs [] outer t e = absurd cc
 close_step gs (u ∷ us) [] t e = absurd cc
 close_step gs (u ∷ us) (around ∷ further) t e = record { around = around; further = further; is_open = refl; rest = e }
 
--- what opens and closes nothing is a leaf
+-- a glyph that neither opens nor closes a node is a leaf
 pub leaf_step : (g : Glyph) (gs : List Glyph) (ts : List Topology) (outer : List (List Topology)) (t : Topology) → (g ≡ sign m.Open → ⊥) → (g ≡ sign m.Close → ⊥) → read_on (g ∷ gs) ts outer ≡ Some t → read_on gs (ts ++ leaf tt ∷ []) outer ≡ Some t
 leaf_step (text w) gs ts outer t no_open no_close e = then_some (bytes_eq w (codes "leaf") && may_stand ts outer) (read_on gs (ts ++ leaf tt ∷ []) outer) t e
 leaf_step (figure n) gs ts outer t no_open no_close e = absurd cc
@@ -59,13 +59,14 @@ leaf_step (sign m.LessEq) gs ts outer t no_open no_close e = absurd cc
 leaf_step (sign m.More) gs ts outer t no_open no_close e = absurd cc
 leaf_step (sign m.MoreEq) gs ts outer t no_open no_close e = absurd cc
 
--- the glyph at a place, and those behind it
+-- the glyph at an index, followed by the remaining ones
 glyphs_from : (items : List Item) (i : ℕ) (d : Item) → i < length items → glyphs_of (drop i items) ≡ glyph_of (get_or items i d) ∷ glyphs_of (drop (i + 1) items)
 glyphs_from items i d low =
     let one : suc i ≡ i + 1 = omega arith in
     ap glyphs_of (drop-cons items i d low) ∙ ap (λ n. glyph_of (get_or items i d) ∷ glyphs_of (drop n items)) one
 
--- one item of those that are read, where these trees stand and these lists around them, and these behind it
+-- One item read: `ts` are the trees so far, `stack` has the lists around them, and the remaining
+-- items follow.
 module _ (items : List Item) (i : ℕ) (d : Item) (ts us : List Topology) (stack rest : List (List Topology)) (t : Topology) (low : i < length items) (reads : read_on (glyphs_of items) [] [] ≡ Some t) (so_far : read_on (glyphs_of (drop i items)) ts (turned stack []) ≡ read_on (glyphs_of items) [] []) where
   here : read_on (glyph_of (get_or items i d) ∷ glyphs_of (drop (i + 1) items)) ts (turned stack []) ≡ Some t
   here = ap (λ (gs : List Glyph). read_on gs ts (turned stack [])) (sym (glyphs_from items i d low)) ∙ so_far ∙ reads
@@ -81,7 +82,7 @@ module _ (items : List Item) (i : ℕ) (d : Item) (ts us : List Topology) (stack
   is_closed : glyph_of (get_or items i d) ≡ sign m.Close → IsClosed (glyphs_of (drop (i + 1) items)) ts (turned stack []) t
   is_closed mark = close_step (glyphs_of (drop (i + 1) items)) ts (turned stack []) t (ap (λ (g : Glyph). read_on (g ∷ glyphs_of (drop (i + 1) items)) ts (turned stack [])) (sym mark) ∙ here)
 
-  -- where a node is closed the stack isn't empty
+  -- when a node is closed, the stack isn't empty
   pub never_empty : glyph_of (get_or items i d) ≡ sign m.Close → stack ≡ [] → ⊥
   never_empty mark empty =
       let closed = is_closed mark in

@@ -1,4 +1,5 @@
--- A text is a tree or has a fault, and a text has an answer as a map: there is no text without one.
+-- A text is a tree or has an error, and it has an answer as a map. A text without one is
+-- impossible.
 use Rattle.std.proofs.Common.{◌≡◌, ℕ, ◌+◌, ◌≤◌, List, [], ◌∷◌, ◌++◌, length, Result, inl, inr, sym, ◌∙◌, refl, subst, arith, append_assoc}
 use Rattle.std.proofs.lemmas.Bool.{cases_lt}
 use Rattle.std.proofs.lemmas.List.{append-nil, length-append}
@@ -17,7 +18,8 @@ use Rattle.mapcheck_core.specs.TreeTexts.{most_tree_bytes, TreeLine, one_tree, T
 use Rattle.mapcheck_core.proofs.GiveLaws.{Give-push}
 
 -- ---- line by line
--- Behind right lines each line is right or at fault. Neither all lines are right, nor is one the first at fault.
+-- After right lines, each line is right or has an error. Then it is contradictory that the lines
+-- aren't all right and that none is the first with an error.
 module _ {A : Type 0} (Gives : ℕ → List ℕ → List A → Type 0) (AtFault : List A → ℕ → List ℕ → Type 0) (Right : List A → Type 0)
     (decides : (before : List A) (n : ℕ) (line : List ℕ) → Right before → ((s : List A) → Gives n line s → Right (before ++ s) → ⊥) → (AtFault before n line → ⊥) → ⊥)
     (lines : List (List ℕ)) (none_right : (ss : List A) → Give Gives 1 lines ss → Right ss → ⊥) (none_wrong : (n : ℕ) → IsFirstAtFault Gives AtFault lines n → ⊥) where
@@ -71,7 +73,7 @@ sized t small big = elim (cases_lt most_nodes (nodes t)) [
   ]
 ]
 
--- lines that are in form and have at most one tree
+-- well-formed lines with at most one tree
 module _ (text : List ℕ) (short : length text ≤ most_tree_bytes) (none : (t : Topology) → IsTreeText text t → ⊥) (no_fault : (f : TreeFault) → IsTreeFault text f → ⊥) where
   of_lines : (ss : List TreeLine) → Give TreeGives 1 (statements_of text) ss → AtMostOne ss → ⊥
   of_lines [] give few = no_fault (fault.Line 0) (no_line short give)

@@ -1,4 +1,4 @@
--- A text is one tree, or has one fault.
+-- A text is only one tree, or has only one error.
 use Rattle.std.proofs.Common.{◌≡◌, ℕ, ◌≤◌, List, [], ◌∷◌, ◌++◌, length, Some, Result, Ok, Err, ◌⊎◌, inl, inr, sym, refl, ap, ◌∙◌, subst, arith, length-append}
 use Rattle.std.specs.Prelude.{MatchResult}
 use Rattle.text_core.specs.Glyphs.{Glyph}
@@ -99,7 +99,7 @@ IsTreeFault-one text _ _ (large k t only l) (at_line n short f) = absurd (Give-r
 IsTreeFault-one text _ _ (large k t only l) (no_line short none) = absurd (none_one k t (Give-one TreeGives TreeGives-one 1 (statements_of text) [] (one_tree k t) none only.give))
 IsTreeFault-one text _ _ (large k t only l) (large n u also m) = ap fault.Large (same_only text k n t u only also).0
 
--- ---- what an answer tells
+-- ---- consequences of an answer
 
 pub accepted : {R : Type 0} (shape : R → Topology) (text : List ℕ) (r : Result R TreeFault) (t : Topology) → MatchResult r (λ x. IsTreeText text (shape x)) (λ f. (f ≡ fault.NoMemory) ⊎ IsTreeFault text f) → IsTreeText text t → MatchResult r (λ x. shape x ≡ t) (λ f. f ≡ fault.NoMemory)
 accepted shape text (Ok x) t right is = IsTreeText-one text (shape x) t right is

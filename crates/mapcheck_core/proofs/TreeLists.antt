@@ -1,4 +1,4 @@
--- One tree more in a list of trees.
+-- One more tree in a list of trees.
 use Rattle.std.proofs.Common.{◌≡◌, ℕ, ◌+◌, List, [], ◌∷◌, ◌++◌, sym, refl, ap, ◌∙◌, arith, append_assoc, max}
 use Rattle.std.proofs.lemmas.List.{append-nil}
 use Rattle.text_core.specs.Glyphs.{Glyph}
@@ -15,7 +15,7 @@ pub trees_of-list_of : (ts : Trees (Unit {0})) → trees_of (list_of ts) ≡ ts
 trees_of-list_of none = refl
 trees_of-list_of (more t ts) = ap (more t) (trees_of-list_of ts)
 
--- what is written of trees, with one more
+-- the written form of trees, with one more tree
 pub written-push : (ts : List Topology) (u : Topology) (rest : List Glyph) → written_all (trees_of (ts ++ u ∷ [])) ++ rest ≡ written_all (trees_of ts) ++ (written u ++ rest)
 written-push [] u rest = ap (λ (gs : List Glyph). gs ++ rest) (append-nil (written u))
 written-push (t ∷ ts) u rest =
@@ -31,7 +31,7 @@ pub nodes-push : (ts : List Topology) (u : Topology) → nodes_below (trees_of (
 nodes-push [] u = omega arith
 nodes-push (t ∷ ts) u = let ih = nodes-push ts u in omega arith
 
--- how far down the trees reach that stand at a level
+-- the greatest depth of trees whose roots are at a level
 abbrev pub lowest : ℕ → List Topology → ℕ
 lowest k [] = 0
 lowest k (t ∷ ts) = max (k + depth t) (lowest k ts)

@@ -16,13 +16,13 @@ use Rattle.mapcheck_core.specs.NumberedLines.{Give, over, next, InNoForm, IsFirs
 use Rattle.mapcheck_core.specs.TreeTexts.{most_tree_bytes, TreeLine, one_tree, TreeGives, nothing, tree, IsTreeText, IsTreeLineFault, no_form, second, IsTreeFault, at_line, no_line, large, IsRead, AreRead, AreReadLines}
 use Rattle.mapcheck_core.proofs.LineLaws.{lines_more, fault_here}
 
--- a line with nothing more
+-- an empty line
 pub more_nothing : (text : List ℕ) (ls : List Line) (i : ℕ) (d : Line) (f : Found) (place : ℕ) → i < length ls → AreRead (map (line_text text) (take i ls)) f place → ((n : ℕ) → TreeGives n (line_text text (get_or ls i d)) []) → AreRead (map (line_text text) (take (i + 1) ls)) f place
 more_nothing text ls i d found.Nothing place inside r g = (r.0, lines_more TreeGives text ls i d [] [] inside r.1 (g (i + 1)))
 more_nothing text ls i d (found.Tree t) place inside r g = (r.0, lines_more TreeGives text ls i d (one_tree place (topology t)) [] inside r.1 (g (i + 1)), r.2)
 more_nothing text ls i d found.Large place inside r g = (r.0, (r.1.0, lines_more TreeGives text ls i d (one_tree place r.1.0) [] inside r.1.1 (g (i + 1)), r.1.2))
 
--- where no tree was met nothing was given
+-- if no tree was found, no entry was given
 none_yet : (lines : List (List ℕ)) (f : Found) → AreRead lines f 0 → Give TreeGives 1 lines []
 none_yet lines found.Nothing r = r.1
 none_yet lines (found.Tree t) r = absurd (let low : 0 < 0 = r.0 in omega arith)
@@ -44,7 +44,7 @@ tree_there line found.Nothing some is = absurd (some refl)
 tree_there line (found.Tree t) some is = record { shape = topology t; gives = is.0 }
 tree_there line found.Large some is = record { shape = is.0; gives = is.1 }
 
--- what lines that were read have given: one tree at most, and one where the place is told
+-- the entries of the lines read so far: at most one tree, and exactly one if `place` isn't 0
 record HasGiven (lines : List (List ℕ)) (place : ℕ) : Type 0 where
   given : List TreeLine
   give : Give TreeGives 1 lines given
@@ -63,7 +63,7 @@ second_tree text ls i d f g place texts inside r low some is =
     let there = tree_there (line_text text (get_or ls i d)) g some is in
     fault_here TreeGives IsTreeLineFault text ls i d h.given texts inside h.give (second there.shape (h.some low) (there.gives (i + 1)))
 
--- a line in no form
+-- a malformed line
 pub formless : (text : List ℕ) (ls : List Line) (i : ℕ) (d : Line) (f : Found) (place : ℕ) → map (line_text text) ls ≡ statements_of text → i < length ls → AreRead (map (line_text text) (take i ls)) f place → ((n : ℕ) → InNoForm TreeGives n (line_text text (get_or ls i d))) → IsFirstAtFault TreeGives IsTreeLineFault (statements_of text) (i + 1)
 formless text ls i d f place texts inside r none =
     let h = has_given (map (line_text text) (take i ls)) f place r in
@@ -72,7 +72,7 @@ formless text ls i d f place texts inside r none =
 pub all_read : (text : List ℕ) (ls : List Line) (i : ℕ) (f : Found) (place : ℕ) → map (line_text text) ls ≡ statements_of text → length ls ≤ i → AreRead (map (line_text text) (take i ls)) f place → AreReadLines text f place
 all_read text ls i f place texts end r = subst (λ (lines : List (List ℕ)). AreRead lines f place) (ap (map (line_text text)) (take_all i ls end) ∙ texts) r
 
--- ---- what the whole text is
+-- ---- the answer for the whole text
 
 pub no_tree : (text : List ℕ) (n : ℕ) → length text ≤ most_tree_bytes → AreReadLines text found.Nothing n → IsTreeFault text (fault.Line 0)
 no_tree text n short r = no_line short r.1
@@ -95,23 +95,23 @@ give_branched n (l ∷ ls) _ (next _ _ _ _ ts (tree t clean says b) rest) = (b, 
 pub text_within : (text : List ℕ) (t : Topology) → IsTreeText text t → IsWithinLimits t
 text_within text t is = record { few = is.small.0; low = is.small.1; branched = (give_branched 1 (statements_of text) (one_tree is.line t) is.only.give).0 }
 
--- the fault of the line at a place
+-- the error of the line at an index
 pub told_fault : (text : List ℕ) (ls : List Line) (i : ℕ) (d : Line) (f : Found) (place number : ℕ) (g : TreeFault) → length text ≤ most_tree_bytes → map (line_text text) ls ≡ statements_of text → i < length ls → AreRead (map (line_text text) (take i ls)) f place → number ≡ i + 1 → (g ≡ fault.NoMemory) ⊎ ((g ≡ fault.Line number) × ((n : ℕ) → InNoForm TreeGives n (line_text text (get_or ls i d)))) → (g ≡ fault.NoMemory) ⊎ IsTreeFault text g
 told_fault text ls i d f place number g short texts inside r same (inl e) = inl e
 told_fault text ls i d f place number g short texts inside r same (inr wrong) =
     let here = formless text ls i d f place texts inside r wrong.1 in
     inr (subst (IsTreeFault text) (ap fault.Line (sym same) ∙ sym wrong.0) (at_line (i + 1) short here))
 
--- a second tree at a place
+-- a second tree, at an index
 pub told_second : (text : List ℕ) (ls : List Line) (i : ℕ) (d : Line) (f g : Found) (place number : ℕ) → length text ≤ most_tree_bytes → map (line_text text) ls ≡ statements_of text → i < length ls → AreRead (map (line_text text) (take i ls)) f place → number ≡ i + 1 → 0 < place → (g ≡ found.Nothing → ⊥) → IsRead (line_text text (get_or ls i d)) g → IsTreeFault text (fault.Line number)
 told_second text ls i d f g place number short texts inside r same low some is =
     subst (λ n. IsTreeFault text (fault.Line n)) (sym same) (at_line (i + 1) short (second_tree text ls i d f g place texts inside r low some is))
 
--- the next line's tree, where none was met before, or nothing more
+-- the next line's tree, if none was found before, or an empty line
 pub told_more : (text : List ℕ) (ls : List Line) (i : ℕ) (d : Line) (f g : Found) (place : ℕ) → i < length ls → AreRead (map (line_text text) (take i ls)) f place → IsRead (line_text text (get_or ls i d)) g → g ≡ found.Nothing → AreRead (map (line_text text) (take (i + 1) ls)) f place
 told_more text ls i d f g place inside r is e = more_nothing text ls i d f place inside r (subst (IsRead (line_text text (get_or ls i d))) e is)
 
--- what the test of a line says
+-- the result of the test of a line
 pub is_tree : (f : Found) (b : Bool) → MatchBool b (f ≢ found.Nothing) (f ≡ found.Nothing) → b ≡ true → f ≡ found.Nothing → ⊥
 is_tree f true m e n = m n
 is_tree f false m e n = cc

@@ -1,4 +1,4 @@
--- What a verdict says of the answer.
+-- The answer that a verdict gives.
 use Rattle.std.proofs.Common.{◌≡◌, ◌↔◌, Ok, Err, Result, refl, ap, subst}
 use Rattle.tree_defs.specs.Topology.{Topology}
 use Rattle.embed_defs.specs.Embedding.{IsEmbedding}

@@ -1,4 +1,4 @@
--- The faults of a given map, in a report.
+-- Errors of a given map, as numbers in a report.
 use Rattle.std.specs.Prelude.{◌≡◌, refl, ℕ, [], ◌∷◌, map}
 use Rattle.mapcheck_core.specs.declared.fault.MapFault.{MapFault}
 use Rattle.mapcheck_core.specs.declared.fault.MapFault.TheVariants as fault
@@ -15,7 +15,7 @@ code_of (fault.Leaf n) = 8
 code_of (fault.Prefix a b) = 9
 code_of fault.NoMemory = 0
 
--- the line or the node that the fault holds, 0 where it holds neither
+-- the line or node number that the error holds, or 0 if it holds neither
 abbrev pub place_of : MapFault → ℕ
 place_of (fault.Line n) = n
 place_of (fault.Unknown n) = n
@@ -32,6 +32,7 @@ codes_of_texts = refl
 codes_of_clauses : map code_of (fault.NoAddress 4 ∷ fault.Root 4 ∷ fault.Leaf 4 ∷ fault.Prefix 1 2 ∷ []) ≡ 6 ∷ 7 ∷ 8 ∷ 9 ∷ []
 codes_of_clauses = refl
 
--- two nodes are no place, and a missing node is one by its number
+-- an error about two nodes has no single number; an error about a missing node has the node's
+-- number
 places : map place_of (fault.TooLong ∷ fault.Missing 3 ∷ fault.Root 4 ∷ fault.Prefix 1 2 ∷ []) ≡ 0 ∷ 3 ∷ 4 ∷ 0 ∷ []
 places = refl

@@ -15,7 +15,7 @@ pub record MapLine : Type 0 where
   pub image : Address
   pub line : ℕ
 
--- the greatest number of an image
+-- the greatest number in an image
 abbrev pub most_digit : ℕ
 most_digit = 4294967295
 
@@ -33,20 +33,21 @@ image_said gs = joined gs
 abbrev pub one_line : ℕ → List ℕ → Address → List MapLine
 one_line n w a = record { name = w; image = a; line = n } ∷ []
 
--- what the line of a number gives that says this, if it is in the form: nothing where it is empty
+-- The entries of the line of a number, parsed from its glyphs, if it is well formed. An empty line
+-- gives none.
 abbrev pub map_line : ℕ → List Glyph → Option (List MapLine)
 map_line n [] = Some []
 map_line n (text k ∷ text w ∷ gs) = if bytes_eq k (codes "map") && is_name w then option_map (one_line n w) (image_said gs) else None
 map_line n _ = None
 
--- the line of a number has clean bytes, is in the form, and gives this
+-- the line of a number has clean bytes, is well formed, and gives these entries
 pub record MapGives (n : ℕ) (line : List ℕ) (given : List MapLine) : Type 0 where
   pub clean : is_clean_text line ≡ true
   pub glyphs : List Glyph
   pub says : Says line glyphs
   pub form : map_line n glyphs ≡ Some given
 
--- what a line gives, apart from where it lies in memory
+-- the entry of a line, independent of its location in memory
 abbrev pub line_of_entry : Entry → MapLine
 line_of_entry e = record { name = e.name.now; image = e.image; line = e.line }
 

@@ -1,4 +1,5 @@
--- Which texts are maps of the nodes with these names, and what fault another text has. The codes decide in their order.
+-- The texts that are maps of the nodes with these names, and the error of any other text. The codes
+-- are checked in order.
 use Rattle.std.specs.Prelude.{◌≡◌, refl, ℕ, ◌<◌, ◌≤◌, Bool, not, if◌then◌else◌, List, [], ◌∷◌, ◌++◌, length, map, position, Option, Some, None, Result, Ok, Err, codes}
 use Rattle.std.specs.List.{list_any}
 use Rattle.std.specs.Str.{bytes_eq}
@@ -9,7 +10,7 @@ use Rattle.mapcheck_core.specs.declared.fault.MapFault.TheVariants as fault
 use Rattle.mapcheck_core.specs.NumberedLines.{Give, InNoForm, IsFirstAtFault}
 use Rattle.mapcheck_core.specs.MapLines.{MapLine, MapGives, one_line}
 
--- the most bytes of a map
+-- the greatest length of a map's text, in bytes
 abbrev pub most_map_bytes : ℕ
 most_map_bytes = 1048576
 
@@ -20,12 +21,12 @@ has names name = list_any (bytes_eq name) names
 abbrev pub named : List MapLine → List (List ℕ)
 named ms = map (λ m. m.name) ms
 
--- the least line whose name isn't among the names; lines stand in the order of their numbers
+-- the least line number whose name isn't among the names; the lines are in order of their numbers
 abbrev pub unknown_line : List (List ℕ) → List MapLine → Option ℕ
 unknown_line names [] = None
 unknown_line names (m ∷ ms) = if has names m.name then unknown_line names ms else Some m.line
 
--- the least line whose name stands on an earlier line, or among the names that were given before
+-- the least line number whose name is on an earlier line, or among the names given before
 abbrev pub repeated_line : List (List ℕ) → List MapLine → Option ℕ
 repeated_line earlier [] = None
 repeated_line earlier (m ∷ ms) = if has earlier m.name then Some m.line else repeated_line (earlier ++ m.name ∷ []) ms
@@ -34,12 +35,12 @@ repeated_line earlier (m ∷ ms) = if has earlier m.name then Some m.line else r
 abbrev pub missing_node : List (List ℕ) → List MapLine → Option ℕ
 missing_node names ms = position (λ name. not (has (named ms) name)) names
 
--- what the first line of a name gives
+-- the entry of the first line that gives a name
 abbrev pub line_for : List MapLine → List ℕ → MapLine
 line_for [] name = record { name = name; image = []; line = 0 }
 line_for (m ∷ ms) name = if bytes_eq name m.name then m else line_for ms name
 
--- for each node, the image and the line of its name
+-- for each node, the image and the line number of its name
 abbrev pub map_given : List (List ℕ) → List MapLine → Given
 map_given names ms = record { images = map (λ name. (line_for ms name).image) names; lines = map (λ name. (line_for ms name).line) names }
 
@@ -55,11 +56,12 @@ abbrev pub name_answer : List (List ℕ) → List MapLine → Option ℕ → Res
 name_answer names ms (Some n) = Err (fault.Unknown n)
 name_answer names ms None = repeat_answer names ms (repeated_line [] ms)
 
--- the map of lines that are all in form, or their fault: a name that isn't a node's, then one that stands twice, then a node that isn't named
+-- The map of well-formed lines, or their error. Errors are checked in this order: a name that isn't
+-- a node's, a repeated name, a node that isn't named.
 abbrev pub answer_of : List (List ℕ) → List MapLine → Result Given MapFault
 answer_of names ms = name_answer names ms (unknown_line names ms)
 
--- a text that isn't too long and whose lines are all in form, with what they give
+-- a text that isn't too long and has only well-formed lines, with their entries
 pub record AreMapLines (text : List ℕ) (ms : List MapLine) : Type 0 where
   pub short : length text ≤ most_map_bytes
   pub give : Give MapGives 1 (statements_of text) ms
@@ -67,17 +69,18 @@ pub record AreMapLines (text : List ℕ) (ms : List MapLine) : Type 0 where
 abbrev pub IsInNoForm : List MapLine → ℕ → List ℕ → Type 0
 IsInNoForm before n line = InNoForm MapGives n line
 
--- the answer to a text: too long, else the least line in no form, else what the lines say of the names
+-- the answer to a text: too long, else the first malformed line, else the answer for the lines and
+-- the names
 pub data IsMapAnswer (text : List ℕ) (names : List (List ℕ)) : Result Given MapFault → Type 0 where
   too_long : most_map_bytes < length text → IsMapAnswer text names (Err fault.TooLong)
   no_form : (n : ℕ) → length text ≤ most_map_bytes → IsFirstAtFault MapGives IsInNoForm (statements_of text) n → IsMapAnswer text names (Err (fault.Line n))
   in_form : (ms : List MapLine) → AreMapLines text ms → IsMapAnswer text names (answer_of names ms)
 
--- P holds of the answer to a text
+-- the answer to a text has the property P
 abbrev pub ForMapAnswer : List ℕ → List (List ℕ) → (Result Given MapFault → Type 0) → Type 0
 ForMapAnswer text names P = (answer : Result Given MapFault) → IsMapAnswer text names answer → P answer
 
--- one image and one line for each name
+-- one image and one line number for each name
 pub record Fits (names : List (List ℕ)) (g : Given) : Type 0 where
   pub images : length g.images ≡ length names
   pub lines : length g.lines ≡ length names

@@ -1,16 +1,17 @@
--- What the numbered lines of a text give, where each of them is in form.
+-- The entries of a text's numbered lines, if each line is well formed.
 use Rattle.std.specs.Prelude.{◌≡◌, ℕ, ◌+◌, List, [], ◌∷◌, ◌++◌, length}
 
--- the lines from a number on are in form, and give these together
+-- the lines from a number on are well formed, and together give these entries
 pub data Give {A : Type 0} (Gives : ℕ → List ℕ → List A → Type 0) : ℕ → List (List ℕ) → List A → Type 0 where
   over : (n : ℕ) → Give Gives n [] []
   next : (n : ℕ) (l : List ℕ) (ls : List (List ℕ)) (s ss : List A) → Gives n l s → Give Gives (n + 1) ls ss → Give Gives n (l ∷ ls) (s ++ ss)
 
--- the line of a number is in no form
+-- the line of a number is malformed
 abbrev pub InNoForm : {A : Type 0} → (ℕ → List ℕ → List A → Type 0) → ℕ → List ℕ → Type 0
 InNoForm {A} Gives n l = (s : List A) → Gives n l s → ⊥
 
--- the first line, counted from 1, of which this holds behind what those before it give, which are in form
+-- The first line with an error, counted from 1. The lines before it are well formed; whether a line
+-- has an error may depend on their entries.
 pub record IsFirstAtFault {A : Type 0} (Gives : ℕ → List ℕ → List A → Type 0) (AtFault : List A → ℕ → List ℕ → Type 0) (lines : List (List ℕ)) (number : ℕ) : Type 0 where
   pub before : List (List ℕ)
   pub line : List ℕ

@@ -3,7 +3,7 @@ use Rattle.std.specs.Prelude.{◌≡◌, refl, ℕ, zero, suc, ◌+◌, ◌-◌,
 use Rattle.tree_defs.specs.Tree.{leaf, inner, Trees, none, more, Address, subtree, nodes, nodes_below}
 use Rattle.tree_defs.specs.Topology.{Topology, office}
 
--- how many nodes the part has whose root has a number
+-- the number of nodes of the subtree whose root has a number
 abbrev mutual
   pub span_at : Topology → ℕ → ℕ
   span_at (leaf u) n = 1

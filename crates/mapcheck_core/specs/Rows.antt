@@ -1,4 +1,4 @@
--- Worked maps: three leaves below a root, laid into two leaves and a node with one.
+-- Worked examples of maps: three leaves below a root, mapped to two leaves and a node with one.
 use Rattle.std.specs.Prelude.{◌≡◌, refl, [], ◌∷◌, map}
 use Rattle.tree_defs.specs.Tree.{leaf, inner, none, more}
 use Rattle.tree_defs.specs.Topology.{Topology}
@@ -11,7 +11,7 @@ three_leaves = inner tt (more (leaf tt) (more (leaf tt) (more (leaf tt) none)))
 abbrev pub two_leaves_and_a_node : Topology
 two_leaves_and_a_node = inner tt (more (leaf tt) (more (leaf tt) (more (inner tt (more (leaf tt) none)) none)))
 
--- the third leaf goes to the leaf below the node
+-- the third leaf is mapped to the leaf below the node
 abbrev pub row : Given
 row = record { images = [] ∷ (0 ∷ []) ∷ (1 ∷ []) ∷ (2 ∷ 0 ∷ []) ∷ []; lines = 4 ∷ 1 ∷ 3 ∷ 2 ∷ [] }
 

@@ -8,7 +8,7 @@ use Rattle.tree_defs.specs.Topology.{Topology, office}
 use Rattle.mapcheck_core.specs.declared.nest.Nest.{Nest}
 use Rattle.mapcheck_core.specs.TreeTexts.{written}
 
--- a tree may begin below an open node, or where none stands yet
+-- a tree may begin below an open node, or if none has been read yet
 abbrev pub may_begin : Nest → Bool
 may_begin s = nat_lt 0 s.unclosed || not s.filled
 
@@ -24,7 +24,7 @@ closed s = record { unclosed = s.unclosed - 1; filled = true; nodes = s.nodes; l
 abbrev pub when : Bool → Nest → Option Nest
 when fits s = if fits then Some s else None
 
--- one word or mark more
+-- one more word or mark
 abbrev pub step : Nest → Glyph → Option Nest
 step s (text w) = when (bytes_eq w (codes "leaf") && may_begin s) (with_leaf s)
 step s (sign m.Open) = when (may_begin s) (opened s)
@@ -38,11 +38,11 @@ walk s (g ∷ gs) = option_bind (step s g) (λ n. walk n gs)
 abbrev pub no_node : Nest
 no_node = record { unclosed = 0; filled = false; nodes = 0; levels = 0 }
 
--- one whole tree stands
+-- exactly one whole tree has been read
 abbrev pub whole : Nest → Option Nest
 whole s = when (nat_eq s.unclosed 0 && s.filled) s
 
--- how many nodes and levels a tree has that is written so, if it is one
+-- the number of nodes and levels of the tree that the glyphs write, if they write one
 abbrev pub measured : List Glyph → Option Nest
 measured gs = option_bind (walk no_node gs) whole
 
@@ -54,11 +54,12 @@ abbrev pub any_open : List (List Topology) → Bool
 any_open [] = false
 any_open (ts ∷ outer) = true
 
--- a tree may stand next below an open node, or where none stands yet
+-- the next tree may be below an open node, or anywhere if none has been read yet
 abbrev pub may_stand : List Topology → List (List Topology) → Bool
 may_stand ts outer = any_open outer || not (stands ts)
 
--- the tree that is written so, where these trees stand so far below the nearest open node and below those around it, the nearest first
+-- The tree that the glyphs complete. `ts` are the trees read so far below the nearest open node;
+-- `outer` has those below the open nodes around it, the nearest first.
 abbrev pub read_on : List Glyph → List Topology → List (List Topology) → Option Topology
 read_on [] (t ∷ []) [] = Some t
 read_on (text w ∷ gs) ts outer = if bytes_eq w (codes "leaf") && may_stand ts outer then read_on gs (ts ++ leaf tt ∷ []) outer else None

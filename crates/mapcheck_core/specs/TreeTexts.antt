@@ -1,4 +1,4 @@
--- Which texts are trees, and what fault another text has. The codes decide in their order.
+-- The texts that are trees, and the error of any other text. The codes are checked in order.
 use Rattle.std.specs.Prelude.{◌≡◌, refl, ℕ, zero, suc, ◌<◌, ◌≤◌, ◌⊎◌, true, List, [], ◌∷◌, ◌++◌, length, map, codes}
 use Rattle.std.proofs.Common.{inl, inr, lit<, lit≤}
 use Rattle.text_core.specs.declared.token.TokenKind.TheVariants as k
@@ -15,11 +15,11 @@ use Rattle.mapcheck_core.specs.declared.tree_fault.TreeFault.{TreeFault}
 use Rattle.mapcheck_core.specs.declared.tree_fault.TreeFault.TheVariants as fault
 use Rattle.mapcheck_core.specs.NumberedLines.{Give, InNoForm, IsFirstAtFault}
 
--- the most bytes of a tree
+-- the greatest length of a tree's text, in bytes
 abbrev pub most_tree_bytes : ℕ
 most_tree_bytes = 65536
 
--- how a topology is written: `leaf`, or its children in parentheses
+-- the written form of a topology: `leaf`, or its children in parentheses
 abbrev mutual
   pub written : Topology → List Glyph
   written (leaf u) = text (codes "leaf") ∷ []
@@ -37,7 +37,7 @@ pub record TreeLine : Type 0 where
 abbrev pub one_tree : ℕ → Topology → List TreeLine
 one_tree n t = record { line = n; tree = t } ∷ []
 
--- the line of a number has clean bytes, and these are nothing or a tree in which each inner node has a child
+-- the line of a number has clean bytes, and is empty or a tree in which each inner node has a child
 pub data TreeGives (n : ℕ) (line : List ℕ) : List TreeLine → Type 0 where
   nothing : is_clean_text line ≡ true → Says line [] → TreeGives n line []
   tree : (t : Topology) → is_clean_text line ≡ true → Says line (written t) → IsBranched t → TreeGives n line (one_tree n t)
@@ -49,7 +49,7 @@ IsSmall t = (nodes t ≤ most_nodes) × (depth t ≤ most_levels)
 abbrev pub IsLarge : Topology → Type 0
 IsLarge t = (most_nodes < nodes t) ⊎ (most_levels < depth t)
 
--- each line is in form, and only this one has a tree
+-- each line is well formed, and only this one has a tree
 pub record IsOnlyTree (bytes : List ℕ) (n : ℕ) (t : Topology) : Type 0 where
   pub short : length bytes ≤ most_tree_bytes
   pub give : Give TreeGives 1 (statements_of bytes) (one_tree n t)
@@ -60,33 +60,34 @@ pub record IsTreeText (bytes : List ℕ) (t : Topology) : Type 0 where
   pub only : IsOnlyTree bytes line t
   pub small : IsSmall t
 
--- behind one tree at most a line is at fault that is in no form or has a second tree
+-- after at most one tree, a line has an error if it is malformed or has a second tree
 pub data IsTreeLineFault (before : List TreeLine) (n : ℕ) (line : List ℕ) : Type 0 where
   no_form : length before ≤ 1 → InNoForm TreeGives n line → IsTreeLineFault before n line
   second : (t : Topology) → length before ≡ 1 → TreeGives n line (one_tree n t) → IsTreeLineFault before n line
 
--- the fault of a text: too long, else the least line at fault, or no line with a tree, else a tree that is too large
+-- the error of a text: too long, else the first line with an error, or no line with a tree, else a
+-- tree that is too large
 pub data IsTreeFault (bytes : List ℕ) : TreeFault → Type 0 where
   too_long : most_tree_bytes < length bytes → IsTreeFault bytes fault.TooLong
   at_line : (n : ℕ) → length bytes ≤ most_tree_bytes → IsFirstAtFault TreeGives IsTreeLineFault (statements_of bytes) n → IsTreeFault bytes (fault.Line n)
   no_line : length bytes ≤ most_tree_bytes → Give TreeGives 1 (statements_of bytes) [] → IsTreeFault bytes (fault.Line 0)
   large : (n : ℕ) (t : Topology) → IsOnlyTree bytes n t → IsLarge t → IsTreeFault bytes (fault.Large n)
 
--- P holds of the tree that the text is, where it is one
+-- if the text is a tree, the tree has the property P
 abbrev pub ForTree : List ℕ → (Topology → Type 0) → Type 0
 ForTree bytes P = (t : Topology) → IsTreeText bytes t → P t
 
--- P holds of the fault of the text, where it has one
+-- if the text has an error, the error has the property P
 abbrev pub ForTreeFault : List ℕ → (TreeFault → Type 0) → Type 0
 ForTreeFault bytes P = (f : TreeFault) → IsTreeFault bytes f → P f
 
--- what was read of a line: nothing, a tree, or a tree that is too large
+-- the contents read from a line: nothing, a tree, or a tree that is too large
 abbrev pub IsRead : List ℕ → Found → Type 0
 IsRead statement found.Nothing = (n : ℕ) → TreeGives n statement []
 IsRead statement (found.Tree t) = ((n : ℕ) → TreeGives n statement (one_tree n (topology t))) × IsSmall (topology t)
 IsRead statement found.Large = (t : Topology) × ((n : ℕ) → TreeGives n statement (one_tree n t)) × IsLarge t
 
--- what was read of lines that are in form and have at most one tree, and the number of its line
+-- the contents read from well-formed lines with at most one tree, and the number of its line
 abbrev pub AreRead : List (List ℕ) → Found → ℕ → Type 0
 AreRead lines found.Nothing n = (n ≡ 0) × Give TreeGives 1 lines []
 AreRead lines (found.Tree t) n = (0 < n) × Give TreeGives 1 lines (one_tree n (topology t)) × IsSmall (topology t)
@@ -101,7 +102,7 @@ code_of (fault.Line n) = 2
 code_of (fault.Large n) = 3
 code_of fault.NoMemory = 0
 
--- the line that the fault holds, 0 where it holds none
+-- the line number that the error holds, or 0 if it holds none
 abbrev pub place_of : TreeFault → ℕ
 place_of (fault.Line n) = n
 place_of (fault.Large n) = n
@@ -119,7 +120,7 @@ codes_and_places = refl
 a_line_is_the_place : map place_of (fault.TooLong ∷ fault.Line 4 ∷ fault.Large 2 ∷ []) ≡ 0 ∷ 4 ∷ 2 ∷ []
 a_line_is_the_place = refl
 
--- one node below another, above a leaf
+-- a chain of nodes with one child each, above a leaf
 abbrev chained : ℕ → Topology
 chained zero = leaf tt
 chained (suc n) = inner tt (more (chained n) none)
@@ -130,7 +131,7 @@ levels_of_a_small_tree = (lit≤ tt, lit≤ tt)
 a_level_too_many : IsLarge (chained 65)
 a_level_too_many = inr (lit< tt)
 
--- the root is a node too
+-- the root counts as a node
 nodes_of_a_small_tree : IsSmall (inner tt (copies 1023 (leaf tt)))
 nodes_of_a_small_tree = (lit≤ tt, lit≤ tt)
 

@@ -1,4 +1,4 @@
-//! Whether a given map is an embedding.
+//! Checks whether a given map is an embedding.
 ghost use Rattle.std.specs.Prelude.{◌≡◌, ◌==◌, ◌+◌, ◌<◌, ◌≤◌, ◌↔◌, not, IsOk, length, MatchOption};
 ghost use Rattle.tree_defs.specs.Tree.{nodes, most_nodes};
 ghost use Rattle.embed_defs.specs.Embedding.{IsEmbedding};
@@ -14,17 +14,17 @@ use crate::nodes::span;
 use crate::places::{is_address, is_leaf_at};
 use tree_core::Topo;
 
-/// What the image of a node has to be.
+/// A condition on the image of a node.
 #[derive(Clone, Copy, Debug)]
 pub(crate) enum Demand {
-    /// An address.
+    /// The image is an address.
     Address,
-    /// A leaf, where the node is one.
+    /// The image is a leaf, if the node is one.
     Leaf,
 }
 
 impl Demand {
-    /// Whether an image is not what it has to be for the node of this number.
+    /// Says whether an image breaks the condition for the node of this number.
     fn is_broken(self, topo: &Topo, middle: &Topo, number: usize, image: &[u32]) -> bool
         requires few { nodes (topology topo.now) ≤ most_nodes }
         requires inside { number < nodes (topology topo.now) }
@@ -37,7 +37,7 @@ impl Demand {
     }
 }
 
-/// The lower of a line and one that may have been met before.
+/// Returns the lesser of a line number and one that may have been found before.
 fn lower(least: Option<u32>, line: u32) -> u32
     ensures { result ≡ lower_of least line }
 {
@@ -47,7 +47,7 @@ fn lower(least: Option<u32>, line: u32) -> u32
     }
 }
 
-/// The least line whose image is not what it has to be.
+/// Returns the least line number whose image breaks the condition.
 fn least_line(topo: &Topo, middle: &Topo, given: &Given, demand: Demand) -> Option<u32>
     requires few { nodes (topology topo.now) ≤ most_nodes }
     requires given { IsGivenFor (topology topo.now) given.now }
@@ -65,14 +65,15 @@ fn least_line(topo: &Topo, middle: &Topo, given: &Given, demand: Demand) -> Opti
     least
 }
 
-/// Whether one address is a prefix of another.
+/// Says whether one address is a prefix of another.
 fn is_prefix(address: &[u32], other: &[u32]) -> bool
     ensures { result ≡ is_prefix address.now other.now }
 {
     other.starts_with(address)
 }
 
-/// The least number of a node whose image doesn't keep the node `first`, which has `span` nodes, as a prefix.
+/// Returns the least number of a node whose image breaks the prefix condition with the node
+/// `first`. The subtree of `first` has `span` nodes.
 fn first_broken(given: &Given, first: usize, span: usize) -> Option<usize>
     requires inside { first < length given.now.images }
     requires small { span ≤ most_nodes }
@@ -89,7 +90,7 @@ fn first_broken(given: &Given, first: usize, span: usize) -> Option<usize>
     None
 }
 
-/// The first two nodes of which one doesn't keep the other as a prefix.
+/// Returns the first two nodes that break the prefix condition.
 fn first_pair(topo: &Topo, given: &Given) -> Option<(usize, usize)>
     requires few { nodes (topology topo.now) ≤ most_nodes }
     requires given { IsGivenFor (topology topo.now) given.now }
@@ -103,7 +104,7 @@ fn first_pair(topo: &Topo, given: &Given) -> Option<(usize, usize)>
     None
 }
 
-/// The first clause of an embedding that a map breaks, and where.
+/// Returns the first clause of an embedding that a map breaks, with its line or nodes.
 fn first_fault(topo: &Topo, middle: &Topo, given: &Given) -> Option<MapFault>
     requires topo { IsWithinLimits (topology topo.now) }
     requires given { IsGivenFor (topology topo.now) given.now }
@@ -124,8 +125,8 @@ fn first_fault(topo: &Topo, middle: &Topo, given: &Given) -> Option<MapFault>
     }
 }
 
-/// Whether a map is an embedding of one topology in another; otherwise the first clause that it breaks, and where. It takes no
-/// memory.
+/// Checks whether a map is an embedding of one topology in another. The error is the first clause
+/// that the map breaks, with its line or nodes. Allocates no memory.
 pub fn check_map(topo: &Topo, middle: &Topo, given: &Given) -> Result<(), MapFault>
     requires topo { IsWithinLimits (topology topo.now) }
     requires middle { IsWithinLimits (topology middle.now) }

@@ -16,7 +16,7 @@ use list_core::List;
 use std::alloc::{AllocError, Global};
 use tree_core::Topo;
 
-/// The images of these addresses under a placement.
+/// Returns the images of these addresses under a placement.
 fn placed_images(
     alloc: Global,
     images: &[List<u32>],
@@ -35,8 +35,8 @@ fn placed_images(
     Ok(placed)
 }
 
-/// The map of a topology into a target: each image under a map that is given into the placement's topology, taken through
-/// the placement.
+/// Composes a given map with a placement, into the map of a topology into a target. The given map
+/// goes into the placement's topology; each of its images is mapped through the placement.
 pub fn compose(
     alloc: Global,
     topo: &Topo,

@@ -1,4 +1,4 @@
-//! What a line of a given map says.
+//! Parses a line of a given map.
 ghost use Rattle.std.specs.Prelude.{◌≡◌, ◌≤◌, ◌++◌, ◌∷◌, List, [], map, option_map, IfOk};
 ghost use Rattle.std.specs.Option.{option_to_list};
 ghost use Rattle.text_core.specs.Glyphs.{text, glyphs_of};
@@ -11,7 +11,7 @@ use policy_text_defs::{is, name_of};
 use std::alloc::Global;
 use text_core::{Item, Mark, Refusal, items};
 
-/// The name of a node, its image, and the line that gives it.
+/// The name of a node, its image, and the number of the line that gives it.
 #[derive(Drop)]
 pub(crate) struct Entry<'a> {
     pub name: &'a str,
@@ -19,7 +19,7 @@ pub(crate) struct Entry<'a> {
     pub line: u32,
 }
 
-/// The address of numbers that are joined by dots.
+/// Parses an address: numbers joined by dots.
 fn joined(alloc: Global, items: &[Item<'_>]) -> Result<List<u32>, Refusal>
     ensures ok { IfOk result (λ a. joined (glyphs_of items.now) ≡ Some a) }
     ensures none { result ≡ Err Refusal.NoForm → joined (glyphs_of items.now) ≡ None }
@@ -40,7 +40,7 @@ fn joined(alloc: Global, items: &[Item<'_>]) -> Result<List<u32>, Refusal>
     Err(Refusal::NoForm)
 }
 
-/// The address that the items behind a name say: `-` is the root's.
+/// Parses the address that follows a name: `-` for the root, or numbers joined by dots.
 fn image(alloc: Global, items: &[Item<'_>]) -> Result<List<u32>, Refusal>
     ensures ok { IfOk result (λ a. image_said (glyphs_of items.now) ≡ Some a) }
     ensures none { result ≡ Err Refusal.NoForm → image_said (glyphs_of items.now) ≡ None }
@@ -51,7 +51,7 @@ fn image(alloc: Global, items: &[Item<'_>]) -> Result<List<u32>, Refusal>
     }
 }
 
-/// What a line says that begins with these two words.
+/// Parses a line that begins with these two words.
 fn entry_named<'a>(
     alloc: Global,
     keyword: &[u8],
@@ -75,7 +75,7 @@ fn entry_named<'a>(
     Ok(Entry { name, image, line })
 }
 
-/// What a line says that begins with this word.
+/// Parses a line that begins with this word.
 fn entry_behind<'a>(
     alloc: Global,
     keyword: &[u8],
@@ -93,7 +93,7 @@ fn entry_behind<'a>(
     }
 }
 
-/// What a line says that says these items, if it isn't empty.
+/// Parses a line from its items. Returns `None` if it is empty.
 fn entry_of<'a>(alloc: Global, items: &[Item<'a>], line: u32) -> Result<Option<Entry<'a>>, Refusal>
     ensures ok { IfOk result (λ e. map_line line (glyphs_of items.now)
         ≡ Some (option_to_list (option_map line_of_entry e))) }
@@ -106,7 +106,7 @@ fn entry_of<'a>(alloc: Global, items: &[Item<'a>], line: u32) -> Result<Option<E
     }
 }
 
-/// What the line of this number says, if it isn't empty.
+/// Parses the line of this number. Returns `None` if it is empty.
 pub(crate) fn read_entry<'a>(
     alloc: Global,
     statement: &'a [u8],

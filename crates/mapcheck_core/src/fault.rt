@@ -1,35 +1,37 @@
-//! Why a given map is refused.
+//! Errors of a given map.
 ghost use Rattle.std.specs.Prelude.{◌≡◌};
 ghost use Rattle.mapcheck_core.specs.MapFaults.{code_of, place_of};
 
 use std::alloc::{AllocError, AllocFailed};
 
-/// Why a text is no map, or a map no embedding. Lines are counted from 1, nodes from 0 in preorder.
+/// Says why a text isn't a map, or a map isn't an embedding. Lines are counted from 1, and nodes
+/// from 0 in preorder.
 #[derive(Clone, Copy, PartialEq, Eq, Debug)]
 pub enum MapFault {
     /// The text is too long.
     TooLong,
-    /// This line is in no form.
+    /// This line is malformed.
     Line(u32),
-    /// The name of this line isn't a node's.
+    /// The name on this line isn't a node's.
     Unknown(u32),
-    /// The name of this line stands on an earlier line.
+    /// The name on this line is also on an earlier line.
     Twice(u32),
     /// No line names this node.
     Missing(u32),
-    /// The image of this line is no address.
+    /// The image on this line isn't an address.
     NoAddress(u32),
-    /// The root's image, which this line gives, is not the root.
+    /// The root's image, given on this line, isn't the root.
     Root(u32),
-    /// This line gives a leaf an image that is no leaf.
+    /// This line gives a leaf an image that isn't a leaf.
     Leaf(u32),
-    /// One of these nodes' address begins the other's and its image doesn't, or the other way round.
+    /// One of these nodes' addresses is a prefix of the other's but its image isn't, or the other
+    /// way round.
     Prefix(u32, u32),
     NoMemory,
 }
 
 impl MapFault {
-    /// The number of the fault in a report; 0 for want of memory.
+    /// Returns the error's number in a report, or 0 if out of memory.
     pub fn code(&self) -> u32
         ensures { result ≡ code_of self.now }
     {
@@ -47,7 +49,8 @@ impl MapFault {
         }
     }
 
-    /// The line at fault, or the node that no line names; 0 where the fault holds neither.
+    /// Returns the number of the line with the error, or of the node that no line names. Returns 0
+    /// if the error holds neither.
     pub fn place(&self) -> u32
         ensures { result ≡ place_of self.now }
     {

@@ -1,7 +1,8 @@
-//! A map that is given between two topologies.
+//! A given map from one topology to another.
 use list_core::List;
 
-/// For each node of a topology, in preorder, the address that is its image, and the line that gives it.
+/// Holds, for each node of a topology in preorder, the address that is its image, and the number of
+/// the line that gives it.
 #[derive(Drop)]
 pub struct Given {
     pub images: List<List<u32>>,

@@ -1,5 +1,6 @@
-//! A given topology and a map into it as texts, whether the map is an embedding, and where it goes in a target. Begin with
-//! specs/GivenMaps.antt and specs/Composition.antt.
+//! Reads a given topology and a map into it from texts, checks whether the map is an embedding, and
+//! composes it with a placement in a target. Begin with specs/GivenMaps.antt and
+//! specs/Composition.antt.
 #![tactic(auto)]
 
 mod check;

@@ -1,4 +1,4 @@
-//! Reading a given map: its lines in order, and then for each node the line that names it.
+//! Parses a given map: first its lines in order, then for each node the line that names it.
 ghost use Rattle.std.specs.Prelude.{◌≡◌, ◌↔◌, ◌⊎◌, ◌<◌, ◌≤◌, ℕ, true, false, List, [], length, map, option_map, IfOk, IfErr, MatchOption};
 ghost use Rattle.std.specs.Option.{option_to_list};
 ghost use Rattle.mapcheck_core.specs.Known.{knows};
@@ -19,10 +19,10 @@ use std::alloc::{AllocError, Global};
 use std::collections::BTreeSet;
 use text_core::{Refusal, lines};
 
-/// The most bytes of a map.
+/// The greatest length of a map's text, in bytes.
 pub const MOST_MAP_BYTES: usize = 1_048_576;
 
-/// What the line of this number says, if it isn't empty.
+/// Parses the line of this number. Returns `None` if it is empty.
 fn next_entry<'a>(
     alloc: Global,
     statement: &'a [u8],
@@ -42,7 +42,7 @@ fn next_entry<'a>(
     }
 }
 
-/// What the lines of a text say that isn't too long.
+/// Parses the lines of a text that isn't too long.
 fn read_entries<'a>(alloc: Global, text: &'a [u8]) -> Result<List<Entry<'a>>, MapFault>
     requires { length text.now ≤ most_map_bytes }
     ensures ok { IfOk result (λ es. AreMapLines text.now (map line_of_entry es)) }
@@ -62,7 +62,7 @@ fn read_entries<'a>(alloc: Global, text: &'a [u8]) -> Result<List<Entry<'a>>, Ma
     Ok(entries)
 }
 
-/// Sorts the names, so that a line's name is found without comparing it with each of them.
+/// Puts the names in order, so that a line's name is found without comparing it with each of them.
 fn ordered<'a>(alloc: Global, names: &'a [Name]) -> Result<BTreeSet<&'a str>, AllocError>
     ensures { IfOk result (λ known. (name : List ℕ) → knows known name ≡ has names.now name) }
 {
@@ -73,7 +73,7 @@ fn ordered<'a>(alloc: Global, names: &'a [Name]) -> Result<BTreeSet<&'a str>, Al
     Ok(known)
 }
 
-/// The first line that gives a name.
+/// Returns the first line that gives a name.
 fn entry_for<'a, 'b>(entries: &'a [Entry<'b>], name: &str) -> Option<&'a Entry<'b>>
     ensures { MatchOption result (has (named (map line_of_entry entries.now)) name.now ≡ false)
         (λ e. (has (named (map line_of_entry entries.now)) name.now ≡ true)
@@ -87,14 +87,14 @@ fn entry_for<'a, 'b>(entries: &'a [Entry<'b>], name: &str) -> Option<&'a Entry<'
     None
 }
 
-/// Whether one of the lines gives a name.
+/// Says whether one of the lines gives a name.
 fn is_named(entries: &[Entry<'_>], name: &str) -> bool
     ensures { result ≡ has (named (map line_of_entry entries.now)) name.now }
 {
     entry_for(entries, name).is_some()
 }
 
-/// Returns the least line whose name isn't known.
+/// Returns the least line number whose name isn't known.
 fn first_unknown(entries: &[Entry<'_>], known: &BTreeSet<&str>) -> Option<u32>
     ensures { (names : List (List ℕ)) → ((name : List ℕ) → knows known.now name ≡ has names name)
         → result ≡ unknown_line names (map line_of_entry entries.now) }
@@ -107,8 +107,8 @@ fn first_unknown(entries: &[Entry<'_>], known: &BTreeSet<&str>) -> Option<u32>
     None
 }
 
-/// Returns the least line whose name isn't among the names. Names are sorted first, since a map may have 100,000 lines.
-/// The error means out of memory.
+/// Returns the least line number whose name isn't among the names. Names are put in order first,
+/// since a map may have 100,000 lines. The error means out of memory.
 fn unknown_line(
     alloc: Global,
     entries: &[Entry<'_>],
@@ -120,7 +120,7 @@ fn unknown_line(
     Ok(first_unknown(entries, &known))
 }
 
-/// The least line whose name stands on an earlier line.
+/// Returns the least line number whose name is also on an earlier line.
 fn repeated_line(entries: &[Entry<'_>]) -> Option<u32>
     ensures { result ≡ repeated_line [] (map line_of_entry entries.now) }
 {
@@ -132,7 +132,7 @@ fn repeated_line(entries: &[Entry<'_>]) -> Option<u32>
     None
 }
 
-/// The least number of a node that no line names.
+/// Returns the least number of a node that no line names.
 fn missing_node(entries: &[Entry<'_>], names: &[Name]) -> Option<usize>
     ensures { result ≡ missing_node names.now (map line_of_entry entries.now) }
 {
@@ -141,7 +141,7 @@ fn missing_node(entries: &[Entry<'_>], names: &[Name]) -> Option<usize>
         .position(|name| !is_named(entries, name.as_str()))
 }
 
-/// The images and the lines of the nodes, each of which is named.
+/// Returns the images and line numbers of the nodes, each of which is named.
 fn images_of(alloc: Global, entries: &[Entry<'_>], names: &[Name]) -> Result<Given, AllocError>
     requires { missing_node names.now (map line_of_entry entries.now) ≡ None }
     ensures { IfOk result (λ g. g ≡ map_given names.now (map line_of_entry entries.now)) }
@@ -158,7 +158,7 @@ fn images_of(alloc: Global, entries: &[Entry<'_>], names: &[Name]) -> Result<Giv
     Ok(Given { images, lines })
 }
 
-/// The map that lines give, which are all in form.
+/// Makes the map from its lines, which have all been parsed.
 fn map_of(alloc: Global, entries: &[Entry<'_>], names: &[Name]) -> Result<Given, MapFault>
     requires few { length names.now ≤ most_nodes }
     ensures { (result ≡ answer_of names.now (map line_of_entry entries.now)) ⊎ (result ≡
@@ -176,9 +176,10 @@ fn map_of(alloc: Global, entries: &[Entry<'_>], names: &[Name]) -> Result<Given,
     Ok(images_of(alloc, entries, names)?)
 }
 
-/// The map that a text gives of the nodes with these names, which are a policy's in preorder. The text is refused where it is
-/// too long, else for its least line in no form, else for the least line whose name isn't a node's, else for the least line
-/// whose name stands on an earlier one, else for the first node that no line names.
+/// Parses a map of the nodes with these names, which are a policy's in preorder. Errors are checked
+/// in this order: the text is too long; a line is malformed; a name isn't a node's; a name is also
+/// on an earlier line; no line names a node. An error about a line or a node holds the least such
+/// number.
 pub fn read_map(alloc: Global, text: &[u8], names: &List<Name>) -> Result<Given, MapFault>
     requires few { length names.now ≤ most_nodes }
     ensures answer { (result ≡ Err NoMemory) ⊎ IsMapAnswer text.now names.now result }

@@ -1,11 +1,12 @@
-//! How far a tree has been read that is written with parentheses.
+//! The state of reading a tree that is written with parentheses.
 ghost use Rattle.std.specs.Prelude.{◌≡◌, ◌+◌, ◌<◌, ◌≤◌, ◌^◌, ℕ};
 ghost use Rattle.text_core.specs.Glyphs.{glyph_of, glyphs_of};
 ghost use Rattle.mapcheck_core.specs.TreeReading.{step, no_node, may_begin, measured};
 
 use text_core::{Item, Mark};
 
-/// How many parentheses are open, whether a tree stands behind the last of them, and how many nodes and levels were met.
+/// Holds the number of open parentheses, whether a tree has been read since the last of them was
+/// opened, and the number of nodes and levels so far.
 #[derive(Clone, Copy, Debug)]
 pub(crate) struct Nest {
     pub unclosed: usize,
@@ -15,14 +16,14 @@ pub(crate) struct Nest {
 }
 
 impl Nest {
-    /// Whether a tree may begin: below an open node, or where none stands yet.
+    /// Says whether a tree may begin: below an open node, or if none has been read yet.
     fn may_begin(self) -> bool
         ensures { result ≡ may_begin self }
     {
         self.unclosed > 0 || !self.filled
     }
 
-    /// One word or mark more.
+    /// Reads one more word or mark.
     fn step(self, item: &Item<'_>) -> Option<Nest>
         requires unclosed { self.unclosed + 1 < 2 ^ 64 }
         requires nodes { self.nodes + 1 < 2 ^ 64 }
@@ -51,7 +52,8 @@ impl Nest {
     }
 }
 
-/// How many nodes and levels the tree has that the items write, if they write one.
+/// Counts the nodes and levels of the tree that the items write. Returns `None` if they don't write
+/// a tree.
 pub(crate) fn measured(items: &[Item<'_>]) -> Option<Nest>
     ensures { result ≡ measured (glyphs_of items.now) }
 {

@@ -6,7 +6,7 @@ ghost use Rattle.mapcheck_core.specs.Numbers.{span_at};
 
 use tree_core::Topo;
 
-/// How many nodes a topology has.
+/// Returns the number of nodes of a topology.
 pub(crate) fn nodes(topo: &Topo) -> usize
     requires few { nodes (topology topo.now) ≤ most_nodes }
     ensures nodes { result ≡ nodes (topology topo.now) }
@@ -23,7 +23,7 @@ pub(crate) fn nodes(topo: &Topo) -> usize
     }
 }
 
-/// How many nodes the part of a topology has whose root has this number.
+/// Returns the number of nodes of the subtree whose root has this number.
 pub(crate) fn span(topo: &Topo, number: usize) -> usize
     requires few { nodes (topology topo.now) ≤ most_nodes }
     requires inside { number < nodes (topology topo.now) }

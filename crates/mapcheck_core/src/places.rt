@@ -1,4 +1,4 @@
-//! Whether an address leads to a node of a topology, or to a leaf.
+//! Says whether an address leads to a node of a topology, or to a leaf.
 ghost use Rattle.std.specs.Prelude.{◌≡◌, Option, option_map};
 ghost use Rattle.tree_defs.specs.Tree.{subtree};
 ghost use Rattle.tree_core.specs.Shape.{topology};
@@ -6,7 +6,7 @@ ghost use Rattle.mapcheck_core.specs.Numbers.{is_address, is_leaf_at};
 
 use tree_core::Topo;
 
-/// The part of a topology whose root is at an address, if a node is there.
+/// Returns the subtree at an address, if there is a node.
 fn part<'a>(topo: &'a Topo, address: &[u32]) -> Option<&'a Topo>
     ensures { option_map (λ part. topology part.now) result ≡
         subtree (topology topo.now) address.now }
@@ -23,14 +23,14 @@ fn part<'a>(topo: &'a Topo, address: &[u32]) -> Option<&'a Topo>
     }
 }
 
-/// Whether an address leads to a node.
+/// Says whether an address leads to a node.
 pub(crate) fn is_address(topo: &Topo, address: &[u32]) -> bool
     ensures { result ≡ is_address (topology topo.now) address.now }
 {
     part(topo, address).is_some()
 }
 
-/// Whether an address leads to a leaf.
+/// Says whether an address leads to a leaf.
 pub(crate) fn is_leaf_at(topo: &Topo, address: &[u32]) -> bool
     ensures { result ≡ is_leaf_at (topology topo.now) address.now }
 {

@@ -1,15 +1,15 @@
-//! Why a text is no tree.
+//! Errors of a tree's text.
 ghost use Rattle.std.specs.Prelude.{◌≡◌};
 ghost use Rattle.mapcheck_core.specs.TreeTexts.{code_of, place_of};
 
 use std::alloc::{AllocError, AllocFailed};
 
-/// Why a text is no tree. Lines are counted from 1.
+/// Says why a text isn't a tree. Lines are counted from 1.
 #[derive(Clone, Copy, PartialEq, Eq, Debug)]
 pub enum TreeFault {
     /// The text has more than `MOST_TREE_BYTES` bytes.
     TooLong,
-    /// This line is in no form, or is the second with a tree; 0 where no line has one.
+    /// This line is malformed, or is the second with a tree. It is 0 if no line has a tree.
     Line(u32),
     /// The tree of this line has more than 1,024 nodes or 64 levels.
     Large(u32),
@@ -17,7 +17,7 @@ pub enum TreeFault {
 }
 
 impl TreeFault {
-    /// The number of the fault in a report; 0 for want of memory.
+    /// Returns the error's number in a report, or 0 if out of memory.
     pub fn code(&self) -> u32
         ensures { result ≡ code_of self.now }
     {
@@ -29,7 +29,7 @@ impl TreeFault {
         }
     }
 
-    /// The line at fault, 0 where there is none.
+    /// Returns the number of the line with the error, or 0 if there is none.
     pub fn place(&self) -> u32
         ensures { result ≡ place_of self.now }
     {

@@ -1,4 +1,4 @@
-//! Reading a given tree: the one line of a text with a tree.
+//! Parses a given tree: the only line of a text that has a tree.
 ghost use Rattle.std.specs.Prelude.{◌≡◌, ◌≢◌, ◌↔◌, ◌⊎◌, ◌<◌, ◌≤◌, ℕ, [], length, IfOk, IfErr, MatchResult};
 ghost use Rattle.std.specs.Bool.{Decides, MatchBool};
 ghost use Rattle.text_core.specs.Glyphs.{sign, glyph_of, glyphs_of};
@@ -17,16 +17,16 @@ use std::alloc::{AllocError, Global};
 use text_core::{Item, Mark, Refusal, items, lines};
 use tree_core::Topo;
 
-/// The most bytes of a tree.
+/// The greatest length of a tree's text, in bytes.
 pub const MOST_TREE_BYTES: usize = 65_536;
 
-/// The most nodes of a tree.
+/// The greatest number of nodes of a tree.
 const MOST_NODES: usize = 1_024;
 
-/// The most levels below the root of a tree.
+/// The greatest number of levels below the root of a tree.
 const MOST_LEVELS: usize = 64;
 
-/// What a line has.
+/// The contents of a line.
 #[derive(Drop)]
 pub(crate) enum Found {
     Nothing,
@@ -46,21 +46,21 @@ impl Found {
     }
 }
 
-/// Whether a node begins.
+/// Says whether a node begins.
 fn opens(item: &Item<'_>) -> bool
     ensures { Decides result (glyph_of item.now ≡ sign Mark.Open) }
 {
     matches!(item, Item::Mark(Mark::Open))
 }
 
-/// Whether a node ends.
+/// Says whether a node ends.
 fn closes(item: &Item<'_>) -> bool
     ensures { Decides result (glyph_of item.now ≡ sign Mark.Close) }
 {
     matches!(item, Item::Mark(Mark::Close))
 }
 
-/// The tree that the items write, which write one.
+/// Makes the tree from its items, which write one.
 fn tree_of(alloc: Global, items: &[Item<'_>]) -> Result<Topo, AllocError>
     requires { (t : Topology) × (read_on (glyphs_of items.now) [] [] ≡ Some t) }
     ensures { IfOk result (λ t. read_on (glyphs_of items.now) [] [] ≡ Some (topology t)) }
@@ -88,7 +88,7 @@ fn tree_of(alloc: Global, items: &[Item<'_>]) -> Result<Topo, AllocError>
     Ok(tree)
 }
 
-/// What a line has that is in form.
+/// Parses a line. The error means that it is malformed, or out of memory.
 fn read_line(alloc: Global, statement: &[u8], clean: bool) -> Result<Found, Refusal>
     requires { clean ≡ is_clean_text statement.now }
     ensures ok { IfOk result (IsRead statement.now) }
@@ -110,7 +110,7 @@ fn read_line(alloc: Global, statement: &[u8], clean: bool) -> Result<Found, Refu
     Ok(Found::Tree(tree_of(alloc, items.as_slice())?))
 }
 
-/// What the line of this number has, which is in form.
+/// Parses the line of this number. The error means that it is malformed, or out of memory.
 fn next_found(alloc: Global, statement: &[u8], clean: bool, number: u32) -> Result<Found, TreeFault>
     requires { clean ≡ is_clean_text statement.now }
     ensures ok { IfOk result (IsRead statement.now) }
@@ -124,7 +124,8 @@ fn next_found(alloc: Global, statement: &[u8], clean: bool, number: u32) -> Resu
     }
 }
 
-/// What the only line with a tree has, and its number; 0 where there is none.
+/// Parses all lines. Returns the contents of the only line with a tree and its number, or 0 if
+/// there is none.
 fn read_lines(alloc: Global, text: &[u8]) -> Result<(Found, u32), TreeFault>
     requires { length text.now ≤ most_tree_bytes }
     ensures ok { IfOk result (λ r. AreReadLines text.now r.0 r.1) }
@@ -149,8 +150,9 @@ fn read_lines(alloc: Global, text: &[u8]) -> Result<(Found, u32), TreeFault>
     Ok((found, place))
 }
 
-/// The tree that a text writes. It is refused where it is too long, else for its least line that is in no form or has a second
-/// tree, or where no line has one, else where the tree has more than 1,024 nodes or 64 levels.
+/// Parses a tree's text. Errors are checked in this order: the text is too long; a line is
+/// malformed or has a second tree (the least such line), or no line has a tree; the tree has more
+/// than 1,024 nodes or 64 levels.
 pub fn read_tree(alloc: Global, text: &[u8]) -> Result<Topo, TreeFault>
     ensures tree { IfOk result (λ t. IsTreeText text.now (topology t)) }
     ensures limits { IfOk result (λ t. IsWithinLimits (topology t)) }

@@ -1,4 +1,4 @@
--- The fields of captured bytes, where it is known what they hold.
+-- The fields of captured bytes whose headers are known.
 use Rattle.std.proofs.Common.{◌≡◌, ℕ, ◌+◌, true, false, Option, List, refl, ap, ◌∙◌}
 use Rattle.packet_defs.specs.declared.fields.Fields.{Fields}
 use Rattle.packet_defs.specs.Internet.{no_fields, is_ipv4, ipv4_fields, ipv4_at, is_ipv6, ipv6_fields, ipv6_at}
@@ -21,7 +21,7 @@ carried-is : (bytes : List ℕ) (t : Option ℕ) (place : ℕ) (carried : Fields
     → carried ≡ carried_fields (ether_type bytes) (type_place bytes + 2) bytes
 carried-is bytes t place carried type there is = is ∙ ap (λ o. carried_fields o (place + 2) bytes) type ∙ ap (λ p. carried_fields (ether_type bytes) (p + 2) bytes) there
 
--- the fields of a frame, by what it carries
+-- the fields of a frame, by its payload
 pub frame-is : (bytes : List ℕ) (t vlan : Option ℕ) (place : ℕ) (carried : Fields) → vlan ≡ tag_at 12 bytes → t ≡ ether_type bytes → place ≡ type_place bytes → carried ≡ carried_fields t (place + 2) bytes
     → record carried { vlan = vlan } ≡ ethernet_fields bytes
 frame-is bytes t vlan place carried tag type there is =

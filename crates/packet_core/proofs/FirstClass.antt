@@ -1,4 +1,4 @@
--- The first class that is met, by the conditions alone.
+-- The first class that is met, from the conditions alone.
 use Rattle.std.proofs.Common.{◌≡◌, ◌<◌, ℕ, Bool, true, false, List, [], ◌∷◌, ◌++◌, Some, None, refl, sym, ap, ◌∙◌, map, length, position, arith}
 use Rattle.std.specs.List.{list_all, position_or_len}
 use Rattle.std.proofs.lemmas.Bool.{lt-ltb}
@@ -25,12 +25,12 @@ found-later t y ys inside = by_first (t y) refl
     by_first true is = rw (is) (omega arith)
     by_first false is = rw (is) (omega arith)
 
--- where the last one passes, one is found
+-- if the last element passes, one is found
 found-last : {X : Type 0} (t : X → Bool) (xs : List X) (x : X) → t x ≡ true → position_or_len t (xs ++ x ∷ []) < length (xs ++ x ∷ [])
 found-last t [] x passes = rw (passes) (omega arith)
 found-last t (y ∷ ys) x passes = found-later t y (ys ++ x ∷ []) (found-last t ys x passes)
 
--- where a class without conditions stands last, some class is met
+-- if the last class has no conditions, some class is met
 pub some-class : (fields : Fields) (n : ℕ) (classes : List Class) → HasCatchAll (map (λ c. c.conditions) classes) → position (λ c. meets_all fields n c.conditions) classes ≡ None → ⊥
 some-class fields n classes last none =
     let test : List Condition → Bool = meets_all fields n in

@@ -1,4 +1,4 @@
--- The classes of a policy, prepared.
+-- The prepared classes of a policy.
 use Rattle.std.proofs.Common.{◌≡◌, ◌≤◌, ℕ, List, map, take, length, position, sym, ap, ◌∙◌, subst}
 use Rattle.packet_defs.specs.declared.fields.Fields.{Fields}
 use Rattle.packet_defs.specs.Condition.{class_of}
@@ -14,7 +14,7 @@ use Rattle.packet_core.specs.declared.prepared.Prepared.{Prepared}
 use Rattle.packet_core.proofs.FirstClass.{class_of-classes, some-class}
 use Rattle.packet_core.proofs.WithinBounds.{same-position}
 
--- so far each class is prepared
+-- each class so far is prepared
 abbrev pub SoFar : List Prepared → List Class → Type 0
 SoFar classes given = (fields : Fields) (n : ℕ) → map (is_met (numbers_of fields n)) classes ≡ map (λ (p : Class). meets_all fields n p.conditions) given
 
@@ -30,7 +30,7 @@ pub gives-each : (conditions : List (List Condition)) (given : List Class) → m
 gives-each conditions given are last = λ fields n none.
     some-class fields n given (subst (λ (cs : List (List Condition)). HasCatchAll cs) (sym are) last) (class_is conditions given fields n are ∙ none)
 
--- as many as there are classes
+-- there are as many prepared classes as given ones
 pub as-many : (given : List Class) (classes : List Prepared) → SoFar classes given → length classes ≡ length given
 as-many given classes so =
     sym (length-map classes (is_met (numbers_of no_fields 0))) ∙ ap length (so no_fields 0) ∙ length-map given (λ (p : Class). meets_all no_fields 0 p.conditions)

@@ -1,4 +1,4 @@
--- Bounds on a packet's numbers, and the conditions that they prepare.
+-- Bounds on the numbers of a packet agree with the conditions that they were prepared from.
 use Rattle.std.proofs.Common.{◌≡◌, ◌<◌, ◌≤◌, ℕ, ◌+◌, ◌-◌, ◌*◌, ◌/◌, ◌%◌, ◌^◌, Bool, true, false, ◌&&◌, leb, eqb, Option, None, Some, List, [], ◌∷◌, ◌++◌, refl, sym, ap, ◌∙◌, map, take, drop, length, get_or, min, position, arith, inl, inr, lit<}
 use Rattle.std.specs.List.{list_all}
 use Rattle.std.proofs.lemmas.Bool.{cases_order, cases_lt, eq-eqb, ne_eqb, le-leb, lt-leb, and_left, and_right}
@@ -13,7 +13,7 @@ use Rattle.packet_defs.specs.declared.fields.Fields.{Fields}
 use Rattle.packet_defs.specs.Condition.{Field, vlan, dscp, proto, sport, dport, len, in_range, agree, is_present_and, meets}
 use Rattle.packet_core.specs.Numbers.{absent, number, address, place, numbers_of}
 
--- a number is within a block of so many, where its block is this one
+-- the number b is in block q of s numbers exactly if q is b / s
 pub within-block : (q s b : ℕ) → 0 < s → (leb (q * s) b && leb b (q * s + (s - 1))) ≡ eqb q (b / s)
 within-block q s b some =
     let d = b / s in
@@ -33,20 +33,20 @@ within-block q s b some =
       ]
     ]
 
--- one more is prepared
+-- one more element is prepared
 pub one_more : {X Y : Type 0} (f : X → Bool) (g : Y → Bool) (xs : List X) (ys : List Y) (i : ℕ) (x : X) (y : Y)
     → map f xs ≡ map g (take i ys) → i < length ys → f x ≡ g (get_or ys i y) → map f (xs ++ x ∷ []) ≡ map g (take (i + 1) ys)
 one_more f g xs ys i x y so inside same =
     map-append f xs (x ∷ []) ∙ ap (λ zs. zs ++ f x ∷ []) so ∙ ap (λ b. map g (take i ys) ++ b ∷ []) same ∙ sym (map_more g ys i y inside)
 
--- what is prepared is met as it was
+-- prepared conditions are met exactly if the original ones are
 pub same-all : {X Y : Type 0} (f : X → Bool) (g : Y → Bool) (xs : List X) (ys : List Y) → map f xs ≡ map g ys → list_all f xs ≡ list_all g ys
 same-all f g xs ys e = sym (list_all-map (λ b. b) f xs) ∙ ap (list_all (λ b. b)) e ∙ list_all-map (λ b. b) g ys
 
 pub same-position : {X Y : Type 0} (f : X → Bool) (g : Y → Bool) (xs : List X) (ys : List Y) → map f xs ≡ map g ys → position f xs ≡ position g ys
 same-position f g xs ys e = position-map f (λ b. b) xs ∙ ap (position (λ b. b)) e ∙ sym (position-map g (λ b. b) ys)
 
--- ---- an address agrees in so many leading bits
+-- -- ---- an address agrees in this many leading bits
 leading : (a given k bits other low size : ℕ) → a ≡ given → k ≡ 32 - bits → low ≡ a / 2 ^ k * 2 ^ k → size ≡ 2 ^ k → (leb low other && leb other (low + (size - 1))) ≡ agree bits given other
 leading a given k bits other low size same others low-is size-is =
     rw (low-is, size-is, sym same, sym others) (within-block (a / 2 ^ k) (2 ^ k) other (pow_pos k))
@@ -64,7 +64,7 @@ agrees-few a given k bits same others fits =
     let size : 2 ^ k ≤ 2 ^ 32 = pow-le-pow_right (lit< tt) {i = k} {j = 32} (omega (arith, others)) in
     omega (arith, low-whole a k (omega (arith, same, fits)) (omega (arith, others)), one_shl k 64 (omega (arith, others)), size, pow_pos k, shr_split a k, same, fits)
 
--- ---- what a condition asks of the number at its place
+-- -- ---- the test of a condition on the number at its index
 present : (o : Option ℕ) (low high : ℕ) → high < absent → (leb low (number o) && leb (number o) high) ≡ is_present_and (λ v. leb low v && leb v high) o
 present None low high few = and_right _ _ (lt-leb absent high few)
 present (Some v) low high few = refl
@@ -97,13 +97,13 @@ address-holds false o low high test few same = and_right _ _ (lt-leb absent high
 address-holds true None low high test few same = and_right _ _ (lt-leb absent high few)
 address-holds true (Some x) low high test few same = capped x low high few ∙ same x
 
--- an address is never above all
+-- an address is never above `absent`
 pub address-kept : (four : Bool) (o : Option ℕ) → leb (address four o) absent ≡ true
 address-kept false o = refl
 address-kept true None = refl
 address-kept true (Some x) = le-leb (min x absent) absent (omega arith)
 
--- ---- the first that is found
+-- -- ---- the first class that is found
 pub found-class : (o g : Option ℕ) (r : ℕ) → o ≡ g → (o ≡ None → ⊥) → ((k : ℕ) → o ≡ Some k → r ≡ k) → g ≡ Some r
 found-class None g r same found is = absurd (found refl)
 found-class (Some k) g r same found is = sym same ∙ ap Some (sym (is k refl))
@@ -116,7 +116,7 @@ pub found-there : {X : Type 0} (p : X → Bool) (xs : List X) (r : ℕ) → (pos
 found-there p [] r found is = absurd (found refl)
 found-there p (x ∷ xs) r found is = found-below (position p (x ∷ xs)) r (length (x ∷ xs)) found (λ k e. (position-Some p (x ∷ xs) k x e).0) is
 
--- ---- a class, by the first of what it asks for and the others
+-- -- ---- a class, by its first bounds and the others
 pub met-none : {X Y : Type 0} (f : X → Bool) (g : Y → Bool) (first : Bool) (xs : List X) (ys : List Y) → first ≡ true → xs ≡ [] → ys ≡ [] → (first && list_all f xs) ≡ list_all g ys
 met-none f g first xs ys all none nothing = rw (all, none, nothing) refl
 

@@ -1,4 +1,4 @@
--- What prepared classes stand for, and what sorting a packet does.
+-- The meaning of prepared classes, and the result of classifying a packet.
 use Rattle.std.specs.Prelude.{◌≡◌, ◌<◌, ℕ, Some, None, List, length, position}
 use Rattle.packet_defs.specs.declared.fields.Fields.{Fields}
 use Rattle.packet_defs.specs.declared.packet.Packet.{Packet}
@@ -10,15 +10,15 @@ use Rattle.packet_core.specs.Conditions.{conditions_of}
 use Rattle.packet_core.specs.Numbers.{numbers_of, is_met}
 use Rattle.packet_core.specs.declared.prepared.Prepared.{Prepared}
 
--- the first prepared class that is met is the one that the policy gives to these fields, whatever they are
+-- for all fields, the first prepared class that is met is the class that the policy gives
 abbrev pub AreSame : List (List Written) → List Prepared → Type 0
 AreSame conditions classes = (fields : Fields) (n : ℕ) → position (is_met (numbers_of fields n)) classes ≡ class_of (conditions_of conditions) fields n
 
--- some class is given to all fields
+-- for all fields, the policy gives some class
 abbrev pub GivesEach : List (List Written) → Type 0
 GivesEach conditions = (fields : Fields) (n : ℕ) → class_of (conditions_of conditions) fields n ≡ None → ⊥
 
--- a packet got the class and the flow of these fields, and is otherwise as it was
+-- the packet got the class and the flow of these fields, and is otherwise unchanged
 pub record IsSorted (policy : Resolved) (fields : Fields) (old new : Packet) : Type 0 where
   pub class : class_of (conditions_of policy.conditions) fields old.len ≡ Some new.class
   pub there : new.class < length policy.policy.classes

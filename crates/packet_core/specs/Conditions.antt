@@ -1,4 +1,4 @@
--- The conditions of a policy, as what a packet has to meet.
+-- The conditions written in a policy, as conditions on a packet.
 use Rattle.std.specs.Prelude.{ℕ, Bool, List, map}
 use Rattle.std.specs.List.{list_all}
 use Rattle.packet_defs.specs.declared.fields.Fields.{Fields}
@@ -27,6 +27,6 @@ condition_of written.Ipv6 = ipv6
 abbrev pub conditions_of : List (List Written) → List (List Condition)
 conditions_of classes = map (λ conditions. map condition_of conditions) classes
 
--- a packet of this original length meets each of the conditions
+-- a packet of this original length meets all of the conditions
 abbrev pub meets_all : Fields → ℕ → List Written → Bool
 meets_all fields length conditions = list_all (λ c. meets fields length (condition_of c)) conditions

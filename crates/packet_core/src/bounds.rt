@@ -1,7 +1,7 @@
-//! What a condition asks of a packet's number.
+//! The bounds of a condition on a number of a packet.
 ghost use Rattle.std.specs.Prelude.{◌<◌};
 
-/// The number at a place is from a minimum to a maximum.
+/// Bounds the number at an index by a minimum and a maximum.
 #[derive(Clone, Copy)]
 pub(crate) struct Bounds {
     pub(crate) place: usize,

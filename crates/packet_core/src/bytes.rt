@@ -1,10 +1,10 @@
-//! Numbers in captured bytes, with the highest byte first.
+//! Numbers in captured bytes, in network byte order (big-endian).
 ghost use Rattle.std.specs.Prelude.{◌≡◌, ◌≤◌, ◌<◌, ◌+◌, ◌^◌, length};
 ghost use Rattle.packet_defs.specs.Bytes.{is_captured, number_at};
 
 use byteorder::{BigEndian, ByteOrder};
 
-/// Whether this many bytes are captured from a place on.
+/// Returns whether `len` bytes are captured at position `at`.
 pub fn is_captured(bytes: &[u8], len: usize, at: usize) -> bool
     requires { at + len < 2 ^ 64 }
     ensures { result ≡ is_captured len at bytes.now }

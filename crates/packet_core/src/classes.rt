@@ -1,4 +1,4 @@
-//! The class that a policy gives a packet.
+//! The class that a policy assigns to a packet.
 ghost use Rattle.std.specs.Prelude.{◌≡◌, ◌<◌, Some, length, position};
 ghost use Rattle.packet_defs.specs.Condition.{agree, class_of, has_version, meets, value_of};
 ghost use Rattle.packet_core.specs.Conditions.{condition_of, conditions_of, field_of, meets_all};
@@ -7,7 +7,7 @@ use packet_defs::Fields;
 use policy_core::{Class, Policy};
 use policy_text_defs::{Condition, FieldName};
 
-/// The value of a field that is present. `len` is the packet's original length in bytes.
+/// Returns the value of a field if it is present. `len` is the packet's original length in bytes.
 fn value_of(field: FieldName, fields: &Fields, len: u32) -> Option<u32>
     ensures { result ≡ value_of (field_of field) fields.now len }
 {
@@ -28,7 +28,7 @@ pub(crate) fn has_version(version: u8, fields: &Fields) -> bool
     fields.version == Some(version)
 }
 
-/// Whether an address agrees with an IPv4 address in this many leading bits of 32.
+/// Returns whether an address agrees with an IPv4 address in the first `bits` of its 32 bits.
 fn agree(bits: u32, address: u32, other: u128) -> bool
     ensures { result ≡ agree bits address other }
 {
@@ -36,7 +36,7 @@ fn agree(bits: u32, address: u32, other: u128) -> bool
     u128::from(address) >> others == other >> others
 }
 
-/// Whether a packet of this original length meets a condition.
+/// Returns whether a packet of this original length meets a condition.
 fn meets(condition: Condition, fields: &Fields, len: u32) -> bool
     ensures { result ≡ meets fields.now len (condition_of condition) }
 {
@@ -66,14 +66,16 @@ fn meets_all(conditions: &[Condition], fields: &Fields, len: u32) -> bool
         .all(|condition| meets(*condition, fields, len))
 }
 
-/// The place of the first class all of whose conditions a packet of this original length meets.
+/// Returns the index of the first class of which a packet of this original length meets all
+/// conditions.
 pub(crate) fn first_met(classes: &[Class], fields: &Fields, len: u32) -> Option<usize>
     ensures { result ≡ position (λ c. meets_all fields.now len c.conditions) classes.now }
 {
     classes.iter().position(|class| meets_all(class.conditions.as_slice(), fields, len))
 }
 
-/// The first class all of whose conditions a packet of this original length meets. The last class has none, so there is one.
+/// Returns the first class of which a packet of this original length meets all conditions. The last
+/// class has no conditions, so there always is one.
 pub fn classify(policy: &Policy, fields: &Fields, len: u32) -> u32
     ensures class { class_of (conditions_of policy.now.conditions) fields.now len ≡ Some result }
     ensures there { result < length policy.now.policy.classes }

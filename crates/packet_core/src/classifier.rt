@@ -1,4 +1,4 @@
-//! The classes of a policy, prepared for many packets.
+//! The classes of a policy, prepared for classifying many packets.
 ghost use Rattle.std.specs.Prelude.{◌≡◌, ◌≤◌, ℕ, Some, length, position};
 ghost use Rattle.packet_core.specs.Numbers as prepared;
 ghost use Rattle.packet_core.specs.Classes.{AreSame, GivesEach};
@@ -13,7 +13,7 @@ use packet_defs::{Fields, Packet};
 use policy_core::Policy;
 use std::alloc::{AllocError, Global};
 
-/// The place of the first class that is met, if there is one.
+/// Returns the index of the first class that is met, if there is one.
 #[inline(always)]
 fn place_met(classes: &[Prepared], numbers: &[u64; COUNT]) -> Option<usize>
     ensures { result ≡ position (prepared.is_met numbers.now) classes.now }
@@ -21,7 +21,7 @@ fn place_met(classes: &[Prepared], numbers: &[u64; COUNT]) -> Option<usize>
     classes.iter().position(|class| is_met(class, numbers))
 }
 
-/// The place of the first class that is met, where there is one.
+/// Returns the index of the first class that is met, if there is one.
 fn first_met(classes: &[Prepared], numbers: &[u64; COUNT]) -> usize
     ensures { (place : ℕ) → position (prepared.is_met numbers.now) classes.now ≡ Some place →
         result ≡ place }
@@ -32,7 +32,7 @@ fn first_met(classes: &[Prepared], numbers: &[u64; COUNT]) -> usize
     }
 }
 
-/// The classes of a policy, prepared for many packets.
+/// The classes of a policy, prepared for classifying many packets.
 #[derive(Drop)]
 pub struct Classifier<'a> {
     policy: &'a Policy,
@@ -53,7 +53,7 @@ impl<'a> Classifier<'a> {
     ghost use Rattle.packet_core.specs.Classes.{IsSorted};
     ghost use Rattle.packet_core.specs.Classifier.{policy_of};
 
-    /// Prepares the classes of a policy.
+    /// Prepares the classes of a policy. The only error is out of memory.
     pub fn new(alloc: Global, policy: &'a Policy) -> Result<Classifier<'a>, AllocError>
         ensures { IfOk result (λ classifier. policy_of classifier ≡ policy.now) }
     {
@@ -64,7 +64,7 @@ impl<'a> Classifier<'a> {
         Ok(Classifier { policy, classes })
     }
 
-    /// The first class all of whose conditions a packet of this original length meets.
+    /// Returns the first class of which a packet of this original length meets all conditions.
     #[inline(always)]
     fn class_of(&self, fields: &Fields, len: u32) -> u32
         ensures class { class_of (conditions_of (policy_of self.now).conditions) fields.now len ≡
@@ -74,7 +74,8 @@ impl<'a> Classifier<'a> {
         first_met(&self.classes, &numbers_of(fields, len)) as u32
     }
 
-    /// Puts the class and the flow of these fields into a packet of its original length.
+    /// Sets the class and the flow of a packet from these fields. The packet's original length is
+    /// already set.
     #[inline(always)]
     fn put(&self, fields: &Fields, packet: &mut Packet)
         ensures { IsSorted (policy_of self.now) fields.now packet.old packet.new }
@@ -83,7 +84,8 @@ impl<'a> Classifier<'a> {
         packet.flow = flow(fields);
     }
 
-    /// Puts those of a packet with this VLAN id in which an IPv4 header is looked for at a place.
+    /// Sets the class and the flow of a packet with this VLAN id and an IPv4 header expected at
+    /// `at`.
     #[inline(always)]
     fn put_ipv4(&self, vlan: Option<u16>, bytes: &[u8], at: usize, packet: &mut Packet)
         requires { at < 2 ^ 32 }
@@ -104,7 +106,8 @@ impl<'a> Classifier<'a> {
         }
     }
 
-    /// Puts those of a packet with this VLAN id in which an IPv6 header is looked for at a place.
+    /// Sets the class and the flow of a packet with this VLAN id and an IPv6 header expected at
+    /// `at`.
     #[inline(always)]
     fn put_ipv6(&self, vlan: Option<u16>, bytes: &[u8], at: usize, packet: &mut Packet)
         requires { at < 2 ^ 32 }
@@ -125,7 +128,7 @@ impl<'a> Classifier<'a> {
         }
     }
 
-    /// Puts those of a frame.
+    /// Sets the class and the flow of a packet captured as an Ethernet frame.
     #[inline(always)]
     fn put_ethernet(&self, bytes: &[u8], packet: &mut Packet)
         ensures { IsSorted (policy_of self.now) (ethernet_fields bytes.now) packet.old packet.new }
@@ -139,7 +142,8 @@ impl<'a> Classifier<'a> {
         }
     }
 
-    /// Puts into a packet of its original length the class and the flow that its captured bytes tell.
+    /// Sets the class and the flow of a packet from its link type and captured bytes. The packet's
+    /// original length is already set.
     #[inline]
     pub fn classify(&self, link: u16, bytes: &[u8], packet: &mut Packet)
         ensures { IsSorted (policy_of self.now) (fields_of link bytes.now) packet.old packet.new }

@@ -6,13 +6,13 @@ use crate::bytes::{is_captured, read_u16};
 use crate::internet::{no_fields, read_ipv4, read_ipv6};
 use packet_defs::Fields;
 
-/// The place after the two addresses.
+/// The position after the two addresses.
 pub const TYPE_PLACE: usize = 12;
 
-/// The bytes of a VLAN tag.
+/// The length of a VLAN tag in bytes.
 const TAG_LEN: usize = 4;
 
-/// The types of a customer's and of a service provider's tag.
+/// The types of customer tags and of service tags.
 const CUSTOMER_TAG: u16 = 0x8100;
 
 const SERVICE_TAG: u16 = 0x88A8;
@@ -21,7 +21,7 @@ pub const IPV4: u16 = 0x0800;
 
 pub const IPV6: u16 = 0x86DD;
 
-/// The VLAN id of the tag at a place, where it and the type after it are captured.
+/// Returns the VLAN id of the tag at a position, if the tag and the type after it are captured.
 pub fn tag(bytes: &[u8], at: usize) -> Option<u16>
     requires { at < 2 ^ 32 }
     ensures { result ≡ tag_at at bytes.now }
@@ -35,7 +35,7 @@ pub fn tag(bytes: &[u8], at: usize) -> Option<u16>
     }
 }
 
-/// The place of the type, after at most two tags, where it is known whether there is one.
+/// Returns the position of the type, after at most two tags. `tagged` says whether there is a tag.
 pub fn type_place(tagged: bool, bytes: &[u8]) -> usize
     requires { tagged ≡ is_some (tag_at 12 bytes.now) }
     ensures value { result ≡ type_place bytes.now }
@@ -50,7 +50,7 @@ pub fn type_place(tagged: bool, bytes: &[u8]) -> usize
     }
 }
 
-/// The type, where it is captured.
+/// Returns the type at `place`, if it is captured.
 pub fn type_at(bytes: &[u8], place: usize) -> Option<u16>
     requires there { place ≡ type_place bytes.now }
     requires bound { place ≤ 20 }
@@ -63,7 +63,7 @@ pub fn type_at(bytes: &[u8], place: usize) -> Option<u16>
     }
 }
 
-/// The fields of what a frame carries after its type.
+/// Reads the fields of a frame's payload.
 fn read_carried(bytes: &[u8]) -> Fields
     ensures { result ≡ carried_fields (ether_type bytes.now) (type_place bytes.now + 2) bytes.now }
 {
@@ -78,7 +78,7 @@ fn read_carried(bytes: &[u8]) -> Fields
     }
 }
 
-/// The fields of a frame.
+/// Reads the fields of a frame.
 pub fn read_ethernet(bytes: &[u8]) -> Fields
     ensures { result ≡ ethernet_fields bytes.now }
 {

@@ -5,7 +5,7 @@ ghost use Rattle.packet_defs.specs.Flow.{flow_of};
 use packet_defs::Fields;
 use rank_defs::FlowKey;
 
-/// The flow of a packet. What is absent is 0.
+/// Returns the flow of a packet. Absent fields are 0 in it.
 pub fn flow(fields: &Fields) -> FlowKey
     ensures { result ≡ flow_of fields.now }
 {

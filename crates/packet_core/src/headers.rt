@@ -1,4 +1,4 @@
-//! Reading the header fields of captured bytes.
+//! Reads the header fields of captured bytes.
 ghost use Rattle.std.specs.Prelude.{◌≡◌};
 ghost use Rattle.packet_defs.specs.Headers.{fields_of, raw_fields};
 
@@ -11,7 +11,7 @@ pub const ETHERNET: u16 = 1;
 
 pub const RAW: u16 = 101;
 
-/// The fields of a packet that begins with an IP header.
+/// Reads the fields of a packet that begins with an IP header.
 fn read_raw(bytes: &[u8]) -> Fields
     ensures { result ≡ raw_fields bytes.now }
 {
@@ -22,7 +22,8 @@ fn read_raw(bytes: &[u8]) -> Fields
     }
 }
 
-/// The header fields of captured bytes. Packets of other link types than Ethernet and raw IP have none.
+/// Reads the header fields of captured bytes. Packets with a link type other than Ethernet and raw
+/// IP have none.
 pub fn read_fields(link: u16, bytes: &[u8]) -> Fields
     ensures { result ≡ fields_of link bytes.now }
 {

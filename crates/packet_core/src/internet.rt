@@ -1,4 +1,4 @@
-//! The headers of the Internet Protocol, and the ports after them.
+//! IP headers, and the ports after them.
 ghost use Rattle.std.specs.Prelude.{◌≡◌, ◌≤◌, ◌<◌, ◌+◌, ◌*◌, ◌^◌, length, IsTrue};
 ghost use Rattle.packet_defs.specs.Bytes.{number_at};
 ghost use Rattle.packet_defs.specs.Internet.{no_fields, version_at, has_ports, port_at, is_ipv4, behind_ipv4, is_first_fragment, has_ipv4_ports, ipv4_fields, ipv4_at, is_ipv6, traffic_class, has_ipv6_ports, ipv6_fields, ipv6_at};
@@ -6,17 +6,17 @@ ghost use Rattle.packet_defs.specs.Internet.{no_fields, version_at, has_ports, p
 use crate::bytes::{is_captured, read_u8, read_u16, read_u32, read_u128};
 use packet_defs::Fields;
 
-/// The bytes of an IPv4 header without options (RFC 791 3.1).
+/// The length in bytes of an IPv4 header without options (RFC 791 3.1).
 const IPV4_LEN: usize = 20;
 
-/// The bytes of an IPv6 header (RFC 8200 3).
+/// The length in bytes of an IPv6 header (RFC 8200 3).
 const IPV6_LEN: usize = 40;
 
 const TCP: u8 = 6;
 
 const UDP: u8 = 17;
 
-/// The fields of a packet that has none.
+/// Returns the fields of a packet that has none.
 pub fn no_fields() -> Fields
     ensures { result ≡ Rattle.packet_defs.specs.Internet.no_fields }
 {
@@ -32,7 +32,7 @@ pub fn no_fields() -> Fields
     }
 }
 
-/// Whether a header of this protocol begins at a place with two ports that are captured.
+/// Returns whether this protocol has ports and the two of the header at this position are captured.
 fn has_ports(proto: u8, bytes: &[u8], at: usize) -> bool
     requires { at + 4 < 2 ^ 64 }
     ensures { result ≡ has_ports proto at bytes.now }
@@ -40,7 +40,7 @@ fn has_ports(proto: u8, bytes: &[u8], at: usize) -> bool
     (proto == TCP || proto == UDP) && is_captured(bytes, 4, at)
 }
 
-/// The port at a place, where one is there.
+/// Returns the port at a position, if it is `there`.
 fn port(there: bool, bytes: &[u8], at: usize) -> Option<u16>
     requires { IsTrue there → at + 2 ≤ length bytes.now }
     ensures { result ≡ port_at there at bytes.now }
@@ -52,7 +52,7 @@ fn port(there: bool, bytes: &[u8], at: usize) -> Option<u16>
     }
 }
 
-/// Whether an IPv4 header begins at a place.
+/// Returns whether an IPv4 header begins at this position.
 pub fn is_ipv4(bytes: &[u8], at: usize) -> bool
     requires { at < 2 ^ 32 }
     ensures { result ≡ is_ipv4 at bytes.now }
@@ -60,7 +60,7 @@ pub fn is_ipv4(bytes: &[u8], at: usize) -> bool
     is_captured(bytes, IPV4_LEN, at) && matches!(read_u8(bytes, at), 0x45..=0x4F)
 }
 
-/// Whether an IPv6 header begins at a place.
+/// Returns whether an IPv6 header begins at this position.
 pub fn is_ipv6(bytes: &[u8], at: usize) -> bool
     requires { at < 2 ^ 32 }
     ensures { result ≡ is_ipv6 at bytes.now }
@@ -68,7 +68,7 @@ pub fn is_ipv6(bytes: &[u8], at: usize) -> bool
     is_captured(bytes, IPV6_LEN, at) && read_u8(bytes, at) >> 4 == 6
 }
 
-/// The place after an IPv4 header.
+/// Returns the position after an IPv4 header.
 fn behind_ipv4(bytes: &[u8], at: usize) -> usize
     requires { at + 1 ≤ length bytes.now }
     ensures value { result ≡ behind_ipv4 at bytes.now }
@@ -77,7 +77,7 @@ fn behind_ipv4(bytes: &[u8], at: usize) -> usize
     at + 4 * usize::from(read_u8(bytes, at) & 0xF)
 }
 
-/// Whether two ports follow an IPv4 header, and are captured.
+/// Returns whether two ports follow an IPv4 header and are captured.
 fn has_ipv4_ports(bytes: &[u8], at: usize) -> bool
     requires { at + 20 ≤ length bytes.now }
     ensures { result ≡ has_ipv4_ports at bytes.now }
@@ -86,7 +86,7 @@ fn has_ipv4_ports(bytes: &[u8], at: usize) -> bool
     first && has_ports(read_u8(bytes, at + 9), bytes, behind_ipv4(bytes, at))
 }
 
-/// The fields where an IPv4 header is looked for at a place.
+/// Reads the fields of an IPv4 header at this position, or no fields if none begins there.
 pub fn read_ipv4(bytes: &[u8], at: usize) -> Fields
     requires { at < 2 ^ 32 }
     ensures { result ≡ ipv4_at at bytes.now }
@@ -97,7 +97,7 @@ pub fn read_ipv4(bytes: &[u8], at: usize) -> Fields
     ipv4_fields(bytes, at)
 }
 
-/// The fields of an IPv4 header that begins at a place.
+/// Reads the fields of the IPv4 header that begins at this position.
 #[inline(always)]
 pub fn ipv4_fields(bytes: &[u8], at: usize) -> Fields
     requires { at + 20 ≤ length bytes.now }
@@ -117,7 +117,7 @@ pub fn ipv4_fields(bytes: &[u8], at: usize) -> Fields
     }
 }
 
-/// The fields where an IPv6 header is looked for at a place.
+/// Reads the fields of an IPv6 header at this position, or no fields if none begins there.
 pub fn read_ipv6(bytes: &[u8], at: usize) -> Fields
     requires { at < 2 ^ 32 }
     ensures { result ≡ ipv6_at at bytes.now }
@@ -128,7 +128,7 @@ pub fn read_ipv6(bytes: &[u8], at: usize) -> Fields
     ipv6_fields(bytes, at)
 }
 
-/// The fields of an IPv6 header that begins at a place.
+/// Reads the fields of the IPv6 header that begins at this position.
 pub fn ipv6_fields(bytes: &[u8], at: usize) -> Fields
     requires { at + 40 ≤ length bytes.now }
     ensures { result ≡ ipv6_fields at bytes.now }

@@ -1,4 +1,5 @@
-//! The header fields, the flow and the class of a captured packet. Begin with specs/Conditions.antt.
+//! The header fields, the flow and the class of a captured packet. Begin with
+//! specs/Conditions.antt.
 #![tactic(auto)]
 
 mod bounds;

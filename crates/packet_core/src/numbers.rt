@@ -1,4 +1,4 @@
-//! The numbers of a packet that conditions bound, each at a place of its own.
+//! The numbers of a packet that conditions bound, each at its own index.
 ghost use Rattle.std.specs.Prelude.{◌≡◌, ◌<◌};
 ghost use Rattle.packet_core.specs.Conditions.{field_of};
 ghost use Rattle.packet_core.specs.Numbers.{address, number, numbers_of, place};
@@ -7,10 +7,10 @@ use crate::classes::has_version;
 use packet_defs::Fields;
 use policy_text_defs::FieldName;
 
-/// How many there are.
+/// How many numbers there are.
 pub(crate) const COUNT: usize = 9;
 
-/// Stands for a number that is absent, above all that a condition allows.
+/// The value of an absent number, above every value that a condition allows.
 const ABSENT: u64 = u64::MAX;
 
 pub(crate) const VERSION: usize = 6;
@@ -19,7 +19,7 @@ pub(crate) const SOURCE: usize = 7;
 
 pub(crate) const TARGET: usize = 8;
 
-/// The place of a field.
+/// Returns the index of a field.
 pub(crate) fn place_of(field: FieldName) -> usize
     ensures value { result ≡ place (field_of field) }
     ensures bound { result < 9 }
@@ -34,7 +34,7 @@ pub(crate) fn place_of(field: FieldName) -> usize
     }
 }
 
-/// A number of 16 bits, where it is present.
+/// Returns a 16-bit number, or `ABSENT` if it isn't present.
 #[inline(always)]
 fn short(value: Option<u16>) -> u64
     ensures { result ≡ number value }
@@ -45,7 +45,7 @@ fn short(value: Option<u16>) -> u64
     }
 }
 
-/// A number of 8 bits, where it is present.
+/// Returns an 8-bit number, or `ABSENT` if it isn't present.
 #[inline(always)]
 fn byte(value: Option<u8>) -> u64
     ensures { result ≡ number value }
@@ -56,7 +56,7 @@ fn byte(value: Option<u8>) -> u64
     }
 }
 
-/// An address, where it is present and of version 4.
+/// Returns an address, or `ABSENT` if it isn't present or the version isn't 4.
 #[inline(always)]
 fn short_address(four: bool, value: Option<u128>) -> u64
     ensures { result ≡ address four value }
@@ -70,7 +70,7 @@ fn short_address(four: bool, value: Option<u128>) -> u64
     }
 }
 
-/// The numbers of a packet of this original length.
+/// Returns the numbers of a packet of this original length.
 #[inline(always)]
 pub(crate) fn numbers_of(fields: &Fields, len: u32) -> [u64; COUNT]
     ensures { result ≡ numbers_of fields.now len }

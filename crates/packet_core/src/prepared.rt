@@ -1,4 +1,4 @@
-//! The conditions of a class, prepared for many packets.
+//! The conditions of a class, prepared for testing many packets.
 ghost use Rattle.std.specs.Prelude.{◌≡◌, ◌<◌, ◌^◌, ◌&&◌, ℕ, true, nat_le, IfOk};
 ghost use Rattle.std.specs.List.{list_all};
 ghost use Rattle.packet_defs.specs.declared.fields.Fields.{Fields};
@@ -11,14 +11,15 @@ use crate::numbers::{COUNT, SOURCE, TARGET, VERSION, place_of};
 use policy_text_defs::{Condition, FieldName};
 use std::alloc::{AllocError, Global};
 
-/// What a class asks for, one of it for each condition. A class without conditions asks for what each packet keeps.
+/// The bounds of a class, one for each condition. A class without conditions has bounds that every
+/// packet meets.
 #[derive(Drop)]
 pub(crate) struct Prepared {
     pub(crate) first: Bounds,
     pub(crate) others: Vec<Bounds>,
 }
 
-/// The address at a place agrees with an IPv4 address in this many leading bits of 32.
+/// Bounds an address to those that agree with `address` in the first `bits` of its 32 bits.
 fn prefix(place: usize, address: u32, bits: u32) -> Bounds
     requires { place < 9 }
     ensures place { result.place ≡ place }
@@ -35,7 +36,7 @@ fn prefix(place: usize, address: u32, bits: u32) -> Bounds
     }
 }
 
-/// The field is from a minimum to a maximum.
+/// Bounds a field by a minimum and a maximum.
 fn within(field: FieldName, low: u32, high: u32) -> Bounds
     ensures { (fields : Fields) (n : ℕ) → holds (numbers_of fields n) result ≡
         meets fields n (in_range (field_of field) low high) }
@@ -47,7 +48,7 @@ fn within(field: FieldName, low: u32, high: u32) -> Bounds
     }
 }
 
-/// The version is this one.
+/// Bounds the version to this one.
 fn version(number: u8) -> Bounds
     ensures { (fields : Fields) (n : ℕ) → holds (numbers_of fields n) result ≡
         has_version number fields }
@@ -59,7 +60,7 @@ fn version(number: u8) -> Bounds
     }
 }
 
-/// A condition as bounds of a number.
+/// Returns the bounds of a condition.
 fn bound_of(condition: Condition) -> Bounds
     ensures { (fields : Fields) (n : ℕ) → holds (numbers_of fields n) result ≡
         meets fields n (condition_of condition) }
@@ -73,7 +74,7 @@ fn bound_of(condition: Condition) -> Bounds
     }
 }
 
-/// Bounds that each packet keeps.
+/// Returns bounds that every packet meets.
 fn anything() -> Bounds
     ensures { (fields : Fields) (n : ℕ) → holds (numbers_of fields n) result ≡ true }
 {
@@ -84,7 +85,7 @@ fn anything() -> Bounds
     }
 }
 
-/// Conditions as bounds.
+/// Returns the bounds of conditions.
 fn bounds_of(alloc: Global, conditions: &[Condition]) -> Result<Vec<Bounds>, AllocError>
     ensures { IfOk result (λ all. (fields : Fields) (n : ℕ) →
         list_all (holds (numbers_of fields n)) all.items ≡ meets_all fields n conditions.now) }
@@ -113,7 +114,7 @@ pub(crate) fn prepare(alloc: Global, conditions: &[Condition]) -> Result<Prepare
     })
 }
 
-/// Whether the number at the place keeps its bounds.
+/// Returns whether the number at the index of the bounds is within them.
 #[inline(always)]
 fn holds(bounds: &Bounds, numbers: &[u64; COUNT]) -> bool
     ensures { result ≡ holds numbers.now bounds.now }
@@ -129,7 +130,7 @@ fn all_hold(all: &[Bounds], numbers: &[u64; COUNT]) -> bool
     all.iter().all(|bounds| holds(bounds, numbers))
 }
 
-/// Whether all that a class asks for holds.
+/// Returns whether all bounds of a class hold.
 #[inline(always)]
 pub(crate) fn is_met(class: &Prepared, numbers: &[u64; COUNT]) -> bool
     ensures { result ≡ is_met numbers.now class.now }

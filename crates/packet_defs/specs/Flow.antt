@@ -3,7 +3,8 @@ use Rattle.std.specs.Prelude.{unwrap_or}
 use Rattle.rank_defs.specs.declared.environment.FlowKey.{FlowKey}
 use Rattle.packet_defs.specs.declared.fields.Fields.{Fields}
 
--- its version, addresses, protocol and ports, 0 where absent; so all packets without an IP header are one flow
+-- its version, addresses, protocol and ports, each 0 if absent; so all packets without an IP header
+-- are one flow
 abbrev pub flow_of : Fields → FlowKey
 flow_of fields = record {
   version = unwrap_or fields.version 0;

@@ -15,7 +15,7 @@ ethernet_link = 1
 abbrev pub raw_link : ℕ
 raw_link = 101
 
--- the fields of captured bytes under a link type
+-- the fields of captured bytes with this link type
 abbrev pub fields_of : ℕ → List ℕ → Fields
 fields_of link bytes =
     if link == ethernet_link then ethernet_fields bytes

@@ -13,14 +13,14 @@ addresses = replicate 12 0
 abbrev pub tag_7 : List ℕ
 tag_7 = 0x81 ∷ 0x00 ∷ 0x00 ∷ 0x07 ∷ []
 
--- UDP from port 4096 of 10.0.0.1 to port 53 of 10.0.0.2, with codepoint 46 and both congestion bits; the numbers are
--- the two bytes of the flags and the fragment offset
+-- UDP from port 4096 of 10.0.0.1 to port 53 of 10.0.0.2, with codepoint 46 and both congestion
+-- bits; the arguments are the two bytes of the flags and the fragment offset
 abbrev pub fragment : ℕ → ℕ → List ℕ
 fragment high low =
     (0x45 ∷ 0xBB ∷ 0x00 ∷ 0x1C ∷ 0x00 ∷ 0x00 ∷ high ∷ low ∷ []) ++ (0x40 ∷ 0x11 ∷ 0x00 ∷ 0x00 ∷ [])
     ++ (0x0A ∷ 0x00 ∷ 0x00 ∷ 0x01 ∷ 0x0A ∷ 0x00 ∷ 0x00 ∷ 0x02 ∷ []) ++ (0x10 ∷ 0x00 ∷ 0x00 ∷ 0x35 ∷ 0x00 ∷ 0x08 ∷ 0x00 ∷ 0x00 ∷ [])
 
--- the same, whole
+-- the same, unfragmented
 abbrev pub datagram : List ℕ
 datagram = fragment 0 0
 
@@ -40,29 +40,29 @@ tagged = refl
 pub untagged : fields_of 1 (addresses ++ ipv4_type ++ datagram) ≡ datagram_fields
 untagged = refl
 
--- a tag's id is its low 12 bits
+-- a tag's VLAN id is its low 12 bits
 pub priority_bits : fields_of 1 (addresses ++ (0x81 ∷ 0x00 ∷ 0xFA ∷ 0xBC ∷ []) ++ ipv4_type ++ datagram) ≡ record datagram_fields { vlan = Some 2748 }
 priority_bits = refl
 
--- any bit of the fragment offset is a later fragment, and none of the three flags before it is
+-- any bit of the fragment offset marks a later fragment; the three flags before it don't
 pub later_fragments : map (λ low. fields_of 1 (addresses ++ ipv4_type ++ fragment 0 low)) (1 ∷ 128 ∷ []) ≡ fragment_fields ∷ fragment_fields ∷ []
 later_fragments = refl
 
 pub flags_and_high_offsets : map (λ high. fields_of 101 (fragment high 0)) (0xE0 ∷ 0x01 ∷ 0x10 ∷ []) ≡ datagram_fields ∷ fragment_fields ∷ fragment_fields ∷ []
 flags_and_high_offsets = refl
 
--- the first of two tags counts, and a third is no type that is looked into
+-- the first of two tags counts, and a third tag isn't parsed
 pub two_tags : fields_of 1 (addresses ++ tag_7 ++ (0x88 ∷ 0xA8 ∷ 0x00 ∷ 0x09 ∷ []) ++ ipv4_type ++ datagram) ≡ record datagram_fields { vlan = Some 7 }
 two_tags = refl
 
 pub three_tags : fields_of 1 (addresses ++ tag_7 ++ tag_7 ++ tag_7 ++ ipv4_type ++ datagram) ≡ record no_fields { vlan = Some 7 }
 three_tags = refl
 
--- a tag that is cut gives no id
+-- a cut tag gives no VLAN id
 pub cut_tag : fields_of 1 (addresses ++ tag_7) ≡ no_fields
 cut_tag = refl
 
--- one that is captured up to its type is whole, and the type needn't be one that is looked into
+-- a tag that is captured up to the type after it is complete, and that type may be any
 pub tag_lengths : map (λ n. fields_of 1 (take n (addresses ++ tag_7 ++ 0x08 ∷ 0x06 ∷ []))) (17 ∷ 18 ∷ []) ≡ no_fields ∷ record no_fields { vlan = Some 7 } ∷ []
 tag_lengths = refl
 
@@ -72,7 +72,7 @@ other_type = refl
 pub raw : fields_of 101 datagram ≡ datagram_fields
 raw = refl
 
--- a header has 20 bytes, and the ports 4
+-- an IPv4 header has 20 bytes, and the ports 4
 pub captured_parts : map (λ n. fields_of 101 (take n datagram)) (19 ∷ 20 ∷ 23 ∷ 24 ∷ []) ≡ no_fields ∷ fragment_fields ∷ fragment_fields ∷ datagram_fields ∷ []
 captured_parts = refl
 
@@ -83,7 +83,7 @@ other_link_types = refl
 abbrev pub with_protocol : ℕ → List ℕ
 with_protocol p = take 9 datagram ++ p ∷ drop 10 datagram
 
--- TCP has ports too, and ICMP has none
+-- TCP has ports too; ICMP has none
 pub tcp : fields_of 101 (with_protocol 6) ≡ record datagram_fields { proto = Some 6 }
 tcp = refl
 
@@ -96,15 +96,16 @@ flow_of-nothing = refl
 pub flow_of-datagram : flow_of datagram_fields ≡ record { version = 4; source = 167772161; target = 167772162; proto = 17; sport = 4096; dport = 53 }
 flow_of-datagram = refl
 
--- the most bytes of options before the ports
+-- the longest options before the ports
 pub options : fields_of 101 ((0x4F ∷ take 19 (drop 1 datagram)) ++ replicate 40 1 ++ drop 20 datagram) ≡ datagram_fields
 options = refl
 
--- a header of another version, or one that says that it has fewer than 20 bytes, is none
+-- a header of another version, or with a length field below 20 bytes, isn't recognized
 pub other_first_bytes : map (λ first. fields_of 101 (first ∷ drop 1 datagram)) (0x05 ∷ 0x35 ∷ 0x55 ∷ 0x44 ∷ []) ≡ no_fields ∷ no_fields ∷ no_fields ∷ no_fields ∷ []
 other_first_bytes = refl
 
--- TCP from port 1 of 2001:db8::1 to port 22 of fe80::102, with codepoint 46, both congestion bits and a flow label
+-- TCP from port 1 of 2001:db8::1 to port 22 of fe80::102, with codepoint 46, both congestion bits
+-- and a flow label
 abbrev pub segment : List ℕ
 segment =
     (0x6B ∷ 0xB5 ∷ 0x12 ∷ 0x34 ∷ 0x00 ∷ 0x14 ∷ 0x06 ∷ 0x40 ∷ []) ++ (0x20 ∷ 0x01 ∷ 0x0D ∷ 0xB8 ∷ replicate 11 0 ++ 1 ∷ [])
@@ -114,25 +115,25 @@ abbrev pub segment_fields : Fields
 segment_fields =
     record { vlan = None; version = Some 6; dscp = Some 46; proto = Some 6; source = Some 42540766411282592856903984951653826561; target = Some 338288524927261089654018896841347694850; sport = Some 1; dport = Some 22 }
 
--- the same without its ports
+-- the same fields without the ports
 abbrev pub cut_segment_fields : Fields
 cut_segment_fields = record segment_fields { sport = None; dport = None }
 
 pub version_6 : fields_of 101 segment ≡ segment_fields
 version_6 = refl
 
--- a header has 40 bytes, and the ports 4
+-- an IPv6 header has 40 bytes, and the ports 4
 pub captured_parts_of_version_6 : map (λ n. fields_of 101 (take n segment)) (39 ∷ 40 ∷ 43 ∷ []) ≡ no_fields ∷ cut_segment_fields ∷ cut_segment_fields ∷ []
 captured_parts_of_version_6 = refl
 
--- behind another next header, as a fragment's, no ports are looked for
+-- after another next header, such as a fragment's, no ports are read
 pub other_next_header : fields_of 101 (take 6 segment ++ 44 ∷ drop 7 segment) ≡ record cut_segment_fields { proto = Some 44 }
 other_next_header = refl
 
 pub version_6_in_a_frame : fields_of 1 (addresses ++ (0x86 ∷ 0xDD ∷ []) ++ segment) ≡ segment_fields
 version_6_in_a_frame = refl
 
--- a frame that says it carries IPv6 and carries IPv4 has no fields, and the other way round
+-- a frame whose type is IPv6 but whose payload is IPv4 has no fields, and vice versa
 pub other_version : fields_of 1 (addresses ++ (0x86 ∷ 0xDD ∷ []) ++ datagram ++ replicate 20 0) ≡ no_fields
 other_version = refl
 
@@ -143,11 +144,11 @@ other_version_4 = refl
 pub each_field : map (λ (f : Field). value_of f (record segment_fields { vlan = Some 7; proto = Some 17 }) 60) (vlan ∷ dscp ∷ proto ∷ sport ∷ dport ∷ len ∷ []) ≡ Some 7 ∷ Some 46 ∷ Some 17 ∷ Some 1 ∷ Some 22 ∷ Some 60 ∷ []
 each_field = refl
 
--- both ends are in the range
+-- both ends belong to the range
 pub ends_of_a_range : map (λ n. meets no_fields n (in_range len 10 20)) (9 ∷ 10 ∷ 20 ∷ 21 ∷ []) ≡ false ∷ true ∷ true ∷ false ∷ []
 ends_of_a_range = refl
 
--- a packet is of IPv4, of IPv6 or of neither
+-- a packet is IPv4, IPv6 or neither
 pub versions_met : map (λ (fields : Fields). meets fields 60 ipv4) (datagram_fields ∷ segment_fields ∷ no_fields ∷ []) ≡ true ∷ false ∷ false ∷ []
 versions_met = refl
 
@@ -161,19 +162,19 @@ in_prefix = refl
 pub beside_prefix : meets datagram_fields 28 (source 168361984 16) ≡ false
 beside_prefix = refl
 
--- 10.0.0.1 comes from 10.0.0.0/31 and 10.0.0.1/32, and not from 10.0.0.0/32 or 10.0.0.2/32
+-- source 10.0.0.1 matches 10.0.0.0/31 and 10.0.0.1/32, but not 10.0.0.0/32 or 10.0.0.2/32
 pub longest_prefixes : map (λ (c : Condition). meets datagram_fields 28 c) (source 167772160 31 ∷ source 167772161 32 ∷ source 167772160 32 ∷ source 167772162 32 ∷ []) ≡ true ∷ true ∷ false ∷ false ∷ []
 longest_prefixes = refl
 
--- and goes to 10.0.0.2/31 and 10.0.0.2/32, and not to 10.0.0.1/32
+-- destination 10.0.0.2 matches 10.0.0.2/31 and 10.0.0.2/32, but not 10.0.0.1/32
 pub longest_prefixes_of_targets : map (λ (c : Condition). meets datagram_fields 28 c) (target 167772163 31 ∷ target 167772162 32 ∷ target 167772161 32 ∷ []) ≡ true ∷ true ∷ false ∷ []
 longest_prefixes_of_targets = refl
 
--- any two addresses agree in no leading bits, if they are IPv4's
+-- any two IPv4 addresses agree in zero leading bits
 pub empty_prefix : map (λ (c : Condition). meets datagram_fields 28 c) (source 0 0 ∷ target 0 0 ∷ []) ≡ true ∷ true ∷ []
 empty_prefix = refl
 
--- addresses of IPv6 meet no prefix, not even one of no bits
+-- IPv6 addresses match no prefix, not even an empty one
 pub ipv6_has_no_prefix : map (λ (c : Condition). meets (record segment_fields { source = Some 1; target = Some 2 }) 60 c) (source 0 0 ∷ target 0 0 ∷ []) ≡ false ∷ false ∷ []
 ipv6_has_no_prefix = refl
 
@@ -183,7 +184,7 @@ absent_meets_nothing = refl
 pub length_is_present : meets no_fields 28 (in_range len 28 28) ≡ true
 length_is_present = refl
 
--- the least of two classes that fit, and the last where no other does
+-- the lower of two classes that match, and the last if no other matches
 abbrev pub classes : List (List Condition)
 classes = (in_range proto 6 6 ∷ []) ∷ (in_range dport 53 53 ∷ ipv4 ∷ []) ∷ (in_range dport 0 99 ∷ []) ∷ [] ∷ []
 

@@ -1,5 +1,5 @@
-//! The header fields that conditions look at.
-/// The header fields of a packet that are captured and present.
+//! The header fields that conditions test.
+/// The header fields of a packet that are present and captured.
 #[derive(Clone, Copy, PartialEq, Eq, Debug)]
 pub struct Fields {
     /// The VLAN id of the first tag (IEEE 802.1Q).
@@ -8,7 +8,7 @@ pub struct Fields {
     pub version: Option<u8>,
     /// The differentiated services codepoint (RFC 2474).
     pub dscp: Option<u8>,
-    /// The protocol of IPv4, and the next header of IPv6.
+    /// The protocol of IPv4, or the next header of IPv6.
     pub proto: Option<u8>,
     pub source: Option<u128>,
     /// The destination address.

@@ -1,4 +1,5 @@
-//! Packets as the layers above the capture see them: their header fields, flows and classes. Begin with specs/Headers.antt.
+//! Packets as the layers above the capture see them: header fields, flows and classes. Begin with
+//! specs/Headers.antt.
 #![tactic(auto)]
 
 mod fields;

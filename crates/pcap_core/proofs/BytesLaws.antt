@@ -1,4 +1,4 @@
--- The bytes that are written spell what they are written for.
+-- The written bytes spell the header and the records that they were written for.
 use Rattle.std.proofs.Common.{◌<◌, ◌%◌, ◌^◌, ℕ, false, None, List, [], ◌∷◌, ◌++◌, length, refl, sym, ap, ◌∙◌, arith, append_assoc, append-nil}
 use Rattle.std.specs.Prelude.{All}
 use Rattle.std.proofs.lemmas.List.Elements.{All-head, All-tail}
@@ -9,13 +9,13 @@ use Rattle.pcap_defs.proofs.ReadingLaws.{reads_captures}
 use Rattle.pcap_core.specs.Bytes.{long_bytes, header_bytes, record_bytes, records_bytes, file_bytes, head_with}
 use Rattle.pcap_core.specs.Laws.{IsWritable, AreCaptures, AreReadBack, RecordsFollow}
 
--- the header's bytes are a header of this link type
+-- the header's bytes are a header with this link type
 pub header_bytes-says : (link : ℕ) → link < 2 ^ 16 → IsHeader (head_with link) (header_bytes link)
 header_bytes-says link fits =
     let read = little_number-reads_back 4 link [] (omega arith) in
     record { whole = refl; magic = refl; major = refl; link = ap (λ n. n % 2 ^ 16) read ∙ omega arith }
 
--- a record's bytes spell it
+-- a record's bytes spell the record
 pub record_bytes-spell : (r : Record) → IsWritable r → IsSpelling false r (record_bytes r.seconds r.fraction r.original r.captured)
 record_bytes-spell r fits =
     let captured = length r.captured in
@@ -29,7 +29,7 @@ record_bytes-spell r fits =
       short = fits.captured;
     }
 
--- records' bytes spell them one after another
+-- the bytes of records spell the records, one after another
 pub records_bytes-spell : (records : List Record) → All IsWritable records → AreSpellings false records (records_bytes records)
 records_bytes-spell [] fit = refl
 records_bytes-spell (r ∷ records) fit = (
@@ -40,7 +40,7 @@ records_bytes-spell (r ∷ records) fit = (
   records_bytes-spell records (All-tail IsWritable r records fit),
 )
 
--- what is written is a whole capture
+-- the written bytes are a whole capture
 pub are_captures : AreCaptures
 are_captures link records fits fit few = record {
   header = header_bytes link;
@@ -57,7 +57,7 @@ are_captures link records fits fit few = record {
   };
 }
 
--- and is read as one
+-- the written bytes are read back as that capture
 pub are_read_back : AreReadBack
 are_read_back link records fits fit few =
     (reads_captures (head_with link) records None (file_bytes link records)).0 (are_captures link records fits fit few)

@@ -1,4 +1,4 @@
--- What a reader's answers say of what it leaves to come, in the words that are those of every capture.
+-- The contents left after each result of a reader, in the terms shared by all capture formats.
 use Rattle.std.proofs.Common.{◌≡◌, ◌<◌, ◌+◌, ℕ, false, Option, Some, None, List, [], ◌∷◌, refl, sym, ap, ◌∙◌, subst}
 use Rattle.std.specs.Prelude.{IfSome, option_map, map}
 use Rattle.std.specs.Option.{option_map_or}
@@ -20,7 +20,8 @@ use Rattle.pcap_core.specs.Rest.{TakesHeader, TakesRecord}
 use Rattle.pcap_core.specs.declared.fault.CaptureFault.{CaptureFault}
 use Rattle.pcap_core.specs.declared.fault.CaptureFault.TheVariants.{HeaderCut, BadMagic, PcapNg, Version, RecordCut, DataCut, RecordLong, TooMany, ReadFault, NoMemory}
 
--- what holds of the fault of the file that a refusal names, and of none, holds of what the refusal becomes
+-- a property of the fault that an error names, and of no fault, also holds after the conversion to
+-- a `ReadError`
 unread-by : (P : Option FaultAt → Type 0) (refusal : CaptureFault) → P None → IfSome (fault_in refusal) (λ f. P (Some (fault_at f))) → P (fault_told (read_error_as refusal))
 unread-by P HeaderCut none h = h
 unread-by P BadMagic none h = h
@@ -33,7 +34,7 @@ unread-by P TooMany none h = h
 unread-by P ReadFault none h = none
 unread-by P NoMemory none h = none
 
--- behind the header all records are left
+-- after the header, all contents are left
 opens : (head : Head) (file rest : Option (List ℕ)) → TakesHeader head file rest → IfSome file (λ f. Opens (in_capture (capture_of f)) (option_map (contents_in head 0) rest))
 opens head None rest t = tt
 opens head (Some file) None (header, is, taken) = absurd taken
@@ -44,14 +45,14 @@ pub opens-at : (head : Head) (kept : Option Head) (given : ℕ) (file rest : Opt
     → IfSome file (λ f. Opens (in_capture (capture_of f)) (option_map (contents_in (head_read kept) given) rest))
 opens-at head kept given file rest same none t = rw (same, none) (opens head file rest t)
 
--- a refused file is no capture
+-- a rejected file is no capture
 pub refuses : (refusal : CaptureFault) (file : Option (List ℕ)) → IfSome (fault_in refusal) (λ f. IfSome file (λ bytes. IsHeaderFault bytes f))
     → IfSome (fault_told (read_error_as refusal)) (λ g. IfSome file (λ bytes. in_capture (capture_of bytes) ≡ no_capture g))
 refuses refusal file h =
     unread-by (λ o. IfSome o (λ g. IfSome file (λ bytes. in_capture (capture_of bytes) ≡ no_capture g))) refusal tt
     (IfSome_then (fault_in refusal) h (λ f is. IfSome_then file is (λ bytes bad. ap in_capture (capture_of-fault f bytes bad))))
 
--- a record is the next packet
+-- a record is the next packet, with its frame and captured bytes
 packet-is : (head : Head) (r : Record) (f : LinkedFrame) (bytes : List ℕ) → IsFrameOf head.nano r f.frame bytes → f.link ≡ head.link → packet_with head r ≡ packet_of f bytes
 packet-is head r f bytes is linked =
     ap (λ l. record { link = l; moment = moment head.nano r; original = r.original; captured = r.captured }) (sym linked)
@@ -74,7 +75,7 @@ pub comes-at : (before after : Option Head) (n next : ℕ) (old new : Option (Li
 comes-at None after n next old new r f bytes same given few is linked t = rw (same, given) (comes (head_read None) n old new r f bytes few is (rw same at linked) t)
 comes-at (Some head) after n next old new r f bytes same given few is linked t = rw (same, given) (comes head n old new r f bytes few is (rw same at linked) t)
 
--- and so one packet came where its captured bytes aren't told
+-- so one packet was taken, even if its captured bytes aren't returned
 pub one-less : (before after : Option Head) (n next : ℕ) (old new : Option (List ℕ)) (r : Record) → after ≡ before → next ≡ n + 1 → n < most_records
     → TakesRecord (option_map_or (λ (h : Head). h.big) before false) r old new
     → IsOneLess (option_map (contents_in (head_read before) n) old) (option_map (contents_in (head_read after) next) new)
@@ -83,21 +84,21 @@ one-less before after n next old new r same given few t =
     let f : LinkedFrame = record { frame = record { number = next; moment = moment nano r; captured = 0; len = r.original }; link = (head_read after).link } in
     (packet_of f r.captured, comes-at before after n next old new r f r.captured same given few (record { moment_is = refl; original = refl; captured = refl }) refl t)
 
--- there is none where nothing is left
+-- no packet and no fault is left if no bytes are
 pub ends : (head : Head) (n : ℕ) (old : Option (List ℕ)) → IsWhole old → IsAt None (option_map (contents_in head n) old)
 ends head n None whole = tt
 ends head n (Some old) whole =
     let e : records_left head.big n old ≡ ([], None) = ap (records_left head.big n) whole ∙ records_left-nothing head.big n in
     (ap (λ run. map (packet_with head) run.0) e, ap (λ run. option_map fault_at run.1) e)
 
--- and then nothing is left
+-- and no contents are left afterwards
 pub leaves : (head : Head) (n next : ℕ) (kept : Option Head) (old new : Option (List ℕ)) → LeavesNothing old new → LeavesNone (option_map (contents_in head n) old) (option_map (contents_in (head_read kept) next) new)
 leaves head n next kept None new none = tt
 leaves head n next kept (Some old) new none =
     ap (option_map (contents_in (head_read kept) next)) none
     ∙ ap (λ run. Some (record { packets = map (packet_with (head_read kept)) run.0; fault = option_map fault_at run.1 })) (records_left-nothing (head_read kept).big next)
 
--- a fault comes where no record is left before it
+-- a fault is returned only if no record is left before it
 pub halts : (kept : Option Head) (n : ℕ) (refusal : CaptureFault) (rest : Option (List ℕ))
     → IfSome (fault_in refusal) (λ f. IfSome rest (λ left. IsRecordFault (option_map_or (λ (h : Head). h.big) kept false) n left f))
     → IfSome (fault_told (read_error_as refusal)) (λ g. IsAt (Some g) (option_map (contents_in (head_read kept) n) rest))

@@ -1,4 +1,4 @@
--- What a reader's answers say of the one reading of the file, for the crates above.
+-- The results of a reader and the reading of the file, for the crates above.
 use Rattle.std.proofs.Common.{◌≡◌, ◌<◌, ◌+◌, ℕ, Bool, Option, Some, None, List, [], ◌++◌, refl, ap, ◌∙◌}
 use Rattle.std.specs.Prelude.{IfSome}
 use Rattle.pcap_defs.specs.declared.head.Head.{Head}
@@ -10,7 +10,7 @@ use Rattle.pcap_defs.proofs.ReadingLaws.{records_left-nothing, records_left-faul
 use Rattle.capture_core.specs.Rest.{IsWhole}
 use Rattle.pcap_core.specs.Rest.{TakesHeader, TakesRecord}
 
--- where a header was read, the capture has it, and the records that are left
+-- if a header was read, the capture has its values and the records left after it
 pub capture-header : (head : Head) (old new : Option (List ℕ)) (file : List ℕ) → TakesHeader head old new → old ≡ Some file
     → (now : List ℕ) × (new ≡ Some now) × (capture_of file ≡ packets head (records_left head.big 0 now).0 (records_left head.big 0 now).1)
 capture-header head None new file taken e = absurd (cc)
@@ -19,14 +19,14 @@ capture-header head (Some old) (Some now) file taken e =
     let same : file ≡ taken.0 ++ now = cc in
     (now, refl, ap capture_of same ∙ capture_of-header head taken.0 now taken.1)
 
--- where a fault of the header was answered, the file is refused for it
+-- if a header fault was returned, the file is rejected for it
 pub capture-refused : (fault : Fault) (old : Option (List ℕ)) (file : List ℕ) → IfSome old (λ bytes. IsHeaderFault bytes fault) → old ≡ Some file → capture_of file ≡ refused fault
 capture-refused fault None file h e = absurd (cc)
 capture-refused fault (Some old) file h e =
     let same : file ≡ old = cc in
     ap capture_of same ∙ capture_of-fault fault old h
 
--- where a record was read, it is the first of those that were left
+-- if a record was read, it is the first of the records that were left
 pub left-record : (big : Bool) (n : ℕ) (r : Record) (old new : Option (List ℕ)) (left : List ℕ) → n < most_records → TakesRecord big r old new → old ≡ Some left
     → (now : List ℕ) × (new ≡ Some now) × (records_left big n left ≡ with_first r (records_left big (n + 1) now))
 left-record big n r None new left few taken e = absurd (cc)
@@ -35,14 +35,14 @@ left-record big n r (Some old) (Some now) left few taken e =
     let same : left ≡ taken.0 ++ now = cc in
     (now, refl, ap (records_left big n) same ∙ records_left-record big n r taken.0 now few taken.1)
 
--- where there was none, none were left
+-- if there was no record, none were left
 pub left-nothing : (big : Bool) (n : ℕ) (old : Option (List ℕ)) (left : List ℕ) → IsWhole old → old ≡ Some left → records_left big n left ≡ ([], None)
 left-nothing big n None left whole e = absurd (cc)
 left-nothing big n (Some old) left whole e =
     let same : left ≡ [] = cc in
     ap (records_left big n) same ∙ records_left-nothing big n
 
--- where a fault of a record was answered, no record was left, and the fault
+-- if a record fault was returned, no record was left, only the fault
 pub left-fault : (big : Bool) (n : ℕ) (fault : Fault) (old : Option (List ℕ)) (left : List ℕ) → IfSome old (λ bytes. IsRecordFault big n bytes fault) → old ≡ Some left
     → records_left big n left ≡ ([], Some fault)
 left-fault big n fault None left h e = absurd (cc)

@@ -1,4 +1,4 @@
--- What the pieces taken from what is left say of it.
+-- Facts about the remaining bytes, from the pieces taken from them.
 use Rattle.std.proofs.Common.{true, false, Ok, Err, ◌≡◌, ◌<◌, ◌≤◌, ◌+◌, ℕ, Bool, Option, Some, None, List, [], ◌++◌, length, take, IfSome, refl, sym, ap, ◌∙◌, subst, arith, append_assoc, length-append}
 use Rattle.std.proofs.Math.ListN.{replicate}
 use Rattle.std.proofs.lemmas.List.{drop_at, length-take, take-append-drop, length-replicate}
@@ -18,12 +18,12 @@ use Rattle.pcap_core.specs.declared.record_header.RecordHeader.{RecordHeader}
 use Rattle.pcap_core.specs.Rest.{TakesHeader, TakesPreface, TakesRecord}
 use Rattle.pcap_core.specs.Frames.{IsFrameOf, IsFrontFault}
 
--- nothing taken leaves nothing to take
+-- if nothing could be taken, nothing was left
 pub whole-none : (old : Option (List ℕ)) (most : ℕ) (front : List ℕ) → IsShort old front most → length front < most → front ≡ [] → IsWhole old
 whole-none None most front short less none = tt
 whole-none (Some left) most front short less none = short less ∙ none
 
--- nor does it then leave anything
+-- and nothing is left afterwards
 pub whole-over : (old new : Option (List ℕ)) (most : ℕ) (front : List ℕ) → TakesFront old new front → IsShort old front most → length front < most → front ≡ [] → LeavesNothing old new
 whole-over None new most front taken short less none = tt
 whole-over (Some left) None most front taken short less none = absurd taken
@@ -37,7 +37,7 @@ two-fronts (Some old) None new a b first second = absurd first
 two-fronts (Some old) (Some mid) None a b first second = absurd second
 two-fronts (Some old) (Some mid) (Some new) a b first second = first ∙ ap (λ xs. a ++ xs) second ∙ sym (append_assoc a b new)
 
--- a record in two pieces
+-- a record taken in two pieces
 pub record-taken : (big : Bool) (front captured : List ℕ) (old mid new : Option (List ℕ)) → TakesFront old mid front → TakesFront mid new captured
     → length front ≡ record_len → captured_len big front ≡ length captured → length captured ≤ most_captured
     → TakesRecord big (record { seconds = long_at big 0 front; fraction = long_at big 4 front; original = long_at big 12 front; captured = captured }) old new
@@ -71,14 +71,14 @@ front-fault big n front rest left bad_magic split short h = absurd h
 front-fault big n front rest left pcap_ng split short h = absurd h
 front-fault big n front rest left version split short h = absurd h
 
--- a fault that a record's first bytes show
+-- a fault that the first bytes of a record show
 pub front-broken : (big : Bool) (n : ℕ) (front : List ℕ) (old mid : Option (List ℕ)) (fault : Fault) → TakesFront old mid front → IsShort old front record_len
     → IsFrontFault big n front fault → IfSome old (λ left. IsRecordFault big n left fault)
 front-broken big n front None mid fault taken short h = tt
 front-broken big n front (Some left) None fault taken short h = absurd taken
 front-broken big n front (Some left) (Some rest) fault taken short h = front-fault big n front rest left fault taken short h
 
--- fewer bytes are left than so many, where fewer were taken, and where fewer were passed over
+-- fewer than `most` bytes are left if fewer were taken, and if fewer were skipped
 pub short-taken : (most : ℕ) (mid : Option (List ℕ)) (captured : List ℕ) → IsShort mid captured most → length captured < most → IfSome mid (λ rest. length rest < most)
 short-taken most None captured short cut = tt
 short-taken most (Some rest) captured short cut = omega (arith, ap length (short cut), cut)
@@ -87,7 +87,7 @@ pub short-passed : (most n : ℕ) (mid : Option (List ℕ)) → IsAll n mid → 
 short-passed most n None all cut = tt
 short-passed most n (Some rest) all cut = omega (arith, all, cut)
 
--- captured bytes that end too soon
+-- captured bytes that are cut
 pub data-broken : (head : Head) (n k : ℕ) (p : RecordHeader) (old mid : Option (List ℕ)) → TakesPreface head p old mid → IfSome mid (λ rest. length rest < p.captured)
     → n < most_records → k ≡ n + 1 → p.captured ≤ most_captured → IfSome old (λ left. IsRecordFault head.big n left (data_cut k))
 data-broken head n k p None mid taken cut few number short = tt
@@ -97,7 +97,7 @@ data-broken head n k p (Some left) (Some rest) (front, says, taken) cut few numb
     let len : length left ≡ length front + length rest = ap length taken ∙ length-append front rest in
     (few, number, omega (arith, len, says.whole), omega (arith, counted, says.counted, short), omega (arith, counted, len, says.whole, says.counted, cut))
 
--- a record in two pieces, and what is told of it
+-- a record taken in two pieces, and its frame
 pub frame-taken : (head : Head) (number : ℕ) (p : RecordHeader) (captured : List ℕ) (old mid new : Option (List ℕ)) → TakesPreface head p old mid → TakesFront mid new captured
     → p.captured ≤ most_captured → p.captured ≡ length captured
     → (r : Record) × IsFrameOf head.nano r (record { number = number; moment = p.moment; captured = p.captured; len = p.len }) captured × TakesRecord head.big r old new
@@ -107,14 +107,14 @@ frame-taken head number p captured old mid new (front, says, first) second short
   record-taken head.big front captured old mid new first second says.whole (sym says.counted ∙ counted) (omega (arith, counted, short)),
 )
 
--- bytes that were passed over were at the front of what was left
+-- skipped bytes were at the front of the remaining bytes
 passed-taken : (n : ℕ) (mid new : Option (List ℕ)) → Passes n mid new → (bytes : List ℕ) × (n ≡ length bytes) × TakesFront mid new bytes
 passed-taken n None new passed = (replicate n 0, sym (length-replicate n 0), tt)
 passed-taken n (Some mid) None passed = absurd passed
 passed-taken n (Some mid) (Some new) passed =
     (take n mid, omega (arith, length-take n mid, passed.0), sym (take-append-drop n mid) ∙ ap (λ xs. take n mid ++ xs) (sym passed.1))
 
--- a record whose captured bytes were passed over
+-- a record whose captured bytes were skipped
 pub record-passed : (head : Head) (n : ℕ) (p : RecordHeader) (old mid new : Option (List ℕ)) → TakesPreface head p old mid → Passes n mid new → n ≡ p.captured → p.captured ≤ most_captured
     → (r : Record) × TakesRecord head.big r old new
 record-passed head n p old mid new taken passed all short =
@@ -122,7 +122,7 @@ record-passed head n p old mid new taken passed all short =
     let (r, is, spelled) = frame-taken head 0 p captured old mid new taken second short (sym all ∙ counted) in
     (r, spelled)
 
--- a file that begins with an accepted header has no fault of the header
+-- a file that begins with a valid header has no header fault
 header-clean : (head : Head) (header rest file : List ℕ) → file ≡ header ++ rest → IsHeader head header → (fault : Fault) → IsHeaderFault file fault → false ≡ true
 header-clean head header rest file split h fault faulty =
     let accepted : head_in_file file ≡ Ok head = ap head_in_file split ∙ head_of-header head header rest h in
@@ -135,7 +135,7 @@ header-sound head None new taken = tt
 header-sound head (Some file) None taken = absurd taken.2
 header-sound head (Some file) (Some rest) taken = header-clean head taken.0 rest file taken.2 taken.1
 
--- where a record can be taken, no record is at fault
+-- if a record can be taken, the remaining bytes have no record fault
 record-clean : (big : Bool) (n : ℕ) (r : Record) (spelling rest left : List ℕ) → n < most_records → left ≡ spelling ++ rest → IsSpelling big r spelling
     → (fault : Fault) → IsRecordFault big n left fault → false ≡ true
 record-clean big n r spelling rest left few split spelled fault faulty =

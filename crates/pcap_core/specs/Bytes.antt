@@ -1,4 +1,5 @@
--- The bytes of a capture that is written (libpcap 2.4): fractions count nanoseconds, and numbers have their lowest byte first.
+-- The bytes of a written capture (libpcap 2.4): fractions count nanoseconds, and numbers are
+-- little-endian.
 use Rattle.std.specs.Prelude.{◌≡◌, ℕ, true, false, None, List, [], ◌∷◌, ◌++◌, length, drop, refl}
 use Rattle.byteorder.specs.Endian.{little_bytes}
 use Rattle.pcap_defs.specs.declared.head.Head.{Head}
@@ -17,13 +18,14 @@ long_bytes n = little_bytes 4 n
 abbrev pub minor_version : ℕ
 minor_version = 4
 
--- the file header: magic number, version, zone, significant figures, snapshot length, link type
+-- the file header: magic number, version, time zone, significant figures, snapshot length, link
+-- type
 abbrev pub header_bytes : ℕ → List ℕ
 header_bytes link =
     long_bytes (magic_number true) ++ short_bytes major_version ++ short_bytes minor_version ++ long_bytes 0 ++ long_bytes 0
     ++ long_bytes most_captured ++ long_bytes link
 
--- a record before its captured bytes: seconds, nanoseconds, captured length, original length
+-- the header of a record: seconds, nanoseconds, captured length, original length
 abbrev pub record_front : ℕ → ℕ → ℕ → ℕ → List ℕ
 record_front seconds nanos captured len = long_bytes seconds ++ long_bytes nanos ++ long_bytes captured ++ long_bytes len
 
@@ -40,17 +42,17 @@ records_bytes (r ∷ records) = record_bytes r.seconds r.fraction r.original r.c
 abbrev pub file_bytes : ℕ → List Record → List ℕ
 file_bytes link records = header_bytes link ++ records_bytes records
 
--- what its header says
+-- the header values of a written capture
 abbrev pub head_with : ℕ → Head
 head_with link = record { link = link; nano = true; big = false }
 
--- two packets of four bytes in second 1, the later one 1000 nanoseconds after the earlier
+-- two packets of four bytes in second 1, the second one 1000 nanoseconds after the first
 abbrev pub two_packets : List Record
 two_packets =
     record { seconds = 1; fraction = 0; original = 4; captured = 0 ∷ 0 ∷ 0 ∷ 1 ∷ [] }
     ∷ record { seconds = 1; fraction = 1000; original = 4; captured = 0 ∷ 0 ∷ 0 ∷ 2 ∷ [] } ∷ []
 
--- the same as the 64 bytes of a file
+-- the same packets as the 64 bytes of a file
 abbrev pub two_packets_file : List ℕ
 two_packets_file =
     (0x4D ∷ 0x3C ∷ 0xB2 ∷ 0xA1 ∷ 2 ∷ 0 ∷ 4 ∷ 0 ∷ []) ++ (0 ∷ 0 ∷ 0 ∷ 0 ∷ 0 ∷ 0 ∷ 0 ∷ 0 ∷ []) ++ (0 ∷ 0 ∷ 4 ∷ 0 ∷ 0x93 ∷ 0 ∷ 0 ∷ 0 ∷ [])
@@ -67,14 +69,14 @@ two_packets_read_back = refl
 pub header_alone : file_bytes 0 [] ≡ (0x4D ∷ 0x3C ∷ 0xB2 ∷ 0xA1 ∷ 2 ∷ 0 ∷ 4 ∷ 0 ∷ []) ++ (0 ∷ 0 ∷ 0 ∷ 0 ∷ 0 ∷ 0 ∷ 0 ∷ 0 ∷ []) ++ (0 ∷ 0 ∷ 4 ∷ 0 ∷ 0 ∷ 0 ∷ 0 ∷ 0 ∷ [])
 header_alone = refl
 
--- numbers of which each byte differs
+-- numbers whose bytes differ
 short_bytes-two : short_bytes 0x0102 ≡ 2 ∷ 1 ∷ []
 short_bytes-two = refl
 
 long_bytes-four : long_bytes 0x01020304 ≡ 4 ∷ 3 ∷ 2 ∷ 1 ∷ []
 long_bytes-four = refl
 
--- of 1500 bytes three are captured: seconds, nanoseconds, the captured length and then the original one
+-- three of 1500 bytes are captured: seconds, nanoseconds, captured length, original length
 record_bytes-cut : record_bytes 0x01020304 999999999 1500 (7 ∷ 8 ∷ 9 ∷ [])
     ≡ (4 ∷ 3 ∷ 2 ∷ 1 ∷ 0xFF ∷ 0xC9 ∷ 0x9A ∷ 0x3B ∷ []) ++ (3 ∷ 0 ∷ 0 ∷ 0 ∷ 0xDC ∷ 5 ∷ 0 ∷ 0 ∷ []) ++ (7 ∷ 8 ∷ 9 ∷ [])
 record_bytes-cut = refl
@@ -82,7 +84,7 @@ record_bytes-cut = refl
 record_front-order : record_front 1 2 3 4 ≡ (1 ∷ 0 ∷ 0 ∷ 0 ∷ 2 ∷ 0 ∷ 0 ∷ 0 ∷ []) ++ (3 ∷ 0 ∷ 0 ∷ 0 ∷ 4 ∷ 0 ∷ 0 ∷ 0 ∷ [])
 record_front-order = refl
 
--- the link type is behind all else of the header, and has two bytes
+-- the link type is last in the header, and has two bytes
 header_bytes-link : drop 20 (header_bytes 0x0102) ≡ 2 ∷ 1 ∷ 0 ∷ 0 ∷ []
 header_bytes-link = refl
 

@@ -1,4 +1,4 @@
-//! A reader of classic captures as one of captures of any format.
+//! The reader of classic captures, as one for captures of any format.
 ghost use Rattle.std.specs.Prelude.{◌≡◌};
 ghost use Rattle.pcap_core.specs.Faults.{read_error_as};
 
@@ -8,7 +8,7 @@ use capture_core::{CaptureReader, LinkedFrame, Window};
 use outside_core::{ReadError, Shelf};
 use std::alloc::Global;
 
-/// Why a capture isn't read on, in the words of any format.
+/// Converts an error of this reader to the error type shared by all capture formats.
 fn read_error(fault: CaptureFault) -> ReadError
     ensures { result ≡ read_error_as fault }
 {

@@ -1,10 +1,11 @@
-//! Why a capture isn't read on.
+//! The errors of reading a capture.
 ghost use Rattle.std.specs.Prelude.{◌≡◌};
 ghost use Rattle.pcap_core.specs.Faults.{code_in, place_in, shelf_fault};
 
 use outside_core::ShelfError;
 
-/// Why a capture isn't read on. A number is that of the record at fault, counted from 1.
+/// The reason why the reading of a capture stopped. A number is that of the record at fault,
+/// counted from 1.
 #[derive(Clone, Copy, PartialEq, Eq, Debug)]
 pub enum CaptureFault {
     /// The file is shorter than a file header.
@@ -15,22 +16,22 @@ pub enum CaptureFault {
     PcapNg,
     /// The major version isn't 2.
     Version,
-    /// The file ends inside the sixteen bytes before a record's captured ones.
+    /// The file ends inside the sixteen bytes before a record's captured bytes.
     RecordCut(u64),
     /// The file ends inside a record's captured bytes.
     DataCut(u64),
-    /// A record says that it captures more than 262,144 bytes.
+    /// A record's captured length is above 262,144 bytes.
     RecordLong(u64),
     /// Bytes follow the last record that a capture may have, the 4,294,967,295th.
     TooMany,
     /// The shelf failed to read.
     ReadFault,
-    /// There was no memory for the bytes that are read.
+    /// Out of memory for the bytes to be read.
     NoMemory,
 }
 
 impl CaptureFault {
-    /// The fault's number in a report, and 0 where the file isn't at fault.
+    /// Returns the fault's code in a report, or 0 if the file isn't at fault.
     pub fn code(&self) -> u32
         ensures { result ≡ code_in self.now }
     {
@@ -47,7 +48,7 @@ impl CaptureFault {
         }
     }
 
-    /// The number of the record at fault, and 0 where it is none.
+    /// Returns the number of the record at fault, or 0 if there is none.
     pub fn place(&self) -> u64
         ensures { result ≡ place_in self.now }
     {

@@ -8,14 +8,14 @@ use crate::fault::CaptureFault;
 use capture_core::{read_long, read_short};
 use pcap_defs::Head;
 
-/// The bytes of a file header.
+/// The length of a file header in bytes.
 pub const HEADER_LEN: usize = 24;
 
 const PCAP_NG: [u8; 4] = [0x0A, 0x0D, 0x0D, 0x0A];
 
 const MAJOR_VERSION: u16 = 2;
 
-/// The number that a capture begins with.
+/// Returns the magic number at the start of a capture.
 fn magic_number(nano: bool) -> u32
     ensures { result ≡ Rattle.pcap_defs.specs.Header.magic_number nano }
 {
@@ -29,7 +29,7 @@ fn has_magic(big: bool, nano: bool, bytes: &[u8]) -> bool
     read_long(big, bytes, 0) == magic_number(nano)
 }
 
-/// The byte order and the time unit that the magic number tells.
+/// Returns the byte order and the time unit of a magic number, as `(big, nano)`.
 fn magic_of(bytes: &[u8]) -> Option<(bool, bool)>
     requires { 4 ≤ length bytes.now }
     ensures some { IfSome result (λ m. HasMagic m.0 m.1 bytes.now) }
@@ -48,14 +48,15 @@ fn magic_of(bytes: &[u8]) -> Option<(bool, bool)>
     }
 }
 
-/// Whether a file that begins with these bytes is in the newer format pcapng. They are at least 24, or all.
+/// Returns whether a file is in the newer format pcapng. `front` has at least its first 24 bytes,
+/// or all if there are fewer.
 pub fn is_newer(front: &[u8]) -> bool
     ensures { IsTrue result ↔ IsHeaderFault front.now pcap_ng }
 {
     front.len() >= HEADER_LEN && front.starts_with(&PCAP_NG)
 }
 
-/// What the header says, where these are the first bytes of the file, up to the header's length.
+/// Parses a file header. `bytes` are the first 24 bytes of the file, or all if there are fewer.
 pub fn head_in(bytes: &[u8]) -> Result<Head, CaptureFault>
     requires { length bytes.now ≤ 24 }
     ensures header { IfOk result (λ head. IsHeader head bytes.now) }

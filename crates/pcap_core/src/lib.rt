@@ -1,4 +1,4 @@
-//! Captures of packets (libpcap 2.4): read record by record from a shelf, and written.
+//! Packet captures (libpcap 2.4): read record by record from a shelf, and written.
 #![tactic(auto)]
 
 mod capture;

@@ -1,4 +1,4 @@
-//! Reading a capture record by record.
+//! Reads a capture record by record.
 ghost use Rattle.std.specs.Prelude.{◌≡◌, ◌≤◌, ◌<◌, ◌+◌, ◌^◌, ◌↔◌, ℕ, true, false, List, Option, Some, None, [], length, vec_len, IfOk, IfErr, OnOk, OnErr, IfSome, IfNone, OnSome, IsErrOf, IsErr, IsTrue, IsFalse};
 ghost use Rattle.outside_core.specs.Faults.{Rose};
 ghost use Rattle.outside_core.specs.Kept.{KeepsShelf};
@@ -40,7 +40,8 @@ fn read_head<S: Shelf>(
     head_in(&bytes)
 }
 
-/// Reads what the next record, after this many, says of its captured bytes. They are looked at where they lie, if all are held.
+/// Reads the header of the next record, after `count` records. If the window has all of it, it is
+/// parsed in place.
 #[inline(always)]
 fn read_record_header<S: Shelf>(
     head: Head,
@@ -81,7 +82,7 @@ fn read_record_header<S: Shelf>(
     Ok(Some(preface_in(head, count, scratch)?))
 }
 
-/// Reads the next record, after this many.
+/// Reads the next record, after `count` records.
 #[inline(always)]
 fn read_record<S: Shelf>(
     head: Head,
@@ -129,7 +130,7 @@ fn read_record<S: Shelf>(
     }))
 }
 
-/// Passes over the next record, after this many, and answers whether there was one.
+/// Skips the next record, after `count` records, and returns whether there was one.
 fn pass_record<S: Shelf>(
     head: Head,
     count: u32,
@@ -165,7 +166,8 @@ fn pass_record<S: Shelf>(
     Ok(true)
 }
 
-/// Reads a capture record by record. It holds at most 65,536 bytes that aren't used up.
+/// Reads a capture record by record. It buffers at most 65,536 bytes that were read but not
+/// consumed.
 #[derive(Drop)]
 pub struct Reader {
     alloc: Global,
@@ -191,7 +193,7 @@ impl Reader {
     ghost use Rattle.pcap_core.specs.Left.{head_read};
     ghost use Rattle.pcap_core.specs.Readers.{head_of, is_big, is_nano, records_given, bytes_held, is_live, IsFresh, rest_left};
 
-    /// One that holds no bytes.
+    /// Returns a reader without buffered bytes.
     pub fn new(alloc: Global) -> Reader
         ensures fresh { IsFresh result }
         ensures none_held { bytes_held result ≡ [] }
@@ -199,7 +201,7 @@ impl Reader {
         Reader::over(alloc, Window::new(alloc))
     }
 
-    /// One over the bytes that a window holds, and then those left of the begun file.
+    /// Returns a reader of a window's bytes and then of the rest of the open file.
     pub fn over(alloc: Global, window: Window) -> Reader
         ensures fresh { IsFresh result }
         ensures held { bytes_held result ≡ held window }
@@ -213,14 +215,14 @@ impl Reader {
         }
     }
 
-    /// Whether no call was refused.
+    /// Returns whether no call has returned an error.
     pub fn live(&self) -> bool
         ensures { result ≡ is_live self.now }
     {
         self.live
     }
 
-    /// The link type that the header told.
+    /// Returns the link type in the header, or 0 before the header is read.
     pub fn link(&self) -> u16
         ensures { result ≡ (head_read (head_of self.now)).link }
     {
@@ -230,7 +232,7 @@ impl Reader {
         }
     }
 
-    /// Reads the file header: from the bytes that it holds, and then from the begun file.
+    /// Reads the file header: from the buffered bytes, and then from the open file.
     pub fn start<S: Shelf>(&mut self, shelf: &mut S) -> Result<Head, CaptureFault>
         requires fresh { IsFresh self.old }
         requires begun { IsTrue (S.begun shelf.old) }
@@ -242,7 +244,7 @@ impl Reader {
         ensures none_given { records_given self.new ≡ 0 }
         ensures bounded { length (bytes_held self.new) ≤ most_held }
 
-        // A fault of the file is answered exactly where the header has it.
+        // A returned fault is that of the header. If the header has a fault, an error is returned.
         ensures fault { IfErr result (λ e. IfSome (fault_in e) (λ fault.
             IfSome (rest_left self.old (S.left shelf.old)) (λ file. IsHeaderFault file fault))) }
         ensures refused { IfSome (rest_left self.old (S.left shelf.old)) (λ file.
@@ -266,7 +268,7 @@ impl Reader {
         }
     }
 
-    /// Reads the next record, and puts its captured bytes into `into`, in place of what it held.
+    /// Reads the next record, and replaces the contents of `into` by its captured bytes.
     #[inline(always)]
     pub fn next<S: Shelf>(
         &mut self,
@@ -277,7 +279,7 @@ impl Reader {
         requires live { IsTrue (is_live self.old) }
         requires begun { IsTrue (S.begun shelf.old) }
 
-        // What was left is the spelling of a record, and what is left now.
+        // The remaining bytes were the spelling of a record, and then the bytes left now.
         ensures found { IfOk result (λ o. IfSome o (λ frame.
             (r : Record) × IsFrameOf (is_nano self.old) r frame into.new.items
             × TakesRecord (is_big self.old) r (rest_left self.old (S.left shelf.old))
@@ -290,7 +292,7 @@ impl Reader {
         ensures short { IfOk result (λ o. IfSome o (λ frame. frame.captured ≤ most_captured)) }
         ensures moment { IfOk result (λ o. IfSome o (λ frame. frame.moment < 2 ^ 62)) }
 
-        // There is no record exactly where nothing is left, and then nothing is left for a later call.
+        // There is no record exactly if nothing is left, and then nothing is left for a later call.
         ensures ended { IfOk result (λ o.
             IfNone o (IsWhole (rest_left self.old (S.left shelf.old)))) }
         ensures over { IfOk result (λ o. IfNone o (LeavesNothing
@@ -298,7 +300,7 @@ impl Reader {
         ensures ends { IfSome (rest_left self.old (S.left shelf.old)) (λ left.
             left ≡ [] → MatchResult result (λ o. o ≡ None) (λ e. fault_in e ≡ None)) }
 
-        // A fault of the file is answered exactly where what is left has it.
+        // A returned fault is that of the remaining bytes. If they have one, an error is returned.
         ensures fault { IfErr result (λ e. IfSome (fault_in e) (λ fault.
             IfSome (rest_left self.old (S.left shelf.old)) (λ left.
             IsRecordFault (is_big self.old) (records_given self.old) left fault))) }
@@ -331,7 +333,8 @@ impl Reader {
         }
     }
 
-    /// Passes over the next record, and answers whether there was one. What `scratch` held is lost.
+    /// Skips the next record, and returns whether there was one. The contents of `scratch` are
+    /// lost.
     pub fn pass<S: Shelf>(
         &mut self,
         shelf: &mut S,
@@ -341,13 +344,13 @@ impl Reader {
         requires live { IsTrue (is_live self.old) }
         requires begun { IsTrue (S.begun shelf.old) }
 
-        // What was left is the spelling of a record, and what is left now.
+        // The remaining bytes were the spelling of a record, and then the bytes left now.
         ensures found { IfOk result (λ some. some ≡ true → (r : Record)
             × TakesRecord (is_big self.old) r (rest_left self.old (S.left shelf.old))
             (rest_left self.new (S.left shelf.new))) }
         ensures few { IfOk result (λ some. some ≡ true → records_given self.new ≤ most_records) }
 
-        // There is no record exactly where nothing is left, and then nothing is left for a later call.
+        // There is no record exactly if nothing is left, and then nothing is left for a later call.
         ensures ended { IfOk result (λ some. some ≡ false → IsWhole
             (rest_left self.old (S.left shelf.old))) }
         ensures over { IfOk result (λ some. some ≡ false → LeavesNothing
@@ -355,7 +358,7 @@ impl Reader {
         ensures ends { IfSome (rest_left self.old (S.left shelf.old)) (λ left.
             left ≡ [] → MatchResult result (λ some. some ≡ false) (λ e. fault_in e ≡ None)) }
 
-        // A fault of the file is answered exactly where what is left has it.
+        // A returned fault is that of the remaining bytes. If they have one, an error is returned.
         ensures fault { IfErr result (λ e. IfSome (fault_in e) (λ fault.
             IfSome (rest_left self.old (S.left shelf.old)) (λ left.
             IsRecordFault (is_big self.old) (records_given self.old) left fault))) }

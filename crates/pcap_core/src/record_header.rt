@@ -1,4 +1,4 @@
-//! The sixteen bytes count a record's captured ones.
+//! The sixteen bytes of a record before its captured bytes.
 ghost use Rattle.std.specs.Prelude.{◌≡◌, ◌≤◌, ◌<◌, ◌+◌, ◌*◌, ◌^◌, length, IfOk, IfErr, IsSomeAnd};
 ghost use Rattle.pcap_defs.specs.Number.{long_at};
 ghost use Rattle.pcap_defs.specs.Record.{captured_len, moment_at, most_captured, most_records};
@@ -9,13 +9,13 @@ use crate::fault::CaptureFault;
 use capture_core::read_long;
 use pcap_defs::Head;
 
-/// The bytes of a record count its captured ones.
+/// The length in bytes of a record before its captured bytes.
 pub const RECORD_LEN: usize = 16;
 
-/// The most bytes that a record may capture.
+/// The most captured bytes of a record.
 const MOST_CAPTURED: u32 = 262_144;
 
-/// What a record says of its captured bytes.
+/// The values before a record's captured bytes.
 #[derive(Clone, Copy)]
 pub struct RecordHeader {
     pub moment: u64,
@@ -23,7 +23,7 @@ pub struct RecordHeader {
     pub len: u32,
 }
 
-/// The timestamp in nanoseconds of a record that begins so.
+/// Returns the timestamp in nanoseconds of a record that begins with these bytes.
 #[inline(always)]
 fn moment(head: Head, bytes: &[u8]) -> u64
     requires { 16 ≤ length bytes.now }
@@ -36,8 +36,8 @@ fn moment(head: Head, bytes: &[u8]) -> u64
     seconds * 1_000_000_000 + if head.nano { fraction } else { fraction * 1000 }
 }
 
-/// What a record says that begins so, after some records. These are its first bytes, up to the
-/// sixteenth.
+/// Parses the header of the record after `count` records. `bytes` are its sixteen bytes, or all
+/// that are left if there are fewer.
 #[inline(always)]
 pub fn preface_in(head: Head, count: u32, bytes: &[u8]) -> Result<RecordHeader, CaptureFault>
     requires some { 0 < length bytes.now }

@@ -1,4 +1,4 @@
-//! Writing the header of a capture, and its records.
+//! Writes the header of a capture, and its records.
 ghost use Rattle.std.specs.Prelude.{◌≡◌, ◌≤◌, ◌<◌, ◌++◌, ◌^◌, length, OnOk, OnErr, IsErrOf};
 ghost use Rattle.outside_core.specs.Faults.{Rose};
 ghost use Rattle.outside_core.specs.Kept.{KeepsSink};
@@ -16,10 +16,10 @@ const MAJOR_VERSION: u16 = 2;
 
 const MINOR_VERSION: u16 = 4;
 
-/// The most bytes that a record captures.
+/// The most captured bytes of a record.
 const SNAPSHOT_LEN: u32 = 262_144;
 
-/// The file header. Its zone and its significant figures are 0.
+/// Returns the file header. Its time zone and significant figures are 0.
 fn header(link: u16) -> [u8; 24]
     ensures { result ≡ header_bytes link }
 {
@@ -32,8 +32,8 @@ fn header(link: u16) -> [u8; 24]
     bytes
 }
 
-/// What is before the captured bytes of a record: its timestamp in seconds and nanoseconds, and two counts of bytes, the
-/// captured ones and the packet's original length.
+/// Returns the header of a record: its timestamp in seconds and nanoseconds, its captured length
+/// and the packet's original length, both in bytes.
 pub fn record_front(seconds: u32, nanos: u32, captured: u32, len: u32) -> [u8; 16]
     ensures { result ≡ record_front seconds nanos captured len }
 {
@@ -57,7 +57,8 @@ pub fn put_head<K: Sink>(sink: &mut K, link: u16) -> Result<(), SinkError>
     write_all(sink, &header(link))
 }
 
-/// Writes a record: its timestamp in seconds and nanoseconds, the packet's original length and its captured bytes.
+/// Writes a record: its timestamp in seconds and nanoseconds, the packet's original length in
+/// bytes, and its captured bytes.
 pub fn put_record<K: Sink>(
     sink: &mut K,
     seconds: u32,

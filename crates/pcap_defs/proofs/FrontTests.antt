@@ -1,4 +1,4 @@
--- What stands at the front of what is left: the test for it finds what the grammar says.
+-- Proves that `front_of` agrees with the grammar on the front of the remaining bytes.
 use Rattle.std.proofs.Common.{◌≡◌, ◌<◌, ◌≤◌, ◌+◌, ℕ, Bool, eqb, ltb, List, [], ◌++◌, length, take, drop, refl, sym, ap, ◌∙◌, arith, length-drop, length-append}
 use Rattle.std.proofs.lemmas.List.{take-append-drop, length-take-le, take_at, drop_at, drop-append-le, nil_from_length, drop-take}
 use Rattle.std.proofs.lemmas.Bool.{ltb-true, ltb-false, lt-ltb, le-ltb, eqb-true, eqb-false, eq-eqb, ne_eqb, cond_both, cond-true, cond-false}
@@ -8,7 +8,7 @@ use Rattle.pcap_defs.specs.Record.{Record, IsSpelling, IsRecordFault, captured_l
 use Rattle.pcap_defs.specs.Reading.{Front, nothing, broken, found, front_of, record_at}
 use Rattle.pcap_defs.proofs.Numbers.{number_at-append}
 
--- what the grammar says of each answer
+-- the grammar's condition for each result of `front_of`
 abbrev pub Says : Bool → ℕ → List ℕ → Front → Type 0
 Says big n rest nothing = rest ≡ []
 Says big n rest (broken fault) = IsRecordFault big n rest fault
@@ -49,7 +49,7 @@ same_record s f o c r es ef eo ec =
     ∙ ap (λ x. record { seconds = r.seconds; fraction = r.fraction; original = x; captured = c }) eo
     ∙ ap (λ x. record { seconds = r.seconds; fraction = r.fraction; original = r.original; captured = x }) ec
 
--- the record at the front of a spelling and what follows it
+-- `record_at` finds the record whose spelling is at the front, with other bytes after it
 record_at-spelled : (big : Bool) (r : Record) (first others : List ℕ) → IsSpelling big r first → record_at big (first ++ others) ≡ r
 record_at-spelled big r first others s =
     let seconds : long_at big 0 (first ++ others) ≡ r.seconds = number_at-append big 4 0 first others (omega (arith, s.whole)) ∙ s.seconds in
@@ -78,7 +78,7 @@ front_of-spelled big n r first others few s =
     ∙ ap (λ x. found x (drop (record_len + captured_len big rest) rest)) (record_at-spelled big r first others s)
     ∙ ap (λ xs. found r xs) (drop_at first others (record_len + captured_len big rest) all)
 
--- the spelling of the record that is read from the front
+-- the bytes of a complete record at the front spell the record that `record_at` reads
 spelling-record_at : (big : Bool) (rest : List ℕ) → captured_len big rest ≤ most_captured → record_len + captured_len big rest ≤ length rest → IsSpelling big (record_at big rest) (take (record_len + captured_len big rest) rest)
 spelling-record_at big rest short whole =
     let size = record_len + captured_len big rest in

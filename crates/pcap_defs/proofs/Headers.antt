@@ -1,4 +1,4 @@
--- The header that is read from a file is the one that the grammar says.
+-- Proves that the header read from a file is the one that the grammar gives.
 use Rattle.std.proofs.Common.{◌≡◌, ◌≢◌, ◌≤◌, ◌%◌, ◌^◌, ℕ, Bool, true, false, eqb, ltb, Result, Ok, Err, List, ◌++◌, length, take, drop, refl, sym, ap, ◌∙◌, arith, length-append}
 use Rattle.std.proofs.lemmas.List.{take-append-drop, take-append-le, length-take-le, take-take}
 use Rattle.std.proofs.lemmas.Bool.{ltb-true, ltb-false, lt-ltb, le-ltb, eqb-true, eqb-false, eq-eqb, ne_eqb, cond_both, cond-true, cond-false, false_from_ne_true, both_ways}
@@ -11,7 +11,7 @@ use Rattle.pcap_defs.specs.Header.{header_len, major_version, magic_bytes, pcap_
 use Rattle.pcap_defs.specs.Reading.{head_of, head_by, head_with}
 use Rattle.pcap_defs.proofs.Numbers.{number_at-append}
 
--- what the grammar says of each answer
+-- the grammar's condition for each result of `head_of`
 abbrev pub HeadSays : List ℕ → Result Head Fault → Type 0
 HeadSays file (Ok head) = (header_len ≤ length file) × IsHeader head (take header_len file)
 HeadSays file (Err fault) = IsHeaderFault file fault

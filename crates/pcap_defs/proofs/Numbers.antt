@@ -1,11 +1,11 @@
--- Numbers in the front of a list.
+-- Numbers at the front of a list.
 use Rattle.std.proofs.Common.{◌≡◌, ◌≤◌, ◌+◌, ℕ, Bool, true, false, List, ◌++◌, length, drop, ap, ◌∙◌, arith, length-drop}
 use Rattle.std.proofs.lemmas.List.{drop-append-le}
 use Rattle.byteorder.specs.Endian.{big_number, little_number}
 use Rattle.byteorder.specs.Numbers.{big_from-append, little_from-append}
 use Rattle.pcap_defs.specs.Number.{number_at}
 
--- what follows the bytes of a number doesn't change it
+-- bytes after a number don't change it
 pub number_at-append : (big : Bool) (n at : ℕ) (xs ys : List ℕ) → at + n ≤ length xs → number_at big n at (xs ++ ys) ≡ number_at big n at xs
 number_at-append true n at xs ys h =
     let inside : at ≤ length xs = omega arith in

@@ -1,4 +1,4 @@
--- The reading of a file finds exactly what the grammar says.
+-- Proves that reading a file agrees exactly with the grammar.
 use Rattle.std.proofs.Common.{◌≡◌, ◌<◌, ◌≤◌, ◌+◌, ℕ, zero, suc, Bool, true, false, Option, Some, None, Result, Ok, Err, List, [], ◌∷◌, ◌++◌, length, take, drop, refl, sym, ap, ◌∙◌, subst, arith, append_assoc, length-append}
 use Rattle.std.proofs.lemmas.List.{take-append-drop, drop_at, nil_from_length}
 use Rattle.pcap_defs.specs.declared.head.Head.{Head}
@@ -10,7 +10,8 @@ use Rattle.pcap_defs.specs.Reading.{Capture, refused, packets, Front, nothing, b
 use Rattle.pcap_defs.proofs.FrontTests.{Says, front_of-fault, front_of-spelled, front_of-says}
 use Rattle.pcap_defs.proofs.Headers.{HeadSays, head_of-fault, head_of-header, head_of-says}
 
--- what is left behind n records is the spellings of these, and a rest that is empty or has the fault
+-- the bytes after n records are the spellings of the records in `run`, and a rest that is empty or
+-- has the fault of `run`
 pub record Follow (big : Bool) (n : ℕ) (run : List Record × Option Fault) (bytes : List ℕ) : Type 0 where
   pub body : List ℕ
   pub rest : List ℕ
@@ -19,7 +20,7 @@ pub record Follow (big : Bool) (n : ℕ) (run : List Record × Option Fault) (by
   pub few : n + length run.0 ≤ most_records
   pub ends : EndsWith big (n + length run.0) rest run.1
 
--- there is something left where there is a fault
+-- if there is a fault, some bytes are left
 fault-some : (big : Bool) (n : ℕ) (rest : List ℕ) (fault : Fault) → IsRecordFault big n rest fault → 0 < length rest
 fault-some big n rest too_many h = h.1
 fault-some big n rest (record_cut k) h = h.2
@@ -61,7 +62,7 @@ records_from-says (suc more) big n rest few size =
     at_front-says more big n rest (front_of big n rest) (front_of-says big n rest few) few size
     (λ others h l. records_from-says more big (n + 1) others h l)
 
--- the parts of what follows, for an induction on the records
+-- the cases of an induction on the records: first the end, then the spelled records
 pub records_from-ended : (more : ℕ) (big : Bool) (n : ℕ) (rest : List ℕ) (fault : Option Fault) → EndsWith big n rest fault → length rest ≤ more → records_from more big n rest ≡ ([], fault)
 unfolding records_from front_of
 records_from-ended zero big n rest None h size = refl
@@ -163,7 +164,7 @@ has_fault_or_record big n rest few = (
   λ h. fault_in big n rest (front_of big n rest) (front_of-says big n rest few) h.0 h.1,
 )
 
--- more steps than bytes find no more records
+-- more steps than bytes find no further records
 records_from-enough : (more : ℕ) (big : Bool) (n : ℕ) (rest : List ℕ) → n ≤ most_records → length rest ≤ more → records_from more big n rest ≡ records_left big n rest
 records_from-enough more big n rest few size =
     let f = records_from-says (length rest) big n rest few (omega arith) in
@@ -171,15 +172,15 @@ records_from-enough more big n rest few size =
     ap (records_from more big n) f.bytes_are
     ∙ records_from-spelled (records_left big n rest).0 more big n f.body f.rest (records_left big n rest).1 f.body_is f.few f.ends (omega (arith, len, size))
 
--- nothing is left
+-- no bytes left: no records and no fault
 pub records_left-nothing : (big : Bool) (n : ℕ) → records_left big n [] ≡ ([], None)
 records_left-nothing big n = records_from-ended 0 big n [] None refl (omega arith)
 
--- what is left has a fault
+-- bytes that have a fault: no records, and that fault
 pub records_left-fault : (big : Bool) (n : ℕ) (rest : List ℕ) (fault : Fault) → IsRecordFault big n rest fault → records_left big n rest ≡ ([], Some fault)
 records_left-fault big n rest fault h = records_from-ended (length rest) big n rest (Some fault) h (omega arith)
 
--- what is left begins with a record
+-- bytes that begin with a record: that record, and then the records after it
 pub records_left-record : (big : Bool) (n : ℕ) (r : Record) (first others : List ℕ) → n < most_records → IsSpelling big r first
     → records_left big n (first ++ others) ≡ with_first r (records_left big (n + 1) others)
 records_left-record big n r first others few spelled =
@@ -191,7 +192,7 @@ records_left-record big n r first others few spelled =
     ∙ records_from-spelled (r ∷ run.0) (length (first ++ others)) big n (first ++ f.body) f.rest run.1
     (first, f.body, refl, spelled, f.body_is) (omega (arith, f.few)) (subst (λ m. EndsWith big m f.rest run.1) count f.ends) (omega (arith, ap length split))
 
--- a file that begins with a header
+-- a file that begins with a header: its values, and the records after it
 pub capture_of-header : (head : Head) (header after : List ℕ) → IsHeader head header
     → capture_of (header ++ after) ≡ packets head (records_left head.big 0 after).0 (records_left head.big 0 after).1
 unfolding capture_of

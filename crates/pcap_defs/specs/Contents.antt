@@ -1,4 +1,4 @@
--- What a file holds as a capture, whatever the capture's format.
+-- The contents of a capture file, in any capture format.
 use Rattle.std.specs.Prelude.{◌≡◌, refl, ℕ, false, Option, Some, option_map, List, [], ◌∷◌, map}
 use Rattle.pcap_defs.specs.declared.head.Head.{Head}
 use Rattle.pcap_defs.specs.Fault.{Fault, bad_magic, data_cut, code, place}
@@ -6,17 +6,17 @@ use Rattle.pcap_defs.specs.Record.{Record}
 use Rattle.pcap_defs.specs.Reading.{Capture, refused, packets}
 use Rattle.pcap_defs.specs.Packet.{CapturedPacket, packet_with}
 
--- a fault by its code, and the record or block at fault, 0 for none
+-- a fault's code, and the number of the record or block at fault, or 0 if there is none
 pub record FaultAt : Type 0 where
   pub code : ℕ
   pub place : ℕ
 
--- packets in their order, and the fault behind them
+-- the packets in order, and the fault after them, if there is one
 pub record Contents : Type 0 where
   pub packets : List CapturedPacket
   pub fault : Option FaultAt
 
--- a file that is no capture, for this fault at its beginning, or one that holds these contents
+-- a file is no capture, because of this fault at its beginning, or it holds these contents
 pub data FileContents : Type 0 where
   no_capture : FaultAt → FileContents
   holds : Contents → FileContents
@@ -24,11 +24,11 @@ pub data FileContents : Type 0 where
 abbrev pub fault_at : Fault → FaultAt
 fault_at fault = record { code = code fault; place = place fault }
 
--- the contents that records and the fault behind them make
+-- the contents made of these records and the fault after them
 abbrev pub contents_of : Head → List Record × Option Fault → Contents
 contents_of head run = record { packets = map (packet_with head) run.0; fault = option_map fault_at run.1 }
 
--- what is in a file that is this classic capture
+-- the contents of a file that is this classic capture
 abbrev pub in_capture : Capture → FileContents
 in_capture (refused fault) = no_capture (fault_at fault)
 in_capture (packets head records fault) = holds (contents_of head (records, fault))

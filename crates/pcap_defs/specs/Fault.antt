@@ -1,7 +1,7 @@
--- What can be wrong with a capture.
+-- The faults of a capture.
 use Rattle.std.specs.Prelude.{ℕ}
 
--- a fault of the header, or of a record, with the record's number from 1
+-- a fault of the header, or of a record, with the record's number counted from 1
 pub data Fault : Type 0 where
   header_cut : Fault
   bad_magic : Fault
@@ -12,7 +12,7 @@ pub data Fault : Type 0 where
   record_long : ℕ → Fault
   too_many : Fault
 
--- the fault's number in a report
+-- the fault's code in a report
 abbrev pub code : Fault → ℕ
 code header_cut = 1
 code bad_magic = 2
@@ -23,7 +23,7 @@ code (data_cut n) = 6
 code (record_long n) = 7
 code too_many = 8
 
--- the record at fault, and 0 where it is none
+-- the number of the record at fault, or 0 if there is none
 abbrev pub place : Fault → ℕ
 place (record_cut n) = n
 place (data_cut n) = n

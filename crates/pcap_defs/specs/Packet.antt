@@ -1,9 +1,10 @@
--- A packet of a capture, whatever the capture's format.
+-- A packet of a capture, in any capture format.
 use Rattle.std.specs.Prelude.{ℕ, List}
 use Rattle.pcap_defs.specs.declared.head.Head.{Head}
 use Rattle.pcap_defs.specs.Record.{Record, moment}
 
--- A packet with its own link type, its moment in nanoseconds, its original length and its captured bytes.
+-- A packet with its own link type, its timestamp (`moment`) in nanoseconds, its original length and
+-- its captured bytes.
 pub record CapturedPacket : Type 0 where
   pub link : ℕ
   pub moment : ℕ

@@ -1,4 +1,4 @@
--- The one reading of a file as a capture, as a function of its bytes.
+-- The reading of a file as a capture, as a function of its bytes.
 use Rattle.std.specs.Prelude.{◌≡◌, ◌↔◌, ◌+◌, ◌-◌, ◌%◌, ◌^◌, ◌<◌, ◌≤◌, ◌==◌, ℕ, zero, suc, nat_lt, Bool, true, false, if◌then◌else◌, Option, Some, None, Result, Ok, Err, List, [], ◌∷◌, length, take, drop}
 use Rattle.std.specs.Str.{bytes_eq}
 use Rattle.pcap_defs.specs.declared.head.Head.{Head}
@@ -8,19 +8,20 @@ use Rattle.pcap_defs.specs.Header.{header_len, magic_bytes, pcap_ng_bytes, major
 use Rattle.pcap_defs.specs.Record.{Record, record_len, most_captured, most_records, captured_len, moment, HasNoRecord, IsRecordFault}
 use Rattle.pcap_defs.specs.Capture.{IsCapture}
 
--- a file without an accepted header, or the records of one, up to its fault if it has one
+-- a file rejected for the fault of its header, or the header, the records, and the fault after them
+-- if there is one
 pub data Capture : Type 0 where
   refused : Fault → Capture
   packets : Head → List Record → Option Fault → Capture
 
--- the header in this byte order and time unit
+-- the header values in this byte order and time unit, or the version fault
 abbrev pub head_with : Bool → Bool → List ℕ → Result Head Fault
 head_with big nano file =
     if short_at big 4 file == major_version
     then Ok (record { link = long_at big 20 file % 2 ^ 16; nano = nano; big = big })
     else Err version
 
--- what the header of a file that begins with these four bytes says, or its fault
+-- the header values of a file that begins with these four bytes, or its fault
 abbrev pub head_by : List ℕ → List ℕ → Result Head Fault
 head_by word file =
     if bytes_eq word pcap_ng_bytes then Err pcap_ng
@@ -30,11 +31,11 @@ head_by word file =
     else if bytes_eq word (magic_bytes true true) then head_with true true file
     else Err bad_magic
 
--- what the header of a file says, or its fault
+-- the header values of a file, or its fault
 unfoldable pub head_of : List ℕ → Result Head Fault
 head_of file = if nat_lt (length file) header_len then Err header_cut else head_by (take 4 file) file
 
--- what stands at the front of what is left: nothing, a fault, or a record and what is left behind it
+-- the front of the remaining bytes: nothing, a fault, or a record and the bytes after it
 pub data Front : Type 0 where
   nothing : Front
   broken : Fault → Front
@@ -45,7 +46,7 @@ abbrev pub record_at : Bool → List ℕ → Record
 record_at big rest =
     record { seconds = long_at big 0 rest; fraction = long_at big 4 rest; original = long_at big 12 rest; captured = take (captured_len big rest) (drop record_len rest) }
 
--- the front of what is left behind n records
+-- the front of the bytes left after n records
 unfoldable pub front_of : Bool → ℕ → List ℕ → Front
 front_of big n rest =
     if length rest == 0 then nothing
@@ -55,50 +56,52 @@ front_of big n rest =
     else if nat_lt (length rest) (record_len + captured_len big rest) then broken (data_cut (n + 1))
     else found (record_at big rest) (drop (record_len + captured_len big rest) rest)
 
--- a record before the others
+-- adds a record before the others
 abbrev pub with_first : Record → List Record × Option Fault → List Record × Option Fault
 with_first r run = (r ∷ run.0, run.1)
 
--- nothing and a fault end the records, and a record is followed by those that behind gives
+-- the records end at nothing or at a fault; after a record come those that `behind` gives
 abbrev pub at_front : (List ℕ → List Record × Option Fault) → Front → List Record × Option Fault
 at_front behind nothing = ([], None)
 at_front behind (broken fault) = ([], Some fault)
 at_front behind (found r rest) = with_first r (behind rest)
 
--- the records in what is left behind n records, at most so many, and the fault behind them
+-- the records in the bytes left after n records, at most `more` of them, and the fault after them
 unfoldable pub records_from : ℕ → Bool → ℕ → List ℕ → List Record × Option Fault
 records_from zero big n rest = ([], None)
 records_from (suc more) big n rest = at_front (λ others. records_from more big (n + 1) others) (front_of big n rest)
 
--- the records in all that is left behind n records, and the fault behind them; there are no more records than bytes
+-- all records in the bytes left after n records, and the fault after them; there are no more
+-- records than bytes
 abbrev pub records_left : Bool → ℕ → List ℕ → List Record × Option Fault
 records_left big n rest = records_from (length rest) big n rest
 
--- the capture that a header and what is behind it make
+-- the capture made of a header and the bytes after it
 abbrev pub capture_with : List ℕ → Result Head Fault → Capture
 capture_with after (Err fault) = refused fault
 capture_with after (Ok head) = packets head (records_left head.big 0 after).0 (records_left head.big 0 after).1
 
--- what a file is, read as a capture
+-- a file, read as a capture
 unfoldable pub capture_of : List ℕ → Capture
 capture_of file = capture_with (drop header_len file) (head_of file)
 
--- the reading finds what the grammar says
+-- the reading finds exactly the captures of the grammar
 abbrev pub ReadsCaptures : Type 0
 ReadsCaptures =
     (head : Head) (records : List Record) (fault : Option Fault) (file : List ℕ) →
     IsCapture head records fault file ↔ (capture_of file ≡ packets head records fault)
 
--- and refuses where the header has a fault
+-- the reading rejects exactly the files whose header has a fault
 abbrev pub ReadsRefusals : Type 0
 ReadsRefusals = (fault : Fault) (file : List ℕ) → IsHeaderFault file fault ↔ (capture_of file ≡ refused fault)
 
--- What is left has a fault exactly where it isn't empty, and no record may follow or none can be split off.
+-- The remaining bytes have a fault exactly if they aren't empty, and either the limit of records is
+-- reached or no record can be split off.
 abbrev pub HasFaultOrRecord : Type 0
 HasFaultOrRecord =
     (big : Bool) (n : ℕ) (rest : List ℕ) → n ≤ most_records →
     ((fault : Fault) × IsRecordFault big n rest fault) ↔ ((0 < length rest) × ((n < most_records) → HasNoRecord big rest))
 
--- where seconds and fraction have 32 bits each, the moment has 62
+-- if seconds and fraction have 32 bits each, the timestamp in nanoseconds has at most 62
 abbrev pub MomentsAreSmall : Type 0
 MomentsAreSmall = (nano : Bool) (r : Record) → r.seconds < 2 ^ 32 → r.fraction < 2 ^ 32 → moment nano r ≤ 2 ^ 62 - 1

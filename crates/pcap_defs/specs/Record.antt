@@ -1,4 +1,5 @@
--- The records of a capture (libpcap 2.4): sixteen bytes each, and then the packet's captured bytes.
+-- The records of a capture (libpcap 2.4): a header of sixteen bytes each, and then the packet's
+-- captured bytes.
 use Rattle.std.specs.Prelude.{◌≡◌, ◌<◌, ◌≤◌, ◌+◌, ◌*◌, ◌^◌, ℕ, Bool, if◌then◌else◌, List, [], ◌∷◌, ◌++◌, length, drop}
 use Rattle.pcap_defs.specs.Number.{long_at}
 use Rattle.pcap_defs.specs.Fault.{Fault, record_cut, data_cut, record_long, too_many}
@@ -9,27 +10,27 @@ pub record Record : Type 0 where
   pub original : ℕ
   pub captured : List ℕ
 
--- the bytes of a record before its captured ones
+-- the length of a record's header in bytes
 abbrev pub record_len : ℕ
 record_len = 16
 
--- the most bytes that a record may capture
+-- the most captured bytes of a record
 abbrev pub most_captured : ℕ
 most_captured = 262144
 
--- the most records that a capture may have
+-- the most records of a capture
 abbrev pub most_records : ℕ
 most_records = 4294967295
 
--- the moment in nanoseconds of so many seconds and this fraction, which counts nanoseconds or microseconds
+-- the timestamp in nanoseconds; the fraction counts nanoseconds if `nano`, and else microseconds
 abbrev pub moment_at : Bool → ℕ → ℕ → ℕ
 moment_at nano seconds fraction = seconds * 10 ^ 9 + (if nano then fraction else fraction * 1000)
 
--- the moment of a record
+-- the timestamp of a record, in nanoseconds
 abbrev pub moment : Bool → Record → ℕ
 moment nano r = moment_at nano r.seconds r.fraction
 
--- how many captured bytes the record at the front of these bytes says that it has
+-- the captured length in the header of the record at the front of these bytes
 abbrev pub captured_len : Bool → List ℕ → ℕ
 captured_len big bytes = long_at big 8 bytes
 
@@ -49,8 +50,9 @@ AreSpellings big [] bytes = bytes ≡ []
 AreSpellings big (r ∷ records) bytes =
     (first : List ℕ) × (others : List ℕ) × (bytes ≡ first ++ others) × IsSpelling big r first × AreSpellings big records others
 
--- What is left behind n records has this fault: the first that fits of a record too many, a cut record,
--- one that says it captures too much, and cut captured bytes. A record's number counts from 1.
+-- The bytes left after n records have this fault. Faults are tried in this order: one record too
+-- many, a cut record header, a captured length above the limit, cut captured bytes. Record numbers
+-- count from 1.
 abbrev pub IsRecordFault : Bool → ℕ → List ℕ → Fault → Type 0
 IsRecordFault big n rest too_many = (n ≡ most_records) × (0 < length rest)
 IsRecordFault big n rest (record_cut k) = (n < most_records) × (k ≡ n + 1) × (0 < length rest) × (length rest < record_len)

@@ -1,4 +1,4 @@
--- Captures of two records and of one, whole and cut, and what they are.
+-- Captures of two records and of one, complete and cut, and how they are read.
 use Rattle.std.specs.Prelude.{◌≡◌, ℕ, true, false, Some, None, Ok, List, [], ◌∷◌, ◌++◌, map, take, drop, replicate, refl}
 use Rattle.pcap_defs.specs.Fault.{header_cut, bad_magic, pcap_ng, version, record_cut, data_cut, record_long, too_many, code, place}
 use Rattle.pcap_defs.specs.Number.{long_at, short_at}
@@ -11,7 +11,7 @@ abbrev pub plain_header : List ℕ
 plain_header =
     (0xD4 ∷ 0xC3 ∷ 0xB2 ∷ 0xA1 ∷ 2 ∷ 0 ∷ 4 ∷ 0 ∷ []) ++ (0 ∷ 0 ∷ 0 ∷ 0 ∷ 0 ∷ 0 ∷ 0 ∷ 0 ∷ []) ++ (0 ∷ 0 ∷ 4 ∷ 0 ∷ 0x93 ∷ 0 ∷ 0 ∷ 0 ∷ [])
 
--- second 1, this fraction, four captured bytes of four, the last of them this one
+-- second 1, this fraction, four captured bytes of four, the last of them `last`
 abbrev pub plain_record : ℕ → ℕ → List ℕ
 plain_record fraction last = (1 ∷ 0 ∷ 0 ∷ 0 ∷ fraction ∷ 0 ∷ 0 ∷ 0 ∷ []) ++ (4 ∷ 0 ∷ 0 ∷ 0 ∷ 4 ∷ 0 ∷ 0 ∷ 0 ∷ []) ++ (0 ∷ 0 ∷ 0 ∷ last ∷ [])
 
@@ -51,7 +51,7 @@ pub header_one_byte_short : capture_of (take 23 two_packets) ≡ refused header_
 unfolding capture_of head_of
 header_one_byte_short = refl
 
--- the header of a file that begins with these four bytes and goes on as the plain one
+-- the plain header with these four bytes in place of its first four
 abbrev pub begun_with : ℕ → ℕ → ℕ → ℕ → List ℕ
 begun_with a b c d = a ∷ b ∷ c ∷ d ∷ drop 4 plain_header
 
@@ -59,7 +59,7 @@ pub newer_format : capture_of (begun_with 0x0A 0x0D 0x0D 0x0A) ≡ refused pcap_
 unfolding capture_of head_of
 newer_format = refl
 
--- a file that is too short is cut, whatever it begins with
+-- a file that is too short is cut, whatever bytes it begins with
 pub newer_format_cut : capture_of (take 23 (begun_with 0x0A 0x0D 0x0D 0x0A)) ≡ refused header_cut
 unfolding capture_of head_of
 newer_format_cut = refl
@@ -81,12 +81,12 @@ pub another_minor_version : head_of (of_version 2 0 9) ≡ Ok plain_head
 unfolding head_of
 another_minor_version = refl
 
--- the link type's high 16 bits may be any
+-- the high 16 bits of the link type may be anything
 pub high_bits_of_the_link_type : head_of (take 20 plain_header ++ 0x13 ∷ 0x81 ∷ 0x01 ∷ 0xF4 ∷ []) ≡ Ok (record plain_head { link = 33043 })
 unfolding head_of
 high_bits_of_the_link_type = refl
 
--- a record that captures 262144 bytes and this many, and of which none is there
+-- a record whose captured length is 262144 bytes plus this many, with none of them present
 abbrev pub long_record : ℕ → List ℕ
 long_record more = plain_header ++ replicate 8 0 ++ (more ∷ 0 ∷ 4 ∷ 0 ∷ []) ++ replicate 4 0
 
@@ -103,7 +103,7 @@ abbrev pub exact_header : List ℕ
 exact_header =
     (0xA1 ∷ 0xB2 ∷ 0x3C ∷ 0x4D ∷ 0 ∷ 2 ∷ 0 ∷ 4 ∷ []) ++ replicate 8 0 ++ (0 ∷ 4 ∷ 0 ∷ 0 ∷ 0 ∷ 0 ∷ 0 ∷ 1 ∷ [])
 
--- second 10 and 5 nanoseconds, no captured bytes of 46
+-- second 10 and 5 nanoseconds, 0 captured bytes of 46
 abbrev pub exact_record : List ℕ
 exact_record = (0 ∷ 0 ∷ 0 ∷ 10 ∷ 0 ∷ 0 ∷ 0 ∷ 5 ∷ []) ++ (0 ∷ 0 ∷ 0 ∷ 0 ∷ 0 ∷ 0 ∷ 0 ∷ 46 ∷ [])
 
@@ -117,12 +117,12 @@ pub highest_byte_first : capture_of (exact_header ++ exact_record) ≡ packets e
 unfolding capture_of head_of front_of records_from
 highest_byte_first = refl
 
--- the two other magic numbers: microseconds with the highest byte first, and nanoseconds with the lowest
+-- the two other magic numbers: big-endian microseconds and little-endian nanoseconds
 pub other_magic_numbers : map (λ file. head_of file) ((0xA1 ∷ 0xB2 ∷ 0xC3 ∷ 0xD4 ∷ drop 4 exact_header) ∷ begun_with 0x4D 0x3C 0xB2 0xA1 ∷ []) ≡ Ok (record exact_head { nano = false }) ∷ Ok (record plain_head { nano = true }) ∷ []
 unfolding head_of
 other_magic_numbers = refl
 
--- numbers of four bytes and of two, from a place on
+-- numbers of four and of two bytes at a position
 pub long_numbers : map (λ big. long_at big 1 (9 ∷ 1 ∷ 2 ∷ 3 ∷ 0x84 ∷ 9 ∷ [])) (true ∷ false ∷ []) ≡ 0x01020384 ∷ 0x84030201 ∷ []
 long_numbers = refl
 
@@ -135,7 +135,7 @@ moment-nano = refl
 pub moment-micro : moment false second_packet ≡ 1000001000
 moment-micro = refl
 
--- a fraction may be above a second
+-- a fraction may exceed one second
 pub moment-two_seconds : moment false (record second_packet { fraction = 1000001 }) ≡ 2000001000
 moment-two_seconds = refl
 
@@ -152,7 +152,7 @@ pub all_records : front_of false 4294967295 [] ≡ nothing
 unfolding front_of
 all_records = refl
 
--- the numbers of faults and the records at fault
+-- the codes of faults and the records at fault
 pub codes_of_faults : map code (header_cut ∷ bad_magic ∷ pcap_ng ∷ version ∷ record_cut 9 ∷ data_cut 9 ∷ record_long 9 ∷ too_many ∷ []) ≡ 1 ∷ 2 ∷ 3 ∷ 4 ∷ 5 ∷ 6 ∷ 7 ∷ 8 ∷ []
 codes_of_faults = refl
 

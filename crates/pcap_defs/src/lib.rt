@@ -1,4 +1,5 @@
-//! What a capture of packets is: the classic file format of libpcap, version 2.4. Begin with specs/Capture.antt.
+//! Defines a packet capture: the classic file format of libpcap, version 2.4. Begin with
+//! specs/Capture.antt.
 #![tactic(auto)]
 
 mod head;

@@ -1,4 +1,4 @@
--- What is read behind a block's front, of all that was left at it.
+-- The reading after a block's front, in terms of all bytes that were left at the front.
 use Rattle.std.proofs.Common.{◌≡◌, ◌≢◌, ◌≤◌, ◌+◌, ◌-◌, ℕ, Option, Some, None, List, ◌++◌, length, take, drop, IfSome, refl, sym, ap, ◌∙◌, arith}
 use Rattle.std.proofs.Math.Seq.{take-append_seam}
 use Rattle.pcap_defs.specs.Number.{long_at}
@@ -13,17 +13,17 @@ use Rattle.capture_core.specs.Passed.{Passes}
 use Rattle.pcapng_core.specs.declared.start.Kind.TheVariants as kind
 use Rattle.pcapng_core.specs.declared.start.Start.{Start}
 
--- a number at the front of what is left behind some bytes
+-- a number read after n bytes were skipped is the number at position n
 number-behind : (s : Start) (n : ℕ) (left rest end others : List ℕ) → rest ≡ drop n left → rest ≡ end ++ others → length end ≡ 4 → long_at s.big n left ≡ long_at s.big 0 end
 number-behind s n left rest end others passed taken four =
     ap (long_at s.big 0) (sym passed ∙ taken) ∙ number_at-append s.big 4 0 end others (omega (arith, four))
 
--- the captured bytes stand behind the front
+-- the captured bytes are directly after the front
 captured-at : (n captured : ℕ) (left rest into others : List ℕ) → rest ≡ drop n left → rest ≡ into ++ others → length into ≡ captured → into ≡ take captured (drop n left)
 captured-at n captured left rest into others passed taken size =
     sym (take-append_seam into others) ∙ ap (λ m. take m (into ++ others)) size ∙ ap (take captured) (sym taken ∙ passed)
 
--- a whole block: its front is passed, then captured bytes are taken, others passed, and its end taken
+-- a whole block: its front is skipped, captured bytes are taken, others skipped, and its end taken
 pub behind-read : (s : Start) (n captured gap : ℕ) (into end : List ℕ) (unit : Unit) (old r0 r1 r2 r3 : Option (List ℕ)) → HasRoom s n captured → n + captured + gap + 4 ≡ s.total
     → Passes n old r0 → TakesFront r0 r1 into → length into ≡ captured → Passes (n + captured) old r1 → Passes gap r1 r2 → (s.kind ≡ kind.Interface → IsUnitOf s.big gap r1 unit) → Passes (n + captured + gap) old r2
     → TakesFront r2 r3 end → length end ≡ 4 → Passes s.total old r3 → long_at s.big 0 end ≡ s.total → ReadsTo s n captured into unit old r3
@@ -49,7 +49,7 @@ behind-read s n captured gap into end unit (Some old) (Some r0) (Some r1) (Some 
           ∙ options e passed.0;
     }
 
--- where the end has another length
+-- the total length at the end differs
 pub behind-differs : (s : Start) (number : ℕ) (old r2 r3 : Option (List ℕ)) (end : List ℕ) → 4 ≤ s.total → Passes (s.total - 4) old r2 → TakesFront r2 r3 end → length end ≡ 4 → Passes s.total old r3
     → long_at s.big 0 end ≢ s.total → IfSome old (λ left. IsEndFault s number left (block_end number))
 behind-differs s number None r2 r3 end least passed ends four p3 differ = tt

@@ -1,4 +1,4 @@
--- The block at the front of what is left, as a reader's steps find it.
+-- The block at the front of the remaining bytes, as a reader's steps find it.
 use Rattle.std.proofs.Common.{◌≡◌, ◌≢◌, ◌<◌, ◌≤◌, ◌+◌, ◌-◌, not, ℕ, eqb, List, length, take, drop, sym, ap, ◌∙◌, arith}
 use Rattle.std.proofs.lemmas.Bool.{lt-ltb, le-ltb, eq-eqb, ne_eqb, and_left, not_from_true, not_from_false, cond-true, cond-false}
 use Rattle.pcap_defs.specs.Number.{long_at}
@@ -28,14 +28,14 @@ front-read c s rest h whole end =
     ∙ cond-false _ _ _ (le-ltb (length rest) s.total whole)
     ∙ cond-false _ _ _ (not_from_true (eqb (long_at s.big (s.total - 4) rest) s.total) (eq-eqb _ _ end))
 
--- a cut one
+-- a cut block
 pub front-cut : (c : Carried) (s : Start) (rest : List ℕ) → IsStart c s rest → length rest < s.total → front_of c rest ≡ broken (block_cut (c.blocks + 1))
 front-cut c s rest h less =
     front-begun c s rest h
     ∙ cond-false _ _ _ (not_from_true (fits_kind (kind_said s.kind) s.total) h.fits)
     ∙ cond-true _ _ _ (lt-ltb (length rest) s.total less)
 
--- one whose two lengths differ
+-- a block whose two lengths differ
 pub front-differs : (c : Carried) (s : Start) (rest : List ℕ) → IsStart c s rest → s.total ≤ length rest → long_at s.big (s.total - 4) rest ≢ s.total
     → front_of c rest ≡ broken (block_end (c.blocks + 1))
 front-differs c s rest h whole differ =
@@ -44,7 +44,7 @@ front-differs c s rest h whole differ =
     ∙ cond-false _ _ _ (le-ltb (length rest) s.total whole)
     ∙ cond-true _ _ _ (not_from_false (eqb (long_at s.big (s.total - 4) rest) s.total) (ne_eqb _ _ differ))
 
--- a fault at its end
+-- a fault at the end of a block
 pub end-broken : (c : Carried) (s : Start) (number : ℕ) (rest : List ℕ) (fault : BlockFault) → IsStart c s rest → number ≡ c.blocks + 1 → IsEndFault s number rest fault → front_of c rest ≡ broken fault
 end-broken c s number rest (block_cut n) h same e = front-cut c s rest h e.1 ∙ ap (λ m. broken (block_cut m)) (sym (e.0 ∙ same))
 end-broken c s number rest (block_end n) h same e = front-differs c s rest h e.1 e.2 ∙ ap (λ m. broken (block_end m)) (sym (e.0 ∙ same))

@@ -1,4 +1,4 @@
--- What a block's front says of it, and what the whole block gives.
+-- The body of a block from its front, and the result of the whole block.
 use Rattle.std.proofs.Common.{◌≡◌, ◌≤◌, ◌+◌, ◌-◌, ◌*◌, ◌^◌, ◌&&◌, if◌then◌else◌, ℕ, Bool, true, false, eqb, leb, Option, Some, None, Result, Ok, Err, List, [], ◌∷◌, ◌++◌, length, take, drop, slice_get, refl, sym, ap, ◌∙◌, subst, arith, IfSome}
 use Rattle.std.specs.Prelude.{unwrap_or, IsSomeAnd}
 use Rattle.std.specs.Option.{option_map}
@@ -27,7 +27,8 @@ use Rattle.pcapng_core.specs.declared.body.Body.TheVariants as body
 abbrev pub told : List ℕ → Option Packet → Option CapturedPacket
 told into packet = option_map (λ p. packet_told p into) packet
 
--- what a whole block gives that is this, where `captured` are its captured bytes and its options give the unit
+-- the result of a whole block with this body; `captured` are its captured bytes, and its options
+-- give the unit
 abbrev pub Gives : Carried → Bool → Unit → List ℕ → Body → Result (Option CapturedPacket × Carried) BlockFault → Type 0
 Gives c big unit captured (body.Faulty e) given = IsSomeAnd (fault_in e) (λ fault. given ≡ Err fault)
 Gives c big unit captured b given = IfSome (went c big unit b) (λ y. given ≡ Ok (told captured y.0, y.1))
@@ -55,7 +56,7 @@ packet-gives : (b big : Bool) (c : Carried) (unit : Unit) (p : Packet) (into cap
 packet-gives true big c unit p into captured same = ap (λ xs. Ok (Some (packet_told p xs), record (past c) { moment = p.moment })) (sym (same refl))
 packet-gives false big c unit p into captured same = refl
 
--- a packet whose captured bytes stand at this place
+-- a packet whose captured bytes are at this position
 packet_at-gives : (big : Bool) (c : Carried) (unit : Unit) (i : Interface) (moment captured len at : ℕ) (into block : List ℕ)
     → into ≡ take (captured_in (packet_body (record { link = i.link; moment = moment; captured = captured; len = len }) at (length block) (c.blocks + 1))) (drop at block)
     → Gives c big unit into (packet_body (record { link = i.link; moment = moment; captured = captured; len = len }) at (length block) (c.blocks + 1))
@@ -66,7 +67,7 @@ packet_at-gives big c unit i moment captured len at into block taken =
     packet-gives fits big c unit p into (take captured (drop at block))
     (λ e. taken ∙ ap (λ (b : Bool). take (captured_in (if b then body.Packet p else body.Faulty (PacketLength (c.blocks + 1)))) (drop at block)) e)
 
--- an enhanced packet whose numbers stand in its front
+-- an enhanced packet, with the values in its front
 enhanced-gives : (c : Carried) (big : Bool) (unit : Unit) (front into block : List ℕ) (i : Option Interface)
     → ((at : ℕ) → at + 4 ≤ 28 → long_at big at block ≡ long_at big at front)
     → into ≡ take (captured_in (enhanced_body c big (length block) front i)) (drop 28 block)
@@ -84,7 +85,7 @@ enhanced-gives c big unit front into block (Some i) at taken =
     subst (λ r. Gives c big unit into b r) (sym same)
     (packet_at-gives big c unit i (moment_in i.unit (long_at big 12 front * 2 ^ 32 + long_at big 16 front)) (long_at big 20 front) (long_at big 24 front) 28 into block taken)
 
--- a simple one
+-- a simple packet, with the values in its front
 simple-gives : (c : Carried) (big : Bool) (unit : Unit) (front into block : List ℕ) (i : Option Interface)
     → long_at big 8 block ≡ long_at big 8 front
     → into ≡ take (captured_in (simple_body c big (length block) front i)) (drop 12 block)
@@ -95,7 +96,7 @@ simple-gives c big unit front into block (Some i) at taken =
     (sym (ap (λ m. packet_at c i c.moment m (simple_len i m) 12 block) at))
     (packet_at-gives big c unit i c.moment (simple_len i (long_at big 8 front)) (long_at big 8 front) 12 into block taken)
 
--- a whole block, whose first bytes are `front` and whose captured ones are `into`
+-- a whole block, whose first bytes are `front` and whose captured bytes are `into`
 pub block-gives : (k : Kind) (c : Carried) (big : Bool) (unit : Unit) (front into block : List ℕ)
     → ((at : ℕ) → at + 4 ≤ front_len k → long_at big at block ≡ long_at big at front)
     → ((at : ℕ) → at + 2 ≤ front_len k → short_at big at block ≡ short_at big at front)
@@ -127,7 +128,7 @@ told-went : (into : List ℕ) (x y : Option Packet × Carried) (given : Result (
     → given ≡ Ok (told into x.0, x.1) → Some x ≡ Some y → given ≡ Ok (told into y.0, y.1)
 told-went into x y given h e = h ∙ ap (λ (p : Option Packet × Carried). Ok (told into p.0, p.1)) (some_same e)
 
--- what it gives where a reader goes past it
+-- the result of the block if a reader goes past it
 pub gives-went : (b : Body) (c : Carried) (big : Bool) (unit : Unit) (into : List ℕ) (y : Option Packet × Carried) (given : Result (Option CapturedPacket × Carried) BlockFault)
     → Gives c big unit into b given → went c big unit b ≡ Some y → given ≡ Ok (told into y.0, y.1)
 gives-went body.Section c big unit into y given h e = told-went into _ y given h e
@@ -136,7 +137,7 @@ gives-went (body.Packet p) c big unit into y given h e = told-went into _ y give
 gives-went body.Other c big unit into y given h e = told-went into _ y given h e
 gives-went (body.Faulty fault) c big unit into y given h e = absurd (cc)
 
--- and where it is at fault
+-- the result of the block if it is at fault
 faulty-same : (o : Option BlockFault) (fault : BlockFault) (given : Result (Option CapturedPacket × Carried) BlockFault)
     → IsSomeAnd o (λ f. given ≡ Err f) → o ≡ Some fault → given ≡ Err fault
 faulty-same None fault given h e = absurd h

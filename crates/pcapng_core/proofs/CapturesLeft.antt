@@ -1,4 +1,4 @@
--- What a reader's answers say of what it leaves to come, in the words that are those of every capture.
+-- The contents left after each result of a reader, in the terms shared by all capture formats.
 use Rattle.std.proofs.Common.{◌≡◌, ◌≢◌, ℕ, true, false, Option, Some, None, List, [], ◌∷◌, refl, sym, ap, ◌∙◌, subst}
 use Rattle.std.specs.Prelude.{IfSome, IfNone, is_some, option_map}
 use Rattle.std.proofs.lemmas.Option.{IfSome_then}
@@ -19,7 +19,8 @@ use Rattle.pcapng_core.specs.Readers.{TakesBlock, GoesOn, IsOver}
 use Rattle.pcapng_core.specs.declared.fault.NgFault.{NgFault}
 use Rattle.pcapng_core.specs.declared.fault.NgFault.TheVariants.{BlockCut, BlockLength, OrderMagic, NgVersion, NoInterface, PacketLength, Interfaces, TooManyBlocks, BlockEnd, ReadFault, NoMemory}
 
--- what holds of the fault of the file that a refusal names, and of none, holds of what the refusal becomes
+-- a property of the fault that an error names, and of no fault, also holds after the conversion to
+-- a `ReadError`
 unread-by : (P : Option FaultAt → Type 0) (refusal : NgFault) → P None → IfSome (fault_in refusal) (λ f. P (Some (block_fault_at f))) → P (fault_told (read_error_as refusal))
 unread-by P (BlockCut n) none h = h
 unread-by P (BlockLength n) none h = h
@@ -33,7 +34,7 @@ unread-by P (BlockEnd n) none h = h
 unread-by P ReadFault none h = none
 unread-by P NoMemory none h = none
 
--- behind the first block all is left that the file holds
+-- after the first block, all contents of the file are left
 pub opens : (after : Carried) (file rest : Option (List ℕ)) → TakesBlock at_start None after file rest → IfSome file (λ f. Opens (in_ng_capture f) (option_map (contents_in after) rest))
 opens after None rest t = tt
 opens after (Some file) None t = absurd t
@@ -41,20 +42,20 @@ opens after (Some file) (Some rest) t =
     subst (λ r. Opens (behind_front (front_of at_start file) r) (Some (contents_in after rest))) (sym (goes_block_by_block at_start file ∙ ap (at_front reading_of at_start) t))
     (subst (λ f. Opens (behind_front f (behind [] (reading_of after rest))) (Some (contents_in after rest))) (sym t) refl)
 
--- a refused file is no capture
+-- a rejected file is no capture
 pub refuses : (refusal : NgFault) (file : Option (List ℕ)) → IfSome (fault_in refusal) (λ f. IfSome file (λ bytes. front_of at_start bytes ≡ broken f))
     → IfSome (fault_told (read_error_as refusal)) (λ g. IfSome file (λ bytes. in_ng_capture bytes ≡ no_capture g))
 refuses refusal file h =
     unread-by (λ o. IfSome o (λ g. IfSome file (λ bytes. in_ng_capture bytes ≡ no_capture g))) refusal tt
     (IfSome_then (fault_in refusal) h (λ f is. IfSome_then file is (λ bytes bad. ap (λ front. behind_front front (ng_capture_of bytes)) bad)))
 
--- what is read is the next packet
+-- the packet read is the next one
 comes : (c after : Carried) (packet : CapturedPacket) (old new : Option (List ℕ)) → GoesOn c (packet ∷ []) after old new → Comes (option_map (contents_in c) old) (option_map (contents_in after) new) packet
 comes c after packet None new goes = tt
 comes c after packet (Some old) None goes = absurd goes
 comes c after packet (Some old) (Some new) goes = (ap (λ (r : Reading). r.packets) goes, ap (λ (r : Reading). option_map block_fault_at r.fault) goes)
 
--- there is none, and this fault or none
+-- no packet is left, and this fault or none
 at-fault : (c : Carried) (fault : Option BlockFault) (old : Option (List ℕ)) → IfSome old (IsOver c fault) → IsAt (option_map block_fault_at fault) (option_map (contents_in c) old)
 at-fault c fault None over = tt
 at-fault c fault (Some old) over = (over.none, ap (option_map block_fault_at) over.ends)
@@ -68,14 +69,14 @@ halts c refusal old h =
     unread-by (λ o. IfSome o (λ g. IsAt (Some g) (option_map (contents_in c) old))) refusal tt
     (IfSome_then (fault_in refusal) h (λ f over. at-fault c (Some f) old over))
 
--- behind a block nothing is read of nothing
+-- after a block, no contents are left if no bytes are
 leaves : (c after : Carried) (old new : Option (List ℕ)) → LeavesNothing old new → after.blocks ≢ 0 → LeavesNone (option_map (contents_in c) old) (option_map (contents_in after) new)
 leaves c after None new none some = tt
 leaves c after (Some old) new none some =
     ap (option_map (contents_in after)) none
     ∙ ap (λ (r : Reading). Some (contents_read r)) (goes_block_by_block after [] ∙ ap (at_front reading_of after) ((reads_faults.ends after []).0 (refl, some)))
 
--- the same of an answer that is a packet or none
+-- the same for a result that is a packet or none
 pub comes-at : (c after : Carried) (given : Option LinkedFrame) (bytes : List ℕ) (old new : Option (List ℕ)) → IfSome given (λ f. GoesOn c (packet_of f bytes ∷ []) after old new)
     → IfSome given (λ f. Comes (option_map (contents_in c) old) (option_map (contents_in after) new) (packet_of f bytes))
 comes-at c after given bytes old new goes = IfSome_then given goes (λ f goes. comes c after (packet_of f bytes) old new goes)
@@ -89,7 +90,7 @@ pub leaves-at : (c after : Carried) (given : Option LinkedFrame) (old new : Opti
 leaves-at c after None old new none some = leaves c after old new none some
 leaves-at c after (Some f) old new none some = tt
 
--- the same of the answer whether one came
+-- the same for a result that says whether there was a packet
 pub one-less-at : (c after : Carried) (given : Option LinkedFrame) (bytes : List ℕ) (old new : Option (List ℕ)) → IfSome given (λ f. GoesOn c (packet_of f bytes ∷ []) after old new)
     → is_some given ≡ true → IsOneLess (option_map (contents_in c) old) (option_map (contents_in after) new)
 one-less-at c after None bytes old new goes some = absurd (cc)

@@ -1,4 +1,4 @@
--- The block at the front of what is left, as it was read in pieces.
+-- The block at the front of the remaining bytes, as it was read in pieces.
 use Rattle.std.proofs.Common.{◌≡◌, ◌<◌, ◌≤◌, ◌+◌, ◌-◌, ℕ, Option, Some, List, ◌++◌, length, take, drop, sym, ap, ◌∙◌, subst, arith, ⊎_elim}
 use Rattle.std.proofs.Math.Seq.{take-append-add}
 use Rattle.std.proofs.lemmas.List.{length-take-le, drop-take, take-take}
@@ -23,7 +23,7 @@ use Rattle.pcapng_core.specs.declared.start.Start.{Start}
 use Rattle.pcapng_core.proofs.Blocks.{front-read}
 use Rattle.pcapng_core.proofs.Bodies.{Gives, told, block-gives, gives-went, gives-faulty}
 
--- bytes inside a front are those of the whole
+-- bytes within a prefix are those of the whole
 within : (at n total : ℕ) (rest : List ℕ) → at + n ≤ total → take n (drop at (take total rest)) ≡ take n (drop at rest)
 within at n total rest h =
     let sum : at + (total - at) ≡ total = omega (arith, h) in
@@ -44,7 +44,7 @@ module _ (c : Carried) (s : Start) (front into more : List ℕ) (captured : ℕ)
     (start : IsStart c s rest) (split : rest ≡ front ++ more) (size : length front ≡ front_len s.kind)
     (counted : captured ≡ captured_in (body_said c s.big s.total front s.kind))
     (read : IsReadTo s (length front) captured into unit rest others) (room : HasRoom s (length front) captured) where
-  -- what the whole block gives
+  -- the result of the whole block
   found-gives : Gives c s.big unit into (body_said c s.big s.total front s.kind) (block_gives c s.big (take s.total rest) (kind_said s.kind))
   found-gives =
       let total = s.total in

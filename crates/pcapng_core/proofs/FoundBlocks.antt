@@ -1,4 +1,4 @@
--- What a reader's steps say of the block at the front, where what is left is told.
+-- The block at the front after a reader's steps, if the remaining bytes are known to the contract.
 use Rattle.std.proofs.Common.{◌≡◌, ◌<◌, ◌+◌, ℕ, Option, Some, None, List, ◌++◌, length, IfSome, refl, sym, ap, ◌∙◌, subst, arith, append_assoc}
 use Rattle.capture_core.specs.Rest.{rest_of, TakesFront}
 use Rattle.pcapng_defs.specs.declared.interface.Unit.{Unit}
@@ -21,12 +21,13 @@ use Rattle.pcapng_core.proofs.Bodies.{told}
 use Rattle.pcapng_core.proofs.Found.{found-block, found-faulty}
 use Rattle.pcapng_core.proofs.Rooms.{fits-least, front_len-least}
 
--- what holds of a named fault
+-- a property of a named fault that follows from another
 pub some-map : {A : Type 0} (o : Option A) (P Q : A → Type 0) → ((x : A) → o ≡ Some x → P x → Q x) → IfSome o P → IfSome o Q
 some-map None P Q f h = tt
 some-map (Some x) P Q f h = f x refl h
 
--- what a block's end said of what was left behind taken bytes, it says of all that was left
+-- a block read to its end from the bytes taken and those after them is read from all remaining
+-- bytes
 reads-whole : (s : Start) (n captured : ℕ) (into : List ℕ) (unit : Unit) (left rest front held others : List ℕ) → left ≡ front ++ (held ++ rest) → IsReadTo s n captured into unit ((front ++ held) ++ rest) others
     → IsReadTo s n captured into unit left others
 reads-whole s n captured into unit left rest front held others split read =
@@ -44,7 +45,7 @@ blocks-taken c s b front held into captured unit y (Some old) (Some left) (Some 
     found-block c s front into (held ++ left) captured unit old new start taken size (counted ∙ ap captured_in said)
     (reads-whole s (length front) captured into unit old left front held new taken read) room y (ap (went c s.big unit) (sym said) ∙ e)
 
--- one that is at fault
+-- a block at fault
 pub blocks-faulty : (c : Carried) (s : Start) (b : Body) (e : NgFault) (front held into : List ℕ) (captured : ℕ) (unit : Unit) (old left new : Option (List ℕ))
     → IfSome old (IsStart c s) → TakesFront old (rest_of held left) front → length front ≡ front_len s.kind → b ≡ body_said c s.big s.total front s.kind → captured ≡ captured_in b
     → ReadsTo s (length front) captured into unit (rest_of (front ++ held) left) new → HasRoom s (length front) captured
@@ -56,7 +57,7 @@ blocks-faulty c s b e front held into captured unit (Some old) (Some left) (Some
     found-faulty c s front into (held ++ left) captured unit old new start taken size (counted ∙ ap captured_in said)
     (reads-whole s (length front) captured into unit old left front held new taken read) room e fault (sym said ∙ is) named
 
--- one that is cut in its front
+-- a block that is cut in its front
 pub blocks-cut : (c : Carried) (s : Start) (front held : List ℕ) (fault : BlockFault) (old left : Option (List ℕ)) → IfSome old (IsStart c s) → TakesFront old (rest_of held left) front
     → fault ≡ block_cut (c.blocks + 1) → IfSome (rest_of (front ++ held) left) (λ xs. length xs < front_len s.kind) → IfSome old (λ rest. front_of c rest ≡ broken fault)
 blocks-cut c s front held fault None left start taken is few = tt
@@ -65,7 +66,7 @@ blocks-cut c s front held fault (Some old) (Some left) start taken is few =
     front-cut c s old start (omega (arith, ap length (append_assoc front held left ∙ sym taken), few, front_len-least s.kind, fits-least (kind_said s.kind) s.total start.fits))
     ∙ ap broken (sym is)
 
--- one that is cut behind it, or whose lengths differ
+-- a block that is cut after its front, or whose lengths differ
 pub blocks-ended : (c : Carried) (s : Start) (number : ℕ) (front held : List ℕ) (fault : BlockFault) (old left : Option (List ℕ)) → IfSome old (IsStart c s) → TakesFront old (rest_of held left) front
     → number ≡ c.blocks + 1 → IfSome (rest_of (front ++ held) left) (λ xs. IsEndFault s number xs fault) → IfSome old (λ rest. front_of c rest ≡ broken fault)
 blocks-ended c s number front held fault None left start taken same end = tt

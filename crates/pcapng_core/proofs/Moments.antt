@@ -1,4 +1,4 @@
--- Moments in units that are many a second.
+-- Timestamps in units of which a second has many.
 use Rattle.std.proofs.Common.{◌≡◌, ◌<◌, ◌≤◌, ◌*◌, ◌^◌, min, ℕ, sym, ap, arith, ⊎_elim}
 use Rattle.std.proofs.Math.Nat.{div-eq_of_lt, one-le-pow}
 use Rattle.std.proofs.lemmas.Nat.{pow_pos}
@@ -8,12 +8,12 @@ use Rattle.pcapng_defs.specs.declared.interface.Unit.{Unit}
 use Rattle.pcapng_defs.specs.declared.interface.Unit.TheVariants.{Decimal, Binary}
 use Rattle.pcapng_defs.specs.Moment.{units_a_second, moment_in}
 
--- a second has a unit
+-- a second has at least one unit
 pub units-some : (unit : Unit) → 0 < units_a_second unit
 units-some (Decimal v) = one-le-pow v 10 (omega arith)
 units-some (Binary v) = pow_pos v
 
--- units that are too many for 128 bits are each less than a nanosecond's part
+-- if the units of a second don't fit in 128 bits, every 64-bit time is less than a nanosecond
 pub moment-none : (unit : Unit) (time : ℕ) → time < 2 ^ 64 → (units_a_second unit < 2 ^ 128 → ⊥) → 0 ≡ moment_in unit time
 moment-none unit time early many = ⊎_elim
     (λ (few : units_a_second unit < 2 ^ 128). absurd (many few))

@@ -1,4 +1,4 @@
--- What an option's first four bytes say.
+-- The first four bytes of an option.
 use Rattle.std.proofs.Common.{◌≡◌, ◌≢◌, ◌<◌, ◌≤◌, ◌+◌, ◌&&◌, if◌then◌else◌, ℕ, Bool, eqb, ltb, List, ◌++◌, length, drop, refl, sym, ap, ◌∙◌, arith, length-append}
 use Rattle.std.proofs.lemmas.Bool.{lt-ltb, le-ltb, eq-eqb, ne_eqb, and_from, and_parts, eqb-true, false_from_ne_true, cond-true, cond-false, cond_both}
 use Rattle.pcap_defs.specs.Number.{number_at, short_at}
@@ -7,7 +7,8 @@ use Rattle.pcapng_defs.specs.Interface.{OptionFront, ends, gives, passes, option
 use Rattle.pcapng_core.specs.Options.{FrontOf}
 use Rattle.pcapng_core.specs.declared.options.Front.TheVariants as front
 
--- the front of options whose first four bytes tell this code and length, with so many bytes behind them
+-- the front of options with this code and length in their first four bytes, and `behind` bytes
+-- after them
 abbrev Said : Bool → List ℕ → ℕ → ℕ → ℕ → OptionFront
 Said big options behind code len =
     if eqb code 0 then ends
@@ -34,7 +35,7 @@ front-said big bytes others behind code len four code_is len_is size =
     ∙ ap (λ m. at (option_len + behind) code m) len_same
 
 module _ (big : Bool) (bytes : List ℕ) (behind code len : ℕ) (four : length bytes ≡ option_len) (code_is : code ≡ short_at big 0 bytes) (len_is : len ≡ short_at big 2 bytes) where
-  -- they end at code 0
+  -- options end at code 0
   pub front-last : code ≡ 0 → FrontOf big bytes behind front.Ends
   front-last e = λ others size. front-said big bytes others behind code len four code_is len_is size ∙ cond-true _ _ _ (eq-eqb code 0 e)
 
@@ -44,7 +45,7 @@ module _ (big : Bool) (bytes : List ℕ) (behind code len : ℕ) (four : length 
       front-said big bytes others behind code len four code_is len_is size
       ∙ cond_both (eqb code 0) _ _ (λ (o : OptionFront). o ≡ ends) (λ e. refl) (λ e. cond-true _ _ _ (lt-ltb (option_len + behind) (option_len + filled len) (omega (arith, long))))
 
-  -- the unit
+  -- an option that gives the unit
   pub front-unit : filled len ≤ behind → code ≡ unit_code → len ≡ unit_len → FrontOf big bytes behind front.Unit
   front-unit short unit one = λ others size.
       front-said big bytes others behind code len four code_is len_is size

@@ -1,4 +1,4 @@
--- What a reader's steps say of the option at the front of options.
+-- The option at the front of options, after a reader's steps.
 use Rattle.std.proofs.Common.{◌≡◌, ◌<◌, ◌≤◌, ◌+◌, ◌-◌, ℕ, Bool, true, false, Option, Some, None, List, ◌++◌, length, take, drop, get_or, sym, ap, ◌∙◌, subst, arith, length-append, get_or-drop, add-zero, ⊎_elim}
 use Rattle.std.proofs.Math.Seq.{take-append-add}
 use Rattle.std.proofs.lemmas.List.{length-take-le}
@@ -13,11 +13,11 @@ use Rattle.pcapng_core.specs.declared.options.Front.{Front}
 use Rattle.pcapng_core.specs.declared.options.Front.TheVariants as front
 use Rattle.pcapng_core.specs.declared.options.Step.TheVariants.{Ends, Gives, Passes as Behind}
 
--- the same number of bytes
+-- skipping an equal number of bytes
 pub passes-as : (n m : ℕ) (old new : Option (List ℕ)) → n ≡ m → Passes n old new → Passes m old new
 passes-as n m old new e h = subst (λ k. Passes k old new) e h
 
--- a byte as a number
+-- one byte as a number
 one-byte : (big : Bool) (at : ℕ) (xs : List ℕ) → number_at big 1 at xs ≡ get_or xs at 0
 one-byte true at xs =
     let e : get_or (drop at xs) 0 0 ≡ get_or xs (at + 0) 0 = get_or-drop at xs 0 0 in
@@ -26,7 +26,7 @@ one-byte false at xs =
     let e : get_or (drop at xs) 0 0 ≡ get_or xs (at + 0) 0 = get_or-drop at xs 0 0 in
     omega (arith, e, ap (λ i. get_or xs i 0) (add-zero at))
 
--- the front of so many options, of which the first four bytes were taken
+-- the front of `count` bytes of options, of which the first four were taken
 front-at : (big : Bool) (count behind : ℕ) (left opt rest : List ℕ) (f : Front) → left ≡ opt ++ rest → length opt ≡ 4 → count ≡ 4 + behind → FrontOf big opt behind f → count ≤ length left
     → option_front big (take count left) ≡ front_said big (take count left) f
 front-at big count behind left opt rest f split four sum said enough =
@@ -42,7 +42,7 @@ stands-ends big count behind rest None new opt taken four sum said = tt
 stands-ends big count behind rest (Some left) None opt taken four sum said = absurd taken
 stands-ends big count behind rest (Some left) (Some new) opt taken four sum said = front-at big count behind left opt new front.Ends taken four sum said
 
--- they give the unit, in a fifth byte
+-- the options give the unit, in the fifth byte
 pub stands-gives : (big : Bool) (count behind rest value : ℕ) (old mid new : Option (List ℕ)) (opt more : List ℕ) → TakesFront old mid opt → TakesFront old new more → length opt ≡ 4 → length more ≡ 5
     → count ≡ 4 + behind → 1 ≤ behind → FrontOf big opt behind front.Unit → value ≡ get_or more 4 0 → StandsAt big count old (Gives (unit_by value) rest)
 stands-gives big count behind rest value None mid new opt more first second four five sum some said at = tt
@@ -56,7 +56,7 @@ stands-gives big count behind rest value (Some left) (Some mid) (Some new) opt m
     ap (number_at big 1 option_len) cut ∙ number_at-append big 1 option_len more (take (count - 5) new) (omega (arith, five)) ∙ one-byte big option_len more ∙ sym at in
     front-at big count behind left opt mid front.Unit first four sum said enough ∙ ap (λ m. gives (unit_by m)) byte
 
--- another option, whose bytes were passed over
+-- another option, whose bytes were skipped
 pub stands-passes : (big : Bool) (count behind filled n : ℕ) (old mid : Option (List ℕ)) (opt : List ℕ) → TakesFront old mid opt → length opt ≡ 4 → count ≡ 4 + behind → filled ≤ behind
     → FrontOf big opt behind (front.Other filled) → n ≤ filled → (n < filled → IsAll n mid) → StandsAt big count old (Behind (behind - n))
 stands-passes big count behind filled n None mid opt taken four sum fits said less end = tt

@@ -1,4 +1,4 @@
--- What is read of the options of an interface, step by step.
+-- The reading of an interface's options, step by step.
 use Rattle.std.proofs.Common.{◌≡◌, ◌<◌, ◌≤◌, ◌+◌, ◌-◌, ℕ, Bool, Option, Some, None, List, length, take, drop, sym, ap, ◌∙◌, arith, length-drop, length-take}
 use Rattle.std.proofs.lemmas.List.{drop-take, length-take-le}
 use Rattle.std.proofs.lemmas.Bool.{lt-ltb, cond-true}
@@ -9,7 +9,7 @@ use Rattle.capture_core.specs.Passed.{Passes}
 use Rattle.pcapng_core.specs.Options.{StandsAt, IsUnitOf, SameUnit}
 use Rattle.pcapng_core.specs.declared.options.Step.TheVariants.{Ends, Gives, Passes as Behind}
 
--- behind an option
+-- after an option
 pub same-more : (big : Bool) (count rest behind : ℕ) (old mid new : Option (List ℕ)) → SameUnit big count rest old mid → behind ≤ rest → Passes (rest - behind) mid new → StandsAt big rest mid (Behind behind)
     → SameUnit big count behind old new
 same-more big count rest behind None mid new same less passed stands = tt
@@ -26,7 +26,7 @@ same-more big count rest behind (Some old) (Some mid) (Some new) same less passe
           ∙ ap (λ m. unit_of big (drop (m - behind) (take rest mid))) size ∙ ap (unit_of big) moved,
     )
 
--- where the options end
+-- if the options end
 pub unit-ends : (big : Bool) (count rest behind : ℕ) (old mid : Option (List ℕ)) → SameUnit big count rest old mid → StandsAt big rest mid (Ends behind) → IsUnitOf big count old usual_unit
 unit-ends big count rest behind None mid same stands = tt
 unit-ends big count rest behind (Some old) None same stands = absurd same
@@ -34,7 +34,7 @@ unit-ends big count rest behind (Some old) (Some mid) same stands = λ h.
     let s = same h in
     s.1 ∙ units_go_option_by_option big (take rest mid) ∙ ap (at_option (unit_of big)) (stands s.0)
 
--- where they give the unit
+-- if the options give the unit
 pub unit-gives : (big : Bool) (count rest behind : ℕ) (unit : Unit) (old mid : Option (List ℕ)) → SameUnit big count rest old mid → StandsAt big rest mid (Gives unit behind) → IsUnitOf big count old unit
 unit-gives big count rest behind unit None mid same stands = tt
 unit-gives big count rest behind unit (Some old) None same stands = absurd same
@@ -46,7 +46,7 @@ option_front-few : (big : Bool) (bytes : List ℕ) → length bytes < option_len
 unfolding option_front
 option_front-few big bytes few = cond-true _ _ _ (lt-ltb (length bytes) option_len few)
 
--- where too few bytes are left for an option
+-- if too few bytes are left for an option
 pub unit-few : (big : Bool) (count rest : ℕ) (old mid : Option (List ℕ)) → SameUnit big count rest old mid → rest < option_len → IsUnitOf big count old usual_unit
 unit-few big count rest None mid same few = tt
 unit-few big count rest (Some old) None same few = absurd same

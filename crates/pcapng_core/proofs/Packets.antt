@@ -1,4 +1,4 @@
--- What is read up to the next packet.
+-- The reading up to the next packet.
 use Rattle.std.proofs.Common.{◌≡◌, ◌≢◌, ℕ, Option, Some, None, List, [], IfSome, ap, ◌∙◌}
 use Rattle.capture_core.specs.Rest.{IsWhole}
 use Rattle.pcapng_defs.specs.Fault.{BlockFault}
@@ -9,7 +9,7 @@ use Rattle.pcapng_defs.proofs.Readings.{goes_block_by_block}
 use Rattle.pcapng_defs.proofs.FaultCauses.{reads_faults}
 use Rattle.pcapng_core.specs.Readers.{TakesBlock, GoesOn, IsOver}
 
--- behind one
+-- after one more block
 pub goes-more : (c mid_c after : Carried) (packet : Option CapturedPacket) (old mid new : Option (List ℕ)) → GoesOn c [] mid_c old mid → TakesBlock mid_c packet after mid new → GoesOn c (packets_in packet) after old new
 goes-more c mid_c after packet None mid new goes takes = tt
 goes-more c mid_c after packet (Some old) None new goes takes = absurd goes
@@ -20,7 +20,7 @@ goes-more c mid_c after packet (Some old) (Some mid) (Some new) goes takes =
 over-as : (c c1 : Carried) (fault : Option BlockFault) (rest : List ℕ) → reading_of c rest ≡ ended c1 fault → IsOver c fault rest
 over-as c c1 fault rest e = record { none = ap (λ (r : Reading). r.packets) e; ends = ap (λ (r : Reading). r.fault) e }
 
--- where nothing is left
+-- if nothing is left
 pub goes-over : (c mid_c : Carried) (old mid : Option (List ℕ)) → GoesOn c [] mid_c old mid → IsWhole mid → mid_c.blocks ≢ 0 → IfSome old (IsOver c None)
 goes-over c mid_c None mid goes whole some = tt
 goes-over c mid_c (Some old) None goes whole some = absurd goes
@@ -28,7 +28,7 @@ goes-over c mid_c (Some old) (Some mid) goes whole some =
     over-as c mid_c None old
     (goes ∙ ap (behind []) (goes_block_by_block mid_c mid ∙ ap (at_front reading_of mid_c) ((reads_faults.ends mid_c mid).0 (whole, some))))
 
--- where a fault is
+-- if there is a fault
 pub goes-broken : (c mid_c : Carried) (fault : BlockFault) (old mid : Option (List ℕ)) → GoesOn c [] mid_c old mid → IfSome mid (λ left. front_of mid_c left ≡ broken fault) → IfSome old (IsOver c (Some fault))
 goes-broken c mid_c fault None mid goes broke = tt
 goes-broken c mid_c fault (Some old) None goes broke = absurd goes

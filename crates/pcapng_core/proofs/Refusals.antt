@@ -1,4 +1,4 @@
--- What a refusal says that is passed on.
+-- The properties of an error that is passed on.
 use Rattle.std.proofs.Common.{◌≡◌, Result, Ok, Err, sym, subst}
 use Rattle.std.specs.Prelude.{IfErr, IsErrAnd}
 

@@ -1,4 +1,4 @@
--- The room for captured bytes in a block that its front tells.
+-- The room for captured bytes in a block, from its front.
 use Rattle.std.proofs.Common.{◌≡◌, ◌<◌, ◌≤◌, ◌+◌, ◌%◌, ◌&&◌, ℕ, Bool, true, eqb, leb, Option, Some, None, List, length, slice_get, refl, sym, ap, ◌∙◌, subst, arith}
 use Rattle.std.proofs.lemmas.Bool.{leb-true, eqb-true, and_parts, cond_both}
 use Rattle.pcap_defs.specs.Number.{long_at, short_at}
@@ -15,19 +15,19 @@ use Rattle.pcapng_core.specs.declared.start.Kind.{Kind}
 use Rattle.pcapng_core.specs.declared.start.Kind.TheVariants as kind
 use Rattle.pcapng_core.specs.declared.start.Start.{Start}
 
--- a total length that a block can have is no less than the least one
+-- a total length that a block can have is at least the least one
 pub fits-least : (kind : BlockKind) (total : ℕ) → fits_kind kind total ≡ true → least_total kind ≤ total
 fits-least kind total h =
     let front = (and_parts (eqb (total % 4) 0 && leb (least_total kind) total) (leb total most_total) h).0 in
     leb-true (least_total kind) total (and_parts (eqb (total % 4) 0) (leb (least_total kind) total) front).1
 
--- and a multiple of four
+-- and it is a multiple of four
 fits-fours : (kind : BlockKind) (total : ℕ) → fits_kind kind total ≡ true → total % 4 ≡ 0
 fits-fours kind total h =
     let front = (and_parts (eqb (total % 4) 0 && leb (least_total kind) total) (leb total most_total) h).0 in
     eqb-true (total % 4) 0 (and_parts (eqb (total % 4) 0) (leb (least_total kind) total) front).0
 
--- and no more than a block has
+-- and a front is no longer than the least block of its kind
 pub front_len-least : (k : Kind) → front_len k ≤ least_total (kind_said k)
 front_len-least kind.Section = omega arith
 front_len-least kind.Interface = omega arith
@@ -35,7 +35,7 @@ front_len-least kind.Enhanced = omega arith
 front_len-least kind.Simple = omega arith
 front_len-least kind.Other = omega arith
 
--- the captured bytes of a packet behind this place fit in the block
+-- the captured bytes of a packet from this position on fit in the block
 packet_body-room : (p : Packet) (at total number : ℕ) → at + 4 ≤ total → at + captured_in (packet_body p at total number) + 4 ≤ total
 packet_body-room p at total number least =
     cond_both (leb p.captured most_captured && leb (at + p.captured + 4) total) _ _ (λ (b : Body). at + captured_in b + 4 ≤ total)
@@ -50,11 +50,11 @@ simple-room : (c : Carried) (big : Bool) (total : ℕ) (front : List ℕ) (i : O
 simple-room c big total front None least = omega (arith, least)
 simple-room c big total front (Some i) least = packet_body-room _ 12 total (c.blocks + 1) (omega (arith, least))
 
--- nothing is captured of a section header
+-- a section header has no captured bytes
 section-none : (c : Carried) (big : Bool) (total : ℕ) (front : List ℕ) → captured_in (body_said c big total front kind.Section) ≡ 0
 section-none c big total front = cond_both (eqb (short_at big 12 front) ng_major) _ _ (λ (b : Body). captured_in b ≡ 0) (λ e. refl) (λ e. refl)
 
--- nor of an interface
+-- an interface has no captured bytes
 interface-none : (c : Carried) (big : Bool) (total : ℕ) (front : List ℕ) → captured_in (body_said c big total front kind.Interface) ≡ 0
 interface-none c big total front = cond_both (eqb (length c.described) most_interfaces) _ _ (λ (b : Body). captured_in b ≡ 0) (λ e. refl) (λ e. refl)
 
@@ -88,7 +88,7 @@ kind-room kind.Other c big total front least four = record {
   options = λ e. absurd (cc);
 }
 
--- behind the front of a block there is room for what it says
+-- after the front of a block there is room for the captured bytes that it announces
 pub body-room : (c : Carried) (s : Start) (b : Body) (front : List ℕ) (n captured : ℕ) → fits_kind (kind_said s.kind) s.total ≡ true
     → n ≡ front_len s.kind → b ≡ body_said c s.big s.total front s.kind → captured ≡ captured_in b → HasRoom s n captured
 body-room c s b front n captured fits size said counted =

@@ -1,4 +1,4 @@
--- What a block's first twelve bytes say, of all that is left.
+-- The first twelve bytes of a block, in terms of all remaining bytes.
 use Rattle.std.proofs.Common.{◌≡◌, ◌<◌, ◌≤◌, ℕ, Option, Some, None, List, ◌++◌, length, IfSome, sym, ap, ◌∙◌, subst, arith, length-append, ⊎_elim}
 use Rattle.std.specs.Prelude.{IsSomeAnd}
 use Rattle.std.proofs.lemmas.Bool.{cases_lt}
@@ -13,7 +13,7 @@ use Rattle.pcapng_defs.proofs.LongerFronts.{order_at-longer, faults_stand}
 use Rattle.pcapng_core.specs.Blocks.{IsStart}
 use Rattle.pcapng_core.specs.declared.start.Start.{Start}
 
--- more behind the bytes of a start changes nothing
+-- more bytes after those of a start change nothing
 start-longer : (c : Carried) (s : Start) (bytes more : List ℕ) → IsStart c s bytes → IsStart c s (bytes ++ more)
 start-longer c s bytes more h = record {
   few = h.few;
@@ -24,13 +24,13 @@ start-longer c s bytes more h = record {
   fits = h.fits;
 }
 
--- what the first bytes say, where they were taken from what was left
+-- the values in the first bytes, if these were taken from the remaining bytes
 pub start-taken : (c : Carried) (s : Start) (bytes : List ℕ) (old new : Option (List ℕ)) → TakesFront old new bytes → IsStart c s bytes → IfSome old (λ left. IsStart c s left)
 start-taken c s bytes None new taken h = tt
 start-taken c s bytes (Some left) None taken h = absurd taken
 start-taken c s bytes (Some left) (Some rest) taken h = subst (λ xs. IsStart c s xs) (sym taken) (start-longer c s bytes rest h)
 
--- a fault that the first bytes show: what is left has it
+-- a fault that the first bytes show is a fault of the remaining bytes
 start-broken : (c : Carried) (fault : BlockFault) (bytes : List ℕ) (old new : Option (List ℕ)) → TakesFront old new bytes → IsShort old bytes block_len → IsBlockFault c bytes fault
     → (code fault ≡ 11 → length bytes < 12) → IfSome old (λ left. front_of c left ≡ broken fault)
 start-broken c fault bytes None new taken short h cut = tt
@@ -42,7 +42,7 @@ start-broken c fault bytes (Some left) (Some rest) taken short h cut =
     (λ (many : block_len ≤ length bytes). ap (front_of c) taken ∙ faults_stand c fault bytes rest broke (λ e. omega (arith, many, cut (ap code e))))
     (cases_lt (length bytes) block_len)
 
--- where a refusal names a fault, what is left has it
+-- if an error names a fault, the remaining bytes have it
 pub starts-broken : (c : Carried) (o : Option BlockFault) (front bytes : List ℕ) (old new : Option (List ℕ)) → TakesFront old new front → IsShort old front block_len → bytes ≡ front
     → IsSomeAnd o (IsBlockFault c bytes) → IfSome o (λ fault. code fault ≡ 11 → length bytes < 12) → IfSome o (λ fault. IfSome old (λ left. front_of c left ≡ broken fault))
 starts-broken c None front bytes old new taken short same h cut = tt

@@ -1,4 +1,4 @@
--- What a reader's steps say of the block at the front of what is left.
+-- The block at the front of the remaining bytes, in a reader's steps.
 use Rattle.std.specs.Prelude.{◌≡◌, ◌≢◌, ◌<◌, ◌≤◌, ◌+◌, ◌-◌, ℕ, true, Option, Some, None, List, length, take, drop, ⊤}
 use Rattle.pcap_defs.specs.Number.{long_at}
 use Rattle.pcapng_defs.specs.declared.interface.Unit.{Unit}
@@ -10,7 +10,7 @@ use Rattle.pcapng_core.specs.Kinds.{kind_said}
 use Rattle.pcapng_core.specs.declared.start.Kind.TheVariants as kind
 use Rattle.pcapng_core.specs.declared.start.Start.{Start}
 
--- Another block may come, its first twelve bytes are left, and say so.
+-- Another block is allowed, at least its first twelve bytes are left, and they have these values.
 pub record IsStart (c : Carried) (s : Start) (rest : List ℕ) : Type 0 where
   pub few : c.blocks ≢ most_blocks
   pub enough : block_len ≤ length rest
@@ -19,15 +19,16 @@ pub record IsStart (c : Carried) (s : Start) (rest : List ℕ) : Type 0 where
   pub total : long_at s.big 4 rest ≡ s.total
   pub fits : fits_kind (kind_said s.kind) s.total ≡ true
 
--- Behind so many bytes of the block there is room for so many captured ones and the total length, or the total length was among
--- them; an interface has its options there.
+-- After `front` bytes of the block there is room for the captured bytes and the total length, or
+-- the total length was among those bytes. An interface has its options there.
 pub record HasRoom (s : Start) (front captured : ℕ) : Type 0 where
   pub least : 12 ≤ s.total
   pub short : s.total ≡ 12 → (front ≡ 12) × (captured ≡ 0)
   pub room : 12 < s.total → front + captured + 4 ≤ s.total
   pub options : s.kind ≡ kind.Interface → (front ≡ 16) × (captured ≡ 0) × (20 ≤ s.total)
 
--- The block of so many bytes is whole, its length stands at its end, and these captured bytes are behind so many of it.
+-- The block is whole, its total length is repeated at its end, and the captured bytes are after its
+-- first `front` bytes. The options of an interface give the unit.
 pub record IsReadTo (s : Start) (front captured : ℕ) (into : List ℕ) (unit : Unit) (rest others : List ℕ) : Type 0 where
   pub whole : s.total ≤ length rest
   pub end : long_at s.big (s.total - 4) rest ≡ s.total
@@ -35,13 +36,13 @@ pub record IsReadTo (s : Start) (front captured : ℕ) (into : List ℕ) (unit :
   pub into_is : into ≡ take captured (drop front rest)
   pub unit_is : s.kind ≡ kind.Interface → unit_of s.big (take (s.total - 20) (drop 16 rest)) ≡ unit
 
--- where what is left is told
+-- the same, if the remaining bytes are known to the contract
 abbrev pub ReadsTo : Start → ℕ → ℕ → List ℕ → Unit → Option (List ℕ) → Option (List ℕ) → Type 0
 ReadsTo s front captured into unit None new = ⊤
 ReadsTo s front captured into unit (Some old) None = ⊥
 ReadsTo s front captured into unit (Some old) (Some new) = IsReadTo s front captured into unit old new
 
--- the block of so many bytes is cut, or has another length at its end
+-- the block is cut, or has another total length at its end
 abbrev pub IsEndFault : Start → ℕ → List ℕ → BlockFault → Type 0
 IsEndFault s number rest (block_cut n) = (n ≡ number) × (length rest < s.total)
 IsEndFault s number rest (block_end n) = (n ≡ number) × (s.total ≤ length rest) × (long_at s.big (s.total - 4) rest ≢ s.total)

@@ -1,4 +1,4 @@
--- What a reader's refusals say of the file.
+-- The faults of the file that a reader's errors name.
 use Rattle.std.specs.Prelude.{ℕ, Option, Some, None}
 use Rattle.std.specs.Option.{option_map_or}
 use Rattle.outside_core.specs.declared.shelves.ShelfError.{ShelfError}
@@ -9,7 +9,7 @@ use Rattle.pcapng_defs.specs.Fault.{BlockFault, block_cut, block_length, order_m
 use Rattle.pcapng_core.specs.declared.fault.NgFault.{NgFault}
 use Rattle.pcapng_core.specs.declared.fault.NgFault.TheVariants.{BlockCut, BlockLength, OrderMagic, NgVersion, NoInterface, PacketLength, Interfaces, TooManyBlocks, BlockEnd, ReadFault, NoMemory}
 
--- the fault of the file that a refusal names, if it names one
+-- the fault of the file that an error names, if it names one
 abbrev pub fault_in : NgFault → Option BlockFault
 fault_in (BlockCut n) = Some (block_cut n)
 fault_in (BlockLength n) = Some (block_length n)
@@ -23,19 +23,19 @@ fault_in (BlockEnd n) = Some (block_end n)
 fault_in ReadFault = None
 fault_in NoMemory = None
 
--- the number of that fault, and the block at fault; 0 where there is none
+-- the code of that fault, and the block at fault, or 0 if there is none
 abbrev pub code_in : NgFault → ℕ
 code_in refusal = option_map_or code (fault_in refusal) 0
 
 abbrev pub place_in : NgFault → ℕ
 place_in refusal = option_map_or place (fault_in refusal) 0
 
--- what an error of the shelf becomes
+-- the reader's error for an error of the shelf
 abbrev pub shelf_fault : ShelfError → NgFault
 shelf_fault shelf.Failed = ReadFault
 shelf_fault shelf.NoMemory = NoMemory
 
--- what a refusal becomes in the words of any format
+-- the error as a `ReadError`, which all capture formats share
 abbrev pub read_error_as : NgFault → ReadError
 read_error_as ReadFault = read.Source
 read_error_as NoMemory = read.Memory

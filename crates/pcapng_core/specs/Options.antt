@@ -1,4 +1,4 @@
--- What is read of the options of an interface.
+-- The reading of an interface's options.
 use Rattle.std.specs.Prelude.{◌≡◌, ◌<◌, ◌≤◌, ◌+◌, ◌-◌, ℕ, Bool, Option, Some, None, List, ◌++◌, length, take, drop, IfSome, ⊤}
 use Rattle.pcapng_defs.specs.declared.interface.Unit.{Unit}
 use Rattle.pcapng_defs.specs.Interface.{OptionFront, ends, gives, passes, option_front, unit_of, unit_by, option_len}
@@ -14,11 +14,11 @@ front_said big options front.Ends = ends
 front_said big options front.Unit = gives (unit_by (number_at big 1 option_len options))
 front_said big options (front.Other filled) = passes (drop (option_len + filled) options)
 
--- These four bytes, with so many behind them, have this front.
+-- These four bytes, with `behind` bytes after them, have this front.
 abbrev pub FrontOf : Bool → List ℕ → ℕ → Front → Type 0
 FrontOf big bytes behind front = (others : List ℕ) → length others ≡ behind → option_front big (bytes ++ others) ≡ front_said big (bytes ++ others) front
 
--- an option that isn't the last fits in so many bytes behind its first four
+-- unless the options end, the option fits in the `behind` bytes after its first four
 abbrev pub FitsIn : ℕ → Front → Type 0
 FitsIn behind front.Ends = ⊤
 FitsIn behind front.Unit = 1 ≤ behind
@@ -30,27 +30,27 @@ step_rest (Ends rest) = rest
 step_rest (Gives unit rest) = rest
 step_rest (Passes rest) = rest
 
--- of so many bytes no more are left, and fewer behind an option that isn't the last
+-- at most `count` bytes are left, and fewer after another option
 abbrev pub GoesDown : ℕ → Step → Type 0
 GoesDown count (Ends rest) = rest ≤ count
 GoesDown count (Gives unit rest) = rest ≤ count
 GoesDown count (Passes rest) = rest < count
 
--- what a step says of the front of these options
+-- the front of these options in this step
 abbrev pub step_front : List ℕ → Step → OptionFront
 step_front options (Ends rest) = ends
 step_front options (Gives unit rest) = gives unit
 step_front options (Passes rest) = passes (drop (length options - rest) options)
 
--- where so many bytes of options are left, their front is that of the step
+-- if `count` bytes of options are left, their front is that of the step
 abbrev pub StandsAt : Bool → ℕ → Option (List ℕ) → Step → Type 0
 StandsAt big count old step = IfSome old (λ left. count ≤ length left → option_front big (take count left) ≡ step_front (take count left) step)
 
--- where so many bytes of options are left, they give the unit
+-- if `count` bytes of options are left, they give the unit
 abbrev pub IsUnitOf : Bool → ℕ → Option (List ℕ) → Unit → Type 0
 IsUnitOf big count old unit = IfSome old (λ left. count ≤ length left → unit_of big (take count left) ≡ unit)
 
--- where so many bytes of options were left, they give what so many of those left now do
+-- if `count` bytes of options were left, they give the same unit as `rest` of the bytes left now
 abbrev pub SameUnit : Bool → ℕ → ℕ → Option (List ℕ) → Option (List ℕ) → Type 0
 SameUnit big count rest None new = ⊤
 SameUnit big count rest (Some old) None = ⊥

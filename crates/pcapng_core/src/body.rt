@@ -1,4 +1,4 @@
-//! What the front of a block says of its body.
+//! The body of a block, as its front describes it.
 ghost use Rattle.std.specs.Prelude.{◌≡◌, ◌≤◌, length, slice_get};
 ghost use Rattle.pcap_defs.specs.Number.{long_at};
 ghost use Rattle.pcapng_defs.specs.Block;
@@ -20,7 +20,7 @@ const MOST_INTERFACES: usize = 1024;
 
 const MOST_CAPTURED: u32 = 262_144;
 
-/// What a packet's block says of it.
+/// The values of a packet's block.
 #[derive(Clone, Copy)]
 pub struct Packet {
     pub link: u16,
@@ -29,15 +29,15 @@ pub struct Packet {
     pub len: u32,
 }
 
-/// What a block is, as far as its front says.
+/// The body of a block, as its front describes it.
 #[derive(Clone, Copy)]
 pub enum Body {
     Section,
-    /// The link type and the snapshot length; the options give the unit.
+    /// The link type and the snapshot length. The unit is in the options.
     Interface(u16, u32),
     Packet(Packet),
     Other,
-    /// The block is at fault, if it is whole.
+    /// The fault of the block, if the block is whole.
     Faulty(NgFault),
 }
 
@@ -45,7 +45,7 @@ impl Body {
     ghost use Rattle.std.specs.Prelude.{◌≡◌};
     ghost use Rattle.pcapng_core.specs.Bodies.{captured_in};
 
-    /// How many captured bytes follow the front.
+    /// Returns how many captured bytes follow the front.
     pub fn captured(&self) -> usize
         ensures { result ≡ captured_in self.now }
     {
@@ -56,7 +56,7 @@ impl Body {
     }
 }
 
-/// How many bytes at a block's front are looked at before its options or captured bytes.
+/// Returns how many bytes at a block's front are read before its options or captured bytes.
 pub fn front_len(kind: Kind) -> usize
     ensures { result ≡ Bodies.front_len kind }
 {
@@ -67,7 +67,8 @@ pub fn front_len(kind: Kind) -> usize
     }
 }
 
-/// The packet, where its captured bytes fit after this place of a block of this many bytes.
+/// Returns the packet if its captured bytes are within the limit and fit after position `at` of a
+/// block of `total` bytes, and else the fault.
 fn packet_within(packet: Packet, at: u32, total: u32, number: u64) -> Body
     requires place { at ≤ 28 }
     requires early { packet.moment ≤ max_rank }
@@ -82,7 +83,7 @@ fn packet_within(packet: Packet, at: u32, total: u32, number: u64) -> Body
     }
 }
 
-/// What a section header is that begins so.
+/// Parses the front of a section header.
 fn section_in(carry: &Carry, start: Start, front: &[u8]) -> Body
     requires { length front.now ≡ 16 }
     ensures { result ≡ body_said (carried_of carry.now) start.big start.total front.now
@@ -95,7 +96,7 @@ fn section_in(carry: &Carry, start: Start, front: &[u8]) -> Body
     }
 }
 
-/// What an interface block is that begins so.
+/// Parses the front of an interface block.
 fn interface_in(carry: &Carry, start: Start, front: &[u8]) -> Body
     requires { length front.now ≡ 16 }
     ensures { result ≡ body_said (carried_of carry.now) start.big start.total front.now
@@ -111,7 +112,7 @@ fn interface_in(carry: &Carry, start: Start, front: &[u8]) -> Body
     }
 }
 
-/// What an enhanced packet block is that begins so.
+/// Parses the front of an enhanced packet block.
 fn enhanced_in(carry: &Carry, start: Start, front: &[u8]) -> Body
     requires { 28 ≤ length front.now }
     ensures said { result ≡ enhanced_body (carried_of carry.now) start.big start.total front.now
@@ -135,7 +136,7 @@ fn enhanced_in(carry: &Carry, start: Start, front: &[u8]) -> Body
     packet_within(packet, 28, start.total, number)
 }
 
-/// How many bytes a simple packet of this interface captures.
+/// Returns the captured length in bytes of a simple packet of this interface.
 fn simple_len(interface: &Interface, len: u32) -> u32
     ensures { result ≡ Block.simple_len interface.now len }
 {
@@ -146,7 +147,7 @@ fn simple_len(interface: &Interface, len: u32) -> u32
     }
 }
 
-/// What a simple packet block is that begins so.
+/// Parses the front of a simple packet block.
 fn simple_in(carry: &Carry, start: Start, front: &[u8]) -> Body
     requires { 12 ≤ length front.now }
     ensures said { result ≡ simple_body (carried_of carry.now) start.big start.total front.now
@@ -168,7 +169,7 @@ fn simple_in(carry: &Carry, start: Start, front: &[u8]) -> Body
     packet_within(packet, 12, start.total, number)
 }
 
-/// What a block is that begins so.
+/// Parses the front of a block.
 pub fn body_in(carry: &Carry, start: Start, front: &[u8]) -> Body
     requires { length front.now ≡ Bodies.front_len start.kind }
     ensures said { result ≡ body_said (carried_of carry.now) start.big start.total front.now

@@ -1,4 +1,4 @@
-//! What is carried from block to block.
+//! The state carried from block to block.
 ghost use Rattle.std.specs.Prelude.{◌≤◌};
 ghost use Rattle.rank_defs.specs.Programs.{max_rank};
 ghost use Rattle.pcapng_defs.specs.NgCapture.{most_blocks};
@@ -8,16 +8,16 @@ use crate::fault::NgFault;
 use pcapng_defs::{Interface, Unit};
 use std::alloc::Global;
 
-/// What is carried from block to block.
+/// The state carried from block to block.
 #[derive(Drop)]
 pub struct Carry {
-    /// Whether the section's numbers have their highest byte first.
+    /// Whether the section's numbers are big-endian.
     pub big: bool,
     /// The section's interfaces, in order.
     pub described: Vec<Interface>,
-    /// The timestamp of the packet before, and 0 without one.
+    /// The timestamp of the previous packet, or 0 without one.
     pub moment: u64,
-    /// How many blocks came.
+    /// The number of blocks read.
     pub blocks: u32,
     ghost early: { moment ≤ max_rank },
     ghost few: { blocks ≤ most_blocks },
@@ -30,7 +30,7 @@ impl Carry {
     ghost use Rattle.pcapng_core.specs.Carries.{carried_of, went, described_also};
     ghost use Rattle.pcapng_core.specs.Faults.{fault_in};
 
-    /// Before the first block.
+    /// Returns the state before the first block.
     pub fn new(alloc: Global) -> Carry
         ensures { carried_of result ≡ at_start }
     {
@@ -42,14 +42,15 @@ impl Carry {
         }
     }
 
-    /// The number of the next block.
+    /// Returns the number of the next block, counted from 1.
     pub fn number(&self) -> u64
         ensures { result ≡ (carried_of self.now).blocks + 1 }
     {
         u64::from(self.blocks) + 1
     }
 
-    /// Goes past a whole block, and answers the packet, if it is one.
+    /// Goes past a whole block, and returns its packet, if it is one. The error is the block's
+    /// fault or out of memory.
     pub fn go_past(&mut self, big: bool, body: Body, unit: Unit) -> Result<Option<Packet>, NgFault>
         requires few { (carried_of self.old).blocks ≢ most_blocks }
         requires early { IsEarly body }
@@ -78,7 +79,7 @@ impl Carry {
         Ok(given)
     }
 
-    /// Adds an interface of the section.
+    /// Adds an interface of the section. The only error is out of memory.
     fn describe(&mut self, link: u16, snapshot: u32, unit: Unit) -> Result<(), NgFault>
         ensures described { OnOk result (carried_of self.new ≡ described_also (carried_of self.old)
             (record { link = link; snapshot = snapshot; unit = unit })) }

@@ -1,4 +1,4 @@
-//! Why a pcapng capture isn't read on.
+//! The errors of reading a pcapng capture.
 ghost use Rattle.std.specs.Prelude.{◌≡◌};
 ghost use Rattle.pcapng_core.specs.Faults.{code_in, place_in, shelf_fault};
 ghost use Rattle.pcapng_core.specs.declared.fault.NgFault.TheVariants.{NoMemory};
@@ -6,14 +6,15 @@ ghost use Rattle.pcapng_core.specs.declared.fault.NgFault.TheVariants.{NoMemory}
 use outside_core::ShelfError;
 use std::alloc::AllocError;
 
-/// Why a pcapng capture isn't read on. A number is that of the block at fault, counted from 1.
+/// The reason why the reading of a pcapng capture stopped. A number is that of the block at fault,
+/// counted from 1.
 #[derive(Clone, Copy, PartialEq, Eq, Debug)]
 pub enum NgFault {
-    /// The file ends inside a block, or has none.
+    /// The file ends inside a block, or has no block.
     BlockCut(u64),
     /// No block of its type has this total length.
     BlockLength(u64),
-    /// The first block is no section header, or the byte order of a section isn't told.
+    /// The first block isn't a section header, or a section header doesn't give the byte order.
     OrderMagic(u64),
     /// The major version of a section isn't 1.
     NgVersion(u64),
@@ -29,12 +30,12 @@ pub enum NgFault {
     BlockEnd(u64),
     /// The shelf failed to read.
     ReadFault,
-    /// There was no memory for the bytes that are read.
+    /// Out of memory for the bytes or the interfaces to be read.
     NoMemory,
 }
 
 impl NgFault {
-    /// The fault's number in a report, and 0 where the file isn't at fault.
+    /// Returns the fault's code in a report, or 0 if the file isn't at fault.
     pub fn code(&self) -> u32
         ensures { result ≡ code_in self.now }
     {
@@ -52,7 +53,7 @@ impl NgFault {
         }
     }
 
-    /// The number of the block at fault, and 0 where it is none.
+    /// Returns the number of the block at fault, or 0 if there is none.
     pub fn place(&self) -> u64
         ensures { result ≡ place_in self.now }
     {

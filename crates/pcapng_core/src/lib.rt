@@ -1,4 +1,5 @@
-//! pcapng captures of packets (draft-ietf-opsawg-pcapng), read block by block from a shelf. Begin with specs/Readers.antt.
+//! Reads pcapng captures of packets (draft-ietf-opsawg-pcapng) block by block from a shelf. Begin
+//! with specs/Readers.antt.
 #![tactic(auto)]
 
 mod body;

@@ -8,14 +8,14 @@ use rank_defs::MAX_RANK;
 
 const NANOSECONDS: u128 = 1_000_000_000;
 
-/// This many nanoseconds, and the latest timestamp where that is less.
+/// Limits a timestamp in nanoseconds to the greatest one.
 fn capped(nanoseconds: u128) -> u64
     ensures { result ≡ min nanoseconds max_rank }
 {
     nanoseconds.min(u128::from(MAX_RANK)) as u64
 }
 
-/// How many of the units a second has, where these are few enough.
+/// Returns how many of the units a second has, if that fits in 128 bits.
 fn units_in(unit: Unit) -> Option<u128>
     ensures { SomeIff result (Moment.units_a_second unit < 2 ^ 128) (Moment.units_a_second unit) }
 {
@@ -25,7 +25,8 @@ fn units_in(unit: Unit) -> Option<u128>
     }
 }
 
-/// The timestamp of this many units, rounded down, and the latest one where that is less.
+/// Returns the timestamp in nanoseconds of this many units, rounded down and limited to the
+/// greatest one.
 pub fn moment_in(unit: Unit, time: u64) -> u64
     ensures { result ≡ Moment.moment_in unit time }
 {

@@ -15,10 +15,10 @@ const USUAL_UNIT: Unit = Unit::Decimal(6);
 
 const UNIT_CODE: u16 = 9;
 
-/// The bytes of an option before its value.
+/// The length in bytes of an option before its value.
 const OPTION_LEN: usize = 4;
 
-/// What is at the front of options.
+/// The front of options.
 #[derive(Clone, Copy)]
 pub enum Front {
     Ends,
@@ -27,7 +27,7 @@ pub enum Front {
     Other(usize),
 }
 
-/// What an option's first four bytes say, where this many bytes of options are after them.
+/// Parses the first four bytes of an option, with `behind` bytes of options after them.
 fn front_in(big: bool, bytes: &[u8], behind: usize) -> Front
     requires { length bytes.now ≡ 4 }
     ensures front { FrontOf big bytes.now behind result }
@@ -45,7 +45,7 @@ fn front_in(big: bool, bytes: &[u8], behind: usize) -> Front
     }
 }
 
-/// The unit of an option's value.
+/// Returns the unit of an option's value.
 fn unit_by(value: u8) -> Unit
     ensures { result ≡ Interface.unit_by value }
 {
@@ -56,18 +56,18 @@ fn unit_by(value: u8) -> Unit
     }
 }
 
-/// What was read of options, and how many of their bytes are left.
+/// The result of reading an option, with the number of bytes of options that are left.
 #[derive(Clone, Copy)]
 pub enum Step {
-    /// They end, or the file does.
+    /// The options end, or the file does.
     Ends(usize),
-    /// They give the unit.
+    /// The option gives the unit.
     Gives(Unit, usize),
     /// There was another option.
     Passes(usize),
 }
 
-/// Reads the option at the front of options of this many bytes.
+/// Reads the option at the front of `count` bytes of options.
 fn read_option<S: Shelf>(
     window: &mut Window,
     shelf: &mut S,
@@ -109,7 +109,8 @@ fn read_option<S: Shelf>(
     }
 }
 
-/// Reads the unit that options of this many bytes give, and answers it and how many of them are left.
+/// Reads the unit that `count` bytes of options give. Returns it and how many of these bytes are
+/// left.
 pub fn read_unit<S: Shelf>(
     window: &mut Window,
     shelf: &mut S,

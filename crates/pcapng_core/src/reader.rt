@@ -1,4 +1,4 @@
-//! Reading a pcapng capture packet by packet.
+//! Reads a pcapng capture packet by packet.
 ghost use Rattle.std.specs.Prelude.{◌≡◌, ◌≢◌, ◌≤◌, ◌<◌, ◌+◌, ◌-◌, ℕ, true, List, Option, Some, None, [], ◌++◌, length, vec_len, IfOk, IfErr, OnOk, OnErr, IfSome, IfNone, IsErrOf, IsTrue};
 ghost use Rattle.outside_core.specs.Faults.{Rose};
 ghost use Rattle.capture_core.specs.Rest.{rest_of, TakesFront, IsWhole, LeavesNothing, Serves};
@@ -24,13 +24,14 @@ use outside_core::{Shelf, ShelfError};
 use pcapng_defs::Unit;
 use std::alloc::Global;
 
-/// The bytes of a total length.
+/// The length of a total length field in bytes.
 const TOTAL_LEN: usize = 4;
 
-/// The unit of a block that has no options.
+/// The unit of a block without options.
 const NO_UNIT: Unit = Unit::Decimal(0);
 
-/// Reads a block's first twelve bytes, and says what block it begins, if nothing is left where it may.
+/// Reads and parses the first twelve bytes of a block. Returns `None` if nothing is left and it
+/// isn't the first block.
 fn read_start<S: Shelf>(
     carry: &Carry,
     window: &mut Window,
@@ -67,7 +68,7 @@ fn read_start<S: Shelf>(
     Ok(Some(start_in(carry, front)?))
 }
 
-/// Reads on to the end of a block's front, and says what the block is, unless the file ends before.
+/// Reads the rest of a block's front and parses it. It is an error if the file ends before.
 fn read_front<S: Shelf>(
     carry: &Carry,
     start: Start,
@@ -102,7 +103,8 @@ fn read_front<S: Shelf>(
     Ok(body_in(carry, start, front))
 }
 
-/// Passes over this many bytes, which are options where they are to give a unit. Answers the unit, if all were there.
+/// Skips `count` bytes, which are the options if the block is an interface. Returns the unit, or
+/// `None` if the file ends before.
 fn pass_gap<S: Shelf>(
     window: &mut Window,
     shelf: &mut S,
@@ -143,8 +145,8 @@ fn pass_gap<S: Shelf>(
     }
 }
 
-/// Reads what is after a block's front: captured bytes, others that are passed over, and the total length, which has to be
-/// that at the front.
+/// Reads the bytes after a block's front: captured bytes, others that are skipped, and the total
+/// length, which has to equal the one at the front.
 fn read_behind<S: Shelf>(
     number: u64,
     start: Start,
@@ -192,7 +194,7 @@ fn read_behind<S: Shelf>(
     Ok(unit)
 }
 
-/// What a block is: the end of the file, a packet, or another block.
+/// The result of reading a block: the end of the file, a packet, or another block.
 #[derive(Clone, Copy)]
 pub enum Block {
     End,
@@ -200,7 +202,8 @@ pub enum Block {
     Other,
 }
 
-/// Reads a pcapng capture packet by packet. It holds at most 65,536 bytes that aren't used up, and a packet's captured ones.
+/// Reads a pcapng capture packet by packet. It buffers at most 65,536 bytes that were read but not
+/// consumed, and a packet's captured bytes.
 #[derive(Drop)]
 pub struct NgReader {
     alloc: Global,
@@ -229,7 +232,7 @@ impl NgReader {
     ghost use Rattle.pcapng_core.specs.Readers.{carry_of, packets_given, bytes_held, is_live, IsFresh, rest_left, TakesBlock, GoesOn, IsOver, block_packet, IsBoundedBlock, IsBoundedPacket};
     ghost use Rattle.pcapng_core.specs.Bodies.{packet_told};
 
-    /// One that holds no bytes.
+    /// Returns a reader without buffered bytes.
     pub fn new(alloc: Global) -> NgReader
         ensures fresh { IsFresh result }
         ensures none_held { bytes_held result ≡ [] }
@@ -237,7 +240,7 @@ impl NgReader {
         NgReader::over(alloc, Window::new(alloc))
     }
 
-    /// One over the bytes that a window holds, and then those left of the begun file.
+    /// Returns a reader of a window's bytes and then of the rest of the open file.
     pub fn over(alloc: Global, window: Window) -> NgReader
         ensures fresh { IsFresh result }
         ensures held { bytes_held result ≡ held window }
@@ -252,7 +255,7 @@ impl NgReader {
         }
     }
 
-    /// Whether no call was refused.
+    /// Returns whether no call has returned an error.
     pub fn live(&self) -> bool
         ensures { result ≡ is_live self.now }
     {
@@ -341,18 +344,19 @@ impl NgReader {
         }
     }
 
-    /// Reads the first block, which has to be a section header: from the bytes that it holds, and then from the begun file.
+    /// Reads the first block, which has to be a section header: from the buffered bytes, and then
+    /// from the open file.
     pub fn start<S: Shelf>(&mut self, shelf: &mut S) -> Result<(), NgFault>
         requires fresh { IsFresh self.old }
         requires begun { IsTrue (S.begun shelf.old) }
 
-        // What was left is a block without a packet, and what is left now.
+        // The remaining bytes were a block without a packet, and then the bytes left now.
         ensures header { OnOk result (TakesBlock at_start None (carry_of self.new)
             (rest_left self.old (S.left shelf.old)) (rest_left self.new (S.left shelf.new))) }
         ensures none_given { packets_given self.new ≡ 0 }
         ensures bounded { length (bytes_held self.new) ≤ most_held }
 
-        // A fault of the file is answered only where its first block has it.
+        // A returned fault is that of the file's first block.
         ensures fault { IfErr result (λ e. IfSome (fault_in e) (λ fault.
             IfSome (rest_left self.old (S.left shelf.old)) (λ file.
             front_of at_start file ≡ broken fault))) }
@@ -373,7 +377,7 @@ impl NgReader {
         }
     }
 
-    /// Reads the next packet, and puts its captured bytes into `into`, in place of what it held.
+    /// Reads the next packet, and replaces the contents of `into` by its captured bytes.
     pub fn next<S: Shelf>(
         &mut self,
         shelf: &mut S,
@@ -382,7 +386,8 @@ impl NgReader {
         requires live { IsTrue (is_live self.old) }
         requires begun { IsTrue (S.begun shelf.old) }
 
-        // What is read of what was left is the packet, and then what is read of what is left now.
+        // The reading of the remaining bytes is the packet, and then the reading of the bytes left
+        // now.
         ensures found { IfOk result (λ o. IfSome o (λ f. GoesOn (carry_of self.old)
             (packet_of f into.new.items ∷ [])
             (carry_of self.new) (rest_left self.old (S.left shelf.old)) (rest_left self.new (S.left shelf.new)))) }
@@ -394,14 +399,15 @@ impl NgReader {
         ensures short { IfOk result (λ o. IfSome o (λ f. f.frame.captured ≤ most_captured)) }
         ensures moment { IfOk result (λ o. IfSome o (λ f. f.frame.moment ≤ max_rank)) }
 
-        // There is no packet only where none is left, nor a fault, and then nothing is left for a later call.
+        // There is no packet only if no packet and no fault is left. Then nothing is left for a
+        // later call.
         ensures ended { IfOk result (λ o. IfNone o (IfSome (rest_left self.old (S.left shelf.old))
             (IsOver (carry_of self.old) None))) }
         ensures over { IfOk result (λ o. IfNone o (LeavesNothing
             (rest_left self.old (S.left shelf.old)) (rest_left self.new (S.left shelf.new)))) }
         ensures came { IfOk result (λ o. IfNone o ((carry_of self.new).blocks ≢ 0)) }
 
-        // A fault of the file is answered only where what was left has no packet before it.
+        // A fault of the file is returned only if no packet is left before it.
         ensures fault { IfErr result (λ e. IfSome (fault_in e) (λ fault.
             IfSome (rest_left self.old (S.left shelf.old)) (IsOver (carry_of self.old) (Some fault)))) }
         ensures live { IsTrue (is_live self.new) ↔ IsOk result }

@@ -14,7 +14,7 @@ use crate::carry::Carry;
 use crate::fault::NgFault;
 use capture_core::read_long;
 
-/// The bytes before a block's body, and the first four of it.
+/// The length in bytes of a block before its body, plus the first four bytes of the body.
 pub const START_LEN: usize = 12;
 
 const SECTION_TYPE: u32 = 0x0A0D_0D0A;
@@ -23,7 +23,7 @@ const ORDER_NUMBER: u32 = 0x1A2B_3C4D;
 
 const MOST_TOTAL: u32 = 16_777_216;
 
-/// The kinds of blocks that are read, and the others.
+/// The kinds of blocks that are read, and all others.
 #[derive(Clone, Copy, PartialEq, Eq, Debug)]
 pub enum Kind {
     Section,
@@ -33,17 +33,17 @@ pub enum Kind {
     Other,
 }
 
-/// What a block's first bytes say.
+/// The values in a block's first bytes.
 #[derive(Clone, Copy)]
 pub struct Start {
-    /// Whether its numbers have their highest byte first.
+    /// Whether its numbers are big-endian.
     pub big: bool,
     pub kind: Kind,
-    /// The bytes of the whole block.
+    /// The length of the whole block in bytes.
     pub total: u32,
 }
 
-/// The kind of a block by its type.
+/// Returns the kind of a block by its type.
 fn kind_of(number: u32) -> Kind
     ensures { kind_said result ≡ Block.kind_of number }
 {
@@ -56,7 +56,7 @@ fn kind_of(number: u32) -> Kind
     }
 }
 
-/// The fewest bytes of a block of this kind.
+/// Returns the least length in bytes of a block of this kind.
 fn least_total(kind: Kind) -> u32
     ensures { result ≡ Block.least_total (kind_said kind) }
 {
@@ -69,14 +69,14 @@ fn least_total(kind: Kind) -> u32
     }
 }
 
-/// Whether a block of this kind can have this many bytes.
+/// Returns whether a block of this kind can have this length in bytes.
 fn fits(kind: Kind, total: u32) -> bool
     ensures { result ≡ fits_kind (kind_said kind) total }
 {
     total % 4 == 0 && least_total(kind) <= total && total <= MOST_TOTAL
 }
 
-/// The byte order that a section header's order bytes tell.
+/// Returns the byte order in a section header's order bytes, `true` if it is big-endian.
 fn order_told(bytes: &[u8]) -> Option<bool>
     requires { 12 ≤ length bytes.now }
     ensures { result ≡ order_in bytes.now }
@@ -90,7 +90,7 @@ fn order_told(bytes: &[u8]) -> Option<bool>
     }
 }
 
-/// The byte order of the block that begins so.
+/// Returns the byte order of the block that begins with these bytes.
 fn order_of(carry: &Carry, bytes: &[u8]) -> Option<bool>
     requires { 12 ≤ length bytes.now }
     ensures { result ≡ order_at (carried_of carry.now) bytes.now }
@@ -104,7 +104,8 @@ fn order_of(carry: &Carry, bytes: &[u8]) -> Option<bool>
     }
 }
 
-/// What a block says that begins so. These are its first bytes, up to the twelfth, and none only where it is the first.
+/// Parses the first bytes of a block: twelve, or all that are left if there are fewer. There may be
+/// none only if it is the first block.
 pub fn start_in(carry: &Carry, bytes: &[u8]) -> Result<Start, NgFault>
     requires some { (0 < length bytes.now) ⊎ ((carried_of carry.now).blocks ≡ 0) }
     requires bound { length bytes.now ≤ 12 }

@@ -8,7 +8,7 @@ use Rattle.pcapng_defs.specs.NgContents.{block_fault_at, contents_read, behind_f
 use Rattle.pcapng_defs.specs.Laws.{AlikeFilesHoldTheSame}
 use Rattle.pcapng_defs.proofs.Readings.{goes_block_by_block}
 
--- a file that is read without fault is a capture
+-- a file that is read without a fault is a capture
 whole-holds : (front : BlockFront) (file : List ℕ) → front_of at_start file ≡ front → (ng_capture_of file).fault ≡ None → behind_front front (ng_capture_of file) ≡ holds (contents_read (ng_capture_of file))
 whole-holds nothing file e whole = refl
 whole-holds (broken fault) file e whole =

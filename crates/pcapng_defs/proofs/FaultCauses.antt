@@ -1,4 +1,4 @@
--- Each fault is read exactly where what is left has it.
+-- Each fault is read exactly if the remaining bytes have it.
 use Rattle.std.proofs.Common.{◌≡◌, ◌≢◌, ◌⊎◌, inl, inr, ⊎_elim, ◌<◌, ◌≤◌, ◌+◌, ◌-◌, ◌&&◌, not, ℕ, Bool, true, false, eqb, ltb, leb, Option, Some, None, Result, Ok, Err, List, [], ◌++◌, length, take, drop, slice_get, refl, sym, ap, ◌∙◌, subst, arith}
 use Rattle.std.specs.Bool.{⊤}
 use Rattle.std.proofs.lemmas.List.{take-append-drop, length-take-le, nil_from_length}
@@ -16,7 +16,7 @@ use Rattle.pcapng_defs.proofs.Fronts.{fits_kind-some}
 use Rattle.pcapng_defs.proofs.LongerFronts.{order_at-longer, faults_stand}
 use Rattle.pcapng_defs.proofs.WholeBlocks.{taken-whole, whole_front}
 
--- what a body tells that is at fault
+-- the condition for each result of a body: a returned fault is the body's
 abbrev BodyTells : Carried → Bool → List ℕ → BlockKind → Result (Option CapturedPacket × Carried) BlockFault → Type 0
 BodyTells c big block kind (Err fault) = IsBodyFault c big block kind fault
 BodyTells c big block kind (Ok given) = ⊤
@@ -75,7 +75,8 @@ block_gives-fault c big block kind (order_magic n) h = absurd h
 block_gives-fault c big block kind (too_many_blocks n) h = absurd h
 block_gives-fault c big block kind (block_end n) h = absurd h
 
--- what a front tells that is at fault or the end
+-- the condition for each front: a fault is that of the remaining bytes, and at the end nothing is
+-- left
 abbrev Tells : Carried → List ℕ → BlockFront → Type 0
 Tells c rest nothing = (rest ≡ []) × (c.blocks ≢ 0)
 Tells c rest (broken fault) = IsBlockFault c rest fault
@@ -123,7 +124,7 @@ front_in-tells : (c : Carried) (rest : List ℕ) (order : Option Bool) → c.blo
 front_in-tells c rest None few enough e = (refl, few, enough, e)
 front_in-tells c rest (Some big) few enough e = front_at-tells c big rest (record { few = few; enough = enough; order = e })
 
--- where the end isn't told, something is left or no block came
+-- if it isn't the end, something is left or no block was read yet
 left_or_first : (c : Carried) (rest : List ℕ) → (eqb (length rest) 0 && not (eqb c.blocks 0)) ≡ false → (0 < length rest) ⊎ (c.blocks ≡ 0)
 left_or_first c rest h = ⊎_elim
     (λ e. inl (omega (arith, eqb-false _ _ e)))
@@ -151,14 +152,14 @@ unfolding front_of
 front_of-nothing c rest none came =
     cond-true _ _ _ (and_from (eqb (length rest) 0) (not (eqb c.blocks 0)) (eq-eqb _ _ (ap length none)) (not_from_false (eqb c.blocks 0) (ne_eqb _ _ came)))
 
--- what is left where the end isn't
+-- if something is left or no block was read yet, it isn't the end
 not_over : (c : Carried) (rest : List ℕ) → (0 < length rest) ⊎ (c.blocks ≡ 0) → (eqb (length rest) 0 && not (eqb c.blocks 0)) ≡ false
 not_over c rest h = ⊎_elim
     (λ l. and_left (eqb (length rest) 0) (not (eqb c.blocks 0)) (ne_eqb (length rest) 0 (λ e. omega (arith, l, e))))
     (λ z. and_right (eqb (length rest) 0) (not (eqb c.blocks 0)) (not_from_true (eqb c.blocks 0) (eq-eqb _ _ z)))
     h
 
--- the front of twelve bytes or more, where another block may come
+-- the front of twelve bytes or more, if another block is allowed
 front_of-long : (c : Carried) (rest : List ℕ) → c.blocks ≢ most_blocks → block_len ≤ length rest → front_of c rest ≡ front_in c rest (order_at c rest)
 unfolding front_of
 front_of-long c rest few enough =
@@ -196,7 +197,7 @@ front_at-differs c big rest kind total fit room differ =
     ∙ cond-false _ _ _ (le-ltb (length rest) total room)
     ∙ cond-true _ _ _ (not_from_false (eqb (long_at big (total - 4) rest) total) (ne_eqb _ _ differ))
 
--- a fault of a body, in the block alone and with the others behind it
+-- a fault of a body, in the block alone and with the others after it
 bad_body : (c : Carried) (rest : List ℕ) (fault : BlockFault) → HasBadBody c rest fault → fault ≢ block_cut (c.blocks + 1) → front_of c rest ≡ broken fault
 bad_body c rest fault h uncut =
     ap (front_of c) h.split

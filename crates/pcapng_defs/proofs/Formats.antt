@@ -1,4 +1,4 @@
--- The bytes at the front of a file tell its format.
+-- The bytes at the front of a file determine its format.
 use Rattle.std.proofs.Common.{◌≡◌, ◌<◌, ◌≤◌, ℕ, Bool, true, false, leb, List, [], ◌++◌, length, refl, sym, ap, ◌∙◌, subst, arith, length-append}
 use Rattle.std.proofs.lemmas.Bool.{leb-true, leb-false}
 use Rattle.std.proofs.lemmas.List.{append-nil, take-append-le}
@@ -21,7 +21,7 @@ front-newer front rest true is enough h =
 front-newer front rest false is enough h =
     subst (λ xs. IsHeaderFault xs pcap_ng) (ap (λ ys. front ++ ys) (enough (leb-false header_len (length front) is)) ∙ append-nil front) h
 
--- what isn't refused for pcapng is the classic capture
+-- a file that isn't rejected as pcapng is the classic capture
 not-newer : (c : Capture) (blocks : FileContents) → (c ≡ refused pcap_ng → ⊥) → in_either c blocks ≡ in_capture c
 not-newer (refused header_cut) blocks not = refl
 not-newer (refused bad_magic) blocks not = refl

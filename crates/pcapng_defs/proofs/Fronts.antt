@@ -1,4 +1,4 @@
--- What stands at the front of what is left, in every case.
+-- The front of the remaining bytes, in every case.
 use Rattle.std.proofs.Common.{◌≡◌, ◌≢◌, ◌<◌, ◌≤◌, ◌+◌, ◌-◌, ◌*◌, ◌/◌, ◌%◌, ◌^◌, ◌&&◌, not, min, ℕ, Bool, true, eqb, ltb, leb, Option, Some, None, Result, Ok, Err, List, [], length, take, drop, slice_get, refl, arith, length-drop, length-take}
 use Rattle.std.specs.List.{AllByRecursion}
 use Rattle.std.proofs.lemmas.List.{nil_from_length}
@@ -20,18 +20,18 @@ pub record IsNextFault (c : Carried) (fault : BlockFault) : Type 0 where
   pub most_code : code fault ≤ 19
   pub next : place fault ≡ c.blocks + 1
 
--- a block more came, and moments stay bounded
+-- one more block was read, and timestamps stay bounded
 pub record IsNext (c : Carried) (packet : Option CapturedPacket) (after : Carried) : Type 0 where
   pub counted : after.blocks ≡ c.blocks + 1
   pub early : c.moment ≤ max_rank → after.moment ≤ max_rank
   pub bounded : c.moment ≤ max_rank → AllByRecursion IsBounded (packets_in packet)
 
--- what holds of what a whole block gives
+-- the condition for each result of a whole block
 abbrev pub GivesSays : Carried → Result (Option CapturedPacket × Carried) BlockFault → Type 0
 GivesSays c (Err fault) = IsNextFault c fault
 GivesSays c (Ok given) = IsNext c given.0 given.1
 
--- and of what stands at the front
+-- the condition for each front
 abbrev pub Says : Carried → List ℕ → BlockFront → Type 0
 Says c rest nothing = rest ≡ []
 Says c rest (broken fault) = IsNextFault c fault
@@ -84,7 +84,7 @@ least_total-some enhanced = omega arith
 least_total-some simple = omega arith
 least_total-some other = omega arith
 
--- a total length that a block can have is that of twelve bytes at least
+-- a total length that a block can have is at least twelve bytes
 pub fits_kind-some : (kind : BlockKind) (total : ℕ) → fits_kind kind total ≡ true → block_len ≤ total
 fits_kind-some kind total h =
     let front = (and_parts (eqb (total % 4) 0 && leb (least_total kind) total) (leb total most_total) h).0 in

@@ -1,4 +1,4 @@
--- What stands at the front stays there whatever follows, but for the end of a file and a cut block.
+-- The front stays the same whatever bytes follow, except for the end of a file and a cut block.
 use Rattle.std.proofs.Common.{◌≡◌, ◌≢◌, ◌≤◌, ◌+◌, ◌-◌, ◌==◌, ◌&&◌, not, if◌then◌else◌, ℕ, Bool, true, false, eqb, ltb, Option, Some, None, Result, Ok, Err, List, ◌++◌, length, take, drop, refl, ap, ◌∙◌, subst, arith, length-append, ⊎_elim}
 use Rattle.std.specs.Bool.{⊤}
 use Rattle.std.proofs.lemmas.List.{take-append-le, drop-append-le}
@@ -12,13 +12,13 @@ use Rattle.pcapng_defs.specs.NgCapture.{BlockFront, nothing, broken, found, fron
 use Rattle.pcapng_defs.specs.Laws.{BlocksStand, FaultsStand}
 use Rattle.pcapng_defs.proofs.Fronts.{fits_kind-some}
 
--- this front is that of the bytes with more behind them
+-- this is also the front of the bytes with more bytes after them
 abbrev pub Stands : Carried → List ℕ → List ℕ → BlockFront → Type 0
 Stands c rest more nothing = ⊤
 Stands c rest more (broken fault) = fault ≢ block_cut (c.blocks + 1) → front_of c (rest ++ more) ≡ broken fault
 Stands c rest more (found packet after others) = front_of c (rest ++ more) ≡ found packet after (others ++ more)
 
--- the byte order that the first twelve bytes tell
+-- the byte order in the first twelve bytes
 order_in-longer : (rest more : List ℕ) → block_len ≤ length rest → order_in (rest ++ more) ≡ order_in rest
 order_in-longer rest more long =
     ap (λ m. if m == order_number then Some false else if long_at true 8 (rest ++ more) == order_number then Some true else None)
@@ -66,7 +66,7 @@ front_in-stands c rest more (Some big) long longer =
     ∙ ap (λ m. front_at c big (rest ++ more) (kind_of m) (long_at big 4 (rest ++ more))) (number_at-append big 4 0 rest more (omega (arith, long)))
     ∙ ap (λ m. front_at c big (rest ++ more) (kind_of (long_at big 0 rest)) m) (number_at-append big 4 4 rest more (omega (arith, long))))
 
--- where something was left, it is
+-- if something was left, something is left with more bytes after it
 still_some : (c : Carried) (rest more : List ℕ) → (eqb (length rest) 0 && not (eqb c.blocks 0)) ≡ false → (eqb (length (rest ++ more)) 0 && not (eqb c.blocks 0)) ≡ false
 still_some c rest more h = ⊎_elim
     (λ e. and_left (eqb (length (rest ++ more)) 0) (not (eqb c.blocks 0)) (ne_eqb (length (rest ++ more)) 0 (λ none. omega (arith, eqb-false _ _ e, length-append rest more, none))))

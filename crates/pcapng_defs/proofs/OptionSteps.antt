@@ -1,4 +1,4 @@
--- The unit that options give, option by option.
+-- The unit that options give, read option by option.
 use Rattle.std.proofs.Common.{◌≡◌, ◌<◌, ◌≤◌, ◌+◌, ◌&&◌, ℕ, zero, suc, Bool, eqb, ltb, List, length, refl, sym, ap, ◌∙◌, arith, length-drop}
 use Rattle.std.specs.Bool.{⊤}
 use Rattle.std.proofs.lemmas.Bool.{ltb-false, lt-ltb, cond_both, cond-true}
@@ -6,7 +6,7 @@ use Rattle.pcap_defs.specs.Number.{short_at}
 use Rattle.pcapng_defs.specs.Laws.{UnitsGoOptionByOption}
 use Rattle.pcapng_defs.specs.Interface.{usual_unit, OptionFront, ends, gives, passes, option_front, at_option, unit_from, unit_of, filled, option_len, unit_code, unit_len}
 
--- fewer bytes are left behind an option
+-- fewer bytes are left after an option
 abbrev Shrinks : List ℕ → OptionFront → Type 0
 Shrinks bytes (passes others) = length others < length bytes
 Shrinks bytes _ = ⊤
@@ -27,7 +27,7 @@ at_option-same n m big bytes ends less l k next = refl
 at_option-same n m big bytes (gives unit) less l k next = refl
 at_option-same n m big bytes (passes others) less l k next = next others (omega arith) (omega arith)
 
--- so many steps as there are bytes are enough behind an option
+-- after an option, as many steps as there are bytes are enough
 at_option-whole : (big : Bool) (bytes : List ℕ) (front : OptionFront) → Shrinks bytes front
     → ((others : List ℕ) → length others ≤ length bytes → unit_from (length bytes) big others ≡ unit_of big others)
     → at_option (λ others. unit_from (length bytes) big others) front ≡ at_option (unit_of big) front
@@ -35,7 +35,7 @@ at_option-whole big bytes ends less next = refl
 at_option-whole big bytes (gives unit) less next = refl
 at_option-whole big bytes (passes others) less next = next others (omega arith)
 
--- no bytes are no options
+-- without bytes there are no options
 unit_from-nothing : (more : ℕ) (big : Bool) (bytes : List ℕ) → length bytes ≤ 0 → unit_from more big bytes ≡ usual_unit
 unfolding unit_from option_front
 unit_from-nothing zero big bytes none = refl

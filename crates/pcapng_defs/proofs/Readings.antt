@@ -1,4 +1,4 @@
--- What is read of a file goes block by block, and behind whole blocks.
+-- A file is read block by block, and goes on after whole blocks.
 use Rattle.std.proofs.Common.{◌≡◌, ◌<◌, ◌≤◌, ◌+◌, ℕ, zero, suc, Option, Some, None, List, [], ◌∷◌, ◌++◌, length, refl, sym, ap, ◌∙◌, subst, arith, append_assoc, MatchOption}
 use Rattle.std.specs.Prelude.{unwrap_or}
 use Rattle.std.specs.Bool.{⊤}
@@ -29,7 +29,7 @@ at_front-same n m c rest (broken fault) h l k next = refl
 at_front-same n m c rest (found packet after others) h l k next =
     ap (behind (packets_in packet)) (next after others (omega (arith, h.1, l)) (omega (arith, h.1, k)))
 
--- more steps than bytes read the same
+-- all step counts above the number of bytes read the same
 read_from-same : (n m : ℕ) (c : Carried) (rest : List ℕ) → length rest < n → length rest < m → read_from n c rest ≡ read_from m c rest
 unfolding read_from
 read_from-same zero m c rest l k = absurd (omega arith)
@@ -51,7 +51,7 @@ goes_block_by_block c rest =
     at_front-whole c rest (front_of c rest) (front_of-says c rest)
     (λ after others less. read_from-same (length rest) (suc (length others)) after others less (omega arith))
 
--- the fault of some blocks is the next one behind those that came
+-- the fault after some blocks is that of the next block
 abbrev EndsNext : Reading → Type 0
 EndsNext r = (fault : BlockFault) → r.fault ≡ Some fault → IsNumbered fault r.carried.blocks
 
@@ -95,7 +95,8 @@ read_from-bounded (suc n) c rest early =
 pub packets_are_bounded : PacketsAreBounded
 packets_are_bounded file = read_from-bounded (suc (length file)) at_start file (omega arith)
 
--- behind so many blocks, each of those read has one packet at most, and no more come than may
+-- after the first `blocks` blocks, each further block has at most one packet, and the limit of
+-- blocks holds
 abbrev AreFew : ℕ → Reading → Type 0
 AreFew blocks r = (blocks + length r.packets ≤ r.carried.blocks) × (r.carried.blocks ≤ most_blocks)
 
@@ -124,7 +125,7 @@ packets_are_few file =
     let few = read_from-few (suc (length file)) at_start file (omega arith) in
     (omega (arith, few.0), few.1)
 
--- what is read of these bytes, with others behind them
+-- the reading of these bytes with others after them
 abbrev Follows : Carried → List ℕ → List ℕ → Reading → Type 0
 Follows c first others r = r.fault ≡ None → reading_of c (first ++ others) ≡ behind r.packets (reading_of r.carried others)
 

@@ -1,4 +1,4 @@
--- A block is found exactly where what is left begins with one.
+-- A block is found exactly if the remaining bytes begin with one.
 use Rattle.std.proofs.Common.{◌≡◌, ◌≢◌, ◌≤◌, ◌+◌, ◌-◌, ◌%◌, ◌&&◌, not, ℕ, Bool, true, eqb, ltb, leb, Option, Some, None, Result, Ok, Err, List, [], ◌++◌, length, take, drop, refl, sym, ap, ◌∙◌, subst, arith}
 use Rattle.std.specs.Bool.{⊤}
 use Rattle.std.proofs.lemmas.List.{take-append-drop, length-take-le, take_all, drop_all}
@@ -45,7 +45,7 @@ whole_front c big block kind few order w =
 front_of-whole : (c : Carried) (packet : Option CapturedPacket) (after : Carried) (block : List ℕ) → IsBlock c packet after block → front_of c block ≡ found packet after []
 front_of-whole c packet after block b = whole_front c b.big block b.kind b.few b.order b.whole ∙ ap (front_with []) b.gives
 
--- what a found block was
+-- the block that was found
 abbrev Splits : Carried → List ℕ → BlockFront → Type 0
 Splits c rest (found packet after others) = (block : List ℕ) × (rest ≡ block ++ others) × IsBlock c packet after block
 Splits c rest _ = ⊤
@@ -57,7 +57,7 @@ front_with-splits c big rest block others kind (Err fault) few split order whole
 front_with-splits c big rest block others kind (Ok given) few split order whole gives =
     (block, split, record { big = big; kind = kind; few = few; order = order; whole = whole; gives = gives })
 
--- the block at the front, of so many bytes, has the numbers that were read
+-- the block of `total` bytes at the front has the numbers that were read
 pub taken-whole : (big : Bool) (rest : List ℕ) (total : ℕ) → fits_kind (kind_of (long_at big 0 rest)) total ≡ true → total ≤ length rest
     → long_at big 4 rest ≡ total → long_at big (total - 4) rest ≡ total → IsWholeBlock big (kind_of (long_at big 0 rest)) (take total rest)
 taken-whole big rest total fits room before behind =

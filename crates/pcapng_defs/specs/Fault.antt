@@ -1,7 +1,7 @@
--- What can be wrong with a pcapng capture.
+-- The faults of a pcapng capture.
 use Rattle.std.specs.Prelude.{ℕ}
 
--- a fault of a block, with the block's number from 1
+-- a fault of a block, with the block's number counted from 1
 pub data BlockFault : Type 0 where
   block_cut : ℕ → BlockFault
   block_length : ℕ → BlockFault
@@ -13,7 +13,7 @@ pub data BlockFault : Type 0 where
   too_many_blocks : ℕ → BlockFault
   block_end : ℕ → BlockFault
 
--- the fault's number in a report
+-- the fault's code in a report
 abbrev pub code : BlockFault → ℕ
 code (block_cut n) = 11
 code (block_length n) = 12
@@ -25,7 +25,7 @@ code (interfaces n) = 17
 code (too_many_blocks n) = 18
 code (block_end n) = 19
 
--- the block at fault
+-- the number of the block at fault
 abbrev pub place : BlockFault → ℕ
 place (block_cut n) = n
 place (block_length n) = n

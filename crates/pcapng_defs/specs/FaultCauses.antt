@@ -1,4 +1,4 @@
--- Where each fault of a pcapng capture is, in the order in which they are tried.
+-- The cause of each fault of a pcapng capture, in the order in which they are tested.
 use Rattle.std.specs.Prelude.{◌≡◌, ◌≢◌, ◌↔◌, ◌⊎◌, ◌<◌, ◌≤◌, ◌+◌, ◌-◌, ℕ, Bool, true, Some, None, List, [], ◌++◌, length, slice_get}
 use Rattle.pcap_defs.specs.Number.{long_at, short_at}
 use Rattle.pcap_defs.specs.Record.{most_captured}
@@ -8,7 +8,8 @@ use Rattle.pcapng_defs.specs.Block.{Carried, BlockKind, section, interface, enha
 use Rattle.pcapng_defs.specs.NgCapture.{order_at, fits_kind, block_len, most_blocks, nothing, broken, front_of}
 use Rattle.pcapng_defs.specs.WholeBlock.{IsWholeBlock}
 
--- so many captured bytes from this place on are more than a packet may have, or don't fit in the block
+-- this many captured bytes at this position are more than a packet may have, or don't fit in the
+-- block
 abbrev pub IsTooLong : ℕ → ℕ → List ℕ → Type 0
 IsTooLong count at block = (most_captured < count) ⊎ (length block < at + count + 4)
 
@@ -25,23 +26,24 @@ IsBodyFault c big block kind (packet_length n) =
     ⊎ ((kind ≡ simple) × (slice_get c.described 0 ≡ Some i) × IsTooLong (simple_len i (long_at big 8 block)) 12 block))
 IsBodyFault c big block kind _ = ⊥
 
--- Another block may come, and its first twelve bytes are left, in this byte order.
+-- Another block is allowed, and at least its first twelve bytes are left, in this byte order.
 pub record IsBegun (c : Carried) (big : Bool) (rest : List ℕ) : Type 0 where
   pub few : c.blocks ≢ most_blocks
   pub enough : block_len ≤ length rest
   pub order : order_at c rest ≡ Some big
 
--- its total length is one that a block of its kind can have
+-- the total length is one that a block of its kind can have
 abbrev pub HasLength : Bool → List ℕ → Type 0
 HasLength big rest = fits_kind (kind_of (long_at big 0 rest)) (long_at big 4 rest) ≡ true
 
--- fewer than twelve bytes are left where another block may come, and none only where block 1 begins
+-- fewer than twelve bytes are left and another block is allowed; no bytes at all only if it is
+-- block 1
 pub record IsCutFront (c : Carried) (rest : List ℕ) : Type 0 where
   pub few : c.blocks ≢ most_blocks
   pub cut : length rest < block_len
   pub some : (0 < length rest) ⊎ (c.blocks ≡ 0)
 
--- A whole block stands at the front, and its body has this fault.
+-- A whole block is at the front, and its body has this fault.
 pub record HasBadBody (c : Carried) (rest : List ℕ) (fault : BlockFault) : Type 0 where
   pub big : Bool
   pub kind : BlockKind
@@ -53,7 +55,7 @@ pub record HasBadBody (c : Carried) (rest : List ℕ) (fault : BlockFault) : Typ
   pub whole : IsWholeBlock big kind block
   pub body : IsBodyFault c big block kind fault
 
--- What is left has this fault.
+-- The remaining bytes have this fault.
 abbrev pub IsBlockFault : Carried → List ℕ → BlockFault → Type 0
 IsBlockFault c rest (too_many_blocks n) = (n ≡ c.blocks + 1) × (c.blocks ≡ most_blocks) × (0 < length rest)
 IsBlockFault c rest (order_magic n) = (n ≡ c.blocks + 1) × (c.blocks ≢ most_blocks) × (block_len ≤ length rest) × (order_at c rest ≡ None)
@@ -66,7 +68,8 @@ IsBlockFault c rest (block_end n) =
     × (long_at big (long_at big 4 rest - 4) rest ≢ long_at big 4 rest)
 IsBlockFault c rest fault = HasBadBody c rest fault
 
--- what is read ends with a fault exactly where what is left has it, and without one exactly where nothing is left behind a block
+-- the front is a fault exactly if the remaining bytes have it, and the end exactly if nothing is
+-- left after a block
 pub record ReadsFaults : Type 0 where
   pub faults : (c : Carried) (rest : List ℕ) (fault : BlockFault) → IsBlockFault c rest fault ↔ (front_of c rest ≡ broken fault)
   pub ends : (c : Carried) (rest : List ℕ) → ((rest ≡ []) × (c.blocks ≢ 0)) ↔ (front_of c rest ≡ nothing)

@@ -5,36 +5,38 @@ use Rattle.pcapng_defs.specs.declared.interface.Interface.{Interface}
 use Rattle.pcapng_defs.specs.declared.interface.Unit.{Unit}
 use Rattle.pcapng_defs.specs.declared.interface.Unit.TheVariants.{Decimal, Binary}
 
--- the unit of an interface that names none: microseconds
+-- the unit of an interface without an option for it: microseconds
 abbrev pub usual_unit : Unit
 usual_unit = Decimal 6
 
--- the unit of an option's value of one byte: the low seven bits say how fine, the high bit says of which number it is a power
+-- the unit for an option value of one byte: 10^-v seconds, or 2^-v seconds if the high bit is set;
+-- v is the low seven bits
 abbrev pub unit_by : ℕ → Unit
 unit_by value = if nat_lt value 128 then Decimal value else Binary (value % 128)
 
--- so many bytes, filled up to four
+-- this many bytes, padded to a multiple of four
 abbrev pub filled : ℕ → ℕ
 filled n = (n + 3) / 4 * 4
 
--- the bytes of an option before its value
+-- the length of an option before its value, in bytes
 abbrev pub option_len : ℕ
 option_len = 4
 
--- the code of the option that names the unit, and how long its value is
+-- the code of the option that gives the unit, and the length of its value in bytes
 abbrev pub unit_code : ℕ
 unit_code = 9
 
 abbrev pub unit_len : ℕ
 unit_len = 1
 
--- what stands at the front of options: their end, the unit, or another option and what is left behind it
+-- the front of options: their end, the unit, or another option and the bytes after it
 pub data OptionFront : Type 0 where
   ends : OptionFront
   gives : Unit → OptionFront
   passes : List ℕ → OptionFront
 
--- the front of these options of so much length: they end at code 0, at the last byte, or where one doesn't fit
+-- the front of these options; they end at code 0, at the last byte, or at the first option that
+-- doesn't fit
 unfoldable pub option_front : Bool → List ℕ → OptionFront
 option_front big bytes =
     if nat_lt (length bytes) option_len then ends
@@ -43,18 +45,18 @@ option_front big bytes =
     else if short_at big 0 bytes == unit_code && short_at big 2 bytes == unit_len then gives (unit_by (number_at big 1 option_len bytes))
     else passes (drop (option_len + filled (short_at big 2 bytes)) bytes)
 
--- the unit at the front, or the one that the options behind it give
+-- the unit at the front, or the one that the options after it give
 abbrev pub at_option : (List ℕ → Unit) → OptionFront → Unit
 at_option behind ends = usual_unit
 at_option behind (gives unit) = unit
 at_option behind (passes others) = behind others
 
--- the unit that the first so many options give
+-- the unit that the first `more` options give
 unfoldable pub unit_from : ℕ → Bool → List ℕ → Unit
 unit_from zero big bytes = usual_unit
 unit_from (suc more) big bytes = at_option (λ others. unit_from more big others) (option_front big bytes)
 
--- the unit that options give; there are no more of them than bytes
+-- the unit that options give; there are no more options than bytes
 abbrev pub unit_of : Bool → List ℕ → Unit
 unit_of big bytes = unit_from (length bytes) big bytes
 

@@ -1,4 +1,5 @@
--- What a file holds as a pcapng capture, and as a capture of either format, in the words that are those of every capture.
+-- The contents of a file as a pcapng capture, and as a capture of either format, in the terms
+-- shared by all formats.
 use Rattle.std.specs.Prelude.{◌≡◌, refl, ℕ, Some, option_map, List, []}
 use Rattle.pcap_defs.specs.Fault.{pcap_ng, bad_magic}
 use Rattle.pcap_defs.specs.Reading.{Capture, refused, capture_of}
@@ -10,25 +11,25 @@ use Rattle.pcapng_defs.specs.NgCapture.{BlockFront, nothing, broken, front_of, R
 abbrev pub block_fault_at : BlockFault → FaultAt
 block_fault_at fault = record { code = code fault; place = place fault }
 
--- the contents that are read
+-- the contents of a reading
 abbrev pub contents_read : Reading → Contents
 contents_read r = record { packets = r.packets; fault = option_map block_fault_at r.fault }
 
--- what is in a file at whose front this stands, and of which this is read
+-- the contents of a file with this front and this reading
 abbrev pub behind_front : BlockFront → Reading → FileContents
 behind_front (broken fault) r = no_capture (block_fault_at fault)
 behind_front _ r = holds (contents_read r)
 
--- what is in a file: it is no capture where its first block is at fault
+-- the contents of a pcapng file; it is no capture if its first block is at fault
 abbrev pub in_ng_capture : List ℕ → FileContents
 in_ng_capture file = behind_front (front_of at_start file) (ng_capture_of file)
 
--- what is in a file that is this classic capture, or else, where that is refused since pcapng begins so, these blocks
+-- the contents of this classic capture, or these blocks if it is rejected as pcapng
 abbrev pub in_either : Capture → FileContents → FileContents
 in_either (refused pcap_ng) blocks = blocks
 in_either capture blocks = in_capture capture
 
--- what is in a file of either format
+-- the contents of a file of either format
 abbrev pub in_file : List ℕ → FileContents
 in_file file = in_either (capture_of file) (in_ng_capture file)
 

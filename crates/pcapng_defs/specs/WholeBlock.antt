@@ -5,7 +5,7 @@ use Rattle.pcap_defs.specs.Packet.{CapturedPacket}
 use Rattle.pcapng_defs.specs.Block.{Carried, BlockKind, kind_of, least_total, most_total, block_gives}
 use Rattle.pcapng_defs.specs.NgCapture.{order_at, most_blocks, found, front_of}
 
--- These bytes are a block of this kind: they tell how many they are at their front and at their end.
+-- These bytes are a block of this kind. Their number is at their front and at their end.
 pub record IsWholeBlock (big : Bool) (kind : BlockKind) (bytes : List ℕ) : Type 0 where
   pub kind_is : kind_of (long_at big 0 bytes) ≡ kind
   pub before : long_at big 4 bytes ≡ length bytes
@@ -14,7 +14,7 @@ pub record IsWholeBlock (big : Bool) (kind : BlockKind) (bytes : List ℕ) : Typ
   pub enough : least_total kind ≤ length bytes
   pub short : length bytes ≤ most_total
 
--- These bytes are the next block: it gives the packet, if it is one, and leaves this to be carried on.
+-- These bytes are the next block, with its packet, if it is one, and the next state.
 pub record IsBlock (c : Carried) (packet : Option CapturedPacket) (after : Carried) (bytes : List ℕ) : Type 0 where
   pub big : Bool
   pub kind : BlockKind
@@ -23,7 +23,7 @@ pub record IsBlock (c : Carried) (packet : Option CapturedPacket) (after : Carri
   pub whole : IsWholeBlock big kind bytes
   pub gives : block_gives c big bytes kind ≡ Ok (packet, after)
 
--- a block is found exactly where what is left begins with one
+-- a block is found exactly if the remaining bytes begin with one
 abbrev pub ReadsBlocks : Type 0
 ReadsBlocks =
     (c after : Carried) (packet : Option CapturedPacket) (rest others : List ℕ) →

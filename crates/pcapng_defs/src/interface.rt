@@ -1,4 +1,4 @@
-//! What an interface block says.
+//! The values of an interface block.
 /// The unit in which an interface counts time (draft-ietf-opsawg-pcapng, 4.2, if_tsresol).
 #[derive(Clone, Copy, PartialEq, Eq, Debug)]
 pub enum Unit {
@@ -8,13 +8,13 @@ pub enum Unit {
     Binary(u8),
 }
 
-/// What an interface block says (draft-ietf-opsawg-pcapng, 4.2).
+/// The values of an interface block (draft-ietf-opsawg-pcapng, 4.2).
 #[derive(Clone, Copy, PartialEq, Eq, Debug)]
 pub struct Interface {
     /// The link type of its packets.
     pub link: u16,
-    /// The most bytes that are captured of a packet, and 0 for all of them.
+    /// The most captured bytes of a packet, or 0 for no limit.
     pub snapshot: u32,
-    /// What its times count.
+    /// The unit of its timestamps.
     pub unit: Unit,
 }

@@ -1,4 +1,4 @@
-//! What a pcapng capture of packets is (draft-ietf-opsawg-pcapng). Begin with specs/NgCapture.antt.
+//! Defines a pcapng capture of packets (draft-ietf-opsawg-pcapng). Begin with specs/NgCapture.antt.
 #![tactic(auto)]
 
 mod interface;

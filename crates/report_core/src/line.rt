@@ -143,8 +143,8 @@ impl Line {
         requires leaf { length leaf.now ≤ most_name }
         requires few { length ranks.now ≤ 65 }
         requires room { at + line_room ≤ length line.old }
-        ensures text { take result line.new ≡ take at line.old ++ departure_line event packet leaf.now
-            ranks.now start }
+        ensures text { take result line.new ≡
+            take at line.old ++ departure_line event packet leaf.now ranks.now start }
         ensures within { result ≤ length line.new }
         ensures length { length line.new ≡ length line.old }
     {
@@ -223,7 +223,8 @@ impl Line {
         place: u64,
     ) -> usize
         requires room { at + line_room ≤ length line.old }
-        ensures text { take result line.new ≡ take at line.old ++ fault_line (word_of kind) code place }
+        ensures text { take result line.new ≡
+            take at line.old ++ fault_line (word_of kind) code place }
         ensures within { result ≤ length line.new }
         ensures length { length line.new ≡ length line.old }
     {

@@ -1,4 +1,4 @@
--- Why a table gives no target, and what a text's fault is.
+-- Why a table gives no target, and the error of a text.
 use Rattle.std.proofs.Common.{◌≡◌, ◌≢◌, ℕ, ◌≤◌, ◌<◌, List, length, Some, codes, sym, ◌∙◌, subst, arith}
 use Rattle.toml.specs.Data.{array, Items, Members, get_member}
 use Rattle.toml.specs.View.{items_view}

@@ -1,4 +1,4 @@
--- Items of an array that are numbers from 2 to 64, read one after the other.
+-- Items of an array that are numbers from 2 to 64, read in order.
 use Rattle.std.proofs.Common.{◌≡◌, ℕ, zero, suc, ◌+◌, ◌<◌, ◌≤◌, pos, List, [], ◌∷◌, ◌++◌, length, take, get_or, sym, ap, ◌∙◌, arith}
 use Rattle.std.proofs.lemmas.List.{take_more}
 use Rattle.toml.proofs.Views.{items_view-push}
@@ -18,7 +18,7 @@ next_arity vs i v ns n inside at a is l m =
     let whole : items_view (take (i + 1) vs) ≡ push_item (items_view (take i vs)) (view (get_or vs i v)) = ap items_view (take_more vs i v inside) ∙ items_view-push (take i vs) (get_or vs i v) in
     rw whole (one_more (items_view (take i vs)) ns (view (get_or vs i v)) n a (ap view (sym at) ∙ is) l m)
 
--- an item that is no such number spoils them all
+-- one item that isn't such a number is enough: the items aren't arities
 pub none_with : (vs : List Value) (i : ℕ) (v : Value) (ns : List ℕ) → i < length vs → ((n : ℕ) → view (get_or vs i v) ≡ integer (pos n) → 2 ≤ n → n ≤ 64 → ⊥) → AreArities (items_view vs) ns → ⊥
 none_with [] i v ns l none a = absurd (omega arith)
 none_with (w ∷ vs) i v [] l none a = a

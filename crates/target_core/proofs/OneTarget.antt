@@ -1,4 +1,4 @@
--- A text is one table, and a table gives one target.
+-- A text parses as one table, and a table gives one target.
 use Rattle.std.proofs.Common.{◌≡◌, ℕ, pos, List, [], ◌∷◌, Some, codes, refl, sym, ap, subst, ◌∙◌, arith}
 use Rattle.toml.specs.Data.{integer, array, Items, no_items, item, Members, get_member}
 use Rattle.target_defs.specs.Target.{leaves}
@@ -39,12 +39,12 @@ same_target t ns ms a b (each_arity ds ns' k p q f) (each_arity es ms' l r s g) 
     let same : ns' ≡ ms' = same_items t ds es ns' ms' p r q s in
     (same, ap first_arity same)
 
--- the same of two tables that the bytes are
+-- the same for two tables that the bytes parse as
 same_answer : (bytes : List ℕ) (t u : Members) (ns ms : List ℕ) (a b : ℕ) → IsToml bytes t → IsToml bytes u → GivesArities t ns a → GivesArities u ms b → (ns ≡ ms) × (a ≡ b)
 same_answer bytes t u ns ms a b i j g h =
     same_target t ns ms a b g (subst (λ (x : Members). GivesArities x ms b) (same_table bytes u t j i) h)
 
--- a table that gives a target isn't off the keys
+-- a table that gives a target has no error of keys
 not_off : (bytes : List ℕ) (t : Members) (ns : List ℕ) (a : ℕ) → IsToml bytes t → GivesArities t ns a → IsOffKeys bytes → ⊥
 not_off bytes t ns a i g off =
     off.none ns a (subst (λ (x : Members). GivesArities x ns a) (same_table bytes t off.table i off.toml) g)

@@ -1,4 +1,4 @@
--- What stands at a key of a table, and how many keys there are.
+-- The value at a key of a table, and the number of keys.
 use Rattle.std.proofs.Common.{◌≡◌, ℕ, ◌≤◌, pos, List, [], ◌∷◌, length, Option, Some, None, IfSome, refl, sym, ap, ◌∙◌, arith}
 use Rattle.toml.specs.Data.{Data, string, integer, float, boolean, datetime, array, table, Items, Members, get_member, as_array}
 use Rattle.toml.specs.View.{members_view}
@@ -33,7 +33,7 @@ no_array_value d t key ds at none stands =
     let no : None ≡ Some ds = none ∙ ap as_array same in
     cc
 
--- the data of which the items are those of an array is that array
+-- data whose items are those of an array is that array
 array_data : (d : Data) (ds : Items) → Some ds ≡ as_array d → d ≡ array ds
 array_data (string s) ds e = cc
 array_data (integer z) ds e = cc

@@ -1,4 +1,4 @@
--- Each text gives a target or has a fault.
+-- Each text gives a target or has an error.
 use Rattle.std.proofs.Common.{◌≡◌, ◌≢◌, ◌⊎◌, inl, inr, ℕ, ◌≤◌, pos, negsuc, Bool, true, false, List, [], ◌∷◌, length, replicate, Option, Some, None, codes, refl, sym, ◌∙◌, subst, arith}
 use Rattle.std.proofs.lemmas.Bool.{cases_lt, cases_order}
 use Rattle.std.proofs.lemmas.Str.{IsUtf8-from_is_utf8, is_utf8-from_IsUtf8}
@@ -118,7 +118,7 @@ same_arities (item d ds) [] ms a b = absurd a
 same_arities (item d ds) (n ∷ ns) [] a b = absurd b
 same_arities (item d ds) (n ∷ ns) (m ∷ ms) a b = omega (arith, same_arities ds ns ms a.3 b.3)
 
--- other arities of the table's array are as many
+-- two lists of arities of the table's array have the same length
 as_many : (t : Members) (ds es : Items) (ns ms : List ℕ) → get_member (codes "arities") t ≡ Some (array ds) → get_member (codes "arities") t ≡ Some (array es) → AreArities ds ns → AreArities es ms → length ns ≡ length ms
 as_many t ds es ns ms p q a b =
     let same : es ≡ ds = same_items (get_member (codes "arities") t) es ds q p in

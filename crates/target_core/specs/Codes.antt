@@ -1,4 +1,4 @@
--- The numbers by which the report tells why a target is refused.
+-- The numbers that the report shows for a rejected target.
 use Rattle.std.specs.Prelude.{ℕ}
 use Rattle.target_core.specs.declared.fault.TargetFault.{TargetFault}
 use Rattle.target_core.specs.declared.fault.TargetFault.TheVariants.{NotToml, Key, Large, TooLong, NoMemory}

@@ -1,4 +1,4 @@
--- Texts that are worked out.
+-- Worked examples of texts.
 use Rattle.std.proofs.Common.{lit<, lit≤}
 use Rattle.std.specs.Prelude.{◌≡◌, refl, ℕ, pos, List, [], ◌∷◌, map, codes}
 use Rattle.toml.specs.Data.{integer, array, no_items, item, no_members, member}
@@ -10,7 +10,7 @@ use Rattle.target_core.specs.TargetText.{IsTargetText, IsRefused, one_arity, eac
 pub code_of-each : map code_of (NotToml ∷ Key ∷ Large ∷ TooLong ∷ NoMemory ∷ []) ≡ 1 ∷ 2 ∷ 3 ∷ 4 ∷ 0 ∷ []
 code_of-each = refl
 
--- one arity for all levels, which those above the root have too
+-- one arity for all levels, including those above the root
 abbrev pub ternary : List ℕ
 ternary = codes "height = 2\narity = 3\n"
 
@@ -38,7 +38,7 @@ IsTargetText-no_height = record {
   few = lit≤ tt;
 }
 
--- an arity for each level, from the root down: the levels above the root have the first
+-- an arity for each level, from the root down; the levels above the root have the first
 abbrev pub falling : List ℕ
 falling = codes "arities = [4, 3, 2]\n"
 
@@ -53,7 +53,7 @@ IsTargetText-falling = record {
   few = lit≤ tt;
 }
 
--- no level at all
+-- no levels
 abbrev pub no_arities : List ℕ
 no_arities = codes "arities = []\n"
 
@@ -67,7 +67,7 @@ IsTargetText-no_arities = record {
   few = lit≤ tt;
 }
 
--- 65,537 leaves would be too many, and 65,536 are not; this has 262,144
+-- The limit is 65,536 leaves; this target has 262,144.
 abbrev pub too_many : List ℕ
 too_many = codes "arity = 64\nheight = 3\n"
 

@@ -1,4 +1,5 @@
--- A target's text: a TOML document with the keys `arity` and `height`, or with the key `arities` alone.
+-- A target's text: a TOML document with the keys `arity` and `height`, or with the key `arities`
+-- alone.
 use Rattle.std.specs.Prelude.{◌≡◌, ℕ, suc, ◌≤◌, ◌<◌, pos, List, [], ◌∷◌, length, replicate, Some, codes, IsUtf8}
 use Rattle.toml.specs.Data.{integer, array, Items, no_items, item, Members, no_members, member, get_member}
 use Rattle.toml.specs.Parse.{parse_document}
@@ -6,11 +7,11 @@ use Rattle.target_defs.specs.Target.{leaves, least_arity, most_arity, most_heigh
 use Rattle.target_core.specs.declared.fault.TargetFault.TheVariants.{NotToml, Key, Large, TooLong}
 use Rattle.target_core.specs.Codes.{code_of}
 
--- the most bytes of a target's text
+-- the greatest length of a target's text, in bytes
 abbrev pub most_bytes : ℕ
 most_bytes = 65536
 
--- the table that TOML reads the bytes as
+-- the bytes parse as TOML and give this table
 pub record IsToml (bytes : List ℕ) (table : Members) : Type 0 where
   pub text : IsUtf8 bytes
   pub reads : parse_document bytes ≡ Some table
@@ -32,17 +33,17 @@ AreArities no_items (n ∷ ns) = ⊥
 AreArities (item d ds) [] = ⊥
 AreArities (item d ds) (n ∷ ns) = (d ≡ integer (pos n)) × (least_arity ≤ n) × (n ≤ most_arity) × AreArities ds ns
 
--- the first arity, and 2 where there is none
+-- the first arity, or 2 if there is none
 abbrev pub first_arity : List ℕ → ℕ
 first_arity [] = least_arity
 first_arity (n ∷ ns) = n
 
--- the arities from the root down that the table gives, and that of all levels above the root
+-- the arities that the table gives, from the root down, and the arity of all levels above the root
 pub data GivesArities (table : Members) : List ℕ → ℕ → Type 0 where
   one_arity : (arity height : ℕ) → keys table ≡ 2 → HasNumber table (codes "arity") least_arity most_arity arity → HasNumber table (codes "height") 0 most_height height → GivesArities table (replicate height arity) arity
   each_arity : (items : Items) (arities : List ℕ) → keys table ≡ 1 → get_member (codes "arities") table ≡ Some (array items) → AreArities items arities → length arities ≤ most_height → GivesArities table arities (first_arity arities)
 
--- the text is accepted, with these arities from the root down and this one above them
+-- the text is accepted, with these arities from the root down and this arity above the root
 pub record IsTargetText (bytes : List ℕ) (arities : List ℕ) (above : ℕ) : Type 0 where
   pub short : length bytes ≤ most_bytes
   pub table : Members
@@ -50,13 +51,13 @@ pub record IsTargetText (bytes : List ℕ) (arities : List ℕ) (above : ℕ) : 
   pub gives : GivesArities table arities above
   pub few : leaves arities ≤ most_leaves
 
--- the table doesn't have just the keys of a target, or a value at them isn't a whole number in its range
+-- the table's keys aren't exactly those of a target, or a value isn't a whole number in its range
 pub record IsOffKeys (bytes : List ℕ) : Type 0 where
   pub table : Members
   pub toml : IsToml bytes table
   pub none : (arities : List ℕ) (above : ℕ) → GivesArities table arities above → ⊥
 
--- the table is that of a target with too many leaves
+-- the table gives a target with too many leaves
 pub record IsLarge (bytes : List ℕ) : Type 0 where
   pub table : Members
   pub arities : List ℕ
@@ -65,7 +66,8 @@ pub record IsLarge (bytes : List ℕ) : Type 0 where
   pub gives : GivesArities table arities above
   pub many : most_leaves < leaves arities
 
--- the number of the first fault that the text has, in the order: too long, no TOML, other keys or values, too many leaves
+-- The code of the text's first error. Errors are checked in this order: too long, not TOML, other
+-- keys or values, too many leaves.
 pub data IsRefused (bytes : List ℕ) : ℕ → Type 0 where
   too_long : most_bytes < length bytes → IsRefused bytes (code_of TooLong)
   not_toml : length bytes ≤ most_bytes → ((table : Members) → IsToml bytes table → ⊥) → IsRefused bytes (code_of NotToml)

@@ -1,15 +1,16 @@
-//! Why a target's text is refused.
+//! Errors in a target's text.
 ghost use Rattle.std.specs.Prelude.{◌≡◌};
 ghost use Rattle.target_core.specs.Codes.{code_of};
 
 use std::alloc::{AllocError, AllocFailed};
 
-/// Why a target's text is refused; the report shows the number.
+/// Says why a target's text is rejected. The report shows the number.
 #[derive(Debug, Drop)]
 pub enum TargetFault {
     /// 1: the bytes aren't a TOML document.
     NotToml,
-    /// 2: the keys aren't just `arity` and `height`, or `arities` alone, or a value is out of its range.
+    /// 2: the keys aren't exactly `arity` and `height`, or `arities` alone, or a value is out of
+    /// its range.
     Key,
     /// 3: the tree has more than 65,536 leaves.
     Large,
@@ -19,7 +20,7 @@ pub enum TargetFault {
 }
 
 impl TargetFault {
-    /// The number that the report shows; that of want of memory is never shown.
+    /// Returns the number that the report shows. The number for out of memory (0) is never shown.
     pub fn code(&self) -> u32
         ensures { result ≡ code_of self.now }
     {

@@ -14,13 +14,13 @@ use toml::{Table, Value};
 /// The greatest height of a target, in levels.
 const MOST_HEIGHT: usize = 16;
 
-/// The fewest children of a node.
+/// The least number of children of a node.
 const LEAST_ARITY: u32 = 2;
 
-/// The most children of a node.
+/// The greatest number of children of a node.
 const MOST_ARITY: u32 = 64;
 
-/// The first arity, and 2 where there is none.
+/// Returns the first arity, or 2 if there is none.
 fn first_arity(arities: &[u32]) -> u32
     ensures { result ≡ first_arity arities.now }
 {
@@ -30,7 +30,7 @@ fn first_arity(arities: &[u32]) -> u32
     }
 }
 
-/// The numbers of an array that each are from 2 to 64.
+/// Reads the numbers of an array, each from 2 to 64.
 fn arities_of(alloc: Global, items: &[Value]) -> Result<List<u32>, TargetFault>
     ensures ok { IfOk result (AreArities (items_view items.now)) }
     ensures refused { IfErr result (λ fault. fault ≢ TargetFault.NoMemory →
@@ -46,7 +46,8 @@ fn arities_of(alloc: Global, items: &[Value]) -> Result<List<u32>, TargetFault>
     Ok(List::from_vec(arities))
 }
 
-/// The target of a table with the key `arities` alone: an array of at most 16 numbers from 2 to 64.
+/// Reads the target of a table with the key `arities` alone: an array of at most 16 numbers from 2
+/// to 64.
 fn each_arity(alloc: Global, table: &Table) -> Result<Target, TargetFault>
     requires { keys (table_view table.now) ≡ 1 }
     ensures accepted { IfOk result (λ target. GivesArities (table_view table.now) target.arities
@@ -63,7 +64,8 @@ fn each_arity(alloc: Global, table: &Table) -> Result<Target, TargetFault>
     Ok(Target { arities, above })
 }
 
-/// The target of a table with the keys `arity`, from 2 to 64, and `height`, from 0 to 16, and no other.
+/// Reads the target of a table with exactly the keys `arity`, from 2 to 64, and `height`, from 0 to
+/// 16.
 fn one_arity(alloc: Global, table: &Table) -> Result<Target, TargetFault>
     requires { keys (table_view table.now) ≡ 2 }
     ensures accepted { IfOk result (λ target. GivesArities (table_view table.now) target.arities
@@ -80,7 +82,7 @@ fn one_arity(alloc: Global, table: &Table) -> Result<Target, TargetFault>
     })
 }
 
-/// The target that a table gives in one of the two forms.
+/// Reads the target that a table gives in one of the two forms.
 pub fn target_of(alloc: Global, table: &Table) -> Result<Target, TargetFault>
     ensures accepted { IfOk result (λ target. GivesArities (table_view table.now) target.arities
         target.above) }

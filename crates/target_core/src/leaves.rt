@@ -1,12 +1,12 @@
-//! How many leaves a target has.
+//! The number of leaves of a target.
 ghost use Rattle.std.specs.Prelude.{◌≤◌, ◌↔◌, IsTrue};
 ghost use Rattle.std.specs.List.{AllByRecursion};
 ghost use Rattle.target_defs.specs.Target.{IsArity, leaves, most_leaves};
 
-/// The most leaves of a target.
+/// The greatest number of leaves of a target.
 const MOST_LEAVES: u32 = 65_536;
 
-/// Whether the complete tree of these arities has at most 65,536 leaves.
+/// Says whether the complete tree of these arities has at most 65,536 leaves.
 pub fn has_few_leaves(arities: &[u32]) -> bool
     requires { AllByRecursion IsArity arities.now }
     ensures { IsTrue result ↔ (leaves arities.now ≤ most_leaves) }

@@ -1,5 +1,6 @@
-//! What a target's text is, a TOML document with the arity of each level, and reading it: the complete tree of queues that
-//! the hardware has. Begin with specs/TargetText.antt.
+//! The format of a target's text, and its parser. The text is a TOML document with the arity of
+//! each level; it describes the complete tree of queues that the hardware has. Begin with
+//! specs/TargetText.antt.
 #![tactic(auto)]
 
 mod fault;

@@ -1,4 +1,4 @@
-//! Reading a target's text.
+//! Parses a target's text.
 ghost use Rattle.std.specs.Prelude.{IfOk, IfErr, ◌≢◌};
 ghost use Rattle.toml.specs.View.{table_view};
 ghost use Rattle.target_defs.specs.Target.{IsInRange};
@@ -13,10 +13,10 @@ use crate::target::Target;
 use std::alloc::Global;
 use toml::Table;
 
-/// The most bytes of a target's text.
+/// The greatest length of a target's text, in bytes.
 pub const MOST_BYTES: usize = 65_536;
 
-/// The table that a TOML document is.
+/// Parses a TOML document into its table.
 fn table_of(alloc: Global, bytes: &[u8]) -> Result<Table, TargetFault>
     ensures toml { IfOk result (λ table. IsToml bytes.now (table_view table)) }
     ensures refused { IfErr result (λ fault. fault ≢ TargetFault.NoMemory →
@@ -29,8 +29,8 @@ fn table_of(alloc: Global, bytes: &[u8]) -> Result<Table, TargetFault>
     }
 }
 
-/// The target that a TOML document gives: either `arity` (2 to 64) and `height` (0 to 16), or
-/// `arities`, a list of at most 16 numbers from 2 to 64, from the root down.
+/// Parses a TOML document into the target that it gives. The keys are either `arity` (2 to 64) and
+/// `height` (0 to 16), or `arities`, a list of at most 16 numbers from 2 to 64, from the root down.
 pub fn read_target(alloc: Global, bytes: &[u8]) -> Result<Target, TargetFault>
     ensures accepted { IfOk result (λ target. IsTargetText bytes.now target.arities target.above) }
     ensures range { IfOk result (λ target. IsInRange target.arities target.above) }

@@ -4,8 +4,9 @@ ghost use Rattle.target_defs.specs.Levels.{levels};
 
 use list_core::List;
 
-/// How many children the nodes of each level have, from the root down (2 to 64 each, at most 16
-/// levels and 65,536 leaves), and how many those of each level have that is put above the root.
+/// Holds the number of children of the nodes of each level, from the root down (2 to 64 each, at
+/// most 16 levels and 65,536 leaves). `above` is the number of children at each level added above
+/// the root.
 #[derive(Drop)]
 pub struct Target {
     pub arities: List<u32>,
@@ -13,14 +14,14 @@ pub struct Target {
 }
 
 impl Target {
-    /// How many levels stand below the root.
+    /// Returns the number of levels below the root.
     pub fn height(&self) -> usize
         ensures { result ≡ length self.now.arities }
     {
         self.arities.len()
     }
 
-    /// How many children a node has that stands `height + 1` levels above the leaves.
+    /// Returns the number of children of a node that is `height + 1` levels above the leaves.
     pub fn arity(&self, height: usize) -> u32
         ensures { result ≡ levels self.now.arities self.now.above height }
     {

@@ -24,11 +24,11 @@ narrow_below zero ds n = n
 narrow_below (suc i) [] n = tt
 narrow_below (suc i) (d ∷ ds) n = narrow_below i ds n.1
 
--- the leaves below one level, by those below the next
+-- the leaves below one level, computed from those below the next
 pub next_leaves : (ds : List ℕ) (i d : ℕ) → i < length ds → leaves (drop i ds) ≡ get_or ds i d * leaves (drop (i + 1) ds)
 next_leaves ds i d l = rw (drop_more ds i d l)
 
--- with this level's arity in the count, those below the next level are left
+-- multiplying the count by this level's arity leaves the leaves below the next level
 pub counted_next : (ds : List ℕ) (i count : ℕ) → i < length ds → count * leaves (drop i ds) ≡ leaves ds → (count * get_or ds i 0) * leaves (drop (i + 1) ds) ≡ leaves ds
 counted_next ds i count l counted =
     let same : count * (get_or ds i 0 * leaves (drop (i + 1) ds)) ≡ leaves ds = rw (← next_leaves ds i 0 l) counted in

@@ -1,4 +1,4 @@
--- The lowest levels of a target, one level more at a time.
+-- The lowest levels of a target, with one level added at a time.
 use Rattle.std.proofs.Common.{◌≡◌, ℕ, zero, suc, ◌-◌, ◌<◌, ◌≤◌, List, ◌∷◌, length, drop, slice_index, nat_lt, refl, sym, ap, ◌∙◌, arith, inl, inr}
 use Rattle.std.proofs.lemmas.Grind.{common_steps}
 use Rattle.std.specs.List.{AllByRecursion}
@@ -9,7 +9,7 @@ use Rattle.target_defs.specs.Target.{IsArity, lowest}
 use Rattle.target_defs.specs.Laws.{HeightsAreInRange}
 use Rattle.target_defs.specs.Levels.{levels, down_from}
 
--- a level of the target's own
+-- the added level is one of the target's own
 own_level : (ds : List ℕ) (above h : ℕ) → h < length ds → lowest ds above (suc h) ≡ slice_index ds (length ds - 1 - h) ∷ lowest ds above h
 own_level ds above h l =
     let none : suc h - length ds ≡ 0 = omega (arith, l) in
@@ -19,7 +19,7 @@ own_level ds above h l =
     let head : drop (length ds - 1 - h) ds ≡ slice_index ds (length ds - 1 - h) ∷ drop (suc (length ds - 1 - h)) ds = drop-cons ds (length ds - 1 - h) 0 (omega (arith, l)) in
     rw none (rw none' (rw at (head ∙ ap (λ (n : ℕ). slice_index ds (length ds - 1 - h) ∷ drop n ds) next)))
 
--- one more of those above
+-- the added level is one of those above the root
 level_above : (ds : List ℕ) (above h : ℕ) → length ds ≤ h → lowest ds above (suc h) ≡ above ∷ lowest ds above h
 level_above ds above h l =
     let more : suc h - length ds ≡ suc (h - length ds) = omega (arith, l) in

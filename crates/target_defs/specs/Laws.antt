@@ -1,9 +1,9 @@
--- What follows from the definitions of targets.
+-- Consequences of the definitions of targets.
 use Rattle.std.specs.Prelude.{◌≡◌, ℕ, List, length}
 use Rattle.target_defs.specs.Target.{IsInRange, IsArity, lowest}
 use Rattle.target_defs.specs.Levels.{levels, down_from}
 
--- counted by height, a target's arities are the lists of its lowest levels
+-- counted by height, a target's arities give the lists of its lowest levels
 abbrev pub HeightsGiveTheLowestLevels : Type 0
 HeightsGiveTheLowestLevels = (arities : List ℕ) (above height : ℕ) → down_from (levels arities above) height ≡ lowest arities above height
 

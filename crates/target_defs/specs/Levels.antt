@@ -1,8 +1,8 @@
--- The arities of a complete tree by height, counted from the leaves: a node then has the same height wherever it stands,
--- and levels put above the root need no case of their own.
+-- The arities of a complete tree by height, counted from the leaves. The height of a node then
+-- doesn't depend on the levels above it, and levels added above the root need no case of their own.
 use Rattle.std.specs.Prelude.{◌≡◌, refl, ℕ, zero, suc, ◌-◌, List, [], ◌∷◌, length, slice_index, nat_lt, if◌then◌else◌}
 
--- at h, how many children a node of height h + 1 has
+-- at h, the number of children of a node of height h + 1
 abbrev pub Arities : Type 0
 Arities = ℕ → ℕ
 
@@ -11,7 +11,8 @@ abbrev pub down_from : Arities → ℕ → List ℕ
 down_from a zero = []
 down_from a (suc h) = a h ∷ down_from a h
 
--- those of a target: the lowest level's arity is the last of the list, and `above` is that of all levels above the root
+-- The arities of a target by height. The lowest level's arity is the last of the list; `above` is
+-- the arity of all levels above the root.
 abbrev pub levels : List ℕ → ℕ → Arities
 levels arities above h = if nat_lt h (length arities) then slice_index arities (length arities - 1 - h) else above
 

@@ -1,26 +1,27 @@
--- Pushes that pass an entry of a greater rank of their own child.
+-- Spills: pushes that pass a queued entry of a greater rank for the same child.
 use Rattle.std.specs.Prelude.{◌≡◌, refl, ℕ, ◌+◌, Bool, true, false, ◌&&◌, List, [], ◌∷◌, nat_eq, nat_lt, slice_index, drop, if◌then◌else◌}
 use Rattle.std.specs.List.{list_any}
 use Rattle.pifo_defs.specs.Queue.{Queue}
 use Rattle.target_defs.specs.Family.{Address, Family, below}
 
--- an entry of this digit and a greater rank stands in an inner node's queue
+-- an inner node's queue has an entry with this digit and a greater rank
 abbrev pub spills_for : ℕ → ℕ → Queue → Bool
 spills_for rank digit q = list_any (λ e. nat_eq e.1 digit && nat_lt rank e.0) q
 
--- an entry of a greater rank stands in a leaf's queue
+-- a leaf's queue has an entry with a greater rank
 abbrev pub spills_at_leaf : ℕ → Queue → Bool
 spills_at_leaf rank q = list_any (λ e. nat_lt rank e.0) q
 
 abbrev pub counted : Bool → ℕ
 counted b = if b then 1 else 0
 
--- at how many nodes on the way to an address a push spills, the root and the leaf among them
+-- the number of nodes on the path to an address at which a push spills, including the root and the
+-- leaf
 abbrev pub spills_along : Address → List ℕ → Family → ℕ
 spills_along [] ranks F = counted (spills_at_leaf (slice_index ranks 0) (F []))
 spills_along (x ∷ a) ranks F = counted (spills_for (slice_index ranks 0) x (F [])) + spills_along a (drop 1 ranks) (below F x)
 
--- at the root packets wait for the digits 0 and 1, and at the leaf of digit 1 one with rank 4
+-- entries for digits 0 and 1 are queued at the root, and one with rank 4 at the leaf of digit 1
 abbrev pub waiting : Family
 waiting [] = (6, 0) ∷ (3, 1) ∷ []
 waiting (x ∷ b) = if nat_eq x 1 then (4, 9) ∷ [] else []

@@ -11,34 +11,35 @@ leaves (d ∷ arities) = d * leaves arities
 abbrev pub most_height : ℕ
 most_height = 16
 
--- the fewest children of a node, and the most
+-- the least and the greatest number of children of a node
 abbrev pub least_arity : ℕ
 least_arity = 2
 
 abbrev pub most_arity : ℕ
 most_arity = 64
 
--- the most leaves in all
+-- the greatest number of leaves of a target
 abbrev pub most_leaves : ℕ
 most_leaves = 65536
 
 abbrev pub IsArity : ℕ → Type 0
 IsArity d = (least_arity ≤ d) × (d ≤ most_arity)
 
--- arities that a target may have: at most 16 levels, each of 2 to 64 children, and at most 65,536 leaves in all
+-- the arities that a target may have: at most 16 levels, each of 2 to 64 children, and at most
+-- 65,536 leaves in all
 pub record IsTarget (arities : List ℕ) : Type 0 where
   pub levels : length arities ≤ most_height
   pub narrow : AllByRecursion IsArity arities
   pub few : leaves arities ≤ most_leaves
 
--- a target whose root may be put below further levels, each from 2 to 64 wide
+-- a target whose root may be put below further levels, each of 2 to 64 children
 pub record IsInRange (arities : List ℕ) (above : ℕ) : Type 0 where
   pub target : IsTarget arities
   pub wide : least_arity ≤ above
   pub narrow : above ≤ most_arity
 
--- The lowest levels of a target, so many as the height says. Where the target has fewer, all its levels stand below
--- further ones of the arity `above`.
+-- The lowest levels of a target, as many as the height. If the target has fewer levels, further
+-- levels of arity `above` are added above its root.
 abbrev pub lowest : List ℕ → ℕ → ℕ → List ℕ
 lowest arities above height = replicate (height - length arities) above ++ drop (length arities - height) arities
 

@@ -1,5 +1,5 @@
-//! What a target is: a complete tree with an arity for each level, further levels above it, and the queues at its
-//! nodes. Begin with specs/Target.antt and specs/Family.antt.
+//! Definitions of targets. A target is a complete tree with an arity for each level, with further
+//! levels above it and a queue at each node. Begin with specs/Target.antt and specs/Family.antt.
 #![tactic(auto)]
 
 mod laws;

@@ -1,6 +1,6 @@
 use Rattle.std.proofs.Common.{IsTrue}
 use Rattle.outside_core.specs.Memory.{is_begun}
-use Rattle.capture_tests.proofs.reading.pass_on.Given as goal
+use Rattle.library_tests.proofs.reading.pass_on.Given as goal
 
 abbrev pub invariant-loop-count : goal.invariant-loop-count
 invariant-loop-count g l = record {
