@@ -2,9 +2,9 @@
 use crate::breaks::{Break, part};
 use crate::near::nearest;
 use crate::rows::ROWS;
-use crate::say::{say, say_around, say_number, say_short};
 use crate::walk::Walk;
 use crate::want::Want;
+use crate::wording::{say, say_around, say_number, say_short};
 use policy_text_defs::{is, name_of};
 use std::alloc::{AllocError, Global};
 use std::str;
@@ -13,9 +13,15 @@ use text_core::{MAX, TokenKind};
 /// The most bytes of a name.
 const MOST_NAME: usize = 64;
 
-/// Appends a text in quotes, as far as it can be shown.
+/// Returns whether bytes are a number.
+fn is_number(bytes: &[u8]) -> bool {
+    !bytes.is_empty() && bytes.iter().all(|byte| byte.is_ascii_digit())
+}
+
+/// Appends a token as far as it can be shown: a number as it is, and another one in quotes.
 pub fn say_quoted(into: &mut Vec<u8>, bytes: &[u8]) -> Result<(), AllocError> {
     match (str::from_utf8(bytes), bytes) {
+        (Ok(text), _) if is_number(bytes) => say_short(into, text),
         (Ok(text), [b'!'..=b'~', ..]) => {
             say(into, "`")?;
             say_short(into, text)?;
@@ -166,20 +172,33 @@ fn reason(line: &[u8], broken: &Break, wants: &[Want]) -> Option<&'static str> {
     None
 }
 
-/// Appends the nearest of the texts that a place wants, if one is near.
+/// Returns a word in small letters.
+fn in_small(alloc: Global, bytes: &[u8]) -> Result<Vec<u8>, AllocError> {
+    let mut small = Vec::new(alloc);
+    for byte in bytes {
+        small.push(byte.to_ascii_lowercase())?;
+    }
+    Ok(small)
+}
+
+/// Appends the nearest of the texts that a place wants to a word, if one is near.
 fn say_near(
     alloc: Global,
     into: &mut Vec<u8>,
     walk: &Walk,
     bytes: &[u8],
 ) -> Result<(), AllocError> {
-    let Ok(word) = str::from_utf8(bytes) else {
+    if !matches!(bytes, [b'a'..=b'z' | b'A'..=b'Z', _, ..]) || MOST_NAME < bytes.len() {
+        return Ok(());
+    }
+    let small = in_small(alloc, bytes)?;
+    let Ok(word) = str::from_utf8(&small) else {
         return Ok(());
     };
     let texts = texts_of(alloc, walk)?;
     match nearest(alloc, word, &texts)? {
-        Some(text) if bytes.len() > 1 => say_around(into, "; did you mean `", text, "`?"),
-        _ => Ok(()),
+        Some(text) => say_around(into, "; did you mean `", text, "`?"),
+        None => Ok(()),
     }
 }
 
@@ -191,10 +210,14 @@ pub fn say_break(
     broken: &Break,
 ) -> Result<(), AllocError> {
     let bytes = part(line, broken.start, broken.end);
-    let is_number = matches!(bytes, [b'0'..=b'9', ..]);
     let wants = wants_of(alloc, &broken.walk)?;
     say(into, "expected ")?;
-    say_wants(into, &broken.walk, &wants, is_number)?;
+    say_wants(
+        into,
+        &broken.walk,
+        &wants,
+        matches!(bytes, [b'0'..=b'9', ..]),
+    )?;
     say(into, ", found ")?;
     say_quoted(into, bytes)?;
     match reason(line, broken, &wants) {

@@ -3,7 +3,7 @@ use crate::breaks::part;
 use crate::detail::{Detail, Error, blanks};
 use crate::expected::say_quoted;
 use crate::rules::at_word;
-use crate::say::{say, say_number, say_thousands};
+use crate::wording::{say, say_number, say_thousands};
 use crate::words::{Entry, Word, entries};
 use std::alloc::{AllocError, Global};
 

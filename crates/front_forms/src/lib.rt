@@ -10,13 +10,13 @@ mod listed;
 mod near;
 mod rows;
 mod rules;
-mod say;
 mod steps;
 mod target;
 mod walk;
 mod want;
+mod wording;
 mod words;
 
 pub use detail::{Detail, Error, detail_of};
 pub use near::nearest;
-pub use say::{say, say_around, say_names, say_number, say_short, say_thousands};
+pub use wording::{say, say_around, say_names, say_number, say_short, say_thousands};

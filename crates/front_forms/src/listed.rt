@@ -3,7 +3,7 @@ use crate::detail::Detail;
 use crate::expected::say_quoted;
 use crate::near::nearest;
 use crate::rules::at_word;
-use crate::say::{say, say_around, say_number};
+use crate::wording::{say, say_around, say_number};
 use crate::words::Entry;
 use policy_text_defs::is;
 use std::alloc::{AllocError, Global};

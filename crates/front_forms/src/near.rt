@@ -11,8 +11,8 @@ const MOST_BYTES: usize = 64;
 /// The most names that are compared with a word.
 const MOST_NAMES: usize = 2048;
 
-/// Returns the first of the names with the fewest edits, if at most `MOST_EDITS` are needed. Fails
-/// if out of memory.
+/// Returns the first of the names with the fewest edits, if at most `MOST_EDITS` are needed, and at
+/// most one for each two bytes of the word. Fails if out of memory.
 pub fn nearest<'a>(
     alloc: Global,
     word: &str,
@@ -25,7 +25,7 @@ pub fn nearest<'a>(
     let mut least = MOST_EDITS + 1;
     for name in names.iter().take(MOST_NAMES) {
         let edits = levenshtein(alloc, word, name)?;
-        if edits < least {
+        if edits < least && edits.saturating_mul(2) <= word.len() {
             least = edits;
             found = Some(*name);
         }

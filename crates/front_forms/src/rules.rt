@@ -3,7 +3,7 @@ use crate::detail::{Detail, Error, value_column};
 use crate::expected::say_quoted;
 use crate::listed::{class_detail, orphan_detail};
 use crate::near::nearest;
-use crate::say::{say, say_around, say_number};
+use crate::wording::{say, say_around, say_number};
 use crate::words::{Entry, Word};
 use policy_text_defs::{is, name_of};
 use std::alloc::{AllocError, Global};

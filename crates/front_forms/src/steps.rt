@@ -1,7 +1,7 @@
 //! Scripts whose lines count too many packets.
 use crate::detail::{Detail, Error};
 use crate::rules::at_word;
-use crate::say::{say, say_thousands};
+use crate::wording::{say, say_thousands};
 use crate::words::{Entry, entries};
 use std::alloc::{AllocError, Global};
 use text_core::decimal;

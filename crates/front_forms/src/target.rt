@@ -3,7 +3,7 @@ use crate::breaks::part;
 use crate::detail::{Detail, Error, blanks, value_column};
 use crate::expected::say_quoted;
 use crate::near::nearest;
-use crate::say::{say, say_around, say_number, say_short};
+use crate::wording::{say, say_around, say_number, say_short};
 use std::alloc::{AllocError, Global};
 use text_core::lines;
 use toml::{Table, Value};
