@@ -12,7 +12,7 @@ LEFT = {
     "expected the words of a command, found others",
     "one that exists is refused",
 }
-SPEAKING = ("crates/front_core/src", "crates/zovatsemo/src")  # where the messages for people are
+SPEAKING = ("crates/front_core/src", "crates/front_forms/src", "crates/zovatsemo/src")  # where the messages for people are
 
 
 def all_pages():

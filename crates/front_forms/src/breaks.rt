@@ -71,6 +71,6 @@ pub fn first_break(alloc: Global, line: &[u8], place: Place) -> Result<Option<Br
         return Ok(None);
     }
     let start = at.min(line.len());
-    let end = start + bad_length(rest);
+    let end = start.saturating_add(bad_length(rest));
     Ok(Some(Break { start, end, walk }))
 }

@@ -32,12 +32,14 @@ pub fn say_quoted(into: &mut Vec<u8>, bytes: &[u8]) -> Result<(), AllocError> {
     }
 }
 
+/// The digits of base 16.
+const DIGITS: &[u8; 16] = b"0123456789ABCDEF";
+
 /// Returns a digit of base 16.
 fn digit(number: u8) -> u8 {
-    match number {
-        0..=9 => b'0' + number,
-        10..=15 => b'A' + (number - 10),
-        _ => b'?',
+    match DIGITS.get(usize::from(number)) {
+        Some(digit) => *digit,
+        None => b'?',
     }
 }
 
@@ -92,7 +94,7 @@ fn say_wants(
     is_number: bool,
 ) -> Result<(), AllocError> {
     for (place, want) in wants.iter().enumerate() {
-        let is_last = place + 1 == wants.len();
+        let is_last = place.saturating_add(1) == wants.len();
         say(
             into,
             match place {

@@ -59,13 +59,13 @@ pub fn map_detail(alloc: Global, error: Error<'_>) -> Result<Option<Detail>, All
 
 /// Appends the first line of a map with this name.
 fn say_first(into: &mut Vec<u8>, entries: &[Entry<'_>], name: &[u8]) -> Result<(), AllocError> {
-    match entries.iter().find(|entry| entry.word(1).bytes == name) {
-        Some(entry) => {
+    for entry in entries {
+        if entry.word(1).bytes == name {
             say(into, " again, which is on line ")?;
-            say_number(into, entry.line)
+            return say_number(into, entry.line);
         }
-        None => Ok(()),
     }
+    Ok(())
 }
 
 /// Returns the nodes and the levels of a line with a tree.

@@ -46,9 +46,12 @@ fn say_lists(into: &mut Vec<u8>, name: &[u8], lists: &[u64]) -> Result<(), Alloc
 
 /// Returns whether a node or leaf is named `root`.
 fn has_root(entries: &[Entry<'_>]) -> bool {
-    entries.iter().any(|entry| {
-        matches!(entry.word(0).bytes, b"leaf" | b"node") && is(entry.word(1).bytes, "root")
-    })
+    for entry in entries {
+        if matches!(entry.word(0).bytes, b"leaf" | b"node") && is(entry.word(1).bytes, "root") {
+            return true;
+        }
+    }
+    false
 }
 
 /// Appends that there is no root, while a node or leaf is in no list.

@@ -260,8 +260,10 @@ fn last_class_detail(alloc: Global, entries: &[Entry<'_>]) -> Result<Option<Deta
         }));
     };
     say(&mut message, "one with")?;
-    let when = entry.words.iter().find(|word| is(word.bytes, "when"));
-    Ok(when.map(|word| at_word(entry, *word, message)))
+    match entry.find("when") {
+        Some(word) => Ok(Some(at_word(entry, word, message))),
+        None => Ok(None),
+    }
 }
 
 /// Returns the place of an error in the expression of a line.
@@ -299,10 +301,7 @@ fn line_detail(
         5..=7 => return Ok(Some(value_detail(alloc, entry))),
         8 => return orphan_detail(alloc, entries, entry),
         12 => return class_detail(alloc, entries, entry),
-        14 => match entry.words.iter().find(|word| is(word.bytes, "limit")) {
-            Some(word) => *word,
-            None => entry.word(0),
-        },
+        14 => entry.find("limit").unwrap_or(entry.word(0)),
         _ => {
             say_tree(&mut message, error.code, entry.word(1).bytes)?;
             entry.word(1)

@@ -11,6 +11,9 @@ use toml::{Table, Value};
 /// The keys of targets.
 const KEYS: [&str; 3] = ["arity", "height", "arities"];
 
+/// The mark around a key in double quotes.
+const DOUBLE_QUOTE: u8 = 0x22;
+
 /// The most numbers of `arities`.
 const MOST_HEIGHT: u64 = 16;
 
@@ -18,7 +21,7 @@ const MOST_HEIGHT: u64 = 16;
 fn has_key(line: &[u8], key: &str) -> bool {
     let begun = part(line, blanks(line), line.len());
     let bare = match begun {
-        [b'"' | b'\'' | b'[', rest @ ..] => rest,
+        [DOUBLE_QUOTE | b'\'' | b'[', rest @ ..] => rest,
         _ => begun,
     };
     bare.starts_with(key.as_bytes())

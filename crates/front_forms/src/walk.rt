@@ -196,8 +196,11 @@ impl Walk {
 
     /// Returns whether the line may end here.
     pub fn can_end(&self) -> bool {
-        ROWS.iter().any(|(place, want, _)| {
-            *place == self.place && matches!(want, Want::End) && self.offers(*want)
-        })
+        for (place, want, _) in &ROWS {
+            if *place == self.place && matches!(want, Want::End) && self.offers(*want) {
+                return true;
+            }
+        }
+        false
     }
 }

@@ -1,5 +1,6 @@
 //! The words of the statements of a policy.
 use crate::breaks::{is_word_byte, part};
+use policy_text_defs::is;
 use std::alloc::{AllocError, Global};
 use text_core::lines;
 
@@ -54,6 +55,11 @@ pub fn entries<'a>(alloc: Global, text: &'a [u8]) -> Result<Vec<Entry<'a>>, Allo
     Ok(found)
 }
 
+/// Returns the words from an index on, if there are any.
+fn part_of<'e, 'a>(words: &'e [Word<'a>], start: usize) -> &'e [Word<'a>] {
+    &words[start.min(words.len())..]
+}
+
 impl<'a> Entry<'a> {
     /// Returns a word by its index, or an empty one.
     pub fn word(&self, place: usize) -> Word<'a> {
@@ -66,11 +72,21 @@ impl<'a> Entry<'a> {
         }
     }
 
+    /// Returns the first word with this text.
+    pub fn find(&self, text: &str) -> Option<Word<'a>> {
+        for word in &self.words {
+            if is(word.bytes, text) {
+                return Some(*word);
+            }
+        }
+        None
+    }
+
     /// Returns the words after the first one with this text.
     pub fn after(&self, text: &[u8]) -> &[Word<'a>] {
         let words = self.words.as_slice();
         match words.iter().position(|word| word.bytes == text) {
-            Some(place) => words.get(place + 1..).unwrap_or(&[]),
+            Some(place) => part_of(words, place.saturating_add(1)),
             None => &[],
         }
     }
