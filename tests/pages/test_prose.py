@@ -11,7 +11,7 @@ LEFT = {
     "expected types that agree, found a truth value in place of a number or the other way round",
     "expected the words of a command, found others",
 }
-SPEAKING = ("crates/front_core/src", "crates/zovatsemo/src")  # where the messages for people are
+SPEAKING = ("crates/front_core/src", "crates/front_forms/src", "crates/zovatsemo/src")  # where the messages for people are
 
 
 def all_pages():

@@ -60,29 +60,3 @@ pub fn line_at(text: &[u8], number: u64) -> Option<&[u8]> {
     }
     Some(cut_line(rest).0)
 }
-
-/// Returns whether a line of a policy declares a node or leaf named `root`.
-fn declares_root(line: &[u8]) -> bool {
-    let (word, after) = first_word(line);
-    let (name, _) = first_word(after);
-    match word {
-        b"node" | b"leaf" => matches!(name, b"root"),
-        _ => false,
-    }
-}
-
-/// Returns whether a policy declares a node or leaf named `root`.
-pub fn has_root(text: &[u8]) -> bool {
-    let mut rest = text;
-    for _ in 0..text.len() {
-        let (line, more) = cut_line(rest);
-        if declares_root(line) {
-            return true;
-        }
-        let Some(more) = more else {
-            return false;
-        };
-        rest = more;
-    }
-    false
-}

@@ -1,19 +1,6 @@
 //! The forms of statements.
 use report_core::FaultKind;
 
-/// The first words of a policy's statements.
-pub const STATEMENTS: [&str; 9] = [
-    "policy",
-    "transaction",
-    "keep",
-    "each",
-    "push",
-    "pop",
-    "class",
-    "leaf",
-    "node",
-];
-
 /// Returns the form of a policy's statement with this first word.
 fn policy_form(word: &[u8]) -> Option<&'static str> {
     Some(match word {

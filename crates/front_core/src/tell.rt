@@ -5,23 +5,21 @@ use crate::captures::capture_kind;
 use crate::causes::{Cause, cause_of};
 use crate::fault::Fault;
 use crate::files::{is_text, name_shown};
-use crate::lines::{blanks, clean_length, first_word, has_root, line_at};
-use crate::near::nearest;
-use crate::say::{say, say_around, say_number, say_short, say_thousands};
-use crate::statements::{STATEMENTS, statement_form};
+use crate::lines::{blanks, clean_length, first_word, line_at};
+use crate::say::{say, say_around, say_number, say_thousands};
+use crate::statements::statement_form;
 use front_defs::Command;
+use front_forms::{Detail, Error, detail_of};
+use policy_rules::BUILTINS;
 use report_core::FaultKind;
 use std::alloc::{AllocError, Global};
 use std::str;
 
-/// The code for a byte that no statement has.
-const BAD_BYTE: u64 = 22;
-
 /// The code for a line that does not parse.
 const BAD_FORM: u64 = 23;
 
-/// The code for a node or leaf that isn't listed exactly once.
-const NOT_LISTED: u64 = 8;
+/// The code for a byte that no statement has.
+const BAD_BYTE: u64 = 22;
 
 /// The code for a file with too few bytes for the header of a capture.
 const NO_HEADER: u64 = 1;
@@ -31,17 +29,6 @@ const NO_CAPTURE: u64 = 2;
 
 /// The most bytes of a line that a message shows.
 const MOST_SHOWN: usize = 160;
-
-/// Returns the position of an error in its line, in bytes from 0.
-fn column_of(fault: Fault, line: &[u8]) -> usize
-    ensures { result ≤ length line.now }
-{
-    if fault.kind == FaultKind::Policy && fault.code == BAD_BYTE {
-        clean_length(line)
-    } else {
-        blanks(line)
-    }
-}
 
 /// Returns the start of the part of a line that is shown, if `count` bytes of the line can be
 /// shown.
@@ -85,7 +72,7 @@ fn say_line(into: &mut Vec<u8>, line: &[u8], column: usize) -> Result<(), AllocE
     say(into, "^\n")
 }
 
-/// Returns a message on the encoding of a text, if its first bytes indicate a wrong one.
+/// Returns a message on the encoding of a text, if it isn't ASCII or UTF-8 without a byte order mark.
 fn encoding_of(text: &[u8]) -> Option<&'static str> {
     match text {
         [0xef, 0xbb, 0xbf, ..] => Some(
@@ -94,62 +81,63 @@ fn encoding_of(text: &[u8]) -> Option<&'static str> {
         [0xff, 0xfe, ..] | [0xfe, 0xff, ..] => Some(
             "the file is in UTF-16: save it as UTF-8 without a byte order mark",
         ),
+        [_, 0, ..] | [0, _, ..] => Some(
+            "the file is in UTF-16 without a byte order mark, or isn't text: save it as UTF-8",
+        ),
+        _ if str::from_utf8(text).is_err() => Some(
+            "the file isn't in UTF-8, perhaps in Latin-1 or Windows-1252: save it as UTF-8",
+        ),
         _ => None,
     }
 }
 
-/// Appends a message on a first word that begins no statement, with the name that it probably
-/// means.
-fn say_word(alloc: Global, into: &mut Vec<u8>, word: &[u8]) -> Result<(), AllocError> {
-    let Ok(word) = str::from_utf8(word) else {
-        return Ok(());
-    };
-    if word.is_empty() {
-        return Ok(());
-    }
-    say(into, "  no statement begins with ")?;
-    say_short(into, word)?;
-    match nearest(alloc, word, &STATEMENTS)? {
-        Some(name) => say_around(into, "; did you mean ", name, "?\n"),
-        None => say(
-            into,
-            "; statements begin with policy, transaction, keep, each, push, pop, class, leaf or node\n",
-        ),
-    }
-}
-
 /// Appends the form of the statement in a line.
-fn say_form(
-    alloc: Global,
-    into: &mut Vec<u8>,
-    fault: Fault,
-    line: &[u8],
-) -> Result<(), AllocError> {
+fn say_form(into: &mut Vec<u8>, fault: Fault, line: &[u8]) -> Result<(), AllocError> {
     let (word, _) = first_word(line);
     match statement_form(fault.kind, word) {
         Some(form) => say_around(into, "  form: ", form, "\n"),
-        None if fault.kind == FaultKind::Policy && fault.code == BAD_FORM => {
-            say_word(alloc, into, word)
-        }
+        None if fault.kind == FaultKind::Policy && fault.code == BAD_FORM => say(
+            into,
+            "  statements begin with policy, transaction, keep, each, push, pop, class, leaf or node\n",
+        ),
         None => Ok(()),
     }
 }
 
-/// Appends the description of an error, with the line that it is in.
+/// Appends the description of an error, with the line that it is in and a caret at its column,
+/// counted from 0.
 fn say_at_line(
-    alloc: Global,
+    into: &mut Vec<u8>,
+    fault: Fault,
+    is: &str,
+    line: &[u8],
+    column: usize,
+) -> Result<(), AllocError> {
+    say_number(into, (column as u64).saturating_add(1))?;
+    say_around(into, ": error: ", is, "\n")?;
+    say_line(into, line, column)?;
+    say_form(into, fault, line)
+}
+
+/// Appends the description of an error whose place in the text is known.
+fn say_detail(
     into: &mut Vec<u8>,
     fault: Fault,
     cause: Cause,
-    line: &[u8],
+    text: &[u8],
+    detail: &Detail,
 ) -> Result<(), AllocError> {
-    let column = column_of(fault, line);
-    say_number(into, fault.place)?;
+    let is = match str::from_utf8(&detail.message) {
+        Ok("") | Err(_) => cause.is,
+        Ok(is) => is,
+    };
+    if detail.line == 0 {
+        return say_around(into, " error: ", is, "\n");
+    }
+    say_number(into, detail.line)?;
     say(into, ":")?;
-    say_number(into, column as u64 + 1)?;
-    say_around(into, ": error: ", cause.is, "\n")?;
-    say_line(into, line, column)?;
-    say_form(alloc, into, fault, line)
+    let line = line_at(text, detail.line).unwrap_or(b"");
+    say_at_line(into, fault, is, line, detail.column)
 }
 
 /// Returns the line that an error is in, if its position is a line number.
@@ -163,14 +151,17 @@ fn line_of(fault: Fault, text: &[u8]) -> Option<&[u8]> {
 
 /// Appends the description of an error, with the line that it is in, if the text is known.
 fn say_in_text(
-    alloc: Global,
     into: &mut Vec<u8>,
     fault: Fault,
     cause: Cause,
     text: Option<&[u8]>,
 ) -> Result<(), AllocError> {
     match text.and_then(|text| line_of(fault, text)) {
-        Some(line) if !line.is_empty() => return say_at_line(alloc, into, fault, cause, line),
+        Some(line) if !line.is_empty() => {
+            say_number(into, fault.place)?;
+            say(into, ":")?;
+            return say_at_line(into, fault, cause.is, line, blanks(line));
+        }
         _ if fault.place != 0 => {
             say_number(into, fault.place)?;
             say(into, ":")?;
@@ -226,18 +217,16 @@ fn say_at_place(
     say(into, "\n")
 }
 
-/// Appends hints from the whole text: a wrong encoding, or that no node or leaf is named `root`.
+/// Appends a hint on a wrong encoding of the whole text.
 fn say_of_whole(into: &mut Vec<u8>, fault: Fault, text: &[u8]) -> Result<(), AllocError> {
-    if !is_text(fault.kind) {
-        return Ok(());
+    let is_of_bytes = match fault.kind {
+        FaultKind::Policy => fault.code == BAD_BYTE,
+        _ => is_text(fault.kind),
+    };
+    match encoding_of(text) {
+        Some(encoding) if is_of_bytes => say_around(into, "  ", encoding, "\n"),
+        _ => Ok(()),
     }
-    if let Some(encoding) = encoding_of(text) {
-        say_around(into, "  ", encoding, "\n")?;
-    }
-    if fault.kind == FaultKind::Policy && fault.code == NOT_LISTED && !has_root(text) {
-        say(into, "  there is no node or leaf named root\n")?;
-    }
-    Ok(())
 }
 
 /// Returns whether the position of an error is a line number of its file.
@@ -245,6 +234,23 @@ fn is_at_line(fault: Fault) -> bool {
     let is_event = fault.kind == FaultKind::Script && fault.code == 3;
     let is_node = fault.kind == FaultKind::Map && (fault.code == 5 || fault.code == 9);
     is_text(fault.kind) && !is_event && !is_node
+}
+
+/// Returns the place of an error in a text, and what was expected and found there, if it is known.
+fn detail_in(alloc: Global, fault: Fault, text: &[u8]) -> Result<Option<Detail>, AllocError> {
+    if !is_at_line(fault) {
+        return Ok(None);
+    }
+    detail_of(
+        alloc,
+        Error {
+            kind: fault.kind,
+            code: fault.code,
+            line: fault.place,
+            text,
+            builtins: &BUILTINS,
+        },
+    )
 }
 
 /// Appends the description of an error, with its position.
@@ -255,8 +261,11 @@ fn say_cause(
     cause: Cause,
     content: Option<&[u8]>,
 ) -> Result<(), AllocError> {
+    if let Some(text) = content && let Some(detail) = detail_in(alloc, fault, text)? {
+        return say_detail(into, fault, cause, text, &detail);
+    }
     if is_at_line(fault) {
-        say_in_text(alloc, into, fault, cause, content)
+        say_in_text(into, fault, cause, content)
     } else {
         say_at_place(alloc, into, fault, cause, content)
     }

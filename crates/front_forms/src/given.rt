@@ -1,0 +1,137 @@
+//! Lines of maps, and trees of topologies.
+use crate::breaks::part;
+use crate::detail::{Detail, Error, blanks};
+use crate::expected::say_quoted;
+use crate::rules::at_word;
+use crate::wording::{say, say_number, say_thousands};
+use crate::words::{Entry, Word, entries};
+use std::alloc::{AllocError, Global};
+
+/// Returns the address of a map's line.
+fn address_of<'a>(entry: &Entry<'a>) -> Word<'a> {
+    let name = entry.word(1);
+    let after = name.start.saturating_add(name.bytes.len());
+    let start = after.saturating_add(blanks(part(entry.text, after, entry.text.len())));
+    let bytes = part(entry.text, start, entry.text.len());
+    let count = bytes
+        .iter()
+        .take_while(|byte| !matches!(**byte, b' ' | b'\t'))
+        .count();
+    Word {
+        start,
+        bytes: part(bytes, 0, count),
+    }
+}
+
+/// Returns what was expected of a map's line.
+fn expected(code: u64) -> &'static str {
+    match code {
+        3 => "expected the name of a node of the policy, found ",
+        4 => "expected each node once, found ",
+        6 => "expected an address in the topology, found ",
+        7 => "expected the root at the root, `-`, found it at ",
+        _ => "expected a leaf where the policy has one, found none at ",
+    }
+}
+
+/// Returns the place of an error in a line of a map. Fails if out of memory.
+pub fn map_detail(alloc: Global, error: Error<'_>) -> Result<Option<Detail>, AllocError> {
+    let entries = entries(alloc, error.text)?;
+    let mut message = Vec::new(alloc);
+    for entry in entries.as_slice() {
+        if entry.line == error.line {
+            let is_name = error.code == 3 || error.code == 4;
+            let word = if is_name {
+                entry.word(1)
+            } else {
+                address_of(entry)
+            };
+            say(&mut message, expected(error.code))?;
+            say_quoted(&mut message, word.bytes)?;
+            if error.code == 4 {
+                say_first(&mut message, &entries, word.bytes)?;
+            }
+            return Ok(Some(at_word(entry, word, message)));
+        }
+    }
+    Ok(None)
+}
+
+/// Appends the first line of a map with this name.
+fn say_first(into: &mut Vec<u8>, entries: &[Entry<'_>], name: &[u8]) -> Result<(), AllocError> {
+    for entry in entries {
+        if entry.word(1).bytes == name {
+            say(into, " again, which is on line ")?;
+            return say_number(into, entry.line);
+        }
+    }
+    Ok(())
+}
+
+/// Returns the nodes and the levels of a line with a tree.
+fn size_of(line: &[u8]) -> (u64, u64) {
+    let mut nodes: u64 = 0;
+    let mut depth: u64 = 0;
+    let mut most: u64 = 0;
+    for byte in line {
+        match *byte {
+            b'(' => {
+                nodes = nodes.saturating_add(1);
+                depth = depth.saturating_add(1);
+                most = most.max(depth);
+            }
+            b')' => depth = depth.saturating_sub(1),
+            b'l' => nodes = nodes.saturating_add(1),
+            _ => (),
+        }
+    }
+    (nodes, most)
+}
+
+/// Appends what is wrong with a line that has a tree.
+fn say_tree(
+    alloc: Global,
+    into: &mut Vec<u8>,
+    entry: &Entry<'_>,
+    first: &Entry<'_>,
+    code: u64,
+) -> Result<(), AllocError> {
+    if code == 2 {
+        say(
+            into,
+            "expected one tree on one line, found a second; the first is on line ",
+        )?;
+        return say_number(into, first.line);
+    }
+    let (nodes, levels) = size_of(entry.text);
+    say(into, "expected at most 1,024 nodes and 64 levels, found ")?;
+    say_thousands(alloc, into, nodes)?;
+    say(into, " nodes and ")?;
+    say_thousands(alloc, into, levels)?;
+    say(into, " levels")
+}
+
+/// Returns what is wrong with a topology all of whose lines have trees. Fails if out of memory.
+pub fn tree_detail(alloc: Global, error: Error<'_>) -> Result<Option<Detail>, AllocError> {
+    let entries = entries(alloc, error.text)?;
+    let mut message = Vec::new(alloc);
+    let Some(first) = entries.first() else {
+        say(&mut message, "expected one tree on one line, found none")?;
+        return Ok(Some(Detail {
+            line: 0,
+            column: 0,
+            message,
+        }));
+    };
+    for entry in entries.as_slice() {
+        if entry.line == error.line {
+            say_tree(alloc, &mut message, entry, first, error.code)?;
+            return Ok(Some(Detail {
+                line: entry.line,
+                column: blanks(entry.text),
+                message,
+            }));
+        }
+    }
+    Ok(None)
+}

@@ -1,0 +1,22 @@
+//! What may be at each place of a line, as one table, and what is wrong in a text: the place, what
+//! was expected there and what was found. Begin with src/rows.rt.
+#![tactic(auto)]
+
+mod breaks;
+mod detail;
+mod expected;
+mod given;
+mod listed;
+mod near;
+mod rows;
+mod rules;
+mod steps;
+mod target;
+mod walk;
+mod want;
+mod wording;
+mod words;
+
+pub use detail::{Detail, Error, detail_of};
+pub use near::nearest;
+pub use wording::{say, say_around, say_names, say_number, say_short, say_thousands};

@@ -1,0 +1,104 @@
+//! Nodes, leaves and classes that aren't listed exactly once.
+use crate::detail::Detail;
+use crate::expected::say_quoted;
+use crate::near::nearest;
+use crate::rules::at_word;
+use crate::wording::{say, say_around, say_number};
+use crate::words::Entry;
+use policy_text_defs::is;
+use std::alloc::{AllocError, Global};
+use std::str;
+
+/// Returns the numbers of the lines of one kind that list a name, once for each time.
+fn lists_of(
+    alloc: Global,
+    entries: &[Entry<'_>],
+    keyword: &[u8],
+    name: &[u8],
+) -> Result<Vec<u64>, AllocError> {
+    let mut found = Vec::new(alloc);
+    for entry in entries {
+        if entry.word(0).bytes == keyword {
+            for word in entry.listed() {
+                if word.bytes == name {
+                    found.push(entry.line)?;
+                }
+            }
+        }
+    }
+    Ok(found)
+}
+
+/// Appends where a name is listed.
+fn say_lists(into: &mut Vec<u8>, name: &[u8], lists: &[u64]) -> Result<(), AllocError> {
+    say(into, ", found ")?;
+    say_quoted(into, name)?;
+    match lists {
+        [first, second, ..] => {
+            say(into, " on line ")?;
+            say_number(into, *first)?;
+            say(into, " and again on line ")?;
+            say_number(into, *second)
+        }
+        _ => say(into, " in no list"),
+    }
+}
+
+/// Returns whether a node or leaf is named `root`.
+fn has_root(entries: &[Entry<'_>]) -> bool {
+    for entry in entries {
+        if matches!(entry.word(0).bytes, b"leaf" | b"node") && is(entry.word(1).bytes, "root") {
+            return true;
+        }
+    }
+    false
+}
+
+/// Appends that there is no root, while a node or leaf is in no list.
+fn say_no_root(alloc: Global, into: &mut Vec<u8>, name: &[u8]) -> Result<(), AllocError> {
+    say(into, "expected a node or leaf named root, found none; ")?;
+    say_quoted(into, name)?;
+    say(into, " is in no list")?;
+    match nearest(alloc, str::from_utf8(name).unwrap_or(""), &["root"])? {
+        Some(root) => say_around(into, "; did you mean `", root, "`?"),
+        None => Ok(()),
+    }
+}
+
+/// Returns the node or leaf that isn't listed exactly once as a child.
+pub fn orphan_detail(
+    alloc: Global,
+    entries: &[Entry<'_>],
+    entry: &Entry<'_>,
+) -> Result<Option<Detail>, AllocError> {
+    let name = entry.word(1);
+    let lists = lists_of(alloc, entries, b"node", name.bytes)?;
+    let mut message = Vec::new(alloc);
+    if lists.is_empty() && !has_root(entries) {
+        say_no_root(alloc, &mut message, name.bytes)?;
+    } else {
+        say(
+            &mut message,
+            "expected each node and leaf but root to be listed as a child exactly once",
+        )?;
+        say_lists(&mut message, name.bytes, &lists)?;
+    }
+    Ok(Some(at_word(entry, name, message)))
+}
+
+/// Returns the class that isn't listed exactly once by leaves.
+pub fn class_detail(
+    alloc: Global,
+    entries: &[Entry<'_>],
+    entry: &Entry<'_>,
+) -> Result<Option<Detail>, AllocError> {
+    let name = entry.word(1);
+    let lists = lists_of(alloc, entries, b"leaf", name.bytes)?;
+    let mut message = Vec::new(alloc);
+    say(
+        &mut message,
+        "expected each class to be listed by leaves exactly once",
+    )?;
+    say_lists(&mut message, name.bytes, &lists)?;
+    Ok(Some(at_word(entry, name, message)))
+}
