@@ -117,10 +117,7 @@ impl<'a> Walk<'a> {
                 ticks: u64::from(record.seconds) * second + u64::from(record.fraction),
             };
             counts.add(seen, &self.unit);
-            if second <= u64::from(record.fraction) {
-                let number = counts.packets;
-                counts.fractions.add(number);
-            }
+            counts.add_seconds(record.seconds, second <= u64::from(record.fraction));
         }
         self.go_past(16 + u64::from(record.captured));
         self.begin(Stage::RecordHeader, RECORD_LEN);

@@ -63,6 +63,8 @@ pub struct Counts<'a> {
     pub link: Option<u16>,
     /// The first packet with another link type: its number and its link type.
     pub other_link: Option<(u64, u16)>,
+    /// The packet with the latest timestamp of a classic capture: its number and its seconds.
+    pub latest: Option<(u64, u32)>,
     last: Option<(u32, u64)>,
 }
 
@@ -97,6 +99,7 @@ impl<'a> Counts<'a> {
             obsolete: 0,
             link: None,
             other_link: None,
+            latest: None,
             last: None,
         })
     }
@@ -136,6 +139,18 @@ impl<'a> Counts<'a> {
             _ => (),
         }
         self.last = Some((seen.interface, seen.ticks));
+    }
+
+    /// Notes the seconds of the last packet's timestamp, and whether its fraction of a second is a
+    /// second or more.
+    pub fn add_seconds(&mut self, seconds: u32, is_more: bool) {
+        match self.latest {
+            Some((_, latest)) if seconds <= latest => (),
+            _ => self.latest = Some((self.packets, seconds)),
+        }
+        if is_more {
+            self.fractions.add(self.packets);
+        }
     }
 
     /// Counts the packet's class.

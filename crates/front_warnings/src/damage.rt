@@ -203,8 +203,11 @@ fn block_text(alloc: Global, damage: Damage) -> Result<String, AllocError> {
 }
 
 /// Returns the offset of an error in a capture, and what was read there, as a line of a message.
-/// Fails if out of memory.
+/// An empty file has none. Fails if out of memory.
 pub fn damage_text(alloc: Global, found: Found) -> Result<String, AllocError> {
+    if found.damage == Damage::HeaderCut(0) {
+        return Ok(String::new(alloc));
+    }
     let what = classic_text(alloc, found.damage)?;
     let at = found.at;
     format!(in alloc; "  at byte {at}: {what}\n")
