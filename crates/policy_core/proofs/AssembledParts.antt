@@ -35,7 +35,7 @@ use Rattle.policy_core.proofs.Shape.{topology-map}
 use Rattle.policy_core.proofs.AcceptedPolicies.{acceptable}
 use Rattle.policy_core.proofs.BuiltIns.{built-in}
 use Rattle.policy_core.proofs.AcceptedStatements.{root-there}
-use Rattle.policy_rules.proofs.Places.{found, place-within}
+use Rattle.policy_rules.proofs.PlaceLaws.{found, place-within}
 use Rattle.policy_core.proofs.HomePasses.{length-graph}
 use Rattle.policy_core.proofs.HomeLaws.{length-nodes}
 use Rattle.policy_core.proofs.InverseNumbers.{node-within}

@@ -8,7 +8,7 @@ use Rattle.policy_rules.specs.Names.{Name, has, node_name, children, declared}
 use Rattle.policy_rules.specs.Programs.{place}
 use Rattle.policy_rules.specs.Graph.{graph_of}
 use Rattle.policy_rules.specs.Families.{ListsChild, NamesLead, IsDescendant}
-use Rattle.policy_rules.proofs.Places.{place-within, at-place}
+use Rattle.policy_rules.proofs.PlaceLaws.{place-within, at-place}
 use Rattle.tree_graph.specs.Descent.{IsChild, Leads, IsBelow, AreInRange, children as kids}
 use Rattle.policy_core.specs.Lines.{node_entries}
 use Rattle.policy_core.proofs.NumberedPlaces.{only-place, all-at, Contains-map, Contains-map_back}

@@ -9,7 +9,7 @@ use Rattle.policy_text_defs.specs.Sense.{Sense, Entry, version, transaction, kee
 use Rattle.policy_rules.specs.Names.{Name, has, times, is_once, declared, class_name}
 use Rattle.policy_rules.specs.Clauses.{NoLine, is_declared, IsRepeated, is_not_listed_once}
 use Rattle.policy_rules.specs.Entries.{AreRising}
-use Rattle.policy_rules.proofs.Spaces.{declared-distinct}
+use Rattle.policy_rules.proofs.SpaceLaws.{declared-distinct}
 use Rattle.policy_core.proofs.AcceptedStatements.{holds}
 
 -- a class that isn't declared again is new

@@ -10,7 +10,7 @@ use Rattle.policy_rules.specs.Entries.{AreRising}
 use Rattle.policy_rules.specs.Programs.{place}
 use Rattle.policy_rules.specs.Graph.{graph_of}
 use Rattle.policy_rules.specs.Accepted.{HaveRoot, AreAcyclic, AreShallow}
-use Rattle.policy_rules.proofs.Places.{place-within}
+use Rattle.policy_rules.proofs.PlaceLaws.{place-within}
 use Rattle.tree_graph.specs.Descent.{Graph, lists, AreInRange, IsLeast, IsBelow, IsDeep, IsForest, AreParents}
 use Rattle.tree_graph.proofs.MarkLemmas.{length-lists}
 use Rattle.policy_core.specs.Lines.{node_entries, line_at}

@@ -13,7 +13,7 @@ use Rattle.tree_defs.specs.Tree.{most_nodes}
 use Rattle.policy_rules.specs.Entries.{AreRising, entries_of}
 use Rattle.policy_rules.specs.Accepted.{AreFew}
 use Rattle.policy_rules.proofs.Lines.{entry_of, within-entries, entry-at}
-use Rattle.policy_rules.proofs.Spaces.{declared-distinct, declared-few}
+use Rattle.policy_rules.proofs.SpaceLaws.{declared-distinct, declared-few}
 
 -- each node's name is declared once, each listed child is declared, and there aren't too many nodes
 pub record IsNamed (es : List Entry) : Type 0 where

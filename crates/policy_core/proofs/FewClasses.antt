@@ -8,7 +8,7 @@ use Rattle.policy_rules.specs.Names.{declared, class_name}
 use Rattle.policy_rules.specs.Entries.{AreRising}
 use Rattle.policy_rules.specs.Clauses.{NoLine, IsOneTooMany, is_one_too_many, most_classes, has_catch_all, has_catch_all_behind}
 use Rattle.policy_rules.specs.Resolved.{Declared, classes_in}
-use Rattle.policy_rules.proofs.Spaces.{declared-few}
+use Rattle.policy_rules.proofs.SpaceLaws.{declared-few}
 use Rattle.policy_core.specs.Parts.{HasCatchAll}
 
 -- ---- the limit on classes

@@ -16,7 +16,7 @@ use Rattle.policy_rules.specs.Names.{Name, has, node_name, children, declared, l
 use Rattle.policy_rules.specs.Clauses.{NoLine, IsOrphan, is_orphan, has_root, root}
 use Rattle.policy_rules.specs.Programs.{place}
 use Rattle.policy_rules.specs.Graph.{graph_of}
-use Rattle.policy_rules.proofs.Places.{at-place, place-within}
+use Rattle.policy_rules.proofs.PlaceLaws.{at-place, place-within}
 use Rattle.tree_graph.specs.Descent.{Graph, IsChild, IsBelow, IsForest, HasOneParent, times, children as kids}
 use Rattle.tree_graph.proofs.NodesOnce.{is}
 use Rattle.policy_core.specs.Lines.{node_entries}

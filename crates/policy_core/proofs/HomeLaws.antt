@@ -16,7 +16,7 @@ use Rattle.tree_graph.specs.Row.{Row}
 use Rattle.policy_core.specs.Numbers.{ArePlaces}
 use Rattle.policy_core.specs.Homes.{IsLeafWith, IsHome, AreHomes}
 use Rattle.policy_core.proofs.NodeStatements.{names-nodes}
-use Rattle.policy_rules.proofs.Places.{has-at, place-at}
+use Rattle.policy_rules.proofs.PlaceLaws.{has-at, place-at}
 use Rattle.policy_core.proofs.DistinctClasses.{distinct-classes, classes-listed}
 use Rattle.policy_core.proofs.HomePasses.{IsLeafPlace, IsPassing, length-graph}
 

@@ -9,7 +9,7 @@ use Rattle.std.proofs.Math.Bool.{or-true, or-false}
 use Rattle.std.specs.Str.{bytes_eq}
 use Rattle.policy_rules.specs.Names.{Name, has}
 use Rattle.policy_rules.specs.Programs.{place}
-use Rattle.policy_rules.proofs.Places.{found, place-within, at-place}
+use Rattle.policy_rules.proofs.PlaceLaws.{found, place-within, at-place}
 use Rattle.policy_core.specs.Homes.{ArePut}
 use Rattle.policy_core.proofs.PlacePrograms.{none-some, some-same}
 

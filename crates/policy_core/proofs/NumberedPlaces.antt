@@ -8,7 +8,7 @@ use Rattle.std.specs.Str.{bytes_eq}
 use Rattle.std.proofs.lemmas.List.{length-map}
 use Rattle.policy_rules.specs.Names.{Name, has}
 use Rattle.policy_rules.specs.Programs.{place}
-use Rattle.policy_rules.proofs.Places.{found, has-at, place-at}
+use Rattle.policy_rules.proofs.PlaceLaws.{found, has-at, place-at}
 
 -- a name in the list has an index
 pub not-found : (names : List Name) (a : Name) → position (bytes_eq a) names ≡ None → has names a ≡ true → ⊥

@@ -16,7 +16,7 @@ use Rattle.policy_rules.proofs.ListedOnce.{class-one_leaf}
 use Rattle.policy_core.proofs.AcceptedStatements.{strays-none}
 use Rattle.policy_core.proofs.PlacePrograms.{some-same}
 use Rattle.policy_core.proofs.LeafClasses.{names-classes}
-use Rattle.policy_rules.proofs.Places.{has-at}
+use Rattle.policy_rules.proofs.PlaceLaws.{has-at}
 use Rattle.policy_core.specs.TextLaws.{StatementsGiveOnePolicy}
 use Rattle.policy_core.proofs.Statements.{at-one_place}
 use Rattle.policy_core.proofs.OneTree.{one-tree}

@@ -18,7 +18,7 @@ use Rattle.tree_graph.specs.Preorder.{labels, IsTreeOf, AreTreesOf}
 use Rattle.policy_rules.specs.Accepted.{AreAccepted}
 use Rattle.policy_core.specs.PlaceLaws.{AreValid, IsNodeTree}
 use Rattle.policy_core.specs.Labels.{map_tree, map_trees, node_numbered, nodes_at}
-use Rattle.policy_rules.proofs.Places.{place-within, at-place, at-places}
+use Rattle.policy_rules.proofs.PlaceLaws.{place-within, at-place, at-places}
 use Rattle.policy_core.proofs.NodeStatements.{families, IsStated, stated, names-nodes}
 use Rattle.policy_core.proofs.PlacePrograms.{none-some, some-same, program-there}
 use Rattle.policy_core.proofs.AcceptedStatements.{known-at, known-there, root-there}

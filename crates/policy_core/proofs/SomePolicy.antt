@@ -15,7 +15,7 @@ use Rattle.policy_rules.specs.Programs.{place}
 use Rattle.policy_rules.specs.Accepted.{AreAccepted}
 use Rattle.policy_rules.specs.Graph.{graph_of}
 use Rattle.policy_rules.specs.Resolved.{Resolved, Declared, IsResolved, ListsClass, classes_in}
-use Rattle.policy_rules.proofs.Places.{has-at}
+use Rattle.policy_rules.proofs.PlaceLaws.{has-at}
 use Rattle.tree_graph.specs.Descent.{IsForest, IsWithin, times}
 use Rattle.tree_graph.specs.Row.{Row, row, row_at, nodes_of}
 use Rattle.tree_graph.specs.Preorder.{IsTreeOf, preorder, rows}

@@ -11,7 +11,7 @@ use Rattle.policy_rules.specs.Accepted.{AreAccepted}
 use Rattle.policy_rules.specs.Graph.{graph_of, nodes_in}
 use Rattle.tree_graph.specs.Preorder.{IsTreeOf, AreTreesOf, labels, preorder, preorder_below}
 use Rattle.policy_core.specs.Labels.{map_tree, map_trees, node_numbered, nodes_at}
-use Rattle.policy_rules.proofs.Places.{place-within}
+use Rattle.policy_rules.proofs.PlaceLaws.{place-within}
 use Rattle.policy_rules.proofs.Lists.{all-append, all-first, all-second, all-weaker}
 use Rattle.policy_core.proofs.NodeStatements.{families, IsStated, stated}
 use Rattle.policy_core.proofs.ResolvedTrees.{children-at, known-of, family-known, places-within}

@@ -2,9 +2,9 @@ pub mod OneFault
 pub mod EarlierLines
 pub mod Lines
 pub mod OpenBodies
-pub mod Places
+pub mod PlaceLaws
 pub mod Lists
-pub mod Spaces
+pub mod SpaceLaws
 pub mod PassLemmas
 pub mod BodyVariables
 pub mod OpenVariables

@@ -16,7 +16,7 @@ use Rattle.policy_rules.specs.Clauses.{is_one_too_many, is_transaction_known, mo
 use Rattle.policy_rules.specs.Accepted.{AreFew}
 use Rattle.policy_rules.specs.Entries.{AreRising}
 use Rattle.policy_rules.specs.Programs.{program_in, programs, body_named, or_written, program_named}
-use Rattle.policy_rules.proofs.Spaces.{declared-few}
+use Rattle.policy_rules.proofs.SpaceLaws.{declared-few}
 use Rattle.policy_rules.proofs.Texts.{position-map}
 use Rattle.policy_rules.specs.Known.{known_programs}
 use Rattle.policy_rules.proofs.WordVariables.{any_position}

@@ -21,7 +21,7 @@ use Rattle.policy_text_defs.specs.Valid.{IsValidSpan}
 use Rattle.policy_rules.specs.Names.{Name, has, declared, keep_name, each_name, variable_name}
 use Rattle.policy_rules.specs.Clauses.{are_operands_known}
 use Rattle.policy_rules.specs.Programs.{place, variable_of, formula_in, aim_of, keep_span, each_span, push_in, pop_in, program_in}
-use Rattle.policy_rules.proofs.Places.{place-within}
+use Rattle.policy_rules.proofs.PlaceLaws.{place-within}
 use Rattle.policy_rules.specs.CheckedBodies.{AreSoundBehind, IsSoundBody}
 use Rattle.policy_rules.proofs.SoundBodies.{AreBody, AreBody-push, open_own}
 

@@ -5,6 +5,8 @@ mod counts;
 mod delays;
 mod event;
 mod laws;
+#[cfg(test)]
+mod played;
 mod recorder;
 mod summary;
 mod table;
