@@ -188,11 +188,12 @@ impl<'a> Walk<'a> {
     }
 
     /// Counts a packet whose captured bytes begin at `at`.
-    fn read_packet(&mut self, seen: Seen, at: usize, captured: u32, total: u32) {
-        let room = total.saturating_sub(4).saturating_sub(at as u32);
+    fn read_packet(&mut self, seen: Seen, at: u32, captured: u32, total: u32) {
+        let room = total.saturating_sub(4).saturating_sub(at);
         if captured > MOST_CAPTURED || room < captured {
             return self.stop(Damage::PacketLong(captured, room));
         }
+        let at = at as usize;
         let end = at.saturating_add(captured as usize);
         if let (Some(counts), Some(bytes)) = (&mut self.counts, self.unit.get(at..end)) {
             counts.add(seen, bytes);

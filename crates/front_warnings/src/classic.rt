@@ -114,7 +114,9 @@ impl<'a> Walk<'a> {
                 link: record.link,
                 len: record.len,
                 interface: 0,
-                ticks: u64::from(record.seconds) * second + u64::from(record.fraction),
+                ticks: u64::from(record.seconds)
+                    .saturating_mul(second)
+                    .saturating_add(u64::from(record.fraction)),
             };
             counts.add(seen, &self.unit);
             counts.add_seconds(record.seconds, second <= u64::from(record.fraction));

@@ -87,10 +87,10 @@ fn warn_of_classes(
     classes: &[Declared<'_>],
 ) -> Result<(), AllocError> {
     let mut names = String::new(alloc);
-    let mut count = 0;
+    let mut count: usize = 0;
     for place in 0..classes.len() {
         if is_unused(classes, &counts.classes, place) {
-            count += 1;
+            count = count.saturating_add(1);
             if count <= MOST_NAMES {
                 names.push_str(" ")?;
                 names.push_str(classes[place].name)?;
