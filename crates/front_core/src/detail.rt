@@ -19,7 +19,7 @@ fn before_last_line(text: &[u8]) -> usize
             at = place + 1;
         }
     }
-    at
+    at.min(text.len())
 }
 
 /// Inserts a detail before the last line of a message, which is its help. Fails if out of memory.

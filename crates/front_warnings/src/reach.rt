@@ -16,7 +16,7 @@ pub struct Declared<'a> {
 const MOST_CLASSES: usize = 256;
 
 /// Returns the class that a statement declares.
-fn declared<'a>(line: u32, name: &'a str, conditions: &[Condition]) -> Declared<'a> {
+fn class_of<'a>(line: u32, name: &'a str, conditions: &[Condition]) -> Declared<'a> {
     Declared {
         line,
         name,
@@ -33,7 +33,7 @@ pub fn classes_of<'a>(
     for entry in entries {
         if let (line, Statement::Class(name, _, conditions)) = entry {
             if classes.len() < MOST_CLASSES {
-                classes.push(declared(*line, name.as_str(), conditions.as_slice()))?;
+                classes.push(class_of(*line, name.as_str(), conditions.as_slice()))?;
             }
         }
     }
