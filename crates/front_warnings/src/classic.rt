@@ -78,6 +78,7 @@ impl<'a> Walk<'a> {
         }
         self.big = big;
         self.record.nano = nano;
+        self.record.snapshot = long(big, four(&self.unit, 16));
         self.record.link = (long(big, four(&self.unit, 20)) & 0xffff) as u16;
         self.at = 24;
         self.begin(Stage::RecordHeader, RECORD_LEN);
@@ -89,7 +90,7 @@ impl<'a> Walk<'a> {
         let captured = long(big, four(&self.unit, 8));
         let len = long(big, four(&self.unit, 12));
         if captured > MOST_CAPTURED {
-            return self.stop(Damage::RecordLong(captured, len));
+            return self.stop(Damage::RecordLong(captured, len, self.record.snapshot));
         }
         self.record.seconds = long(big, four(&self.unit, 0));
         self.record.fraction = long(big, four(&self.unit, 4));

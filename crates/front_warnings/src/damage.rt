@@ -19,8 +19,8 @@ pub enum Damage {
     RecordCut(usize),
     /// The captured length of a record, and how many of these bytes are left.
     DataCut(u32, usize),
-    /// The captured and original length of a record.
-    RecordLong(u32, u32),
+    /// The captured and original length of a record, and the file header's snapshot length.
+    RecordLong(u32, u32, u32),
     /// Only this many of a block's first twelve bytes are left.
     StartCut(usize),
     /// The total length of a block, and how many of these bytes are left.
@@ -157,9 +157,9 @@ fn classic_text(alloc: Global, damage: Damage) -> Result<String, AllocError> {
                 "captured length {captured}, and {there} bytes are left in the file: {more} are missing"
             )
         }
-        Damage::RecordLong(captured, len) => {
+        Damage::RecordLong(captured, len, snapshot) => {
             format!(in alloc;
-                "captured length {captured}, above the limit of {MOST_CAPTURED}; original length {len}"
+                "captured length {captured}, above the limit of {MOST_CAPTURED}; original length {len}, snapshot length {snapshot}"
             )
         }
         _ => block_text(alloc, damage),

@@ -34,6 +34,7 @@ pub(crate) struct Described {
 #[derive(Clone, Copy)]
 pub(crate) struct Record {
     pub(crate) link: u16,
+    pub(crate) snapshot: u32,
     pub(crate) nano: bool,
     pub(crate) seconds: u32,
     pub(crate) fraction: u32,
@@ -73,6 +74,7 @@ impl<'a> Walk<'a> {
             big: false,
             record: Record {
                 link: 0,
+                snapshot: 0,
                 nano: false,
                 seconds: 0,
                 fraction: 0,
