@@ -1,5 +1,5 @@
 //! The file that an error is in.
-use front_defs::Command;
+use front_defs::{Command, Options};
 use report_core::FaultKind;
 
 /// Returns the index of the file that an error is in, among the files of a command, counted from 0.
@@ -18,6 +18,37 @@ pub fn file_of(command: Command, kind: FaultKind) -> Option<usize> {
         (FaultKind::Map, _) => 2,
         _ => return None,
     })
+}
+
+/// Returns the name of the file with this index among a command's files.
+fn named<'a>(options: &Options<'a>, place: usize) -> Option<&'a str> {
+    options.files.get(place).copied()
+}
+
+/// Returns the name of a command's policy, if it has one.
+pub fn policy_of<'a>(options: &Options<'a>) -> Option<&'a str> {
+    match options.command {
+        Command::Soak => None,
+        _ => named(options, 0),
+    }
+}
+
+/// Returns the name of a command's capture, if it has one.
+pub fn capture_of<'a>(options: &Options<'a>) -> Option<&'a str> {
+    match options.command {
+        Command::Replay | Command::Link | Command::Forward => named(options, 2),
+        Command::Direct => named(options, 1),
+        Command::Via => named(options, 4),
+        _ => None,
+    }
+}
+
+/// Returns the name of the target that a command lays a policy's own tree into, if it has one.
+pub fn target_of<'a>(options: &Options<'a>) -> Option<&'a str> {
+    match options.command {
+        Command::Plan | Command::Replay | Command::Link | Command::Forward => named(options, 1),
+        _ => None,
+    }
 }
 
 /// Returns the index of the file that a command reads at this turn, both counted from 0. A script

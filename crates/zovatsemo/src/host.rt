@@ -1,11 +1,12 @@
 //! The environment of the entry point: arguments, files, standard output and standard error.
+use crate::again::{add_detail, tell_ending, warn};
 use crate::files::{front_of, tell_unread};
 use crate::front::{front_caught, front_run};
 use crate::output::{NO_OUTPUT, Output};
 use crate::told::tell;
 use front_core::{
     Asked, Catching, Mistake, Request, ask, fault_in, file_of, help_of, help_of_all, tell_fault,
-    tell_mistake, tell_status,
+    tell_mistake,
 };
 use front_defs::{Command, Options};
 use outside_core::{FileShelf, StdSink};
@@ -57,7 +58,8 @@ fn tell_line(rt: &HostRuntime, options: &Options<'_>, line: &[u8]) -> Result<(),
         Some(content) => Some(content.as_slice()),
         None => None,
     };
-    tell(rt, &tell_fault(rt.alloc(), fault, name, front)?);
+    let text = tell_fault(rt.alloc(), fault, name, front)?;
+    tell(rt, &add_detail(rt, options, fault, &text)?);
     Ok(())
 }
 
@@ -70,11 +72,13 @@ fn tell_end(
     sink: &Catching<Output<'_>>,
 ) -> Result<(), AllocError> {
     match sink.kept() {
-        _ if status == 0 => (),
+        _ if status == 0 => {
+            let _ = warn(rt, options);
+        }
         _ if status == NO_OUTPUT => sink.below().tell_failure(options.command)?,
         [line @ .., b'\n'] => tell_line(rt, options, line)?,
         _ if status == 8 => tell_unread(rt, options)?,
-        _ => tell(rt, &tell_status(rt.alloc(), options.command, status)?),
+        _ => tell_ending(rt, options, status)?,
     }
     Ok(())
 }

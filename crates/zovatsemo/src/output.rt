@@ -2,7 +2,7 @@
 ghost use Rattle.std.specs.Prelude.{◌≡◌, ◌≤◌, length, IfOk};
 
 use crate::told::tell;
-use front_core::tell_status;
+use front_core::{tell_status, with_detail};
 use front_defs::Command;
 use outside_core::{Sink, SinkError};
 use std::alloc::AllocError;
@@ -70,6 +70,11 @@ impl<'a> Output<'a> {
                     "{name}: error: expected a file that can be written, found: {error}\n"
                 )?;
                 tell(rt, text.as_bytes());
+            }
+            (None, Some(error)) => {
+                let reason = format!(in rt.alloc(); "  the system's reason: {error}\n")?;
+                let text = tell_status(rt.alloc(), command, NO_OUTPUT)?;
+                tell(rt, &with_detail(rt.alloc(), &text, &reason)?);
             }
             _ => tell(rt, &tell_status(rt.alloc(), command, NO_OUTPUT)?),
         }
