@@ -261,7 +261,9 @@ fn say_cause(
     cause: Cause,
     content: Option<&[u8]>,
 ) -> Result<(), AllocError> {
-    if let Some(text) = content && let Some(detail) = detail_in(alloc, fault, text)? {
+    if let Some(text) = content
+        && let Some(detail) = detail_in(alloc, fault, text)?
+    {
         return say_detail(into, fault, cause, text, &detail);
     }
     if is_at_line(fault) {
