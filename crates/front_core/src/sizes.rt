@@ -2,11 +2,9 @@
 ghost use Rattle.target_defs.specs.Target.{IsInRange};
 
 use embed_core::{Target, least_height};
-use outside_core::FileShelf;
-use policy_core::Policy;
-use replay_app::{Read, read_policy, read_target_file};
+use policy_core::{Policy, resolve};
+use policy_text::parse;
 use std::alloc::{AllocError, Global};
-use std::rt::Files;
 use target_core::read_target;
 
 /// The most children of a node of a target.
@@ -64,19 +62,14 @@ fn needs_text(alloc: Global, policy: &Policy, target: &Target) -> Result<String,
     )
 }
 
-/// Reads a policy and a target again, and returns what the policy needs and what the target has, as
-/// lines of a message. Returns nothing if they can't be read. Fails if out of memory.
-pub fn size_detail<R: Files + Drop>(
-    alloc: Global,
-    shelf: &mut FileShelf<R>,
-    policy: &str,
-    target: &str,
-) -> Result<String, AllocError> {
-    let Ok(Read::Accepted(judged)) = read_policy(alloc, shelf, policy) else {
+/// Returns what the policy of a text needs and what the target of a text has, as lines of a message.
+/// Returns nothing if one of them isn't accepted. Fails if out of memory.
+pub fn size_detail(alloc: Global, policy: &[u8], target: &[u8]) -> Result<String, AllocError> {
+    let Ok(lines) = parse(alloc, policy) else {
         return Ok(String::new(alloc));
     };
-    match read_target_file(alloc, shelf, target) {
-        Ok(Read::Accepted(target)) => needs_text(alloc, &judged.policy, &target),
+    match (resolve(alloc, &lines), read_target(alloc, target)) {
+        (Ok(policy), Ok(target)) => needs_text(alloc, &policy, &target),
         _ => Ok(String::new(alloc)),
     }
 }

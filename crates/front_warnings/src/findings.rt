@@ -4,10 +4,26 @@ use crate::links::link_name;
 use crate::notes::Notes;
 use crate::reach::{Declared, classes_of, is_reached};
 use policy_text::Lines;
+use policy_text_defs::Statement;
 use std::alloc::{AllocError, Global};
 
 /// The most names of classes that a warning lists.
 const MOST_NAMES: usize = 20;
+
+/// Returns whether a leaf with this transaction treats all flows alike.
+fn is_flowless(using: &str) -> bool {
+    using == "fifo" || using == "strict" || using == "shortest" || using == "lstf"
+}
+
+/// Returns whether a policy can depend on header fields: a class has a condition, or a leaf can
+/// distinguish flows.
+fn needs_fields(entries: &[(u32, Statement)]) -> bool {
+    entries.iter().any(|entry| match &entry.1 {
+        Statement::Class(_, _, conditions) => !conditions.is_empty(),
+        Statement::Leaf(_, using, _, _, _) => !is_flowless(using.as_str()),
+        _ => false,
+    })
+}
 
 /// Adds a warning if packets have no header fields.
 fn warn_of_links(
@@ -114,7 +130,9 @@ pub fn capture_warnings(
     lines: &Lines,
 ) -> Result<String, AllocError> {
     let mut notes = Notes::new(alloc, name);
-    warn_of_links(alloc, &mut notes, counts)?;
+    if needs_fields(lines.entries()) {
+        warn_of_links(alloc, &mut notes, counts)?;
+    }
     warn_of_blocks(alloc, &mut notes, counts)?;
     warn_of_times(alloc, &mut notes, counts)?;
     let classes = classes_of(alloc, lines.entries())?;

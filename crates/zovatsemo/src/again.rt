@@ -1,4 +1,5 @@
 //! Second readings of a command's files, for messages and warnings. A pipe isn't read twice.
+use crate::files::front_of;
 use crate::told::tell;
 use front_core::{
     Fault, capture_of, name_shown, policy_of, size_detail, target_of, tell_found, tell_status,
@@ -75,9 +76,11 @@ fn detail_of(rt: &HostRuntime, options: &Options<'_>, fault: Fault) -> Result<St
         target_of(options),
     ) {
         (FaultKind::Capture, Some(name), _, _) => capture_detail(rt, name, fault),
-        (FaultKind::Size, _, Some(policy), Some(target))
-            if size_of(rt, policy).is_some() && size_of(rt, target).is_some() => {
-            size_detail(alloc, &mut FileShelf::new(rt.clone()?), policy, target)
+        (FaultKind::Size, _, Some(policy), Some(target)) => {
+            match (front_of(rt, policy)?, front_of(rt, target)?) {
+                (Some(policy), Some(target)) => size_detail(alloc, &policy, &target),
+                _ => Ok(String::new(alloc)),
+            }
         }
         _ => Ok(String::new(alloc)),
     }
