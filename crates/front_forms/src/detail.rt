@@ -13,7 +13,7 @@ use std::alloc::{AllocError, Global};
 use text_core::lines;
 
 /// An error in a text.
-#[derive(Clone, Copy, Debug)]
+#[derive(Clone, Copy)]
 pub struct Error<'a> {
     pub kind: FaultKind,
     pub code: u64,

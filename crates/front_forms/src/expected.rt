@@ -130,7 +130,7 @@ fn blocked(walk: &Walk, bytes: &[u8]) -> Option<&'static str> {
                 Want::Attribute(..) => Some("each attribute is written once"),
                 Want::Relation(_) => Some("put one of the comparisons into parentheses"),
                 Want::Open(_) => Some("at most 64 parentheses may be open at once"),
-                Want::Comma => Some("no function has more arguments"),
+                Want::Comma => Some("no further argument may follow"),
                 Want::Close if walk.is_inside() => Some("the function has another argument"),
                 Want::Close => Some("no parenthesis is open"),
                 _ => None,

@@ -4,22 +4,20 @@ use crate::detail::{Detail, Error, blanks};
 use crate::expected::say_quoted;
 use crate::rules::at_word;
 use crate::wording::{say, say_number, say_thousands};
-use crate::words::{Entry, Word, entries};
+use crate::words::{Entry, Word, bytes_of, entries};
 use std::alloc::{AllocError, Global};
 
 /// Returns the address of a map's line.
-fn address_of<'a>(entry: &Entry<'a>) -> Word<'a> {
-    let name = entry.word(1);
-    let after = name.start.saturating_add(name.bytes.len());
-    let start = after.saturating_add(blanks(part(entry.text, after, entry.text.len())));
-    let bytes = part(entry.text, start, entry.text.len());
-    let count = bytes
+fn address_of(text: &[u8], entry: &Entry) -> Word {
+    let after = entry.word(1).end;
+    let start = after.saturating_add(blanks(part(text, after, entry.end)));
+    let count = part(text, start, entry.end)
         .iter()
         .take_while(|byte| !matches!(**byte, b' ' | b'\t'))
         .count();
     Word {
         start,
-        bytes: part(bytes, 0, count),
+        end: start.saturating_add(count),
     }
 }
 
@@ -44,12 +42,17 @@ pub fn map_detail(alloc: Global, error: Error<'_>) -> Result<Option<Detail>, All
             let word = if is_name {
                 entry.word(1)
             } else {
-                address_of(entry)
+                address_of(error.text, entry)
             };
             say(&mut message, expected(error.code))?;
-            say_quoted(&mut message, word.bytes)?;
+            say_quoted(&mut message, bytes_of(error.text, word))?;
             if error.code == 4 {
-                say_first(&mut message, &entries, word.bytes)?;
+                say_first(
+                    &mut message,
+                    error.text,
+                    &entries,
+                    bytes_of(error.text, word),
+                )?;
             }
             return Ok(Some(at_word(entry, word, message)));
         }
@@ -58,9 +61,14 @@ pub fn map_detail(alloc: Global, error: Error<'_>) -> Result<Option<Detail>, All
 }
 
 /// Appends the first line of a map with this name.
-fn say_first(into: &mut Vec<u8>, entries: &[Entry<'_>], name: &[u8]) -> Result<(), AllocError> {
+fn say_first(
+    into: &mut Vec<u8>,
+    text: &[u8],
+    entries: &[Entry],
+    name: &[u8],
+) -> Result<(), AllocError> {
     for entry in entries {
-        if entry.word(1).bytes == name {
+        if entry.bytes(text, 1) == name {
             say(into, " again, which is on line ")?;
             return say_number(into, entry.line);
         }
@@ -92,18 +100,18 @@ fn size_of(line: &[u8]) -> (u64, u64) {
 fn say_tree(
     alloc: Global,
     into: &mut Vec<u8>,
-    entry: &Entry<'_>,
-    first: &Entry<'_>,
-    code: u64,
+    error: Error<'_>,
+    entry: &Entry,
+    first: &Entry,
 ) -> Result<(), AllocError> {
-    if code == 2 {
+    if error.code == 2 {
         say(
             into,
             "expected one tree on one line, found a second; the first is on line ",
         )?;
         return say_number(into, first.line);
     }
-    let (nodes, levels) = size_of(entry.text);
+    let (nodes, levels) = size_of(entry.statement(error.text));
     say(into, "expected at most 1,024 nodes and 64 levels, found ")?;
     say_thousands(alloc, into, nodes)?;
     say(into, " nodes and ")?;
@@ -125,10 +133,10 @@ pub fn tree_detail(alloc: Global, error: Error<'_>) -> Result<Option<Detail>, Al
     };
     for entry in entries.as_slice() {
         if entry.line == error.line {
-            say_tree(alloc, &mut message, entry, first, error.code)?;
+            say_tree(alloc, &mut message, error, entry, first)?;
             return Ok(Some(Detail {
                 line: entry.line,
-                column: blanks(entry.text),
+                column: blanks(entry.statement(error.text)),
                 message,
             }));
         }

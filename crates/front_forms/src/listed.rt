@@ -4,7 +4,7 @@ use crate::expected::say_quoted;
 use crate::near::nearest;
 use crate::rules::at_word;
 use crate::wording::{say, say_around, say_number};
-use crate::words::Entry;
+use crate::words::{Entry, bytes_of};
 use policy_text_defs::is;
 use std::alloc::{AllocError, Global};
 use std::str;
@@ -12,15 +12,16 @@ use std::str;
 /// Returns the numbers of the lines of one kind that list a name, once for each time.
 fn lists_of(
     alloc: Global,
-    entries: &[Entry<'_>],
-    keyword: &[u8],
+    text: &[u8],
+    entries: &[Entry],
+    keyword: &str,
     name: &[u8],
 ) -> Result<Vec<u64>, AllocError> {
     let mut found = Vec::new(alloc);
     for entry in entries {
-        if entry.word(0).bytes == keyword {
-            for word in entry.listed() {
-                if word.bytes == name {
+        if entry.begins(text, keyword) {
+            for word in entry.listed(text) {
+                if bytes_of(text, *word) == name {
                     found.push(entry.line)?;
                 }
             }
@@ -45,9 +46,10 @@ fn say_lists(into: &mut Vec<u8>, name: &[u8], lists: &[u64]) -> Result<(), Alloc
 }
 
 /// Returns whether a node or leaf is named `root`.
-fn has_root(entries: &[Entry<'_>]) -> bool {
+fn has_root(text: &[u8], entries: &[Entry]) -> bool {
     for entry in entries {
-        if matches!(entry.word(0).bytes, b"leaf" | b"node") && is(entry.word(1).bytes, "root") {
+        let is_node = entry.begins(text, "leaf") || entry.begins(text, "node");
+        if is_node && is(entry.bytes(text, 1), "root") {
             return true;
         }
     }
@@ -68,37 +70,39 @@ fn say_no_root(alloc: Global, into: &mut Vec<u8>, name: &[u8]) -> Result<(), All
 /// Returns the node or leaf that isn't listed exactly once as a child.
 pub fn orphan_detail(
     alloc: Global,
-    entries: &[Entry<'_>],
-    entry: &Entry<'_>,
+    text: &[u8],
+    entries: &[Entry],
+    entry: &Entry,
 ) -> Result<Option<Detail>, AllocError> {
-    let name = entry.word(1);
-    let lists = lists_of(alloc, entries, b"node", name.bytes)?;
+    let name = entry.bytes(text, 1);
+    let lists = lists_of(alloc, text, entries, "node", name)?;
     let mut message = Vec::new(alloc);
-    if lists.is_empty() && !has_root(entries) {
-        say_no_root(alloc, &mut message, name.bytes)?;
+    if lists.is_empty() && !has_root(text, entries) {
+        say_no_root(alloc, &mut message, name)?;
     } else {
         say(
             &mut message,
             "expected each node and leaf but root to be listed as a child exactly once",
         )?;
-        say_lists(&mut message, name.bytes, &lists)?;
+        say_lists(&mut message, name, &lists)?;
     }
-    Ok(Some(at_word(entry, name, message)))
+    Ok(Some(at_word(entry, entry.word(1), message)))
 }
 
 /// Returns the class that isn't listed exactly once by leaves.
 pub fn class_detail(
     alloc: Global,
-    entries: &[Entry<'_>],
-    entry: &Entry<'_>,
+    text: &[u8],
+    entries: &[Entry],
+    entry: &Entry,
 ) -> Result<Option<Detail>, AllocError> {
-    let name = entry.word(1);
-    let lists = lists_of(alloc, entries, b"leaf", name.bytes)?;
+    let name = entry.bytes(text, 1);
+    let lists = lists_of(alloc, text, entries, "leaf", name)?;
     let mut message = Vec::new(alloc);
     say(
         &mut message,
         "expected each class to be listed by leaves exactly once",
     )?;
-    say_lists(&mut message, name.bytes, &lists)?;
-    Ok(Some(at_word(entry, name, message)))
+    say_lists(&mut message, name, &lists)?;
+    Ok(Some(at_word(entry, entry.word(1), message)))
 }

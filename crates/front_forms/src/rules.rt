@@ -4,14 +4,14 @@ use crate::expected::say_quoted;
 use crate::listed::{class_detail, orphan_detail};
 use crate::near::nearest;
 use crate::wording::{say, say_around, say_number};
-use crate::words::{Entry, Word};
-use policy_text_defs::{is, name_of};
+use crate::words::{Entry, Word, bytes_of};
+use policy_text_defs::name_of;
 use std::alloc::{AllocError, Global};
 use std::collections::BTreeSet;
 use std::str;
 
 /// A space of names, in which each is declared once.
-#[derive(Clone, Copy, PartialEq, Eq, Debug)]
+#[derive(Clone, Copy, PartialEq, Eq)]
 pub enum Space {
     Transaction,
     Variable,
@@ -42,64 +42,77 @@ impl Space {
 }
 
 /// Returns the error at a word of a line.
-pub fn at_word(entry: &Entry<'_>, word: Word<'_>, message: Vec<u8>) -> Detail {
+pub fn at_word(entry: &Entry, word: Word, message: Vec<u8>) -> Detail {
     Detail {
         line: entry.line,
-        column: word.start,
+        column: word.start.saturating_sub(entry.start),
         message,
     }
 }
 
 /// Returns the index of the first line of the transaction that a line belongs to.
-fn block_of(entries: &[Entry<'_>], at: usize) -> usize {
-    let mut first = 0;
-    for (place, entry) in entries.iter().enumerate().take(at) {
-        if is(entry.word(0).bytes, "transaction") {
+fn block_of(text: &[u8], entries: &[Entry], at: usize) -> usize {
+    let mut first: usize = 0;
+    let mut place: usize = 0;
+    for entry in entries.iter().take(at) {
+        if entry.begins(text, "transaction") {
             first = place;
         }
+        place = place.saturating_add(1);
     }
     first
 }
 
 /// Returns the lines that can declare names of a space for the line at an index.
-fn scope<'e, 'a>(entries: &'e [Entry<'a>], at: usize, space: Space) -> &'e [Entry<'a>] {
-    match space {
-        Space::Variable => entries.get(block_of(entries, at)..at).unwrap_or(&[]),
-        _ => entries,
-    }
+fn scope<'e>(text: &[u8], entries: &'e [Entry], at: usize, space: Space) -> &'e [Entry] {
+    let is_local = space == Space::Variable;
+    let count = entries.len();
+    let end = if is_local { at.min(count) } else { count };
+    let start = if is_local {
+        block_of(text, entries, at).min(end)
+    } else {
+        0
+    };
+    &entries[start..end]
 }
 
 /// Appends what was expected of the order of statements.
 fn say_order(
     into: &mut Vec<u8>,
-    entries: &[Entry<'_>],
-    at: usize,
-    entry: &Entry<'_>,
+    text: &[u8],
+    last: Option<&Entry>,
+    entry: &Entry,
 ) -> Result<(), AllocError> {
-    let Some(last) = at.checked_sub(1).and_then(|place| entries.get(place)) else {
+    let Some(last) = last else {
         say(into, "expected `policy 1` or `policy 2` first, found ")?;
-        return say_quoted(into, entry.word(0).bytes);
+        return say_quoted(into, entry.bytes(text, 0));
     };
-    say(
-        into,
-        match entry.word(0).bytes {
-            b"policy" => "expected `policy 1` or `policy 2` once and first, found a second one",
-            b"keep" | b"each" =>
-                "expected a variable after `transaction`, `keep` or `each`, found it",
-            b"push" => "expected `push` in a transaction and before each `pop`, found it",
-            _ => "expected `pop` in a transaction, found it",
-        },
-    )?;
-    say(into, " after ")?;
-    say_quoted(into, last.word(0).bytes)?;
+    let expected = match entry.bytes(text, 0) {
+        b"policy" => "expected `policy 1` or `policy 2` once and first, found a second one",
+        b"keep" | b"each" => "expected a variable after `transaction`, `keep` or `each`, found it",
+        b"push" => "expected `push` in a transaction and before each `pop`, found it",
+        _ => "expected `pop` in a transaction, found it",
+    };
+    say_around(into, expected, " after ", "")?;
+    say_quoted(into, last.bytes(text, 0))?;
     say(into, " on line ")?;
     say_number(into, last.line)
 }
 
 /// Returns the line before that declares the same name in its space.
-fn first_declared(entries: &[Entry<'_>], at: usize, space: Space, name: &[u8]) -> Option<u64> {
-    for entry in scope(entries, at, space).iter().take(at) {
-        if Space::of(entry.word(0).bytes) == Some(space) && entry.word(1).bytes == name {
+fn first_declared(
+    text: &[u8],
+    entries: &[Entry],
+    at: usize,
+    space: Space,
+    name: &[u8],
+) -> Option<u64> {
+    let start = match space {
+        Space::Variable => block_of(text, entries, at),
+        _ => 0,
+    };
+    for entry in entries.iter().take(at).skip(start) {
+        if Space::of(entry.bytes(text, 0)) == Some(space) && entry.bytes(text, 1) == name {
             return Some(entry.line);
         }
     }
@@ -109,15 +122,16 @@ fn first_declared(entries: &[Entry<'_>], at: usize, space: Space, name: &[u8]) -
 /// Appends that a name is declared twice.
 fn say_twice(
     into: &mut Vec<u8>,
-    entries: &[Entry<'_>],
+    text: &[u8],
+    entries: &[Entry],
     at: usize,
-    entry: &Entry<'_>,
+    entry: &Entry,
 ) -> Result<(), AllocError> {
-    let space = Space::of(entry.word(0).bytes).unwrap_or(Space::Node);
-    let name = entry.word(1).bytes;
+    let space = Space::of(entry.bytes(text, 0)).unwrap_or(Space::Node);
+    let name = entry.bytes(text, 1);
     say_around(into, "expected a new name for ", space.label(), ", found ")?;
     say_quoted(into, name)?;
-    match first_declared(entries, at, space, name) {
+    match first_declared(text, entries, at, space, name) {
         Some(line) => {
             say(into, ", which is declared on line ")?;
             say_number(into, line)
@@ -126,58 +140,65 @@ fn say_twice(
     }
 }
 
-/// Returns the names that lines declare in a space, after some other names.
+/// Returns the names that lines declare in a space, after the built-in ones.
 fn declared<'a>(
     alloc: Global,
-    entries: &[Entry<'a>],
+    error: Error<'a>,
+    entries: &[Entry],
     space: Space,
-    others: &[&'a str],
 ) -> Result<Vec<&'a str>, AllocError> {
     let mut found = Vec::new(alloc);
     if space == Space::Transaction {
-        found.extend_from_slice(others)?;
+        for name in error.builtins {
+            found.push(*name)?;
+        }
     }
     for entry in entries {
-        if Space::of(entry.word(0).bytes) == Some(space)
-            && let Some(name) = name_of(entry.word(1).bytes)
-        {
-            found.push(name)?;
+        if Space::of(entry.bytes(error.text, 0)) == Some(space) {
+            if let Some(name) = name_of(entry.bytes(error.text, 1)) {
+                found.push(name)?;
+            }
         }
     }
     Ok(found)
 }
 
 /// Returns the first name among words that isn't one of these names.
-fn first_unknown<'a>(
+fn first_unknown(
     alloc: Global,
-    words: &[Word<'a>],
+    text: &[u8],
+    words: &[Word],
     names: &[&str],
-) -> Result<Option<Word<'a>>, AllocError> {
+) -> Result<Option<Word>, AllocError> {
     let mut known = BTreeSet::new(alloc);
     for name in names {
         known.insert(*name)?;
     }
     for word in words {
-        if let Some(name) = name_of(word.bytes)
-            && !known.contains(name)
-        {
-            return Ok(Some(*word));
+        if let Some(name) = name_of(bytes_of(text, *word)) {
+            if !known.contains(name) {
+                return Ok(Some(*word));
+            }
         }
     }
     Ok(None)
 }
 
-/// Returns the error that a word isn't declared in a space, if there is such a word.
+/// Returns the error that a word of a line isn't declared in a space, if there is such a word.
+/// `scope` has the lines that can declare it.
 fn unknown_in(
     alloc: Global,
-    entry: &Entry<'_>,
-    words: &[Word<'_>],
+    error: Error<'_>,
+    entry: &Entry,
+    words: &[Word],
     space: Space,
-    names: &[&str],
+    scope: &[Entry],
 ) -> Result<Option<Detail>, AllocError> {
-    let Some(word) = first_unknown(alloc, words, names)? else {
+    let names = declared(alloc, error, scope, space)?;
+    let Some(word) = first_unknown(alloc, error.text, words, &names)? else {
         return Ok(None);
     };
+    let bytes = bytes_of(error.text, word);
     let mut message = Vec::new(alloc);
     say_around(
         &mut message,
@@ -185,46 +206,50 @@ fn unknown_in(
         space.label(),
         " that is declared, found ",
     )?;
-    say_quoted(&mut message, word.bytes)?;
-    if let Some(name) = nearest(alloc, str::from_utf8(word.bytes).unwrap_or(""), names)? {
+    say_quoted(&mut message, bytes)?;
+    if let Some(name) = nearest(alloc, str::from_utf8(bytes).unwrap_or(""), &names)? {
         say_around(&mut message, "; did you mean `", name, "`?")?;
     }
     Ok(Some(at_word(entry, word, message)))
 }
 
-/// Returns the name of a line that isn't declared.
-fn unknown_detail(
+/// Returns the name of an assignment that isn't declared.
+fn unknown_variable(
     alloc: Global,
     error: Error<'_>,
-    entries: &[Entry<'_>],
+    entries: &[Entry],
     at: usize,
-    entry: &Entry<'_>,
+    entry: &Entry,
 ) -> Result<Option<Detail>, AllocError> {
-    let used = entry.after(b"using");
-    let space = match entry.word(0).bytes {
-        b"leaf" => Space::Class,
-        b"node" => Space::Node,
-        _ => Space::Variable,
+    let scope = scope(error.text, entries, at, Space::Variable);
+    unknown_in(alloc, error, entry, &entry.words, Space::Variable, scope)
+}
+
+/// Returns the name of a node or leaf that isn't declared.
+fn unknown_name(
+    alloc: Global,
+    error: Error<'_>,
+    entries: &[Entry],
+    entry: &Entry,
+) -> Result<Option<Detail>, AllocError> {
+    let space = if entry.begins(error.text, "leaf") {
+        Space::Class
+    } else {
+        Space::Node
     };
-    if space != Space::Variable {
-        let names = declared(alloc, entries, Space::Transaction, error.builtins)?;
-        let found = unknown_in(
+    let used = entry.after(error.text, "using");
+    let used = &used[..used.len().min(1)];
+    match unknown_in(alloc, error, entry, used, Space::Transaction, entries)? {
+        Some(found) => Ok(Some(found)),
+        None => unknown_in(
             alloc,
+            error,
             entry,
-            used.get(..1).unwrap_or(&[]),
-            Space::Transaction,
-            &names,
-        )?;
-        if found.is_some() {
-            return Ok(found);
-        }
+            entry.listed(error.text),
+            space,
+            entries,
+        ),
     }
-    let words = match space {
-        Space::Variable => entry.words.as_slice(),
-        _ => entry.listed(),
-    };
-    let names = declared(alloc, scope(entries, at, space), space, &[])?;
-    unknown_in(alloc, entry, words, space, &names)
 }
 
 /// Returns which limit a line is the first to exceed.
@@ -238,20 +263,28 @@ fn limit_text(keyword: &[u8]) -> &'static str {
     }
 }
 
-/// Returns the condition of the last class, or that there is no class.
-fn last_class_detail(alloc: Global, entries: &[Entry<'_>]) -> Result<Option<Detail>, AllocError> {
-    let mut message = Vec::new(alloc);
-    let mut last = None;
-    for entry in entries {
-        if is(entry.word(0).bytes, "class") {
-            last = Some(entry);
+/// Returns the last line that declares a class.
+fn last_class<'e>(text: &[u8], entries: &'e [Entry]) -> Option<&'e Entry> {
+    for entry in entries.iter().rev() {
+        if entry.begins(text, "class") {
+            return Some(entry);
         }
     }
+    None
+}
+
+/// Returns the condition of the last class, or that there is no class.
+fn last_class_detail(
+    alloc: Global,
+    text: &[u8],
+    entries: &[Entry],
+) -> Result<Option<Detail>, AllocError> {
+    let mut message = Vec::new(alloc);
     say(
         &mut message,
         "expected a last class without a condition, found ",
     )?;
-    let Some(entry) = last else {
+    let Some(entry) = last_class(text, entries) else {
         say(&mut message, "no class")?;
         return Ok(Some(Detail {
             line: 0,
@@ -260,18 +293,48 @@ fn last_class_detail(alloc: Global, entries: &[Entry<'_>]) -> Result<Option<Deta
         }));
     };
     say(&mut message, "one with")?;
-    match entry.find("when") {
-        Some(word) => Ok(Some(at_word(entry, word, message))),
-        None => Ok(None),
-    }
+    let word = entry.find(text, "when").unwrap_or(entry.word(0));
+    Ok(Some(at_word(entry, word, message)))
 }
 
 /// Returns the place of an error in the expression of a line.
-fn value_detail(alloc: Global, entry: &Entry<'_>) -> Detail {
+fn value_detail(alloc: Global, text: &[u8], entry: &Entry) -> Detail {
     Detail {
         line: entry.line,
-        column: value_column(entry.text),
+        column: value_column(entry.statement(text)),
         message: Vec::new(alloc),
+    }
+}
+
+/// Returns the word of a line that breaks a rule, after appending what is wrong with it. Nothing is
+/// appended if only the place is known.
+fn say_rule(
+    into: &mut Vec<u8>,
+    error: Error<'_>,
+    entries: &[Entry],
+    at: usize,
+    entry: &Entry,
+) -> Result<Word, AllocError> {
+    let text = error.text;
+    match error.code {
+        1 => {
+            let last = at.checked_sub(1).and_then(|place| entries.get(place));
+            say_order(into, text, last, entry)?;
+            Ok(entry.word(0))
+        }
+        2 => {
+            say_twice(into, text, entries, at, entry)?;
+            Ok(entry.word(1))
+        }
+        4 => {
+            say(into, limit_text(entry.bytes(text, 0)))?;
+            Ok(entry.word(0))
+        }
+        14 => Ok(entry.find(text, "limit").unwrap_or(entry.word(0))),
+        _ => {
+            say_tree(into, error.code, entry.bytes(text, 1))?;
+            Ok(entry.word(1))
+        }
     }
 }
 
@@ -279,35 +342,22 @@ fn value_detail(alloc: Global, entry: &Entry<'_>) -> Detail {
 fn line_detail(
     alloc: Global,
     error: Error<'_>,
-    entries: &[Entry<'_>],
+    entries: &[Entry],
     at: usize,
-    entry: &Entry<'_>,
+    entry: &Entry,
 ) -> Result<Option<Detail>, AllocError> {
-    let mut message = Vec::new(alloc);
-    let word = match error.code {
-        1 => {
-            say_order(&mut message, entries, at, entry)?;
-            entry.word(0)
-        }
-        2 => {
-            say_twice(&mut message, entries, at, entry)?;
-            entry.word(1)
-        }
-        3 => return unknown_detail(alloc, error, entries, at, entry),
-        4 => {
-            say(&mut message, limit_text(entry.word(0).bytes))?;
-            entry.word(0)
-        }
-        5..=7 => return Ok(Some(value_detail(alloc, entry))),
-        8 => return orphan_detail(alloc, entries, entry),
-        12 => return class_detail(alloc, entries, entry),
-        14 => entry.find("limit").unwrap_or(entry.word(0)),
+    match (error.code, entry.bytes(error.text, 0)) {
+        (3, b"leaf" | b"node") => unknown_name(alloc, error, entries, entry),
+        (3, _) => unknown_variable(alloc, error, entries, at, entry),
+        (5..=7, _) => Ok(Some(value_detail(alloc, error.text, entry))),
+        (8, _) => orphan_detail(alloc, error.text, entries, entry),
+        (12, _) => class_detail(alloc, error.text, entries, entry),
         _ => {
-            say_tree(&mut message, error.code, entry.word(1).bytes)?;
-            entry.word(1)
+            let mut message = Vec::new(alloc);
+            let word = say_rule(&mut message, error, entries, at, entry)?;
+            Ok(Some(at_word(entry, word, message)))
         }
-    };
-    Ok(Some(at_word(entry, word, message)))
+    }
 }
 
 /// Appends what is wrong with a node's place in the tree.
@@ -333,15 +383,17 @@ fn say_tree(into: &mut Vec<u8>, code: u64, name: &[u8]) -> Result<(), AllocError
 pub fn rule_detail(
     alloc: Global,
     error: Error<'_>,
-    entries: &[Entry<'_>],
+    entries: &[Entry],
 ) -> Result<Option<Detail>, AllocError> {
     if error.code == 13 {
-        return last_class_detail(alloc, entries);
+        return last_class_detail(alloc, error.text, entries);
     }
-    for (at, entry) in entries.iter().enumerate() {
+    let mut at: usize = 0;
+    for entry in entries {
         if entry.line == error.line {
             return line_detail(alloc, error, entries, at, entry);
         }
+        at = at.saturating_add(1);
     }
     Ok(None)
 }

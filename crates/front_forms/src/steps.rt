@@ -7,9 +7,9 @@ use std::alloc::{AllocError, Global};
 use text_core::decimal;
 
 /// Returns how many packets a line counts.
-fn count_of(entry: &Entry<'_>) -> u64 {
-    match entry.word(0).bytes {
-        b"a" | b"d" => decimal(entry.word(1).bytes).unwrap_or(1),
+fn count_of(text: &[u8], entry: &Entry) -> u64 {
+    match entry.bytes(text, 0) {
+        b"a" | b"d" => decimal(entry.bytes(text, 1)).unwrap_or(1),
         _ => 0,
     }
 }
@@ -19,7 +19,7 @@ pub fn count_detail(alloc: Global, error: Error<'_>) -> Result<Option<Detail>, A
     let entries = entries(alloc, error.text)?;
     let mut sum: u64 = 0;
     for entry in entries.as_slice() {
-        sum = sum.saturating_add(count_of(entry));
+        sum = sum.saturating_add(count_of(error.text, entry));
         if entry.line == error.line {
             let mut message = Vec::new(alloc);
             say(

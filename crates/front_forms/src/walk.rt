@@ -7,7 +7,7 @@ use text_core::{MAX, TokenKind, decimal};
 
 /// The state of an opened parenthesis: the commas that are missing in it, and whether it has a
 /// comparison.
-#[derive(Clone, Copy, Debug)]
+#[derive(Clone, Copy)]
 struct Frame {
     commas: u32,
     compared: bool,

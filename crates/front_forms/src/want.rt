@@ -2,7 +2,7 @@
 use policy_text_defs::Attribute;
 
 /// A place of a line: before its first token, or after a token.
-#[derive(Clone, Copy, PartialEq, Eq, Debug)]
+#[derive(Clone, Copy, PartialEq, Eq)]
 pub enum Place {
     // Policies
     Statement,
@@ -75,7 +75,7 @@ pub enum Place {
 }
 
 /// What a place wants.
-#[derive(Clone, Copy, Debug)]
+#[derive(Clone, Copy)]
 pub enum Want {
     /// This word.
     Word(&'static str),

@@ -1,102 +1,134 @@
-//! The words of the statements of a policy.
+//! The words of the statements of a text.
 use crate::breaks::{is_word_byte, part};
 use policy_text_defs::is;
 use std::alloc::{AllocError, Global};
-use text_core::lines;
+use text_core::{Line, lines};
 
-/// A word of a line, and its first byte in the line.
-#[derive(Clone, Copy, Debug)]
-pub struct Word<'a> {
+/// A word of a text: its first byte, and the byte after it.
+#[derive(Clone, Copy)]
+pub struct Word {
     pub start: usize,
-    pub bytes: &'a [u8],
+    pub end: usize,
 }
 
-/// A line with a statement: its number, counted from 1, and its words.
+/// A line with a statement: its number, counted from 1, its first byte in the text and the byte
+/// after its statement, and its words.
 #[derive(Drop)]
-pub struct Entry<'a> {
+pub struct Entry {
     pub line: u64,
-    pub text: &'a [u8],
-    pub words: Vec<Word<'a>>,
+    pub start: usize,
+    pub end: usize,
+    pub words: Vec<Word>,
 }
 
 /// Returns the words of a line: runs of letters, digits and `_`.
-pub fn words<'a>(alloc: Global, line: &'a [u8]) -> Result<Vec<Word<'a>>, AllocError> {
+fn words(alloc: Global, text: &[u8], span: Line) -> Result<Vec<Word>, AllocError> {
     let mut found = Vec::new(alloc);
-    let mut start = 0;
-    for at in 0..line.len() {
-        if is_word_byte(line[at]) {
-            continue;
+    let mut start = span.start;
+    let mut end = span.start;
+    for byte in part(text, span.start, span.end) {
+        let next = end.saturating_add(1);
+        if !is_word_byte(*byte) {
+            if start < end {
+                found.push(Word { start, end })?;
+            }
+            start = next;
         }
-        if start < at {
-            let bytes = part(line, start, at);
-            found.push(Word { start, bytes })?;
-        }
-        start = at + 1;
+        end = next;
     }
-    let bytes = part(line, start, line.len());
-    if !bytes.is_empty() {
-        found.push(Word { start, bytes })?;
+    if start < end {
+        found.push(Word { start, end })?;
     }
     Ok(found)
 }
 
 /// Returns the lines of a text that have words.
-pub fn entries<'a>(alloc: Global, text: &'a [u8]) -> Result<Vec<Entry<'a>>, AllocError> {
+pub fn entries(alloc: Global, text: &[u8]) -> Result<Vec<Entry>, AllocError> {
     let lines = lines(alloc, text)?;
     let mut found = Vec::new(alloc);
-    for (place, span) in lines.as_slice().iter().enumerate() {
-        let text = part(text, span.start, span.end);
-        let words = words(alloc, text)?;
+    let mut line: u64 = 0;
+    for span in lines.as_slice() {
+        line = line.saturating_add(1);
+        let words = words(alloc, text, *span)?;
         if !words.is_empty() {
-            let line = (place as u64).saturating_add(1);
-            found.push(Entry { line, text, words })?;
+            found.push(Entry {
+                line,
+                start: span.start,
+                end: span.end,
+                words,
+            })?;
         }
     }
     Ok(found)
 }
 
-/// Returns the words from an index on, if there are any.
-fn part_of<'e, 'a>(words: &'e [Word<'a>], start: usize) -> &'e [Word<'a>] {
-    &words[start.min(words.len())..]
+/// Returns the bytes of a word.
+pub fn bytes_of<'a>(text: &'a [u8], word: Word) -> &'a [u8] {
+    part(text, word.start, word.end)
 }
 
-impl<'a> Entry<'a> {
-    /// Returns a word by its index, or an empty one.
-    pub fn word(&self, place: usize) -> Word<'a> {
+impl Entry {
+    /// Returns the statement bytes of the line.
+    pub fn statement<'a>(&self, text: &'a [u8]) -> &'a [u8] {
+        part(text, self.start, self.end)
+    }
+
+    /// Returns a word by its index, or an empty one at the end of the line.
+    pub fn word(&self, place: usize) -> Word {
         match self.words.get(place) {
             Some(word) => *word,
             None => Word {
-                start: self.text.len(),
-                bytes: b"",
+                start: self.end,
+                end: self.end,
             },
         }
     }
 
-    /// Returns the first word with this text.
-    pub fn find(&self, text: &str) -> Option<Word<'a>> {
+    /// Returns the bytes of a word by its index; none if there is no such word.
+    pub fn bytes<'a>(&self, text: &'a [u8], place: usize) -> &'a [u8] {
+        bytes_of(text, self.word(place))
+    }
+
+    /// Returns whether the first word is this one.
+    pub fn begins(&self, text: &[u8], keyword: &str) -> bool {
+        is(self.bytes(text, 0), keyword)
+    }
+
+    /// Returns the index after the first word with this spelling, or the number of words.
+    fn index_after(&self, text: &[u8], spelling: &str) -> usize {
+        let mut place: usize = 0;
         for word in &self.words {
-            if is(word.bytes, text) {
+            place = place.saturating_add(1);
+            if is(bytes_of(text, *word), spelling) {
+                return place;
+            }
+        }
+        place
+    }
+
+    /// Returns the first word with this spelling.
+    pub fn find(&self, text: &[u8], spelling: &str) -> Option<Word> {
+        for word in &self.words {
+            if is(bytes_of(text, *word), spelling) {
                 return Some(*word);
             }
         }
         None
     }
 
-    /// Returns the words after the first one with this text.
-    pub fn after(&self, text: &[u8]) -> &[Word<'a>] {
-        let words = self.words.as_slice();
-        match words.iter().position(|word| word.bytes == text) {
-            Some(place) => part_of(words, place.saturating_add(1)),
-            None => &[],
-        }
+    /// Returns the words after the first one with this spelling.
+    pub fn after<'e>(&'e self, text: &[u8], spelling: &str) -> &'e [Word] {
+        let start = self.index_after(text, spelling).min(self.words.len());
+        &self.words[start..]
     }
 
     /// Returns the names that a node or leaf lists.
-    pub fn listed(&self) -> &[Word<'a>] {
-        match self.word(0).bytes {
-            b"leaf" => self.after(b"classes"),
-            b"node" => self.after(b"children"),
-            _ => &[],
-        }
+    pub fn listed<'e>(&'e self, text: &[u8]) -> &'e [Word] {
+        let list = if self.begins(text, "leaf") {
+            "classes"
+        } else {
+            "children"
+        };
+        self.after(text, list)
     }
 }
