@@ -5,12 +5,6 @@ import pages
 import prose
 from test_check import check
 
-# Messages with a word that isn't written; each is to be changed in its crate, and then removed from here.
-LEFT = {
-    "put `policy 1` first; move the line to where its kind stands",
-    "expected types that agree, found a truth value in place of a number or the other way round",
-    "expected the words of a command, found others",
-}
 SPEAKING = ("crates/front_core/src", "crates/front_forms/src", "crates/zovatsemo/src")  # where the messages for people are
 
 
@@ -48,9 +42,8 @@ class Pages(unittest.TestCase):
         for path in (path for folder in SPEAKING for path in sorted((pages.TOP / folder).rglob("*.rt"))):
             for number, message in prose.messages(path.read_text()):
                 found += 1
-                if not any(left in message for left in LEFT):
-                    with self.subTest("%s:%d" % (path.relative_to(pages.TOP), number)):
-                        self.assertEqual([], prose.word_faults(prose.without_names(message)))
+                with self.subTest("%s:%d" % (path.relative_to(pages.TOP), number)):
+                    self.assertEqual([], prose.word_faults(prose.without_names(message)))
         self.assertGreater(found, 100)
 
 

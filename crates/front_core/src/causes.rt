@@ -74,7 +74,7 @@ fn rule_cause(code: u64) -> Cause {
     match code {
         1 => made(
             "expected `policy 1` or `policy 2` first and once, and the lines of a transaction right after its line in their order, found this line",
-            "put `policy 1` first; move the line to where its kind stands",
+            "put `policy 1` first, and move the line to the part for its kind",
         ),
         2 => made(
             "expected a new name, found one that is declared before or is built in",
@@ -89,7 +89,7 @@ fn rule_cause(code: u64) -> Cause {
             "merge classes, nodes or transactions",
         ),
         5 => made(
-            "expected types that agree, found a truth value in place of a number or the other way round",
+            "expected types that agree, found a truth value where a number is needed or the reverse",
             "write if(CONDITION, 1, 0) for the number that is meant",
         ),
         6 => made(
@@ -289,7 +289,7 @@ fn map_cause(code: u64) -> Cause {
 pub fn cause_of(kind: FaultKind, code: u64) -> Cause {
     match kind {
         FaultKind::Words => made(
-            "expected the words of a command, found others",
+            "expected the arguments of a command, found others",
             "see --help",
         ),
         FaultKind::Policy => rule_cause(code),
