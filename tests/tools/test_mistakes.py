@@ -1,4 +1,5 @@
 """tests/mistakes/run on programs that stand in for the built ones: what it refuses."""
+import json
 import pathlib
 import subprocess
 import sys
@@ -8,7 +9,9 @@ import unittest
 import built
 
 RUN = built.HERE.parent / "mistakes/run"
-COUNT = len((RUN.parent / "table.jsonl").read_text(encoding="utf-8").splitlines())
+ROWS = [json.loads(line) for line in (RUN.parent / "table.jsonl").read_text(encoding="utf-8").splitlines()]
+COUNT = len(ROWS)
+QUIET = sum(1 for row in ROWS if row["status"] == 0 and row.get("silent"))  # right if nothing is told
 
 
 class Mistakes(unittest.TestCase):
@@ -28,7 +31,7 @@ class Mistakes(unittest.TestCase):
         return built.program("test_mistakes", None, front=True)
 
     def test_nothing_is_told(self):
-        self.assertEqual(self.told("exit 0\n"), (1, "%d mistakes, %d wrong" % (COUNT, COUNT)))
+        self.assertEqual(self.told("exit 0\n"), (1, "%d mistakes, %d wrong" % (COUNT, COUNT - QUIET)))
 
     def test_another_status(self):
         self.assertEqual(self.told("%s \"$@\"\nexit 1\n" % self.front()), (1, "%d mistakes, %d wrong" % (COUNT, COUNT)))

@@ -45,6 +45,16 @@ impl<'a> Tree<'a> {
         Ok(tree)
     }
 
+    /// Returns the node that lists a node or leaf.
+    fn parent_of(&self, name: &str) -> Option<Above<'a>> {
+        self.parents.get(name).copied()
+    }
+
+    /// Returns the leaf that lists a class.
+    fn leaf_of(&self, name: &str) -> Option<Above<'a>> {
+        self.leaves.get(name).copied()
+    }
+
     /// Adds what a statement lists.
     fn add(&mut self, statement: &'a Statement) -> Result<(), NoMemory> {
         match statement {
@@ -126,17 +136,41 @@ fn warn_root(alloc: Global, notes: &mut Notes<'_>, written: &Written<'_>) -> Res
     Ok(())
 }
 
-/// Adds the warnings about the attributes of a statement.
+/// Adds a warning for each attribute of a child or class that has no effect.
 fn warn_of(
     alloc: Global,
     notes: &mut Notes<'_>,
     written: &Written<'_>,
-    above: Option<&Above<'_>>,
+    above: Option<Above<'_>>,
     readers: &Readers<'_>,
 ) -> Result<(), NoMemory> {
     match above {
-        Some(above) => warn_unread(alloc, notes, written, *above, readers.reads(above.using)),
+        Some(above) => warn_unread(alloc, notes, written, above, readers.reads(above.using)),
         None => warn_root(alloc, notes, written),
+    }
+}
+
+/// Adds a warning for each attribute of a statement that has no effect.
+fn warn_of_statement(
+    alloc: Global,
+    notes: &mut Notes<'_>,
+    entry: &(u32, Statement),
+    tree: &Tree<'_>,
+    readers: &Readers<'_>,
+) -> Result<(), NoMemory> {
+    let line = entry.0;
+    match &entry.1 {
+        Statement::Class(name, attrs, _) => {
+            let (name, attrs) = (name.as_str(), *attrs);
+            let written = Written { line, name, attrs };
+            warn_of(alloc, notes, &written, tree.leaf_of(name), readers)
+        }
+        Statement::Leaf(name, _, attrs, _, _) | Statement::Node(name, _, attrs, _) => {
+            let (name, attrs) = (name.as_str(), *attrs);
+            let written = Written { line, name, attrs };
+            warn_of(alloc, notes, &written, tree.parent_of(name), readers)
+        }
+        _ => Ok(()),
     }
 }
 
@@ -149,18 +183,7 @@ pub fn warn_of_attributes(
     let tree = Tree::of(alloc, entries)?;
     let readers = Readers::of(alloc, entries)?;
     for entry in entries {
-        let (name, attrs, places) = match &entry.1 {
-            Statement::Class(name, attrs, _) => (name, *attrs, &tree.leaves),
-            Statement::Leaf(name, _, attrs, _, _) => (name, *attrs, &tree.parents),
-            Statement::Node(name, _, attrs, _) => (name, *attrs, &tree.parents),
-            _ => continue,
-        };
-        let written = Written {
-            line: entry.0,
-            name: name.as_str(),
-            attrs,
-        };
-        warn_of(alloc, notes, &written, places.get(name.as_str()), &readers)?;
+        warn_of_statement(alloc, notes, entry, &tree, &readers)?;
     }
     Ok(())
 }

@@ -152,8 +152,9 @@ impl<'a> Walk<'a> {
     fn read_enhanced(&mut self, total: u32) {
         let big = self.big;
         let interface = long(big, four(&self.unit, 8));
+        let count = self.interfaces.len();
         let Some(described) = self.interfaces.get(interface as usize) else {
-            return self.stop(Damage::NoInterface(interface, self.interfaces.len()));
+            return self.stop(Damage::NoInterface(interface, count));
         };
         let high = u64::from(long(big, four(&self.unit, 12)));
         let low = u64::from(long(big, four(&self.unit, 16)));

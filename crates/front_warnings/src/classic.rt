@@ -122,7 +122,7 @@ impl<'a> Walk<'a> {
             counts.add(seen, &self.unit);
             counts.add_seconds(record.seconds, second <= u64::from(record.fraction));
         }
-        self.go_past(16 + u64::from(record.captured));
+        self.go_past(u64::from(record.captured).saturating_add(16));
         self.begin(Stage::RecordHeader, RECORD_LEN);
     }
 }
