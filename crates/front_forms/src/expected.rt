@@ -74,13 +74,14 @@ fn say_want(
 
 /// Returns what a place wants, each kind of token once.
 fn wants_of(alloc: Global, walk: &Walk) -> Result<Vec<Want>, AllocError> {
-    let mut found = Vec::new(alloc);
-    let mut last = "";
+    let mut found: Vec<Want> = Vec::new(alloc);
     for (place, want, _) in &ROWS {
-        let label = want.label();
-        if *place == walk.place() && walk.offers(*want) && label != last {
+        let is_new = match found.last() {
+            Some(last) => last.label() != want.label(),
+            None => true,
+        };
+        if *place == walk.place() && walk.offers(*want) && is_new {
             found.push(*want)?;
-            last = label;
         }
     }
     Ok(found)
