@@ -146,7 +146,7 @@ class Check(unittest.TestCase):
         self.assertIn("examples/office: replay policy target capture script doesn't print report", out.getvalue())
         self.assertIn("examples/spelling: check policy doesn't print text", out.getvalue())
         self.assertIn("examples: 0 passed, ", out.getvalue())
-        self.program.write_text("#!/bin/sh\ncase $1 in check) cat text ;; *) cat report ;; esac\n")
+        self.program.write_text("#!/bin/sh\ncase $2 in check) cat text ;; *) cat report ;; esac\n")
         with contextlib.redirect_stdout(io.StringIO()):
             self.assertTrue(check.check_examples(self.program))
 

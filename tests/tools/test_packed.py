@@ -14,10 +14,11 @@ import unittest
 TOP = pathlib.Path(__file__).resolve().parent.parent.parent
 COPIED = ("tools/sources", "tools/keep_proved", "tools/pack", "tools/proved_programs.py", "tests/tools/packed",
           "tests/tools/conformance", ".gitignore", ".gitattributes")
-# Programs that need the C library alone. With no words but `--plain`, `test` ends with status 0, and without it with 1.
-STAND_INS = {"replay_main": "/bin/true", "block_app": "/bin/echo", "zovatsemo": "/usr/bin/test"}
+# Programs that need the C library alone, and differ in their bytes.
+STAND_INS = {"replay_main": pathlib.Path("/bin/true").read_bytes(), "block_app": pathlib.Path("/bin/echo").read_bytes(),
+             "zovatsemo": pathlib.Path("/bin/true").read_bytes() + b"for people"}
 PROGRAMS = tuple(STAND_INS)
-CASES = {"plan": ([], ""), "block": (["calm"], "calm\n")}  # of each suite the words and the output
+CASES = {"plan": ([], ""), "block": (["-n"], "")}  # of each suite the words and the output
 LINE = "a kit logic 5"
 LOG = "7 passed, 0 failed\nplan: 3 passed, 0 failed\nexamples: 2 passed, 0 failed\n"
 LAST = "packed: there is no bin/BUILT\npacked: 0 passed, 1 failed\n"
@@ -75,7 +76,7 @@ class Checkout(unittest.TestCase):
     def build(self, name, more=b""):
         """Puts a program where the toolchain leaves it, with some more bytes after its end."""
         self.write("crates/%s/out/%s" % (name, name), "")
-        (self.top / "crates" / name / "out" / name).write_bytes(pathlib.Path(STAND_INS[name]).read_bytes() + more)
+        (self.top / "crates" / name / "out" / name).write_bytes(STAND_INS[name] + more)
 
     def set_toolchain(self, line):
         """Puts a command `rt` on the path that says this line."""
@@ -164,7 +165,7 @@ class Checkout(unittest.TestCase):
         self.assertEqual(status, 0, told)
         self.assertIn("built by another toolchain (a kit logic 5) than the one here (a later kit)", told)
         self.assertEqual([line for line in told.splitlines() if line.endswith("1 passed, 0 failed")],
-                         ["plan: 1 passed, 0 failed", "block: 1 passed, 0 failed", "plan: 1 passed, 0 failed"])
+                         ["plan: 1 passed, 0 failed", "block: 1 passed, 0 failed", "block: 1 passed, 0 failed", "plan: 1 passed, 0 failed"])
         self.write("tests/cases/plan.jsonl", (self.top / "tests/cases/plan.jsonl").read_text().replace('"status": 0', '"status": 1'))
         for name in ("replay_main", "zovatsemo"):
             self.assert_wrong("bin/%s doesn't pass all conformance cases" % name)
