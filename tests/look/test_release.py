@@ -130,7 +130,7 @@ class Archive(unittest.TestCase):
         told, here = (run(place / "zovatsemo", "--help", **how) for place in (top, self.clone))
         self.assertEqual(told[1].splitlines(), here[1].splitlines()[:-2])
         self.assertEqual((told[0], told[2], told[1].splitlines()[0]), (0, "", "--help"))
-        self.assertGreater(len(told[1].splitlines()), 12)
+        self.assertIn("--explain KIND CODE", told[1])
         self.assertIn(commit, run(top / "zovatsemo", "--version")[1])
         explained = run(runs.TOP / "tools/explain", "policy", 7)
         self.assertEqual(run(top / "zovatsemo", "--explain", "policy", 7), explained)
