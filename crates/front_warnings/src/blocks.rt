@@ -3,6 +3,8 @@ use crate::classic::{four, long, short, two};
 use crate::counts::Seen;
 use crate::damage::Damage;
 use crate::walk::{Described, Stage, Walk};
+use pcap_defs::MOST_CAPTURED;
+use pcapng_defs::{MOST_INTERFACES, MOST_TOTAL};
 use std::alloc::AllocError;
 
 /// The length in bytes of a block's type, total length and first four bytes after them.
@@ -18,13 +20,6 @@ const OBSOLETE: u32 = 2;
 const SIMPLE: u32 = 3;
 
 const ENHANCED: u32 = 6;
-
-/// The most bytes of a block, captured bytes of a packet, and interfaces of a section.
-const MOST_TOTAL: u32 = 16_777_216;
-
-const MOST_CAPTURED: u32 = 262_144;
-
-const MOST_INTERFACES: usize = 1024;
 
 /// Returns the least length in bytes of a block of a type.
 fn least_total(kind: u32) -> u32 {

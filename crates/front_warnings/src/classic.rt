@@ -2,13 +2,11 @@
 use crate::counts::Seen;
 use crate::damage::Damage;
 use crate::walk::{Stage, Walk};
+use pcap_defs::MOST_CAPTURED;
 use std::alloc::AllocError;
 
 /// The length in bytes of a record before its captured bytes.
 const RECORD_LEN: usize = 16;
-
-/// The most captured bytes of a record.
-const MOST_CAPTURED: u32 = 262_144;
 
 /// Returns a number of four bytes.
 pub(crate) fn long(big: bool, bytes: [u8; 4]) -> u32 {

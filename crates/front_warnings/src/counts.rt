@@ -1,8 +1,8 @@
 //! Counts of a capture's packets.
 use crate::links::has_fields;
-use packet_core::{Classifier, Packet};
+use packet_core::Classifier;
+use packet_defs::{BLANK, Packet};
 use policy_core::Policy;
-use rank_defs::FlowKey;
 use std::alloc::{AllocError, Global};
 
 /// A packet as a capture has it.
@@ -67,22 +67,6 @@ pub struct Counts<'a> {
     pub latest: Option<(u64, u32)>,
     last: Option<(u32, u64)>,
 }
-
-/// A packet whose fields are set before it is used.
-const BLANK: Packet = Packet {
-    number: 0,
-    class: 0,
-    len: 0,
-    moment: 0,
-    flow: FlowKey {
-        version: 0,
-        source: 0,
-        target: 0,
-        proto: 0,
-        sport: 0,
-        dport: 0,
-    },
-};
 
 impl<'a> Counts<'a> {
     /// Creates counts of the packets that a policy classifies. Fails if out of memory.

@@ -1,10 +1,7 @@
 //! Details of an error in a capture.
+use pcap_defs::MOST_CAPTURED;
+use pcapng_defs::MOST_TOTAL;
 use std::alloc::{AllocError, Global};
-
-/// The least and greatest numbers in the file formats.
-const MOST_CAPTURED: u32 = 262_144;
-
-const MOST_TOTAL: u32 = 16_777_216;
 
 /// Why a capture can't be read on, with the numbers that were read.
 #[derive(Clone, Copy, PartialEq, Eq, Debug)]

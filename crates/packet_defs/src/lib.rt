@@ -2,8 +2,10 @@
 //! specs/Headers.antt.
 #![tactic(auto)]
 
+mod blank;
 mod fields;
 mod packet;
 
+pub use blank::BLANK;
 pub use fields::Fields;
 pub use packet::{Departed, Packet};

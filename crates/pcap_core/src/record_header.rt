@@ -7,13 +7,10 @@ ghost use Rattle.pcap_core.specs.Frames.{IsFrontFault};
 
 use crate::fault::CaptureFault;
 use capture_core::read_long;
-use pcap_defs::Head;
+use pcap_defs::{Head, MOST_CAPTURED};
 
 /// The length in bytes of a record before its captured bytes.
 pub const RECORD_LEN: usize = 16;
-
-/// The most captured bytes of a record.
-const MOST_CAPTURED: u32 = 262_144;
 
 /// The values before a record's captured bytes.
 #[derive(Clone, Copy)]

@@ -8,6 +8,7 @@ ghost use Rattle.pcap_core.specs.Bytes.{header_bytes, record_bytes, record_front
 
 use byteorder::{ByteOrder, LittleEndian};
 use outside_core::{Sink, SinkError, write_all};
+use pcap_defs::MOST_CAPTURED;
 
 /// The magic number of captures whose fractions count nanoseconds.
 const MAGIC_NUMBER: u32 = 0xA1B2_3C4D;
@@ -15,9 +16,6 @@ const MAGIC_NUMBER: u32 = 0xA1B2_3C4D;
 const MAJOR_VERSION: u16 = 2;
 
 const MINOR_VERSION: u16 = 4;
-
-/// The most captured bytes of a record.
-const SNAPSHOT_LEN: u32 = 262_144;
 
 /// Returns the file header. Its time zone and significant figures are 0.
 fn header(link: u16) -> [u8; 24]
@@ -27,7 +25,7 @@ fn header(link: u16) -> [u8; 24]
     LittleEndian::write_u32(&mut bytes, MAGIC_NUMBER);
     LittleEndian::write_u16(&mut bytes[4..], MAJOR_VERSION);
     LittleEndian::write_u16(&mut bytes[6..], MINOR_VERSION);
-    LittleEndian::write_u32(&mut bytes[16..], SNAPSHOT_LEN);
+    LittleEndian::write_u32(&mut bytes[16..], MOST_CAPTURED);
     LittleEndian::write_u32(&mut bytes[20..], u32::from(link));
     bytes
 }

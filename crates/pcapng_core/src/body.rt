@@ -12,13 +12,10 @@ use crate::fault::NgFault;
 use crate::moment::moment_in;
 use crate::start::{Kind, Start};
 use capture_core::{read_long, read_short};
-use pcapng_defs::Interface;
+use pcap_defs::MOST_CAPTURED;
+use pcapng_defs::{Interface, MOST_INTERFACES};
 
 const MAJOR_VERSION: u16 = 1;
-
-const MOST_INTERFACES: usize = 1024;
-
-const MOST_CAPTURED: u32 = 262_144;
 
 /// The values of a packet's block.
 #[derive(Clone, Copy)]

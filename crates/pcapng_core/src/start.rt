@@ -13,6 +13,7 @@ ghost use Rattle.pcapng_core.specs.Blocks.{IsStart};
 use crate::carry::Carry;
 use crate::fault::NgFault;
 use capture_core::read_long;
+use pcapng_defs::MOST_TOTAL;
 
 /// The length in bytes of a block before its body, plus the first four bytes of the body.
 pub const START_LEN: usize = 12;
@@ -20,8 +21,6 @@ pub const START_LEN: usize = 12;
 const SECTION_TYPE: u32 = 0x0A0D_0D0A;
 
 const ORDER_NUMBER: u32 = 0x1A2B_3C4D;
-
-const MOST_TOTAL: u32 = 16_777_216;
 
 /// The kinds of blocks that are read, and all others.
 #[derive(Clone, Copy, PartialEq, Eq, Debug)]

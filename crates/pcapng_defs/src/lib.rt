@@ -3,6 +3,7 @@
 
 mod interface;
 mod laws;
+mod limits;
 
 pub use interface::{Interface, Unit};
 pub use laws::{
@@ -10,3 +11,4 @@ pub use laws::{
     alike_files_hold_the_same, blocks_are_whole, faults_are_numbered, faults_have_causes,
     packets_are_bounded, packets_are_few, units_go_option_by_option, whole_blocks_stand,
 };
+pub use limits::{MOST_INTERFACES, MOST_TOTAL};

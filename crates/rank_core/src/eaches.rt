@@ -50,6 +50,7 @@ pub(crate) fn of_flows(alloc: Global, first: &[u64]) -> Eaches
 }
 
 /// Makes room for a child or a flow. New variables get their first values.
+#[inline(always)]
 pub(crate) fn reserve(eaches: &mut Eaches, who: &Who, first: &[u64]) -> Result<(), AllocError>
     requires { BelongsTo (children eaches.old) who.now }
     ensures room { OnOk result (IsSome (kept eaches.new who.now)) }

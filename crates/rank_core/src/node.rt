@@ -79,6 +79,7 @@ impl NodeState {
 
     /// Makes room for a child or a flow. After that, its steps allocate no memory. The error means
     /// out of memory.
+    #[inline(always)]
     pub fn reserve(&mut self, who: &Who) -> Result<(), AllocError>
         requires belongs { BelongsTo (children_of self.old) who.now }
         ensures room { OnOk result (HasRoom self.new who.now) }

@@ -14,9 +14,8 @@ ghost use Rattle.sched_core.specs.Departures.{next_departed};
 ghost use Rattle.sched_held.specs.Held.{held_at};
 
 use crate::node_states::NodeStates;
-use packet_defs::{Departed, Packet};
+use packet_defs::{BLANK, Departed, Packet};
 use policy_core::Policy;
-use sched_defs::BLANK;
 use sched_held::Held;
 use std::alloc::{AllocError, Global};
 use tree_core::Taken;

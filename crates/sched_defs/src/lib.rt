@@ -14,4 +14,4 @@ pub use laws::{
     packets_keep_to_their_leaves,
 };
 pub use link::send_time_is_least;
-pub use packets::{BLANK, Packets};
+pub use packets::Packets;

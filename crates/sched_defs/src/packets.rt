@@ -8,23 +8,6 @@ ghost use Rattle.sched_defs.specs.Packets.{most_packets, Left, Came, OneCame, Ca
 
 use outside_core::ReadError;
 use packet_defs::Packet;
-use rank_defs::FlowKey;
-
-/// A blank packet, to be overwritten when a packet is read.
-pub const BLANK: Packet = Packet {
-    number: 0,
-    class: 0,
-    len: 0,
-    moment: 0,
-    flow: FlowKey {
-        version: 0,
-        source: 0,
-        target: 0,
-        proto: 0,
-        sport: 0,
-        dport: 0,
-    },
-};
 
 /// Packets that arrive one by one, in the order of a capture.
 pub trait Packets {

@@ -5,8 +5,7 @@ ghost use Rattle.std.specs.Vec.{vec_len};
 ghost use Rattle.sched_held.specs.Slots.{packet_in, stands_at, filled_among, are_ordered, place_behind};
 
 use crate::slot::{Slot, WIDTH};
-use packet_defs::Packet;
-use sched_defs::BLANK;
+use packet_defs::{BLANK, Packet};
 use std::alloc::{AllocError, Global};
 
 /// Slots for the numbers with the same quotient by the width, in number order, and how many slots

@@ -8,8 +8,7 @@ ghost use Rattle.sched_held.specs.Windows.{packet_at, end_of};
 
 use crate::window::Window;
 use indexmap::IndexMap;
-use packet_defs::Packet;
-use sched_defs::BLANK;
+use packet_defs::{BLANK, Packet};
 use std::alloc::{AllocError, Global};
 
 /// The last number that may have a slot. At most half of all 64-bit numbers can then have packets

@@ -9,7 +9,8 @@ ghost use Rattle.sched_packets.specs.Arrivals.{Begins, Refuses, AreCapturedIn};
 use crate::capture_packets::CapturePackets;
 use outside_core::{ReadError, Shelf};
 use packet_core::Packet;
-use sched_defs::{BLANK, Packets};
+use packet_defs::BLANK;
+use sched_defs::Packets;
 
 /// The fault code of a packet with another link type than the first packet, after the codes of
 /// capture faults. The fault's position (`place`) is the packet's number.

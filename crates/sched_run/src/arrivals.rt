@@ -5,10 +5,10 @@ use crate::departure::DepartureRecorder;
 use crate::run::Run;
 use crate::shown::show_arrival;
 use outside_core::{ReadError, Sink, Stop};
-use packet_defs::Packet;
+use packet_defs::{BLANK, Packet};
 use policy_defs::NodeNames;
 use sched_core::Scheduler;
-use sched_defs::{BLANK, Ending, Packets};
+use sched_defs::{Ending, Packets};
 use tap_core::{Tap, Watching};
 
 impl<'a, C: Scheduler + Drop, N: NodeNames, W: DepartureRecorder> Run<'a, C, N, W> {

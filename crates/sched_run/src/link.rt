@@ -7,10 +7,10 @@ use crate::departure::DepartureRecorder;
 use crate::run::Run;
 use events_core::Link;
 use outside_core::{ReadError, Sink, Stop};
-use packet_defs::{Departed, Packet};
+use packet_defs::{BLANK, Departed, Packet};
 use policy_defs::NodeNames;
 use sched_core::Scheduler;
-use sched_defs::{BLANK, Ending, Packets};
+use sched_defs::{Ending, Packets};
 use tap_core::{Tap, Watching};
 
 /// Returns whether a departure is due before the timestamp. Without a timestamp it always is.

@@ -1,8 +1,7 @@
 //! A run whose sums were worked out by hand.
 use crate::{Delays, Summary, percentiles};
 use outside_core::PlainSink;
-use packet_defs::{Departed, Packet};
-use sched_defs::BLANK;
+use packet_defs::{BLANK, Departed, Packet};
 use sched_run::Recorder;
 use std::test::Fail;
 
